@@ -1,0 +1,5 @@
+pub mod Texts
+pub mod Keys
+pub mod KeyLaws
+pub mod Refusals
+pub mod Tables

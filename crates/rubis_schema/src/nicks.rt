@@ -1,0 +1,140 @@
+ghost use Rattle.std.specs.Prelude.{◌≡◌, ◌↔◌, IsTrue};
+ghost use Rattle.std.specs.Option.{SomeIff};
+ghost use Rattle.std.specs.List.{list_all};
+ghost use Rattle.rubis_schema.specs.Texts.{IsNick, is_nick_byte, is_small_letter};
+
+use std::cmp::Ordering;
+use std::marker::Model;
+
+/// The most bytes of a nickname.
+pub const NICK_MAX: usize = 20;
+
+/// A nickname: 1 to 20 of `a-z`, `0-9` and `_`, the first a letter. Contracts see its bytes, by which nicknames are
+/// ordered.
+#[derive(Clone, Copy, Debug)]
+pub struct Nick {
+    // The bytes, and zeros after them.
+    bytes: [u8; 20],
+    len: u8,
+}
+
+impl Model for Nick {
+    ghost use Rattle.std.specs.Prelude.{List, ℕ, ◌≡◌, take, length};
+    ghost use Rattle.rubis_schema.specs.Texts.{IsNick, padded, IsPadded};
+
+    ghost Value = { List ℕ };
+
+    ghost view = { λ n. take n.len n.bytes };
+
+    ghost invariant = { λ n. IsPadded n.bytes n.len };
+
+    ghost inverse = { λ n. record { bytes = padded n; len = length n } };
+
+    ghost use Rattle.rubis_schema.specs.Texts.{padded_take, length_take_padded};
+
+    ghost inverse_ok = { λ a h. λ i. record { bytes = padded_take a.bytes a.len h i; len = length_take_padded a.bytes a.len h i } };
+}
+
+fn is_small(byte: u8) -> bool
+    ensures { result ≡ is_small_letter byte }
+{
+    byte >= b'a' && byte <= b'z'
+}
+
+fn is_inner(byte: u8) -> bool
+    ensures { result ≡ is_nick_byte byte }
+{
+    is_small(byte) || (byte >= b'0' && byte <= b'9') || byte == b'_'
+}
+
+fn all_inner(text: &[u8]) -> bool
+    ensures { result ≡ list_all is_nick_byte text.now }
+{
+    text.iter().all(|byte| is_inner(*byte))
+}
+
+fn is_nick(text: &[u8]) -> bool
+    ensures { IsTrue result ↔ IsNick text.now }
+{
+    match text.first() {
+        Some(byte) => is_small(*byte) && text.len() <= NICK_MAX && all_inner(text),
+        None => false,
+    }
+}
+
+impl Nick {
+    /// The nickname of these bytes, if they are one.
+    pub fn read(text: &[u8]) -> Option<Nick>
+        ensures { SomeIff result (IsNick text.now) text.now }
+    {
+        if !is_nick(text) {
+            return None;
+        }
+        let mut bytes = [0; NICK_MAX];
+        bytes[..text.len()].copy_from_slice(text);
+        Some(Nick {
+            bytes,
+            len: text.len() as u8,
+        })
+    }
+
+    /// The bytes, in order.
+    pub fn as_bytes(&self) -> &[u8]
+        ensures value { result.now ≡ self.now }
+        ensures grammar { IsNick self.now }
+    {
+        &self.bytes[..usize::from(self.len)]
+    }
+}
+
+impl PartialEq for Nick {
+    ghost use Rattle.std.specs.Prelude.{nat_eq};
+    ghost use Rattle.std.specs.Cmp.Lexicographic.{pointwise, nat_list_eq_equiv};
+    ghost use Rattle.std.specs.Cmp.{partial_equiv_from_equiv};
+
+    ghost eq = { pointwise nat_eq };
+
+    ghost laws = { partial_equiv_from_equiv nat_list_eq_equiv };
+
+    fn eq(&self, other: &Nick) -> bool {
+        self.as_bytes() == other.as_bytes()
+    }
+}
+
+impl Eq for Nick {
+    ghost use Rattle.std.specs.Cmp.Lexicographic.{nat_list_eq_equiv};
+
+    ghost laws = { nat_list_eq_equiv };
+}
+
+impl PartialOrd for Nick {
+    ghost use Rattle.std.specs.Prelude.{Some};
+    ghost use Rattle.std.specs.Ordering.{nat_cmp};
+    ghost use Rattle.std.specs.Cmp.Lexicographic.{slice_cmp, texts_po};
+
+    ghost partial_cmp = { λ a b. Some (slice_cmp nat_cmp a b) };
+
+    ghost laws = { texts_po };
+
+    fn partial_cmp(&self, other: &Nick) -> Option<Ordering> {
+        Some(self.cmp(other))
+    }
+}
+
+impl Ord for Nick {
+    ghost use Rattle.std.proofs.Common.{rules};
+    ghost use Rattle.std.specs.Ordering.{nat_cmp};
+    ghost use Rattle.std.specs.Cmp.Lexicographic.{slice_cmp, texts_ties, nat_list_cmp_total};
+
+    ghost cmp = { slice_cmp nat_cmp };
+
+    ghost total = { nat_list_cmp_total };
+
+    ghost matches_partial_cmp = { Prim.search rules };
+
+    ghost matches_eq = { texts_ties };
+
+    fn cmp(&self, other: &Nick) -> Ordering {
+        self.as_bytes().cmp(&other.as_bytes())
+    }
+}

@@ -1,0 +1,118 @@
+ghost use Rattle.std.specs.Prelude.{◌≡◌, ◌<◌};
+ghost use Rattle.rubis_schema.specs.Keys.{home, key_eq, key_order, table_of};
+
+use crate::ids::Id;
+use crate::nicks::Nick;
+use std::cmp::Ordering;
+
+/// The key of a row: its table, and the id, nickname or category that it has there. Keys are ordered by table, then
+/// by site and number, by the nickname's bytes, or by the category.
+#[derive(Clone, Copy, Debug)]
+pub enum RowKey {
+    User(Id),
+    Item(Id),
+    Bid(Id),
+    Purchase(Id),
+    Comment(Id),
+    Nick(Nick),
+    Cat(u16),
+}
+
+/// The order of two keys.
+#[tactic(auto, unfolding(crate::specs::Keys::key_order))]
+pub fn key_cmp(a: &RowKey, b: &RowKey) -> Ordering
+    ensures { result ≡ key_order a.now b.now }
+{
+    match (a, b) {
+        (RowKey::User(i), RowKey::User(j)) => i.cmp(j),
+        (RowKey::Item(i), RowKey::Item(j)) => i.cmp(j),
+        (RowKey::Bid(i), RowKey::Bid(j)) => i.cmp(j),
+        (RowKey::Purchase(i), RowKey::Purchase(j)) => i.cmp(j),
+        (RowKey::Comment(i), RowKey::Comment(j)) => i.cmp(j),
+        (RowKey::Nick(m), RowKey::Nick(n)) => m.cmp(n),
+        (RowKey::Cat(k), RowKey::Cat(l)) => k.cmp(l),
+        _ => table_number(a).cmp(&table_number(b)),
+    }
+}
+
+fn same_key(a: &RowKey, b: &RowKey) -> bool
+    ensures { result ≡ key_eq a.now b.now }
+{
+    match (a, b) {
+        (RowKey::User(i), RowKey::User(j)) => i == j,
+        (RowKey::Item(i), RowKey::Item(j)) => i == j,
+        (RowKey::Bid(i), RowKey::Bid(j)) => i == j,
+        (RowKey::Purchase(i), RowKey::Purchase(j)) => i == j,
+        (RowKey::Comment(i), RowKey::Comment(j)) => i == j,
+        (RowKey::Nick(m), RowKey::Nick(n)) => m == n,
+        (RowKey::Cat(k), RowKey::Cat(l)) => k == l,
+        _ => false,
+    }
+}
+
+// The place of a key's table in the order of keys.
+fn table_number(key: &RowKey) -> u8
+    ensures { result ≡ table_of key.now }
+{
+    match key {
+        RowKey::User(_) => 0,
+        RowKey::Item(_) => 1,
+        RowKey::Bid(_) => 2,
+        RowKey::Purchase(_) => 3,
+        RowKey::Comment(_) => 4,
+        RowKey::Nick(_) => 5,
+        RowKey::Cat(_) => 6,
+    }
+}
+
+impl PartialEq for RowKey {
+    ghost use Rattle.rubis_schema.specs.Keys.{key_eq};
+    ghost use Rattle.rubis_schema.specs.KeyLaws.{key_eq_equiv};
+    ghost use Rattle.std.specs.Cmp.{partial_equiv_from_equiv};
+
+    ghost eq = { key_eq };
+
+    ghost laws = { partial_equiv_from_equiv key_eq_equiv };
+
+    fn eq(&self, other: &RowKey) -> bool {
+        same_key(self, other)
+    }
+}
+
+impl Eq for RowKey {
+    ghost use Rattle.rubis_schema.specs.KeyLaws.{key_eq_equiv};
+
+    ghost laws = { key_eq_equiv };
+}
+
+impl PartialOrd for RowKey {
+    ghost use Rattle.std.specs.Prelude.{Some};
+    ghost use Rattle.rubis_schema.specs.Keys.{key_order};
+    ghost use Rattle.rubis_schema.specs.KeyLaws.{key_partial_order};
+
+    ghost partial_cmp = { λ a b. Some (key_order a b) };
+
+    ghost laws = { key_partial_order };
+
+    fn partial_cmp(&self, other: &RowKey) -> Option<Ordering> {
+        Some(key_cmp(self, other))
+    }
+}
+
+impl Ord for RowKey {
+    ghost use Rattle.std.proofs.Common.{rules};
+    ghost use Rattle.rubis_schema.specs.Keys.{key_order};
+    ghost use Rattle.rubis_schema.specs.KeyLaws.{key_total, key_ties};
+
+    ghost cmp = { key_order };
+
+    ghost total = { key_total };
+
+    ghost matches_partial_cmp = { Prim.search rules };
+
+    ghost matches_eq = { key_ties };
+
+    fn cmp(&self, other: &RowKey) -> Ordering {
+        key_cmp(self, other)
+    }
+}

@@ -1,0 +1,103 @@
+ghost use Rattle.std.specs.Prelude.{◌≡◌, IfOk};
+
+use crate::ids::Id;
+use crate::nicks::Nick;
+use crate::texts::{Name, Text};
+use std::alloc::AllocError;
+
+/// A user: the nickname, how many items the user listed, how many pieces the user bought, and the sum and the count
+/// of the comments to the user.
+#[derive(Clone, Copy, Debug)]
+pub struct UserRow {
+    pub nick: Nick,
+    pub items: u64,
+    pub bought: u64,
+    pub rating: i64,
+    pub comments: u64,
+}
+
+/// The best bid of an item so far.
+#[derive(Clone, Copy, PartialEq, Eq, Debug)]
+pub struct Best {
+    pub bid: Id,
+    pub amount: u64,
+}
+
+/// Whether an item can still be bid for, and who won it if not.
+#[derive(Clone, Copy, PartialEq, Eq, Debug)]
+pub enum Sale {
+    Open,
+    /// Ended, with the winning bid if there is one.
+    Ended(Option<Id>),
+}
+
+/// An item: `stock` pieces are left and `sold` were bought; bids begin at `start`, and `price` buys a piece at once
+/// (0: that can't be done).
+#[derive(Drop, Clone, Debug)]
+pub struct ItemRow {
+    pub seller: Id,
+    pub name: Name,
+    pub cat: u16,
+    pub stock: u64,
+    pub sold: u64,
+    pub start: u64,
+    pub price: u64,
+    pub bids: u64,
+    pub best: Option<Best>,
+    pub sale: Sale,
+}
+
+/// A bid, with the red number of its shadow.
+#[derive(Clone, Copy, PartialEq, Eq, Debug)]
+pub struct BidRow {
+    pub item: Id,
+    pub bidder: Id,
+    pub amount: u64,
+    pub red: u32,
+}
+
+/// A buy-now purchase.
+#[derive(Clone, Copy, PartialEq, Eq, Debug)]
+pub struct PurchaseRow {
+    pub item: Id,
+    pub buyer: Id,
+    pub quantity: u64,
+}
+
+/// A comment on an item, from one user to another, with a rating of -5 to 5.
+#[derive(Drop, Clone, Debug)]
+pub struct CommentRow {
+    pub item: Id,
+    pub from: Id,
+    pub to: Id,
+    pub rating: i8,
+    pub text: Text,
+}
+
+/// A category: how many items were listed in it, and how many of them didn't end.
+#[derive(Clone, Copy, PartialEq, Eq, Debug)]
+pub struct CatRow {
+    pub items: u64,
+    pub live: i64,
+}
+
+/// A row of one of the seven tables. A nickname's row holds the id of its user.
+#[derive(Drop, Clone, Debug)]
+pub enum Row {
+    User(UserRow),
+    Item(ItemRow),
+    Bid(BidRow),
+    Purchase(PurchaseRow),
+    Comment(CommentRow),
+    Nick(Id),
+    Cat(CatRow),
+}
+
+impl Row {
+    /// An equal row.
+    pub fn copy(&self) -> Result<Row, AllocError>
+        ensures { IfOk result (λ row. row ≡ self.now) }
+    {
+        self.clone()
+    }
+}

@@ -1,0 +1,127 @@
+ghost use Rattle.std.specs.Prelude.{◌≡◌, ◌↔◌, IsTrue, IfOk};
+ghost use Rattle.std.specs.Option.{SomeIff};
+ghost use Rattle.std.specs.List.{list_all};
+ghost use Rattle.rubis_schema.specs.Texts.{IsName, IsText, is_printable};
+
+use std::alloc::{AllocError, Global};
+use std::marker::Model;
+
+/// The most bytes of an item's name.
+pub const NAME_MAX: usize = 64;
+
+/// The most bytes of a comment's text.
+pub const TEXT_MAX: usize = 200;
+
+/// The name of an item: 1 to 64 bytes from space to `~`. Contracts see its bytes.
+#[derive(Drop, Clone, Debug)]
+pub struct Name {
+    bytes: Vec<u8>,
+}
+
+impl Model for Name {
+    ghost use Rattle.std.specs.Prelude.{List, ℕ};
+    ghost use Rattle.rubis_schema.specs.Texts.{IsName};
+
+    ghost Value = { List ℕ };
+
+    ghost view = { λ n. n.bytes.items };
+
+    ghost invariant = { λ n. IsName n.bytes.items };
+}
+
+/// The text of a comment: 0 to 200 bytes from space to `~`. Contracts see its bytes.
+#[derive(Drop, Clone, Debug)]
+pub struct Text {
+    bytes: Vec<u8>,
+}
+
+impl Model for Text {
+    ghost use Rattle.std.specs.Prelude.{List, ℕ};
+    ghost use Rattle.rubis_schema.specs.Texts.{IsText};
+
+    ghost Value = { List ℕ };
+
+    ghost view = { λ t. t.bytes.items };
+
+    ghost invariant = { λ t. IsText t.bytes.items };
+}
+
+fn is_plain(byte: u8) -> bool
+    ensures { result ≡ is_printable byte }
+{
+    byte >= b' ' && byte <= b'~'
+}
+
+fn all_plain(text: &[u8]) -> bool
+    ensures { result ≡ list_all is_printable text.now }
+{
+    text.iter().all(|byte| is_plain(*byte))
+}
+
+fn is_name(text: &[u8]) -> bool
+    ensures { IsTrue result ↔ IsName text.now }
+{
+    !text.is_empty() && text.len() <= NAME_MAX && all_plain(text)
+}
+
+fn is_text(text: &[u8]) -> bool
+    ensures { IsTrue result ↔ IsText text.now }
+{
+    text.len() <= TEXT_MAX && all_plain(text)
+}
+
+impl Name {
+    /// The name of these bytes, if they are one.
+    pub fn read(alloc: Global, text: &[u8]) -> Result<Option<Name>, AllocError>
+        ensures { IfOk result (λ name. SomeIff name (IsName text.now) text.now) }
+    {
+        if !is_name(text) {
+            return Ok(None);
+        }
+        let bytes = Vec::from_slice(alloc, text)?;
+        Ok(Some(Name { bytes }))
+    }
+
+    /// The bytes, in order.
+    pub fn as_bytes(&self) -> &[u8]
+        ensures value { result.now ≡ self.now }
+        ensures grammar { IsName self.now }
+    {
+        self.bytes.as_slice()
+    }
+
+    /// An equal name.
+    pub fn copy(&self) -> Result<Name, AllocError>
+        ensures { IfOk result (λ name. name ≡ self.now) }
+    {
+        self.clone()
+    }
+}
+
+impl Text {
+    /// The text of these bytes, if they are one.
+    pub fn read(alloc: Global, text: &[u8]) -> Result<Option<Text>, AllocError>
+        ensures { IfOk result (λ read. SomeIff read (IsText text.now) text.now) }
+    {
+        if !is_text(text) {
+            return Ok(None);
+        }
+        let bytes = Vec::from_slice(alloc, text)?;
+        Ok(Some(Text { bytes }))
+    }
+
+    /// The bytes, in order.
+    pub fn as_bytes(&self) -> &[u8]
+        ensures value { result.now ≡ self.now }
+        ensures grammar { IsText self.now }
+    {
+        self.bytes.as_slice()
+    }
+
+    /// An equal text.
+    pub fn copy(&self) -> Result<Text, AllocError>
+        ensures { IfOk result (λ text. text ≡ self.now) }
+    {
+        self.clone()
+    }
+}

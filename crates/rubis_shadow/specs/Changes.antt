@@ -1,0 +1,83 @@
+-- What one part does: to the row of its key, and so to the tables.
+use Rattle.std.specs.Prelude.{Bool, true, false, ℕ, ◌+◌, ◌-◌, ◌^◌, min, ℤ, pos, negsuc, ◌+ℤ◌, cond, nat_lt, nat_le, Option, Some, None}
+use Rattle.std.specs.FinMap as map
+use Rattle.rubis_schema.specs.Tables.{Tables}
+use Rattle.rubis_schema.specs.declared.row_keys.RowKey.{RowKey}
+use Rattle.rubis_schema.specs.declared.rows.Row.{Row}
+use Rattle.rubis_schema.specs.declared.rows.Row.TheVariants.{User, Item, Cat}
+use Rattle.rubis_schema.specs.declared.rows.ItemRow.{ItemRow}
+use Rattle.rubis_schema.specs.declared.rows.Best.{Best}
+use Rattle.rubis_schema.specs.declared.rows.Sale.{Sale}
+use Rattle.rubis_schema.specs.declared.rows.Sale.TheVariants.{Open, Ended}
+use Rattle.rubis_shadow.specs.declared.changes.Change.{Change}
+use Rattle.rubis_shadow.specs.declared.changes.Change.TheVariants.{Insert, ItemListed, Bought, Rated, CatListed, CatEnded, BidTaken, Sold, End}
+use Rattle.rubis_shadow.specs.declared.changes.Effect.{Effect}
+use Rattle.rubis_shadow.specs.declared.changes.MisfitKind.{MisfitKind}
+use Rattle.rubis_shadow.specs.declared.changes.MisfitKind.TheVariants.{RowThere, NoRow, ClosedItem, StockShort}
+
+-- sums stop at the ends of their types
+abbrev pub count_up : ℕ → ℕ → ℕ
+count_up a b = min (a + b) (2 ^ 64 - 1)
+
+abbrev pub saturated : ℤ → ℤ
+saturated (pos n) = pos (min n (2 ^ 63 - 1))
+saturated (negsuc n) = negsuc (min n (2 ^ 63 - 1))
+
+abbrev pub int_up : ℤ → ℤ → ℤ
+int_up a b = saturated (a +ℤ b)
+
+-- the row of the key afterwards, and why the part doesn't fit, if it doesn't
+pub record Done : Type 0 where
+  pub row : Option Row
+  pub misfit : Option MisfitKind
+
+abbrev pub fits : Row → Done
+fits row = record { row = Some row; misfit = None }
+
+abbrev pub misfits_as : MisfitKind → Option Row → Done
+misfits_as kind row = record { row = row; misfit = Some kind }
+
+-- the best bid after one more: only a greater amount takes its place
+abbrev pub better : Option Best → Best → Option Best
+better None new = Some new
+better (Some old) new = cond (nat_lt old.amount new.amount) (Some new) (Some old)
+
+abbrev pub is_open : Sale → Bool
+is_open Open = true
+is_open (Ended winner) = false
+
+-- what fits an item that can still be bid for
+abbrev pub if_open : ItemRow → Sale → Done → Done
+if_open item Open done = done
+if_open item (Ended winner) done = misfits_as ClosedItem (Some (Item item))
+
+-- an insert wants a free key, and each other change a row of its table; else the row stays as it is
+unfoldable pub change_row : Change → Option Row → Done
+change_row (Insert row) None = fits row
+change_row (Insert row) (Some old) = misfits_as RowThere (Some old)
+change_row ItemListed (Some (User u)) = fits (User (record u { items = count_up u.items 1 }))
+change_row (Bought q) (Some (User u)) = fits (User (record u { bought = count_up u.bought q }))
+change_row (Rated r) (Some (User u)) = fits (User (record u { rating = int_up u.rating r; comments = count_up u.comments 1 }))
+change_row CatListed (Some (Cat c)) = fits (Cat (record { items = count_up c.items 1; live = int_up c.live (pos 1) }))
+change_row CatEnded (Some (Cat c)) = fits (Cat (record c { live = int_up c.live (negsuc 0) }))
+change_row (BidTaken b) (Some (Item i)) = if_open i i.sale (fits (Item (record i { bids = count_up i.bids 1; best = better i.best b })))
+change_row (Sold q) (Some (Item i)) =
+    if_open i i.sale (cond (nat_le q i.stock) (fits (Item (record i { stock = i.stock - q; sold = count_up i.sold q }))) (misfits_as StockShort (Some (Item i))))
+change_row (End w) (Some (Item i)) = if_open i i.sale (fits (Item (record i { sale = Ended w })))
+change_row change row = misfits_as NoRow row
+
+-- the tables with that row at the key, or with none
+abbrev pub with_row : Tables → RowKey → Option Row → Tables
+with_row t k None = map.remove t k
+with_row t k (Some row) = map.insert t k row
+
+abbrev pub doing : Tables → Effect → Done
+doing t e = change_row e.change (map.get t e.key)
+
+-- the tables after a part
+abbrev pub after : Tables → Effect → Tables
+after t e = with_row t e.key (doing t e).row
+
+-- why the part doesn't fit the tables, if it doesn't
+abbrev pub misfit_of : Tables → Effect → Option MisfitKind
+misfit_of t e = (doing t e).misfit

@@ -1,0 +1,5 @@
+pub mod Shadows
+pub mod Tables
+pub mod Changes
+pub mod Parts
+pub mod Limits

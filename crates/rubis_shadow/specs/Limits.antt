@@ -1,0 +1,68 @@
+-- The limits on the ids and numbers of asks and shadows, among so many sites.
+use Rattle.std.specs.Prelude.{ℕ, ◌^◌, ◌<◌, ◌≤◌, ℤ, ⊤, IfSome, unsigned_abs}
+use Rattle.rubis_schema.specs.declared.ids.Id.{Id}
+use Rattle.rubis_schema.specs.declared.rows.PurchaseRow.{PurchaseRow}
+use Rattle.rubis_schema.specs.declared.rows.CommentRow.{CommentRow}
+use Rattle.rubis_shadow.specs.declared.asks.Ask.{Ask}
+use Rattle.rubis_shadow.specs.declared.asks.Ask.TheVariants as ask
+use Rattle.rubis_shadow.specs.declared.shadows.NewItem.{NewItem}
+use Rattle.rubis_shadow.specs.declared.shadows.NewBid.{NewBid}
+use Rattle.rubis_shadow.specs.declared.shadows.Shadow.{Shadow}
+use Rattle.rubis_shadow.specs.declared.shadows.Shadow.TheVariants as shadow
+
+-- an id of one of the sites
+pub record IsId (sites : ℕ) (id : Id) : Type 0 where
+  pub site : id.site < sites
+  pub positive : 1 ≤ id.seq
+  pub small : id.seq ≤ 1000000
+
+-- a quantity, or a stock at the opening: 1 to 1,000,000
+pub record IsQuantity (n : ℕ) : Type 0 where
+  pub positive : 1 ≤ n
+  pub small : n ≤ 1000000
+
+-- a start price or an amount: 1 to 10^12
+pub record IsAmount (n : ℕ) : Type 0 where
+  pub positive : 1 ≤ n
+  pub small : n ≤ 1000000000000
+
+pub record IsNewItem (sites : ℕ) (n : NewItem) : Type 0 where
+  pub seller : IsId sites n.seller
+  pub cat : n.cat < 1000
+  pub stock : IsQuantity n.stock
+  pub start : IsAmount n.start
+  pub price : n.price ≤ 1000000000000
+
+pub record IsNewBid (sites : ℕ) (b : NewBid) : Type 0 where
+  pub item : IsId sites b.item
+  pub bidder : IsId sites b.bidder
+  pub amount : IsAmount b.amount
+
+pub record IsPurchase (sites : ℕ) (p : PurchaseRow) : Type 0 where
+  pub item : IsId sites p.item
+  pub buyer : IsId sites p.buyer
+  pub quantity : IsQuantity p.quantity
+
+pub record IsComment (sites : ℕ) (c : CommentRow) : Type 0 where
+  pub item : IsId sites c.item
+  pub from : IsId sites c.from
+  pub to : IsId sites c.to
+  pub rating : unsigned_abs c.rating ≤ 5
+
+-- an ask within the limits
+abbrev pub IsAsk : ℕ → Ask → Type 0
+IsAsk sites (ask.User n) = ⊤
+IsAsk sites (ask.Item n) = IsNewItem sites n
+IsAsk sites (ask.Bid b) = IsNewBid sites b
+IsAsk sites (ask.Buy p) = IsPurchase sites p
+IsAsk sites (ask.Close c) = IsId sites c.item × IsId sites c.seller
+IsAsk sites (ask.Comment c) = IsComment sites c
+
+-- a shadow within the limits
+abbrev pub InLimits : ℕ → Shadow → Type 0
+InLimits sites (shadow.User n) = ⊤
+InLimits sites (shadow.Item n) = IsNewItem sites n
+InLimits sites (shadow.Bid b) = IsNewBid sites b
+InLimits sites (shadow.Buy p) = IsPurchase sites p
+InLimits sites (shadow.Close c) = IsId sites c.item × (c.cat < 1000) × IfSome c.winner (IsId sites)
+InLimits sites (shadow.Comment c) = IsComment sites c

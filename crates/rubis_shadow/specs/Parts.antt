@@ -1,0 +1,58 @@
+-- The parts of a shadow, in order, the keys that they change, and the keys that the shadow refers to.
+use Rattle.std.specs.Prelude.{ℕ, pos, List, [], ◌∷◌, map, Option, Some, None}
+use Rattle.rubis_schema.specs.declared.ids.Id.{Id}
+use Rattle.rubis_schema.specs.declared.row_keys.RowKey.{RowKey}
+use Rattle.rubis_schema.specs.declared.row_keys.RowKey.TheVariants as key
+use Rattle.rubis_schema.specs.declared.rows.Row.TheVariants as row
+use Rattle.rubis_schema.specs.declared.rows.ItemRow.{ItemRow}
+use Rattle.rubis_schema.specs.declared.rows.Sale.TheVariants.{Open}
+use Rattle.rubis_shadow.specs.declared.changes.Change.{Change}
+use Rattle.rubis_shadow.specs.declared.changes.Change.TheVariants.{Insert, ItemListed, Bought, Rated, CatListed, CatEnded, BidTaken, Sold, End}
+use Rattle.rubis_shadow.specs.declared.changes.Effect.{Effect}
+use Rattle.rubis_shadow.specs.declared.shadows.NewItem.{NewItem}
+use Rattle.rubis_shadow.specs.declared.shadows.Shadow.{Shadow}
+use Rattle.rubis_shadow.specs.declared.shadows.Shadow.TheVariants.{User, Item, Bid, Buy, Close, Comment}
+
+abbrev pub part : RowKey → Change → Effect
+part k c = record { key = k; change = c }
+
+-- a new item has sold nothing, has no bids and can be bid for
+abbrev pub new_item : NewItem → ItemRow
+new_item n = record { seller = n.seller; name = n.name; cat = n.cat; stock = n.stock; sold = 0; start = n.start; price = n.price; bids = 0; best = None; sale = Open }
+
+-- the parts of the shadow with that id and red number
+abbrev pub parts : Id → ℕ → Shadow → List Effect
+parts id red (User n) =
+    part (key.User id) (Insert (row.User (record { nick = n; items = 0; bought = 0; rating = pos 0; comments = 0 })))
+    ∷ part (key.Nick n) (Insert (row.Nick id)) ∷ []
+parts id red (Item n) =
+    part (key.Item id) (Insert (row.Item (new_item n)))
+    ∷ part (key.User n.seller) ItemListed ∷ part (key.Cat n.cat) CatListed ∷ []
+parts id red (Bid b) =
+    part (key.Bid id) (Insert (row.Bid (record { item = b.item; bidder = b.bidder; amount = b.amount; red = red })))
+    ∷ part (key.Item b.item) (BidTaken (record { bid = id; amount = b.amount })) ∷ []
+parts id red (Buy p) =
+    part (key.Purchase id) (Insert (row.Purchase p))
+    ∷ part (key.Item p.item) (Sold p.quantity) ∷ part (key.User p.buyer) (Bought p.quantity) ∷ []
+parts id red (Close c) = part (key.Item c.item) (End c.winner) ∷ part (key.Cat c.cat) CatEnded ∷ []
+parts id red (Comment c) = part (key.Comment id) (Insert (row.Comment c)) ∷ part (key.User c.to) (Rated c.rating) ∷ []
+
+abbrev pub key_of : Effect → RowKey
+key_of e = e.key
+
+-- the keys of the parts, which no red number changes
+abbrev pub footprint_of : Id → Shadow → List RowKey
+footprint_of id shadow = map key_of (parts id 0 shadow)
+
+abbrev pub winner_key : Option Id → List RowKey
+winner_key None = []
+winner_key (Some bid) = key.Bid bid ∷ []
+
+-- the rows that the shadow takes to be there
+abbrev pub refers_of : Shadow → List RowKey
+refers_of (User n) = []
+refers_of (Item n) = key.User n.seller ∷ []
+refers_of (Bid b) = key.Item b.item ∷ key.User b.bidder ∷ []
+refers_of (Buy p) = key.Item p.item ∷ key.User p.buyer ∷ []
+refers_of (Close c) = key.Item c.item ∷ winner_key c.winner
+refers_of (Comment c) = key.Item c.item ∷ key.User c.from ∷ key.User c.to ∷ []

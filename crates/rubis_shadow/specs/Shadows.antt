@@ -1,0 +1,23 @@
+-- The colour of a shadow.
+use Rattle.std.specs.Prelude.{Bool, true, false}
+use Rattle.rubis_shadow.specs.declared.shadows.Shadow.{Shadow}
+use Rattle.rubis_shadow.specs.declared.shadows.Shadow.TheVariants.{User, Item, Bid, Buy, Close, Comment}
+use Rattle.rubis_shadow.specs.declared.shadows.Colour.{Colour}
+use Rattle.rubis_shadow.specs.declared.shadows.Colour.TheVariants.{Red, Blue}
+
+-- users, bids, buys and closes are totally ordered
+abbrev pub is_red : Shadow → Bool
+is_red (User n) = true
+is_red (Item n) = false
+is_red (Bid b) = true
+is_red (Buy p) = true
+is_red (Close c) = true
+is_red (Comment c) = false
+
+abbrev pub colour_of : Shadow → Colour
+colour_of (User n) = Red
+colour_of (Item n) = Blue
+colour_of (Bid b) = Red
+colour_of (Buy p) = Red
+colour_of (Close c) = Red
+colour_of (Comment c) = Blue

@@ -1,0 +1,21 @@
+-- The tables before any message.
+use Rattle.std.specs.Prelude.{ℕ, ◌+◌, pos, List, [], ◌∷◌}
+use Rattle.std.specs.FinMap as map
+use Rattle.rubis_schema.specs.Tables.{Tables}
+use Rattle.rubis_schema.specs.declared.row_keys.RowKey.{RowKey}
+use Rattle.rubis_schema.specs.declared.row_keys.RowKey.TheVariants as key
+use Rattle.rubis_schema.specs.declared.rows.Row.{Row}
+use Rattle.rubis_schema.specs.declared.rows.Row.TheVariants as row
+
+-- a category without items
+abbrev pub new_category : Row
+new_category = row.Cat (record { items = 0; live = pos 0 })
+
+-- so many categories from k on, without items
+unfoldable pub categories_from : ℕ → ℕ → List (RowKey × Row)
+categories_from k ℕ.zero = []
+categories_from k (ℕ.suc n) = (key.Cat k, new_category) ∷ categories_from (k + 1) n
+
+-- the tables before any message: the categories 0 to 999, without items
+unfoldable pub opening : Tables
+opening = map.from_entries (categories_from 0 1000)

@@ -1,0 +1,44 @@
+use rubis_schema::{Best, Id, Row, RowKey};
+
+/// What a part does to the row of its key.
+#[derive(Drop, Clone, Debug)]
+pub enum Change {
+    /// A new row.
+    Insert(Row),
+    /// A user listed one more item.
+    ItemListed,
+    /// A user bought so many pieces.
+    Bought(u64),
+    /// A user got a comment with this rating.
+    Rated(i8),
+    /// A category has one more item, which is live.
+    CatListed,
+    /// A category has one live item less.
+    CatEnded,
+    /// An item got a bid.
+    BidTaken(Best),
+    /// So many pieces of an item were bought.
+    Sold(u64),
+    /// An item's sale ended, with this winner.
+    End(Option<Id>),
+}
+
+/// One part of a shadow: a change of the row at a key.
+#[derive(Drop, Clone, Debug)]
+pub struct Effect {
+    pub key: RowKey,
+    pub change: Change,
+}
+
+/// Why a part doesn't fit, in the order in which that is tested.
+#[derive(Clone, Copy, PartialEq, Eq, Debug)]
+pub enum MisfitKind {
+    /// An insert, and the key has a row.
+    RowThere,
+    /// A change, and the key has no row of its table.
+    NoRow,
+    /// A bid, a buy or a close, and the item is ended.
+    ClosedItem,
+    /// A buy of more than the stock.
+    StockShort,
+}

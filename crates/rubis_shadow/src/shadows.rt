@@ -1,0 +1,74 @@
+ghost use Rattle.std.specs.Prelude.{◌≡◌, IfOk};
+ghost use Rattle.rubis_shadow.specs.Shadows.{colour_of};
+
+use rubis_schema::{CommentRow, Id, Name, Nick, PurchaseRow};
+use std::alloc::AllocError;
+
+/// An item that is offered: `stock` pieces of it, bids from `start` on, and `price` for a piece at once (0: no
+/// buy-now).
+#[derive(Drop, Clone, Debug)]
+pub struct NewItem {
+    pub seller: Id,
+    pub name: Name,
+    pub cat: u16,
+    pub stock: u64,
+    pub start: u64,
+    pub price: u64,
+}
+
+/// A bid for an item.
+#[derive(Clone, Copy, PartialEq, Eq, Debug)]
+pub struct NewBid {
+    pub item: Id,
+    pub bidder: Id,
+    pub amount: u64,
+}
+
+/// The end of an item's sale, with the item's category and the winning bid, if there is one.
+#[derive(Clone, Copy, PartialEq, Eq, Debug)]
+pub struct NewClose {
+    pub item: Id,
+    pub cat: u16,
+    pub winner: Option<Id>,
+}
+
+/// What an accepted ask does, at every site.
+#[derive(Drop, Clone, Debug)]
+pub enum Shadow {
+    User(Nick),
+    Item(NewItem),
+    Bid(NewBid),
+    Buy(PurchaseRow),
+    Close(NewClose),
+    Comment(CommentRow),
+}
+
+/// Red shadows are totally ordered, blue ones only follow causality.
+#[derive(Clone, Copy, PartialEq, Eq, Debug)]
+pub enum Colour {
+    Red,
+    Blue,
+}
+
+/// A shadow is red where applying it elsewhere could break an invariant, or where it doesn't commute.
+pub fn colour(shadow: &Shadow) -> Colour
+    ensures { result ≡ colour_of shadow.now }
+{
+    match shadow {
+        Shadow::User(_) => Colour::Red,
+        Shadow::Item(_) => Colour::Blue,
+        Shadow::Bid(_) => Colour::Red,
+        Shadow::Buy(_) => Colour::Red,
+        Shadow::Close(_) => Colour::Red,
+        Shadow::Comment(_) => Colour::Blue,
+    }
+}
+
+impl Shadow {
+    /// An equal shadow.
+    pub fn copy(&self) -> Result<Shadow, AllocError>
+        ensures { IfOk result (λ shadow. shadow ≡ self.now) }
+    {
+        self.clone()
+    }
+}
