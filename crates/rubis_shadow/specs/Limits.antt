@@ -1,6 +1,6 @@
 -- The limits on the ids and numbers of asks and shadows, among so many sites.
-use Rattle.std.specs.Prelude.{ℕ, ◌^◌, ◌<◌, ◌≤◌, ℤ, ⊤, IfSome, unsigned_abs}
-use Rattle.rubis_schema.specs.declared.ids.Id.{Id}
+use Rattle.std.specs.Prelude.{ℕ, ◌<◌, ◌≤◌, ℤ, ⊤, IfSome, unsigned_abs}
+use Rattle.rubis_schema.specs.Ids.{IsId}
 use Rattle.rubis_schema.specs.declared.rows.PurchaseRow.{PurchaseRow}
 use Rattle.rubis_schema.specs.declared.rows.CommentRow.{CommentRow}
 use Rattle.rubis_shadow.specs.declared.asks.Ask.{Ask}
@@ -9,12 +9,6 @@ use Rattle.rubis_shadow.specs.declared.shadows.NewItem.{NewItem}
 use Rattle.rubis_shadow.specs.declared.shadows.NewBid.{NewBid}
 use Rattle.rubis_shadow.specs.declared.shadows.Shadow.{Shadow}
 use Rattle.rubis_shadow.specs.declared.shadows.Shadow.TheVariants as shadow
-
--- an id of one of the sites
-pub record IsId (sites : ℕ) (id : Id) : Type 0 where
-  pub site : id.site < sites
-  pub positive : 1 ≤ id.seq
-  pub small : id.seq ≤ 1000000
 
 -- a quantity, or a stock at the opening: 1 to 1,000,000
 pub record IsQuantity (n : ℕ) : Type 0 where

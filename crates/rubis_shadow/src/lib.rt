@@ -9,4 +9,4 @@ mod shadows;
 pub use asks::{Ask, AskedClose};
 pub use changes::{Change, Effect, MisfitKind};
 pub use numbered::{Misfit, Numbered};
-pub use shadows::{Colour, NewBid, NewClose, NewItem, Shadow, colour};
+pub use shadows::{Colour, NewBid, NewClose, NewItem, Shadow};

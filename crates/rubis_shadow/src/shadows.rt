@@ -50,21 +50,21 @@ pub enum Colour {
     Blue,
 }
 
-/// A shadow is red where applying it elsewhere could break an invariant, or where it doesn't commute.
-pub fn colour(shadow: &Shadow) -> Colour
-    ensures { result ≡ colour_of shadow.now }
-{
-    match shadow {
-        Shadow::User(_) => Colour::Red,
-        Shadow::Item(_) => Colour::Blue,
-        Shadow::Bid(_) => Colour::Red,
-        Shadow::Buy(_) => Colour::Red,
-        Shadow::Close(_) => Colour::Red,
-        Shadow::Comment(_) => Colour::Blue,
-    }
-}
-
 impl Shadow {
+    /// A shadow is red where applying it elsewhere could break an invariant, or where it doesn't commute.
+    pub fn colour(&self) -> Colour
+        ensures { result ≡ colour_of self.now }
+    {
+        match self {
+            Shadow::User(_) => Colour::Red,
+            Shadow::Item(_) => Colour::Blue,
+            Shadow::Bid(_) => Colour::Red,
+            Shadow::Buy(_) => Colour::Red,
+            Shadow::Close(_) => Colour::Red,
+            Shadow::Comment(_) => Colour::Blue,
+        }
+    }
+
     /// An equal shadow.
     pub fn copy(&self) -> Result<Shadow, AllocError>
         ensures { IfOk result (λ shadow. shadow ≡ self.now) }

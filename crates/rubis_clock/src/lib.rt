@@ -1,0 +1,8 @@
+//! What a site had released when it made a message, and what it has released now.
+#![tactic(auto)]
+
+mod counts;
+mod stamps;
+
+pub use counts::{Deps, SITES_MAX};
+pub use stamps::Stamp;

@@ -1,0 +1,135 @@
+-- The answer to an ask: the first of its refusals that holds, in their order, or its shadow.
+use Rattle.std.specs.Prelude.{ℕ, Bool, true, false, cond, not, nat_eq, nat_lt, List, [], ◌∷◌, Option, Some, None, Result, Ok, Err, is_some, is_none, option_map, option_and_then, find}
+use Rattle.std.specs.Option.{option_map_or}
+use Rattle.std.specs.List.{list_any}
+use Rattle.rubis_schema.specs.Keys.{same_id}
+use Rattle.rubis_schema.specs.declared.ids.Id.{Id}
+use Rattle.rubis_schema.specs.declared.row_keys.RowKey.TheVariants as key
+use Rattle.rubis_schema.specs.declared.rows.ItemRow.{ItemRow}
+use Rattle.rubis_schema.specs.declared.rows.Best.{Best}
+use Rattle.rubis_schema.specs.declared.refusals.Refusal.{Refusal}
+use Rattle.rubis_schema.specs.declared.refusals.Refusal.TheVariants.{BadRecord, Full, NoToken, RedBehind, NickTaken, NoUser, NoItem, Closed, LowBid, StockShort, NotSeller, OwnItem, NoBuyNow, SelfComment, BadTarget, LastTurn, NotOurs, NotForMe, BadEvent, NoSuchPacket}
+use Rattle.rubis_shadow.specs.declared.asks.Ask.{Ask}
+use Rattle.rubis_shadow.specs.declared.asks.Ask.TheVariants.{User, Item, Bid, Buy, Close, Comment}
+use Rattle.rubis_shadow.specs.declared.shadows.Shadow.{Shadow}
+use Rattle.rubis_shadow.specs.declared.shadows.Shadow.TheVariants as shadow
+use Rattle.rubis_generate.specs.declared.standing.Standing.{Standing}
+use Rattle.rubis_generate.specs.Lookup.{Rows, user_in, item_in, is_ended}
+
+-- the order in which an ask's refusals are tested
+abbrev pub order_of : Ask → List Refusal
+order_of (User n) = Full ∷ NoToken ∷ RedBehind ∷ NickTaken ∷ []
+order_of (Item n) = Full ∷ NoUser ∷ []
+order_of (Bid b) = Full ∷ NoToken ∷ RedBehind ∷ NoItem ∷ NoUser ∷ Closed ∷ OwnItem ∷ LowBid ∷ []
+order_of (Buy p) = Full ∷ NoToken ∷ RedBehind ∷ NoItem ∷ NoUser ∷ Closed ∷ OwnItem ∷ NoBuyNow ∷ StockShort ∷ []
+order_of (Close c) = Full ∷ NoToken ∷ RedBehind ∷ NoItem ∷ NotSeller ∷ Closed ∷ []
+order_of (Comment c) = Full ∷ NoItem ∷ NoUser ∷ SelfComment ∷ []
+
+-- the users that must be there
+abbrev pub users_of : Ask → List Id
+users_of (User n) = []
+users_of (Item n) = n.seller ∷ []
+users_of (Bid b) = b.bidder ∷ []
+users_of (Buy p) = p.buyer ∷ []
+users_of (Close c) = []
+users_of (Comment c) = c.from ∷ c.to ∷ []
+
+-- a test of the item's row, which doesn't hold where there is none
+abbrev pub of_item : Rows → Id → (ItemRow → Bool) → Bool
+of_item t id p = option_map_or p (item_in t id) false
+
+-- the item that must be there
+abbrev pub item_of : Ask → Option Id
+item_of (User n) = None
+item_of (Item n) = None
+item_of (Bid b) = Some b.item
+item_of (Buy p) = Some p.item
+item_of (Close c) = Some c.item
+item_of (Comment c) = Some c.item
+
+-- a test of the row of the item that the ask names
+abbrev pub at_item : Rows → Ask → (ItemRow → Bool) → Bool
+at_item t ask p = option_map_or (λ id. of_item t id p) (item_of ask) false
+
+abbrev pub nick_taken : Rows → Ask → Bool
+nick_taken t (User n) = is_some (t (key.Nick n))
+nick_taken t ask = false
+
+-- the amount is below the start price
+abbrev pub low_bid : Ask → ItemRow → Bool
+low_bid (Bid b) i = nat_lt b.amount i.start
+low_bid ask i = false
+
+-- the quantity is above the stock
+abbrev pub stock_short : Ask → ItemRow → Bool
+stock_short (Buy p) i = nat_lt i.stock p.quantity
+stock_short ask i = false
+
+-- the named user isn't the item's seller
+abbrev pub not_seller : Ask → ItemRow → Bool
+not_seller (Close c) i = not (same_id c.seller i.seller)
+not_seller ask i = false
+
+-- the bidder or buyer is the seller
+abbrev pub own_item : Ask → ItemRow → Bool
+own_item (Bid b) i = same_id b.bidder i.seller
+own_item (Buy p) i = same_id p.buyer i.seller
+own_item ask i = false
+
+-- the item can't be bought at once
+abbrev pub no_buy_now : Ask → ItemRow → Bool
+no_buy_now (Buy p) i = nat_eq i.price 0
+no_buy_now ask i = false
+
+-- a comment from its own addressee
+abbrev pub self_comment : Ask → Bool
+self_comment (Comment c) = same_id c.from c.to
+self_comment ask = false
+
+-- whether a refusal holds, of each by itself
+abbrev pub holds : Rows → Standing → Ask → Refusal → Bool
+holds t s ask Full = s.full
+holds t s ask NoToken = not s.holds
+holds t s ask RedBehind = not s.current
+holds t s ask NickTaken = nick_taken t ask
+holds t s ask NoUser = list_any (λ id. is_none (user_in t id)) (users_of ask)
+holds t s ask NoItem = option_map_or (λ id. is_none (item_in t id)) (item_of ask) false
+holds t s ask Closed = at_item t ask (λ i. is_ended i.sale)
+holds t s ask LowBid = at_item t ask (low_bid ask)
+holds t s ask StockShort = at_item t ask (stock_short ask)
+holds t s ask NotSeller = at_item t ask (not_seller ask)
+holds t s ask OwnItem = at_item t ask (own_item ask)
+holds t s ask NoBuyNow = at_item t ask (no_buy_now ask)
+holds t s ask SelfComment = self_comment ask
+holds t s ask BadRecord = false
+holds t s ask BadTarget = false
+holds t s ask LastTurn = false
+holds t s ask NotOurs = false
+holds t s ask NotForMe = false
+holds t s ask BadEvent = false
+holds t s ask NoSuchPacket = false
+
+-- the end of an item's sale, with its category and its best bid
+abbrev pub closing : Rows → Id → Shadow
+closing t id = shadow.Close (record {
+  item = id;
+  cat = option_map_or (λ (i : ItemRow). i.cat) (item_in t id) 0;
+  winner = option_and_then (λ (i : ItemRow). option_map (λ (b : Best). b.bid) i.best) (item_in t id);
+})
+
+-- the shadow of an ask that isn't refused
+abbrev pub shadow_of : Rows → Ask → Shadow
+shadow_of t (User n) = shadow.User n
+shadow_of t (Item n) = shadow.Item n
+shadow_of t (Bid b) = shadow.Bid b
+shadow_of t (Buy p) = shadow.Buy p
+shadow_of t (Close c) = closing t c.item
+shadow_of t (Comment c) = shadow.Comment c
+
+abbrev pub refused_or : Option Refusal → Shadow → Result Shadow Refusal
+refused_or None x = Ok x
+refused_or (Some r) x = Err r
+
+-- the first refusal that holds, or the shadow
+abbrev pub decision : Rows → Standing → Ask → Result Shadow Refusal
+decision t s ask = refused_or (find (holds t s ask) (order_of ask)) (shadow_of t ask)

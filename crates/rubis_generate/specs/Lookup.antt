@@ -1,0 +1,39 @@
+-- What decisions look up in the tables.
+use Rattle.std.specs.Prelude.{Bool, true, false, not, Option, Some, None, is_some, is_none, option_and_then}
+use Rattle.std.specs.Option.{option_map_or}
+use Rattle.std.specs.FinMap as map
+use Rattle.rubis_schema.specs.Tables.{Tables}
+use Rattle.rubis_schema.specs.declared.ids.Id.{Id}
+use Rattle.rubis_schema.specs.declared.row_keys.RowKey.{RowKey}
+use Rattle.rubis_schema.specs.declared.row_keys.RowKey.TheVariants as key
+use Rattle.rubis_schema.specs.declared.rows.Row.{Row}
+use Rattle.rubis_schema.specs.declared.rows.Row.TheVariants as row
+use Rattle.rubis_schema.specs.declared.rows.UserRow.{UserRow}
+use Rattle.rubis_schema.specs.declared.rows.ItemRow.{ItemRow}
+use Rattle.rubis_schema.specs.declared.rows.Sale.{Sale}
+use Rattle.rubis_schema.specs.declared.rows.Sale.TheVariants.{Open, Ended}
+
+-- the row at each key
+abbrev pub Rows : Type 0
+Rows = RowKey → Option Row
+
+abbrev pub rows_of : Tables → Rows
+rows_of t k = map.get t k
+
+abbrev pub as_user_row : Row → Option UserRow
+as_user_row (row.User u) = Some u
+as_user_row r = None
+
+abbrev pub as_item_row : Row → Option ItemRow
+as_item_row (row.Item i) = Some i
+as_item_row r = None
+
+abbrev pub user_in : Rows → Id → Option UserRow
+user_in t id = option_and_then as_user_row (t (key.User id))
+
+abbrev pub item_in : Rows → Id → Option ItemRow
+item_in t id = option_and_then as_item_row (t (key.Item id))
+
+abbrev pub is_ended : Sale → Bool
+is_ended Open = false
+is_ended (Ended winner) = true

@@ -1,0 +1,10 @@
+//! Messages, tokens and requests, and their records.
+#![tactic(auto)]
+
+mod messages;
+mod requests;
+mod tokens;
+
+pub use messages::Message;
+pub use requests::Request;
+pub use tokens::{Packet, Token};

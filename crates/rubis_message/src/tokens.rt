@@ -1,0 +1,17 @@
+use crate::messages::Message;
+
+/// The right to make red shadows, on its way: the number of its turn, the site that it is for, and how many red
+/// numbers were issued.
+#[derive(Clone, Copy, PartialEq, Eq, Debug)]
+pub struct Token {
+    pub turn: u32,
+    pub to: u8,
+    pub issued: u32,
+}
+
+/// What one site sends to others.
+#[derive(Drop, Debug)]
+pub enum Packet {
+    Msg(Message),
+    Token(Token),
+}
