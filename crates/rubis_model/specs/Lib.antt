@@ -1,0 +1,3 @@
+pub mod Log
+pub mod Settle
+pub mod Site
