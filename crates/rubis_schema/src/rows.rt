@@ -101,3 +101,12 @@ impl Row {
         self.clone()
     }
 }
+
+impl CommentRow {
+    /// An equal row.
+    pub fn copy(&self) -> Result<CommentRow, AllocError>
+        ensures { IfOk result (λ row. row ≡ self.now) }
+    {
+        self.clone()
+    }
+}

@@ -3,3 +3,4 @@ pub mod Tables
 pub mod Changes
 pub mod Parts
 pub mod Limits
+pub mod Borrowed

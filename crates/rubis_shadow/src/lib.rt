@@ -1,12 +1,17 @@
 //! Asks, the shadows that answer them, and what a shadow does to the tables: its parts, each a change of one row.
 #![tactic(auto)]
 
+mod alter;
 mod asks;
 mod changes;
+mod keys;
 mod numbered;
+mod parts;
 mod shadows;
 
 pub use asks::{Ask, AskedClose};
 pub use changes::{Change, Effect, MisfitKind};
+pub use keys::Keys;
 pub use numbered::{Misfit, Numbered};
+pub use parts::{EffectRef, Effects};
 pub use shadows::{Colour, NewBid, NewClose, NewItem, Shadow};

@@ -1,0 +1,155 @@
+ghost use Rattle.std.specs.Prelude.{◌≡◌, Some};
+ghost use Rattle.rubis_schema.specs.declared.rows.Row.TheVariants as rows;
+ghost use Rattle.rubis_schema.specs.declared.rows.BidRow.{BidRow};
+ghost use Rattle.rubis_schema.specs.declared.rows.PurchaseRow.{PurchaseRow};
+ghost use Rattle.rubis_schema.specs.declared.rows.CommentRow.{CommentRow};
+ghost use Rattle.rubis_schema.specs.declared.ids.Id.{Id};
+ghost use Rattle.rubis_shadow.specs.Changes.{change_row, is_open};
+ghost use Rattle.rubis_shadow.specs.declared.changes.Change.TheVariants.{BidTaken, Sold};
+
+use crate::changes::{Change, MisfitKind};
+use rubis_schema::{Best, CatRow, ItemRow, Row, Sale, UserRow};
+
+// Whether an item can still be bid for.
+fn can_be_bid_for(sale: &Sale) -> bool
+    ensures { result ≡ is_open sale.now }
+{
+    match sale {
+        Sale::Open => true,
+        Sale::Ended(_) => false,
+    }
+}
+
+#[tactic(auto, unfolding(crate::specs::Changes::change_row))]
+fn alter_user(change: &Change, user: &mut UserRow) -> Option<MisfitKind>
+    ensures row { (change_row change.now (Some (rows.User user.old))).row ≡ Some (rows.User user.new) }
+    ensures misfit { (change_row change.now (Some (rows.User user.old))).misfit ≡ result }
+{
+    match change {
+        Change::Insert(_) => Some(MisfitKind::RowThere),
+        Change::ItemListed => {
+            user.items = user.items.saturating_add(1);
+            None
+        }
+        Change::Bought(quantity) => {
+            user.bought = user.bought.saturating_add(*quantity);
+            None
+        }
+        Change::Rated(rating) => {
+            user.rating = user.rating.saturating_add(i64::from(*rating));
+            user.comments = user.comments.saturating_add(1);
+            None
+        }
+        _ => Some(MisfitKind::NoRow),
+    }
+}
+
+#[tactic(auto, unfolding(crate::specs::Changes::change_row))]
+fn alter_category(change: &Change, category: &mut CatRow) -> Option<MisfitKind>
+    ensures row { (change_row change.now (Some (rows.Cat category.old))).row ≡ Some (rows.Cat category.new) }
+    ensures misfit { (change_row change.now (Some (rows.Cat category.old))).misfit ≡ result }
+{
+    match change {
+        Change::Insert(_) => Some(MisfitKind::RowThere),
+        Change::CatListed => {
+            category.items = category.items.saturating_add(1);
+            category.live = category.live.saturating_add(1);
+            None
+        }
+        Change::CatEnded => {
+            category.live = category.live.saturating_add(-1);
+            None
+        }
+        _ => Some(MisfitKind::NoRow),
+    }
+}
+
+#[tactic(auto, unfolding(crate::specs::Changes::change_row))]
+fn take_bid(best: &Best, item: &mut ItemRow) -> Option<MisfitKind>
+    ensures row { (change_row (BidTaken best.now) (Some (rows.Item item.old))).row ≡ Some (rows.Item item.new) }
+    ensures misfit { (change_row (BidTaken best.now) (Some (rows.Item item.old))).misfit ≡ result }
+{
+    if !can_be_bid_for(&item.sale) {
+        return Some(MisfitKind::ClosedItem);
+    }
+    item.bids = item.bids.saturating_add(1);
+    item.best = match item.best {
+        None => Some(*best),
+        Some(old) => {
+            if old.amount < best.amount {
+                Some(*best)
+            } else {
+                Some(old)
+            }
+        }
+    };
+    None
+}
+
+#[tactic(auto, unfolding(crate::specs::Changes::change_row))]
+fn sell(quantity: u64, item: &mut ItemRow) -> Option<MisfitKind>
+    ensures row { (change_row (Sold quantity) (Some (rows.Item item.old))).row ≡ Some (rows.Item item.new) }
+    ensures misfit { (change_row (Sold quantity) (Some (rows.Item item.old))).misfit ≡ result }
+{
+    if !can_be_bid_for(&item.sale) {
+        return Some(MisfitKind::ClosedItem);
+    }
+    if item.stock < quantity {
+        return Some(MisfitKind::StockShort);
+    }
+    item.stock -= quantity;
+    item.sold = item.sold.saturating_add(quantity);
+    None
+}
+
+#[tactic(auto, unfolding(crate::specs::Changes::change_row))]
+fn alter_item(change: &Change, item: &mut ItemRow) -> Option<MisfitKind>
+    ensures row { (change_row change.now (Some (rows.Item item.old))).row ≡ Some (rows.Item item.new) }
+    ensures misfit { (change_row change.now (Some (rows.Item item.old))).misfit ≡ result }
+{
+    match change {
+        Change::Insert(_) => Some(MisfitKind::RowThere),
+        Change::BidTaken(best) => take_bid(best, item),
+        Change::Sold(quantity) => sell(*quantity, item),
+        Change::End(winner) => {
+            if !can_be_bid_for(&item.sale) {
+                return Some(MisfitKind::ClosedItem);
+            }
+            item.sale = Sale::Ended(*winner);
+            None
+        }
+        _ => Some(MisfitKind::NoRow),
+    }
+}
+
+// Why nothing but an insert was meant for the row, and that none fits it: nothing changes rows of these tables.
+#[tactic(auto, unfolding(crate::specs::Changes::change_row))]
+fn alter_fixed(change: &Change) -> MisfitKind
+    ensures bid { (b : BidRow) → change_row change.now (Some (rows.Bid b)) ≡ record { row = Some (rows.Bid b); misfit = Some result } }
+    ensures purchase { (p : PurchaseRow) → change_row change.now (Some (rows.Purchase p)) ≡ record { row = Some (rows.Purchase p); misfit = Some result } }
+    ensures comment { (c : CommentRow) → change_row change.now (Some (rows.Comment c)) ≡ record { row = Some (rows.Comment c); misfit = Some result } }
+    ensures nick { (i : Id) → change_row change.now (Some (rows.Nick i)) ≡ record { row = Some (rows.Nick i); misfit = Some result } }
+{
+    match change {
+        Change::Insert(_) => MisfitKind::RowThere,
+        _ => MisfitKind::NoRow,
+    }
+}
+
+impl Change {
+    /// Changes a row that is there, or leaves it and says why the change doesn't fit.
+    pub fn alter(&self, row: &mut Row) -> Option<MisfitKind>
+        ensures row { (change_row self.now (Some row.old)).row ≡ Some row.new }
+        ensures misfit { (change_row self.now (Some row.old)).misfit ≡ result }
+    {
+        match row {
+            Row::User(user) => alter_user(self, user),
+            Row::Item(item) => alter_item(self, item),
+            Row::Cat(category) => alter_category(self, category),
+            Row::Bid(_) => Some(alter_fixed(self)),
+            Row::Purchase(_) => Some(alter_fixed(self)),
+            Row::Comment(_) => Some(alter_fixed(self)),
+            Row::Nick(_) => Some(alter_fixed(self)),
+        }
+    }
+}
