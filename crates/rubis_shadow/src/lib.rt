@@ -7,6 +7,7 @@ mod changes;
 mod keys;
 mod numbered;
 mod parts;
+mod plain;
 mod shadows;
 
 pub use asks::{Ask, AskedClose};
@@ -14,4 +15,5 @@ pub use changes::{Change, Effect, MisfitKind};
 pub use keys::Keys;
 pub use numbered::{Misfit, Numbered};
 pub use parts::{EffectRef, Effects};
+pub use plain::{CATEGORIES, PlainTables};
 pub use shadows::{Colour, NewBid, NewClose, NewItem, Shadow};

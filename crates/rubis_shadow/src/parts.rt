@@ -6,7 +6,9 @@ ghost use Rattle.rubis_shadow.specs.Borrowed.{change_of};
 
 use crate::changes::{Change, Effect};
 use crate::shadows::{NewBid, NewClose, NewItem, Shadow};
-use rubis_schema::{Best, BidRow, CommentRow, Id, ItemRow, Nick, PurchaseRow, Row, RowKey, Sale, UserRow};
+use rubis_schema::{
+    Best, BidRow, CommentRow, Id, ItemRow, Nick, PurchaseRow, Row, RowKey, Sale, UserRow,
+};
 use std::alloc::AllocError;
 use std::marker::Model;
 

@@ -1,0 +1,83 @@
+ghost use Rattle.std.specs.Prelude.{◌≡◌, IfOk, OnOk, OnErr};
+ghost use Rattle.std.specs.FinMap as map;
+ghost use Rattle.rubis_schema.specs.Keys.{key_order};
+ghost use Rattle.rubis_shadow.specs.Tables.{opening};
+ghost use Rattle.rubis_shadow.specs.Changes.{after, misfit_of};
+
+use crate::changes::{Change, Effect, MisfitKind};
+use rubis_schema::{CatRow, Row, RowKey, View};
+use std::alloc::{AllocError, Global};
+use std::collections::BTreeMap;
+use std::marker::Model;
+
+/// How many categories there are, from 0 on.
+pub const CATEGORIES: u16 = 1000;
+
+/// The tables of a site in one map. Contracts see the finite map.
+#[derive(Drop)]
+pub struct PlainTables {
+    rows: BTreeMap<RowKey, Row>,
+}
+
+impl Model for PlainTables {
+    ghost use Rattle.std.specs.FinMap as map;
+    ghost use Rattle.rubis_schema.specs.Tables.{Tables};
+    ghost use Rattle.rubis_schema.specs.contracts.row_keys.RowKey as key;
+    ghost use Rattle.rubis_schema.specs.contracts.rows.Row as row;
+
+    ghost Value = { Tables };
+
+    ghost coded = { map.code key.the_row.coded row.the_row.coded };
+
+    ghost view = { λ t. map.from_entries t.rows.entries };
+}
+
+// Puts the row at the key.
+fn put_row(rows: &mut BTreeMap<RowKey, Row>, key: RowKey, row: Row) -> Result<(), AllocError>
+    ensures ok { OnOk result (map.from_entries {R = key_order} rows.new.entries ≡ map.insert (map.from_entries rows.old.entries) key row) }
+    ensures err { OnErr result (rows.new.entries ≡ rows.old.entries) }
+{
+    rows.insert(key, row)?;
+    Ok(())
+}
+
+impl PlainTables {
+    /// The tables before any message: the categories, without items.
+    pub fn new(alloc: Global) -> Result<PlainTables, AllocError>
+        ensures { IfOk result (λ tables. tables ≡ opening) }
+    {
+        let mut rows = BTreeMap::new(alloc);
+        for cat in (0..CATEGORIES).rev() {
+            let row = Row::Cat(CatRow { items: 0, live: 0 });
+            put_row(&mut rows, RowKey::Cat(cat), row)?;
+        }
+        Ok(PlainTables { rows })
+    }
+
+    /// Does one part: changes its row, or says why the part doesn't fit.
+    pub fn apply(&mut self, effect: &Effect) -> Result<Option<MisfitKind>, AllocError>
+        ensures tables { IfOk result (λ misfit. self.new ≡ after self.old effect.now) }
+        ensures misfit { IfOk result (λ misfit. misfit ≡ misfit_of self.old effect.now) }
+        ensures err { OnErr result (self.new ≡ self.old) }
+    {
+        match self.rows.get_mut(&effect.key) {
+            Some(row) => Ok(effect.change.alter(row)),
+            None => match &effect.change {
+                Change::Insert(row) => {
+                    let row = row.copy()?;
+                    put_row(&mut self.rows, effect.key, row)?;
+                    Ok(None)
+                }
+                _ => Ok(Some(MisfitKind::NoRow)),
+            },
+        }
+    }
+}
+
+impl View for PlainTables {
+    ghost tables = { λ t. t };
+
+    fn row(&self, key: &RowKey) -> Option<&Row> {
+        self.rows.get(key)
+    }
+}
