@@ -1,6 +1,11 @@
 -- The limits on the ids and numbers of asks and shadows, among so many sites.
 use Rattle.std.specs.Prelude.{ℕ, ◌<◌, ◌≤◌, ℤ, ⊤, IfSome, unsigned_abs}
+use Rattle.std.specs.FinMap as map
 use Rattle.rubis_schema.specs.Ids.{IsId}
+use Rattle.rubis_schema.specs.Tables.{Tables}
+use Rattle.rubis_schema.specs.declared.row_keys.RowKey.{RowKey}
+use Rattle.rubis_schema.specs.declared.rows.Row.{Row}
+use Rattle.rubis_schema.specs.declared.rows.Row.TheVariants as row
 use Rattle.rubis_schema.specs.declared.rows.PurchaseRow.{PurchaseRow}
 use Rattle.rubis_schema.specs.declared.rows.CommentRow.{CommentRow}
 use Rattle.rubis_shadow.specs.declared.asks.Ask.{Ask}
@@ -60,3 +65,12 @@ InLimits sites (shadow.Bid b) = IsNewBid sites b
 InLimits sites (shadow.Buy p) = IsPurchase sites p
 InLimits sites (shadow.Close c) = IsId sites c.item × (c.cat < 1000) × IfSome c.winner (IsId sites)
 InLimits sites (shadow.Comment c) = IsComment sites c
+
+-- what is known of every row: an item is in a category, and its best bid is a bid's id
+abbrev pub RowInLimits : ℕ → Row → Type 0
+RowInLimits sites (row.Item i) = (i.cat < 1000) × IfSome i.best (λ b. IsId sites b.bid)
+RowInLimits sites r = ⊤
+
+-- every row of the tables is within the limits
+abbrev pub AllInLimits : ℕ → Tables → Type 0
+AllInLimits sites t = (key : RowKey) → IfSome (map.get t key) (RowInLimits sites)

@@ -1,0 +1,104 @@
+-- Parts of shadows within the limits keep the tables within the limits.
+use Rattle.std.proofs.Common.{◌≡◌, ℕ, zero, suc, ◌+◌, ◌<◌, Bool, true, false, cond, refl, sym, ap, subst, ◌∙◌, List, [], ◌∷◌, arith}
+use Rattle.std.specs.Prelude.{Some, None, Option, IfSome, ⊤, nat_lt, nat_le, All}
+use Rattle.std.specs.FinMap as map
+use Rattle.rubis_schema.specs.Ids.{IsId}
+use Rattle.rubis_schema.specs.Keys.{key_order, tied}
+use Rattle.rubis_schema.specs.KeyLaws.{key_total}
+use Rattle.rubis_schema.specs.Tables.{Tables}
+use Rattle.rubis_schema.specs.declared.ids.Id.{Id}
+use Rattle.rubis_schema.specs.declared.row_keys.RowKey.{RowKey}
+use Rattle.rubis_schema.specs.declared.row_keys.RowKey.TheVariants as key
+use Rattle.rubis_schema.specs.declared.rows.Row.{Row}
+use Rattle.rubis_schema.specs.declared.rows.Row.TheVariants as row
+use Rattle.rubis_schema.specs.declared.rows.Best.{Best}
+use Rattle.rubis_schema.specs.declared.rows.Sale.{Sale}
+use Rattle.rubis_schema.specs.declared.rows.Sale.TheVariants.{Open, Ended}
+use Rattle.rubis_schema.specs.declared.rows.ItemRow.{ItemRow}
+use Rattle.rubis_shadow.specs.Changes.{Done, change_row, after, with_row, better, if_open, fits, misfits_as}
+use Rattle.rubis_shadow.specs.Limits.{RowInLimits, AllInLimits, InLimits}
+use Rattle.rubis_shadow.specs.Parts.{parts}
+use Rattle.rubis_shadow.specs.Tables.{categories_from, new_category, opening}
+use Rattle.rubis_shadow.specs.declared.changes.Change.{Change}
+use Rattle.rubis_shadow.specs.declared.changes.Change.TheVariants.{Insert, ItemListed, Bought, Rated, CatListed, CatEnded, BidTaken, Sold, End}
+use Rattle.rubis_shadow.specs.declared.changes.Effect.{Effect}
+use Rattle.rubis_shadow.specs.declared.changes.MisfitKind.{MisfitKind}
+use Rattle.rubis_shadow.specs.declared.shadows.Shadow.{Shadow}
+use Rattle.rubis_shadow.specs.declared.shadows.Shadow.TheVariants as shadow
+
+-- what a change within the limits brings
+abbrev pub ChangeInLimits : ℕ → Change → Type 0
+ChangeInLimits sites (Insert r) = RowInLimits sites r
+ChangeInLimits sites (BidTaken b) = IsId sites b.bid
+ChangeInLimits sites c = ⊤
+
+module _ (sites : ℕ) where
+  abbrev Kept : Option Row → Type 0
+  Kept o = IfSome o (RowInLimits sites)
+
+  best_kept : (o : Option Best) (b : Best) → IfSome o (λ x. IsId sites x.bid) → IsId sites b.bid → IfSome (better o b) (λ x. IsId sites x.bid)
+  best_kept None b h g = g
+  best_kept (Some old) b h g = elim (nat_lt old.amount b.amount) as (λ t. IfSome (cond t (Some b) (Some old)) (λ x. IsId sites x.bid)) [ true ↦ g | false ↦ h ]
+
+  open_kept : (i : ItemRow) (s : Sale) (d : Done) → Kept (Some (row.Item i)) → Kept d.row → Kept (if_open i s d).row
+  open_kept i Open d h g = g
+  open_kept i (Ended w) d h g = h
+
+  stock_kept : (i : ItemRow) (b : Bool) (d : Done) → Kept (Some (row.Item i)) → Kept d.row → Kept (cond b d (misfits_as MisfitKind.StockShort (Some (row.Item i)))).row
+  stock_kept i true d h g = g
+  stock_kept i false d h g = h
+
+  change_kept : (c : Change) (o : Option Row) → ChangeInLimits sites c → Kept o → Kept (change_row c o).row
+  unfolding change_row
+  change_kept (Insert r) None g h = g
+  change_kept (Insert r) (Some old) g h = h
+  change_kept (BidTaken b) (Some (row.Item i)) g h = open_kept i i.sale _ h (h.0, best_kept i.best b h.1 g)
+  change_kept (Sold q) (Some (row.Item i)) g h = open_kept i i.sale _ h (stock_kept i (nat_le q i.stock) _ h h)
+  change_kept (End w) (Some (row.Item i)) g h = open_kept i i.sale _ h h
+  change_kept ItemListed (Some (row.User u)) g h = tt
+  change_kept (Bought q) (Some (row.User u)) g h = tt
+  change_kept (Rated r) (Some (row.User u)) g h = tt
+  change_kept CatListed (Some (row.Cat u)) g h = tt
+  change_kept CatEnded (Some (row.Cat u)) g h = tt
+  change_kept c o g h = h
+
+  at_key : (b : Bool) (o q : Option Row) → Kept o → Kept q → Kept (cond b o q)
+  at_key true o q h g = h
+  at_key false o q h g = g
+
+  with_row_kept : (t : Tables) (k : RowKey) (o : Option Row) → Kept o → AllInLimits sites t → AllInLimits sites (with_row t k o)
+  with_row_kept t k None h g q = subst (λ (r : Option Row). Kept r) (sym (map.get-remove key_total t k q)) (at_key (tied q k) None (map.get t q) h (g q))
+  with_row_kept t k (Some r) h g q = subst (λ (x : Option Row). Kept x) (sym (map.get-insert key_total t k r q)) (at_key (tied q k) (Some r) (map.get t q) h (g q))
+
+  -- a part within the limits keeps the tables within them
+  pub after_kept : (t : Tables) (e : Effect) → ChangeInLimits sites e.change → AllInLimits sites t → AllInLimits sites (after t e)
+  after_kept t e g h = with_row_kept t e.key _ (change_kept e.change (map.get t e.key) g (h e.key)) h
+
+-- the parts of a shadow within the limits are within them
+abbrev pub PartsInLimits : ℕ → List Effect → Type 0
+PartsInLimits sites [] = ⊤
+PartsInLimits sites (e ∷ es) = ChangeInLimits sites e.change × PartsInLimits sites es
+
+pub parts_in_limits : (sites : ℕ) (id : Id) (red : ℕ) (x : Shadow) → IsId sites id → InLimits sites x → PartsInLimits sites (parts id red x)
+parts_in_limits sites id red (shadow.User n) i h = (tt, (tt, tt))
+parts_in_limits sites id red (shadow.Item n) i h = ((h.cat, tt), (tt, (tt, tt)))
+parts_in_limits sites id red (shadow.Bid b) i h = (tt, (i, tt))
+parts_in_limits sites id red (shadow.Buy p) i h = (tt, (tt, (tt, tt)))
+parts_in_limits sites id red (shadow.Close c) i h = (tt, (tt, tt))
+parts_in_limits sites id red (shadow.Comment c) i h = (tt, (tt, tt))
+
+module _ (sites : ℕ) where
+  empty_in_limits : AllInLimits sites map.empty
+  empty_in_limits q = subst (λ (r : Option Row). IfSome r (RowInLimits sites)) (sym (map.get-empty key_order q)) tt
+
+  categories_in_limits : (k n : ℕ) → AllInLimits sites (map.from_entries (categories_from k n))
+  unfolding categories_from
+  categories_in_limits k zero q = empty_in_limits q
+  categories_in_limits k (suc n) q =
+      subst (λ (r : Option Row). IfSome r (RowInLimits sites)) (sym (map.get-insert key_total (map.from_entries (categories_from (k + 1) n)) (key.Cat k) new_category q))
+      (at_key sites (tied q (key.Cat k)) (Some new_category) (map.get (map.from_entries (categories_from (k + 1) n)) q) tt (categories_in_limits (k + 1) n q))
+
+  -- so are the tables before any message
+  pub opening_in_limits : AllInLimits sites opening
+  unfolding opening
+  opening_in_limits = categories_in_limits 0 1000
