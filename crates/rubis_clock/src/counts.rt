@@ -27,3 +27,48 @@ impl Model for Deps {
 
     ghost inverse_ok = { λ a h. λ i. record { counts = filled_take a.counts a.used h i; used = length_take_filled a.counts a.used h i } };
 }
+
+impl Deps {
+    /// No counts.
+    pub fn new() -> Deps
+        ensures { result ≡ [] }
+    {
+        Deps {
+            counts: [0; SITES_MAX],
+            used: 0,
+        }
+    }
+
+    /// Puts the count of the next site last.
+    pub fn push(&mut self, count: u32)
+        requires { length self.old < 16 }
+        ensures { self.new ≡ self.old ++ count ∷ [] }
+    {
+        self.counts[usize::from(self.used)] = count;
+        self.used += 1;
+    }
+
+    /// The counts, in site order.
+    pub fn as_slice(&self) -> &[u32]
+        ensures value { result.now ≡ self.now }
+        ensures few { length self.now ≤ 16 }
+    {
+        &self.counts[..usize::from(self.used)]
+    }
+
+    /// Of how many sites there are counts.
+    pub fn len(&self) -> usize
+        ensures value { result ≡ length self.now }
+        ensures few { length self.now ≤ 16 }
+    {
+        usize::from(self.used)
+    }
+
+    /// The count of a site.
+    pub fn count(&self, site: u8) -> u32
+        requires { site < length self.now }
+        ensures { result ≡ slice_index self.now site }
+    {
+        self.as_slice()[usize::from(site)]
+    }
+}

@@ -1,1 +1,5 @@
 pub mod Nicknames
+pub mod FieldFacts
+pub mod Decimals
+pub mod Marks
+pub mod IdTexts

@@ -1,7 +1,6 @@
 -- A nickname with zeros behind it.
-use Rattle.std.proofs.Common.{◌≡◌, ℕ, ◌-◌, ◌≤◌, List, ◌++◌, length, take, replicate, ap, sym, subst, ◌∙◌}
+use Rattle.std.proofs.Common.{◌≡◌, ℕ, ◌-◌, List, ◌++◌, length, take, replicate, ap, sym, subst, ◌∙◌}
 use Rattle.std.proofs.Math.Seq.{take-append_seam}
-use Rattle.std.proofs.lemmas.List.{drop-replicate}
 use Rattle.rubis_schema.specs.Texts.{IsNick, IsPadded, padded}
 
 pub nick_padded : (text copied rest : List ℕ) → IsNick text → copied ≡ text → rest ≡ replicate (20 - length text) 0 → IsPadded (copied ++ rest) (length text)

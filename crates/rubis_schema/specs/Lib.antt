@@ -4,3 +4,4 @@ pub mod Keys
 pub mod KeyLaws
 pub mod Refusals
 pub mod Tables
+pub mod FieldList

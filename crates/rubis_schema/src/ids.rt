@@ -1,6 +1,62 @@
+ghost use Rattle.std.specs.Prelude.{◌≡◌, ◌≢◌, ◌++◌, ◌∷◌, [], IfOk, IfSome, IsNone, OnErr, OnOk};
+ghost use Rattle.rubis_schema.specs.Ids.{IsId, id_text};
+
+use crate::field_list::Fields;
+use crate::numbers::read_number;
+use crate::short_texts::ShortText;
+use crate::splits::split_once;
+use std::alloc::{AllocError, Global};
+
+/// The greatest number of an id.
+pub const SEQ_MAX: u32 = 1_000_000;
+
 /// The id of a shadow, and of the row that it inserts: the site that made it, and its number there, from 1.
 #[derive(Clone, Copy, PartialEq, Eq, PartialOrd, Ord, Hash, Debug)]
 pub struct Id {
     pub site: u8,
     pub seq: u32,
+}
+
+impl Id {
+    /// The id of one of so many sites that is written so.
+    pub fn read(bytes: &[u8], sites: u8) -> Option<Id>
+        ensures some { IfSome result (λ id. IsId sites id × (bytes.now ≡ id_text id)) }
+        ensures none { IsNone result → (id : Id) → IsId sites id → bytes.now ≢ id_text id }
+    {
+        let (front, back) = split_once(bytes, b'.')?;
+        let site = read_number(front, u64::from(u8::MAX))?;
+        let seq = read_number(back, u64::from(SEQ_MAX))?;
+        if site >= u64::from(sites) || seq == 0 {
+            return None;
+        }
+        Some(Id {
+            site: site as u8,
+            seq: seq as u32,
+        })
+    }
+
+    fn text(&self) -> ShortText
+        ensures { result ≡ id_text self.now }
+    {
+        let mut text = ShortText::new();
+        text.put_number(self.seq);
+        text.put_byte(b'.');
+        text.put_number(u32::from(self.site));
+        text
+    }
+
+    /// The id as it is written.
+    pub fn write(&self, alloc: Global) -> Result<Vec<u8>, AllocError>
+        ensures { IfOk result (λ bytes. bytes.items ≡ id_text self.now) }
+    {
+        Vec::from_slice(alloc, self.text().as_bytes())
+    }
+
+    /// Adds the id as a field. Without memory for it the record stays as it was.
+    pub fn push_to(&self, fields: &mut Fields) -> Result<(), AllocError>
+        ensures ok { OnOk result (fields.new ≡ fields.old ++ id_text self.now ∷ []) }
+        ensures err { OnErr result (fields.new ≡ fields.old) }
+    {
+        fields.push(self.text().as_bytes())
+    }
 }

@@ -1,0 +1,75 @@
+// Numbers as text, each in one spelling.
+
+ghost use Rattle.std.specs.Prelude.{◌≡◌, ◌≢◌, ◌≤◌, ◌∷◌, ◌++◌, [], ℕ, ℤ, IfSome, IsNone, OnErr, OnOk, decimal, unsigned_abs};
+ghost use Rattle.rubis_schema.specs.Ids.{int_text};
+
+use crate::field_list::Fields;
+use itoa::Buffer;
+use std::alloc::AllocError;
+use std::str;
+
+/// The greatest rating of a comment; the least is as far below 0.
+pub const RATING_MAX: u8 = 5;
+
+/// The number up to `max` that is written so, without leading zeros.
+pub fn read_number(bytes: &[u8], max: u64) -> Option<u64>
+    ensures some { IfSome result (λ n. (n ≤ max) × (bytes.now ≡ decimal n)) }
+    ensures none { IsNone result → (n : ℕ) → n ≤ max → bytes.now ≢ decimal n }
+{
+    let Ok(text) = str::from_utf8(bytes) else {
+        return None;
+    };
+    let Ok(number) = text.parse::<u64>() else {
+        return None;
+    };
+    let mut buffer = Buffer::new();
+    if number <= max && buffer.format(number).as_bytes() == bytes {
+        Some(number)
+    } else {
+        None
+    }
+}
+
+// The rating whose digit, after a `-`, is written so: not 0, which has no sign.
+fn below_zero(digits: &[u8]) -> Option<i8>
+    ensures some { IfSome result (λ z. (unsigned_abs z ≤ 5) × (45 ∷ digits.now ≡ int_text z)) }
+    ensures none { IsNone result → (z : ℤ) → unsigned_abs z ≤ 5 → 45 ∷ digits.now ≢ int_text z }
+{
+    let size = read_number(digits, u64::from(RATING_MAX))?;
+    if size == 0 {
+        return None;
+    }
+    Some(-(size as i8))
+}
+
+/// The rating, -5 to 5, that is written so: 0 without a sign, and no sign but `-`.
+pub fn read_rating(bytes: &[u8]) -> Option<i8>
+    ensures some { IfSome result (λ z. (unsigned_abs z ≤ 5) × (bytes.now ≡ int_text z)) }
+    ensures none { IsNone result → (z : ℤ) → unsigned_abs z ≤ 5 → bytes.now ≢ int_text z }
+{
+    match bytes.split_first() {
+        Some((b'-', digits)) => below_zero(digits),
+        _ => {
+            let size = read_number(bytes, u64::from(RATING_MAX))?;
+            Some(size as i8)
+        }
+    }
+}
+
+/// Adds a number as a field. Without memory for it the record stays as it was.
+pub fn push_number(fields: &mut Fields, number: u64) -> Result<(), AllocError>
+    ensures ok { OnOk result (fields.new ≡ fields.old ++ decimal number ∷ []) }
+    ensures err { OnErr result (fields.new ≡ fields.old) }
+{
+    let mut buffer = Buffer::new();
+    fields.push(buffer.format(number).as_bytes())
+}
+
+/// Adds a number, with `-` in front where it is below 0, as a field. Without memory for it the record stays as it was.
+pub fn push_int(fields: &mut Fields, number: i64) -> Result<(), AllocError>
+    ensures ok { OnOk result (fields.new ≡ fields.old ++ int_text number ∷ []) }
+    ensures err { OnErr result (fields.new ≡ fields.old) }
+{
+    let mut buffer = Buffer::new();
+    fields.push(buffer.format(number).as_bytes())
+}
