@@ -1,0 +1,3 @@
+pub mod Guesses
+pub mod Tests
+pub mod Readings

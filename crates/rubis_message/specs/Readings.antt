@@ -1,6 +1,6 @@
 -- The request, or the packet, that a record is.
 use Rattle.std.specs.Prelude.{ℕ, ◌-◌, ◌==◌, Bool, true, false, ◌&&◌, cond, nat_lt, nat_le, nat_eq, ℤ, pos, negsuc, unsigned_abs, List, [], ◌∷◌, length, slice_index, drop, Option, Some, None, codes, bytes_eq}
-use Rattle.std.specs.List.{list_all, before_first, after_first}
+use Rattle.std.specs.List.{list_all}
 use Rattle.std.specs.Str.Parse.{digits_value}
 use Rattle.std.specs.Cmp.Lexicographic.{pointwise}
 use Rattle.rubis_schema.specs.declared.ids.Id.{Id}
@@ -71,9 +71,18 @@ is_request sites (request.List l) = is_listing sites l
 abbrev pub number_from : List ℕ → ℕ
 number_from field = digits_value 10 field
 
--- what stands before the first point, and what stands behind it
+-- what stands before the first point
+abbrev pub before_point : List ℕ → List ℕ
+before_point [] = []
+before_point (b ∷ bs) = cond (nat_eq b 46) [] (b ∷ before_point bs)
+
+-- what stands behind it
+abbrev pub behind_point : List ℕ → List ℕ
+behind_point [] = []
+behind_point (b ∷ bs) = cond (nat_eq b 46) bs (behind_point bs)
+
 abbrev pub id_from : List ℕ → Id
-id_from field = record { site = number_from (before_first (λ b. nat_eq b 46) field); seq = number_from (after_first (λ b. nat_eq b 46) field) }
+id_from field = record { site = number_from (before_point field); seq = number_from (behind_point field) }
 
 abbrev pub below_zero : ℕ → ℤ
 below_zero n = negsuc (n - 1)
