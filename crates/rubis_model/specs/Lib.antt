@@ -1,3 +1,5 @@
 pub mod Log
 pub mod Settle
 pub mod Site
+pub mod Answers
+pub mod Runs
