@@ -1,4 +1,4 @@
-ghost use Rattle.std.specs.Prelude.{◌≡◌, ◌<◌, ◌≤◌, [], ◌∷◌, ◌++◌, length, slice_index};
+ghost use Rattle.std.specs.Prelude.{◌≡◌, ◌<◌, ◌≤◌, [], ◌∷◌, ◌++◌, length, slice_index, slice_set};
 
 use std::marker::Model;
 
@@ -70,5 +70,13 @@ impl Deps {
         ensures { result ≡ slice_index self.now site }
     {
         self.as_slice()[usize::from(site)]
+    }
+
+    /// Sets the count of a site.
+    pub fn set(&mut self, site: u8, count: u32)
+        requires { site < length self.old }
+        ensures { self.new ≡ slice_set self.old site count }
+    {
+        self.counts[usize::from(site)] = count;
     }
 }

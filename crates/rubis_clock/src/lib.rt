@@ -1,8 +1,10 @@
 //! What a site had released when it made a message, and what it has released now.
 #![tactic(auto)]
 
+mod clocks;
 mod counts;
 mod stamps;
 
+pub use clocks::{Clock, precedes};
 pub use counts::{Deps, SITES_MAX};
 pub use stamps::Stamp;

@@ -1,0 +1,30 @@
+-- Clocks, and the order of stamps.
+use Rattle.std.specs.Prelude.{◌≡◌, ◌≢◌, ℕ, ◌+◌, ◌<◌, ◌≤◌, cond, nat_lt, List, replicate, slice_index, slice_set}
+use Rattle.rubis_clock.specs.declared.stamps.Stamp.{Stamp}
+
+-- how many messages of each site, and how many red ones
+pub record Counted : Type 0 where
+  pub counts : List ℕ
+  pub red : ℕ
+
+-- nothing at so many sites
+abbrev pub opening_clock : ℕ → Counted
+opening_clock sites = record { counts = replicate sites 0; red = 0 }
+
+-- the message is the next one of its origin, all that its origin had released of other sites is there, and a red one
+-- has the next red number
+pub record IsReady (c : Counted) (s : Stamp) : Type 0 where
+  pub next : s.id.seq ≡ slice_index c.counts s.id.site + 1
+  pub released : (j : ℕ) → j ≢ s.id.site → slice_index s.deps j ≤ slice_index c.counts j
+  pub number : 0 < s.red → s.red ≡ c.red + 1
+
+-- with one message more
+abbrev pub advanced : Counted → Stamp → Counted
+advanced c s = record {
+  counts = slice_set c.counts s.id.site (slice_index c.counts s.id.site + 1);
+  red = c.red + cond (nat_lt 0 s.red) 1 0;
+}
+
+-- u was released where v was made
+abbrev pub Precedes : Stamp → Stamp → Type 0
+Precedes u v = u.id.seq ≤ slice_index v.deps u.id.site

@@ -1,0 +1,116 @@
+ghost use Rattle.std.specs.Prelude.{◌≡◌, ◌≢◌, ◌↔◌, ◌<◌, ◌≤◌, ℕ, IsTrue, length, slice_index};
+ghost use Rattle.rubis_clock.specs.Clocks.{IsReady, Precedes, advanced, opening_clock};
+
+use crate::counts::Deps;
+use crate::stamps::Stamp;
+use std::marker::Model;
+
+/// How many messages of each site a log has, and how many red ones.
+#[derive(Clone, Copy, Debug)]
+pub struct Clock {
+    counts: Deps,
+    red: u32,
+}
+
+impl Model for Clock {
+    ghost use Rattle.rubis_clock.specs.Clocks.{Counted};
+
+    ghost Value = { Counted };
+
+    ghost view = { λ c. record { counts = c.counts; red = c.red } };
+
+    ghost inverse = { λ v. record { counts = v.counts; red = v.red } };
+}
+
+// Whether each count but the origin's is at most the clock's.
+fn others_released(deps: &[u32], counts: &[u32], origin: usize) -> bool
+    requires { length deps.now ≡ length counts.now }
+    ensures { IsTrue result ↔ ((j : ℕ) → j < length deps.now → j ≢ origin → slice_index deps.now j ≤ slice_index counts.now j) }
+{
+    for (site, (dep, count)) in deps.iter().zip(counts).enumerate() {
+        if site != origin && *dep > *count {
+            return false;
+        }
+    }
+    true
+}
+
+impl Clock {
+    /// Nothing is counted yet, at so many sites.
+    pub fn new(sites: u8) -> Clock
+        requires { sites ≤ 16 }
+        ensures { result ≡ opening_clock sites }
+    {
+        let mut counts = Deps::new();
+        for _ in 0..sites {
+            counts.push(0);
+        }
+        Clock { counts, red: 0 }
+    }
+
+    /// How many messages of the site were counted.
+    pub fn count(&self, site: u8) -> u32
+        requires { site < length self.now.counts }
+        ensures { result ≡ slice_index self.now.counts site }
+    {
+        self.counts.count(site)
+    }
+
+    /// How many red messages were counted.
+    pub fn red(&self) -> u32
+        ensures { result ≡ self.now.red }
+    {
+        self.red
+    }
+
+    /// The counts, as a new message names them.
+    pub fn deps(&self) -> Deps
+        ensures { result ≡ self.now.counts }
+    {
+        self.counts
+    }
+
+    /// Whether the message with that stamp can be released: it is the next one of its origin, all that the origin had
+    /// released of other sites was counted, and a red one has the next red number.
+    pub fn ready(&self, stamp: &Stamp) -> bool
+        requires sites { length stamp.now.deps ≡ length self.now.counts }
+        requires origin { stamp.now.id.site < length self.now.counts }
+        ensures { IsTrue result ↔ IsReady self.now stamp.now }
+    {
+        let next = u64::from(self.counts.count(stamp.id.site)) + 1;
+        let next_red = u64::from(self.red) + 1;
+        if u64::from(stamp.id.seq) != next {
+            return false;
+        }
+        if stamp.red != 0 && u64::from(stamp.red) != next_red {
+            return false;
+        }
+        others_released(
+            stamp.deps.as_slice(),
+            self.counts.as_slice(),
+            usize::from(stamp.id.site),
+        )
+    }
+
+    /// Counts the message with that stamp.
+    pub fn advance(&mut self, stamp: &Stamp)
+        requires origin { stamp.now.id.site < length self.old.counts }
+        requires ready { IsReady self.old stamp.now }
+        ensures { self.new ≡ advanced self.old stamp.now }
+    {
+        self.counts.set(stamp.id.site, stamp.id.seq);
+        if stamp.red != 0 {
+            self.red = stamp.red;
+        }
+    }
+}
+
+/// Whether the message with the stamp `v` was made where that with the stamp `u` had been released.
+pub fn precedes(u: &Stamp, v: &Stamp) -> bool
+    ensures { IsTrue result ↔ Precedes u.now v.now }
+{
+    match v.deps.as_slice().get(usize::from(u.id.site)) {
+        Some(count) => u.id.seq <= *count,
+        None => u.id.seq == 0,
+    }
+}
