@@ -1,0 +1,6 @@
+use Rattle.std.proofs.Common.{◌∙◌, sym}
+use Rattle.rubis_schema.proofs.FieldFacts.{pieces-length}
+use Rattle.rubis_schema.proofs.field_list.Fields.len.Goals as goal
+
+pub returns : goal.returns
+returns c = rw (← c.self.view_is) (c.len.ensures ∙ c.self.inside.ends.ok.0 ∙ sym (pieces-length 0 c.self.inside.ends.items c.self.inside.bytes.items))
