@@ -1,0 +1,4 @@
+pub mod ListFacts
+pub mod ReadingFacts
+pub mod RowFacts
+pub mod RunFacts
