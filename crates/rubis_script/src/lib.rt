@@ -13,3 +13,6 @@ pub use record_list::Records;
 pub use run::run_upto;
 pub use service::Service;
 pub use sink::Sink;
+
+#[cfg(test)]
+mod tests;
