@@ -2,3 +2,4 @@ pub mod ListFacts
 pub mod ReadingFacts
 pub mod RowFacts
 pub mod RunFacts
+pub mod TextFacts

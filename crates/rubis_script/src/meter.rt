@@ -1,6 +1,6 @@
 // A reader that knows how much it gave.
 
-ghost use Rattle.std.specs.Prelude.{◌≡◌, ◌≤◌, length};
+ghost use Rattle.std.specs.Prelude.{◌≡◌, ◌≤◌, ◌-◌, ◌↔◌, length, true};
 ghost use Rattle.rubis_script.specs.Reading.{metered};
 
 use std::io;
@@ -42,7 +42,9 @@ impl<R> Meter<R> {
     }
 
     /// Whether all that it gave was used up once `used` bytes were, but for line ends.
-    pub fn is_used_up(&self, used: u64) -> bool {
+    pub fn is_used_up(&self, used: u64) -> bool
+        ensures { (result ≡ true) ↔ (self.now.given - used ≤ self.now.line_ends) }
+    {
         self.given.saturating_sub(used) <= self.line_ends
     }
 

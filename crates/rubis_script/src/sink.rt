@@ -1,6 +1,6 @@
 // The text of rows, on its way to a writer.
 
-ghost use Rattle.std.specs.Prelude.{◌≡◌, ◌++◌, ◌∷◌, ◌⊎◌, [], IfErr, IfOk, IsErrOf, ℕ, List, OnErr, OnOk, false, map};
+ghost use Rattle.std.specs.Prelude.{◌≡◌, ◌≤◌, ◌++◌, ◌∷◌, ◌⊎◌, [], IfErr, IfOk, IsErrOf, ℕ, List, OnErr, OnOk, false, length, map, true};
 ghost use Rattle.std.specs.Io.KnownBytes.{Appends};
 ghost use Rattle.csv.specs.Writing.{fields_written, has_written, row_text, writer_setup};
 ghost use Rattle.rubis_script.specs.Rows.{Begun, held};
@@ -152,8 +152,10 @@ impl Sink {
         Ok(())
     }
 
-    /// Whether there is so much text that it is time to write it out.
-    pub fn is_full(&self) -> bool {
+    /// Whether there is so much text, of 64 KiB or more, that it is time to write it out.
+    pub fn is_full(&self) -> bool
+        ensures { result ≡ true → 65536 ≤ length self.now }
+    {
         self.rows.get_ref().len() >= CHUNK
     }
 
