@@ -2,7 +2,8 @@
 use Rattle.std.specs.Prelude.{ℕ, List, true}
 use Rattle.std.specs.List.{flat_map}
 use Rattle.csv.specs.Reading.{default_config, records, strip_bom}
-use Rattle.csv.specs.Writing.{default_writer, row_text, with_flexible}
+use Rattle.csv.specs.Writing.{default_writer, with_flexible}
+pub use Rattle.csv.specs.Writing.{row_text}
 use Rattle.csv.specs.declared.writer.WriterBuilder.{WriterBuilder}
 
 -- CSV as it is mostly written, for rows of any lengths
