@@ -12,8 +12,7 @@ use rubis_schema::Fields;
 use std::alloc::{AllocError, Global};
 use std::io::Read;
 
-/// The records of a reader, of any lengths and with no header row. A byte order mark at the start is no part of
-/// the first.
+/// The records of a reader, of any lengths and with no header row. A byte order mark at the start is taken off.
 #[derive(Drop)]
 pub struct Records<R> {
     rows: Reader<Meter<R>>,
@@ -50,7 +49,7 @@ impl<R: Read> Records<R> {
         }
     }
 
-    /// Goes on to the next record, and says whether there was one. After an error nothing more is to be had.
+    /// Goes on to the next record, and says whether there was one. After an error it is not known what is left.
     ///
     /// # Errors
     ///
