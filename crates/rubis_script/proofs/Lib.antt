@@ -1,0 +1,5 @@
+pub mod ListFacts
+pub mod ReadingFacts
+pub mod RowFacts
+pub mod RunFacts
+pub mod TextFacts
