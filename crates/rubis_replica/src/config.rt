@@ -1,0 +1,131 @@
+ghost use Rattle.std.specs.Prelude.{◌≡◌, ◌≤◌, ◌<◌, ◌↔◌, IsTrue};
+ghost use Rattle.std.specs.Option.{SomeIff};
+ghost use Rattle.rubis_replica.specs.Setup.{IsCount, IsSetup, Setup};
+
+use std::marker::Model;
+
+/// The most sites.
+pub const SITES_MAX: u8 = 8;
+
+/// The most shards.
+pub const SHARDS_MAX: u8 = 64;
+
+/// The most workers.
+pub const WORKERS_MAX: u8 = 16;
+
+/// The most shadows of a batch.
+pub const BATCH_MAX: u32 = 65_536;
+
+/// The most messages that a site keeps, released and waiting ones together.
+pub const KEEP_MAX: u32 = 1_000_000;
+
+/// How a site is set up: which one it is, of how many; how many shards its tables have, how many workers apply
+/// shadows to them, and how many shadows make a batch; and how many messages it keeps.
+#[derive(Clone, Copy, Debug)]
+pub struct Config {
+    site: u8,
+    sites: u8,
+    shards: u8,
+    workers: u8,
+    batch: u32,
+    keep: u32,
+}
+
+impl Model for Config {
+    ghost use Rattle.rubis_replica.specs.Setup.{Setup, IsSetup};
+
+    ghost Value = { Setup };
+
+    ghost view = { λ c. record { site = c.site; sites = c.sites; shards = c.shards; workers = c.workers; batch = c.batch; keep = c.keep } };
+
+    ghost invariant = { λ c. IsSetup (record { site = c.site; sites = c.sites; shards = c.shards; workers = c.workers; batch = c.batch; keep = c.keep }) };
+
+    ghost inverse = { λ s. record { site = s.site; sites = s.sites; shards = s.shards; workers = s.workers; batch = s.batch; keep = s.keep } };
+}
+
+// Whether a number is from 1 to `most`.
+fn is_count(number: u32, most: u32) -> bool
+    ensures { IsTrue result ↔ IsCount number most }
+{
+    number >= 1 && number <= most
+}
+
+impl Config {
+    /// The configuration with these numbers, if each is within its limits and the site is below `sites`: 1 to 8 sites,
+    /// 1 to 64 shards, 1 to 16 workers, batches of 1 to 65,536, and 1 to 1,000,000 messages kept.
+    pub fn new(
+        site: u8,
+        sites: u8,
+        shards: u8,
+        workers: u8,
+        batch: u32,
+        keep: u32,
+    ) -> Option<Config>
+        ensures { let setup : Setup = record { site = site; sites = sites; shards = shards; workers = workers; batch = batch; keep = keep } in SomeIff result (IsSetup setup) setup }
+    {
+        let fits = is_count(u32::from(sites), u32::from(SITES_MAX))
+            && is_count(u32::from(shards), u32::from(SHARDS_MAX))
+            && is_count(u32::from(workers), u32::from(WORKERS_MAX))
+            && is_count(batch, BATCH_MAX)
+            && is_count(keep, KEEP_MAX);
+        if !fits || site >= sites {
+            return None;
+        }
+        Some(Config {
+            site,
+            sites,
+            shards,
+            workers,
+            batch,
+            keep,
+        })
+    }
+
+    /// Which site it is, from 0.
+    pub fn site(&self) -> u8
+        ensures value { result ≡ self.now.site }
+        ensures below { result < self.now.sites }
+    {
+        self.site
+    }
+
+    /// How many sites there are.
+    pub fn sites(&self) -> u8
+        ensures value { result ≡ self.now.sites }
+        ensures limits { IsCount result 8 }
+    {
+        self.sites
+    }
+
+    /// How many shards the tables have.
+    pub fn shards(&self) -> u8
+        ensures value { result ≡ self.now.shards }
+        ensures limits { IsCount result 64 }
+    {
+        self.shards
+    }
+
+    /// How many workers apply shadows.
+    pub fn workers(&self) -> u8
+        ensures value { result ≡ self.now.workers }
+        ensures limits { IsCount result 16 }
+    {
+        self.workers
+    }
+
+    /// How many pending shadows make a batch.
+    pub fn batch(&self) -> u32
+        ensures value { result ≡ self.now.batch }
+        ensures limits { IsCount result 65536 }
+    {
+        self.batch
+    }
+
+    /// How many messages the site keeps.
+    pub fn keep(&self) -> u32
+        ensures value { result ≡ self.now.keep }
+        ensures limits { IsCount result 1000000 }
+    {
+        self.keep
+    }
+}
