@@ -1,10 +1,15 @@
 //! Messages, tokens and requests, and their records.
 #![tactic(auto)]
 
+mod asks;
+mod faults;
+mod kinds;
 mod messages;
+mod readers;
 mod requests;
 mod tokens;
 
+pub use faults::ReadFault;
 pub use messages::Message;
 pub use requests::Request;
 pub use tokens::{Packet, Token};

@@ -1,0 +1,147 @@
+-- The fields of the records that say what is asked and what is sent.
+use Rattle.std.specs.Prelude.{◌≡◌, ℕ, ◌<◌, ◌≤◌, ⊤, List, [], ◌∷◌, map, Option, Some, None, codes, decimal}
+use Rattle.std.specs.List.{join_with_byte}
+use Rattle.rubis_schema.specs.Ids.{IsId, id_text, int_text}
+use Rattle.rubis_schema.specs.Texts.{IsNick, IsName, IsText}
+use Rattle.rubis_schema.specs.declared.ids.Id.{Id}
+use Rattle.rubis_schema.specs.declared.listings.Listing.{Listing}
+use Rattle.rubis_schema.specs.declared.listings.Listing.TheVariants.{Users, Items, Bids, Purchases, Comments, Categories, Log, Misfits, Tables}
+use Rattle.rubis_schema.specs.declared.rows.PurchaseRow.{PurchaseRow}
+use Rattle.rubis_schema.specs.declared.rows.CommentRow.{CommentRow}
+use Rattle.rubis_shadow.specs.Limits.{IsNewItem, IsComment, IsAsk, InLimits}
+use Rattle.rubis_shadow.specs.declared.asks.Ask.{Ask}
+use Rattle.rubis_shadow.specs.declared.asks.Ask.TheVariants as ask
+use Rattle.rubis_shadow.specs.declared.asks.AskedClose.{AskedClose}
+use Rattle.rubis_shadow.specs.declared.shadows.NewItem.{NewItem}
+use Rattle.rubis_shadow.specs.declared.shadows.NewBid.{NewBid}
+use Rattle.rubis_shadow.specs.declared.shadows.NewClose.{NewClose}
+use Rattle.rubis_shadow.specs.declared.shadows.Shadow.{Shadow}
+use Rattle.rubis_shadow.specs.declared.shadows.Shadow.TheVariants as shadow
+use Rattle.rubis_message.specs.Message.{Message, IsMessage, sites_of}
+use Rattle.rubis_message.specs.declared.requests.Request.{Request}
+use Rattle.rubis_message.specs.declared.requests.Request.TheVariants as request
+use Rattle.rubis_message.specs.declared.tokens.Token.{Token}
+use Rattle.rubis_message.specs.declared.tokens.Packet.{Packet}
+use Rattle.rubis_message.specs.declared.tokens.Packet.TheVariants as packet
+
+-- ---- what stands behind the word for a kind
+abbrev pub item_fields : NewItem → List (List ℕ)
+item_fields n = id_text n.seller ∷ n.name ∷ decimal n.cat ∷ decimal n.stock ∷ decimal n.start ∷ decimal n.price ∷ []
+
+abbrev pub bid_fields : NewBid → List (List ℕ)
+bid_fields b = id_text b.item ∷ id_text b.bidder ∷ decimal b.amount ∷ []
+
+abbrev pub purchase_fields : PurchaseRow → List (List ℕ)
+purchase_fields p = id_text p.item ∷ id_text p.buyer ∷ decimal p.quantity ∷ []
+
+abbrev pub comment_fields : CommentRow → List (List ℕ)
+comment_fields c = id_text c.item ∷ id_text c.from ∷ id_text c.to ∷ int_text c.rating ∷ c.text ∷ []
+
+abbrev pub asked_close_fields : AskedClose → List (List ℕ)
+asked_close_fields c = id_text c.item ∷ id_text c.seller ∷ []
+
+-- a winner is an id, or `none`
+abbrev pub winner_text : Option Id → List ℕ
+winner_text None = codes "none"
+winner_text (Some id) = id_text id
+
+abbrev pub close_fields : NewClose → List (List ℕ)
+close_fields c = id_text c.item ∷ decimal c.cat ∷ winner_text c.winner ∷ []
+
+-- ---- requests
+abbrev pub ask_record : Ask → List (List ℕ)
+ask_record (ask.User n) = codes "user" ∷ n ∷ []
+ask_record (ask.Item n) = codes "item" ∷ item_fields n
+ask_record (ask.Bid b) = codes "bid" ∷ bid_fields b
+ask_record (ask.Buy p) = codes "buy" ∷ purchase_fields p
+ask_record (ask.Close c) = codes "close" ∷ asked_close_fields c
+ask_record (ask.Comment c) = codes "comment" ∷ comment_fields c
+
+abbrev pub listing_fields : Listing → List (List ℕ)
+listing_fields Users = codes "users" ∷ []
+listing_fields (Items cat) = codes "items" ∷ decimal cat ∷ []
+listing_fields (Bids item) = codes "bids" ∷ id_text item ∷ []
+listing_fields (Purchases item) = codes "purchases" ∷ id_text item ∷ []
+listing_fields (Comments user) = codes "comments" ∷ id_text user ∷ []
+listing_fields Categories = codes "categories" ∷ []
+listing_fields Log = codes "log" ∷ []
+listing_fields Misfits = codes "misfits" ∷ []
+listing_fields Tables = codes "tables" ∷ []
+
+abbrev pub request_record : Request → List (List ℕ)
+request_record (request.Ask a) = ask_record a
+request_record (request.Pass to) = codes "pass" ∷ decimal to ∷ []
+request_record (request.List l) = codes "list" ∷ listing_fields l
+
+-- the texts of an ask are in their grammars
+abbrev pub HasTexts : Ask → Type 0
+HasTexts (ask.User n) = IsNick n
+HasTexts (ask.Item n) = IsName n.name
+HasTexts (ask.Bid b) = ⊤
+HasTexts (ask.Buy p) = ⊤
+HasTexts (ask.Close c) = ⊤
+HasTexts (ask.Comment c) = IsText c.text
+
+-- the category or the id of a listing is within its limits
+abbrev pub IsListing : ℕ → Listing → Type 0
+IsListing sites Users = ⊤
+IsListing sites (Items cat) = cat < 1000
+IsListing sites (Bids item) = IsId sites item
+IsListing sites (Purchases item) = IsId sites item
+IsListing sites (Comments user) = IsId sites user
+IsListing sites Categories = ⊤
+IsListing sites Log = ⊤
+IsListing sites Misfits = ⊤
+IsListing sites Tables = ⊤
+
+-- a request within the limits, among so many sites
+abbrev pub IsRequest : ℕ → Request → Type 0
+IsRequest sites (request.Ask a) = IsAsk sites a × HasTexts a
+IsRequest sites (request.Pass to) = to ≤ 99
+IsRequest sites (request.List l) = IsListing sites l
+
+-- ---- packets
+-- counts are joined by `:`
+abbrev pub deps_text : List ℕ → List ℕ
+deps_text counts = join_with_byte 58 (map decimal counts)
+
+abbrev pub shadow_fields : Shadow → List (List ℕ)
+shadow_fields (shadow.User n) = codes "user" ∷ n ∷ []
+shadow_fields (shadow.Item n) = codes "item" ∷ item_fields n
+shadow_fields (shadow.Bid b) = codes "bid" ∷ bid_fields b
+shadow_fields (shadow.Buy p) = codes "buy" ∷ purchase_fields p
+shadow_fields (shadow.Close c) = codes "close" ∷ close_fields c
+shadow_fields (shadow.Comment c) = codes "comment" ∷ comment_fields c
+
+-- the second field is the version
+abbrev pub message_record : Message → List (List ℕ)
+message_record m =
+    codes "msg" ∷ codes "1" ∷ decimal m.stamp.id.site ∷ decimal m.stamp.id.seq ∷ decimal m.stamp.red ∷ deps_text m.stamp.deps
+    ∷ shadow_fields m.shadow
+
+abbrev pub token_record : Token → List (List ℕ)
+token_record t = codes "token" ∷ codes "1" ∷ decimal t.turn ∷ decimal t.to ∷ decimal t.issued ∷ []
+
+abbrev pub packet_record : Packet → List (List ℕ)
+packet_record (packet.Msg m) = message_record m
+packet_record (packet.Token t) = token_record t
+
+-- the texts of a shadow are in their grammars
+abbrev pub HasShadowTexts : Shadow → Type 0
+HasShadowTexts (shadow.User n) = IsNick n
+HasShadowTexts (shadow.Item n) = IsName n.name
+HasShadowTexts (shadow.Bid b) = ⊤
+HasShadowTexts (shadow.Buy p) = ⊤
+HasShadowTexts (shadow.Close c) = ⊤
+HasShadowTexts (shadow.Comment c) = IsText c.text
+
+-- a token among so many sites
+pub record IsToken (sites : ℕ) (t : Token) : Type 0 where
+  pub turn : t.turn ≤ 1000000000
+  pub to : t.to < sites
+  pub issued : t.issued ≤ 1000000
+
+-- a packet among so many sites
+abbrev pub IsPacket : ℕ → Packet → Type 0
+IsPacket sites (packet.Msg m) = IsMessage m × (sites_of m ≡ sites) × HasShadowTexts m.shadow
+IsPacket sites (packet.Token t) = IsToken sites t
