@@ -1,26 +1,36 @@
 // What stands behind the word for a kind.
 
-ghost use Rattle.rubis_schema.specs.Texts.{IsName, IsText};
+ghost use Rattle.std.specs.Prelude.{[], ◌∷◌};
+ghost use Rattle.rubis_schema.specs.Texts.{IsName, IsNick, IsText};
 ghost use Rattle.rubis_shadow.specs.Limits.{IsNewItem, IsNewBid, IsPurchase, IsComment};
 ghost use Rattle.rubis_message.specs.Grammar.{item_fields, bid_fields, purchase_fields, comment_fields};
 ghost use Rattle.rubis_message.specs.Reading.{Reads};
 
 use crate::faults::ReadFault;
 use crate::readers::Reader;
-use rubis_schema::{CommentRow, PurchaseRow};
+use rubis_schema::{CommentRow, Nick, PurchaseRow};
 use rubis_shadow::{NewBid, NewItem};
 use std::alloc::Global;
 
 /// The greatest category.
-const CAT_MAX: u64 = 999;
+pub const CAT_MAX: u64 = 999;
 
 /// The greatest quantity, and the greatest stock.
-const QUANTITY_MAX: u64 = 1_000_000;
+pub const QUANTITY_MAX: u64 = 1_000_000;
 
 /// The greatest amount, and the greatest price.
-const AMOUNT_MAX: u64 = 1_000_000_000_000;
+pub const AMOUNT_MAX: u64 = 1_000_000_000_000;
 
 impl<'a> Reader<'a> {
+    /// The rest of the record is a nickname.
+    pub fn only_nick(&mut self) -> Result<Nick, ReadFault>
+        ensures { Reads IsNick (λ nick. nick ∷ []) self.old result }
+    {
+        let nick = self.nick()?;
+        self.end()?;
+        Ok(nick)
+    }
+
     /// The rest of the record is a new item.
     pub fn new_item(&mut self, alloc: Global, sites: u8) -> Result<NewItem, ReadFault>
         ensures { Reads (λ n. IsNewItem sites n × IsName n.name) item_fields self.old result }

@@ -7,9 +7,10 @@ mod kinds;
 mod messages;
 mod readers;
 mod requests;
+mod shadows;
 mod tokens;
 
 pub use faults::ReadFault;
 pub use messages::Message;
-pub use requests::Request;
+pub use requests::{Request, read_request};
 pub use tokens::{Packet, Token};
