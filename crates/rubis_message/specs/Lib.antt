@@ -1,3 +1,4 @@
 pub mod Message
 pub mod Grammar
 pub mod Readings
+pub mod Reading

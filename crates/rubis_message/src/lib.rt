@@ -2,11 +2,17 @@
 #![tactic(auto)]
 
 mod answers;
+mod asks;
+mod faults;
+mod kinds;
 mod messages;
+mod readers;
 mod requests;
+mod shadows;
 mod tokens;
 
 pub use answers::{Arrival, Taken};
+pub use faults::ReadFault;
 pub use messages::Message;
-pub use requests::Request;
+pub use requests::{Request, read_request};
 pub use tokens::{Packet, Token};

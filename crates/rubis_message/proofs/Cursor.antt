@@ -1,0 +1,30 @@
+-- The next field of a record.
+use Rattle.std.proofs.Common.{◌≡◌, ◌<◌, ◌≤◌, ◌+◌, ◌^◌, ℕ, List, [], ◌∷◌, length, get_or, drop, Bor, Option, Some, None, Result, Ok, Err, refl, sym, ap, ◌∙◌, arith, add-one, decimal}
+use Rattle.std.specs.Prelude.{MatchResult, option_map}
+use Rattle.std.specs.List.{slice_get}
+use Rattle.std.specs.Option.{ok_or}
+use Rattle.std.proofs.Math.Seq.{drop-cons}
+use Rattle.std.proofs.lemmas.Option.{slice_get-get_or, none-some, same_Some}
+use Rattle.std.proofs.lemmas.Fmt.{decimal_injective}
+use Rattle.rubis_message.specs.declared.faults.ReadFault.{ReadFault}
+use Rattle.rubis_message.specs.declared.faults.ReadFault.TheVariants.{BadRecord}
+
+pub next_field : (xs : List (List ℕ)) (n : ℕ) (o : Option (Bor (List ℕ))) → n < length xs → option_map (λ s. s.now) o ≡ slice_get xs n
+    → MatchResult (ok_or o BadRecord) (λ f. drop n xs ≡ f.now ∷ drop (n + 1) xs) (λ e. (e ≡ BadRecord) × (drop n xs ≡ []))
+next_field xs n None lt e = absurd (none-some _ (e ∙ slice_get-get_or xs n [] lt))
+next_field xs n (Some f) lt e =
+    let item : f.now ≡ get_or xs n [] = same_Some _ _ (e ∙ slice_get-get_or xs n [] lt) in
+    drop-cons xs n [] lt ∙ (λ i. sym item i ∷ drop (sym (add-one n) i) xs)
+
+-- a field is left
+pub some_left : (xs : List (List ℕ)) (n : ℕ) → n < length xs → drop n xs ≡ [] → ⊥
+some_left xs n lt e =
+    let cut = drop-cons xs n [] lt in
+    absurd cc
+
+-- 0 is no number from 1 on
+pub not_zero : (fields rest behind : List (List ℕ)) (n x max : ℕ) → max < 2 ^ 64 → n ≡ 0 → fields ≡ decimal n ∷ rest → 1 ≤ x → x ≤ max → fields ≡ decimal x ∷ behind → ⊥
+not_zero fields rest behind n x max fits zero e low high f =
+    let same : decimal n ≡ decimal x = cc in
+    let is : n ≡ x = decimal_injective n x (omega (arith, zero)) (omega (arith, high, fits)) same in
+    absurd (omega (arith, is, zero, low))

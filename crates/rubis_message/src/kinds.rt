@@ -1,0 +1,96 @@
+// The words that say what a record is.
+
+ghost use Rattle.std.specs.Prelude.{◌≡◌, ◌≢◌, ◌↔◌, IfSome, IsNone, IsTrue};
+ghost use Rattle.rubis_message.specs.Reading.{kind_text, shown_text};
+
+/// The first word of a request, or that of a message's shadow.
+#[derive(Clone, Copy, Debug)]
+pub enum Kind {
+    User,
+    Item,
+    Bid,
+    Buy,
+    Close,
+    Comment,
+    Pass,
+    List,
+}
+
+/// The second word of a `list` request.
+#[derive(Clone, Copy, Debug)]
+pub enum Shown {
+    Users,
+    Items,
+    Bids,
+    Purchases,
+    Comments,
+    Categories,
+    Log,
+    Misfits,
+    Tables,
+}
+
+/// Whether the field is this word.
+pub fn says(field: &[u8], word: &[u8]) -> bool
+    ensures { IsTrue result ↔ (field.now ≡ word.now) }
+{
+    field == word
+}
+
+impl Kind {
+    /// The kind that the word says.
+    pub fn read(word: &[u8]) -> Option<Kind>
+        ensures some { IfSome result (λ kind. word.now ≡ kind_text kind) }
+        ensures none { IsNone result → (kind : Kind) → word.now ≢ kind_text kind }
+    {
+        if says(word, b"user") {
+            Some(Kind::User)
+        } else if says(word, b"item") {
+            Some(Kind::Item)
+        } else if says(word, b"bid") {
+            Some(Kind::Bid)
+        } else if says(word, b"buy") {
+            Some(Kind::Buy)
+        } else if says(word, b"close") {
+            Some(Kind::Close)
+        } else if says(word, b"comment") {
+            Some(Kind::Comment)
+        } else if says(word, b"pass") {
+            Some(Kind::Pass)
+        } else if says(word, b"list") {
+            Some(Kind::List)
+        } else {
+            None
+        }
+    }
+}
+
+impl Shown {
+    /// What the word says to show.
+    pub fn read(word: &[u8]) -> Option<Shown>
+        ensures some { IfSome result (λ shown. word.now ≡ shown_text shown) }
+        ensures none { IsNone result → (shown : Shown) → word.now ≢ shown_text shown }
+    {
+        if says(word, b"users") {
+            Some(Shown::Users)
+        } else if says(word, b"items") {
+            Some(Shown::Items)
+        } else if says(word, b"bids") {
+            Some(Shown::Bids)
+        } else if says(word, b"purchases") {
+            Some(Shown::Purchases)
+        } else if says(word, b"comments") {
+            Some(Shown::Comments)
+        } else if says(word, b"categories") {
+            Some(Shown::Categories)
+        } else if says(word, b"log") {
+            Some(Shown::Log)
+        } else if says(word, b"misfits") {
+            Some(Shown::Misfits)
+        } else if says(word, b"tables") {
+            Some(Shown::Tables)
+        } else {
+            None
+        }
+    }
+}
