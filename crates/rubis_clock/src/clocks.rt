@@ -27,8 +27,8 @@ fn others_released(deps: &[u32], counts: &[u32], origin: usize) -> bool
     requires { length deps.now ≡ length counts.now }
     ensures { IsTrue result ↔ ((j : ℕ) → j < length deps.now → j ≢ origin → slice_index deps.now j ≤ slice_index counts.now j) }
 {
-    for (site, (dep, count)) in deps.iter().zip(counts).enumerate() {
-        if site != origin && *dep > *count {
+    for (site, dep) in deps.iter().enumerate() {
+        if site != origin && *dep > counts[site] {
             return false;
         }
     }
@@ -78,7 +78,7 @@ impl Clock {
         ensures { IsTrue result ↔ IsReady self.now stamp.now }
     {
         let next = u64::from(self.counts.count(stamp.id.site)) + 1;
-        let next_red = u64::from(self.red) + 1;
+        let next_red = u64::from(self.red()) + 1;
         if u64::from(stamp.id.seq) != next {
             return false;
         }
