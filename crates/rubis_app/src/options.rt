@@ -71,22 +71,52 @@ fn number<'a>(
     default: &'a str,
     help: &'a str,
 ) -> Result<Arg<'a>, AllocError> {
-    Ok(Arg::new(alloc, name)
-        .long(name)
-        .value_name("n")
-        .value_parser(ValueParser::unsigned(low, high))
-        .default_value(default)
-        .help(help))
+    Ok(
+        Arg::new(alloc, name)
+            .long(name)
+            .value_name("n")
+            .value_parser(ValueParser::unsigned(low, high))
+            .default_value(default)
+            .help(help),
+    )
 }
 
 // The options that say how sites are set up.
 fn with_setup<'a>(alloc: Global, command: Command<'a>) -> Result<Command<'a>, AllocError> {
     command
         .arg(number(alloc, "sites", 1, 8, "1", "How many sites there are")?)?
-        .arg(number(alloc, "shards", 1, 64, "4", "How many shards the tables have")?)?
-        .arg(number(alloc, "workers", 1, 16, "2", "How many workers apply shadows")?)?
-        .arg(number(alloc, "batch", 1, 65_536, "64", "How many pending shadows make a batch")?)?
-        .arg(number(alloc, "keep", 1, 1_000_000, "1000000", "How many messages a site keeps")?)
+        .arg(number(
+            alloc,
+            "shards",
+            1,
+            64,
+            "4",
+            "How many shards the tables have",
+        )?)?
+        .arg(number(
+            alloc,
+            "workers",
+            1,
+            16,
+            "2",
+            "How many workers apply shadows",
+        )?)?
+        .arg(number(
+            alloc,
+            "batch",
+            1,
+            65_536,
+            "64",
+            "How many pending shadows make a batch",
+        )?)?
+        .arg(number(
+            alloc,
+            "keep",
+            1,
+            1_000_000,
+            "1000000",
+            "How many messages a site keeps",
+        )?)
 }
 
 // The program's command line.

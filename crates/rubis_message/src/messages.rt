@@ -10,7 +10,7 @@ use std::marker::Model;
 /// A shadow with its stamp, which meets the conditions of its record: the stamp has a count for each site, that of
 /// the origin is one less than the message's number, the red number is 0 just where the shadow is blue, and all ids
 /// and numbers are within their limits.
-#[derive(Drop, Clone, Debug)]
+#[derive(Drop, Debug)]
 pub struct Message {
     stamp: Stamp,
     shadow: Shadow,
@@ -56,6 +56,10 @@ impl Message {
     pub fn copy(&self) -> Result<Message, AllocError>
         ensures { IfOk result (λ message. message ≡ self.now) }
     {
-        self.clone()
+        let shadow = self.shadow.copy()?;
+        Ok(Message {
+            stamp: self.stamp,
+            shadow,
+        })
     }
 }
