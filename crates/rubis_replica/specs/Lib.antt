@@ -1,1 +1,3 @@
 pub mod Setup
+pub mod State
+pub mod Walk

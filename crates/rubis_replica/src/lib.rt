@@ -1,6 +1,9 @@
 //! One site: its configuration, and its calls.
 #![tactic(auto)]
 
+mod applying;
 mod config;
+mod faults;
 
 pub use config::Config;
+pub use faults::Fault;

@@ -2,3 +2,4 @@ pub mod Lists
 pub mod Rows
 pub mod Categories
 pub mod InLimits
+pub mod Entries

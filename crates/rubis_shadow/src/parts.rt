@@ -81,6 +81,13 @@ impl Shadow {
             given: 0,
         }
     }
+
+    /// The part at this place, from 0, of the shadow with that id and red number.
+    pub fn effect(&self, id: Id, red: u32, place: u8) -> Option<EffectRef<'_>>
+        ensures { result ≡ slice_get (parts id red self.now) place }
+    {
+        part_at(id, red, self, place)
+    }
 }
 
 // The part at this place, from 0.

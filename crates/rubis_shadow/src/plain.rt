@@ -7,7 +7,7 @@ ghost use Rattle.rubis_shadow.specs.Changes.{after, misfit_of};
 use crate::changes::{Change, Effect, MisfitKind};
 use rubis_schema::{CatRow, Row, RowKey, View};
 use std::alloc::{AllocError, Global};
-use std::collections::BTreeMap;
+use std::collections::{BTreeMap, btree_map};
 use std::marker::Model;
 
 /// How many categories there are, from 0 on.
@@ -52,6 +52,13 @@ impl PlainTables {
             put_row(&mut rows, RowKey::Cat(cat), row)?;
         }
         Ok(PlainTables { rows })
+    }
+
+    /// The rows with their keys, in key order.
+    pub fn iter(&self) -> btree_map::Iter<'_, RowKey, Row>
+        ensures { result ≡ map.entries self.now }
+    {
+        self.rows.iter()
     }
 
     /// Does one part: changes its row, or says why the part doesn't fit.

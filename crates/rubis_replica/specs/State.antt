@@ -1,0 +1,44 @@
+-- A site's state, and what its calls answer.
+use Rattle.std.specs.Prelude.{◌≡◌, ℕ, ◌-◌, Bool, true, false, List, length, drop, fold, ⊤, Result, Ok, Err}
+use Rattle.std.specs.List.{flat_map}
+use Rattle.rubis_schema.specs.Tables.{Tables}
+use Rattle.rubis_schema.specs.declared.refusals.Refusal.{Refusal}
+use Rattle.rubis_shadow.specs.Changes.{after}
+use Rattle.rubis_shadow.specs.declared.changes.Effect.{Effect}
+use Rattle.rubis_message.specs.Message.{Message}
+use Rattle.rubis_model.specs.Log.{Core, core, cores, parts_of}
+use Rattle.rubis_model.specs.Site.{Place, Replica}
+use Rattle.rubis_replica.specs.declared.faults.Fault.{Fault}
+use Rattle.rubis_replica.specs.declared.faults.Fault.TheVariants.{Refused, Behind, Memory}
+
+-- the parts of the messages, in order
+abbrev pub effects_of : List Core → List Effect
+effects_of log = flat_map parts_of log
+
+-- the tables after these parts
+abbrev pub tables_after : Tables → List Effect → Tables
+tables_after t es = fold after t es
+
+-- the parts of a log that are left where so many messages and, of the next one, so many parts were done
+abbrev pub left_of : List Message → ℕ → ℕ → List Effect
+left_of log messages parts = drop parts (effects_of (cores (drop messages log)))
+
+-- a site: which one, its state, how many released messages and how many parts aren't applied yet, and whether some but
+-- not all of a batch stands in its tables
+pub record SiteState : Type 0 where
+  pub place : Place
+  pub state : Replica
+  pub pending : ℕ
+  pub left : ℕ
+  pub behind : Bool
+
+-- the call answers as the step says; where it doesn't, the site's state is as it was
+abbrev pub Answers : {A : Type 0} → SiteState → SiteState → Replica × Result A Refusal → Result A Fault → Type 0
+Answers old new step (Ok a) = (new.state ≡ step.0) × (step.1 ≡ Ok a)
+Answers old new step (Err (Refused r)) = (new.state ≡ old.state) × (step.1 ≡ Err r)
+Answers old new step (Err Behind) = (new.state ≡ old.state) × (new.behind ≡ true)
+Answers old new step (Err Memory) = (new.state ≡ old.state) × (new.behind ≡ false)
+
+-- a site that is behind says so, and stays as it is
+abbrev pub WaitsBehind : {A : Type 0} → SiteState → SiteState → Result A Fault → Type 0
+WaitsBehind old new result = old.behind ≡ true → (result ≡ Err Behind) × (new ≡ old)
