@@ -7,7 +7,7 @@ use rubis_shadow::PlainTables;
 use std::alloc::AllocError;
 
 /// How much of a log was applied: so many messages, and so many parts of the next one.
-#[derive(Clone, Copy)]
+#[derive(Clone, Copy, PartialEq, Eq)]
 pub struct Progress {
     pub messages: usize,
     pub parts: u8,

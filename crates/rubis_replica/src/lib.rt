@@ -4,6 +4,7 @@
 mod applying;
 mod config;
 mod faults;
+mod refreshing;
 
 pub use config::Config;
 pub use faults::Fault;
