@@ -1,3 +1,5 @@
 pub mod Effects
 pub mod Following
 pub mod Refreshed
+pub mod Deciding
+pub mod Growing
