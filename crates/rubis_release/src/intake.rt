@@ -44,6 +44,16 @@ impl Model for Intake {
 }
 
 impl Intake {
+    pub fn new(alloc: Global, site: u8, sites: u8, keep: u32) -> Result<Intake, AllocError>
+        requires sites { sites ≤ 16 }
+        requires site { site < sites }
+        requires some { 1 ≤ keep }
+        requires keep { keep ≤ 1000000 }
+        ensures { IfOk result (λ intake. intake ≡ record { place = record { site = site; sites = sites; keep = keep }; state = opening_at site }) }
+    {
+        Err(AllocError)
+    }
+
     pub fn log(&self) -> &[Message]
         ensures value { result.now ≡ self.now.state.log }
         ensures few { length self.now.state.log ≤ self.now.place.keep }

@@ -1,7 +1,5 @@
 -- The tables of a log are the opening tables after all its parts.
-use Rattle.std.proofs.Common.{◌≡◌, ℕ, ◌+◌, ◌≤◌, List, [], ◌∷◌, ◌++◌, length, drop, take, fold, map, refl, sym, ap, ◌∙◌, subst, arith, append_assoc}
-use Rattle.std.specs.List.{flat_map}
-use Rattle.std.proofs.lemmas.List.Sums.{fold-append}
+use Rattle.std.proofs.Common.{◌≡◌, ℕ, ◌+◌, ◌≤◌, List, [], ◌∷◌, ◌++◌, length, drop, map, refl, ap, ◌∙◌, arith}
 use Rattle.std.proofs.lemmas.Grind.{flat_map-append}
 use Rattle.rubis_schema.specs.Tables.{Tables}
 use Rattle.rubis_schema.specs.declared.ids.Id.{Id}
@@ -14,7 +12,7 @@ use Rattle.rubis_shadow.specs.declared.shadows.Shadow.{Shadow}
 use Rattle.rubis_shadow.specs.declared.shadows.Shadow.TheVariants.{User, Item, Bid, Buy, Close, Comment}
 use Rattle.rubis_message.specs.Message.{Message}
 use Rattle.rubis_model.specs.Log.{Core, Folded, before_any, core, cores, fold_of, fold_on, number_parts, numbered_from, parts_of, step}
-use Rattle.rubis_replica.specs.State.{effects_of, tables_after, left_of}
+use Rattle.rubis_replica.specs.State.{effects_of, tables_after}
 
 abbrev effect_of : Numbered → Effect
 effect_of n = n.effect

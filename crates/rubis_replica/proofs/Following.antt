@@ -1,5 +1,5 @@
 -- Tables that follow a log: with what is left they come to the log's tables.
-use Rattle.std.proofs.Common.{◌≡◌, ℕ, ◌+◌, ◌<◌, ◌≤◌, List, [], ◌∷◌, ◌++◌, length, get_or, take, drop, refl, sym, ap, ◌∙◌, subst, arith}
+use Rattle.std.proofs.Common.{◌≡◌, ℕ, ◌+◌, ◌<◌, ◌≤◌, List, [], ◌∷◌, ◌++◌, length, get_or, take, drop, sym, ap, ◌∙◌, subst, arith}
 use Rattle.std.specs.Prelude.{Some, slice_get, All}
 use Rattle.std.proofs.Math.Seq.{drop-length}
 use Rattle.std.proofs.lemmas.List.{append-nil, drop_more}
@@ -64,8 +64,8 @@ followed_in log old t new m0 p0 i p p' m h e f w =
     let from = started_in log i p m h e f.place in
     record {
       left = ap (tables_after new) (rest_of log i p' m h e w.within) ∙ after_append new (drop p' (parts_in m)) rest
-      ∙ ap (λ x. tables_after x rest) w.left ∙ sym (after_append t (drop p (parts_in m)) rest)
-      ∙ ap (tables_after t) (sym (rest_of log i p m h e from)) ∙ f.left;
+          ∙ ap (λ x. tables_after x rest) w.left ∙ sym (after_append t (drop p (parts_in m)) rest)
+          ∙ ap (tables_after t) (sym (rest_of log i p m h e from)) ∙ f.left;
       place = record {
         inside = f.place.inside;
         started = subst (λ (es : List Effect). p' ≤ length es) (sym (ap (λ (xs : List Message). effects_of (cores (take 1 xs))) (place_of log i m h e) ∙ first_parts m (drop (i + 1) log))) w.within;

@@ -1,6 +1,6 @@
 -- A log grows at its end, and tables that follow it follow on.
-use Rattle.std.proofs.Common.{◌≡◌, ℕ, zero, suc, ◌+◌, ◌≤◌, List, [], ◌∷◌, ◌++◌, length, take, drop, refl, sym, ap, ◌∙◌, subst, arith, append_assoc, length-append}
-use Rattle.std.specs.Prelude.{Option, Some, None}
+use Rattle.std.proofs.Common.{◌≡◌, ℕ, zero, suc, ◌≤◌, List, [], ◌∷◌, ◌++◌, length, take, drop, sym, ap, ◌∙◌, subst, arith, append_assoc, length-append}
+use Rattle.std.specs.Prelude.{Some, None}
 use Rattle.std.proofs.lemmas.List.{append-nil}
 use Rattle.rubis_schema.specs.Tables.{Tables}
 use Rattle.rubis_message.specs.Message.{Message}
@@ -11,7 +11,7 @@ use Rattle.rubis_replica.specs.State.{effects_of, tables_after, left_of}
 use Rattle.rubis_replica.specs.Walk.{Follows, IsPlace}
 use Rattle.rubis_replica.proofs.Effects.{after_append, cores_append, drop_within, effects_append, fold_is}
 
-abbrev Extends : List Message → List Message → Type 0
+abbrev pub Extends : List Message → List Message → Type 0
 Extends log new = (more : List Message) × (new ≡ log ++ more)
 
 -- the settled log is the log and some more

@@ -1,12 +1,16 @@
 -- A site's state, and what its calls answer.
-use Rattle.std.specs.Prelude.{◌≡◌, ℕ, ◌-◌, Bool, true, false, List, length, drop, fold, ⊤, Result, Ok, Err}
+use Rattle.std.specs.Prelude.{◌≡◌, ℕ, Bool, true, false, List, drop, fold, Result, Ok, Err}
 use Rattle.std.specs.List.{flat_map}
 use Rattle.rubis_schema.specs.Tables.{Tables}
+use Rattle.rubis_schema.specs.declared.listings.Listing.{Listing}
+use Rattle.rubis_schema.specs.declared.listings.Listing.TheVariants.{Users}
 use Rattle.rubis_schema.specs.declared.refusals.Refusal.{Refusal}
+use Rattle.rubis_schema.specs.declared.refusals.Refusal.TheVariants.{BadRecord}
 use Rattle.rubis_shadow.specs.Changes.{after}
 use Rattle.rubis_shadow.specs.declared.changes.Effect.{Effect}
 use Rattle.rubis_message.specs.Message.{Message}
-use Rattle.rubis_model.specs.Log.{Core, core, cores, parts_of}
+use Rattle.rubis_model.specs.Answers.{users_of}
+use Rattle.rubis_model.specs.Log.{Core, cores, fold_of, parts_of}
 use Rattle.rubis_model.specs.Site.{Place, Replica}
 use Rattle.rubis_replica.specs.declared.faults.Fault.{Fault}
 use Rattle.rubis_replica.specs.declared.faults.Fault.TheVariants.{Refused, Behind, Memory}
@@ -42,3 +46,8 @@ Answers old new step (Err Memory) = (new.state ≡ old.state) × (new.behind ≡
 -- a site that is behind says so, and stays as it is
 abbrev pub WaitsBehind : {A : Type 0} → SiteState → SiteState → Result A Fault → Type 0
 WaitsBehind old new result = old.behind ≡ true → (result ≡ Err Behind) × (new ≡ old)
+
+-- a listing of users shows those of the log's tables; the others aren't there yet
+abbrev pub listed : Replica → Listing → Replica × Result (List (List (List ℕ))) Refusal
+listed s Users = (s, Ok (users_of (fold_of (cores s.log)).tables))
+listed s l = (s, Err BadRecord)

@@ -1,4 +1,3 @@
-
 ghost use Rattle.std.specs.Prelude.{◌≡◌, ◌≤◌, OnOk, length};
 ghost use Rattle.rubis_replica.specs.Walk.{Followed, IsPlace, Walked, parts_in};
 

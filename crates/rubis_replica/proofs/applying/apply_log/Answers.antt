@@ -1,4 +1,4 @@
-use Rattle.std.proofs.Common.{◌≡◌, ◌<◌, length, refl, sym, subst, rules, arith}
+use Rattle.std.proofs.Common.{◌<◌, length, refl, sym, subst, arith}
 use Rattle.rubis_replica.specs.Walk.{Followed}
 use Rattle.rubis_replica.proofs.Following.{followed_in, followed_past}
 use Rattle.rubis_replica.proofs.applying.apply_log.Goals as goal
@@ -18,5 +18,5 @@ loop-place-preserved c =
     record {
       at = refl;
       followed = followed_past c.args.log.now c.args.tables.now c.apply_message.new.tables c.args.at.now.messages c.args.at.now.parts c.loop-place.place c.apply_message.new.done
-      c.index-log-place.result h c.index-log-place.is f c.in_ok-apply_message.ensures.all;
+          c.index-log-place.result h c.index-log-place.is f c.in_ok-apply_message.ensures.all;
     }

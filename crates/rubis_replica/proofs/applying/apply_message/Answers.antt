@@ -1,6 +1,5 @@
-use Rattle.std.proofs.Common.{◌≡◌, refl, sym, ap, ◌∙◌, subst, rules}
+use Rattle.std.proofs.Common.{◌≡◌, refl, ap, ◌∙◌, rules}
 use Rattle.std.specs.Prelude.{Some, slice_get}
-use Rattle.rubis_message.specs.Message.{IsMessage}
 use Rattle.rubis_shadow.specs.Changes.{after}
 use Rattle.rubis_replica.specs.Walk.{parts_in}
 use Rattle.rubis_replica.proofs.Following.{walked_on}

@@ -1,0 +1,151 @@
+ghost use Rattle.std.specs.Prelude.{◌≡◌, false, true, cond, IfOk, IsErrOf};
+ghost use Rattle.rubis_schema.specs.declared.listings.Listing.TheVariants as Listing;
+ghost use Rattle.rubis_shadow.specs.Limits.{IsAsk};
+ghost use Rattle.rubis_model.specs.Site.{asked, passed, opening_at};
+ghost use Rattle.rubis_replica.specs.Setup.{place_of};
+ghost use Rattle.rubis_replica.specs.State.{Answers, WaitsBehind, listed};
+
+use crate::applying::Progress;
+use crate::config::Config;
+use crate::faults::Fault;
+use crate::refreshing::refresh;
+use crate::users::users;
+use rubis_generate::decide;
+use rubis_message::{Message, Token};
+use rubis_release::{Intake, IntakeFault};
+use rubis_schema::{Fields, Items, Listing, Refusal};
+use rubis_shadow::{Ask, PlainTables};
+use std::alloc::{AllocError, Global};
+use std::marker::Model;
+
+/// One site: what it has taken in, and its tables, which follow its log. Released shadows are pending until they are
+/// applied to the tables: as one batch where so many are pending, and before any decision or listing.
+#[derive(Drop)]
+pub struct Site {
+    intake: Intake,
+    tables: PlainTables,
+    // How much of the log the tables have.
+    applied: Progress,
+    // Whether they have some but not all of a batch.
+    behind: bool,
+    batch: u32,
+    alloc: Global,
+}
+
+impl Model for Site {
+    ghost use Rattle.std.specs.Prelude.{◌-◌, length};
+    ghost use Rattle.rubis_replica.specs.State.{SiteState, left_of};
+    ghost use Rattle.rubis_replica.specs.Walk.{Follows};
+
+    ghost Value = { SiteState };
+
+    ghost view = { λ s. record {
+      place = s.intake.place;
+      state = s.intake.state;
+      pending = length s.intake.state.log - s.applied.messages;
+      left = length (left_of s.intake.state.log s.applied.messages s.applied.parts);
+      behind = s.behind;
+    } };
+
+    ghost invariant = { λ s. Follows s.intake.place.sites s.intake.state.log s.tables s.applied.messages s.applied.parts };
+}
+
+impl Site {
+    /// A site with nothing done, set up so.
+    pub fn new(alloc: Global, config: &Config) -> Result<Site, AllocError>
+        ensures { IfOk result (λ site. (site.place ≡ place_of config.now) × (site.state ≡ opening_at config.now.site) × (site.pending ≡ 0) × (site.behind ≡ false)) }
+    {
+        let intake = Intake::new(alloc, config.site(), config.sites(), config.keep())?;
+        let tables = PlainTables::new(alloc)?;
+        Ok(Site {
+            intake,
+            tables,
+            applied: Progress {
+                messages: 0,
+                parts: 0,
+            },
+            behind: false,
+            batch: config.batch(),
+            alloc,
+        })
+    }
+
+    /// Decides an ask against the tables, and makes the message of its shadow.
+    pub fn request(&mut self, ask: Ask) -> Result<Message, Fault>
+        requires { IsAsk self.old.place.sites ask }
+        ensures place { self.new.place ≡ self.old.place }
+        ensures waits { WaitsBehind self.old self.new result }
+        ensures step { Answers self.old self.new (asked self.old.place self.old.state ask) result }
+    {
+        refresh(
+            &self.intake,
+            &mut self.tables,
+            &mut self.applied,
+            &mut self.behind,
+        )?;
+        let standing = self.intake.standing();
+        let shadow = match decide(ask, &self.tables, &standing) {
+            Ok(shadow) => shadow,
+            Err(refusal) => return Err(Fault::Refused(refusal)),
+        };
+        let message = match self.intake.generated(shadow) {
+            Ok(message) => message,
+            Err(_) => return Err(Fault::Memory),
+        };
+        self.apply_batch();
+        Ok(message)
+    }
+
+    // Applies what is pending where that is a batch.
+    fn apply_batch(&mut self)
+        ensures place { self.new.place ≡ self.old.place }
+        ensures state { self.new.state ≡ self.old.state }
+    {
+        let pending = self.intake.log().len() - self.applied.messages;
+        if pending >= self.batch as usize {
+            let _ = refresh(
+                &self.intake,
+                &mut self.tables,
+                &mut self.applied,
+                &mut self.behind,
+            );
+        }
+    }
+
+    /// Hands the token on to a site.
+    pub fn pass(&mut self, to: u8) -> Result<Token, Fault>
+        ensures place { self.new.place ≡ self.old.place }
+        ensures waits { WaitsBehind self.old self.new result }
+        ensures step { Answers self.old self.new (passed self.old.place self.old.state to) result }
+    {
+        if self.behind {
+            return Err(Fault::Behind);
+        }
+        match self.intake.pass_token(to) {
+            Ok(token) => Ok(token),
+            Err(refusal) => Err(Fault::Refused(refusal)),
+        }
+    }
+
+    /// The rows of a listing. So far only users are listed; any other listing is refused as no record of the grammar.
+    pub fn list(&mut self, listing: &Listing) -> Result<Items<Fields>, Fault>
+        ensures place { self.new.place ≡ self.old.place }
+        ensures waits { listing.now ≡ Listing.Users → WaitsBehind self.old self.new result }
+        ensures step { Answers self.old self.new (listed self.old.state listing.now) result }
+    {
+        match listing {
+            Listing::Users => {}
+            _ => return Err(Fault::Refused(Refusal::BadRecord)),
+        }
+        refresh(
+            &self.intake,
+            &mut self.tables,
+            &mut self.applied,
+            &mut self.behind,
+        )?;
+        match users(self.alloc, &self.tables) {
+            Ok(rows) => Ok(rows),
+            Err(_) => Err(Fault::Memory),
+        }
+    }
+}
