@@ -8,6 +8,7 @@ mod messages;
 mod readers;
 mod requests;
 mod shadows;
+mod stamps;
 mod tokens;
 
 pub use faults::ReadFault;

@@ -1,5 +1,10 @@
+ghost use Rattle.std.specs.Prelude.{◌≡◌, IfOk};
+ghost use Rattle.rubis_message.specs.Message as model;
+ghost use Rattle.rubis_message.specs.Message.{IsMessage};
+
 use rubis_clock::Stamp;
 use rubis_shadow::Shadow;
+use std::alloc::AllocError;
 use std::marker::Model;
 
 /// A shadow with its stamp, which meets the conditions of its record: the stamp has a count for each site, that of
@@ -20,4 +25,46 @@ impl Model for Message {
     ghost view = { λ m. record { stamp = m.stamp; shadow = m.shadow } };
 
     ghost invariant = { λ m. IsMessage (record { stamp = m.stamp; shadow = m.shadow }) };
+}
+
+impl Message {
+    /// The shadow with that stamp.
+    pub fn new(stamp: Stamp, shadow: Shadow) -> Message
+        requires { IsMessage (record { stamp = stamp; shadow = shadow }) }
+        ensures { result ≡ record { stamp = stamp; shadow = shadow } }
+    {
+        Message { stamp, shadow }
+    }
+
+    pub fn stamp(&self) -> &Stamp
+        ensures value { result.now ≡ self.now.stamp }
+        ensures conditions { IsMessage self.now }
+    {
+        &self.stamp
+    }
+
+    pub fn shadow(&self) -> &Shadow
+        ensures value { result.now ≡ self.now.shadow }
+        ensures conditions { IsMessage self.now }
+    {
+        &self.shadow
+    }
+
+    /// The stamp and the shadow.
+    pub fn into_parts(self) -> (Stamp, Shadow)
+        ensures value { (result.0 ≡ self.stamp) × (result.1 ≡ self.shadow) }
+        ensures conditions { IsMessage self }
+    {
+        (self.stamp, self.shadow)
+    }
+
+    /// An equal message.
+    pub fn copy(&self) -> Result<Message, AllocError>
+        ensures { IfOk result (λ message. message ≡ self.now) }
+    {
+        Ok(Message {
+            stamp: self.stamp,
+            shadow: self.shadow.copy()?,
+        })
+    }
 }
