@@ -10,8 +10,10 @@ mod requests;
 mod shadows;
 mod stamps;
 mod tokens;
+mod writers;
 
 pub use faults::ReadFault;
 pub use messages::Message;
 pub use requests::{Request, read_request};
 pub use tokens::{Packet, Token};
+pub use writers::{append_message, append_token, write_message, write_token};
