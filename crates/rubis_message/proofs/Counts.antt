@@ -44,10 +44,10 @@ pub record IsCut (rest front back : List ℕ) (e : List ℕ) : Type 0 where
   pub low : first ≤ 1000000
   pub small : Small others
 
-no_colon : ¬ (IsInRange 48 57 58)
+pub no_colon : ¬ (IsInRange 48 57 58)
 no_colon h = absurd (omega (arith, h.1))
 
-small_fits : (n : ℕ) → n ≤ 1000000 → n < 2 ^ 64
+pub small_fits : (n : ℕ) → n ≤ 1000000 → n < 2 ^ 64
 small_fits n h = omega (arith, h)
 
 pub cut_of : (rest front back e : List ℕ) → rest ≡ front ++ 58 ∷ back → All (λ b. b ≢ 58) front → 2 ≤ length e → Small e → rest ≡ deps_text e → IsCut rest front back e

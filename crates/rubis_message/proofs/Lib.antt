@@ -1,3 +1,5 @@
 pub mod Cursor
 pub mod Failures
 pub mod Counts
+pub mod OneText
+pub mod Conditions

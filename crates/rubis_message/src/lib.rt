@@ -5,6 +5,7 @@ mod asks;
 mod faults;
 mod kinds;
 mod messages;
+mod packets;
 mod readers;
 mod requests;
 mod shadows;
@@ -14,6 +15,7 @@ mod writers;
 
 pub use faults::ReadFault;
 pub use messages::Message;
+pub use packets::read_packet;
 pub use requests::{Request, read_request};
 pub use tokens::{Packet, Token};
 pub use writers::{append_message, append_token, write_message, write_token};
