@@ -1,5 +1,5 @@
 -- Where a field isn't what it has to be, no value is written so.
-use Rattle.std.proofs.Common.{◌≡◌, ℕ, List, [], ◌∷◌, ◌++◌, Result, Ok, Err}
+use Rattle.std.proofs.Common.{◌≡◌, ℕ, List, ◌++◌, Result, Ok, Err}
 use Rattle.std.specs.Result.{IsErrAnd}
 use Rattle.rubis_message.specs.Reading.{Reads, Takes}
 use Rattle.rubis_message.specs.declared.faults.ReadFault.{ReadFault}

@@ -3,3 +3,4 @@ pub mod Failures
 pub mod Counts
 pub mod OneText
 pub mod Conditions
+pub mod OneReading

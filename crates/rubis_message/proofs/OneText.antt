@@ -1,16 +1,16 @@
 -- Numbers, ids, ratings, winners and counts that are written alike are equal.
-use Rattle.std.proofs.Common.{◌≡◌, ◌≢◌, ◌≤◌, ◌<◌, ◌+◌, ◌^◌, ℕ, suc, List, [], ◌∷◌, ◌++◌, length, decimal, Option, Some, None, refl, ap, sym, ◌∙◌, subst, arith, length-append}
-use Rattle.std.specs.Prelude.{ℤ, pos, negsuc, unsigned_abs, IfSome, codes, get_or}
+use Rattle.std.proofs.Common.{◌≡◌, ◌≢◌, ◌≤◌, ◌<◌, ◌+◌, ◌^◌, ℕ, List, [], ◌∷◌, ◌++◌, length, decimal, refl, ap, sym, subst, arith, length-append}
+use Rattle.std.specs.Prelude.{ℤ, pos, negsuc, unsigned_abs}
 use Rattle.std.specs.List.{All}
 use Rattle.std.specs.Int.{IsInRange}
 use Rattle.std.proofs.lemmas.List.Elements.{All-head, All-tail}
 use Rattle.std.proofs.lemmas.Fmt.{decimal_injective, decimal_nonempty}
-use Rattle.rubis_schema.specs.Ids.{IsId, id_text, int_text}
+use Rattle.rubis_schema.specs.Ids.{id_text, int_text}
 use Rattle.rubis_schema.specs.declared.ids.Id.{Id}
-use Rattle.rubis_schema.proofs.Decimals.{decimal_at, no_sign}
+use Rattle.rubis_schema.proofs.Decimals.{no_sign}
 use Rattle.rubis_schema.proofs.Marks.{same_parts, found}
 use Rattle.rubis_schema.proofs.IdTexts.{decimal_free}
-use Rattle.rubis_message.specs.Grammar.{deps_text, winner_text}
+use Rattle.rubis_message.specs.Grammar.{deps_text}
 use Rattle.rubis_message.proofs.Counts.{no_colon, small_fits}
 
 abbrev Small : List ℕ → Type 0

@@ -1,5 +1,5 @@
 -- The fields of the records that say what is asked and what is sent.
-use Rattle.std.specs.Prelude.{◌≡◌, ℕ, ◌+◌, ◌<◌, ◌≤◌, ⊤, List, [], ◌∷◌, ◌++◌, All, length, map, slice_index, Option, Some, None, codes, decimal}
+use Rattle.std.specs.Prelude.{◌≡◌, ℕ, ◌+◌, ◌^◌, ◌<◌, ◌≤◌, ⊤, List, [], ◌∷◌, ◌++◌, All, length, map, slice_index, Option, Some, None, codes, decimal}
 use Rattle.std.specs.List.{join_with_byte}
 use Rattle.rubis_schema.specs.Ids.{IsId, id_text, int_text}
 use Rattle.rubis_schema.specs.Texts.{IsNick, IsName, IsText}
@@ -8,7 +8,7 @@ use Rattle.rubis_schema.specs.declared.listings.Listing.{Listing}
 use Rattle.rubis_schema.specs.declared.listings.Listing.TheVariants.{Users, Items, Bids, Purchases, Comments, Categories, Log, Misfits, Tables}
 use Rattle.rubis_schema.specs.declared.rows.PurchaseRow.{PurchaseRow}
 use Rattle.rubis_schema.specs.declared.rows.CommentRow.{CommentRow}
-use Rattle.rubis_shadow.specs.Limits.{IsNewItem, IsComment, IsAsk, InLimits}
+use Rattle.rubis_shadow.specs.Limits.{IsAsk}
 use Rattle.rubis_shadow.specs.declared.asks.Ask.{Ask}
 use Rattle.rubis_shadow.specs.declared.asks.Ask.TheVariants as ask
 use Rattle.rubis_shadow.specs.declared.asks.AskedClose.{AskedClose}
@@ -165,3 +165,14 @@ pub record IsToken (sites : ℕ) (t : Token) : Type 0 where
 abbrev pub IsPacket : ℕ → Packet → Type 0
 IsPacket sites (packet.Msg m) = IsPost sites m
 IsPacket sites (packet.Token t) = IsToken sites t
+
+-- ---- one reading
+-- no record is that of two requests
+abbrev pub RequestsHaveOneReading : Type 0
+RequestsHaveOneReading =
+    (sites : ℕ) → sites < 2 ^ 8 → (q r : Request) → IsRequest sites q → IsRequest sites r → request_record q ≡ request_record r → q ≡ r
+
+-- no record is that of two packets
+abbrev pub PacketsHaveOneReading : Type 0
+PacketsHaveOneReading =
+    (sites : ℕ) → sites < 2 ^ 8 → (p q : Packet) → IsPacket sites p → IsPacket sites q → packet_record p ≡ packet_record q → p ≡ q

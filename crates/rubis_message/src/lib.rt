@@ -4,6 +4,7 @@
 mod asks;
 mod faults;
 mod kinds;
+mod laws;
 mod messages;
 mod packets;
 mod readers;
@@ -14,6 +15,7 @@ mod tokens;
 mod writers;
 
 pub use faults::ReadFault;
+pub use laws::records_have_one_reading;
 pub use messages::Message;
 pub use packets::read_packet;
 pub use requests::{Request, read_request};

@@ -1,4 +1,4 @@
-use Rattle.std.proofs.Common.{◌≡◌, ◌≤◌, ◌+◌, ◌++◌, ◌∷◌, [], ℕ, List, length, length-append, refl, ap, sym, ◌∙◌, subst, arith}
+use Rattle.std.proofs.Common.{◌≡◌, ◌++◌, ◌∷◌, [], ℕ, List, length, length-append, refl, ap, sym, subst, arith}
 use Rattle.rubis_message.proofs.Counts.{IsLeft, left_more, no_mark_left, no_count_left, no_last_left, read_whole}
 use Rattle.rubis_message.proofs.stamps.read_deps.Goals as goal
 

@@ -1,4 +1,4 @@
-use Rattle.std.proofs.Common.{◌≡◌, ◌<◌, ◌≤◌, ◌+◌, ◌-◌, ◌*◌, ◌∷◌, ℕ, List, length, arith, ap, sym, ◌∙◌}
+use Rattle.std.proofs.Common.{◌-◌, length, arith, ap, ◌∙◌}
 use Rattle.rubis_message.proofs.Counts.{text_more}
 use Rattle.rubis_message.proofs.stamps.text_of.Goals as goal
 use Rattle.rubis_message.proofs.stamps.text_of.Goals.{then-site-counts, else-site-counts}

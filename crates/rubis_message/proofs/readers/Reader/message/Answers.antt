@@ -1,6 +1,4 @@
-use Rattle.std.proofs.Common.{◌≡◌, ◌++◌, ℕ, List, sym, ◌∙◌}
 use Rattle.std.proofs.lemmas.Bool.{false≢true}
-use Rattle.rubis_message.specs.Grammar.{stamp_fields, shadow_fields}
 use Rattle.rubis_message.proofs.Conditions.{no_post}
 use Rattle.rubis_message.proofs.readers.Reader.message.Goals as goal
 

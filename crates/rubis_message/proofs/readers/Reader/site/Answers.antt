@@ -1,4 +1,4 @@
-use Rattle.std.proofs.Common.{◌≡◌, ◌<◌, ◌≤◌, ◌^◌, ℕ, decimal, arith}
+use Rattle.std.proofs.Common.{◌≡◌, decimal, arith}
 use Rattle.std.proofs.lemmas.Fmt.{decimal_injective}
 use Rattle.rubis_message.proofs.readers.Reader.site.Goals as goal
 

@@ -1,4 +1,4 @@
-use Rattle.std.proofs.Common.{◌≡◌, ◌≤◌, ◌<◌, ℕ, List, [], ◌∷◌, decimal, sym, arith}
+use Rattle.std.proofs.Common.{◌≤◌, [], ◌∷◌, decimal, arith}
 use Rattle.rubis_message.specs.Grammar.{IsStamp, deps_text, stamp_fields}
 use Rattle.rubis_message.proofs.Failures.{failed_first}
 use Rattle.rubis_message.proofs.Conditions.{no_stamp}

@@ -1,5 +1,4 @@
-use Rattle.std.proofs.Common.{◌≡◌, ◌≤◌, ℕ, List, [], ◌∷◌, decimal, drop, ◌<◌}
-use Rattle.rubis_schema.specs.Ids.{IsId, id_text, int_text}
+use Rattle.std.proofs.Common.{◌≤◌, [], ◌∷◌, decimal}
 use Rattle.rubis_message.specs.Grammar.{IsToken, token_fields}
 use Rattle.rubis_message.proofs.Failures.{failed}
 use Rattle.rubis_message.proofs.readers.Reader.token.Goals as goal
