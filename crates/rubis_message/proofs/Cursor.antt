@@ -1,12 +1,11 @@
 -- The next field of a record.
-use Rattle.std.proofs.Common.{◌≡◌, ◌<◌, ◌≤◌, ◌+◌, ◌^◌, ℕ, List, [], ◌∷◌, length, get_or, drop, Bor, Option, Some, None, Result, Ok, Err, refl, sym, ap, ◌∙◌, arith, add-one, decimal}
+use Rattle.std.proofs.Common.{◌≡◌, ◌<◌, ◌≤◌, ◌+◌, ◌^◌, ℕ, List, [], ◌∷◌, length, get_or, drop, Bor, Option, Some, None, sym, ◌∙◌, arith, add-one, decimal}
 use Rattle.std.specs.Prelude.{MatchResult, option_map}
 use Rattle.std.specs.List.{slice_get}
 use Rattle.std.specs.Option.{ok_or}
 use Rattle.std.proofs.Math.Seq.{drop-cons}
 use Rattle.std.proofs.lemmas.Option.{slice_get-get_or, none-some, same_Some}
 use Rattle.std.proofs.lemmas.Fmt.{decimal_injective}
-use Rattle.rubis_message.specs.declared.faults.ReadFault.{ReadFault}
 use Rattle.rubis_message.specs.declared.faults.ReadFault.TheVariants.{BadRecord}
 
 pub next_field : (xs : List (List ℕ)) (n : ℕ) (o : Option (Bor (List ℕ))) → n < length xs → option_map (λ s. s.now) o ≡ slice_get xs n

@@ -3,3 +3,7 @@ pub mod Tests
 pub mod Readings
 pub mod Cursor
 pub mod Failures
+pub mod Counts
+pub mod OneText
+pub mod Conditions
+pub mod OneReading

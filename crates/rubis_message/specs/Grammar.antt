@@ -1,5 +1,5 @@
 -- The fields of the records that say what is asked and what is sent.
-use Rattle.std.specs.Prelude.{◌≡◌, ℕ, ◌<◌, ◌≤◌, ⊤, List, [], ◌∷◌, map, Option, Some, None, codes, decimal}
+use Rattle.std.specs.Prelude.{◌≡◌, ℕ, ◌+◌, ◌^◌, ◌<◌, ◌≤◌, ⊤, List, [], ◌∷◌, ◌++◌, All, length, map, slice_index, Option, Some, None, codes, decimal}
 use Rattle.std.specs.List.{join_with_byte}
 use Rattle.rubis_schema.specs.Ids.{IsId, id_text, int_text}
 use Rattle.rubis_schema.specs.Texts.{IsNick, IsName, IsText}
@@ -8,7 +8,7 @@ use Rattle.rubis_schema.specs.declared.listings.Listing.{Listing}
 use Rattle.rubis_schema.specs.declared.listings.Listing.TheVariants.{Users, Items, Bids, Purchases, Comments, Categories, Log, Misfits, Tables}
 use Rattle.rubis_schema.specs.declared.rows.PurchaseRow.{PurchaseRow}
 use Rattle.rubis_schema.specs.declared.rows.CommentRow.{CommentRow}
-use Rattle.rubis_shadow.specs.Limits.{IsNewItem, IsComment, IsAsk, InLimits}
+use Rattle.rubis_shadow.specs.Limits.{IsAsk}
 use Rattle.rubis_shadow.specs.declared.asks.Ask.{Ask}
 use Rattle.rubis_shadow.specs.declared.asks.Ask.TheVariants as ask
 use Rattle.rubis_shadow.specs.declared.asks.AskedClose.{AskedClose}
@@ -17,6 +17,7 @@ use Rattle.rubis_shadow.specs.declared.shadows.NewBid.{NewBid}
 use Rattle.rubis_shadow.specs.declared.shadows.NewClose.{NewClose}
 use Rattle.rubis_shadow.specs.declared.shadows.Shadow.{Shadow}
 use Rattle.rubis_shadow.specs.declared.shadows.Shadow.TheVariants as shadow
+use Rattle.rubis_clock.specs.declared.stamps.Stamp.{Stamp}
 use Rattle.rubis_message.specs.Message.{Message, IsMessage, sites_of}
 use Rattle.rubis_message.specs.declared.requests.Request.{Request}
 use Rattle.rubis_message.specs.declared.requests.Request.TheVariants as request
@@ -113,14 +114,21 @@ shadow_fields (shadow.Buy p) = codes "buy" ∷ purchase_fields p
 shadow_fields (shadow.Close c) = codes "close" ∷ close_fields c
 shadow_fields (shadow.Comment c) = codes "comment" ∷ comment_fields c
 
+abbrev pub stamp_fields : Stamp → List (List ℕ)
+stamp_fields s = decimal s.id.site ∷ decimal s.id.seq ∷ decimal s.red ∷ deps_text s.deps ∷ []
+
+abbrev pub message_fields : Message → List (List ℕ)
+message_fields m = stamp_fields m.stamp ++ shadow_fields m.shadow
+
+abbrev pub token_fields : Token → List (List ℕ)
+token_fields t = decimal t.turn ∷ decimal t.to ∷ decimal t.issued ∷ []
+
 -- the second field is the version
 abbrev pub message_record : Message → List (List ℕ)
-message_record m =
-    codes "msg" ∷ codes "1" ∷ decimal m.stamp.id.site ∷ decimal m.stamp.id.seq ∷ decimal m.stamp.red ∷ deps_text m.stamp.deps
-    ∷ shadow_fields m.shadow
+message_record m = codes "msg" ∷ codes "1" ∷ message_fields m
 
 abbrev pub token_record : Token → List (List ℕ)
-token_record t = codes "token" ∷ codes "1" ∷ decimal t.turn ∷ decimal t.to ∷ decimal t.issued ∷ []
+token_record t = codes "token" ∷ codes "1" ∷ token_fields t
 
 abbrev pub packet_record : Packet → List (List ℕ)
 packet_record (packet.Msg m) = message_record m
@@ -135,6 +143,18 @@ HasShadowTexts (shadow.Buy p) = ⊤
 HasShadowTexts (shadow.Close c) = ⊤
 HasShadowTexts (shadow.Comment c) = IsText c.text
 
+-- a stamp among so many sites
+pub record IsStamp (sites : ℕ) (s : Stamp) : Type 0 where
+  pub counted : length s.deps ≡ sites
+  pub id : IsId sites s.id
+  pub own : s.id.seq ≡ slice_index s.deps s.id.site + 1
+  pub counts : All (λ n. n ≤ 1000000) s.deps
+  pub red : s.red ≤ 1000000
+
+-- a message among so many sites, with its texts in their grammars
+abbrev pub IsPost : ℕ → Message → Type 0
+IsPost sites m = IsMessage m × (sites_of m ≡ sites) × HasShadowTexts m.shadow
+
 -- a token among so many sites
 pub record IsToken (sites : ℕ) (t : Token) : Type 0 where
   pub turn : t.turn ≤ 1000000000
@@ -143,5 +163,16 @@ pub record IsToken (sites : ℕ) (t : Token) : Type 0 where
 
 -- a packet among so many sites
 abbrev pub IsPacket : ℕ → Packet → Type 0
-IsPacket sites (packet.Msg m) = IsMessage m × (sites_of m ≡ sites) × HasShadowTexts m.shadow
+IsPacket sites (packet.Msg m) = IsPost sites m
 IsPacket sites (packet.Token t) = IsToken sites t
+
+-- ---- one reading
+-- no record is that of two requests
+abbrev pub RequestsHaveOneReading : Type 0
+RequestsHaveOneReading =
+    (sites : ℕ) → sites < 2 ^ 8 → (q r : Request) → IsRequest sites q → IsRequest sites r → request_record q ≡ request_record r → q ≡ r
+
+-- no record is that of two packets
+abbrev pub PacketsHaveOneReading : Type 0
+PacketsHaveOneReading =
+    (sites : ℕ) → sites < 2 ^ 8 → (p q : Packet) → IsPacket sites p → IsPacket sites q → packet_record p ≡ packet_record q → p ≡ q

@@ -10,7 +10,7 @@ use std::marker::Model;
 /// A shadow with its stamp, which meets the conditions of its record: the stamp has a count for each site, that of
 /// the origin is one less than the message's number, the red number is 0 just where the shadow is blue, and all ids
 /// and numbers are within their limits.
-#[derive(Drop, Debug)]
+#[derive(Drop, Clone, Debug)]
 pub struct Message {
     stamp: Stamp,
     shadow: Shadow,
@@ -28,16 +28,14 @@ impl Model for Message {
 }
 
 impl Message {
-    /// The message of that stamp and shadow.
+    /// The shadow with that stamp.
     pub fn new(stamp: Stamp, shadow: Shadow) -> Message
         requires { IsMessage (record { stamp = stamp; shadow = shadow }) }
-        ensures stamp { result.stamp ≡ stamp }
-        ensures shadow { result.shadow ≡ shadow }
+        ensures { result ≡ record { stamp = stamp; shadow = shadow } }
     {
         Message { stamp, shadow }
     }
 
-    /// Its id, its red number, and what its origin had released.
     pub fn stamp(&self) -> &Stamp
         ensures value { result.now ≡ self.now.stamp }
         ensures conditions { IsMessage self.now }
@@ -52,14 +50,21 @@ impl Message {
         &self.shadow
     }
 
+    /// The stamp and the shadow.
+    pub fn into_parts(self) -> (Stamp, Shadow)
+        ensures value { (result.0 ≡ self.stamp) × (result.1 ≡ self.shadow) }
+        ensures conditions { IsMessage self }
+    {
+        (self.stamp, self.shadow)
+    }
+
     /// An equal message.
     pub fn copy(&self) -> Result<Message, AllocError>
         ensures { IfOk result (λ message. message ≡ self.now) }
     {
-        let shadow = self.shadow.copy()?;
         Ok(Message {
             stamp: self.stamp,
-            shadow,
+            shadow: self.shadow.copy()?,
         })
     }
 }

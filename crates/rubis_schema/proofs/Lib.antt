@@ -3,3 +3,4 @@ pub mod FieldFacts
 pub mod Decimals
 pub mod Marks
 pub mod IdTexts
+pub mod Digits

@@ -1,33 +1,39 @@
 // Numbers as text, each in one spelling.
 
-ghost use Rattle.std.specs.Prelude.{◌≡◌, ◌≢◌, ◌≤◌, ◌∷◌, ◌++◌, [], ℕ, ℤ, IfSome, IsNone, OnErr, OnOk, decimal, unsigned_abs};
+ghost use Rattle.std.specs.Prelude.{◌≡◌, ◌≢◌, ◌≤◌, ◌<◌, ◌↔◌, ◌∷◌, ◌++◌, [], ℕ, ℤ, IfSome, IsNone, IsTrue, OnErr, OnOk, decimal, length, slice_index, unsigned_abs};
 ghost use Rattle.rubis_schema.specs.Ids.{int_text};
 
 use crate::field_list::Fields;
 use itoa::Buffer;
 use std::alloc::AllocError;
-use std::str;
 
 /// The greatest rating of a comment; the least is as far below 0.
 pub const RATING_MAX: u8 = 5;
+
+// Whether the bytes begin with a 0 that isn't the whole number.
+fn has_leading_zero(bytes: &[u8]) -> bool
+    ensures { IsTrue result ↔ ((slice_index bytes.now 0 ≡ 48) × (1 < length bytes.now)) }
+{
+    bytes.len() > 1 && bytes[0] == b'0'
+}
 
 /// The number up to `max` that is written so, without leading zeros.
 pub fn read_number(bytes: &[u8], max: u64) -> Option<u64>
     ensures some { IfSome result (λ n. (n ≤ max) × (bytes.now ≡ decimal n)) }
     ensures none { IsNone result → (n : ℕ) → n ≤ max → bytes.now ≢ decimal n }
 {
-    let Ok(text) = str::from_utf8(bytes) else {
+    if bytes.is_empty() || has_leading_zero(bytes) {
         return None;
-    };
-    let Ok(number) = text.parse::<u64>() else {
-        return None;
-    };
-    let mut buffer = Buffer::new();
-    if number <= max && buffer.format(number).as_bytes() == bytes {
-        Some(number)
-    } else {
-        None
     }
+    let mut number: u64 = 0;
+    for byte in bytes {
+        if *byte < b'0' || *byte > b'9' {
+            return None;
+        }
+        let digit = u64::from(*byte - b'0');
+        number = number.checked_mul(10)?.checked_add(digit)?;
+    }
+    if number <= max { Some(number) } else { None }
 }
 
 // The rating whose digit, after a `-`, is written so: not 0, which has no sign.
@@ -61,8 +67,8 @@ pub fn push_number(fields: &mut Fields, number: u64) -> Result<(), AllocError>
     ensures ok { OnOk result (fields.new ≡ fields.old ++ decimal number ∷ []) }
     ensures err { OnErr result (fields.new ≡ fields.old) }
 {
-    let mut buffer = Buffer::new();
-    fields.push(buffer.format(number).as_bytes())
+    let mut digits = Buffer::new();
+    fields.push(digits.format(number).as_bytes())
 }
 
 /// Adds a number, with `-` in front where it is below 0, as a field. Without memory for it the record stays as it was.

@@ -1,31 +1,57 @@
-use Rattle.std.proofs.Common.{◌≡◌, ◌≤◌, ◌<◌, ◌^◌, ℕ, sym, subst, ◌∙◌, ap, arith, rules, decimal, Bool, true, false}
-use Rattle.std.specs.Str.{IsUtf8}
-use Rattle.std.proofs.lemmas.Fmt.{parse-decimal, IsAscii-decimal}
-use Rattle.std.proofs.lemmas.Slice.Eq.{slice_eq-Decides}
-use Rattle.std.specs.Cmp.{unsigned_Decides}
-use Rattle.std.proofs.lemmas.Str.{IsUtf8-from_ascii}
+use Rattle.std.proofs.Common.{◌≡◌, ◌<◌, ◌≤◌, ◌^◌, ◌==◌, ℕ, zero, suc, List, false, length, get_or, refl, inl, inr, sym, ◌∙◌, arith, rules}
+use Rattle.std.proofs.lemmas.Bool.{cases_lt, false≢true}
+use Rattle.std.proofs.lemmas.Bool.Decides.{Decides-eqb}
+use Rattle.rubis_schema.proofs.Digits.{no_zero_in_front, not_empty, overflows, read_all, stops_at, ends_with, too_great}
 use Rattle.rubis_schema.proofs.numbers.read_number.Goals as goal
-use Rattle.rubis_schema.proofs.numbers.read_number.Goals.{else-number-max-via-then-number-max+else-eq, else-number-max-via-else-number-max}
-
-different : {b : Bool} → b ≡ false → b ≡ true → ⊥
-different p q = cc
+use Rattle.rubis_schema.proofs.numbers.read_number.Goals.{then-is_empty-via-then-is_empty, then-is_empty-via-else-is_empty+then-has_leading_zero, then-byte-lt48-via-then-byte-lt48, then-byte-lt48-via-else-byte-lt48+then-byte-gt57}
 
 fits : (n m : ℕ) → m < 2 ^ 64 → n ≤ m → n < 2 ^ 64
 fits n m h l = omega arith
 
-pub returns-in_default-clause-none : goal.returns-in_default-clause-none
-returns-in_default-clause-none c = λ _ n h e.
-    c.in_default.ensures.cases.0 (subst IsUtf8 (sym e) (IsUtf8-from_ascii _ (IsAscii-decimal n (fits n c.args.max (search rules) h))))
+some_bytes : (size : ℕ) → (size == 0) ≡ false → 0 < size
+some_bytes zero e = absurd (false≢true (sym e))
+some_bytes (suc n) e = omega arith
 
-pub returns-in_default-parse-clause-none : goal.returns-in_default-parse-clause-none
-returns-in_default-parse-clause-none c = λ _ n h e.
-    let f = fits n c.args.max (search rules) h in
-    let p = parse-decimal 64 n c.in-Ok.text.now c.parse.result f f (c.in-Ok.ensures.cases.0 ∙ e) c.parse.ensures.value.0 in
-    c.in_default-parse.not-Ok n p
+lone_zero : (bytes : List ℕ) → 0 < length bytes → ((get_or bytes 0 0 ≡ 48) × (1 < length bytes) → ⊥) → get_or bytes 0 0 ≡ 48 → length bytes ≡ 1
+lone_zero bytes some more front = elim (cases_lt 1 (length bytes)) [ inl long ↦ absurd (more (front, long)) | inr short ↦ omega (arith, some, short) ]
+
+pub returns-then-is_empty-clause-none : goal.returns-then-is_empty-clause-none
+returns-then-is_empty-clause-none c = λ _ n h e.
+    let small = fits n c.args.max (search rules) h in
+    elim c.then-is_empty.branch [
+      | then-is_empty-via-then-is_empty w ↦ not_empty c.args.bytes.now n small ((Decides-eqb (length c.args.bytes.now) 0).0 (sym c.is_empty.ensures ∙ w.if-is_empty.true)) e
+      | then-is_empty-via-else-is_empty+then-has_leading_zero w ↦
+          let front = w.if-has_leading_zero.ensures.0 refl in
+          no_zero_in_front c.args.bytes.now n small front.0 front.1 e
+    ]
+
+pub returns-then-byte-lt48-clause-none : goal.returns-then-byte-lt48-clause-none
+returns-then-byte-lt48-clause-none c = λ _ n h e.
+    let small = fits n c.args.max (search rules) h in
+    elim c.then-byte-lt48.branch [
+      | then-byte-lt48-via-then-byte-lt48 w ↦ stops_at c.args.bytes.now c.loop-byte.byte-index c.loop-byte.number n small (omega arith) c.loop-byte.invariant (inl (omega arith)) e
+      | then-byte-lt48-via-else-byte-lt48+then-byte-gt57 w ↦ stops_at c.args.bytes.now c.loop-byte.byte-index c.loop-byte.number n small (omega arith) c.loop-byte.invariant (inr (omega arith)) e
+    ]
+
+pub returns-in_err-checked_mul-clause-none : goal.returns-in_err-checked_mul-clause-none
+returns-in_err-checked_mul-clause-none c = λ _ n h e.
+    let small = fits n c.args.max (search rules) h in
+    overflows c.args.bytes.now c.loop-byte.byte-index c.loop-byte.number n small (omega arith) c.loop-byte.invariant (omega (arith, c.in_err-checked_mul.ensures)) e
+
+pub returns-in_err-number-clause-none : goal.returns-in_err-number-clause-none
+returns-in_err-number-clause-none c = λ _ n h e.
+    let small = fits n c.args.max (search rules) h in
+    overflows c.args.bytes.now c.loop-byte.byte-index c.loop-byte.number n small (omega arith) c.loop-byte.invariant (omega (arith, c.in_err-number.ensures, c.in_ok-checked_mul.ensures)) e
+
+pub returns-then-number-max-clause-some : goal.returns-then-number-max-clause-some
+returns-then-number-max-clause-some c =
+    let some = some_bytes (length c.args.bytes.now) (sym c.is_empty.ensures ∙ c.if-is_empty.false) in
+    let lone = lone_zero c.args.bytes.now some (λ front. false≢true (c.if-has_leading_zero.ensures.1 front)) in (
+      c.if-number-max.true,
+      read_all c.args.bytes.now c.loop-byte.byte-index c.loop-byte.number some lone (fits c.loop-byte.number c.args.max (search rules) c.if-number-max.true) (omega arith) c.loop-byte.invariant,
+    )
 
 pub returns-else-number-max-clause-none : goal.returns-else-number-max-clause-none
 returns-else-number-max-clause-none c = λ _ n h e.
-    let f = fits n c.args.max (search rules) h in
-    let p = parse-decimal 64 n c.in-Ok.text.now c.parse.result f f (c.in-Ok.ensures.cases.0 ∙ e) c.parse.ensures.value.0 in
-    let i : c.in-Ok-parse.number ≡ n = cc in
-    elim c.else-number-max.branch [ else-number-max-via-then-number-max+else-eq w ↦ different w.if-eq.false ((slice_eq-Decides unsigned_Decides _ _ _ w.eq.ensures).1 (w.as_bytes.ensures.value ∙ w.format.ensures.text ∙ ap decimal i ∙ sym e)) | else-number-max-via-else-number-max w ↦ omega arith ]
+    let all = ends_with c.args.bytes.now c.loop-byte.byte-index c.loop-byte.number (omega arith) c.loop-byte.invariant in
+    too_great c.args.bytes.now n c.loop-byte.number (fits n c.args.max (search rules) h) (omega (arith, all.0)) (omega arith) e

@@ -1,5 +1,5 @@
-use Rattle.std.proofs.Common.{◌≡◌, ◌≤◌, ℕ, List, [], ◌∷◌, decimal, drop}
-use Rattle.rubis_schema.specs.Ids.{IsId, id_text, int_text}
+use Rattle.std.proofs.Common.{[], ◌∷◌}
+use Rattle.rubis_schema.specs.Ids.{IsId, id_text}
 use Rattle.rubis_message.specs.Grammar.{asked_close_fields}
 use Rattle.rubis_message.proofs.Failures.{failed}
 use Rattle.rubis_message.proofs.readers.Reader.asked_close.Goals as goal

@@ -1,5 +1,5 @@
-use Rattle.std.proofs.Common.{◌≡◌, ◌≤◌, ℕ, List, [], ◌∷◌, decimal, drop}
-use Rattle.rubis_schema.specs.Ids.{IsId, id_text, int_text}
+use Rattle.std.proofs.Common.{[], ◌∷◌, drop}
+use Rattle.rubis_schema.specs.Ids.{IsId, id_text}
 use Rattle.rubis_schema.specs.Texts.{IsText}
 use Rattle.rubis_shadow.specs.Limits.{IsComment}
 use Rattle.rubis_message.specs.Grammar.{comment_fields}

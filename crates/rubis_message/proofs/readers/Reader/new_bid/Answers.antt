@@ -1,4 +1,4 @@
-use Rattle.std.proofs.Common.{◌≡◌, ◌≤◌, ℕ, List, [], ◌∷◌, decimal}
+use Rattle.std.proofs.Common.{◌≤◌, [], ◌∷◌, decimal}
 use Rattle.rubis_schema.specs.Ids.{IsId, id_text}
 use Rattle.rubis_shadow.specs.Limits.{IsNewBid}
 use Rattle.rubis_message.specs.Grammar.{bid_fields}

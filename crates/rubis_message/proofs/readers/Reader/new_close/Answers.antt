@@ -1,5 +1,4 @@
-use Rattle.std.proofs.Common.{◌≡◌, ◌≤◌, ℕ, List, [], ◌∷◌, decimal, drop, arith}
-use Rattle.rubis_schema.specs.Ids.{IsId, id_text, int_text}
+use Rattle.std.proofs.Common.{◌≤◌, [], ◌∷◌, decimal, drop, arith}
 use Rattle.rubis_shadow.specs.Limits.{InLimits}
 use Rattle.rubis_shadow.specs.declared.shadows.Shadow.TheVariants as shadow
 use Rattle.rubis_message.specs.Grammar.{close_fields}

@@ -1,5 +1,4 @@
-use Rattle.std.proofs.Common.{◌≡◌, ◌≤◌, ℕ, List, [], ◌∷◌, decimal, drop, arith}
-use Rattle.rubis_schema.specs.Ids.{IsId, id_text, int_text}
+use Rattle.std.proofs.Common.{◌≤◌, [], ◌∷◌, decimal, drop, arith}
 use Rattle.rubis_schema.specs.Texts.{IsName}
 use Rattle.rubis_shadow.specs.Limits.{IsNewItem}
 use Rattle.rubis_message.specs.Grammar.{item_fields}

@@ -1,4 +1,4 @@
-use Rattle.std.proofs.Common.{◌^◌, arith}
+use Rattle.std.proofs.Common.{arith}
 use Rattle.rubis_message.proofs.Cursor.{not_zero}
 use Rattle.rubis_message.proofs.readers.Reader.positive.Goals as goal
 

@@ -1,5 +1,5 @@
-use Rattle.std.proofs.Common.{◌≡◌, ◌≤◌, ℕ, List, [], ◌∷◌, decimal, drop}
-use Rattle.rubis_schema.specs.Ids.{IsId, id_text, int_text}
+use Rattle.std.proofs.Common.{◌≤◌, [], ◌∷◌, decimal, drop}
+use Rattle.rubis_schema.specs.Ids.{IsId, id_text}
 use Rattle.rubis_shadow.specs.Limits.{IsPurchase}
 use Rattle.rubis_message.specs.Grammar.{purchase_fields}
 use Rattle.rubis_message.proofs.Failures.{failed}

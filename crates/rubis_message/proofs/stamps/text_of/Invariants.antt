@@ -1,0 +1,6 @@
+use Rattle.std.proofs.Common.{◌≡◌, ◌≤◌, ◌+◌, ◌*◌, length, drop}
+use Rattle.rubis_message.specs.Grammar.{deps_text}
+use Rattle.rubis_message.proofs.stamps.text_of.Given as goal
+
+abbrev pub invariant-loop-site : goal.invariant-loop-site
+invariant-loop-site l = (l.text ≡ deps_text (drop l.site l.counts)) × (length l.text + 11 * l.site ≤ 11 * length l.counts)

@@ -1,0 +1,131 @@
+// What one site sends to others, read from its record.
+
+ghost use Rattle.std.specs.Prelude.{◌≡◌, ◌≢◌, ◌<◌, ◌≤◌, [], ◌∷◌, ◌↔◌, IfOk, IsErrOf, IsTrue, All, length, nat_lt, decimal};
+ghost use Rattle.rubis_message.specs.Grammar.{IsPacket, IsPost, IsStamp, IsToken, deps_text, message_fields, packet_record, stamp_fields, token_fields};
+ghost use Rattle.rubis_shadow.specs.Shadows.{is_red};
+ghost use Rattle.rubis_message.specs.Reading.{Reads, Takes};
+
+use crate::faults::ReadFault;
+use crate::kinds::says;
+use crate::messages::Message;
+use crate::readers::Reader;
+use crate::stamps::{COUNT_MAX, read_deps};
+use crate::tokens::{Packet, Token};
+use crate::writers::VERSION;
+use rubis_clock::{Deps, Stamp};
+use rubis_schema::{Fields, Id, SEQ_MAX};
+use rubis_shadow::{Colour, Shadow};
+use std::alloc::Global;
+
+/// The greatest turn of a token.
+const TURN_MAX: u64 = 1_000_000_000;
+
+// Whether the red number is 0 just where the shadow is blue.
+fn agree(shadow: &Shadow, red: u32) -> bool
+    ensures { IsTrue result ↔ (is_red shadow.now ≡ nat_lt 0 red) }
+{
+    match shadow.colour() {
+        Colour::Red => red > 0,
+        Colour::Blue => red == 0,
+    }
+}
+
+impl<'a> Reader<'a> {
+    /// The number of one of so many sites.
+    fn site(&mut self, sites: u8) -> Result<u8, ReadFault>
+        ensures { Takes (λ n. n < sites) (λ n. decimal n ∷ []) self.old self.new result }
+    {
+        let site = self.number(u64::from(u8::MAX))?;
+        if site >= u64::from(sites) {
+            return Err(ReadFault::BadRecord);
+        }
+        Ok(site as u8)
+    }
+
+    /// A count for each of so many sites.
+    fn deps(&mut self, sites: u8) -> Result<Deps, ReadFault>
+        requires some_sites { 0 < sites }
+        requires few_sites { sites ≤ 16 }
+        ensures { Takes (λ d. (length d ≡ sites) × All (λ n. n ≤ 1000000) d) (λ d. deps_text d ∷ []) self.old self.new result }
+    {
+        read_deps(self.field()?, sites).ok_or(ReadFault::BadRecord)
+    }
+
+    /// A stamp.
+    fn stamp(&mut self, sites: u8) -> Result<Stamp, ReadFault>
+        requires { sites ≤ 16 }
+        ensures { Takes (IsStamp sites) stamp_fields self.old self.new result }
+    {
+        let site = self.site(sites)?;
+        let seq = self.positive(u64::from(SEQ_MAX))?;
+        let red = self.number(COUNT_MAX)?;
+        let deps = self.deps(sites)?;
+        if u64::from(deps.count(site)) + 1 != seq {
+            return Err(ReadFault::BadRecord);
+        }
+        Ok(Stamp {
+            id: Id {
+                site,
+                seq: seq as u32,
+            },
+            red: red as u32,
+            deps,
+        })
+    }
+
+    /// The rest of the record is a message.
+    fn message(&mut self, alloc: Global, sites: u8) -> Result<Message, ReadFault>
+        requires { sites ≤ 16 }
+        ensures { Reads (IsPost sites) message_fields self.old result }
+    {
+        let stamp = self.stamp(sites)?;
+        let shadow = self.shadow(alloc, sites)?;
+        if !agree(&shadow, stamp.red) {
+            return Err(ReadFault::BadRecord);
+        }
+        Ok(Message::new(stamp, shadow))
+    }
+
+    /// The rest of the record is a token.
+    fn token(&mut self, sites: u8) -> Result<Token, ReadFault>
+        ensures { Reads (IsToken sites) token_fields self.old result }
+    {
+        let turn = self.number(TURN_MAX)?;
+        let to = self.site(sites)?;
+        let issued = self.number(COUNT_MAX)?;
+        self.end()?;
+        Ok(Token {
+            turn: turn as u32,
+            to,
+            issued: issued as u32,
+        })
+    }
+
+    /// The rest of the record is a packet.
+    fn packet(&mut self, alloc: Global, sites: u8) -> Result<Packet, ReadFault>
+        requires { sites ≤ 16 }
+        ensures { Reads (IsPacket sites) packet_record self.old result }
+    {
+        let word = self.field()?;
+        let version = self.field()?;
+        if !says(version, VERSION) {
+            return Err(ReadFault::BadRecord);
+        }
+        if says(word, b"msg") {
+            Ok(Packet::Msg(self.message(alloc, sites)?))
+        } else if says(word, b"token") {
+            Ok(Packet::Token(self.token(sites)?))
+        } else {
+            Err(ReadFault::BadRecord)
+        }
+    }
+}
+
+/// Reads a packet to a site among so many.
+pub fn read_packet(alloc: Global, fields: &Fields, sites: u8) -> Result<Packet, ReadFault>
+    requires { sites ≤ 16 }
+    ensures ok { IfOk result (λ p. IsPacket sites p × (fields.now ≡ packet_record p)) }
+    ensures bad { IsErrOf result ReadFault.BadRecord → (p : Packet) → IsPacket sites p → fields.now ≢ packet_record p }
+{
+    Reader::new(fields).packet(alloc, sites)
+}

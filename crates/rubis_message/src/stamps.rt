@@ -1,0 +1,54 @@
+// The counts of a stamp.
+
+ghost use Rattle.std.specs.Prelude.{◌≡◌, ◌≢◌, ◌<◌, ◌≤◌, [], ◌∷◌, ◌++◌, ℕ, List, All, IfSome, IsNone, OnErr, OnOk, length};
+ghost use Rattle.rubis_message.specs.Grammar.{deps_text};
+
+use rubis_clock::Deps;
+use rubis_schema::{Fields, ShortText, read_number, split_once};
+use std::alloc::AllocError;
+
+/// The greatest count.
+pub const COUNT_MAX: u64 = 1_000_000;
+
+/// The counts of so many sites that are written so.
+pub fn read_deps(text: &[u8], sites: u8) -> Option<Deps>
+    requires some_sites { 0 < sites }
+    requires few_sites { sites ≤ 16 }
+    ensures some { IfSome result (λ d. (length d ≡ sites) × All (λ n. n ≤ 1000000) d × (text.now ≡ deps_text d)) }
+    ensures none { IsNone result → (d : List ℕ) → length d ≡ sites → All (λ n. n ≤ 1000000) d → text.now ≢ deps_text d }
+{
+    let mut deps = Deps::new();
+    let mut rest = text;
+    for _site in 1..sites {
+        let (digits, others) = split_once(rest, b':')?;
+        let count = read_number(digits, COUNT_MAX)?;
+        deps.push(count as u32);
+        rest = others;
+    }
+    let last = read_number(rest, COUNT_MAX)?;
+    deps.push(last as u32);
+    Some(deps)
+}
+
+// The counts as they are written.
+fn text_of(deps: &Deps) -> ShortText
+    ensures { result ≡ deps_text deps.now }
+{
+    let counts = deps.as_slice();
+    let mut text = ShortText::new();
+    for site in (0..counts.len()).rev() {
+        if site + 1 < counts.len() {
+            text.put_byte(b':');
+        }
+        text.put_number(counts[site]);
+    }
+    text
+}
+
+/// Adds the counts as one field.
+pub fn push_deps(fields: &mut Fields, deps: &Deps) -> Result<(), AllocError>
+    ensures ok { OnOk result (fields.new ≡ fields.old ++ deps_text deps.now ∷ []) }
+    ensures err { OnErr result (fields.new ≡ fields.old) }
+{
+    fields.push(text_of(deps).as_bytes())
+}

@@ -1,0 +1,170 @@
+// Records of what is sent.
+
+ghost use Rattle.std.specs.Prelude.{◌≡◌, ◌++◌, ◌∷◌, [], IfOk, OnErr, OnOk};
+ghost use Rattle.rubis_message.specs.Grammar.{bid_fields, close_fields, comment_fields, item_fields, message_record, purchase_fields, shadow_fields, token_record, winner_text};
+
+use crate::messages::Message;
+use crate::stamps::push_deps;
+use crate::tokens::Token;
+use rubis_schema::{CommentRow, Fields, Id, PurchaseRow, push_int, push_number};
+use rubis_shadow::{NewBid, NewClose, NewItem, Shadow};
+use std::alloc::{AllocError, Global};
+
+/// The version of the records.
+pub const VERSION: &[u8] = b"1";
+
+fn push_item(fields: &mut Fields, item: &NewItem) -> Result<(), AllocError>
+    ensures { OnOk result (fields.new ≡ fields.old ++ item_fields item.now) }
+{
+    item.seller.push_to(fields)?;
+    fields.push(item.name.as_bytes())?;
+    push_number(fields, u64::from(item.cat))?;
+    push_number(fields, item.stock)?;
+    push_number(fields, item.start)?;
+    push_number(fields, item.price)
+}
+
+fn push_bid(fields: &mut Fields, bid: &NewBid) -> Result<(), AllocError>
+    ensures { OnOk result (fields.new ≡ fields.old ++ bid_fields bid.now) }
+{
+    bid.item.push_to(fields)?;
+    bid.bidder.push_to(fields)?;
+    push_number(fields, bid.amount)
+}
+
+fn push_purchase(fields: &mut Fields, purchase: &PurchaseRow) -> Result<(), AllocError>
+    ensures { OnOk result (fields.new ≡ fields.old ++ purchase_fields purchase.now) }
+{
+    purchase.item.push_to(fields)?;
+    purchase.buyer.push_to(fields)?;
+    push_number(fields, purchase.quantity)
+}
+
+fn push_winner(fields: &mut Fields, winner: Option<Id>) -> Result<(), AllocError>
+    ensures { OnOk result (fields.new ≡ fields.old ++ winner_text winner ∷ []) }
+{
+    match winner {
+        Some(id) => id.push_to(fields),
+        None => fields.push(b"none"),
+    }
+}
+
+fn push_close(fields: &mut Fields, close: &NewClose) -> Result<(), AllocError>
+    ensures { OnOk result (fields.new ≡ fields.old ++ close_fields close.now) }
+{
+    close.item.push_to(fields)?;
+    push_number(fields, u64::from(close.cat))?;
+    push_winner(fields, close.winner)
+}
+
+fn push_comment(fields: &mut Fields, comment: &CommentRow) -> Result<(), AllocError>
+    ensures { OnOk result (fields.new ≡ fields.old ++ comment_fields comment.now) }
+{
+    comment.item.push_to(fields)?;
+    comment.from.push_to(fields)?;
+    comment.to.push_to(fields)?;
+    push_int(fields, i64::from(comment.rating))?;
+    fields.push(comment.text.as_bytes())
+}
+
+fn push_shadow(fields: &mut Fields, shadow: &Shadow) -> Result<(), AllocError>
+    ensures { OnOk result (fields.new ≡ fields.old ++ shadow_fields shadow.now) }
+{
+    match shadow {
+        Shadow::User(nick) => {
+            fields.push(b"user")?;
+            fields.push(nick.as_bytes())
+        }
+        Shadow::Item(item) => {
+            fields.push(b"item")?;
+            push_item(fields, item)
+        }
+        Shadow::Bid(bid) => {
+            fields.push(b"bid")?;
+            push_bid(fields, bid)
+        }
+        Shadow::Buy(purchase) => {
+            fields.push(b"buy")?;
+            push_purchase(fields, purchase)
+        }
+        Shadow::Close(close) => {
+            fields.push(b"close")?;
+            push_close(fields, close)
+        }
+        Shadow::Comment(comment) => {
+            fields.push(b"comment")?;
+            push_comment(fields, comment)
+        }
+    }
+}
+
+fn push_message(fields: &mut Fields, message: &Message) -> Result<(), AllocError>
+    ensures { OnOk result (fields.new ≡ fields.old ++ message_record message.now) }
+{
+    let stamp = message.stamp();
+    fields.push(b"msg")?;
+    fields.push(VERSION)?;
+    push_number(fields, u64::from(stamp.id.site))?;
+    push_number(fields, u64::from(stamp.id.seq))?;
+    push_number(fields, u64::from(stamp.red))?;
+    push_deps(fields, &stamp.deps)?;
+    push_shadow(fields, message.shadow())
+}
+
+fn push_token(fields: &mut Fields, token: &Token) -> Result<(), AllocError>
+    ensures { OnOk result (fields.new ≡ fields.old ++ token_record token.now) }
+{
+    fields.push(b"token")?;
+    fields.push(VERSION)?;
+    push_number(fields, u64::from(token.turn))?;
+    push_number(fields, u64::from(token.to))?;
+    push_number(fields, u64::from(token.issued))
+}
+
+// Leaves no fields where they weren't all written.
+fn or_cleared(fields: &mut Fields, written: Result<(), AllocError>) -> Result<(), AllocError>
+    ensures same { result ≡ written }
+    ensures ok { OnOk written (fields.new ≡ fields.old) }
+    ensures err { OnErr written (fields.new ≡ []) }
+{
+    if written.is_err() {
+        fields.clear();
+    }
+    written
+}
+
+/// Adds the fields of a message. Without memory for them the record is left with no fields.
+pub fn append_message(fields: &mut Fields, message: &Message) -> Result<(), AllocError>
+    ensures ok { OnOk result (fields.new ≡ fields.old ++ message_record message.now) }
+    ensures err { OnErr result (fields.new ≡ []) }
+{
+    let written = push_message(fields, message);
+    or_cleared(fields, written)
+}
+
+/// Adds the fields of a token. Without memory for them the record is left with no fields.
+pub fn append_token(fields: &mut Fields, token: &Token) -> Result<(), AllocError>
+    ensures ok { OnOk result (fields.new ≡ fields.old ++ token_record token.now) }
+    ensures err { OnErr result (fields.new ≡ []) }
+{
+    let written = push_token(fields, token);
+    or_cleared(fields, written)
+}
+
+/// The record of a message.
+pub fn write_message(alloc: Global, message: &Message) -> Result<Fields, AllocError>
+    ensures { IfOk result (λ fields. fields ≡ message_record message.now) }
+{
+    let mut fields = Fields::new(alloc);
+    push_message(&mut fields, message)?;
+    Ok(fields)
+}
+
+/// The record of a token.
+pub fn write_token(alloc: Global, token: &Token) -> Result<Fields, AllocError>
+    ensures { IfOk result (λ fields. fields ≡ token_record token.now) }
+{
+    let mut fields = Fields::new(alloc);
+    push_token(&mut fields, token)?;
+    Ok(fields)
+}
