@@ -1,6 +1,6 @@
 -- The request that fields are: it is within the limits and written so, and there is no other.
 use Rattle.std.proofs.Common.{◌≡◌, ℕ, ◌≤◌, Bool, true, false, ◌&&◌, cond, List, [], ◌∷◌, refl, sym, ap, subst, ◌∙◌, arith}
-use Rattle.std.specs.Prelude.{Option, Some, None, bytes_eq, Decides}
+use Rattle.std.specs.Prelude.{Option, Some, None, Result, Ok, Err, IfOk, IsErrOf, bytes_eq, Decides}
 use Rattle.std.specs.Cmp.Lexicographic.{pointwise, pointwise_decides, bytes_decides}
 use Rattle.rubis_schema.specs.declared.listings.Listing.{Listing}
 use Rattle.rubis_schema.specs.declared.listings.Listing.TheVariants.{Users, Items, Bids, Purchases, Comments, Categories, Log, Misfits, Tables}
@@ -10,6 +10,9 @@ use Rattle.rubis_shadow.specs.Limits.{IsAsk}
 use Rattle.rubis_message.specs.declared.requests.Request.{Request}
 use Rattle.rubis_message.specs.declared.requests.Request.TheVariants as request
 use Rattle.rubis_message.specs.Grammar.{HasTexts, IsListing, IsRequest, request_record, ask_record, listing_fields}
+use Rattle.rubis_message.specs.declared.faults.ReadFault.{ReadFault}
+use Rattle.rubis_message.specs.declared.faults.ReadFault.TheVariants.{BadRecord, Memory}
+use Rattle.rubis_message.specs.Reading.{Reads}
 use Rattle.rubis_message.specs.Readings.{is_request, request_from, request_of, same_fields, id_from, number_from, int_from}
 use Rattle.rubis_message.proofs.Guesses.{number_of_decimal, id_of_written, int_of_text}
 use Rattle.rubis_message.proofs.Tests.{first, second, both, request_in, in_request}
@@ -96,3 +99,13 @@ request_none sites fields n = none_by (request_of sites fields) (λ r e. let s =
 -- two requests within the limits that are written alike are one
 pub one_request : (sites : ℕ) (r s : Request) → sites ≤ 256 → IsRequest sites r → IsRequest sites s → request_record r ≡ request_record s → r ≡ s
 one_request sites r s f h g e = sym (request_back sites r f h) ∙ ap request_from e ∙ request_back sites s f g
+
+-- a reading finds the request that the fields are
+pub found_request : (sites : ℕ) (fields : List (List ℕ)) (r : Result Request ReadFault) → sites ≤ 256 → Reads (IsRequest sites) request_record fields r → IfOk r (λ q. request_of sites fields ≡ Some q)
+found_request sites fields (Ok q) f h = ap (request_of sites) h.1 ∙ request_complete sites q f h.0
+found_request sites fields (Err e) f h = tt
+
+pub found_none : (sites : ℕ) (fields : List (List ℕ)) (r : Result Request ReadFault) → Reads (IsRequest sites) request_record fields r → IsErrOf r BadRecord → request_of sites fields ≡ None
+found_none sites fields (Ok q) h e = absurd cc
+found_none sites fields (Err BadRecord) h e = request_none sites fields h
+found_none sites fields (Err Memory) h e = absurd cc

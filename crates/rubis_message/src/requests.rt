@@ -1,6 +1,7 @@
-ghost use Rattle.std.specs.Prelude.{◌≡◌, ◌≢◌, ◌≤◌, [], ◌∷◌, IfOk, IsErrOf, MatchResult, decimal};
+ghost use Rattle.std.specs.Prelude.{◌≡◌, ◌≢◌, ◌≤◌, [], ◌∷◌, None, Some, IfOk, IsErrOf, MatchResult, decimal};
 ghost use Rattle.rubis_message.specs.Grammar.{IsListing, IsRequest, asked_close_fields, listing_fields, request_record};
 ghost use Rattle.rubis_message.specs.Reading.{Reads};
+ghost use Rattle.rubis_message.specs.Readings.{request_of};
 ghost use Rattle.rubis_schema.specs.Ids.{IsId, id_text};
 
 use crate::asks::CAT_MAX;
@@ -98,6 +99,10 @@ impl<'a> Reader<'a> {
 pub fn read_request(alloc: Global, fields: &Fields, sites: u8) -> Result<Request, ReadFault>
     ensures ok { IfOk result (λ r. IsRequest sites r × (fields.now ≡ request_record r)) }
     ensures bad { IsErrOf result ReadFault.BadRecord → (r : Request) → IsRequest sites r → fields.now ≢ request_record r }
+
+    // In one word: it is the request that the fields are.
+    ensures some { IfOk result (λ r. request_of sites fields.now ≡ Some r) }
+    ensures none { IsErrOf result ReadFault.BadRecord → request_of sites fields.now ≡ None }
 {
     Reader::new(fields).request(alloc, sites)
 }

@@ -1,9 +1,11 @@
 //! Runs a service over records: bytes of CSV in, bytes of CSV out.
 #![tactic(auto)]
 
+mod desk;
 mod fault;
 mod meter;
 mod record_list;
+mod replies;
 mod run;
 mod service;
 mod sink;

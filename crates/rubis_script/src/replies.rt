@@ -1,0 +1,106 @@
+// The records that answer a record.
+
+ghost use Rattle.std.specs.Prelude.{◌≡◌, ◌++◌, ◌∷◌, [], Ok, OnOk, codes};
+ghost use Rattle.rubis_schema.specs.Ids.{id_text};
+ghost use Rattle.rubis_model.specs.Answers.{asked_rows, listed_rows, passed_rows, refused_row, reply};
+ghost use Rattle.rubis_script.specs.Text.{rows_text};
+
+use crate::sink::Sink;
+use rubis_message::{Message, Token, append_message, append_token};
+use rubis_schema::{Fields, Items, Refusal, push_number};
+use std::alloc::AllocError;
+
+// Begins the reply to the record with that number.
+fn begin(fields: &mut Fields, number: u64, word: &[u8]) -> Result<(), AllocError>
+    ensures { OnOk result (fields.new ≡ reply number (word.now ∷ [])) }
+{
+    fields.clear();
+    fields.push(b"reply")?;
+    push_number(fields, number)?;
+    fields.push(word)
+}
+
+/// Says why a record is refused.
+pub fn write_refusal(
+    fields: &mut Fields,
+    sink: &mut Sink,
+    number: u64,
+    refusal: Refusal,
+) -> Result<(), AllocError>
+    ensures { OnOk result (sink.new ≡ sink.old ++ rows_text (refused_row number refusal ∷ [])) }
+{
+    begin(fields, number, b"refused")?;
+    push_number(fields, u64::from(refusal.code()))?;
+    fields.push(refusal.name().as_bytes())?;
+    sink.write_fields(fields)
+}
+
+// The first record of an accepted ask.
+fn write_accepted(
+    fields: &mut Fields,
+    sink: &mut Sink,
+    number: u64,
+    message: &Message,
+) -> Result<(), AllocError>
+    ensures { OnOk result (sink.new ≡ sink.old ++ rows_text (reply number (codes "ok" ∷ id_text message.now.stamp.id ∷ []) ∷ [])) }
+{
+    begin(fields, number, b"ok")?;
+    message.stamp().id.push_to(fields)?;
+    sink.write_fields(fields)
+}
+
+/// Gives the id of an accepted ask, and sends its message.
+pub fn write_asked(
+    fields: &mut Fields,
+    sink: &mut Sink,
+    number: u64,
+    message: &Message,
+) -> Result<(), AllocError>
+    ensures { OnOk result (sink.new ≡ sink.old ++ rows_text (asked_rows number (Ok message.now))) }
+{
+    write_accepted(fields, sink, number, message)?;
+    fields.clear();
+    append_message(fields, message)?;
+    sink.write_after(&[b"send".as_slice()], fields)
+}
+
+/// Says that the token is handed on, and sends it.
+pub fn write_passed(
+    fields: &mut Fields,
+    sink: &mut Sink,
+    number: u64,
+    token: &Token,
+) -> Result<(), AllocError>
+    ensures { OnOk result (sink.new ≡ sink.old ++ rows_text (passed_rows number (Ok token.now))) }
+{
+    begin(fields, number, b"passed")?;
+    sink.write_fields(fields)?;
+    fields.clear();
+    append_token(fields, token)?;
+    sink.write_after(&[b"send".as_slice()], fields)
+}
+
+// Writes rows as they are.
+fn write_rows(sink: &mut Sink, rows: &[Fields]) -> Result<(), AllocError>
+    ensures { OnOk result (sink.new ≡ sink.old ++ rows_text rows.now) }
+{
+    for row in rows {
+        sink.write_fields(row)?;
+    }
+    Ok(())
+}
+
+/// Says how many rows a listing has, and gives them.
+pub fn write_listed(
+    fields: &mut Fields,
+    sink: &mut Sink,
+    number: u64,
+    rows: &Items<Fields>,
+) -> Result<(), AllocError>
+    ensures { OnOk result (sink.new ≡ sink.old ++ rows_text (listed_rows number rows.now)) }
+{
+    begin(fields, number, b"rows")?;
+    push_number(fields, rows.len() as u64)?;
+    sink.write_fields(fields)?;
+    write_rows(sink, rows.as_slice())
+}
