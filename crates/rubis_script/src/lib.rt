@@ -9,12 +9,14 @@ mod replies;
 mod run;
 mod service;
 mod sink;
+mod site_run;
 
 pub use fault::{Count, RunFault};
 pub use record_list::Records;
 pub use run::run_upto;
 pub use service::Service;
 pub use sink::Sink;
+pub use site_run::{RECORDS_MAX, run_site, run_site_upto};
 
 #[cfg(test)]
 mod tests;
