@@ -47,6 +47,18 @@ Answers old new step (Err Memory) = (new.state ≡ old.state) × (new.behind ≡
 abbrev pub WaitsBehind : {A : Type 0} → SiteState → SiteState → Result A Fault → Type 0
 WaitsBehind old new result = old.behind ≡ true → (result ≡ Err Behind) × (new ≡ old)
 
+-- nothing is pending
+pub record IsUpToDate (s : SiteState) : Type 0 where
+  pub pending : s.pending ≡ 0
+  pub left : s.left ≡ 0
+  pub behind : s.behind ≡ false
+
+-- why what is pending wasn't applied: nothing was, or the site is behind
+abbrev pub IsCutFault : SiteState → SiteState → Fault → Type 0
+IsCutFault old new (Refused r) = ⊥
+IsCutFault old new Behind = new.behind ≡ true
+IsCutFault old new Memory = new ≡ old
+
 -- a listing of users shows those of the log's tables; the others aren't there yet
 abbrev pub listed : Replica → Listing → Replica × Result (List (List (List ℕ))) Refusal
 listed s Users = (s, Ok (users_of (fold_of (cores s.log)).tables))

@@ -1,8 +1,11 @@
-ghost use Rattle.std.specs.Prelude.{◌≡◌, ◌≤◌, OnOk, length};
+ghost use Rattle.std.specs.Prelude.{◌≡◌, ◌≤◌, ℕ, OnOk, length};
+ghost use Rattle.rubis_schema.specs.declared.ids.Id.{Id};
+ghost use Rattle.rubis_shadow.specs.Parts.{parts};
+ghost use Rattle.rubis_replica.specs.State.{left_of};
 ghost use Rattle.rubis_replica.specs.Walk.{Followed, IsPlace, Walked, parts_in};
 
 use rubis_message::Message;
-use rubis_shadow::PlainTables;
+use rubis_shadow::{PlainTables, Shadow};
 use std::alloc::AllocError;
 
 /// How much of a log was applied: so many messages, and so many parts of the next one.
@@ -53,4 +56,32 @@ pub fn apply_log(
         at.parts = 0;
     }
     Ok(())
+}
+
+// How many parts of the log aren't applied yet.
+pub fn parts_left(log: &[Message], at: &Progress) -> u32
+    requires few { length log.now ≤ 1000000 }
+    requires place { IsPlace log.now at.now.messages at.now.parts }
+    ensures { result ≡ length (left_of log.now at.now.messages at.now.parts) }
+{
+    let mut parts = 0;
+    for message in &log[at.messages..] {
+        parts += count_parts(message.shadow());
+    }
+    parts - u32::from(at.parts)
+}
+
+// How many parts a shadow has.
+fn count_parts(shadow: &Shadow) -> u32
+    ensures count { (id : Id) (red : ℕ) → result ≡ length (parts id red shadow.now) }
+    ensures few { result ≤ 3 }
+{
+    match shadow {
+        Shadow::User(_) => 2,
+        Shadow::Item(_) => 3,
+        Shadow::Bid(_) => 2,
+        Shadow::Buy(_) => 3,
+        Shadow::Close(_) => 2,
+        Shadow::Comment(_) => 2,
+    }
 }

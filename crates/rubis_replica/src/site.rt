@@ -1,11 +1,11 @@
-ghost use Rattle.std.specs.Prelude.{◌≡◌, false, true, cond, IfOk, IsErrOf};
+ghost use Rattle.std.specs.Prelude.{◌≡◌, ◌≤◌, false, true, IfOk, IfErr, Ok};
 ghost use Rattle.rubis_schema.specs.declared.listings.Listing.TheVariants as Listing;
 ghost use Rattle.rubis_shadow.specs.Limits.{IsAsk};
 ghost use Rattle.rubis_model.specs.Site.{asked, passed, opening_at};
 ghost use Rattle.rubis_replica.specs.Setup.{place_of};
-ghost use Rattle.rubis_replica.specs.State.{Answers, WaitsBehind, listed};
+ghost use Rattle.rubis_replica.specs.State.{Answers, IsCutFault, IsUpToDate, WaitsBehind, listed};
 
-use crate::applying::Progress;
+use crate::applying::{Progress, parts_left};
 use crate::config::Config;
 use crate::faults::Fault;
 use crate::refreshing::refresh;
@@ -147,5 +147,65 @@ impl Site {
             Ok(rows) => Ok(rows),
             Err(_) => Err(Fault::Memory),
         }
+    }
+
+    /// Applies all that is pending, and says how many messages that were. Where nothing could be applied for want of
+    /// memory, all stays as it was; where some could, the site is behind.
+    pub fn cut(&mut self) -> Result<u32, Fault>
+        ensures place { self.new.place ≡ self.old.place }
+        ensures state { self.new.state ≡ self.old.state }
+        ensures waits { WaitsBehind self.old self.new result }
+        ensures ok { IfOk result (λ count. (count ≡ self.old.pending) × IsUpToDate self.new) }
+        ensures fault { IfErr result (IsCutFault self.old self.new) }
+    {
+        let pending = self.intake.log().len() - self.applied.messages;
+        refresh(
+            &self.intake,
+            &mut self.tables,
+            &mut self.applied,
+            &mut self.behind,
+        )?;
+        Ok(pending as u32)
+    }
+
+    /// Applies what a site that is behind has left of its batch, and says how many parts that were; 0 where it isn't
+    /// behind. Where memory runs out again, the site stays behind, and what was applied is not applied again.
+    pub fn catch_up(&mut self) -> Result<u32, Fault>
+        ensures place { self.new.place ≡ self.old.place }
+        ensures state { self.new.state ≡ self.old.state }
+        ensures ready { self.old.behind ≡ false → (result ≡ Ok 0) × (self.new ≡ self.old) }
+        ensures ok { IfOk result (λ parts. self.old.behind ≡ true → (parts ≡ self.old.left) × IsUpToDate self.new) }
+        ensures fault { IfErr result (λ fault. (fault ≡ Fault.Behind) × (self.new.behind ≡ true) × (self.new.left ≤ self.old.left)) }
+    {
+        if !self.behind {
+            return Ok(0);
+        }
+        let left = parts_left(self.intake.log(), &self.applied);
+        self.behind = false;
+        let caught = refresh(
+            &self.intake,
+            &mut self.tables,
+            &mut self.applied,
+            &mut self.behind,
+        );
+        if caught.is_err() {
+            self.behind = true;
+            return Err(Fault::Behind);
+        }
+        Ok(left)
+    }
+
+    /// Whether some but not all of a batch stands in the tables.
+    pub fn is_behind(&self) -> bool
+        ensures { result ≡ self.now.behind }
+    {
+        self.behind
+    }
+
+    /// The released messages, in release order.
+    pub fn history(&self) -> &[Message]
+        ensures { result.now ≡ self.now.state.log }
+    {
+        self.intake.log()
     }
 }
