@@ -1,0 +1,15 @@
+pub mod Commute
+pub mod Shares
+pub mod InPlace
+pub mod Heads
+pub mod Pushes
+pub mod Sets
+pub mod Choices
+pub mod Nicks
+pub mod Good
+pub mod RowsOfUser
+pub mod RowsOfItem
+pub mod OtherRows
+pub mod FoldIsMeaning
+pub mod EqualSets
+pub mod Invariants

@@ -1,0 +1,93 @@
+-- Each shard, folding its share on what it holds, comes to hold its part of the tables that one thread makes.
+use Rattle.std.proofs.Common.{ℕ, ◌≡◌, ◌+◌, List, [], ◌∷◌, ◌++◌, Bool, true, false, cond, refl, sym, ap, ◌∙◌, subst, arith, Option, Some, None, append_assoc}
+use Rattle.std.specs.Prelude.{nat_eq, filter, flat_map}
+use Rattle.std.proofs.lemmas.Bool.Decides.{Decides-eqb}
+use mathlib.Core.Bool.{true≢false}
+use Rattle.std.specs.FinMap as map
+use Rattle.rubis_schema.specs.declared.row_keys.RowKey.{RowKey}
+use Rattle.rubis_shadow.specs.declared.changes.Effect.{Effect}
+use Rattle.rubis_schema.specs.declared.rows.Row.{Row}
+use Rattle.rubis_shadow.specs.declared.changes.MisfitKind.{MisfitKind}
+use Rattle.rubis_schema.specs.Keys.{tied, home}
+use Rattle.rubis_schema.specs.Tables.{Tables}
+use Rattle.rubis_shadow.specs.declared.numbered.Numbered.{Numbered}
+use Rattle.rubis_shadow.specs.declared.numbered.Misfit.{Misfit}
+use Rattle.rubis_shadow.specs.Changes.{after, doing, misfit_of, change_row}
+use Rattle.rubis_model.specs.Log.{noted, fold_on}
+use Rattle.rubis_model.specs.Shares.{part_of}
+use Rattle.rubis_schema.specs.KeyLaws.{key_antisymmetric, Decides-tied}
+use Rattle.rubis_model.proofs.Commute.{same_tables, get-with_row}
+
+abbrev pub tables_after : Tables → List Numbered → Tables
+tables_after t [] = t
+tables_after t (n ∷ ns) = tables_after (after t n.effect) ns
+
+-- each part with its misfit, if it has one
+abbrev pub outcomes : Tables → List Numbered → List (Numbered × Option MisfitKind)
+outcomes t [] = []
+outcomes t (n ∷ ns) = (n, misfit_of t n.effect) ∷ outcomes (after t n.effect) ns
+
+abbrev pub all_noted : List (Numbered × Option MisfitKind) → List Misfit
+all_noted os = flat_map (λ o. noted o.0 o.1) os
+
+pub fold_on_is : (t : Tables) (ms : List Misfit) (ns : List Numbered) → fold_on (record { tables = t; misfits = ms }) ns ≡ record { tables = tables_after t ns; misfits = ms ++ all_noted (outcomes t ns) }
+fold_on_is t ms [] = λ i. record { tables = t; misfits = nothing_more i }
+  where
+    nothing_more : ms ≡ ms ++ []
+    nothing_more = search Rattle.std.proofs.Common.rules
+fold_on_is t ms (n ∷ ns) =
+    fold_on_is (after t n.effect) (ms ++ noted n (misfit_of t n.effect)) ns
+    ∙ (λ i. record { tables = tables_after (after t n.effect) ns; misfits = append_assoc ms (noted n (misfit_of t n.effect)) (all_noted (outcomes (after t n.effect) ns)) i })
+
+module _ (shards k : ℕ) where
+  abbrev at_home : RowKey → Bool
+  at_home q = nat_eq (home shards q) k
+
+  abbrev mine : Numbered → Bool
+  mine n = at_home n.effect.key
+
+  pub get-part_of : (t : Tables) (q : RowKey) → map.get (part_of shards k t) q ≡ cond (at_home q) (map.get t q) None
+  get-part_of t q = map.get-retain_keys t at_home q (λ x e. ap at_home (sym (key_antisymmetric q x e)))
+
+  same_doing : (t : Tables) (e : Effect) → at_home e.key ≡ true → doing (part_of shards k t) e ≡ doing t e
+  same_doing t e h = ap (change_row e.change) (get-part_of t e.key ∙ ap (λ b. cond b (map.get t e.key) None) h)
+
+  -- one key, and what it holds in the part and in the whole
+  one_key : (a s h : Bool) (x y : Option Row) → (s ≡ true → a ≡ h) → cond a (cond s x y) None ≡ cond h (cond s x (cond a y None)) (cond a y None)
+  one_key a false true x y e = refl
+  one_key a false false x y e = refl
+  one_key true true true x y e = refl
+  one_key true true false x y e = absurd (true≢false (e refl))
+  one_key false true true x y e = absurd (true≢false (sym (e refl)))
+  one_key false true false x y e = refl
+
+  part_after : (t : Tables) (e : Effect) → part_of shards k (after t e) ≡ cond (at_home e.key) (after (part_of shards k t) e) (part_of shards k t)
+  part_after t e = elim (at_home e.key) as (λ b. at_home e.key ≡ b → part_of shards k (after t e) ≡ cond b (after (part_of shards k t) e) (part_of shards k t)) [
+    | true ↦ λ h. same_tables _ _ (λ q. left q ∙ one_key (at_home q) (tied q e.key) true _ _ (λ s. ap at_home ((Decides-tied q e.key).0 s) ∙ h)
+        ∙ sym (get-with_row (part_of shards k t) e.key _ q ∙ (λ i. cond (tied q e.key) (same_doing t e h i).row (get-part_of t q i))))
+    | false ↦ λ h. same_tables _ _ (λ q. left q ∙ one_key (at_home q) (tied q e.key) false _ _ (λ s. ap at_home ((Decides-tied q e.key).0 s) ∙ h) ∙ sym (get-part_of t q))
+  ] refl
+    where
+      left : (q : RowKey) → map.get (part_of shards k (after t e)) q ≡ cond (at_home q) (cond (tied q e.key) (doing t e).row (map.get t q)) None
+      left q = get-part_of (after t e) q ∙ ap (λ o. cond (at_home q) o None) (get-with_row t e.key _ q)
+
+  pub share_tables : (t : Tables) (ns : List Numbered) → tables_after (part_of shards k t) (filter mine ns) ≡ part_of shards k (tables_after t ns)
+  share_tables t [] = refl
+  share_tables t (n ∷ ns) = elim (mine n) as (λ b. mine n ≡ b → tables_after (part_of shards k t) (cond b (n ∷ filter mine ns) (filter mine ns)) ≡ part_of shards k (tables_after (after t n.effect) ns)) [
+    | true ↦ λ h. ap (λ u. tables_after u (filter mine ns)) (sym (part_after t n.effect ∙ ap (λ b. cond b (after (part_of shards k t) n.effect) (part_of shards k t)) h)) ∙ share_tables (after t n.effect) ns
+    | false ↦ λ h. ap (λ u. tables_after u (filter mine ns)) (sym (part_after t n.effect ∙ ap (λ b. cond b (after (part_of shards k t) n.effect) (part_of shards k t)) h)) ∙ share_tables (after t n.effect) ns
+  ] refl
+
+  abbrev mine_done : Numbered × Option MisfitKind → Bool
+  mine_done o = mine o.0
+
+  pub share_outcomes : (t : Tables) (ns : List Numbered) → outcomes (part_of shards k t) (filter mine ns) ≡ filter mine_done (outcomes t ns)
+  share_outcomes t [] = refl
+  share_outcomes t (n ∷ ns) = elim (mine n) as (λ b. mine n ≡ b → outcomes (part_of shards k t) (cond b (n ∷ filter mine ns) (filter mine ns)) ≡ cond b ((n, misfit_of t n.effect) ∷ filter mine_done (outcomes (after t n.effect) ns)) (filter mine_done (outcomes (after t n.effect) ns))) [
+    | true ↦ λ h. λ i. (n, (same_doing t n.effect h i).misfit) ∷ ((ap (λ u. outcomes u (filter mine ns)) (sym (part_after t n.effect ∙ ap (λ b. cond b (after (part_of shards k t) n.effect) (part_of shards k t)) h)) ∙ share_outcomes (after t n.effect) ns) i)
+    | false ↦ λ h. ap (λ u. outcomes u (filter mine ns)) (sym (part_after t n.effect ∙ ap (λ b. cond b (after (part_of shards k t) n.effect) (part_of shards k t)) h)) ∙ share_outcomes (after t n.effect) ns
+  ] refl
+
+-- every row is in its home's part
+pub in_its_part : (shards : ℕ) (t : Tables) (q : RowKey) → map.get (part_of shards (home shards q) t) q ≡ map.get t q
+in_its_part shards t q = get-part_of shards (home shards q) t q ∙ ap (λ b. cond b (map.get t q) None) ((Decides-eqb _ _).1 refl)
