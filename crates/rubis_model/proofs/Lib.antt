@@ -13,3 +13,4 @@ pub mod OtherRows
 pub mod FoldIsMeaning
 pub mod EqualSets
 pub mod Invariants
+pub mod Decisions
