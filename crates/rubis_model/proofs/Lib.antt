@@ -14,3 +14,6 @@ pub mod FoldIsMeaning
 pub mod EqualSets
 pub mod Invariants
 pub mod Decisions
+pub mod Pasts
+pub mod Settling
+pub mod OneOutcome

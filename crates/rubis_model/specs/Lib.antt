@@ -4,3 +4,6 @@ pub mod Site
 pub mod Meaning
 pub mod Checks
 pub mod Shares
+pub mod Order
+pub mod System
+pub mod Sound
