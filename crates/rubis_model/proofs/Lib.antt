@@ -17,3 +17,6 @@ pub mod Decisions
 pub mod Pasts
 pub mod Settling
 pub mod OneOutcome
+pub mod Making
+pub mod Tokens
+pub mod RunsInOrder

@@ -5,5 +5,8 @@ pub mod Meaning
 pub mod Checks
 pub mod Shares
 pub mod Order
+pub mod References
+pub mod Winners
 pub mod System
 pub mod Sound
+pub mod Laws
