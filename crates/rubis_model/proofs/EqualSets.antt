@@ -32,7 +32,7 @@ pub record Apart (a : List Core) : Type 0 where
   pub low : (m : Core) → Member a m → m.red ≤ count is_red a
   pub reds : OneRed a
 
-one_each_push : (a : List Core) (m : Core) → OneEach a → has_id m.id a ≡ None → OneEach (a ++ m ∷ [])
+pub one_each_push : (a : List Core) (m : Core) → OneEach a → has_id m.id a ≡ None → OneEach (a ++ m ∷ [])
 one_each_push [] m u e = (refl, tt)
 one_each_push (x ∷ a) m u e = (
   at_id_push Some x.id a m ∙ (λ i. option_or (u.0 i) (when (turned m.id x.id (not_member (x ∷ a) m.id x e (inl refl)) i) (Some m))),
@@ -43,7 +43,7 @@ one_each_push (x ∷ a) m u e = (
     or_second None p e = e
     or_second (Some x) p e = absurd cc
 
-red_of_new : (a : List Core) (m : Core) → Follows a m → is_red m.shadow ≡ true → m.red ≡ count is_red a + 1
+pub red_of_new : (a : List Core) (m : Core) → Follows a m → is_red m.shadow ≡ true → m.red ≡ count is_red a + 1
 red_of_new a m f e = f.next_red ∙ ap (λ b. cond b (count is_red a + 1) 0) e
 
 apart_push : (a : List Core) (m : Core) → Apart a → Follows a m → Apart (a ++ m ∷ [])
@@ -73,19 +73,19 @@ checked_apart log c = apart_from [] log (record { ids = tt; low = λ m h. absurd
 
 -- ---- the meaning depends on the set alone
 
-bid_red : (i : Id) (x : Shadow) → bids_on i x ≡ true → is_red x ≡ true
+pub bid_red : (i : Id) (x : Shadow) → bids_on i x ≡ true → is_red x ≡ true
 bid_red i (Bid b) e = refl
 bid_red i x e = absurd (true≢false (sym e))
 
-close_red : (i : Id) (x : Shadow) → closes i x ≡ true → is_red x ≡ true
+pub close_red : (i : Id) (x : Shadow) → closes i x ≡ true → is_red x ≡ true
 close_red i (Close b) e = refl
 close_red i x e = absurd (true≢false (sym e))
 
-user_red : (x : Shadow) → IsSome (as_user x) → is_red x ≡ true
+pub user_red : (x : Shadow) → IsSome (as_user x) → is_red x ≡ true
 user_red (User b) e = refl
 user_red x e = absurd (true≢false (sym e))
 
-some_is : (n : List ℕ) (o : Option (List ℕ)) → is_nick n o ≡ true → IsSome o
+pub some_is : (n : List ℕ) (o : Option (List ℕ)) → is_nick n o ≡ true → IsSome o
 some_is n None e = absurd (true≢false (sym e))
 some_is n (Some k) e = refl
 
@@ -102,16 +102,16 @@ module _ (a b : List Core) (u : Apart a) (v : Apart b) (s : Same a b) where
     comments = same_count (rates i) a b together j;
   })
 
-  same_best : (i : Id) → choose higher (λ m. bids_on i m.shadow) a ≡ choose higher (λ m. bids_on i m.shadow) b
+  pub same_best : (i : Id) → choose higher (λ m. bids_on i m.shadow) a ≡ choose higher (λ m. bids_on i m.shadow) b
   same_best i = same_choice higher_ranks (λ m. bids_on i m.shadow) a b s (λ m n h l p q f g. u.reds m n h l (bid_red i m.shadow p) (bid_red i n.shadow q) (higher_apart m n f g))
 
-  same_close : (i : Id) → choose earlier (λ m. closes i m.shadow) a ≡ choose earlier (λ m. closes i m.shadow) b
+  pub same_close : (i : Id) → choose earlier (λ m. closes i m.shadow) a ≡ choose earlier (λ m. closes i m.shadow) b
   same_close i = same_choice earlier_ranks (λ m. closes i m.shadow) a b s (λ m n h l p q f g. u.reds m n h l (close_red i m.shadow p) (close_red i n.shadow q) (earlier_apart m n f g))
 
-  same_nick : (i : Id) → nick_at i a ≡ nick_at i b
+  pub same_nick : (i : Id) → nick_at i a ≡ nick_at i b
   same_nick i = same_at (λ m. as_user m.shadow) i a b u.ids v.ids s
 
-  same_named : (k : List ℕ) → named k a ≡ named k b
+  pub same_named : (k : List ℕ) → named k a ≡ named k b
   same_named k =
       same_choice earlier_ranks (λ m. is_nick k (nick_at m.id a)) a b s (λ m n h l p q f g. u.reds m n h l (holder_red m h p) (holder_red n l q) (earlier_apart m n f g))
       ∙ (λ j. choose earlier (λ m. is_nick k (same_nick m.id j)) b)

@@ -20,3 +20,6 @@ pub mod OneOutcome
 pub mod Making
 pub mod Tokens
 pub mod RunsInOrder
+pub mod Cores
+pub mod Fitting
+pub mod LogsChecked

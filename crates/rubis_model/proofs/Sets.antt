@@ -56,10 +56,10 @@ abbrev pub OneEach : List Core → Type 0
 OneEach [] = ⊤
 OneEach (x ∷ xs) = (has_id x.id xs ≡ None) × OneEach xs
 
-itself : (i : Id) → same_id i i ≡ true
+pub itself : (i : Id) → same_id i i ≡ true
 itself i = (Decides-same_id i i).1 refl
 
-or_first : {X : Type 0} (o p : Option X) → option_or o p ≡ None → (o ≡ None) × (p ≡ None)
+pub or_first : {X : Type 0} (o p : Option X) → option_or o p ≡ None → (o ≡ None) × (p ≡ None)
 or_first None p e = (refl, e)
 or_first (Some x) p e = absurd cc
 
@@ -72,7 +72,7 @@ not_member (x ∷ xs) i m e (inl p) = subst (λ (n : Core). same_id i n.id ≡ f
     at true q = absurd (let z : Some x ≡ None = ap (λ b. when b (Some x)) (sym q) ∙ (or_first (when (same_id i x.id) (Some x)) _ e).0 in cc)
     at false q = q
 
-apart : (xs : List Core) (x : Core) → has_id x.id xs ≡ None → ¬ (Member xs x)
+pub apart : (xs : List Core) (x : Core) → has_id x.id xs ≡ None → ¬ (Member xs x)
 apart xs x e h = true≢false (sym (itself x.id) ∙ not_member xs x.id x e h)
 
 -- at an id, the row that its message gives
@@ -125,13 +125,13 @@ same_at f i a b u v s = go (has_id i a) refl (has_id i b) refl
 
 -- ---- one is a permutation of the other
 
-none_without : (i : Id) (xs ys : List Core) (x : Core) → has_id i (xs ++ x ∷ ys) ≡ None → has_id i (xs ++ ys) ≡ None
+pub none_without : (i : Id) (xs ys : List Core) (x : Core) → has_id i (xs ++ x ∷ ys) ≡ None → has_id i (xs ++ ys) ≡ None
 none_without i [] ys x e = (or_first (when (same_id i x.id) (Some x)) _ e).1
 none_without i (z ∷ xs) ys x e =
     let w = or_first (when (same_id i z.id) (Some z)) _ e in
     ap (λ o. option_or o (has_id i (xs ++ ys))) w.0 ∙ none_without i xs ys x w.1
 
-one_each_without : (xs ys : List Core) (x : Core) → OneEach (xs ++ x ∷ ys) → OneEach (xs ++ ys) × ¬ (Member (xs ++ ys) x)
+pub one_each_without : (xs ys : List Core) (x : Core) → OneEach (xs ++ x ∷ ys) → OneEach (xs ++ ys) × ¬ (Member (xs ++ ys) x)
 one_each_without [] ys x u = (u.1, apart ys x u.0)
 one_each_without (z ∷ xs) ys x u =
     let w = one_each_without xs ys x u.1 in (
@@ -139,12 +139,12 @@ one_each_without (z ∷ xs) ys x u =
       λ h. ⊎_elim (λ p. true≢false (sym (itself z.id) ∙ (λ i. same_id z.id (p i).id) ∙ not_member (xs ++ x ∷ ys) z.id x u.0 (member_right xs (x ∷ ys) x (inl refl)))) w.1 h,
     )
 
-split_at : (b : List Core) (x : Core) → Member b x → (xs : List Core) × (ys : List Core) × (b ≡ xs ++ x ∷ ys)
+pub split_at : (b : List Core) (x : Core) → Member b x → (xs : List Core) × (ys : List Core) × (b ≡ xs ++ x ∷ ys)
 split_at [] x h = absurd h
 split_at (y ∷ b) x (inl e) = ([], b, ap (λ z. z ∷ b) e)
 split_at (y ∷ b) x (inr h) = let w = split_at b x h in (y ∷ w.0, w.1, ap (λ z. y ∷ z) w.2)
 
-same_without : (a xs ys : List Core) (x : Core) → has_id x.id a ≡ None → ¬ (Member (xs ++ ys) x) → Same (x ∷ a) (xs ++ x ∷ ys) → Same a (xs ++ ys)
+pub same_without : (a xs ys : List Core) (x : Core) → has_id x.id a ≡ None → ¬ (Member (xs ++ ys) x) → Same (x ∷ a) (xs ++ x ∷ ys) → Same a (xs ++ ys)
 same_without a xs ys x e n s m = (
   λ h. ⊎_elim (λ l. member_left xs ys m l) (λ r. ⊎_elim (λ p. absurd (apart a x e (subst (Member a) (sym p) h))) (λ q. member_right xs ys m q) r) (member_append xs (x ∷ ys) m ((s m).0 (inr h))),
   λ h. ⊎_elim (λ p. absurd (n (subst (Member (xs ++ ys)) (sym p) h))) (λ r. r) ((s m).1 (⊎_elim (λ l. member_left xs (x ∷ ys) m l) (λ r. member_right xs (x ∷ ys) m (inr r)) (member_append xs ys m h))),
