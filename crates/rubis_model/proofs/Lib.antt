@@ -23,3 +23,4 @@ pub mod RunsInOrder
 pub mod Cores
 pub mod Fitting
 pub mod LogsChecked
+pub mod Deciding
