@@ -24,3 +24,4 @@ pub mod Cores
 pub mod Fitting
 pub mod LogsChecked
 pub mod Deciding
+pub mod Keeps
