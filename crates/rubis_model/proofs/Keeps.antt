@@ -36,14 +36,14 @@ use Rattle.rubis_model.proofs.Cores.{has_reverse}
 use Rattle.rubis_model.proofs.Deciding.{decided, red_allowed}
 
 -- ---- a site that comes to the state it has
-pub same_sites : (w : World) (i : ℕ) → i < length w.sites → slice_set w.sites i (site w i) ≡ w.sites
-same_sites w i l = set-get_or w.sites i (opening_at 1)
+pub same_sites : (w : World) (i : ℕ) → slice_set w.sites i (site w i) ≡ w.sites
+same_sites w i = set-get_or w.sites i (opening_at 1)
 
-pub same_world : (w : World) (i : ℕ) → i < length w.sites → with_site w i (site w i) ≡ w
-same_world w i l = λ j. record w { sites = same_sites w i l j }
+pub same_world : (w : World) (i : ℕ) → with_site w i (site w i) ≡ w
+same_world w i = λ j. record w { sites = same_sites w i j }
 
-pub nothing_sent : (w : World) (i : ℕ) → i < length w.sites → record { sites = slice_set w.sites i (site w i); sent = w.sent ++ [] } ≡ w
-nothing_sent w i l = λ j. record { sites = same_sites w i l j; sent = none_more w.sent j }
+pub nothing_sent : (w : World) (i : ℕ) → record { sites = slice_set w.sites i (site w i); sent = w.sent ++ [] } ≡ w
+nothing_sent w i = λ j. record { sites = same_sites w i j; sent = none_more w.sent j }
   where
     none_more : (ps : List Packet) → ps ++ [] ≡ ps
     none_more ps = search Rattle.std.proofs.Common.rules
@@ -281,7 +281,7 @@ has_get (y ∷ xs) (suc k) x e = inr (has_get xs k x e)
 
 module _ (keep : ℕ) (w : World) (i : ℕ) (l : i < length w.sites) (s : Sound w) where
   back : Sound (with_site w i (site w i))
-  back = subst Sound (sym (same_world w i l)) s
+  back = subst Sound (sym (same_world w i)) s
 
   mail_keeps : (m : Message) → Has (Mail m) w.sent → Sound (with_site w i (arrived (place keep w i) (site w i) m).0)
   unfolding came
@@ -310,7 +310,7 @@ module _ (keep : ℕ) (w : World) (i : ℕ) (l : i < length w.sites) (s : Sound 
   coming_keeps (Some (Right t)) h = token_keeps t (h (Right t) refl)
 
   refused : Sound (record { sites = slice_set w.sites i (site w i); sent = w.sent ++ [] })
-  refused = subst Sound (sym (nothing_sent w i l)) s
+  refused = subst Sound (sym (nothing_sent w i)) s
 
   passing_keeps : (to : ℕ) (o : Option ℕ) → (site w i).held ≡ o → Sound (answering Right w i (passing (place keep w i) (site w i) to o))
   unfolding quiet

@@ -25,3 +25,7 @@ pub mod Fitting
 pub mod LogsChecked
 pub mod Deciding
 pub mod Keeps
+pub mod Room
+pub mod Winners
+pub mod Referring
+pub mod Runs
