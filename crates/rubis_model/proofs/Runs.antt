@@ -15,7 +15,7 @@ use Rattle.rubis_model.proofs.FoldIsMeaning.{fold_is_meaning}
 use Rattle.rubis_model.proofs.EqualSets.{equal_sets_equal_tables}
 use Rattle.rubis_model.proofs.Invariants.{checked_holds}
 use Rattle.rubis_model.proofs.RunsInOrder.{in_order, foundation, has_back}
-use Rattle.rubis_model.proofs.Cores.{cores_length, has_reverse}
+use Rattle.rubis_model.proofs.Cores.{cores_length, has_reverse, same_cores}
 use Rattle.rubis_model.proofs.LogsChecked.{log_checked, red_positive, one_each_back}
 use Rattle.rubis_model.proofs.Keeps.{run_keeps, start_sound, start_sites}
 use Rattle.rubis_model.proofs.Room.{room_run, room_start}
@@ -71,3 +71,11 @@ every_run n keep events some few a = in_run keep (run keep events (start n)) few
 
 pub every_order : RunsAreInOrder
 every_order n keep events some few a = in_order (run keep events (start n)) (sound_run n keep events some few a)
+
+pub equal_tables : RunsAgreeOnTables
+equal_tables n keep events some few a m kept later more less b i j same =
+    let w = run keep events (start n) in
+    let v = run kept later (start m) in
+    equal_sets_equal_tables (cores (site w i).log) (cores (site v j).log)
+    (log_checked w i (sound_run n keep events some few a)) (log_checked v j (sound_run m kept later more less b))
+    (short keep w i few (room_of n keep events)) (short kept v j less (room_of m kept later)) (same_cores (site w i).log (site v j).log same)
