@@ -1,5 +1,5 @@
 -- What is decided at a site of a sound world fits there, and is within the limits.
-use Rattle.std.proofs.Common.{ℕ, ◌≡◌, ◌+◌, ◌≤◌, ◌<◌, ◌==◌, List, [], ◌∷◌, length, Bool, true, false, refl, sym, ap, ◌∙◌, subst, arith, Option, Some, None, inl, inr}
+use Rattle.std.proofs.Common.{ℕ, ◌≡◌, ◌+◌, ◌≤◌, ◌<◌, ◌==◌, ◌^◌, List, [], ◌∷◌, length, Bool, true, false, refl, sym, ap, ◌∙◌, subst, arith, Option, Some, None, inl, inr}
 use Rattle.std.specs.Prelude.{reverse, nat_lt, nat_le, not, Ok, option_map, IfSome, cond}
 use Rattle.std.proofs.lemmas.Bool.Decides.{nat_tests}
 use Rattle.std.proofs.lemmas.List.{reverse-reverse}
@@ -120,7 +120,7 @@ module _ (keep : ℕ) (few : keep ≤ 1000000) (w : World) (i : ℕ) (s : Sound 
   unfolding Allows
   fitting ask x e =
       let c = log_checked w i s in
-      let l : length (cores (site w i).log) ≤ 1000000 = (let a = short ask x e in let b = cores_length (site w i).log in omega (arith, a, b)) in
+      let l : length (cores (site w i).log) ≤ 2 ^ 32 = (let a = short ask x e in let b = cores_length (site w i).log in omega (arith, a, b)) in
       decided_fits (rows_at (site w i).log) (cores (site w i).log) (fold_is_meaning (cores (site w i).log) c l).0.rows (standing_of keep (site w i)) ask x (checked_holds (cores (site w i).log) c) e
 
   in_limits : (ask : Ask) (x : Shadow) → IsAsk (length w.sites) ask → Allows ask x → InLimits (length w.sites) x

@@ -1,5 +1,5 @@
 -- Checked logs with the same set fold to the same tables.
-use Rattle.std.proofs.Common.{ℕ, ◌≡◌, ◌+◌, ◌≤◌, ◌<◌, List, [], ◌∷◌, ◌++◌, length, Bool, true, false, cond, refl, sym, ap, ◌∙◌, subst, arith, Option, Some, None, inl, inr, ⊎_elim, append_assoc}
+use Rattle.std.proofs.Common.{ℕ, ◌≡◌, ◌+◌, ◌^◌, ◌≤◌, ◌<◌, List, [], ◌∷◌, ◌++◌, length, Bool, true, false, cond, refl, sym, ap, ◌∙◌, subst, arith, Option, Some, None, inl, inr, ⊎_elim, append_assoc}
 use Rattle.std.specs.Prelude.{option_map, nat_lt, IsSome, pos, ◌-ℤ◌, ◌-◌, IsPermutation}
 use Rattle.std.specs.Option.{option_or}
 use mathlib.Core.Bool.{true≢false}
@@ -147,7 +147,7 @@ module _ (a b : List Core) (u : Apart a) (v : Apart b) (s : Same a b) where
   })))
 
 -- two checked logs with the same set have the same tables
-pub equal_sets_equal_tables : (a b : List Core) → Checked a → Checked b → length a ≤ 1000000 → length b ≤ 1000000 → SameSet a b → (fold_of a).tables ≡ (fold_of b).tables
+pub equal_sets_equal_tables : (a b : List Core) → Checked a → Checked b → length a ≤ 2 ^ 32 → length b ≤ 2 ^ 32 → SameSet a b → (fold_of a).tables ≡ (fold_of b).tables
 equal_sets_equal_tables a b c d h k s =
     let same : Same a b = λ m. (λ l. member_of b m ((s m).0 (contains_of a m l)), λ l. member_of a m ((s m).1 (contains_of b m l))) in
     same_tables _ _ (λ q. (fold_is_meaning a c h).0.rows q ∙ same_meaning a b (checked_apart a c) (checked_apart b d) same q ∙ sym ((fold_is_meaning b d k).0.rows q))

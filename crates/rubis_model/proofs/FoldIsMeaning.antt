@@ -184,7 +184,7 @@ all_fit t a s (shadow.Comment c) r g f =
 
 -- ---- one more message
 
-rows_more : (t : Tables) (a : List Core) (s : Head) (x : Shadow) → ((q : RowKey) → map.get t q ≡ meaning_row a q) → Good a → Follows a (msg s x) → length a < 1000000 →
+rows_more : (t : Tables) (a : List Core) (s : Head) (x : Shadow) → ((q : RowKey) → map.get t q ≡ meaning_row a q) → Good a → Follows a (msg s x) → length a < 2 ^ 32 →
     (q : RowKey) → map.get (effects_after t (parts s.id s.red x)) q ≡ meaning_row (a ++ msg s x ∷ []) q
 rows_more t a s x r g f h q = get-effects_after t (parts s.id s.red x) q ∙ ap (λ o. fold (at_key q) o (parts s.id s.red x)) (r q) ∙ at q
   where
@@ -261,7 +261,7 @@ pub record Right (a : List Core) : Type 0 where
 right_none : Right []
 right_none = record { rows = opening_rows; clean = refl; good = good_none }
 
-right_push : (a : List Core) (m : Core) → Right a → Follows a m → length a < 1000000 → Right (a ++ m ∷ [])
+right_push : (a : List Core) (m : Core) → Right a → Follows a m → length a < 2 ^ 32 → Right (a ++ m ∷ [])
 right_push a m r f h =
     let together : fold_of (a ++ m ∷ []) ≡ record { tables = effects_after (fold_of a).tables (parts_of m); misfits = (fold_of a).misfits } =
     fold_push_parts a m ∙ folded_fit (fold_of a).tables (fold_of a).misfits (1 + length a) 1 m.id (parts_of m) (all_fit (fold_of a).tables a (head_of m) m.shadow r.rows r.good f) in
@@ -271,14 +271,14 @@ right_push a m r f h =
       good = good_push a m r.good f;
     }
 
-right_from : (a rest : List Core) → Right a → CheckedFrom a rest → length a + length rest ≤ 1000000 → Right (a ++ rest)
+right_from : (a rest : List Core) → Right a → CheckedFrom a rest → length a + length rest ≤ 2 ^ 32 → Right (a ++ rest)
 right_from a [] r c h = subst Right (sym (append_none a)) r
 right_from a (m ∷ rest) r c h =
     let l = length-append a (m ∷ []) in
     subst Right (append_assoc a (m ∷ []) rest) (right_from (a ++ m ∷ []) rest (right_push a m r c.0 (omega arith)) c.1 (omega (arith, l, h)))
 
 -- a checked log has no misfit, and its tables are its meaning
-pub fold_is_meaning : (log : List Core) → Checked log → length log ≤ 1000000 → IsMeaning log (fold_of log).tables × ((fold_of log).misfits ≡ [])
+pub fold_is_meaning : (log : List Core) → Checked log → length log ≤ 2 ^ 32 → IsMeaning log (fold_of log).tables × ((fold_of log).misfits ≡ [])
 fold_is_meaning log c h =
     let r = right_from [] log right_none c (omega arith) in
     (record { rows = r.rows }, r.clean)

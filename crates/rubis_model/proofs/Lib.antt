@@ -29,3 +29,4 @@ pub mod Room
 pub mod Winners
 pub mod Referring
 pub mod Runs
+pub mod AuditedOrder

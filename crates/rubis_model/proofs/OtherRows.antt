@@ -136,10 +136,10 @@ ended true true c e p q = λ j. Some (row.Cat (record { items = zero_more c j; l
 ended false true c e p q = refl
 ended t false c e p q = still t c e
 
-small : (p : Shadow → Bool) (a : List Core) → length a < 1000000 → count p a < 2 ^ 61
+small : (p : Shadow → Bool) (a : List Core) → length a < 2 ^ 32 → count p a < 2 ^ 61
 small p a h = let l = count_by-le-length (λ (m : Core). p m.shadow) a in omega (arith, l, h)
 
-pub row_of_cat : (a : List Core) (s : Head) (x : Shadow) → length a < 1000000 → (k : ℕ) →
+pub row_of_cat : (a : List Core) (s : Head) (x : Shadow) → length a < 2 ^ 32 → (k : ℕ) →
     fold (at_key (key.Cat k)) (meaning_row a (key.Cat k)) (parts s.id s.red x) ≡ meaning_row (a ++ msg s x ∷ []) (key.Cat k)
 unfolding meaning_row
 row_of_cat a s (shadow.Item n) h k = listed (nat_lt k 1000) (nat_eq k n.cat) _ _ (small (lists_in k) a h) (small (closes_in k) a h) ∙ meaning_push a (msg s (shadow.Item n)) k

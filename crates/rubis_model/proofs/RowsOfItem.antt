@@ -234,10 +234,10 @@ inserted a s n i false e g f =
 at_named : (P : Id → Type 0) (i j : Id) → P j → same_id i j ≡ true → P i
 at_named P i j h e = subst P (sym ((Decides-same_id i j).0 e)) h
 
-sold_small : (t : Bool) (l s q : ℕ) → s ≤ l * 1000000 → q ≤ 1000000 → l < 1000000 → s + q < 2 ^ 62
+sold_small : (t : Bool) (l s q : ℕ) → s ≤ l * 1000000 → q ≤ 1000000 → l < 2 ^ 32 → s + q < 2 ^ 62
 sold_small t l s q g h small = omega arith
 
-pub row_of_item : (a : List Core) (s : Head) (x : Shadow) → Good a → Follows a (msg s x) → length a < 1000000 → (i : Id) →
+pub row_of_item : (a : List Core) (s : Head) (x : Shadow) → Good a → Follows a (msg s x) → length a < 2 ^ 32 → (i : Id) →
     fold (at_key (key.Item i)) (meaning_row a (key.Item i)) (parts s.id s.red x) ≡ meaning_row (a ++ msg s x ∷ []) (key.Item i)
 unfolding meaning_row
 row_of_item a s (shadow.Item n) g f h i = inserted a s n i _ refl g f

@@ -93,10 +93,10 @@ inserted a s n u false e g f =
     ∙ (λ i. option_map (λ k. sym (user_row_push a (msg s (shadow.User n)) u k) i) (nick_at u a))
     ∙ ap (option_map (user_row (a ++ msg s (shadow.User n) ∷ []) u)) (sym (user_gives a s n g f u ∙ ap (λ b. cond b (Some n) (nick_at u a)) e))
 
-pub count_small : (p : Shadow → Bool) (a : List Core) → length a < 1000000 → count p a < 2 ^ 62
+pub count_small : (p : Shadow → Bool) (a : List Core) → length a < 2 ^ 32 → count p a < 2 ^ 62
 count_small p a h = let l = count_by-le-length (λ (m : Core). p m.shadow) a in omega (arith, l, h)
 
-pub row_of_user : (a : List Core) (s : Head) (x : Shadow) → Good a → Follows a (msg s x) → length a < 1000000 → (u : Id) →
+pub row_of_user : (a : List Core) (s : Head) (x : Shadow) → Good a → Follows a (msg s x) → length a < 2 ^ 32 → (u : Id) →
     fold (at_key (key.User u)) (meaning_row a (key.User u)) (parts s.id s.red x) ≡ meaning_row (a ++ msg s x ∷ []) (key.User u)
 unfolding meaning_row
 row_of_user a s (shadow.User n) g f h u = inserted a s n u _ refl g f

@@ -1,5 +1,5 @@
 -- The laws of every run.
-use Rattle.std.proofs.Common.{ℕ, ◌≡◌, ◌+◌, ◌≤◌, ◌<◌, List, [], ◌∷◌, length, arith, refl, sym, ap, ◌∙◌, subst, inl, inr}
+use Rattle.std.proofs.Common.{ℕ, ◌≡◌, ◌+◌, ◌^◌, ◌≤◌, ◌<◌, List, [], ◌∷◌, length, arith, refl, sym, ap, ◌∙◌, subst, inl, inr}
 use Rattle.std.specs.Prelude.{reverse, true, Contains, ◌↔◌}
 use Rattle.rubis_schema.specs.declared.row_keys.RowKey.TheVariants as key
 use Rattle.rubis_shadow.specs.Shadows.{is_red}
@@ -22,7 +22,7 @@ use Rattle.rubis_model.proofs.Room.{room_run, room_start}
 use Rattle.rubis_model.proofs.Winners.{Ground, one_nick, one_close, winner_is, row_winner}
 use Rattle.rubis_model.proofs.Referring.{refers_of}
 
-pub short : (keep : ℕ) (w : World) (i : ℕ) → keep ≤ 1000000 → Room keep w → length (cores (site w i).log) ≤ 1000000
+pub short : (keep : ℕ) (w : World) (i : ℕ) → keep ≤ 1000000 → Room keep w → length (cores (site w i).log) ≤ 2 ^ 32
 short keep w i few r = let l = r i in let c = cores_length (site w i).log in omega (arith, l, c, few)
 
 module _ (w : World) (s : Sound w) where

@@ -7,6 +7,7 @@ pub mod Shares
 pub mod Order
 pub mod References
 pub mod Winners
+pub mod Audit
 pub mod System
 pub mod Sound
 pub mod Laws
