@@ -46,7 +46,7 @@ one_each_push (x ∷ a) m u e = (
 pub red_of_new : (a : List Core) (m : Core) → Follows a m → is_red m.shadow ≡ true → m.red ≡ count is_red a + 1
 red_of_new a m f e = f.next_red ∙ ap (λ b. cond b (count is_red a + 1) 0) e
 
-apart_push : (a : List Core) (m : Core) → Apart a → Follows a m → Apart (a ++ m ∷ [])
+pub apart_push : (a : List Core) (m : Core) → Apart a → Follows a m → Apart (a ++ m ∷ [])
 apart_push a m u f = record {
   ids = one_each_push a m u.ids f.new_id;
   low = λ n h.
@@ -68,8 +68,11 @@ apart_from : (a rest : List Core) → Apart a → CheckedFrom a rest → Apart (
 apart_from a [] u c = subst Apart (search Rattle.std.proofs.Common.rules) u
 apart_from a (m ∷ rest) u c = subst Apart (append_assoc a (m ∷ []) rest) (apart_from (a ++ m ∷ []) rest (apart_push a m u c.0) c.1)
 
+pub no_apart : Apart []
+no_apart = record { ids = tt; low = λ m h. absurd h; reds = λ m n h. absurd h }
+
 pub checked_apart : (log : List Core) → Checked log → Apart log
-checked_apart log c = apart_from [] log (record { ids = tt; low = λ m h. absurd h; reds = λ m n h. absurd h }) c
+checked_apart log c = apart_from [] log no_apart c
 
 -- ---- the meaning depends on the set alone
 

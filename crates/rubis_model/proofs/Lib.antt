@@ -30,3 +30,5 @@ pub mod Winners
 pub mod Referring
 pub mod Runs
 pub mod AuditedOrder
+pub mod AuditedMeaning
+pub mod Audited
