@@ -1,7 +1,8 @@
 -- Each shard, folding its share on what it holds, comes to hold its part of the tables that one thread makes.
-use Rattle.std.proofs.Common.{ℕ, ◌≡◌, ◌+◌, List, [], ◌∷◌, ◌++◌, Bool, true, false, cond, refl, sym, ap, ◌∙◌, subst, arith, Option, Some, None, append_assoc}
+use Rattle.std.proofs.Common.{ℕ, ◌≡◌, ◌+◌, List, [], ◌∷◌, ◌++◌, length, Bool, true, false, cond, refl, sym, ap, ◌∙◌, subst, arith, Option, Some, None, append_assoc}
 use Rattle.std.specs.Prelude.{nat_eq, filter, flat_map}
 use Rattle.std.proofs.lemmas.Bool.Decides.{Decides-eqb}
+use Rattle.std.proofs.lemmas.List.Sums.{fold-append}
 use mathlib.Core.Bool.{true≢false}
 use Rattle.std.specs.FinMap as map
 use Rattle.rubis_schema.specs.declared.row_keys.RowKey.{RowKey}
@@ -13,8 +14,8 @@ use Rattle.rubis_schema.specs.Tables.{Tables}
 use Rattle.rubis_shadow.specs.declared.numbered.Numbered.{Numbered}
 use Rattle.rubis_shadow.specs.declared.numbered.Misfit.{Misfit}
 use Rattle.rubis_shadow.specs.Changes.{after, doing, misfit_of, change_row}
-use Rattle.rubis_model.specs.Log.{noted, fold_on}
-use Rattle.rubis_model.specs.Shares.{part_of}
+use Rattle.rubis_model.specs.Log.{Core, noted, number_parts, numbered_from, parts_of, share, step, fold_on, before_any, fold_of}
+use Rattle.rubis_model.specs.Shares.{part_of, batch_folded, share_folded}
 use Rattle.rubis_schema.specs.KeyLaws.{key_antisymmetric, Decides-tied}
 use Rattle.rubis_model.proofs.Commute.{same_tables, get-with_row}
 
@@ -91,3 +92,33 @@ module _ (shards k : ℕ) where
 -- every row is in its home's part
 pub in_its_part : (shards : ℕ) (t : Tables) (q : RowKey) → map.get (part_of shards (home shards q) t) q ≡ map.get t q
 in_its_part shards t q = get-part_of shards (home shards q) t q ∙ ap (λ b. cond b (map.get t q) None) ((Decides-eqb _ _).1 refl)
+
+-- ---- a whole share
+pub share_is_part : (shards first k : ℕ) (t : Tables) (batch : List Core) → (share_folded shards first t batch k).tables ≡ part_of shards k (batch_folded first t batch).tables
+share_is_part shards first k t batch =
+    ap (λ f. f.tables) (fold_on_is (part_of shards k t) [] (share shards first batch k))
+    ∙ share_tables shards k t (numbered_from first batch)
+    ∙ ap (part_of shards k) (sym (ap (λ f. f.tables) (fold_on_is t [] (numbered_from first batch))))
+
+-- ---- a log, batch by batch
+pub numbered_append : (first : ℕ) (a b : List Core) → numbered_from first (a ++ b) ≡ numbered_from first a ++ numbered_from (first + length a) b
+numbered_append first [] b = ap (λ n. numbered_from n b) (omega arith)
+numbered_append first (m ∷ a) b =
+    ap (λ ns. number_parts first 1 m.id (parts_of m) ++ ns) (numbered_append (first + 1) a b ∙ ap (λ n. numbered_from (first + 1) a ++ numbered_from n b) (omega arith))
+    ∙ sym (append_assoc (number_parts first 1 m.id (parts_of m)) (numbered_from (first + 1) a) (numbered_from (first + length (m ∷ a)) b))
+
+pub fold_batch : (log batch : List Core) → fold_of (log ++ batch) ≡ record {
+  tables = (batch_folded (1 + length log) (fold_of log).tables batch).tables;
+  misfits = (fold_of log).misfits ++ (batch_folded (1 + length log) (fold_of log).tables batch).misfits;
+}
+fold_batch log batch =
+    ap (fold_on before_any) (numbered_append 1 log batch)
+    ∙ fold-append step before_any (numbered_from 1 log) (numbered_from (1 + length log) batch)
+    ∙ fold_on_is (fold_of log).tables (fold_of log).misfits (numbered_from (1 + length log) batch)
+    ∙ (λ i. record { tables = (sym alone i).tables; misfits = (fold_of log).misfits ++ (sym alone i).misfits })
+  where
+    alone : batch_folded (1 + length log) (fold_of log).tables batch ≡ record {
+      tables = tables_after (fold_of log).tables (numbered_from (1 + length log) batch);
+      misfits = all_noted (outcomes (fold_of log).tables (numbered_from (1 + length log) batch));
+    }
+    alone = fold_on_is (fold_of log).tables [] (numbered_from (1 + length log) batch)
