@@ -21,7 +21,7 @@ use Rattle.rubis_model.specs.Meaning.{user_at, nick_at, item_at, user_row, item_
 use Rattle.rubis_model.specs.Checks.{Fits}
 use Rattle.rubis_generate.specs.Lookup.{Rows, user_in, item_in, is_ended, as_item_row, as_user_row}
 use Rattle.rubis_generate.specs.Decision.{decision, holds, order_of, shadow_of, refused_or, of_item}
-use Rattle.rubis_model.proofs.Invariants.{Holds}
+use Rattle.rubis_model.specs.Invariants.{Holds}
 
 -- each of these refusals doesn't hold
 abbrev pub NoneHolds : (Refusal → Bool) → List Refusal → Type 0

@@ -15,8 +15,9 @@ use Rattle.rubis_model.specs.Meaning.{count, total, int_sum_by, choose, choice, 
 use Rattle.rubis_shadow.specs.Shadows.{is_red}
 use Rattle.rubis_model.specs.Checks.{Follows, Fits, IsLimited}
 use Rattle.rubis_schema.specs.KeyLaws.{Decides-same_id}
+use Rattle.rubis_model.specs.Invariants.{Unique}
 use Rattle.rubis_model.proofs.Pushes.{count_push, total_push, int_sum_push, choose_push, choice_not, at_id_push, at_id_push_not, none_at}
-use Rattle.rubis_model.proofs.Nicks.{nick_push_not, nick_push_user, Unique, unique_given, not_named}
+use Rattle.rubis_model.proofs.Nicks.{nick_push_not, nick_push_user, unique_given, not_named}
 
 pub record NoneOfUser (u : Id) (a : List Core) : Type 0 where
   pub items : count (lists_item_of u) a ≡ 0

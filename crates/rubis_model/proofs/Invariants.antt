@@ -18,12 +18,7 @@ use Rattle.rubis_model.proofs.Pushes.{total_push, choose_push, choice_not, at_id
 use Rattle.rubis_model.proofs.Sets.{Member, member_append}
 use Rattle.rubis_model.proofs.Choices.{earlier_ranks, choose_is, IsChoice}
 use Rattle.rubis_model.proofs.Good.{Good, good_push, good_none, if_some_map}
-use Rattle.rubis_model.proofs.Nicks.{Unique}
-
-pub record Holds (a : List Core) : Type 0 where
-  pub stock : (i : Id) → IfSome (item_at i a) (λ n. total (sold_of i) a ≤ supply a i n)
-  pub nicks : Unique (λ u. nick_at u a)
-  pub winner : (i : Id) → IfSome (close_of i a) (λ m. winner_of m.shadow ≡ option_map (λ (b : Core). b.id) (best_bid i a))
+use Rattle.rubis_model.specs.Invariants.{Holds}
 
 -- ---- winners
 still : (i : Id) (a : List Core) (m : Core) → bids_on i m.shadow ≡ false → closes i m.shadow ≡ false →

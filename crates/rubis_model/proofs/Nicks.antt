@@ -15,6 +15,7 @@ use Rattle.rubis_schema.specs.declared.rows.Row.TheVariants as row
 use Rattle.rubis_schema.specs.Keys.{same_id}
 use Rattle.rubis_model.specs.Meaning.{when, at_id, user_at, as_user, choice, choose, earlier, nick_at, is_nick, named}
 use Rattle.rubis_model.specs.Checks.{has_id}
+use Rattle.rubis_model.specs.Invariants.{Unique}
 use Rattle.rubis_schema.specs.KeyLaws.{Decides-same_id}
 use Rattle.rubis_model.proofs.Pushes.{choose_push, choice_not, or_none, at_id_push_not, at_id_push, none_at}
 use Rattle.rubis_model.proofs.Sets.{Member, found_member}
@@ -37,9 +38,6 @@ nick_push_user v a s k e = at_id_push (λ n. as_user n.shadow) v a (msg s (User 
     at false h = or_none (user_at v a)
 
 -- ---- current nicknames are unique
-
-abbrev pub Unique : (Id → Option (List ℕ)) → Type 0
-Unique o = (n : List ℕ) (u v : Id) → o u ≡ Some n → o v ≡ Some n → u ≡ v
 
 abbrev pub Free : List ℕ → (Id → Option (List ℕ)) → Type 0
 Free n o = (v : Id) → o v ≡ Some n → ⊥

@@ -4,6 +4,7 @@ pub mod Site
 pub mod Meaning
 pub mod Checks
 pub mod Shares
+pub mod Invariants
 pub mod Order
 pub mod References
 pub mod Winners
