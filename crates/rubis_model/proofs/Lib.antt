@@ -32,3 +32,4 @@ pub mod Runs
 pub mod AuditedOrder
 pub mod AuditedMeaning
 pub mod Audited
+pub mod Refusing
