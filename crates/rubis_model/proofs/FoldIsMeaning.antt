@@ -30,7 +30,7 @@ use Rattle.rubis_shadow.specs.Tables.{opening, categories_from, new_category}
 use Rattle.rubis_model.specs.Meaning.{when, at_id, user_at, item_at, nick_at, as_user, as_item, as_bid, as_purchase, as_comment, close_of, best_bid, sold_of, bids_on, supply, total, count, user_row, item_row, category_row, meaning_row, IsMeaning}
 use Rattle.rubis_model.specs.Checks.{Follows, has_id, CheckedFrom, Checked}
 use Rattle.rubis_schema.specs.KeyLaws.{key_total, tied-key_eq}
-use Rattle.rubis_model.proofs.Commute.{get-with_row, doing_else}
+use Rattle.rubis_model.proofs.Commute.{same_tables, get-with_row, doing_else}
 use Rattle.rubis_model.proofs.Pushes.{none_at}
 use Rattle.rubis_model.proofs.Good.{Good, good_push, good_none}
 use Rattle.rubis_model.proofs.RowsOfUser.{at_key, row_of_user}
@@ -282,3 +282,7 @@ pub fold_is_meaning : (log : List Core) → Checked log → length log ≤ 2 ^ 3
 fold_is_meaning log c h =
     let r = right_from [] log right_none c (omega arith) in
     (record { rows = r.rows }, r.clean)
+
+-- and the set has one meaning
+pub meaning_is_one : (a : List Core) (t u : Tables) → IsMeaning a t → IsMeaning a u → t ≡ u
+meaning_is_one a t u h k = same_tables t u (λ q. h.rows q ∙ sym (k.rows q))
