@@ -33,3 +33,5 @@ pub mod AuditedOrder
 pub mod AuditedMeaning
 pub mod Audited
 pub mod Refusing
+pub mod ByMeaning
+pub mod Examples
