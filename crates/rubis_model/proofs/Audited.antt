@@ -20,13 +20,14 @@ use Rattle.rubis_model.specs.Laws.{Sent}
 use Rattle.rubis_model.specs.Audit.{Logged, IsFormed, AllOrdered, AllFitting, AreFaultless, AreSound}
 use Rattle.rubis_model.proofs.FoldIsMeaning.{fold_is_meaning}
 use Rattle.rubis_model.proofs.Invariants.{checked_holds}
-use Rattle.rubis_model.proofs.RunsInOrder.{has_back, own, there, seen, unique, foundation}
-use Rattle.rubis_model.proofs.Cores.{back_push, cores_length, has_reverse}
+use Rattle.rubis_model.proofs.RunsInOrder.{own, there, seen, unique, foundation}
+use Rattle.rubis_model.proofs.Cores.{back_push, cores_length}
 use Rattle.rubis_model.proofs.LogsChecked.{new_here, count_reds, checked_end, number_is, follows, colour}
 use Rattle.rubis_model.proofs.Winners.{one_nick, one_close, winner_is}
 use Rattle.rubis_model.proofs.Runs.{refers, logged}
 use Rattle.rubis_model.proofs.AuditedOrder.{sound_order, sound_log, run_ordered}
 use Rattle.rubis_model.proofs.AuditedMeaning.{ground}
+use Rattle.rubis_model.proofs.Lists.{has_back, has_reverse}
 
 -- a message that meets the conditions of its type
 pub message_formed : (m : Message) → IsMessage m → IsFormed m

@@ -13,19 +13,11 @@ use Rattle.rubis_model.proofs.Sets.{Member, OneEach, member_left, member_right}
 use Rattle.rubis_model.proofs.EqualSets.{Apart, apart_push, no_apart}
 use Rattle.rubis_model.proofs.Cores.{cores_push}
 use Rattle.rubis_model.proofs.Winners.{Ground}
+use Rattle.rubis_model.proofs.Lists.{has_left, has_last}
 
 -- each red number so far is somebody's
 abbrev Numbered : List Message → Type 0
 Numbered a = (r : ℕ) → 1 ≤ r → r ≤ count is_red (cores a) → (m : Message) × (Has m a) × (is_red m.shadow ≡ true) × (m.stamp.red ≡ r)
-
-has_first : (m : Message) (a rest : List Message) → Has m a → Has m (a ++ rest)
-has_first m [] rest h = absurd h
-has_first m (x ∷ a) rest (inl e) = inl e
-has_first m (x ∷ a) rest (inr h) = inr (has_first m a rest h)
-
-has_end : (m : Message) (a : List Message) → Has m (a ++ m ∷ [])
-has_end m [] = inl refl
-has_end m (x ∷ a) = inr (has_end m a)
 
 numbered_push : (a : List Message) (m : Message) → Numbered a → Follows (cores a) (core m) → Numbered (a ++ m ∷ [])
 numbered_push a m n f r l h = go (is_red m.shadow) refl
@@ -34,12 +26,12 @@ numbered_push a m n f r l h = go (is_red m.shadow) refl
     more b e = ap (count is_red) (cores_push a m) ∙ count_push is_red (cores a) (core m) ∙ ap (λ b. count is_red (cores a) + cond b 1 0) e
 
     old : r ≤ count is_red (cores a) → (x : Message) × (Has x (a ++ m ∷ [])) × (is_red x.shadow ≡ true) × (x.stamp.red ≡ r)
-    old k = let g = n r l k in (g.0, has_first g.0 a (m ∷ []) g.1, g.2, g.3)
+    old k = let g = n r l k in (g.0, has_left g.0 a (m ∷ []) g.1, g.2, g.3)
 
     go : (t : Bool) → is_red m.shadow ≡ t → (x : Message) × (Has x (a ++ m ∷ [])) × (is_red x.shadow ≡ true) × (x.stamp.red ≡ r)
     go false e = old (let c = more false e in omega (arith, c, h))
     go true e = ⊎_elim
-        (λ k. (m, has_end m a, e, (let c = more true e in let d = f.next_red ∙ ap (λ b. cond b (count is_red (cores a) + 1) 0) e in omega (arith, c, d, h, k))))
+        (λ k. (m, has_last m a, e, (let c = more true e in let d = f.next_red ∙ ap (λ b. cond b (count is_red (cores a) + 1) 0) e in omega (arith, c, d, h, k))))
         (λ k. old k) (cases_lt (count is_red (cores a)) r)
 
 -- what stands before a message of a log
@@ -48,7 +40,7 @@ Place a v = (p : List Message) × ((u : Message) → Has u p → Has u a) × (Nu
 
 place : (before rest : List Message) (v : Message) → Numbered before → Apart (cores before) → CheckedFrom (cores before) (cores rest) → Has v rest → Place (before ++ rest) v
 place before [] v n u c h = absurd h
-place before (x ∷ rest) v n u c (inl e) = (before, (λ y k. has_first y before (x ∷ rest) k), n, u, subst (λ (y : Message). Follows (cores before) (core y)) (sym e) c.0)
+place before (x ∷ rest) v n u c (inl e) = (before, (λ y k. has_left y before (x ∷ rest) k), n, u, subst (λ (y : Message). Follows (cores before) (core y)) (sym e) c.0)
 place before (x ∷ rest) v n u c (inr h) =
     let on = sym (cores_push before x) in
     subst (λ l. Place l v) (append_assoc before (x ∷ []) rest)

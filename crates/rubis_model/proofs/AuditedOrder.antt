@@ -4,7 +4,6 @@ use Rattle.std.specs.Prelude.{reverse, ◌-◌}
 use Rattle.std.proofs.lemmas.Bool.{cases_eq, cases_order}
 use Rattle.std.proofs.lemmas.List.{reverse-reverse}
 use Rattle.rubis_message.specs.Message.{Message, dep}
-use Rattle.rubis_model.proofs.Cores.{has_reverse}
 use Rattle.rubis_model.specs.Order.{IsRedBlueOrder, Serializes, StandsBefore, Precedes, Released, StandsBefore}
 use Rattle.rubis_model.specs.Settle.{counted, reds, Has}
 use Rattle.rubis_model.specs.Sound.{CountedBy, Sound}
@@ -12,7 +11,8 @@ use Rattle.rubis_model.specs.System.{World, site}
 use Rattle.rubis_model.specs.Laws.{Sent}
 use Rattle.rubis_model.specs.Audit.{IsOrdered, AllOrdered, Logged, AreFaultless}
 use Rattle.rubis_model.proofs.Pasts.{seq_within, found, found_red, red_within, made_at, dep_within}
-use Rattle.rubis_model.proofs.RunsInOrder.{Behind, has_back, before_from, behind_from, unique, own, there, causal_back, distinct_back}
+use Rattle.rubis_model.proofs.RunsInOrder.{Behind, before_from, behind_from, unique, own, there, causal_back, distinct_back}
+use Rattle.rubis_model.proofs.Lists.{has_back, has_reverse}
 
 -- ---- what the checks are
 checked_released : (i : ℕ) (past : List Message) → AllOrdered i past → Released past

@@ -7,7 +7,7 @@ use Rattle.rubis_model.specs.Log.{Core, core, cores}
 use Rattle.rubis_model.specs.Settle.{Has}
 use Rattle.rubis_model.specs.Checks.{SameSet}
 use Rattle.rubis_model.proofs.Sets.{Member, member_of, contains_of}
-use Rattle.rubis_model.proofs.Settling.{push_cases}
+use Rattle.rubis_model.proofs.Lists.{contained, contains}
 
 pub cores_push : (a : List Message) (m : Message) → cores (a ++ m ∷ []) ≡ cores a ++ core m ∷ []
 cores_push [] m = refl
@@ -32,26 +32,7 @@ core_of c [] h = absurd h
 core_of c (x ∷ a) (inl e) = (x, inl refl, e)
 core_of c (x ∷ a) (inr h) = let w = core_of c a h in (w.0, inr w.1, w.2)
 
-pub has_reverse : {A : Type 0} (x : A) (xs : List A) → Has x (reverse xs) → Has x xs
-has_reverse x [] h = h
-has_reverse x (y ∷ xs) h = ⊎_elim (λ k. inr (has_reverse x xs k)) (λ e. inl e) (push_cases x y (reverse xs) (subst (Has x) (reverse-append (y ∷ []) xs) h))
-
 -- ---- equal sets of messages have equal sets of cores
-pub contained : {A : Type 0} (xs : List A) (x : A) → Contains xs x → Has x xs
-contained {A} xs x c = at xs c.0 c.1 c.2
-  where
-    at : (xs : List A) (k : ℕ) → k < length xs → get_or xs k x ≡ x → Has x xs
-    at [] k h e = absurd (omega (arith, h))
-    at (y ∷ xs) zero h e = inl (sym e)
-    at (y ∷ xs) (suc k) h e = inr (at xs k (omega (arith, h)) e)
-
-pub contains : {A : Type 0} (xs : List A) (x : A) → Has x xs → Contains xs x
-contains [] x h = absurd h
-contains (y ∷ xs) x (inl e) = (0, omega arith, sym e)
-contains (y ∷ xs) x (inr h) =
-    let c = contains xs x h in
-    (suc c.0, (let l = c.1 in omega (arith, l)), c.2)
-
 same_half : (a b : List Message) → SameSet a b → (c : Core) → Member (cores a) c → Member (cores b) c
 same_half a b s c h =
     let w = core_of c a h in

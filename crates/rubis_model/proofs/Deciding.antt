@@ -33,10 +33,11 @@ use Rattle.rubis_model.proofs.Invariants.{checked_holds}
 use Rattle.rubis_model.proofs.Decisions.{NoneHolds, not_refused, decided_fits}
 use Rattle.rubis_model.proofs.Pasts.{seq_within}
 use Rattle.rubis_model.proofs.Settling.{counted_reverse}
-use Rattle.rubis_model.proofs.RunsInOrder.{foundation, has_back}
+use Rattle.rubis_model.proofs.RunsInOrder.{foundation}
 use Rattle.rubis_model.proofs.Fitting.{found_at}
 use Rattle.rubis_model.proofs.Cores.{core_of, cores_length}
 use Rattle.rubis_model.proofs.LogsChecked.{log_checked}
+use Rattle.rubis_model.proofs.Lists.{has_back}
 
 -- ---- what an answer that isn't a refusal says
 pub allowed : (t : Rows) (s : Standing) (ask : Ask) (x : Shadow) → decision t s ask ≡ Ok x → NoneHolds (holds t s ask) (order_of ask) × (shadow_of t ask ≡ x)

@@ -77,11 +77,11 @@ arrives_again = refl
 -- of those that are ready, the one that came first is released first, and after each release it is looked for anew
 earliest_first : List (Result Arrival Refusal) × Replica
 earliest_first = taking_in (record { site = 2; sites = 3; keep = 1000000 }) (opening_at 2) (
-  message 1 2 0 (1 ∷ 1 ∷ 0 ∷ []) (shadow.Item (item_of (codes "jug")))
-  ∷ message 1 1 0 (1 ∷ 0 ∷ 0 ∷ []) (shadow.Item (item_of (codes "pot")))
-  ∷ message 0 2 0 (1 ∷ 0 ∷ 0 ∷ []) (shadow.Item (item_of (codes "cup")))
-  ∷ ann_of (0 ∷ 0 ∷ 0 ∷ []) ∷ []
-)
+    message 1 2 0 (1 ∷ 1 ∷ 0 ∷ []) (shadow.Item (item_of (codes "jug")))
+    ∷ message 1 1 0 (1 ∷ 0 ∷ 0 ∷ []) (shadow.Item (item_of (codes "pot")))
+    ∷ message 0 2 0 (1 ∷ 0 ∷ 0 ∷ []) (shadow.Item (item_of (codes "cup")))
+    ∷ ann_of (0 ∷ 0 ∷ 0 ∷ []) ∷ []
+    )
 
 earliest_first_answers : earliest_first.0 ≡ Ok Held ∷ Ok Held ∷ Ok Held ∷ Ok (Released 4) ∷ []
 unfolding earliest_first
@@ -148,9 +148,19 @@ second = omega arith
 
 bids_are_events : AreEvents 2 bid_after_close
 unfolding bid_after_close
-bids_are_events =
-    ((first, tt), ((first, tt), ((first, item_in_limits (codes "lamp")), ((first, (small_id (id 0 3) refl, small_id (id 0 1) refl)),
-    (first, (second, (second, (second, (second, ((second, bid_in_limits), (second, ((second, bid_in_limits), tt))))))))))))
+bids_are_events = (
+  (first, tt),
+  (
+    (first, tt),
+    (
+      (first, item_in_limits (codes "lamp")),
+      (
+        (first, (small_id (id 0 3) refl, small_id (id 0 1) refl)),
+        (first, (second, (second, (second, (second, ((second, bid_in_limits), (second, ((second, bid_in_limits), tt)))))))),
+      ),
+    ),
+  ),
+)
 
 bid_answers : answers 1000000 bid_after_close (start 2) ≡
     Asked (Ok (ann_of (0 ∷ 0 ∷ [])))
@@ -181,9 +191,25 @@ comment_in_limits rating text l = record { item = small_id (id 0 3) refl; from =
 
 comments_are_events : AreEvents 2 comments_cross
 unfolding comments_cross
-comments_are_events =
-    ((first, tt), ((first, tt), ((first, item_in_limits (codes "lamp")), (second, (second, (second,
-    ((first, comment_in_limits (pos 5) (codes "good") (omega arith)), ((second, comment_in_limits (negsuc 1) (codes "late") (omega arith)), (first, (second, tt))))))))))
+comments_are_events = (
+  (first, tt),
+  (
+    (first, tt),
+    (
+      (first, item_in_limits (codes "lamp")),
+      (
+        second,
+        (
+          second,
+          (
+            second,
+            ((first, comment_in_limits (pos 5) (codes "good") (omega arith)), ((second, comment_in_limits (negsuc 1) (codes "late") (omega arith)), (first, (second, tt)))),
+          ),
+        ),
+      ),
+    ),
+  ),
+)
 
 -- what the sites hold of a key, by meaning
 rows_of_two : RowKey → World → Option Row × Option Row

@@ -18,6 +18,7 @@ use Rattle.rubis_model.specs.Log.{Core, noted, number_parts, numbered_from, part
 use Rattle.rubis_model.specs.Settle.{Has}
 use Rattle.rubis_model.specs.Shares.{part_of, batch_folded, share_folded, IsBefore, InPlace}
 use Rattle.rubis_model.proofs.Shares.{outcomes, all_noted, fold_on_is, share_outcomes}
+use Rattle.rubis_model.proofs.Lists.{has_left, has_right, has_append}
 
 -- ---- lists in a strict order
 module _ {X : Type 0} (Before : X → X → Type 0) (apart : (x y : X) → Before x y → Before y x → ⊥) where
@@ -48,20 +49,6 @@ module _ {X : Type 0} (Before : X → X → Type 0) (apart : (x y : X) → Befor
 
 -- ---- a misfit of the whole is one of its part's home, and the other way round
 
-has_append : {X : Type 0} (xs ys : List X) (z : X) → Has z (xs ++ ys) → Has z xs ⊎ Has z ys
-has_append [] ys z m = inr m
-has_append (x ∷ xs) ys z (inl e) = inl (inl e)
-has_append (x ∷ xs) ys z (inr m) = elim (has_append xs ys z m) [ inl l ↦ inl (inr l) | inr r ↦ inr r ]
-
-has_first : {X : Type 0} (xs ys : List X) (z : X) → Has z xs → Has z (xs ++ ys)
-has_first [] ys z m = absurd m
-has_first (x ∷ xs) ys z (inl e) = inl e
-has_first (x ∷ xs) ys z (inr m) = inr (has_first xs ys z m)
-
-has_second : {X : Type 0} (xs ys : List X) (z : X) → Has z ys → Has z (xs ++ ys)
-has_second [] ys z m = m
-has_second (x ∷ xs) ys z m = inr (has_second xs ys z m)
-
 abbrev home_of : ℕ → Numbered × Option MisfitKind → ℕ
 home_of shards o = home shards o.0.effect.key
 
@@ -80,26 +67,26 @@ noted_part shards k [] z m = m
 noted_part shards k (o ∷ os) z m = at (nat_eq (home_of shards o) k) m (noted_part shards k os z)
   where
     at : (b : Bool) → Has z (all_noted (cond b (o ∷ filter (λ o. nat_eq (home_of shards o) k) os) (filter (λ o. nat_eq (home_of shards o) k) os))) → (Has z (all_noted (filter (λ o. nat_eq (home_of shards o) k) os)) → Has z (all_noted os)) → Has z (noted o.0 o.1 ++ all_noted os)
-    at true m ih = ⊎_elim (λ l. has_first (noted o.0 o.1) (all_noted os) z l) (λ r. has_second (noted o.0 o.1) (all_noted os) z (ih r)) (has_append (noted o.0 o.1) (all_noted (filter (λ o. nat_eq (home_of shards o) k) os)) z m)
-    at false m ih = has_second (noted o.0 o.1) (all_noted os) z (ih m)
+    at true m ih = ⊎_elim (λ l. has_left z (noted o.0 o.1) (all_noted os) l) (λ r. has_right z (noted o.0 o.1) (all_noted os) (ih r)) (has_append z (noted o.0 o.1) (all_noted (filter (λ o. nat_eq (home_of shards o) k) os)) m)
+    at false m ih = has_right z (noted o.0 o.1) (all_noted os) (ih m)
 
 more_noted : (shards k : ℕ) (o : Numbered × Option MisfitKind) (os : List (Numbered × Option MisfitKind)) (z : Misfit) → Has z (all_noted (filter (λ o. nat_eq (home_of shards o) k) os)) → Has z (all_noted (filter (λ o. nat_eq (home_of shards o) k) (o ∷ os)))
 more_noted shards k o os z m = at (nat_eq (home_of shards o) k)
   where
     at : (b : Bool) → Has z (all_noted (cond b (o ∷ filter (λ o. nat_eq (home_of shards o) k) os) (filter (λ o. nat_eq (home_of shards o) k) os)))
-    at true = has_second (noted o.0 o.1) _ z m
+    at true = has_right z (noted o.0 o.1) _ m
     at false = m
 
 noted_home : (shards : ℕ) → 0 < shards → (os : List (Numbered × Option MisfitKind)) (z : Misfit) → Has z (all_noted os) → (k : ℕ) × (k < shards) × Has z (all_noted (filter (λ o. nat_eq (home_of shards o) k) os))
 noted_home shards some [] z m = absurd m
-noted_home shards some (o ∷ os) z m = ⊎_elim here (λ r. let w = noted_home shards some os z r in (w.0, w.1, more_noted shards w.0 o os z w.2)) (has_append (noted o.0 o.1) (all_noted os) z m)
+noted_home shards some (o ∷ os) z m = ⊎_elim here (λ r. let w = noted_home shards some os z r in (w.0, w.1, more_noted shards w.0 o os z w.2)) (has_append z (noted o.0 o.1) (all_noted os) m)
   where
     here : Has z (noted o.0 o.1) → (k : ℕ) × (k < shards) × Has z (all_noted (filter (λ o. nat_eq (home_of shards o) k) (o ∷ os)))
     here l = (
       home_of shards o,
       home_within shards o.0.effect.key some,
       subst (λ b. Has z (all_noted (cond b (o ∷ filter (λ p. nat_eq (home_of shards p) (home_of shards o)) os) (filter (λ p. nat_eq (home_of shards p) (home_of shards o)) os))))
-          (sym ((Decides-eqb _ _).1 refl)) (has_first (noted o.0 o.1) _ z l),
+          (sym ((Decides-eqb _ _).1 refl)) (has_left z (noted o.0 o.1) _ l),
     )
 
 -- ---- the places of a batch's parts rise
@@ -128,7 +115,7 @@ later_place first [] y h = absurd h
 later_place first (m ∷ ms) y h = ⊎_elim
     (λ k. let e = (part_place first 1 m.id (parts_of m) y k).0 in omega (arith, e))
     (λ k. let l = later_place (first + 1) ms y k in omega (arith, l))
-    (has_append (number_parts first 1 m.id (parts_of m)) (numbered_from (first + 1) ms) y h)
+    (has_append y (number_parts first 1 m.id (parts_of m)) (numbered_from (first + 1) ms) h)
 
 parts_rise : (entry part : ℕ) (id : Id) (es : List Effect) (rest : List Numbered) → ((y : Numbered) → Has y rest → entry + 1 ≤ y.entry) → PartsInPlace rest → PartsInPlace (number_parts entry part id es ++ rest)
 parts_rise entry part id [] rest l r = r
@@ -136,7 +123,7 @@ parts_rise entry part id (e ∷ es) rest l r = (
   (λ y h. ⊎_elim
       (λ k. let w = part_place entry (part + 1) id es y k in inr (sym w.0, (let l = w.1 in omega (arith, l))))
       (λ k. inl (let q = l y k in omega (arith, q)))
-      (has_append (number_parts entry (part + 1) id es) rest y h)),
+      (has_append y (number_parts entry (part + 1) id es) rest h)),
   parts_rise entry (part + 1) id es rest l r,
 )
 
@@ -147,7 +134,7 @@ numbered_rise first (m ∷ ms) = parts_rise first 1 m.id (parts_of m) (numbered_
 -- whose misfit it is
 noted_of : (t : Tables) (ns : List Numbered) (z : Misfit) → Has z (all_noted (outcomes t ns)) → (n : Numbered) × (Has n ns) × (z.entry ≡ n.entry) × (z.part ≡ n.part)
 noted_of t [] z h = absurd h
-noted_of t (n ∷ ns) z h = ⊎_elim (here (misfit_of t n.effect)) (λ k. let w = noted_of (after t n.effect) ns z k in (w.0, inr w.1, w.2, w.3)) (has_append (noted n (misfit_of t n.effect)) (all_noted (outcomes (after t n.effect) ns)) z h)
+noted_of t (n ∷ ns) z h = ⊎_elim (here (misfit_of t n.effect)) (λ k. let w = noted_of (after t n.effect) ns z k in (w.0, inr w.1, w.2, w.3)) (has_append z (noted n (misfit_of t n.effect)) (all_noted (outcomes (after t n.effect) ns)) h)
   where
     here : (o : Option MisfitKind) → Has z (noted n o) → (n' : Numbered) × (Has n' (n ∷ ns)) × (z.entry ≡ n'.entry) × (z.part ≡ n'.part)
     here None m = absurd m

@@ -29,11 +29,11 @@ use Rattle.rubis_model.specs.System.{Packet, World, Event, IsEvent, AreEvents, s
 use Rattle.rubis_model.specs.System.Packet.{Mail, Right}
 use Rattle.rubis_model.specs.System.Event.{Request, Pass, Deliver}
 use Rattle.rubis_model.specs.Sound.{Good, Home, Reds, OneToken, Sound}
-use Rattle.rubis_model.proofs.Settling.{has_left, push_cases, good_settle, settle_grows, reverse_push}
+use Rattle.rubis_model.proofs.Settling.{good_settle, settle_grows, reverse_push}
 use Rattle.rubis_model.proofs.Making.{set_at, good_more, good_make, IsMade, is_made, reds_blue, reds_red, reds_token, shadow_cases, not_shadow, not_right, red_count_blue, turns_shadow}
 use Rattle.rubis_model.proofs.Tokens.{held_is, token_same, token_red, token_passed, token_taken}
-use Rattle.rubis_model.proofs.Cores.{has_reverse}
 use Rattle.rubis_model.proofs.Deciding.{decided, red_allowed}
+use Rattle.rubis_model.proofs.Lists.{has_left, push_cases, has_reverse}
 
 -- ---- a site that comes to the state it has
 pub same_sites : (w : World) (i : ℕ) → slice_set w.sites i (site w i) ≡ w.sites

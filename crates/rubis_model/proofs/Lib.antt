@@ -1,3 +1,4 @@
+pub mod Lists
 pub mod Commute
 pub mod Shares
 pub mod InPlace

@@ -20,9 +20,10 @@ use Rattle.rubis_model.proofs.Pushes.{count_push}
 use Rattle.rubis_model.proofs.Sets.{Member, OneEach, found_member}
 use Rattle.rubis_model.proofs.EqualSets.{OneRed, one_each_push}
 use Rattle.rubis_model.proofs.Pasts.{red_within, clash}
-use Rattle.rubis_model.proofs.RunsInOrder.{foundation, seen, there, has_back}
+use Rattle.rubis_model.proofs.RunsInOrder.{foundation, seen, there}
 use Rattle.rubis_model.proofs.Fitting.{fits_on}
-use Rattle.rubis_model.proofs.Cores.{back_push, has_core, core_of, has_reverse}
+use Rattle.rubis_model.proofs.Cores.{back_push, has_core, core_of}
+use Rattle.rubis_model.proofs.Lists.{has_back, has_reverse}
 
 -- ---- a past's cores, oldest first
 pub of_back : (c : Core) (past : List Message) → Member (cores (reverse past)) c → (m : Message) × (Has m past) × (core m ≡ c)

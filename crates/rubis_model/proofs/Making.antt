@@ -16,7 +16,8 @@ use Rattle.rubis_model.specs.System.{Packet}
 use Rattle.rubis_model.specs.Site.{Place, Replica, made, red_for}
 use Rattle.rubis_model.specs.System.Packet.{Mail, Right}
 use Rattle.rubis_model.proofs.Pasts.{counted_no, seq_within, found_red}
-use Rattle.rubis_model.proofs.Settling.{has_left, has_last, push_cases, counted_reverse, reds_reverse, reverse_push}
+use Rattle.rubis_model.proofs.Settling.{counted_reverse, reds_reverse, reverse_push}
+use Rattle.rubis_model.proofs.Lists.{has_left, has_last, push_cases}
 
 -- ---- one site of many is changed
 pub set_at : (P : ℕ → Replica → Type 0) (sites : List Replica) (i : ℕ) (x d : Replica) → i < length sites → P i x → ((j : ℕ) → (j ≡ i → ⊥) → P j (get_or sites j d)) → (j : ℕ) → P j (get_or (set sites i x) j d)

@@ -14,13 +14,14 @@ use Rattle.rubis_model.specs.Laws.{Sent, InRun, RunsAreInOrder, RunsKeepInvarian
 use Rattle.rubis_model.proofs.FoldIsMeaning.{fold_is_meaning}
 use Rattle.rubis_model.proofs.EqualSets.{equal_sets_equal_tables}
 use Rattle.rubis_model.proofs.Invariants.{checked_holds}
-use Rattle.rubis_model.proofs.RunsInOrder.{in_order, foundation, has_back}
-use Rattle.rubis_model.proofs.Cores.{cores_length, has_reverse, same_cores}
+use Rattle.rubis_model.proofs.RunsInOrder.{in_order, foundation}
+use Rattle.rubis_model.proofs.Cores.{cores_length, same_cores}
 use Rattle.rubis_model.proofs.LogsChecked.{log_checked, red_positive, one_each_back}
 use Rattle.rubis_model.proofs.Keeps.{run_keeps, start_sound, start_sites}
 use Rattle.rubis_model.proofs.Room.{room_run, room_start}
-use Rattle.rubis_model.proofs.Winners.{Ground, one_nick, one_close, winner_is, row_winner}
+use Rattle.rubis_model.proofs.Winners.{Ground, one_nick, one_close, winner_is, row_winner, stock_left}
 use Rattle.rubis_model.proofs.Referring.{refers_of}
+use Rattle.rubis_model.proofs.Lists.{has_back, has_reverse}
 
 pub short : (keep : ℕ) (w : World) (i : ℕ) → keep ≤ 1000000 → Room keep w → length (cores (site w i).log) ≤ 2 ^ 32
 short keep w i few r = let l = r i in let c = cores_length (site w i).log in omega (arith, l, c, few)
@@ -52,6 +53,8 @@ in_run keep w few room s = record {
   clean = λ i. (fold_is_meaning (cores (site w i).log) (log_checked w i s) (short keep w i few room)).1;
   refers = refers w s;
   sold = λ i. (checked_holds (cores (site w i).log) (log_checked w i s)).stock;
+  stock = λ i j n r e f. stock_left (cores (site w i).log) j n r (checked_holds (cores (site w i).log) (log_checked w i s)) e
+      (sym ((fold_is_meaning (cores (site w i).log) (log_checked w i s) (short keep w i few room)).0.rows (key.Item j)) ∙ f);
   nicks = one_nick (Sent w) (ground w s) (single w s);
   closed_once = one_close (Sent w) (ground w s) (single w s);
   winner = winner_is (Sent w) (ground w s) (single w s);

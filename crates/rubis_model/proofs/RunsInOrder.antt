@@ -15,17 +15,13 @@ use Rattle.rubis_model.specs.System.{World, site, place}
 use Rattle.rubis_model.specs.Site.{Replica, not_ours, is_repeat, is_full, arrived, arrival_of, after_came}
 use Rattle.rubis_model.specs.Laws.{Sent, InOrder}
 use Rattle.rubis_model.proofs.Pasts.{seq_within, found, once, made_at, dep_within, clash}
-use Rattle.rubis_model.proofs.Settling.{has_left, has_last, counted_reverse}
+use Rattle.rubis_model.proofs.Settling.{counted_reverse}
+use Rattle.rubis_model.proofs.Lists.{has_left, has_last, has_back}
 
 -- ---- a log and the same, newest first
 unfoldable pub Behind : Message → Message → List Message → Type 0
 Behind u v [] = ⊥
 Behind u v (x ∷ past) = ((v ≡ x) × Has u past) ⊎ Behind u v past
-
-pub has_back : (x : Message) (xs : List Message) → Has x xs → Has x (reverse xs)
-has_back x [] h = h
-has_back x (y ∷ xs) (inl e) = subst (Has x) (sym (reverse-append (y ∷ []) xs)) (subst (λ q. Has q (reverse xs ++ y ∷ [])) (sym e) (has_last y (reverse xs)))
-has_back x (y ∷ xs) (inr h) = subst (Has x) (sym (reverse-append (y ∷ []) xs)) (has_left x (reverse xs) (y ∷ []) (has_back x xs h))
 
 before_push : (u v x : Message) (xs : List Message) → StandsBefore u v xs → StandsBefore u v (xs ++ x ∷ [])
 before_push u v x [] h = absurd h

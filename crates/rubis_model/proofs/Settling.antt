@@ -13,22 +13,6 @@ use Rattle.rubis_model.specs.Sound.{DecidedBy, CountedBy, Good}
 use Rattle.rubis_model.specs.System.{Packet}
 use Rattle.rubis_model.specs.System.Packet.{Mail}
 
--- ---- membership
-pub has_left : {A : Type 0} (x : A) (xs ys : List A) → Has x xs → Has x (xs ++ ys)
-has_left x [] ys h = absurd h
-has_left x (y ∷ xs) ys (inl e) = inl e
-has_left x (y ∷ xs) ys (inr h) = inr (has_left x xs ys h)
-
-pub has_last : {A : Type 0} (x : A) (xs : List A) → Has x (xs ++ x ∷ [])
-has_last x [] = inl refl
-has_last x (y ∷ xs) = inr (has_last x xs)
-
-pub push_cases : {A : Type 0} (x y : A) (xs : List A) → Has x (xs ++ y ∷ []) → Has x xs ⊎ (x ≡ y)
-push_cases x y [] (inl e) = inr e
-push_cases x y [] (inr h) = absurd h
-push_cases x y (z ∷ xs) (inl e) = inl (inl e)
-push_cases x y (z ∷ xs) (inr h) = ⊎_elim (λ k. inl (inr k)) (λ e. inr e) (push_cases x y xs h)
-
 -- ---- counts and the order of the list
 pub counted_push : (j : ℕ) (xs : List Message) (m : Message) → counted j (xs ++ m ∷ []) ≡ counted j (m ∷ xs)
 counted_push j [] m = refl

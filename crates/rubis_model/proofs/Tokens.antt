@@ -8,8 +8,8 @@ use Rattle.rubis_message.specs.declared.tokens.Token.{Token}
 use Rattle.rubis_model.specs.System.{Packet}
 use Rattle.rubis_model.specs.Sound.{red_count, turns, Stands, Travels, OneToken}
 use Rattle.rubis_model.specs.System.Packet.{Mail, Right}
-use Rattle.rubis_model.proofs.Settling.{has_last}
 use Rattle.rubis_model.proofs.Making.{not_right, right_cases, red_count_right, turns_right, turns_shadow, red_count_red}
+use Rattle.rubis_model.proofs.Lists.{has_last}
 
 -- only where the token stands is it held, and it says how many red ones were sent
 pub held_is : (n : ℕ) (held : ℕ → Option ℕ) (last : ℕ → ℕ) (sent : List Packet) (i issued : ℕ) → OneToken n held last sent → held i ≡ Some issued → Stands n held last sent i × (issued ≡ red_count sent)

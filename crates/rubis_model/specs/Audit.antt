@@ -9,7 +9,7 @@ use Rattle.rubis_model.specs.Checks.{Fits, IsLimited}
 use Rattle.rubis_model.specs.Settle.{Has, Ready, counted}
 use Rattle.rubis_model.specs.Order.{Precedes, IsRedBlueOrder, Serializes}
 use Rattle.rubis_model.specs.References.{RefersOf}
-use Rattle.rubis_model.specs.Winners.{IsWinner}
+use Rattle.rubis_model.specs.Bids.{IsHighestBid}
 
 -- the message stands in one of the logs
 abbrev pub Logged : (ℕ → List Message) → Message → Type 0
@@ -61,4 +61,4 @@ pub record AreSound (sites : ℕ → ℕ) (log : ℕ → List Message) : Type 0 
   pub sold : (k : ℕ) (item : Id) → IfSome (item_at item (cores (log k))) (λ n. total (sold_of item) (cores (log k)) ≤ n.stock)
   pub nicks : (nick : List ℕ) (u v : Message) → Logged log u → Logged log v → as_user u.shadow ≡ Some nick → as_user v.shadow ≡ Some nick → u ≡ v
   pub closed_once : (item : Id) (u v : Message) → Logged log u → Logged log v → closes item u.shadow ≡ true → closes item v.shadow ≡ true → u ≡ v
-  pub winner : (item : Id) (c : Message) → Logged log c → closes item c.shadow ≡ true → IsWinner (Logged log) item (winner_of c.shadow)
+  pub winner : (item : Id) (c : Message) → Logged log c → closes item c.shadow ≡ true → IsHighestBid (Logged log) item (winner_of c.shadow)

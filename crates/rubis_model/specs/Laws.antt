@@ -7,6 +7,11 @@ use Rattle.rubis_schema.specs.declared.row_keys.RowKey.{RowKey}
 use Rattle.rubis_shadow.specs.Changes.{after, misfit_of}
 use Rattle.rubis_shadow.specs.declared.asks.Ask.{Ask}
 use Rattle.rubis_shadow.specs.declared.changes.Effect.{Effect}
+use Rattle.rubis_shadow.specs.declared.shadows.NewItem.{NewItem}
+use Rattle.rubis_shadow.specs.declared.shadows.Shadow.{Shadow}
+use Rattle.rubis_generate.specs.Decision.{decision}
+use Rattle.rubis_generate.specs.Lookup.{rows_of}
+use Rattle.rubis_generate.specs.declared.standing.Standing.{Standing}
 use Rattle.rubis_shadow.specs.declared.numbered.Misfit.{Misfit}
 use Rattle.rubis_message.specs.declared.answers.Arrival.TheVariants as arrival
 use Rattle.rubis_message.specs.declared.answers.Taken.TheVariants as taken
@@ -23,12 +28,12 @@ use Rattle.rubis_model.specs.Settle.{Has, Settles, settle}
 use Rattle.rubis_model.specs.Site.{asked, arrived, took, passed, rows_at}
 use Rattle.rubis_model.specs.Log.{Core, cores, fold_of}
 use Rattle.rubis_model.specs.Meaning.{IsMeaning, item_at, total, sold_of, as_user, closes, winner_of}
-use Rattle.rubis_model.specs.Checks.{Checked, SameSet}
+use Rattle.rubis_model.specs.Checks.{Fits, Checked, SameSet}
 use Rattle.rubis_model.specs.Invariants.{Holds}
 use Rattle.rubis_model.specs.Shares.{part_of, batch_folded, share_folded, InPlace}
 use Rattle.rubis_model.specs.Audit.{AreFaultless, AreSound}
 use Rattle.rubis_model.specs.References.{RefersOf}
-use Rattle.rubis_model.specs.Winners.{IsWinner}
+use Rattle.rubis_model.specs.Bids.{IsHighestBid}
 use Rattle.rubis_model.specs.Order.{Precedes, IsRedBlueOrder, Serializes, Foundation}
 use Rattle.rubis_model.specs.System.{World, Event, AreEvents, site, place, happens, run, start}
 use Rattle.rubis_model.specs.System.Packet.{Mail, Right}
@@ -53,6 +58,11 @@ FoldIsMeaning = (log : List Core) → Checked log → length log ≤ 2 ^ 32 → 
 -- the invariants hold in a log that passes the checks
 abbrev pub CheckedLogsHold : Type 0
 CheckedLogsHold = (log : List Core) → Checked log → Holds log
+
+-- the shadow of an ask that isn't refused at the tables of such a log fits after it
+abbrev pub DecidedShadowsFit : Type 0
+DecidedShadowsFit = (log : List Core) (standing : Standing) (ask : Ask) (x : Shadow) → Checked log → length log ≤ 2 ^ 32
+    → decision (rows_of (fold_of log).tables) standing ask ≡ Ok x → Fits log x
 
 -- logs that pass the checks and have equal sets fold to equal tables
 abbrev pub EqualSetsEqualTables : Type 0
@@ -120,14 +130,15 @@ pub record InRun (w : World) : Type 0 where
   pub clean : (i : ℕ) → (fold_of (cores (site w i).log)).misfits ≡ []
   -- each refers to messages of the right kind that precede it
   pub refers : (v : Message) → Sent w v → RefersOf (Sent w) v v.shadow
-  -- no more of an item is sold than its opening stock
+  -- no more of an item is sold than its opening stock, and the rest is what the tables show
   pub sold : (i : ℕ) (item : Id) → IfSome (item_at item (cores (site w i).log)) (λ n. total (sold_of item) (cores (site w i).log) ≤ n.stock)
+  pub stock : (i : ℕ) (item : Id) (n : NewItem) (r : ItemRow) → item_at item (cores (site w i).log) ≡ Some n → rows_at (site w i).log (key.Item item) ≡ Some (row.Item r) → r.stock + r.sold ≡ n.stock
   -- over all sites: a nickname has one user, and an item is closed once
   pub nicks : (nick : List ℕ) (u v : Message) → Sent w u → Sent w v → as_user u.shadow ≡ Some nick → as_user v.shadow ≡ Some nick → u ≡ v
   pub closed_once : (item : Id) (u v : Message) → Sent w u → Sent w v → closes item u.shadow ≡ true → closes item v.shadow ≡ true → u ≡ v
   -- the winner is the highest of all bids accepted anywhere; as the close says it, and as the tables of each site show it
-  pub winner : (item : Id) (c : Message) → Sent w c → closes item c.shadow ≡ true → IsWinner (Sent w) item (winner_of c.shadow)
-  pub ended : (i : ℕ) (item : Id) (r : ItemRow) (winner : Option Id) → rows_at (site w i).log (key.Item item) ≡ Some (row.Item r) → r.sale ≡ Ended winner → IsWinner (Sent w) item winner
+  pub winner : (item : Id) (c : Message) → Sent w c → closes item c.shadow ≡ true → IsHighestBid (Sent w) item (winner_of c.shadow)
+  pub ended : (i : ℕ) (item : Id) (r : ItemRow) (winner : Option Id) → rows_at (site w i).log (key.Item item) ≡ Some (row.Item r) → r.sale ≡ Ended winner → IsHighestBid (Sent w) item winner
 
 -- what any events at n sites lead to, where each site keeps at most so many messages
 abbrev pub EveryRun : (World → Type 0) → Type 0

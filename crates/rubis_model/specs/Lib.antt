@@ -7,7 +7,7 @@ pub mod Shares
 pub mod Invariants
 pub mod Order
 pub mod References
-pub mod Winners
+pub mod Bids
 pub mod Audit
 pub mod System
 pub mod Sound

@@ -1,5 +1,5 @@
 // The laws, each with its statement in specs/Laws.
-ghost use Rattle.rubis_model.specs.Laws.{PartsCommute, MeaningIsOne, FoldIsMeaning, CheckedLogsHold, EqualSetsEqualTables, FoldsBatchByBatch, RowsAreAtHome, SharesFoldToTheWhole, MisfitsFallInPlace, SettlingHasOneOutcome, RunsAreInOrder, RunsKeepInvariants, RunsAgreeOnTables, RefusalsChangeNothing, FaultlessLogsAreSound, RunsAreFaultless};
+ghost use Rattle.rubis_model.specs.Laws.{PartsCommute, MeaningIsOne, FoldIsMeaning, CheckedLogsHold, DecidedShadowsFit, EqualSetsEqualTables, FoldsBatchByBatch, RowsAreAtHome, SharesFoldToTheWhole, MisfitsFallInPlace, SettlingHasOneOutcome, RunsAreInOrder, RunsKeepInvariants, RunsAgreeOnTables, RefusalsChangeNothing, FaultlessLogsAreSound, RunsAreFaultless};
 
 /// Parts on different keys may be done in either order, with the same tables and misfits.
 pub fn parts_commute()
@@ -16,6 +16,11 @@ pub fn fold_is_meaning()
 /// item is its highest bid.
 pub fn checked_logs_hold()
     ensures { CheckedLogsHold }
+{}
+
+/// The shadow of an ask that isn't refused at the tables of a log that passes the checks fits after it.
+pub fn decided_shadows_fit()
+    ensures { DecidedShadowsFit }
 {}
 
 /// Logs that pass the checks and have equal sets fold to equal tables.
