@@ -1,11 +1,11 @@
 -- Worked examples, computed on the definitions.
 use Rattle.std.proofs.Common.{ℕ, ◌≡◌, ◌+◌, ◌≤◌, ◌<◌, List, [], ◌∷◌, length, Bool, true, false, ◌&&◌, refl, sym, ap, ◌∙◌, subst, arith, Option, Some, None}
-use Rattle.std.specs.Prelude.{ℤ, pos, negsuc, unsigned_abs, Result, Ok, Err, map, codes, nat_lt, nat_le}
+use Rattle.std.specs.Prelude.{ℤ, pos, negsuc, unsigned_abs, Result, Ok, Err, option_map, slice_get, map, codes, nat_lt, nat_le}
 use Rattle.std.proofs.lemmas.Bool.{and_parts, ltb-true, leb-true}
 use Rattle.rubis_schema.specs.Ids.{IsId}
 use Rattle.rubis_schema.specs.declared.ids.Id.{Id}
 use Rattle.rubis_schema.specs.declared.refusals.Refusal.{Refusal}
-use Rattle.rubis_schema.specs.declared.refusals.Refusal.TheVariants.{RedBehind, Closed, NotForMe}
+use Rattle.rubis_schema.specs.declared.refusals.Refusal.TheVariants.{NoToken, RedBehind, Closed, NotForMe}
 use Rattle.rubis_schema.specs.declared.row_keys.RowKey.TheVariants as key
 use Rattle.rubis_schema.specs.declared.rows.Row.TheVariants as row
 use Rattle.rubis_schema.specs.declared.row_keys.RowKey.{RowKey}
@@ -16,6 +16,7 @@ use Rattle.rubis_shadow.specs.declared.asks.Ask.TheVariants as ask
 use Rattle.rubis_shadow.specs.declared.shadows.NewItem.{NewItem}
 use Rattle.rubis_shadow.specs.declared.shadows.Shadow.{Shadow}
 use Rattle.rubis_shadow.specs.declared.shadows.Shadow.TheVariants as shadow
+use Rattle.rubis_shadow.specs.Changes.{better}
 use Rattle.rubis_message.specs.Message.{Message}
 use Rattle.rubis_message.specs.declared.tokens.Token.{Token}
 use Rattle.rubis_message.specs.declared.answers.Arrival.{Arrival}
@@ -29,7 +30,7 @@ use Rattle.rubis_model.specs.System.{World, Event, AreEvents, site, run, start}
 use Rattle.rubis_model.specs.System.Event.{Request, Pass, Deliver}
 use Rattle.rubis_model.proofs.Keeps.{start_sound}
 use Rattle.rubis_model.proofs.Room.{room_start}
-use Rattle.rubis_model.proofs.ByMeaning.{Answer, answers, run_by, same_run, same_answers}
+use Rattle.rubis_model.proofs.ByMeaning.{Answer, answers, answers_by, run_by, same_run, same_answers}
 use Rattle.rubis_model.proofs.ByMeaning.Answer.{Asked, Passed, Came, Took}
 
 -- ---- messages
@@ -106,6 +107,10 @@ token_answers : answers 1000000 token_to_and_fro (start 2) ≡
 unfolding token_to_and_fro
 token_answers = refl
 
+-- who passed it doesn't hold it any more
+token_twice : answers 1000000 (Pass 0 1 ∷ Pass 0 1 ∷ []) (start 2) ≡ Passed (Ok (record { turn = 1; to = 1; issued = 0 })) ∷ Passed (Err NoToken) ∷ []
+token_twice = refl
+
 -- ---- asks, which are decided by the meaning of the log
 
 -- an id within the limits, by a test
@@ -162,7 +167,8 @@ bids_are_events = (
   ),
 )
 
-bid_answers : answers 1000000 bid_after_close (start 2) ≡
+bid_answers : List Answer
+bid_answers =
     Asked (Ok (ann_of (0 ∷ 0 ∷ [])))
     ∷ Asked (Ok (bob_of (1 ∷ 0 ∷ [])))
     ∷ Asked (Ok (message 0 3 0 (2 ∷ 0 ∷ []) (shadow.Item (item_of (codes "lamp")))))
@@ -173,8 +179,40 @@ bid_answers : answers 1000000 bid_after_close (start 2) ≡
     ∷ Asked (Err RedBehind)
     ∷ Came (Ok (Released 1))
     ∷ Asked (Err Closed) ∷ []
-unfolding bid_after_close meaning_row
-bid_answers = same_answers 1000000 (omega arith) bid_after_close (start 2) bids_are_events (start_sound 2 (omega arith)) (room_start 1000000 2)
+
+bids_by_meaning : answers_by 1000000 bid_after_close (start 2) ≡ bid_answers
+unfolding bid_after_close bid_answers meaning_row
+bids_by_meaning = refl
+
+bids_answered : answers 1000000 bid_after_close (start 2) ≡ bid_answers
+bids_answered = same_answers 1000000 (omega arith) bid_after_close (start 2) bids_are_events (start_sound 2 (omega arith)) (room_start 1000000 2) ∙ bids_by_meaning
+
+-- of two equal bids the earlier one wins
+equal_bids : List Event
+equal_bids =
+    Request 0 (ask.User ann) ∷ Request 0 (ask.User bob) ∷ Request 0 (ask.Item (item_of (codes "lamp")))
+    ∷ Request 0 (ask.Bid (record { item = id 0 3; bidder = id 0 2; amount = 500 }))
+    ∷ Request 0 (ask.Bid (record { item = id 0 3; bidder = id 0 2; amount = 500 }))
+    ∷ Request 0 (ask.Close (record { item = id 0 3; seller = id 0 1 }))
+    ∷ []
+
+equal_are_events : AreEvents 2 equal_bids
+unfolding equal_bids
+equal_are_events =
+    ((first, tt), ((first, tt), ((first, item_in_limits (codes "lamp")), ((first, bid_in_limits), ((first, bid_in_limits), ((first, (small_id (id 0 3) refl, small_id (id 0 1) refl)), tt))))))
+
+last_shadow : World → Option Shadow
+last_shadow w = option_map (λ (m : Message). m.shadow) (slice_get (site w 0).log 5)
+
+earlier_stays : better (Some (record { bid = id 0 4; amount = 500 })) (record { bid = id 0 5; amount = 500 }) ≡ Some (record { bid = id 0 4; amount = 500 })
+earlier_stays = refl
+
+earlier_by_meaning : last_shadow (run_by 1000000 equal_bids (start 2)) ≡ Some (shadow.Close (record { item = id 0 3; cat = 7; winner = Some (id 0 4) }))
+unfolding equal_bids last_shadow meaning_row
+earlier_by_meaning = refl
+
+earlier_wins : last_shadow (run 1000000 equal_bids (start 2)) ≡ Some (shadow.Close (record { item = id 0 3; cat = 7; winner = Some (id 0 4) }))
+earlier_wins = ap last_shadow (same_run 1000000 (omega arith) equal_bids (start 2) equal_are_events (start_sound 2 (omega arith)) (room_start 1000000 2)) ∙ earlier_by_meaning
 
 -- a comment is made at each site before the other one has come; then both sites show both
 comments_cross : List Event
@@ -218,13 +256,19 @@ rows_of_two k w = (meaning_row (cores (site w 0).log) k, meaning_row (cores (sit
 ann_after_both : Option Row
 ann_after_both = Some (row.User (record { nick = ann; items = 1; bought = 0; rating = pos 3; comments = 2 }))
 
-both_show_ann : rows_of_two (key.User (id 0 1)) (run 1000000 comments_cross (start 2)) ≡ (ann_after_both, ann_after_both)
+both_mean_ann : rows_of_two (key.User (id 0 1)) (run_by 1000000 comments_cross (start 2)) ≡ (ann_after_both, ann_after_both)
 unfolding comments_cross meaning_row rows_of_two ann_after_both
-both_show_ann = ap (rows_of_two (key.User (id 0 1))) (same_run 1000000 (omega arith) comments_cross (start 2) comments_are_events (start_sound 2 (omega arith)) (room_start 1000000 2))
+both_mean_ann = refl
+
+both_show_ann : rows_of_two (key.User (id 0 1)) (run 1000000 comments_cross (start 2)) ≡ (ann_after_both, ann_after_both)
+both_show_ann = ap (rows_of_two (key.User (id 0 1))) (same_run 1000000 (omega arith) comments_cross (start 2) comments_are_events (start_sound 2 (omega arith)) (room_start 1000000 2)) ∙ both_mean_ann
 
 late_after_both : Option Row
 late_after_both = Some (row.Comment (record { item = id 0 3; from = id 0 2; to = id 0 1; rating = negsuc 1; text = codes "late" }))
 
-both_show_late : rows_of_two (key.Comment (id 1 1)) (run 1000000 comments_cross (start 2)) ≡ (late_after_both, late_after_both)
+both_mean_late : rows_of_two (key.Comment (id 1 1)) (run_by 1000000 comments_cross (start 2)) ≡ (late_after_both, late_after_both)
 unfolding comments_cross meaning_row rows_of_two late_after_both
-both_show_late = ap (rows_of_two (key.Comment (id 1 1))) (same_run 1000000 (omega arith) comments_cross (start 2) comments_are_events (start_sound 2 (omega arith)) (room_start 1000000 2))
+both_mean_late = refl
+
+both_show_late : rows_of_two (key.Comment (id 1 1)) (run 1000000 comments_cross (start 2)) ≡ (late_after_both, late_after_both)
+both_show_late = ap (rows_of_two (key.Comment (id 1 1))) (same_run 1000000 (omega arith) comments_cross (start 2) comments_are_events (start_sound 2 (omega arith)) (room_start 1000000 2)) ∙ both_mean_late
