@@ -15,7 +15,7 @@ use Rattle.rubis_model.specs.Settle.{Has}
 use Rattle.rubis_model.specs.Order.{Precedes, Released}
 use Rattle.rubis_model.specs.References.{Referred, ToUser, ToItem, ToBid, RefersOf}
 use Rattle.rubis_model.specs.System.{World, site}
-use Rattle.rubis_model.specs.Sound.{Sound}
+use Rattle.rubis_model.specs.Sound.{Sound, Room}
 use Rattle.rubis_model.specs.Laws.{Sent}
 use Rattle.rubis_model.specs.Audit.{Logged, IsFormed, AllOrdered, AllFitting, AreFaultless, AreSound}
 use Rattle.rubis_model.proofs.FoldIsMeaning.{fold_is_meaning}
@@ -25,6 +25,7 @@ use Rattle.rubis_model.proofs.Cores.{back_push, cores_length}
 use Rattle.rubis_model.proofs.LogsChecked.{new_here, count_reds, checked_end, number_is, follows, colour}
 use Rattle.rubis_model.proofs.Winners.{one_nick, one_close, winner_is}
 use Rattle.rubis_model.proofs.Runs.{refers, logged}
+use Rattle.rubis_model.proofs.Lengths.{log_short}
 use Rattle.rubis_model.proofs.AuditedOrder.{sound_order, sound_log, run_ordered}
 use Rattle.rubis_model.proofs.AuditedMeaning.{ground}
 use Rattle.rubis_model.proofs.Lists.{has_back, has_reverse}
@@ -34,7 +35,7 @@ pub message_formed : (m : Message) → IsMessage m → IsFormed m
 message_formed m h = record { own = h.own; colour = h.colour; limits = (sites_of m, h.shadow) }
 
 -- ---- each log by itself passes the checks
-released_all : (i : ℕ) (past : List Message) → AllOrdered i past → Released past
+pub released_all : (i : ℕ) (past : List Message) → AllOrdered i past → Released past
 released_all i [] c = tt
 released_all i (v ∷ past) c = (c.0.ready, released_all i past c.1)
 
@@ -50,6 +51,10 @@ checked_from i (v ∷ past) c h f =
       fits = h.0.0;
       limits = here.limits;
     }))
+
+-- logs of messages that meet the conditions of their type are short enough to be folded
+pub logs_short : (sites : ℕ → ℕ) (log : ℕ → List Message) → ((k : ℕ) → AllOrdered (sites k) (reverse (log k))) → ((v : Message) → Logged log v → IsMessage v) → (k : ℕ) → length (log k) ≤ 2 ^ 32
+logs_short sites log o h k = log_short (log k) (released_all (sites k) (reverse (log k)) (o k)) (λ v b. h v (k, has_reverse v (log k) b))
 
 -- ---- references, among more messages
 refer_more : (all wide : Message → Type 0) (v : Message) (kind : Message → Type 0) (i : Id) → ((m : Message) → all m → Precedes m v → wide m) → Referred all v kind i → Referred wide v kind i
@@ -83,8 +88,8 @@ module _ (sites : ℕ → ℕ) (log : ℕ → List Message) (f : AreFaultless si
   once : (u v : Message) → Logged log u → Logged log v → is_red u.shadow ≡ true → is_red v.shadow ≡ true → u.stamp.red ≡ v.stamp.red → u ≡ v
   once u v a b c d e = f.red_once u v a b (red_positive u a c) e
 
-  short : (k : ℕ) → length (log k) ≤ 2 ^ 32 → length (cores (log k)) ≤ 2 ^ 32
-  short k l = let c = cores_length (log k) in omega (arith, l, c)
+  few : (k : ℕ) → length (cores (log k)) ≤ 2 ^ 32
+  few k = let l = f.short k in let c = cores_length (log k) in omega (arith, l, c)
 
   pub faultless_sound : AreSound sites log
   faultless_sound = record {
@@ -92,8 +97,8 @@ module _ (sites : ℕ → ℕ) (log : ℕ → List Message) (f : AreFaultless si
     order = sound_order sites log f;
     logs = sound_log sites log f;
     refers = λ v a. refers_more (λ u. Has u (reverse (log a.0))) (Logged log) v (λ m h p. (a.0, has_reverse m (log a.0) h)) v.shadow (refers_in (reverse (log a.0)) (f.fitting a.0) v (has_back v (log a.0) a.1));
-    meaning = λ k l. (fold_is_meaning (cores (log k)) (each k) (short k l)).0;
-    clean = λ k l. (fold_is_meaning (cores (log k)) (each k) (short k l)).1;
+    meaning = λ k. (fold_is_meaning (cores (log k)) (each k) (few k)).0;
+    clean = λ k. (fold_is_meaning (cores (log k)) (each k) (few k)).1;
     sold = λ k. (checked_holds (cores (log k)) (each k)).stock;
     nicks = one_nick (Logged log) (ground log each once) once;
     closed_once = one_close (Logged log) (ground log each once) once;
@@ -113,8 +118,9 @@ run_fitting w (v ∷ past) s r all =
       run_fitting w past s r.1 older,
     )
 
-pub run_faultless : (w : World) → Sound w → AreFaultless (λ i. i) (λ i. (site w i).log)
-run_faultless w s = record {
+pub run_faultless : (keep : ℕ) (w : World) → keep ≤ 1000000 → Room keep w → Sound w → AreFaultless (λ i. i) (λ i. (site w i).log)
+run_faultless keep w few room s = record {
+  short = λ k. let l = room k in omega (arith, l, few);
   formed = λ v a. let b = logged w s a.0 v a.1 in record { own = own w v s b; colour = colour w v s b; limits = (foundation w v s b).decided.limits };
   clash = λ u v a b e f. unique w u v s (logged w s a.0 u a.1) (logged w s b.0 v b.1) e f;
   ordered = λ k. run_ordered w k (reverse (site w k).log) s (s.good k).released (s.good k).made (s.good k).log_sent;

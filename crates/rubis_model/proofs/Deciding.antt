@@ -20,7 +20,7 @@ use Rattle.rubis_generate.specs.declared.standing.Standing.{Standing}
 use Rattle.rubis_model.specs.Log.{Core, core, cores}
 use Rattle.rubis_model.specs.Meaning.{as_item, item_at, best_bid, bids_on, higher}
 use Rattle.rubis_model.specs.Checks.{Fits, IsLimited}
-use Rattle.rubis_model.specs.Settle.{counted, Has}
+use Rattle.rubis_model.specs.Settle.{counted, reds, Has}
 use Rattle.rubis_model.specs.Site.{made, standing_of, rows_at, red_for}
 use Rattle.rubis_model.specs.Order.{Decided}
 use Rattle.rubis_model.specs.System.{World, site, place}
@@ -89,6 +89,10 @@ pub counted_short : (j : ℕ) (xs : List Message) → counted j xs ≤ length xs
 counted_short j [] = omega arith
 counted_short j (m ∷ xs) = let l = counted_short j xs in grind (arith, nat_tests, l)
 
+pub reds_short : (xs : List Message) → reds xs ≤ length xs
+reds_short [] = omega arith
+reds_short (m ∷ xs) = let l = reds_short xs in grind (arith, nat_tests, l)
+
 -- the id of a message of a log
 logged_id : (w : World) (i : ℕ) (m : Message) → Sound w → length (site w i).log ≤ 1000000 → Has m (site w i).log → IsId (length w.sites) m.stamp.id
 logged_id w i m s short h =
@@ -124,7 +128,7 @@ module _ (keep : ℕ) (few : keep ≤ 1000000) (w : World) (i : ℕ) (s : Sound 
       let l : length (cores (site w i).log) ≤ 2 ^ 32 = (let a = short ask x e in let b = cores_length (site w i).log in omega (arith, a, b)) in
       decided_fits (rows_at (site w i).log) (cores (site w i).log) (fold_is_meaning (cores (site w i).log) c l).0.rows (standing_of keep (site w i)) ask x (checked_holds (cores (site w i).log) c) e
 
-  in_limits : (ask : Ask) (x : Shadow) → IsAsk (length w.sites) ask → Allows ask x → InLimits (length w.sites) x
+  pub in_limits : (ask : Ask) (x : Shadow) → IsAsk (length w.sites) ask → decision (rows_at (site w i).log) (standing_of keep (site w i)) ask ≡ Ok x → InLimits (length w.sites) x
   unfolding Allows
   in_limits (User n) x l e = subst (InLimits (length w.sites)) (allowed (rows_at (site w i).log) (standing_of keep (site w i)) (User n) x e).1 l
   in_limits (Item n) x l e = subst (InLimits (length w.sites)) (allowed (rows_at (site w i).log) (standing_of keep (site w i)) (Item n) x e).1 l

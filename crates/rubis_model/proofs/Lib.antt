@@ -27,9 +27,11 @@ pub mod LogsChecked
 pub mod Deciding
 pub mod Keeps
 pub mod Room
+pub mod Formed
 pub mod Winners
 pub mod Referring
 pub mod Runs
+pub mod Lengths
 pub mod AuditedOrder
 pub mod AuditedMeaning
 pub mod Audited

@@ -10,7 +10,7 @@ use Rattle.rubis_model.specs.Settle.{Has}
 use Rattle.rubis_model.specs.References.{RefersOf}
 use Rattle.rubis_model.specs.System.{World, Event, AreEvents, site, run, start}
 use Rattle.rubis_model.specs.Sound.{Sound, Room}
-use Rattle.rubis_model.specs.Laws.{Sent, InRun, RunsAreInOrder, RunsKeepInvariants, RunsAgreeOnTables}
+use Rattle.rubis_model.specs.Laws.{Sent, InRun, RunsAreInOrder, RunsKeepInvariants, RunsAgreeOnTables, RunsMakeMessages}
 use Rattle.rubis_model.proofs.FoldIsMeaning.{fold_is_meaning}
 use Rattle.rubis_model.proofs.EqualSets.{equal_sets_equal_tables}
 use Rattle.rubis_model.proofs.Invariants.{checked_holds}
@@ -19,6 +19,7 @@ use Rattle.rubis_model.proofs.Cores.{cores_length, same_cores}
 use Rattle.rubis_model.proofs.LogsChecked.{log_checked, red_positive, one_each_back}
 use Rattle.rubis_model.proofs.Keeps.{run_keeps, start_sound, start_sites}
 use Rattle.rubis_model.proofs.Room.{room_run, room_start}
+use Rattle.rubis_model.proofs.Formed.{run_formed}
 use Rattle.rubis_model.proofs.Winners.{Ground, one_nick, one_close, winner_is, row_winner, stock_left}
 use Rattle.rubis_model.proofs.Referring.{refers_of}
 use Rattle.rubis_model.proofs.Lists.{has_back, has_reverse}
@@ -82,3 +83,8 @@ equal_tables n keep events some few a m kept later more less b i j same =
     equal_sets_equal_tables (cores (site w i).log) (cores (site v j).log)
     (log_checked w i (sound_run n keep events some few a)) (log_checked v j (sound_run m kept later more less b))
     (short keep w i few (room_of n keep events)) (short kept v j less (room_of m kept later)) (same_cores (site w i).log (site v j).log same)
+
+pub every_message : RunsMakeMessages
+every_message n keep events some small few a =
+    let same = start_sites n in
+    run_formed keep few events (start n) (omega (arith, same, small)) (subst (λ k. AreEvents k events) (sym same) a) (start_sound n some) (λ m h. absurd h)

@@ -42,6 +42,7 @@ AllFitting (v ∷ past) = (Fits (cores (reverse past)) v.shadow × RefersOf (λ 
 -- the logs, log k being one of site `sites k`, pass all checks together
 pub record AreFaultless (sites : ℕ → ℕ) (log : ℕ → List Message) : Type 0 where
   pub formed : (v : Message) → Logged log v → IsFormed v
+  pub short : (k : ℕ) → length (log k) ≤ 2 ^ 32
   -- two messages of one id are one
   pub clash : (u v : Message) → Logged log u → Logged log v → u.stamp.id.site ≡ v.stamp.id.site → u.stamp.id.seq ≡ v.stamp.id.seq → u ≡ v
   pub ordered : (k : ℕ) → AllOrdered (sites k) (reverse (log k))
@@ -56,8 +57,8 @@ pub record AreSound (sites : ℕ → ℕ) (log : ℕ → List Message) : Type 0 
   pub order : IsRedBlueOrder (Logged log)
   pub logs : (k : ℕ) → Serializes (sites k) (Logged log) (log k)
   pub refers : (v : Message) → Logged log v → RefersOf (Logged log) v v.shadow
-  pub meaning : (k : ℕ) → length (log k) ≤ 2 ^ 32 → IsMeaning (cores (log k)) (fold_of (cores (log k))).tables
-  pub clean : (k : ℕ) → length (log k) ≤ 2 ^ 32 → (fold_of (cores (log k))).misfits ≡ []
+  pub meaning : (k : ℕ) → IsMeaning (cores (log k)) (fold_of (cores (log k))).tables
+  pub clean : (k : ℕ) → (fold_of (cores (log k))).misfits ≡ []
   pub sold : (k : ℕ) (item : Id) → IfSome (item_at item (cores (log k))) (λ n. total (sold_of item) (cores (log k)) ≤ n.stock)
   pub nicks : (nick : List ℕ) (u v : Message) → Logged log u → Logged log v → as_user u.shadow ≡ Some nick → as_user v.shadow ≡ Some nick → u ≡ v
   pub closed_once : (item : Id) (u v : Message) → Logged log u → Logged log v → closes item u.shadow ≡ true → closes item v.shadow ≡ true → u ≡ v

@@ -23,7 +23,7 @@ use Rattle.rubis_schema.specs.declared.rows.Row.TheVariants as row
 use Rattle.rubis_schema.specs.declared.rows.Sale.TheVariants.{Ended}
 use Rattle.rubis_schema.specs.declared.refusals.Refusal.{Refusal}
 use Rattle.rubis_schema.specs.declared.refusals.Refusal.TheVariants.{NotOurs}
-use Rattle.rubis_message.specs.Message.{Message}
+use Rattle.rubis_message.specs.Message.{Message, IsMessage}
 use Rattle.rubis_model.specs.Settle.{Has, Settles, settle}
 use Rattle.rubis_model.specs.Site.{asked, arrived, took, passed, rows_at}
 use Rattle.rubis_model.specs.Log.{Core, cores, fold_of}
@@ -151,6 +151,10 @@ RunsAreInOrder = EveryRun InOrder
 -- every run keeps the invariants
 abbrev pub RunsKeepInvariants : Type 0
 RunsKeepInvariants = EveryRun InRun
+
+-- among at most 16 sites, each message that is made meets the conditions of its type
+abbrev pub RunsMakeMessages : Type 0
+RunsMakeMessages = (n keep : ℕ) (events : List Event) → 1 ≤ n → n ≤ 16 → keep ≤ 1000000 → AreEvents n events → (m : Message) → Sent (run keep events (start n)) m → IsMessage m
 
 -- equal sets of messages have equal tables, at any two sites and moments, even of two runs
 abbrev pub RunsAgreeOnTables : Type 0

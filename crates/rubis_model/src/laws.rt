@@ -1,5 +1,5 @@
 // The laws, each with its statement in specs/Laws.
-ghost use Rattle.rubis_model.specs.Laws.{PartsCommute, MeaningIsOne, FoldIsMeaning, CheckedLogsHold, DecidedShadowsFit, EqualSetsEqualTables, FoldsBatchByBatch, RowsAreAtHome, SharesFoldToTheWhole, MisfitsFallInPlace, SettlingHasOneOutcome, RunsAreInOrder, RunsKeepInvariants, RunsAgreeOnTables, RefusalsChangeNothing, FaultlessLogsAreSound, RunsAreFaultless};
+ghost use Rattle.rubis_model.specs.Laws.{PartsCommute, MeaningIsOne, FoldIsMeaning, CheckedLogsHold, DecidedShadowsFit, EqualSetsEqualTables, FoldsBatchByBatch, RowsAreAtHome, SharesFoldToTheWhole, MisfitsFallInPlace, SettlingHasOneOutcome, RunsAreInOrder, RunsKeepInvariants, RunsAgreeOnTables, RunsMakeMessages, RefusalsChangeNothing, FaultlessLogsAreSound, RunsAreFaultless};
 
 /// Parts on different keys may be done in either order, with the same tables and misfits.
 pub fn parts_commute()
@@ -62,6 +62,11 @@ pub fn every_run_keeps_invariants()
 /// Logs with equal sets have equal tables, at any two sites and moments of any two runs.
 pub fn every_run_agrees_on_tables()
     ensures { RunsAgreeOnTables }
+{}
+
+/// Among at most 16 sites, each message of a run meets the conditions of its type.
+pub fn every_run_makes_messages()
+    ensures { RunsMakeMessages }
 {}
 
 /// What a site refuses, or has had before, changes nothing.
