@@ -1,6 +1,6 @@
 -- Logs that pass the checks together are sound, and those of a run pass them.
-use Rattle.std.proofs.Common.{ℕ, ◌≡◌, ◌+◌, ◌^◌, ◌≤◌, ◌<◌, List, [], ◌∷◌, ◌++◌, length, true, refl, sym, ap, ◌∙◌, subst, arith, Option, Some, None, inl, inr}
-use Rattle.std.specs.Prelude.{reverse, nat_lt, IfSome}
+use Rattle.std.proofs.Common.{ℕ, ◌≡◌, ◌+◌, ◌^◌, ◌≤◌, ◌<◌, List, [], ◌∷◌, length, true, refl, sym, ap, ◌∙◌, subst, arith, Option, Some, None, inl, inr}
+use Rattle.std.specs.Prelude.{reverse, IfSome}
 use Rattle.std.proofs.lemmas.Bool.{ltb-true}
 use Rattle.std.proofs.lemmas.List.{reverse-reverse}
 use Rattle.rubis_schema.specs.declared.ids.Id.{Id}
@@ -10,10 +10,10 @@ use Rattle.rubis_shadow.specs.declared.shadows.Shadow.TheVariants.{User, Item, B
 use Rattle.rubis_message.specs.Message.{Message, IsMessage, sites_of}
 use Rattle.rubis_model.specs.Log.{core, cores}
 use Rattle.rubis_model.specs.Meaning.{count}
-use Rattle.rubis_model.specs.Checks.{Follows, Checked}
+use Rattle.rubis_model.specs.Checks.{Checked}
 use Rattle.rubis_model.specs.Settle.{Has}
 use Rattle.rubis_model.specs.Order.{Precedes, Released}
-use Rattle.rubis_model.specs.References.{Referred, ToUser, ToItem, ToBid, RefersOf}
+use Rattle.rubis_model.specs.References.{Referred, RefersOf}
 use Rattle.rubis_model.specs.System.{World, site}
 use Rattle.rubis_model.specs.Sound.{Sound, Room}
 use Rattle.rubis_model.specs.Laws.{Sent}

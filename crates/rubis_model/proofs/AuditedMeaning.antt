@@ -1,15 +1,14 @@
 -- Logs that pass the checks together keep the invariants together.
-use Rattle.std.proofs.Common.{ℕ, ◌≡◌, ◌+◌, ◌≤◌, ◌<◌, List, [], ◌∷◌, ◌++◌, Bool, true, false, cond, refl, sym, ap, ◌∙◌, subst, arith, Option, Some, None, inl, inr, ⊎_elim, append_assoc}
+use Rattle.std.proofs.Common.{ℕ, ◌≡◌, ◌+◌, ◌≤◌, List, [], ◌∷◌, ◌++◌, Bool, true, false, cond, refl, sym, ap, ◌∙◌, subst, arith, inl, inr, ⊎_elim, append_assoc}
 use Rattle.std.proofs.lemmas.Bool.{cases_lt}
 use Rattle.rubis_shadow.specs.Shadows.{is_red}
 use Rattle.rubis_message.specs.Message.{Message}
-use Rattle.rubis_model.specs.Log.{Core, core, cores}
+use Rattle.rubis_model.specs.Log.{core, cores}
 use Rattle.rubis_model.specs.Meaning.{count}
-use Rattle.rubis_model.specs.Checks.{Fits, Follows, CheckedFrom, Checked}
+use Rattle.rubis_model.specs.Checks.{Follows, CheckedFrom, Checked}
 use Rattle.rubis_model.specs.Settle.{Has}
 use Rattle.rubis_model.specs.Audit.{Logged}
 use Rattle.rubis_model.proofs.Pushes.{count_push}
-use Rattle.rubis_model.proofs.Sets.{Member, OneEach, member_left, member_right}
 use Rattle.rubis_model.proofs.EqualSets.{Apart, apart_push, no_apart}
 use Rattle.rubis_model.proofs.Cores.{cores_push}
 use Rattle.rubis_model.proofs.Winners.{Ground}

@@ -11,7 +11,7 @@ use Rattle.rubis_model.specs.System.{World, site}
 use Rattle.rubis_model.specs.Laws.{Sent}
 use Rattle.rubis_model.specs.Audit.{IsOrdered, AllOrdered, Logged, AreFaultless}
 use Rattle.rubis_model.proofs.Pasts.{seq_within, found, found_red, red_within, made_at, dep_within}
-use Rattle.rubis_model.proofs.RunsInOrder.{Behind, before_from, behind_from, unique, own, there, causal_back, distinct_back}
+use Rattle.rubis_model.proofs.RunsInOrder.{Behind, before_from, behind_from, own, there, causal_back, distinct_back}
 use Rattle.rubis_model.proofs.Lists.{has_back, has_reverse}
 
 -- ---- what the checks are

@@ -1,6 +1,6 @@
 -- Runs and their answers may be computed with the meaning of each log in place of its fold.
-use Rattle.std.proofs.Common.{ℕ, ◌≡◌, ◌+◌, ◌≤◌, List, [], ◌∷◌, ◌++◌, length, refl, sym, ap, ◌∙◌, subst, Option, Some, None}
-use Rattle.std.specs.Prelude.{slice_get, Result, Ok, Err}
+use Rattle.std.proofs.Common.{ℕ, ◌≡◌, ◌≤◌, List, [], ◌∷◌, length, refl, sym, ap, ◌∙◌, subst, Option, Some, None}
+use Rattle.std.specs.Prelude.{slice_get, Result}
 use Rattle.rubis_schema.specs.declared.refusals.Refusal.{Refusal}
 use Rattle.rubis_shadow.specs.declared.asks.Ask.{Ask}
 use Rattle.rubis_message.specs.Message.{Message}
@@ -11,7 +11,7 @@ use Rattle.rubis_generate.specs.Decision.{decision}
 use Rattle.rubis_model.specs.Log.{cores}
 use Rattle.rubis_model.specs.Meaning.{meaning_row}
 use Rattle.rubis_model.specs.Site.{Place, Replica, standing_of, generating, asked, arrived, took, passed}
-use Rattle.rubis_model.specs.System.{Packet, World, Event, IsEvent, AreEvents, site, place, answering, coming, happens, run}
+use Rattle.rubis_model.specs.System.{Packet, World, Event, AreEvents, site, place, answering, happens, run}
 use Rattle.rubis_model.specs.System.Packet.{Mail, Right}
 use Rattle.rubis_model.specs.System.Event.{Request, Pass, Deliver}
 use Rattle.rubis_model.specs.Sound.{Sound, Room}

@@ -1,6 +1,6 @@
 -- What is decided at a site of a sound world fits there, and is within the limits.
-use Rattle.std.proofs.Common.{ℕ, ◌≡◌, ◌+◌, ◌≤◌, ◌<◌, ◌==◌, ◌^◌, List, [], ◌∷◌, length, Bool, true, false, refl, sym, ap, ◌∙◌, subst, arith, Option, Some, None, inl, inr}
-use Rattle.std.specs.Prelude.{reverse, nat_lt, nat_le, not, Ok, option_map, IfSome, cond}
+use Rattle.std.proofs.Common.{ℕ, ◌≡◌, ◌+◌, ◌≤◌, ◌<◌, ◌^◌, List, [], ◌∷◌, length, Bool, true, false, refl, sym, ap, ◌∙◌, subst, arith, Option, Some, None}
+use Rattle.std.specs.Prelude.{reverse, nat_lt, nat_le, not, Ok, option_map, IfSome}
 use Rattle.std.proofs.lemmas.Bool.Decides.{nat_tests}
 use Rattle.std.proofs.lemmas.List.{reverse-reverse}
 use mathlib.Core.Bool.{true≢false}
@@ -17,7 +17,7 @@ use Rattle.rubis_message.specs.Message.{Message}
 use Rattle.rubis_generate.specs.Lookup.{Rows}
 use Rattle.rubis_generate.specs.Decision.{decision, holds, order_of, shadow_of}
 use Rattle.rubis_generate.specs.declared.standing.Standing.{Standing}
-use Rattle.rubis_model.specs.Log.{Core, core, cores}
+use Rattle.rubis_model.specs.Log.{Core, cores}
 use Rattle.rubis_model.specs.Meaning.{as_item, item_at, best_bid, bids_on, higher}
 use Rattle.rubis_model.specs.Checks.{Fits, IsLimited}
 use Rattle.rubis_model.specs.Settle.{counted, reds, Has}
@@ -26,7 +26,6 @@ use Rattle.rubis_model.specs.Order.{Decided}
 use Rattle.rubis_model.specs.System.{World, site, place}
 use Rattle.rubis_model.specs.Sound.{Sound}
 use Rattle.rubis_model.specs.Laws.{Sent}
-use Rattle.rubis_model.proofs.Sets.{Member}
 use Rattle.rubis_model.proofs.Choices.{IsChoice, choose_is, higher_ranks}
 use Rattle.rubis_model.proofs.FoldIsMeaning.{fold_is_meaning}
 use Rattle.rubis_model.proofs.Invariants.{checked_holds}

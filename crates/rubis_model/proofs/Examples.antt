@@ -1,5 +1,5 @@
 -- Worked examples, computed on the definitions.
-use Rattle.std.proofs.Common.{ℕ, ◌≡◌, ◌+◌, ◌≤◌, ◌<◌, List, [], ◌∷◌, length, Bool, true, false, ◌&&◌, refl, sym, ap, ◌∙◌, subst, arith, Option, Some, None}
+use Rattle.std.proofs.Common.{ℕ, ◌≡◌, ◌≤◌, ◌<◌, List, [], ◌∷◌, true, ◌&&◌, refl, ap, ◌∙◌, arith, Option, Some, None}
 use Rattle.std.specs.Prelude.{ℤ, pos, negsuc, unsigned_abs, Result, Ok, Err, option_map, slice_get, map, codes, nat_lt, nat_le}
 use Rattle.std.proofs.lemmas.Bool.{and_parts, ltb-true, leb-true}
 use Rattle.rubis_schema.specs.Ids.{IsId}
@@ -11,21 +11,18 @@ use Rattle.rubis_schema.specs.declared.rows.Row.TheVariants as row
 use Rattle.rubis_schema.specs.declared.row_keys.RowKey.{RowKey}
 use Rattle.rubis_schema.specs.declared.rows.Row.{Row}
 use Rattle.rubis_shadow.specs.Limits.{IsNewItem, IsNewBid, IsComment}
-use Rattle.rubis_shadow.specs.declared.asks.Ask.{Ask}
 use Rattle.rubis_shadow.specs.declared.asks.Ask.TheVariants as ask
 use Rattle.rubis_shadow.specs.declared.shadows.NewItem.{NewItem}
 use Rattle.rubis_shadow.specs.declared.shadows.Shadow.{Shadow}
 use Rattle.rubis_shadow.specs.declared.shadows.Shadow.TheVariants as shadow
 use Rattle.rubis_shadow.specs.Changes.{better}
 use Rattle.rubis_message.specs.Message.{Message}
-use Rattle.rubis_message.specs.declared.tokens.Token.{Token}
 use Rattle.rubis_message.specs.declared.answers.Arrival.{Arrival}
 use Rattle.rubis_message.specs.declared.answers.Arrival.TheVariants.{Released, Held, Repeat}
-use Rattle.rubis_message.specs.declared.answers.Taken.{Taken}
 use Rattle.rubis_message.specs.declared.answers.Taken.TheVariants as taken
 use Rattle.rubis_model.specs.Log.{cores}
 use Rattle.rubis_model.specs.Meaning.{meaning_row}
-use Rattle.rubis_model.specs.Site.{Place, Replica, opening_at, arrived, rows_at}
+use Rattle.rubis_model.specs.Site.{Place, Replica, opening_at, arrived}
 use Rattle.rubis_model.specs.System.{World, Event, AreEvents, site, run, start}
 use Rattle.rubis_model.specs.System.Event.{Request, Pass, Deliver}
 use Rattle.rubis_model.proofs.Keeps.{start_sound}

@@ -1,5 +1,5 @@
 -- What fits after the log where a shadow was decided fits after each log that has that log, and no other red message.
-use Rattle.std.proofs.Common.{ℕ, ◌≡◌, ◌+◌, ◌≤◌, ◌<◌, List, [], ◌∷◌, ◌++◌, Bool, true, false, refl, sym, ap, ◌∙◌, subst, arith, Option, Some, None, inl, inr, ⊎_elim}
+use Rattle.std.proofs.Common.{ℕ, ◌≡◌, ◌+◌, ◌≤◌, List, [], ◌∷◌, ◌++◌, Bool, true, false, refl, sym, ap, ◌∙◌, subst, arith, Option, Some, None, inl, inr, ⊎_elim}
 use Rattle.std.specs.Prelude.{IsSome, IfSome, is_some, option_map}
 use Rattle.std.specs.Option.{option_or}
 use Rattle.std.proofs.lemmas.List.Sums.{sum_by-cons}
@@ -11,7 +11,7 @@ use Rattle.rubis_shadow.specs.declared.shadows.Shadow.{Shadow}
 use Rattle.rubis_shadow.specs.declared.shadows.Shadow.TheVariants.{User, Item, Bid, Buy, Close, Comment}
 use Rattle.rubis_model.specs.Log.{Core}
 use Rattle.rubis_schema.specs.Keys.{same_id}
-use Rattle.rubis_model.specs.Meaning.{when, at_id, as_item, user_at, item_at, total, sold_of, choose, nick_at, is_nick, as_user, supply, named, best_bid, close_of, bids_on, closes, higher, earlier}
+use Rattle.rubis_model.specs.Meaning.{when, at_id, as_item, user_at, item_at, total, sold_of, choose, nick_at, is_nick, as_user, supply, named, best_bid, close_of, bids_on, closes, earlier}
 use Rattle.rubis_shadow.specs.Shadows.{is_red}
 use Rattle.rubis_model.specs.Checks.{Fits}
 use Rattle.rubis_schema.specs.KeyLaws.{Decides-same_id}

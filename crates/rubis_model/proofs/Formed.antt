@@ -1,5 +1,5 @@
 -- Each message of a run meets the conditions of its type.
-use Rattle.std.proofs.Common.{ℕ, ◌≡◌, ◌+◌, ◌≤◌, ◌<◌, List, [], ◌∷◌, ◌++◌, length, Bool, true, false, cond, refl, sym, ap, ◌∙◌, subst, arith, Option, Some, None, inl, inr, ⊎_elim}
+use Rattle.std.proofs.Common.{ℕ, ◌≡◌, ◌+◌, ◌≤◌, ◌<◌, List, [], ◌∷◌, ◌++◌, length, Bool, true, false, cond, refl, sym, ap, ◌∙◌, subst, arith, Option, Some, None, ⊎_elim}
 use Rattle.std.specs.Prelude.{All, slice_get, nat_le, nat_lt, unwrap_or, is_some, ◌||◌, ◌==◌, Result, Ok, Err}
 use Rattle.std.specs.Option.{option_map_or}
 use Rattle.std.proofs.lemmas.Bool.{cond_both, eqb-true}
@@ -12,12 +12,12 @@ use Rattle.rubis_shadow.specs.Limits.{IsAsk, InLimits}
 use Rattle.rubis_shadow.specs.Shadows.{is_red}
 use Rattle.rubis_shadow.specs.declared.asks.Ask.{Ask}
 use Rattle.rubis_shadow.specs.declared.shadows.Shadow.{Shadow}
-use Rattle.rubis_message.specs.Message.{Message, IsMessage, sites_of}
+use Rattle.rubis_message.specs.Message.{Message, IsMessage}
 use Rattle.rubis_message.specs.declared.tokens.Token.{Token}
 use Rattle.rubis_generate.specs.Decision.{decision}
 use Rattle.rubis_model.specs.Settle.{Has, counted, reds}
 use Rattle.rubis_model.specs.Site.{Replica, made, generating, passing, token_for, red_for, rows_at, standing_of}
-use Rattle.rubis_model.specs.System.{Packet, World, Event, IsEvent, AreEvents, site, place, answering, coming, happens, run, start}
+use Rattle.rubis_model.specs.System.{Packet, World, Event, IsEvent, AreEvents, site, place, answering, coming, happens, run}
 use Rattle.rubis_model.specs.System.Packet.{Mail, Right}
 use Rattle.rubis_model.specs.System.Event.{Request, Pass, Deliver}
 use Rattle.rubis_model.specs.Sound.{Sound}

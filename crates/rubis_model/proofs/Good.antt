@@ -1,5 +1,5 @@
 -- What every checked log keeps: sums within the types, nothing said of a row that isn't there, red numbers that rise.
-use Rattle.std.proofs.Common.{ℕ, ◌≡◌, ◌+◌, ◌*◌, ◌≤◌, ◌<◌, List, [], ◌∷◌, ◌++◌, length, Bool, true, false, cond, refl, sym, ap, ◌∙◌, subst, arith, Option, Some, None, length-append}
+use Rattle.std.proofs.Common.{ℕ, ◌≡◌, ◌+◌, ◌*◌, ◌≤◌, List, [], ◌∷◌, ◌++◌, length, Bool, true, false, cond, refl, sym, ap, ◌∙◌, subst, arith, Option, Some, None, length-append}
 use Rattle.std.specs.Prelude.{ℤ, pos, ◌+ℤ◌, ◌&&◌, IfSome, IsSome, unsigned_abs, option_map}
 use Rattle.std.specs.Option.{option_or}
 use Rattle.std.proofs.lemmas.Int.{ints}
@@ -11,7 +11,7 @@ use Rattle.rubis_shadow.specs.declared.shadows.Shadow.{Shadow}
 use Rattle.rubis_shadow.specs.declared.shadows.Shadow.TheVariants.{User, Item, Bid, Buy, Close, Comment}
 use Rattle.rubis_model.specs.Log.{Core}
 use Rattle.rubis_schema.specs.Keys.{same_id}
-use Rattle.rubis_model.specs.Meaning.{count, total, int_sum_by, choose, choice, user_at, item_at, as_user, as_item, lists_item_of, bought_by, rates, rating_for, sold_of, bids_on, closes, when, supply, best_bid, close_of, higher, earlier, nick_at, named}
+use Rattle.rubis_model.specs.Meaning.{count, total, int_sum_by, choose, choice, user_at, item_at, as_user, as_item, lists_item_of, bought_by, rates, rating_for, sold_of, bids_on, closes, when, supply, best_bid, close_of, higher, earlier, nick_at}
 use Rattle.rubis_shadow.specs.Shadows.{is_red}
 use Rattle.rubis_model.specs.Checks.{Follows, Fits, IsLimited}
 use Rattle.rubis_schema.specs.KeyLaws.{Decides-same_id}

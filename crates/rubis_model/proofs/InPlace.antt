@@ -1,6 +1,6 @@
 -- Misfits stand in the order of their places, and that fixes the list: it is the only list in that order with the
 -- shards' misfits and no others.
-use Rattle.std.proofs.Common.{ℕ, ◌≡◌, ◌+◌, ◌%◌, ◌≤◌, ◌<◌, List, [], ◌∷◌, ◌++◌, Bool, true, false, cond, refl, sym, ap, ◌∙◌, subst, arith, Option, Some, None, inl, inr, ⊎_elim}
+use Rattle.std.proofs.Common.{ℕ, ◌≡◌, ◌+◌, ◌≤◌, ◌<◌, List, [], ◌∷◌, ◌++◌, Bool, true, false, cond, refl, sym, ap, ◌∙◌, subst, arith, Option, Some, None, inl, inr, ⊎_elim}
 use Rattle.std.specs.Prelude.{◌⊎◌, ◌↔◌, ⊤, nat_eq, filter}
 use Rattle.std.proofs.lemmas.Bool.Decides.{Decides-eqb}
 use Rattle.std.proofs.lemmas.Nat.{mod_below}
@@ -14,7 +14,7 @@ use Rattle.rubis_shadow.specs.declared.changes.MisfitKind.{MisfitKind}
 use Rattle.rubis_shadow.specs.declared.numbered.Numbered.{Numbered}
 use Rattle.rubis_shadow.specs.declared.numbered.Misfit.{Misfit}
 use Rattle.rubis_shadow.specs.Changes.{after, misfit_of}
-use Rattle.rubis_model.specs.Log.{Core, noted, number_parts, numbered_from, parts_of, share, fold_on}
+use Rattle.rubis_model.specs.Log.{Core, noted, number_parts, numbered_from, parts_of, share}
 use Rattle.rubis_model.specs.Settle.{Has}
 use Rattle.rubis_model.specs.Shares.{part_of, batch_folded, share_folded, IsBefore, InPlace}
 use Rattle.rubis_model.proofs.Shares.{outcomes, all_noted, fold_on_is, share_outcomes}

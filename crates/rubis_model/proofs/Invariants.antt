@@ -1,22 +1,16 @@
 -- Stock is never exceeded, a nickname has one user, and a closed item's winner is its highest bid.
 use Rattle.std.proofs.Common.{ℕ, ◌≡◌, ◌+◌, ◌≤◌, ◌<◌, List, [], ◌∷◌, ◌++◌, length, Bool, true, false, cond, refl, sym, ap, ◌∙◌, subst, arith, Option, Some, None, inl, inr, ⊎_elim, append_assoc}
 use Rattle.std.specs.Prelude.{option_map, IfSome}
-use Rattle.std.specs.Option.{option_or}
-use Rattle.std.specs.Cmp.Lexicographic.{bytes_decides}
-use mathlib.Core.Bool.{true≢false}
 use Rattle.rubis_schema.specs.declared.ids.Id.{Id}
-use Rattle.rubis_shadow.specs.declared.shadows.NewItem.{NewItem}
 use Rattle.rubis_model.proofs.Heads.{Head, head_of, msg}
 use Rattle.rubis_shadow.specs.declared.shadows.Shadow.{Shadow}
-use Rattle.rubis_shadow.specs.declared.shadows.Shadow.TheVariants.{User, Item, Bid, Buy, Close, Comment}
+use Rattle.rubis_shadow.specs.declared.shadows.Shadow.TheVariants.{Bid, Close}
 use Rattle.rubis_model.specs.Log.{Core}
 use Rattle.rubis_schema.specs.Keys.{same_id}
-use Rattle.rubis_model.specs.Meaning.{when, item_at, total, sold_of, supply, choice, best_bid, close_of, winner_of, nick_at, bids_on, closes, higher, earlier}
+use Rattle.rubis_model.specs.Meaning.{item_at, choice, best_bid, close_of, winner_of, bids_on, closes, higher, earlier}
 use Rattle.rubis_model.specs.Checks.{Follows, Fits, CheckedFrom, Checked}
 use Rattle.rubis_schema.specs.KeyLaws.{Decides-same_id}
-use Rattle.rubis_model.proofs.Pushes.{total_push, choose_push, choice_not, at_id_push, at_id_push_not}
-use Rattle.rubis_model.proofs.Sets.{Member, member_append}
-use Rattle.rubis_model.proofs.Choices.{earlier_ranks, choose_is, IsChoice}
+use Rattle.rubis_model.proofs.Pushes.{choose_push, choice_not}
 use Rattle.rubis_model.proofs.Good.{Good, good_push, good_none, if_some_map}
 use Rattle.rubis_model.specs.Invariants.{Holds}
 

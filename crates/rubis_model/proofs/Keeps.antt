@@ -1,7 +1,7 @@
 -- Every event keeps a world sound.
 use Rattle.std.proofs.Common.{◌≡◌, ℕ, ◌+◌, ◌<◌, ◌≤◌, zero, suc, Bool, true, false, ◌&&◌, cond, Option, Some, None, List, [], ◌∷◌, ◌++◌, length, get_or, set, refl, sym, ap, ◌∙◌, subst, inl, inr, ⊎_elim, arith}
-use Rattle.std.specs.Prelude.{reverse, slice_set, slice_get, map, not, ◌||◌, ◌==◌, nat_lt, nat_le, Result, Ok, Err, option_map, is_some, unwrap_or}
-use Rattle.std.specs.List.{list_any, range_with_len}
+use Rattle.std.specs.Prelude.{reverse, slice_set, slice_get, not, ◌||◌, ◌==◌, nat_lt, nat_le, Result, Ok, Err, option_map, is_some, unwrap_or}
+use Rattle.std.specs.List.{list_any}
 use Rattle.std.specs.Option.{option_map_or}
 use Rattle.std.proofs.lemmas.Bool.{cases_eq, cases_lt, cond_both, or_parts, eqb-true, true≢false}
 use Rattle.std.proofs.lemmas.Bool.Decides.{nat_tests}
@@ -11,7 +11,7 @@ use Rattle.std.proofs.lemmas.Option.{same_Some}
 use Rattle.rubis_schema.specs.Keys.{same_id}
 use Rattle.rubis_schema.specs.KeyLaws.{Decides-same_id}
 use Rattle.rubis_schema.specs.declared.refusals.Refusal.{Refusal}
-use Rattle.rubis_schema.specs.declared.refusals.Refusal.TheVariants.{Full, NoToken, BadTarget, LastTurn, NotOurs, NotForMe}
+use Rattle.rubis_schema.specs.declared.refusals.Refusal.TheVariants.{Full, BadTarget, LastTurn, NotOurs, NotForMe}
 use Rattle.rubis_shadow.specs.Limits.{IsAsk}
 use Rattle.rubis_shadow.specs.Shadows.{is_red}
 use Rattle.rubis_shadow.specs.declared.asks.Ask.{Ask}
@@ -24,7 +24,7 @@ use Rattle.rubis_message.specs.declared.answers.Taken.{Taken}
 use Rattle.rubis_message.specs.declared.answers.Taken.TheVariants as taken
 use Rattle.rubis_generate.specs.Decision.{decision}
 use Rattle.rubis_model.specs.Settle.{reds, Has}
-use Rattle.rubis_model.specs.Site.{Place, Replica, opening_at, settled, made, after_made, red_for, issued_after, generating, rows_at, standing_of, not_ours, is_repeat, is_full, arrival_of, after_came, arrived, took, token_for, passing}
+use Rattle.rubis_model.specs.Site.{Replica, opening_at, settled, made, after_made, red_for, issued_after, generating, rows_at, standing_of, not_ours, is_repeat, is_full, after_came, arrived, took, passing}
 use Rattle.rubis_model.specs.System.{Packet, World, Event, IsEvent, AreEvents, site, place, with_site, answering, coming, happens, run, start}
 use Rattle.rubis_model.specs.System.Packet.{Mail, Right}
 use Rattle.rubis_model.specs.System.Event.{Request, Pass, Deliver}

@@ -1,5 +1,5 @@
 -- Who is in a list, in one made of two, and in one turned round.
-use Rattle.std.proofs.Common.{ℕ, ◌≡◌, ◌<◌, List, [], ◌∷◌, ◌++◌, length, get_or, refl, sym, ap, ◌∙◌, subst, inl, inr, ⊎_elim, arith}
+use Rattle.std.proofs.Common.{ℕ, ◌≡◌, ◌<◌, List, [], ◌∷◌, ◌++◌, length, get_or, refl, sym, subst, inl, inr, ⊎_elim, arith}
 use Rattle.std.specs.Prelude.{zero, suc, reverse, Contains, ◌⊎◌}
 use Rattle.std.proofs.lemmas.List.{reverse-append}
 use Rattle.rubis_model.specs.Settle.{Has}

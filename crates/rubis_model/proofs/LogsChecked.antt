@@ -1,10 +1,9 @@
 -- In a sound world each log passes the checks.
 use Rattle.std.proofs.Common.{ℕ, ◌≡◌, ◌+◌, ◌≤◌, ◌<◌, List, [], ◌∷◌, ◌++◌, Bool, true, false, cond, refl, sym, ap, ◌∙◌, subst, arith, Option, Some, None, inl, inr, ⊎_elim, append_assoc}
-use Rattle.std.specs.Prelude.{reverse, nat_lt, ⊤}
+use Rattle.std.specs.Prelude.{reverse, nat_lt}
 use Rattle.std.proofs.lemmas.Bool.{ltb-true}
 use Rattle.std.proofs.lemmas.Bool.Decides.{nat_tests}
 use Rattle.std.proofs.lemmas.List.{reverse-reverse}
-use mathlib.Core.Bool.{true≢false}
 use Rattle.rubis_schema.specs.declared.ids.Id.{Id}
 use Rattle.rubis_shadow.specs.Shadows.{is_red}
 use Rattle.rubis_message.specs.Message.{Message}

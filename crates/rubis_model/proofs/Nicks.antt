@@ -1,19 +1,17 @@
 -- What one more message does to nicknames, and who has one.
-use Rattle.std.proofs.Common.{ℕ, ◌≡◌, ◌+◌, ◌≤◌, ◌<◌, List, [], ◌∷◌, ◌++◌, Bool, true, false, cond, refl, sym, ap, ◌∙◌, subst, arith, Option, Some, None}
-use Rattle.std.specs.Prelude.{nat_lt, option_map, IfSome, IsSome, is_some, bytes_eq}
+use Rattle.std.proofs.Common.{ℕ, ◌≡◌, List, [], ◌∷◌, ◌++◌, Bool, true, false, cond, refl, sym, ap, ◌∙◌, subst, Option, Some, None}
+use Rattle.std.specs.Prelude.{option_map, IsSome, is_some}
 use Rattle.std.specs.Option.{option_or}
-use Rattle.std.proofs.lemmas.Bool.Decides.{nat_tests}
 use Rattle.std.specs.Cmp.Lexicographic.{bytes_decides}
 use mathlib.Core.Bool.{true≢false}
 use Rattle.rubis_schema.specs.declared.ids.Id.{Id}
 use Rattle.rubis_model.proofs.Heads.{Head, msg}
-use Rattle.rubis_shadow.specs.declared.shadows.Shadow.{Shadow}
 use Rattle.rubis_shadow.specs.declared.shadows.Shadow.TheVariants.{User}
 use Rattle.rubis_model.specs.Log.{Core}
 use Rattle.rubis_schema.specs.declared.rows.Row.{Row}
 use Rattle.rubis_schema.specs.declared.rows.Row.TheVariants as row
 use Rattle.rubis_schema.specs.Keys.{same_id}
-use Rattle.rubis_model.specs.Meaning.{when, at_id, user_at, as_user, choice, choose, earlier, nick_at, is_nick, named}
+use Rattle.rubis_model.specs.Meaning.{when, user_at, as_user, choose, earlier, nick_at, is_nick, named}
 use Rattle.rubis_model.specs.Checks.{has_id}
 use Rattle.rubis_model.specs.Invariants.{Unique}
 use Rattle.rubis_schema.specs.KeyLaws.{Decides-same_id}

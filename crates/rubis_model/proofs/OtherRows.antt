@@ -5,26 +5,24 @@ use Rattle.std.specs.Option.{option_or}
 use Rattle.std.proofs.lemmas.Int.{ints}
 use Rattle.std.specs.Cmp.Lexicographic.{bytes_decides}
 use Rattle.rubis_schema.specs.declared.ids.Id.{Id}
-use Rattle.rubis_model.proofs.Heads.{Head, head_of, msg}
+use Rattle.rubis_model.proofs.Heads.{Head, msg}
 use Rattle.rubis_shadow.specs.declared.shadows.Shadow.{Shadow}
 use Rattle.rubis_shadow.specs.declared.shadows.Shadow.TheVariants as shadow
 use Rattle.rubis_model.specs.Log.{Core}
 use Rattle.rubis_schema.specs.declared.rows.Row.{Row}
 use Rattle.rubis_schema.specs.declared.rows.Row.TheVariants as row
 use Rattle.rubis_schema.specs.declared.row_keys.RowKey.TheVariants as key
-use Rattle.rubis_shadow.specs.declared.changes.Change.{Change}
 use Rattle.rubis_shadow.specs.declared.changes.Change.TheVariants.{Insert, CatListed, CatEnded}
 use Rattle.rubis_schema.specs.Keys.{same_id}
 use Rattle.rubis_shadow.specs.Changes.{change_row}
 use Rattle.rubis_shadow.specs.Parts.{parts}
-use Rattle.rubis_model.specs.Meaning.{count, choice, when, at_id, as_bid, as_purchase, as_comment, as_user, nick_at, is_nick, named, lists_in, closes_in, category_row, meaning_row, earlier}
+use Rattle.rubis_model.specs.Meaning.{count, when, at_id, as_bid, as_purchase, as_comment, as_user, nick_at, is_nick, named, lists_in, closes_in, category_row, meaning_row}
 use Rattle.rubis_model.specs.Checks.{Follows, has_id}
 use Rattle.rubis_schema.specs.KeyLaws.{Decides-same_id}
-use Rattle.rubis_model.proofs.Pushes.{count_push, choose_push, choice_not, or_none, at_id_push_not, at_id_push, none_at}
+use Rattle.rubis_model.proofs.Pushes.{count_push, or_none, at_id_push_not, at_id_push, none_at}
 use Rattle.std.proofs.lemmas.List.Sums.{count_by-le-length}
-use mathlib.Core.Bool.{true≢false}
 use Rattle.rubis_model.proofs.Good.{Good, user_gives}
-use Rattle.rubis_model.proofs.Nicks.{Free, nick_push_not, nick_none, not_named, named_none, named_is, named_same, named_row}
+use Rattle.rubis_model.proofs.Nicks.{nick_push_not, nick_none, named_is, named_same, named_row}
 use Rattle.rubis_model.proofs.RowsOfUser.{at_key, small_sum, small_int}
 
 -- ---- rows that are only inserted

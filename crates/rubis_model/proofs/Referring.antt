@@ -1,5 +1,5 @@
 -- What fits a log refers to messages there.
-use Rattle.std.proofs.Common.{ℕ, ◌≡◌, List, [], ◌∷◌, Bool, true, false, refl, sym, ap, ◌∙◌, subst, Option, Some, None}
+use Rattle.std.proofs.Common.{ℕ, ◌≡◌, List, refl, sym, ap, ◌∙◌, subst, Option, Some, None}
 use Rattle.std.specs.Prelude.{option_map, IfSome, IsSome, is_some}
 use mathlib.Core.Bool.{true≢false}
 use Rattle.rubis_schema.specs.declared.ids.Id.{Id}
@@ -7,7 +7,7 @@ use Rattle.rubis_shadow.specs.declared.shadows.NewItem.{NewItem}
 use Rattle.rubis_shadow.specs.declared.shadows.Shadow.{Shadow}
 use Rattle.rubis_shadow.specs.declared.shadows.Shadow.TheVariants.{User, Item, Bid, Buy, Close, Comment}
 use Rattle.rubis_message.specs.Message.{Message}
-use Rattle.rubis_model.specs.Log.{Core, core, cores}
+use Rattle.rubis_model.specs.Log.{Core, cores}
 use Rattle.rubis_model.specs.Meaning.{at_id, as_user, as_item, item_at, user_at, bids_on, best_bid, higher}
 use Rattle.rubis_model.specs.Checks.{Fits}
 use Rattle.rubis_model.specs.Settle.{Has}

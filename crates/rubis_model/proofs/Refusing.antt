@@ -1,9 +1,8 @@
 -- What a site refuses, or has had before, changes nothing.
-use Rattle.std.proofs.Common.{ℕ, ◌≡◌, ◌-◌, List, [], ◌++◌, length, Bool, true, false, cond, refl, sym, ap, ◌∙◌, Option, Some, None}
-use Rattle.std.specs.Prelude.{slice_set, slice_get, nat_le, not, ◌||◌, ◌==◌, Result, Ok, Err}
+use Rattle.std.proofs.Common.{ℕ, ◌≡◌, ◌-◌, ◌++◌, length, Bool, true, false, cond, refl, ap, ◌∙◌, Option, Some, None}
+use Rattle.std.specs.Prelude.{slice_set, nat_le, not, ◌||◌, ◌==◌, Result, Ok, Err}
 use Rattle.rubis_schema.specs.declared.refusals.Refusal.{Refusal}
-use Rattle.rubis_schema.specs.declared.refusals.Refusal.TheVariants.{Full, NoToken, BadTarget, LastTurn, NotOurs, NotForMe}
-use Rattle.rubis_shadow.specs.declared.asks.Ask.{Ask}
+use Rattle.rubis_schema.specs.declared.refusals.Refusal.TheVariants.{Full, BadTarget, LastTurn, NotOurs, NotForMe}
 use Rattle.rubis_shadow.specs.declared.shadows.Shadow.{Shadow}
 use Rattle.rubis_message.specs.Message.{Message}
 use Rattle.rubis_message.specs.declared.tokens.Token.{Token}
@@ -13,10 +12,9 @@ use Rattle.rubis_message.specs.declared.answers.Taken.{Taken}
 use Rattle.rubis_message.specs.declared.answers.Taken.TheVariants as taken
 use Rattle.rubis_generate.specs.Decision.{decision}
 use Rattle.rubis_model.specs.Site.{Place, Replica, generating, asked, arrived, took, passing, passed, rows_at, standing_of, not_ours, is_repeat, is_full, after_came, arrival_of, token_for}
-use Rattle.rubis_model.specs.System.{Packet, World, site, place, with_site, answering, sending, coming, happens}
+use Rattle.rubis_model.specs.System.{Packet, World, site, place, with_site, answering, sending, coming}
 use Rattle.rubis_model.specs.System.Packet.{Mail, Right}
-use Rattle.rubis_model.specs.System.Event.{Request, Pass, Deliver}
-use Rattle.rubis_model.specs.Laws.{ChangesNothing, RefusalsChangeNothing}
+use Rattle.rubis_model.specs.Laws.{RefusalsChangeNothing}
 use Rattle.rubis_model.proofs.Keeps.{same_world, nothing_sent}
 
 -- ---- at one site

@@ -4,7 +4,7 @@ use Rattle.std.specs.Prelude.{fold, option_map, min, ◌&&◌, ◌||◌, nat_lt,
 use Rattle.std.specs.Option.{option_or}
 use Rattle.std.proofs.lemmas.Bool.Decides.{nat_tests}
 use Rattle.rubis_schema.specs.declared.ids.Id.{Id}
-use Rattle.rubis_model.proofs.Heads.{Head, head_of, msg}
+use Rattle.rubis_model.proofs.Heads.{Head, msg}
 use Rattle.rubis_shadow.specs.declared.shadows.NewItem.{NewItem}
 use Rattle.rubis_shadow.specs.declared.shadows.NewClose.{NewClose}
 use Rattle.rubis_shadow.specs.declared.shadows.Shadow.{Shadow}

@@ -1,11 +1,9 @@
 -- What a message's parts do to a user's row is what it adds to the row's meaning.
 use Rattle.std.proofs.Common.{ℕ, ◌≡◌, ◌+◌, ◌-◌, ◌^◌, ◌<◌, List, [], ◌∷◌, ◌++◌, length, Bool, true, false, cond, refl, sym, ap, ◌∙◌, subst, arith, Option, Some, None}
-use Rattle.std.specs.Prelude.{ℤ, pos, negsuc, ◌+ℤ◌, fold, option_map, unsigned_abs, min, IsSome, is_some}
-use mathlib.Core.Bool.{true≢false}
-use Rattle.std.specs.Option.{option_or}
+use Rattle.std.specs.Prelude.{ℤ, pos, negsuc, ◌+ℤ◌, fold, option_map, unsigned_abs, min}
 use Rattle.std.proofs.lemmas.Int.{ints}
 use Rattle.rubis_schema.specs.declared.ids.Id.{Id}
-use Rattle.rubis_model.proofs.Heads.{Head, head_of, msg}
+use Rattle.rubis_model.proofs.Heads.{Head, msg}
 use Rattle.rubis_shadow.specs.declared.shadows.Shadow.{Shadow}
 use Rattle.rubis_shadow.specs.declared.shadows.Shadow.TheVariants as shadow
 use Rattle.rubis_model.specs.Log.{Core}
@@ -18,12 +16,12 @@ use Rattle.rubis_shadow.specs.declared.changes.Change.TheVariants.{Insert, ItemL
 use Rattle.rubis_schema.specs.Keys.{same_id, key_eq}
 use Rattle.rubis_shadow.specs.Changes.{change_row, saturated}
 use Rattle.rubis_shadow.specs.Parts.{parts}
-use Rattle.rubis_model.specs.Meaning.{count, total, int_sum_by, when, at_id, user_at, as_user, nick_at, lists_item_of, bought_by, rates, rating_for, user_row, meaning_row}
+use Rattle.rubis_model.specs.Meaning.{count, total, int_sum_by, at_id, user_at, as_user, nick_at, lists_item_of, bought_by, rates, rating_for, user_row, meaning_row}
 use Rattle.rubis_model.specs.Checks.{Follows}
 use Rattle.rubis_schema.specs.KeyLaws.{Decides-same_id}
-use Rattle.rubis_model.proofs.Pushes.{count_push, total_push, int_sum_push, or_none, at_id_push_not, at_id_push, none_at}
+use Rattle.rubis_model.proofs.Pushes.{count_push, total_push, int_sum_push, none_at}
 use Rattle.rubis_model.proofs.Good.{Good, abs_sum, user_gives}
-use Rattle.rubis_model.proofs.Nicks.{nick_push_not, nick_none, some_nick}
+use Rattle.rubis_model.proofs.Nicks.{nick_push_not, nick_none}
 use Rattle.std.proofs.lemmas.List.Sums.{count_by-le-length}
 
 abbrev pub at_key : RowKey → Option Row → Effect → Option Row

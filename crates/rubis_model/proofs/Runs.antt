@@ -1,11 +1,10 @@
 -- The laws of every run.
-use Rattle.std.proofs.Common.{ℕ, ◌≡◌, ◌+◌, ◌^◌, ◌≤◌, ◌<◌, List, [], ◌∷◌, length, arith, refl, sym, ap, ◌∙◌, subst, inl, inr}
-use Rattle.std.specs.Prelude.{reverse, true, Contains, ◌↔◌}
+use Rattle.std.proofs.Common.{ℕ, ◌≡◌, ◌^◌, ◌≤◌, List, length, arith, sym, ◌∙◌, subst}
+use Rattle.std.specs.Prelude.{reverse, true}
 use Rattle.rubis_schema.specs.declared.row_keys.RowKey.TheVariants as key
 use Rattle.rubis_shadow.specs.Shadows.{is_red}
 use Rattle.rubis_message.specs.Message.{Message}
-use Rattle.rubis_model.specs.Log.{Core, core, cores, fold_of}
-use Rattle.rubis_model.specs.Checks.{SameSet}
+use Rattle.rubis_model.specs.Log.{cores}
 use Rattle.rubis_model.specs.Settle.{Has}
 use Rattle.rubis_model.specs.References.{RefersOf}
 use Rattle.rubis_model.specs.System.{World, Event, AreEvents, site, run, start}

@@ -1,6 +1,6 @@
 -- What settling keeps.
 use Rattle.std.proofs.Common.{◌≡◌, ℕ, ◌+◌, ◌<◌, ◌≤◌, zero, suc, Bool, true, ◌&&◌, cond, Option, Some, None, List, [], ◌∷◌, ◌++◌, length, refl, sym, ap, ◌∙◌, subst, inl, inr, ⊎_elim, arith, get_or}
-use Rattle.std.specs.Prelude.{◌⊎◌, reverse, ◌||◌, ◌==◌, nat_le, nat_lt}
+use Rattle.std.specs.Prelude.{reverse, ◌||◌, ◌==◌, nat_le, nat_lt}
 use Rattle.std.specs.List.{list_all, range_with_len}
 use Rattle.std.proofs.lemmas.Bool.{cases_lt, cond_both, and_parts, or_cases, eqb-true, leb-true}
 use Rattle.std.proofs.lemmas.List.{reverse-append, get_or_past}

@@ -1,11 +1,11 @@
 -- Over all sites: one user a nickname, one close an item, and its winner is the highest of all its bids.
-use Rattle.std.proofs.Common.{ℕ, ◌≡◌, ◌+◌, ◌≤◌, ◌<◌, List, [], ◌∷◌, ◌++◌, Bool, true, false, refl, sym, ap, ◌∙◌, subst, arith, Option, Some, None, inl, inr, ⊎_elim}
+use Rattle.std.proofs.Common.{ℕ, ◌≡◌, ◌+◌, ◌≤◌, ◌<◌, List, true, sym, ap, ◌∙◌, subst, arith, Option, Some, None, inl, inr, ⊎_elim}
 use Rattle.std.specs.Prelude.{option_map, option_and_then, ◌⊎◌, ◌-◌, IfSome, is_some}
 use Rattle.std.proofs.lemmas.Bool.{cases_order}
 use mathlib.Core.Bool.{true≢false}
 use Rattle.rubis_schema.specs.declared.ids.Id.{Id}
 use Rattle.rubis_shadow.specs.declared.shadows.Shadow.{Shadow}
-use Rattle.rubis_shadow.specs.declared.shadows.Shadow.TheVariants.{User, Item, Bid, Buy, Close, Comment}
+use Rattle.rubis_shadow.specs.declared.shadows.Shadow.TheVariants.{User, Bid, Close}
 use Rattle.rubis_message.specs.Message.{Message}
 use Rattle.std.proofs.lemmas.Option.{same_Some}
 use Rattle.rubis_model.specs.Invariants.{Holds}
@@ -14,8 +14,7 @@ use Rattle.rubis_shadow.specs.declared.shadows.NewItem.{NewItem}
 use Rattle.rubis_schema.specs.declared.rows.Row.{Row}
 use Rattle.rubis_schema.specs.declared.rows.Row.TheVariants as row
 use Rattle.rubis_schema.specs.declared.row_keys.RowKey.TheVariants as key
-use Rattle.rubis_schema.specs.declared.rows.Sale.{Sale}
-use Rattle.rubis_schema.specs.declared.rows.Sale.TheVariants.{Open, Ended}
+use Rattle.rubis_schema.specs.declared.rows.Sale.TheVariants.{Ended}
 use Rattle.rubis_model.specs.Meaning.{total, sold_of, meaning_row, item_row, sale_after, item_at, bids_on, closes, close_of, best_bid, winner_of, higher, earlier, nick_at, as_user, named}
 use Rattle.rubis_shadow.specs.Shadows.{is_red}
 use Rattle.rubis_model.specs.Checks.{Fits}
@@ -23,7 +22,7 @@ use Rattle.rubis_schema.specs.KeyLaws.{Decides-same_id}
 use Rattle.rubis_model.proofs.Sets.{Member, OneEach, at_member}
 use Rattle.rubis_model.proofs.Choices.{IsChoice, choose_is, earlier_ranks, higher_ranks}
 use Rattle.rubis_model.proofs.EqualSets.{bid_red, close_red, user_red}
-use Rattle.rubis_model.specs.Bids.{IsAcceptedBid, IsHighestBid}
+use Rattle.rubis_model.specs.Bids.{IsHighestBid}
 use Rattle.rubis_model.specs.Log.{Core, core, cores}
 use Rattle.rubis_model.specs.Settle.{Has}
 use Rattle.rubis_model.proofs.Cores.{has_core, core_of}

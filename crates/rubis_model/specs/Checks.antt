@@ -1,5 +1,5 @@
 -- What each message of a log must meet, given those before it.
-use Rattle.std.specs.Prelude.{ℕ, ◌≡◌, ◌+◌, ◌≤◌, List, [], ◌∷◌, ◌++◌, cond, nat_eq, Option, Some, None, option_map, IsSome, IfSome, ⊤, Contains, ◌↔◌, count_by}
+use Rattle.std.specs.Prelude.{ℕ, ◌≡◌, ◌+◌, ◌≤◌, List, [], ◌∷◌, ◌++◌, cond, Option, Some, None, option_map, IsSome, IfSome, ⊤, Contains, ◌↔◌}
 use Rattle.rubis_schema.specs.declared.ids.Id.{Id}
 use Rattle.rubis_shadow.specs.Shadows.{is_red}
 use Rattle.rubis_shadow.specs.Limits.{InLimits}

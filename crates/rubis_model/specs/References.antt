@@ -1,5 +1,5 @@
 -- What a message refers to: messages of the right kind that precede it.
-use Rattle.std.specs.Prelude.{◌≡◌, true, Option, IfSome, IsSome, ⊤}
+use Rattle.std.specs.Prelude.{◌≡◌, true, IfSome, IsSome, ⊤}
 use Rattle.rubis_schema.specs.declared.ids.Id.{Id}
 use Rattle.rubis_shadow.specs.declared.shadows.Shadow.{Shadow}
 use Rattle.rubis_shadow.specs.declared.shadows.Shadow.TheVariants.{User, Item, Bid, Buy, Close, Comment}

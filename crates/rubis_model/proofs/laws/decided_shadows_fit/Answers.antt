@@ -1,4 +1,3 @@
-use Rattle.rubis_schema.specs.Tables.{Tables}
 use Rattle.rubis_generate.specs.Lookup.{rows_of}
 use Rattle.rubis_model.specs.Log.{fold_of}
 use Rattle.rubis_model.proofs.FoldIsMeaning.{fold_is_meaning}
