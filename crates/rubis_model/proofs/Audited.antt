@@ -39,7 +39,8 @@ pub released_all : (i : ℕ) (past : List Message) → AllOrdered i past → Rel
 released_all i [] c = tt
 released_all i (v ∷ past) c = (c.0.ready, released_all i past c.1)
 
-checked_from : (i : ℕ) (past : List Message) → AllOrdered i past → AllFitting past → ((v : Message) → Has v past → IsFormed v) → Checked (cores (reverse past))
+checked_from : (i : ℕ) (past : List Message) → AllOrdered i past → AllFitting past → ((v : Message) → Has v past → IsFormed v)
+    → Checked (cores (reverse past))
 checked_from i [] c h f = tt
 checked_from i (v ∷ past) c h f =
     let older : (u : Message) → Has u past → IsFormed u = λ u k. f u (inr k) in
@@ -47,40 +48,48 @@ checked_from i (v ∷ past) c h f =
     let r = released_all i past c.1 in
     subst Checked (sym (back_push v past)) (checked_end [] (cores (reverse past)) (core v) (checked_from i past c.1 h.1 older) (record {
       new_id = new_here past v r c.0.ready;
-      next_red = number_is v.stamp.red (count is_red (cores (reverse past))) (is_red v.shadow) here.colour (λ l. c.0.ready.number l ∙ ap (λ n. n + 1) (sym (count_reds past (λ u k. (older u k).colour))));
+      next_red =
+          number_is v.stamp.red (count is_red (cores (reverse past))) (is_red v.shadow) here.colour (λ l. c.0.ready.number l ∙ ap (λ n. n + 1) (sym (count_reds past (λ u k. (older u k).colour))));
       fits = h.0.0;
       limits = here.limits;
     }))
 
 -- logs of messages that meet the conditions of their type are short enough to be folded
-pub logs_short : (sites : ℕ → ℕ) (log : ℕ → List Message) → ((k : ℕ) → AllOrdered (sites k) (reverse (log k))) → ((v : Message) → Logged log v → IsMessage v) → (k : ℕ) → length (log k) ≤ 2 ^ 32
+pub logs_short : (sites : ℕ → ℕ) (log : ℕ → List Message) → ((k : ℕ) → AllOrdered (sites k) (reverse (log k)))
+    → ((v : Message) → Logged log v → IsMessage v) → (k : ℕ) → length (log k) ≤ 2 ^ 32
 logs_short sites log o h k = log_short (log k) (released_all (sites k) (reverse (log k)) (o k)) (λ v b. h v (k, has_reverse v (log k) b))
 
 -- ---- references, among more messages
-refer_more : (all wide : Message → Type 0) (v : Message) (kind : Message → Type 0) (i : Id) → ((m : Message) → all m → Precedes m v → wide m) → Referred all v kind i → Referred wide v kind i
+refer_more : (all wide : Message → Type 0) (v : Message) (kind : Message → Type 0) (i : Id) → ((m : Message) → all m → Precedes m v → wide m)
+    → Referred all v kind i → Referred wide v kind i
 refer_more all wide v kind i f r = (r.0, f r.0 r.1 r.4, r.2, r.3, r.4)
 
-if_more : (all wide : Message → Type 0) (v : Message) (kind : Message → Type 0) (o : Option Id) → ((m : Message) → all m → Precedes m v → wide m) → IfSome o (Referred all v kind) → IfSome o (Referred wide v kind)
+if_more : (all wide : Message → Type 0) (v : Message) (kind : Message → Type 0) (o : Option Id) → ((m : Message) → all m → Precedes m v → wide m)
+    → IfSome o (Referred all v kind) → IfSome o (Referred wide v kind)
 if_more all wide v kind None f r = tt
 if_more all wide v kind (Some i) f r = refer_more all wide v kind i f r
 
-pub refers_more : (all wide : Message → Type 0) (v : Message) → ((m : Message) → all m → Precedes m v → wide m) → (x : Shadow) → RefersOf all v x → RefersOf wide v x
+pub refers_more : (all wide : Message → Type 0) (v : Message) → ((m : Message) → all m → Precedes m v → wide m) → (x : Shadow) → RefersOf all v x
+    → RefersOf wide v x
 refers_more all wide v f (User n) r = tt
 refers_more all wide v f (Item n) r = refer_more all wide v _ n.seller f r
 refers_more all wide v f (Bid b) r = (refer_more all wide v _ b.item f r.0, refer_more all wide v _ b.bidder f r.1)
 refers_more all wide v f (Buy p) r = (refer_more all wide v _ p.item f r.0, refer_more all wide v _ p.buyer f r.1)
 refers_more all wide v f (Close c) r = (refer_more all wide v _ c.item f r.0, if_more all wide v _ c.winner f r.1)
-refers_more all wide v f (Comment c) r = (refer_more all wide v _ c.item f r.0, refer_more all wide v _ c.from f r.1, refer_more all wide v _ c.to f r.2)
+refers_more all wide v f (Comment c) r =
+    (refer_more all wide v _ c.item f r.0, refer_more all wide v _ c.from f r.1, refer_more all wide v _ c.to f r.2)
 
 refers_in : (past : List Message) → AllFitting past → (v : Message) → Has v past → RefersOf (λ u. Has u past) v v.shadow
 refers_in [] h v k = absurd k
-refers_in (x ∷ past) h v (inl e) = subst (λ (y : Message). RefersOf (λ u. Has u (x ∷ past)) y y.shadow) (sym e) (refers_more (λ u. Has u past) (λ u. Has u (x ∷ past)) x (λ m g p. inr g) x.shadow h.0.1)
+refers_in (x ∷ past) h v (inl e) =
+    subst (λ (y : Message). RefersOf (λ u. Has u (x ∷ past)) y y.shadow) (sym e) (refers_more (λ u. Has u past) (λ u. Has u (x ∷ past)) x (λ m g p. inr g) x.shadow h.0.1)
 refers_in (x ∷ past) h v (inr k) = refers_more (λ u. Has u past) (λ u. Has u (x ∷ past)) v (λ m g p. inr g) v.shadow (refers_in past h.1 v k)
 
 -- ---- what passes is sound
 module _ (sites : ℕ → ℕ) (log : ℕ → List Message) (f : AreFaultless sites log) where
   each : (k : ℕ) → Checked (cores (log k))
-  each k = subst (λ l. Checked (cores l)) (reverse-reverse (log k)) (checked_from (sites k) (reverse (log k)) (f.ordered k) (f.fitting k) (λ v h. f.formed v (k, has_reverse v (log k) h)))
+  each k =
+      subst (λ l. Checked (cores l)) (reverse-reverse (log k)) (checked_from (sites k) (reverse (log k)) (f.ordered k) (f.fitting k) (λ v h. f.formed v (k, has_reverse v (log k) h)))
 
   red_positive : (v : Message) → Logged log v → is_red v.shadow ≡ true → 0 < v.stamp.red
   red_positive v a e = ltb-true 0 v.stamp.red (sym (f.formed v a).colour ∙ e)
@@ -96,7 +105,8 @@ module _ (sites : ℕ → ℕ) (log : ℕ → List Message) (f : AreFaultless si
     ids = f.clash;
     order = sound_order sites log f;
     logs = sound_log sites log f;
-    refers = λ v a. refers_more (λ u. Has u (reverse (log a.0))) (Logged log) v (λ m h p. (a.0, has_reverse m (log a.0) h)) v.shadow (refers_in (reverse (log a.0)) (f.fitting a.0) v (has_back v (log a.0) a.1));
+    refers =
+        λ v a. refers_more (λ u. Has u (reverse (log a.0))) (Logged log) v (λ m h p. (a.0, has_reverse m (log a.0) h)) v.shadow (refers_in (reverse (log a.0)) (f.fitting a.0) v (has_back v (log a.0) a.1));
     meaning = λ k. (fold_is_meaning (cores (log k)) (each k) (few k)).0;
     clean = λ k. (fold_is_meaning (cores (log k)) (each k) (few k)).1;
     sold = λ k. (checked_holds (cores (log k)) (each k)).stock;

@@ -37,9 +37,11 @@ numbered_push a m n f r l h = go (is_red m.shadow) refl
 abbrev Place : List Message → Message → Type 0
 Place a v = (p : List Message) × ((u : Message) → Has u p → Has u a) × (Numbered p) × (Apart (cores p)) × (Follows (cores p) (core v))
 
-place : (before rest : List Message) (v : Message) → Numbered before → Apart (cores before) → CheckedFrom (cores before) (cores rest) → Has v rest → Place (before ++ rest) v
+place : (before rest : List Message) (v : Message) → Numbered before → Apart (cores before) → CheckedFrom (cores before) (cores rest) → Has v rest
+    → Place (before ++ rest) v
 place before [] v n u c h = absurd h
-place before (x ∷ rest) v n u c (inl e) = (before, (λ y k. has_left y before (x ∷ rest) k), n, u, subst (λ (y : Message). Follows (cores before) (core y)) (sym e) c.0)
+place before (x ∷ rest) v n u c (inl e) =
+    (before, (λ y k. has_left y before (x ∷ rest) k), n, u, subst (λ (y : Message). Follows (cores before) (core y)) (sym e) c.0)
 place before (x ∷ rest) v n u c (inr h) =
     let on = sym (cores_push before x) in
     subst (λ l. Place l v) (append_assoc before (x ∷ []) rest)

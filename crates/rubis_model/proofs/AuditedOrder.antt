@@ -24,7 +24,8 @@ checked_made i [] c = tt
 checked_made i (v ∷ past) c = (c.0.made, checked_made i past c.1)
 
 -- the entry of a member
-entry_of : (i : ℕ) (past : List Message) (v : Message) → AllOrdered i past → Has v past → (before : List Message) × (IsOrdered i before v) × (AllOrdered i before) × ((x : Message) → Has x before → Has x past)
+entry_of : (i : ℕ) (past : List Message) (v : Message) → AllOrdered i past → Has v past
+    → (before : List Message) × (IsOrdered i before v) × (AllOrdered i before) × ((x : Message) → Has x before → Has x past)
 entry_of i [] v c h = absurd h
 entry_of i (x ∷ past) v c (inl e) = (past, subst (IsOrdered i past) (sym e) c.0, c.1, (λ q k. inr k))
 entry_of i (x ∷ past) v c (inr h) = let f = entry_of i past v c.1 h in (f.0, f.1, f.2, (λ q k. inr (f.3 q k)))
@@ -44,20 +45,23 @@ module _ (sites : ℕ → ℕ) (log : ℕ → List Message) (each : (k : ℕ) �
   least u a = (seq_within (reverse (log a.0)) u (released a.0) a.1).0
 
   -- what is within a count of part of a log is there
-  counted_there : (k : ℕ) (past : List Message) (u : Message) → Released past → ((x : Message) → Has x past → Has x (reverse (log k))) → Back log u → u.stamp.id.seq ≤ counted u.stamp.id.site past → Has u past
+  counted_there : (k : ℕ) (past : List Message) (u : Message) → Released past → ((x : Message) → Has x past → Has x (reverse (log k))) → Back log u
+      → u.stamp.id.seq ≤ counted u.stamp.id.site past → Has u past
   counted_there k past u r on a l =
       let f = found past u.stamp.id.site u.stamp.id.seq r (least u a) l in
       subst (λ x. Has x past) (clash f.0 u (k, on f.0 f.1) a f.2 f.3) f.1
 
   -- what precedes v stands before it
-  there_before : (k : ℕ) (past : List Message) (u v : Message) → IsOrdered (sites k) past v → Released past → ((x : Message) → Has x past → Has x (reverse (log k))) → Back log u → Back log v → Precedes u v → Has u past
+  there_before : (k : ℕ) (past : List Message) (u v : Message) → IsOrdered (sites k) past v → Released past
+      → ((x : Message) → Has x past → Has x (reverse (log k))) → Back log u → Back log v → Precedes u v → Has u past
   there_before k past u v e r on a b q = counted_there k past u r on a (⊎_elim same (λ n. let d = e.ready.released u.stamp.id.site n in omega arith) (cases_eq u.stamp.id.site v.stamp.id.site))
     where
       same : u.stamp.id.site ≡ v.stamp.id.site → u.stamp.id.seq ≤ counted u.stamp.id.site past
       same f = let g = o v b in let h = e.ready.next in let c = ap (λ x. dep v x) f in let d = ap (λ x. counted x past) f in omega arith
 
   -- of one origin, a later one saw what an earlier one saw
-  grows : (n k : ℕ) (v y : Message) → Has v (reverse (log k)) → Has y (reverse (log k)) → v.stamp.id.site ≡ y.stamp.id.site → y.stamp.id.seq ≡ v.stamp.id.seq + n → (j : ℕ) → dep v j ≤ dep y j
+  grows : (n k : ℕ) (v y : Message) → Has v (reverse (log k)) → Has y (reverse (log k)) → v.stamp.id.site ≡ y.stamp.id.site
+      → y.stamp.id.seq ≡ v.stamp.id.seq + n → (j : ℕ) → dep v j ≤ dep y j
   grows zero k v y a b e f j = let g = ap (λ (x : Message). dep x j) (clash v y (k, a) (k, b) e (omega arith)) in omega arith
   grows (suc n) k v y a b e f j =
       let t = entry_of (sites k) (reverse (log k)) y (each k) b in
@@ -72,10 +76,12 @@ module _ (sites : ℕ → ℕ) (log : ℕ → List Message) (each : (k : ℕ) �
       let h = t.1.carries z.0 z.1 c j in
       omega arith
 
-  closed : (k : ℕ) (past : List Message) (u v : Message) → AllOrdered (sites k) past → ((x : Message) → Has x past → Has x (reverse (log k))) → Back log u → Has v past → Precedes u v → Behind u v past
+  closed : (k : ℕ) (past : List Message) (u v : Message) → AllOrdered (sites k) past → ((x : Message) → Has x past → Has x (reverse (log k)))
+      → Back log u → Has v past → Precedes u v → Behind u v past
   unfolding Behind
   closed k [] u v c on a h q = absurd h
-  closed k (x ∷ past) u v c on a (inl e) q = inl (e, there_before k past u x c.0 (checked_released (sites k) past c.1) (λ y m. on y (inr m)) a (k, on x (inl refl)) (subst (Precedes u) e q))
+  closed k (x ∷ past) u v c on a (inl e) q =
+      inl (e, there_before k past u x c.0 (checked_released (sites k) past c.1) (λ y m. on y (inr m)) a (k, on x (inl refl)) (subst (Precedes u) e q))
   closed k (x ∷ past) u v c on a (inr h) q = inr (closed k past u v c.1 (λ y m. on y (inr m)) a h q)
 
   trans : (u v x : Message) → Back log u → Back log v → Back log x → Precedes u v → Precedes v x → Precedes u x
@@ -92,14 +98,16 @@ module _ (sites : ℕ → ℕ) (log : ℕ → List Message) (each : (k : ℕ) �
       omega arith
 
   -- red ones in one log
-  red_last : (m k : ℕ) (v : Message) → Has v (reverse (log k)) → 1 ≤ m → v.stamp.red ≡ m + 1 → (z : Message) × (Has z (reverse (log k))) × (z.stamp.red ≡ m) × (Precedes z v)
+  red_last : (m k : ℕ) (v : Message) → Has v (reverse (log k)) → 1 ≤ m → v.stamp.red ≡ m + 1
+      → (z : Message) × (Has z (reverse (log k))) × (z.stamp.red ≡ m) × (Precedes z v)
   red_last m k v b l e =
       let t = entry_of (sites k) (reverse (log k)) v (each k) b in
       let here : m ≤ reds t.0 = let q = t.1.ready.number (omega arith) in omega arith in
       let z = found_red t.0 m (checked_released (sites k) t.0 t.2) l here in
       (z.0, t.3 z.0 z.1, z.2, t.1.red_before z.0 z.1 (omega (arith, z.2)) (e ∙ ap (λ x. x + 1) (sym z.2)))
 
-  red_chain : (n k : ℕ) (u v : Message) → Has u (reverse (log k)) → Has v (reverse (log k)) → 0 < u.stamp.red → v.stamp.red ≡ u.stamp.red + suc n → Precedes u v
+  red_chain : (n k : ℕ) (u v : Message) → Has u (reverse (log k)) → Has v (reverse (log k)) → 0 < u.stamp.red → v.stamp.red ≡ u.stamp.red + suc n
+      → Precedes u v
   red_chain zero k u v a b l e =
       let z = red_last u.stamp.red k v b l (omega arith) in
       subst (λ x. Precedes x v) (red_once z.0 u (k, z.1) (k, a) (omega (arith, z.2)) z.2) z.3
@@ -118,15 +126,18 @@ module _ (sites : ℕ → ℕ) (log : ℕ → List Message) (each : (k : ℕ) �
   back_order = record {
     irreflexive = λ u a q. let f = o u a in omega arith;
     transitive = λ u v x a b c q r. trans u v x a b c q r;
-    reds = λ u v a b l m. ⊎_elim (λ e. inl (red_once u v a b l e)) (λ d. inr (⊎_elim (λ f. inl (red_cross u v a b l f)) (λ f. inr (red_cross v u b a m f)) d)) (cases_order u.stamp.red v.stamp.red);
+    reds =
+        λ u v a b l m. ⊎_elim (λ e. inl (red_once u v a b l e)) (λ d. inr (⊎_elim (λ f. inl (red_cross u v a b l f)) (λ f. inr (red_cross v u b a m f)) d)) (cases_order u.stamp.red v.stamp.red);
   }
 
   pub back_serializes : (k : ℕ) → Serializes (sites k) (Back log) (log k)
   back_serializes k = record {
     members = λ u h. (k, has_back u (log k) h);
     distinct = λ u h. distinct_back (reverse (log k)) u (released k) (behind_from u u (log k) h);
-    closed = λ u v a h q. subst (StandsBefore u v) (reverse-reverse (log k)) (before_from u v (reverse (log k)) (closed k (reverse (log k)) u v (each k) (λ x m. m) a (has_back v (log k) h) q));
-    causal = λ u v h e. causal_back (sites k) (reverse (log k)) u v (released k) (checked_made (sites k) (reverse (log k)) (each k)) (behind_from u v (log k) h) e;
+    closed =
+        λ u v a h q. subst (StandsBefore u v) (reverse-reverse (log k)) (before_from u v (reverse (log k)) (closed k (reverse (log k)) u v (each k) (λ x m. m) a (has_back v (log k) h) q));
+    causal =
+        λ u v h e. causal_back (sites k) (reverse (log k)) u v (released k) (checked_made (sites k) (reverse (log k)) (each k)) (behind_from u v (log k) h) e;
   }
 
 -- ---- as they stand
@@ -162,7 +173,8 @@ module _ (sites : ℕ → ℕ) (log : ℕ → List Message) (f : AreFaultless si
   }
 
 -- ---- the logs of a run pass
-is_ordered : (w : World) (i : ℕ) (past : List Message) (v : Message) → Sound w → Released (v ∷ past) → CountedBy i (v ∷ past) → ((x : Message) → Has x (v ∷ past) → Sent w x) → IsOrdered i past v
+is_ordered : (w : World) (i : ℕ) (past : List Message) (v : Message) → Sound w → Released (v ∷ past) → CountedBy i (v ∷ past)
+    → ((x : Message) → Has x (v ∷ past) → Sent w x) → IsOrdered i past v
 is_ordered w i past v s r m all = record {
   ready = r.0;
   made = m.0;
@@ -177,6 +189,7 @@ is_ordered w i past v s r m all = record {
         let f = own w u s (all u (inr h)) in
         ⊎_elim (λ q. let g = ap (dep u) q in let d = ap (dep v) q in omega arith) (λ q. omega (arith, dep_within t.0 u k t.1 u_in q, t.2 k)) (cases_eq k u.stamp.id.site)
 
-pub run_ordered : (w : World) (i : ℕ) (past : List Message) → Sound w → Released past → CountedBy i past → ((x : Message) → Has x past → Sent w x) → AllOrdered i past
+pub run_ordered : (w : World) (i : ℕ) (past : List Message) → Sound w → Released past → CountedBy i past → ((x : Message) → Has x past → Sent w x)
+    → AllOrdered i past
 run_ordered w i [] s r m all = tt
 run_ordered w i (v ∷ past) s r m all = (is_ordered w i past v s r m all, run_ordered w i past s r.1 m.1 (λ x h. all x (inr h)))

@@ -66,12 +66,14 @@ answers_by keep [] w = []
 answers_by keep (e ∷ es) w = answer_by keep w e ∷ answers_by keep es (happens_by keep w e)
 
 same_event : (keep : ℕ) (w : World) (e : Event) → InRun w → happens keep w e ≡ happens_by keep w e
-same_event keep w (Request i ask) h = λ k. answering Mail w i (generating (place keep w i) (site w i) (decision (λ q. (h.meaning i).rows q k) (standing_of keep (site w i)) ask))
+same_event keep w (Request i ask) h =
+    λ k. answering Mail w i (generating (place keep w i) (site w i) (decision (λ q. (h.meaning i).rows q k) (standing_of keep (site w i)) ask))
 same_event keep w (Pass i to) h = refl
 same_event keep w (Deliver i k) h = refl
 
 same_answer : (keep : ℕ) (w : World) (e : Event) → InRun w → answer keep w e ≡ answer_by keep w e
-same_answer keep w (Request i ask) h = λ k. Asked (generating (place keep w i) (site w i) (decision (λ q. (h.meaning i).rows q k) (standing_of keep (site w i)) ask)).1
+same_answer keep w (Request i ask) h =
+    λ k. Asked (generating (place keep w i) (site w i) (decision (λ q. (h.meaning i).rows q k) (standing_of keep (site w i)) ask)).1
 same_answer keep w (Pass i to) h = refl
 same_answer keep w (Deliver i k) h = refl
 

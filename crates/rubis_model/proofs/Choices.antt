@@ -31,7 +31,8 @@ above_itself : (a r : ℕ) → above a r a r ≡ false
 above_itself a r = grind (arith, nat_tests)
 
 pub higher_ranks : Ranks higher
-higher_ranks = record { keeps = λ n old m. above_keeps (amount_of n.shadow) n.red (amount_of old.shadow) old.red (amount_of m.shadow) m.red; itself = λ m. above_itself (amount_of m.shadow) m.red }
+higher_ranks =
+    record { keeps = λ n old m. above_keeps (amount_of n.shadow) n.red (amount_of old.shadow) old.red (amount_of m.shadow) m.red; itself = λ m. above_itself (amount_of m.shadow) m.red }
 
 pub earlier_apart : (m n : Core) → earlier m n ≡ false → earlier n m ≡ false → m.red ≡ n.red
 earlier_apart m n p q = at m.red n.red p q
@@ -74,7 +75,8 @@ module _ {beats : Core → Core → Bool} (ranks : Ranks beats) (p : Core → Bo
     | true ↦ λ e. record {
       there = member_right a (m ∷ []) m (inl refl);
       passes = (both _ _ e).0;
-      unbeaten = λ n h q. last_of a m n (λ k. p k ≡ true → beats k m ≡ false) (λ l r. ranks.keeps n old m (ih.unbeaten n l r) (both _ _ e).1) (λ r. ranks.itself m) h q;
+      unbeaten =
+          λ n h q. last_of a m n (λ k. p k ≡ true → beats k m ≡ false) (λ l r. ranks.keeps n old m (ih.unbeaten n l r) (both _ _ e).1) (λ r. ranks.itself m) h q;
     }
     | false ↦ λ e. record {
       there = member_left a (m ∷ []) old ih.there;
@@ -95,7 +97,8 @@ module _ {beats : Core → Core → Bool} (ranks : Ranks beats) (p : Core → Bo
   choose_is a = by_pushes (λ c. IsChoice beats p c (choose beats p c)) (λ n h. absurd h)
       (λ c m ih. subst (IsChoice beats p (c ++ m ∷ [])) (sym (choose_push beats p c m)) (choice_is c m (choose beats p c) ih)) a
 
-  same_choices : (a b : List Core) → Same a b → ((m n : Core) → Member a m → Member a n → p m ≡ true → p n ≡ true → beats m n ≡ false → beats n m ≡ false → m ≡ n) →
+  same_choices : (a b : List Core) → Same a b
+      → ((m n : Core) → Member a m → Member a n → p m ≡ true → p n ≡ true → beats m n ≡ false → beats n m ≡ false → m ≡ n) →
       (o q : Option Core) → IsChoice beats p a o → IsChoice beats p b q → o ≡ q
   same_choices a b s apart None None h k = refl
   same_choices a b s apart None (Some m) h k = clash k.passes (h m ((s m).1 k.there))
@@ -103,5 +106,7 @@ module _ {beats : Core → Core → Bool} (ranks : Ranks beats) (p : Core → Bo
   same_choices a b s apart (Some m) (Some n) h k =
       ap Some (apart m n h.there ((s n).1 k.there) h.passes k.passes (k.unbeaten m ((s m).0 h.there) h.passes) (h.unbeaten n ((s n).1 k.there) k.passes))
 
-  pub same_choice : (a b : List Core) → Same a b → ((m n : Core) → Member a m → Member a n → p m ≡ true → p n ≡ true → beats m n ≡ false → beats n m ≡ false → m ≡ n) → choose beats p a ≡ choose beats p b
+  pub same_choice : (a b : List Core) → Same a b
+      → ((m n : Core) → Member a m → Member a n → p m ≡ true → p n ≡ true → beats m n ≡ false → beats n m ≡ false → m ≡ n)
+      → choose beats p a ≡ choose beats p b
   same_choice a b s apart = same_choices a b s apart _ _ (choose_is a) (choose_is b)

@@ -30,13 +30,15 @@ swapped true true x y z n = absurd (n refl refl)
 swapped true false x y z n = refl
 swapped false b x y z n = refl
 
-get-after_both : (t : Tables) (e f : Effect) → ¬ (f.key ≡ e.key) → (q : RowKey) → map.get (after (after t e) f) q ≡ cond (tied q f.key) (doing t f).row (cond (tied q e.key) (doing t e).row (map.get t q))
+get-after_both : (t : Tables) (e f : Effect) → ¬ (f.key ≡ e.key) → (q : RowKey)
+    → map.get (after (after t e) f) q ≡ cond (tied q f.key) (doing t f).row (cond (tied q e.key) (doing t e).row (map.get t q))
 get-after_both t e f n q =
     get-with_row (after t e) f.key _ q
     ∙ (λ i. cond (tied q f.key) (doing_else t e f n i).row (get-with_row t e.key (doing t e).row q i))
 
 -- in either order the same tables, and the same misfit for each part
-pub parts_commute : (t : Tables) (e f : Effect) → ¬ (e.key ≡ f.key) → (after (after t e) f ≡ after (after t f) e) × (misfit_of (after t e) f ≡ misfit_of t f) × (misfit_of (after t f) e ≡ misfit_of t e)
+pub parts_commute : (t : Tables) (e f : Effect) → ¬ (e.key ≡ f.key)
+    → (after (after t e) f ≡ after (after t f) e) × (misfit_of (after t e) f ≡ misfit_of t f) × (misfit_of (after t f) e ≡ misfit_of t e)
 parts_commute t e f n =
     let m : ¬ (f.key ≡ e.key) = λ p. n (sym p) in (
       same_tables _ _ (λ q. get-after_both t e f m q

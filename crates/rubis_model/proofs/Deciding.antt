@@ -39,7 +39,8 @@ use Rattle.rubis_model.proofs.LogsChecked.{log_checked}
 use Rattle.rubis_model.proofs.Lists.{has_back}
 
 -- ---- what an answer that isn't a refusal says
-pub allowed : (t : Rows) (s : Standing) (ask : Ask) (x : Shadow) → decision t s ask ≡ Ok x → NoneHolds (holds t s ask) (order_of ask) × (shadow_of t ask ≡ x)
+pub allowed : (t : Rows) (s : Standing) (ask : Ask) (x : Shadow) → decision t s ask ≡ Ok x
+    → NoneHolds (holds t s ask) (order_of ask) × (shadow_of t ask ≡ x)
 allowed t s ask x e = not_refused (holds t s ask) (order_of ask) (shadow_of t ask) x e
 
 pub not_full : (t : Rows) (s : Standing) (ask : Ask) (x : Shadow) → decision t s ask ≡ Ok x → s.full ≡ false
@@ -58,7 +59,8 @@ blue : (x y : Shadow) → is_red x ≡ false → x ≡ y → is_red y ≡ true �
 blue x y e p f = true≢false (sym f ∙ ap is_red (sym p) ∙ e)
 
 -- a red shadow is made only where the site holds the token, and is up to date
-pub red_allowed : (t : Rows) (s : Standing) (ask : Ask) (x : Shadow) → decision t s ask ≡ Ok x → is_red x ≡ true → (s.holds ≡ true) × (s.current ≡ true)
+pub red_allowed : (t : Rows) (s : Standing) (ask : Ask) (x : Shadow) → decision t s ask ≡ Ok x → is_red x ≡ true
+    → (s.holds ≡ true) × (s.current ≡ true)
 red_allowed t s (User n) x e r = let w = allowed t s (User n) x e in (is_not s.holds w.0.1.0, is_not s.current w.0.1.1.0)
 red_allowed t s (Item n) x e r = absurd (blue (shadow_of t (Item n)) x refl (allowed t s (Item n) x e).1 r)
 red_allowed t s (Bid n) x e r = let w = allowed t s (Bid n) x e in (is_not s.holds w.0.1.0, is_not s.current w.0.1.1.0)
@@ -71,7 +73,8 @@ item_limit : (x : Shadow) (n : NewItem) → as_item x ≡ Some n → IsLimited x
 item_limit (shadow.Item k) n e l = subst (λ (z : NewItem). z.cat < 1000) (let p : k ≡ n = cc in p) l.1.cat
 item_limit x n e l = absurd cc
 
-cat_small : (w : World) (i : ℕ) (j : Id) (c : ℕ) → Sound w → option_map (λ (n : NewItem). n.cat) (item_at j (cores (site w i).log)) ≡ Some c → c < 1000
+cat_small : (w : World) (i : ℕ) (j : Id) (c : ℕ) → Sound w → option_map (λ (n : NewItem). n.cat) (item_at j (cores (site w i).log)) ≡ Some c
+    → c < 1000
 cat_small w i j c s h = at (item_at j (cores (site w i).log)) refl h
   where
     at : (o : Option NewItem) → item_at j (cores (site w i).log) ≡ o → option_map (λ (n : NewItem). n.cat) o ≡ Some c → c < 1000
@@ -101,12 +104,15 @@ logged_id w i m s short h =
     let l = counted_short m.stamp.id.site (site w i).log in
     record { site = s.home.origin m ((s.good i).log_sent m b); positive = k.0; small = omega (arith, k.1, c, l, short) }
 
-bid_id : (w : World) (i : ℕ) (j : Id) → Sound w → length (site w i).log ≤ 1000000 → IfSome (option_map (λ (m : Core). m.id) (best_bid j (cores (site w i).log))) (IsId (length w.sites))
+bid_id : (w : World) (i : ℕ) (j : Id) → Sound w → length (site w i).log ≤ 1000000
+    → IfSome (option_map (λ (m : Core). m.id) (best_bid j (cores (site w i).log))) (IsId (length w.sites))
 bid_id w i j s short = at (best_bid j (cores (site w i).log)) (choose_is higher_ranks (λ m. bids_on j m.shadow) (cores (site w i).log))
   where
-    at : (o : Option Core) → IsChoice higher (λ m. bids_on j m.shadow) (cores (site w i).log) o → IfSome (option_map (λ (m : Core). m.id) o) (IsId (length w.sites))
+    at : (o : Option Core) → IsChoice higher (λ m. bids_on j m.shadow) (cores (site w i).log) o
+        → IfSome (option_map (λ (m : Core). m.id) o) (IsId (length w.sites))
     at None h = tt
-    at (Some m) h = let u = core_of m (site w i).log h.there in subst (IsId (length w.sites)) (ap (λ (c : Core). c.id) u.2) (logged_id w i u.0 s short u.1)
+    at (Some m) h =
+        let u = core_of m (site w i).log h.there in subst (IsId (length w.sites)) (ap (λ (c : Core). c.id) u.2) (logged_id w i u.0 s short u.1)
 
 -- ---- at a site of a sound world
 module _ (keep : ℕ) (few : keep ≤ 1000000) (w : World) (i : ℕ) (s : Sound w) where
@@ -127,7 +133,8 @@ module _ (keep : ℕ) (few : keep ≤ 1000000) (w : World) (i : ℕ) (s : Sound 
       let l : length (cores (site w i).log) ≤ 2 ^ 32 = (let a = short ask x e in let b = cores_length (site w i).log in omega (arith, a, b)) in
       decided_fits (rows_at (site w i).log) (cores (site w i).log) (fold_is_meaning (cores (site w i).log) c l).0.rows (standing_of keep (site w i)) ask x (checked_holds (cores (site w i).log) c) e
 
-  pub in_limits : (ask : Ask) (x : Shadow) → IsAsk (length w.sites) ask → decision (rows_at (site w i).log) (standing_of keep (site w i)) ask ≡ Ok x → InLimits (length w.sites) x
+  pub in_limits : (ask : Ask) (x : Shadow) → IsAsk (length w.sites) ask → decision (rows_at (site w i).log) (standing_of keep (site w i)) ask ≡ Ok x
+      → InLimits (length w.sites) x
   unfolding Allows
   in_limits (User n) x l e = subst (InLimits (length w.sites)) (allowed (rows_at (site w i).log) (standing_of keep (site w i)) (User n) x e).1 l
   in_limits (Item n) x l e = subst (InLimits (length w.sites)) (allowed (rows_at (site w i).log) (standing_of keep (site w i)) (Item n) x e).1 l
@@ -139,7 +146,8 @@ module _ (keep : ℕ) (few : keep ≤ 1000000) (w : World) (i : ℕ) (s : Sound 
       let f = subst (Fits (cores (site w i).log)) (sym p) (fitting (Close c) x e) in
       subst (InLimits (length w.sites)) p (l.0, cat_small w i c.item _ s f.0, subst (λ o. IfSome o (IsId (length w.sites))) (sym f.2) (bid_id w i c.item s (short (Close c) x e)))
 
-  pub decided : (ask : Ask) (x : Shadow) → IsAsk (length w.sites) ask → decision (rows_at (site w i).log) (standing_of keep (site w i)) ask ≡ Ok x → is_red x ≡ nat_lt 0 (red_for x (site w i).held)
+  pub decided : (ask : Ask) (x : Shadow) → IsAsk (length w.sites) ask → decision (rows_at (site w i).log) (standing_of keep (site w i)) ask ≡ Ok x
+      → is_red x ≡ nat_lt 0 (red_for x (site w i).held)
       → Decided (reverse (site w i).log) (made (place keep w i) (site w i) x)
   unfolding Allows
   decided ask x l e c = record {

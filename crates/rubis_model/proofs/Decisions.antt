@@ -32,7 +32,8 @@ pub not_refused : (test : Refusal → Bool) (rs : List Refusal) (x y : Shadow) �
 not_refused test [] x y e = (tt, let p : x ≡ y = cc in p)
 not_refused test (r ∷ rs) x y e = at (test r) refl e (not_refused test rs x y)
   where
-    at : (b : Bool) → test r ≡ b → refused_or (cond b (Some r) (find test rs)) x ≡ Ok y → (refused_or (find test rs) x ≡ Ok y → NoneHolds test rs × (x ≡ y)) → ((test r ≡ false) × NoneHolds test rs) × (x ≡ y)
+    at : (b : Bool) → test r ≡ b → refused_or (cond b (Some r) (find test rs)) x ≡ Ok y
+        → (refused_or (find test rs) x ≡ Ok y → NoneHolds test rs × (x ≡ y)) → ((test r ≡ false) × NoneHolds test rs) × (x ≡ y)
     at true q e ih = absurd cc
     at false q e ih = let w = ih e in ((q, w.0), w.1)
 
@@ -68,7 +69,8 @@ module _ (t : Rows) (a : List Core) (rows : (q : RowKey) → t q ≡ meaning_row
   item_there : (i : Id) → is_none (item_in t i) ≡ false → (n : NewItem) × (item_at i a ≡ Some n)
   item_there i e = at (item_at i a) refl (sym (ap (λ g. is_none (option_and_then as_item_row g)) (get_item i)) ∙ e)
     where
-      at : (o : Option NewItem) → item_at i a ≡ o → is_none (option_and_then as_item_row (option_map (item_row a i) o)) ≡ false → (n : NewItem) × (item_at i a ≡ Some n)
+      at : (o : Option NewItem) → item_at i a ≡ o → is_none (option_and_then as_item_row (option_map (item_row a i) o)) ≡ false
+          → (n : NewItem) × (item_at i a ≡ Some n)
       at None q e = absurd (true≢false e)
       at (Some n) q e = (n, q)
 
@@ -83,7 +85,8 @@ module _ (t : Rows) (a : List Core) (rows : (q : RowKey) → t q ≡ meaning_row
       at None e = refl
       at (Some m) e = absurd (true≢false e)
 
-  enough : (h : Holds a) (i : Id) (n : NewItem) (q : ℕ) → item_at i a ≡ Some n → of_item t i (λ r. nat_lt r.stock q) ≡ false → IfSome (item_at i a) (λ n. total (sold_of i) a + q ≤ supply a i n)
+  enough : (h : Holds a) (i : Id) (n : NewItem) (q : ℕ) → item_at i a ≡ Some n → of_item t i (λ r. nat_lt r.stock q) ≡ false
+      → IfSome (item_at i a) (λ n. total (sold_of i) a + q ≤ supply a i n)
   enough h i n q e f =
       let k : nat_lt (supply a i n - total (sold_of i) a) q ≡ false = sym (ap (λ o. option_map_or (λ (r : ItemRow). nat_lt r.stock q) o false) (item_is i n e)) ∙ f in
       let s : total (sold_of i) a ≤ supply a i n = subst (λ o. IfSome o (λ n. total (sold_of i) a ≤ supply a i n)) e (h.stock i) in

@@ -106,10 +106,12 @@ module _ (a b : List Core) (u : Apart a) (v : Apart b) (s : Same a b) where
   })
 
   pub same_best : (i : Id) → choose higher (λ m. bids_on i m.shadow) a ≡ choose higher (λ m. bids_on i m.shadow) b
-  same_best i = same_choice higher_ranks (λ m. bids_on i m.shadow) a b s (λ m n h l p q f g. u.reds m n h l (bid_red i m.shadow p) (bid_red i n.shadow q) (higher_apart m n f g))
+  same_best i =
+      same_choice higher_ranks (λ m. bids_on i m.shadow) a b s (λ m n h l p q f g. u.reds m n h l (bid_red i m.shadow p) (bid_red i n.shadow q) (higher_apart m n f g))
 
   pub same_close : (i : Id) → choose earlier (λ m. closes i m.shadow) a ≡ choose earlier (λ m. closes i m.shadow) b
-  same_close i = same_choice earlier_ranks (λ m. closes i m.shadow) a b s (λ m n h l p q f g. u.reds m n h l (close_red i m.shadow p) (close_red i n.shadow q) (earlier_apart m n f g))
+  same_close i =
+      same_choice earlier_ranks (λ m. closes i m.shadow) a b s (λ m n h l p q f g. u.reds m n h l (close_red i m.shadow p) (close_red i n.shadow q) (earlier_apart m n f g))
 
   pub same_nick : (i : Id) → nick_at i a ≡ nick_at i b
   same_nick i = same_at (λ m. as_user m.shadow) i a b u.ids v.ids s
@@ -150,7 +152,8 @@ module _ (a b : List Core) (u : Apart a) (v : Apart b) (s : Same a b) where
   })))
 
 -- two checked logs with the same set have the same tables
-pub equal_sets_equal_tables : (a b : List Core) → Checked a → Checked b → length a ≤ 2 ^ 32 → length b ≤ 2 ^ 32 → SameSet a b → (fold_of a).tables ≡ (fold_of b).tables
+pub equal_sets_equal_tables : (a b : List Core) → Checked a → Checked b → length a ≤ 2 ^ 32 → length b ≤ 2 ^ 32 → SameSet a b
+    → (fold_of a).tables ≡ (fold_of b).tables
 equal_sets_equal_tables a b c d h k s =
     let same : Same a b = λ m. (λ l. member_of b m ((s m).0 (contains_of a m l)), λ l. member_of a m ((s m).1 (contains_of b m l))) in
     same_tables _ _ (λ q. (fold_is_meaning a c h).0.rows q ∙ same_meaning a b (checked_apart a c) (checked_apart b d) same q ∙ sym ((fold_is_meaning b d k).0.rows q))

@@ -140,7 +140,8 @@ bid_after_close =
     ∷ []
 
 bid_in_limits : IsNewBid 2 (record { item = id 0 3; bidder = id 0 2; amount = 500 })
-bid_in_limits = record { item = small_id (id 0 3) refl; bidder = small_id (id 0 2) refl; amount = record { positive = omega arith; small = omega arith } }
+bid_in_limits =
+    record { item = small_id (id 0 3) refl; bidder = small_id (id 0 2) refl; amount = record { positive = omega arith; small = omega arith } }
 
 first : 0 < 2
 first = omega arith
@@ -182,7 +183,9 @@ unfolding bid_after_close bid_answers meaning_row
 bids_by_meaning = refl
 
 bids_answered : answers 1000000 bid_after_close (start 2) ≡ bid_answers
-bids_answered = same_answers 1000000 (omega arith) bid_after_close (start 2) bids_are_events (start_sound 2 (omega arith)) (room_start 1000000 2) ∙ bids_by_meaning
+bids_answered =
+    same_answers 1000000 (omega arith) bid_after_close (start 2) bids_are_events (start_sound 2 (omega arith)) (room_start 1000000 2)
+    ∙ bids_by_meaning
 
 -- of two equal bids the earlier one wins
 equal_bids : List Event
@@ -209,7 +212,9 @@ unfolding equal_bids last_shadow meaning_row
 earlier_by_meaning = refl
 
 earlier_wins : last_shadow (run 1000000 equal_bids (start 2)) ≡ Some (shadow.Close (record { item = id 0 3; cat = 7; winner = Some (id 0 4) }))
-earlier_wins = ap last_shadow (same_run 1000000 (omega arith) equal_bids (start 2) equal_are_events (start_sound 2 (omega arith)) (room_start 1000000 2)) ∙ earlier_by_meaning
+earlier_wins =
+    ap last_shadow (same_run 1000000 (omega arith) equal_bids (start 2) equal_are_events (start_sound 2 (omega arith)) (room_start 1000000 2))
+    ∙ earlier_by_meaning
 
 -- a comment is made at each site before the other one has come; then both sites show both
 comments_cross : List Event
@@ -221,7 +226,8 @@ comments_cross =
     ∷ Deliver 0 4 ∷ Deliver 1 3
     ∷ []
 
-comment_in_limits : (rating : ℤ) (text : List ℕ) → unsigned_abs rating ≤ 5 → IsComment 2 (record { item = id 0 3; from = id 0 2; to = id 0 1; rating = rating; text = text })
+comment_in_limits : (rating : ℤ) (text : List ℕ) → unsigned_abs rating ≤ 5
+    → IsComment 2 (record { item = id 0 3; from = id 0 2; to = id 0 1; rating = rating; text = text })
 comment_in_limits rating text l = record { item = small_id (id 0 3) refl; from = small_id (id 0 2) refl; to = small_id (id 0 1) refl; rating = l }
 
 comments_are_events : AreEvents 2 comments_cross
@@ -258,7 +264,9 @@ unfolding comments_cross meaning_row rows_of_two ann_after_both
 both_mean_ann = refl
 
 both_show_ann : rows_of_two (key.User (id 0 1)) (run 1000000 comments_cross (start 2)) ≡ (ann_after_both, ann_after_both)
-both_show_ann = ap (rows_of_two (key.User (id 0 1))) (same_run 1000000 (omega arith) comments_cross (start 2) comments_are_events (start_sound 2 (omega arith)) (room_start 1000000 2)) ∙ both_mean_ann
+both_show_ann =
+    ap (rows_of_two (key.User (id 0 1))) (same_run 1000000 (omega arith) comments_cross (start 2) comments_are_events (start_sound 2 (omega arith)) (room_start 1000000 2))
+    ∙ both_mean_ann
 
 late_after_both : Option Row
 late_after_both = Some (row.Comment (record { item = id 0 3; from = id 0 2; to = id 0 1; rating = negsuc 1; text = codes "late" }))
@@ -268,4 +276,6 @@ unfolding comments_cross meaning_row rows_of_two late_after_both
 both_mean_late = refl
 
 both_show_late : rows_of_two (key.Comment (id 1 1)) (run 1000000 comments_cross (start 2)) ≡ (late_after_both, late_after_both)
-both_show_late = ap (rows_of_two (key.Comment (id 1 1))) (same_run 1000000 (omega arith) comments_cross (start 2) comments_are_events (start_sound 2 (omega arith)) (room_start 1000000 2)) ∙ both_mean_late
+both_show_late =
+    ap (rows_of_two (key.Comment (id 1 1))) (same_run 1000000 (omega arith) comments_cross (start 2) comments_are_events (start_sound 2 (omega arith)) (room_start 1000000 2))
+    ∙ both_mean_late

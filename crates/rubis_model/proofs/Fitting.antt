@@ -36,12 +36,16 @@ found_at f i x (y ∷ a) e = go (same_id i y.id) refl (f y) refl (found_at f i x
     go true q (Some z) r ih = (y, inl refl, (Decides-same_id i y.id).0 q, r ∙ (λ j. option_or (when (sym q j) (sym r j)) (at_id f i a)) ∙ e)
 
 -- ---- sums of red shadows
-less : (f : Shadow → ℕ) → ((x : Shadow) → is_red x ≡ false → f x ≡ 0) → (b a : List Core) → OneEach b → ((m : Core) → Member b m → is_red m.shadow ≡ true → Member a m) → total f b ≤ total f a
+less : (f : Shadow → ℕ) → ((x : Shadow) → is_red x ≡ false → f x ≡ 0) → (b a : List Core) → OneEach b
+    → ((m : Core) → Member b m → is_red m.shadow ≡ true → Member a m) → total f b ≤ total f a
 less f blue [] a u h = omega arith
 less f blue (x ∷ b) a u h = go (is_red x.shadow) refl (less f blue b)
   where
-    go : (t : Bool) → is_red x.shadow ≡ t → ((c : List Core) → OneEach b → ((m : Core) → Member b m → is_red m.shadow ≡ true → Member c m) → total f b ≤ total f c) → total f (x ∷ b) ≤ total f a
-    go false e ih = let z = blue x.shadow e in let c = sum_by-cons (λ (m : Core). f m.shadow) x b in let l = ih a u.1 (λ m k r. h m (inr k) r) in omega (arith, z, c, l)
+    go : (t : Bool) → is_red x.shadow ≡ t
+        → ((c : List Core) → OneEach b → ((m : Core) → Member b m → is_red m.shadow ≡ true → Member c m) → total f b ≤ total f c)
+        → total f (x ∷ b) ≤ total f a
+    go false e ih =
+        let z = blue x.shadow e in let c = sum_by-cons (λ (m : Core). f m.shadow) x b in let l = ih a u.1 (λ m k r. h m (inr k) r) in omega (arith, z, c, l)
     go true e ih =
         let w = split_at a x (h x (inl refl) e) in
         let c = sum_by-cons (λ (m : Core). f m.shadow) x b in
@@ -116,17 +120,22 @@ module _ (a b : List Core) (within : (m : Core) → Member a m → Member b m) (
         ∙ same_chosen earlier_ranks (λ m. is_nick n (nick_at m.id b)) a b (λ m e k. within m k) (λ m e k. back m k (holder_red n m k e))
         (λ x y h l p q f g. one_red x y h l (holder_red n x h p) (holder_red n y l q) (earlier_apart x y f g))
 
-    enough : (i : Id) (q : ℕ) → IsSome (item_at i a) → IfSome (item_at i a) (λ n. total (sold_of i) a + q ≤ supply a i n) → IfSome (item_at i b) (λ n. total (sold_of i) b + q ≤ supply b i n)
+    enough : (i : Id) (q : ℕ) → IsSome (item_at i a) → IfSome (item_at i a) (λ n. total (sold_of i) a + q ≤ supply a i n)
+        → IfSome (item_at i b) (λ n. total (sold_of i) b + q ≤ supply b i n)
     enough i q h k = at (item_at i a) refl h k
       where
-        at : (o : Option NewItem) → item_at i a ≡ o → IsSome o → IfSome o (λ n. total (sold_of i) a + q ≤ supply a i n) → IfSome (item_at i b) (λ n. total (sold_of i) b + q ≤ supply b i n)
+        at : (o : Option NewItem) → item_at i a ≡ o → IsSome o → IfSome o (λ n. total (sold_of i) a + q ≤ supply a i n)
+            → IfSome (item_at i b) (λ n. total (sold_of i) b + q ≤ supply b i n)
         at None e s l = absurd (true≢false (sym s))
-        at (Some n) e s l = subst (λ o. IfSome o (λ n. total (sold_of i) b + q ≤ supply b i n)) (sym (still (λ m. as_item m.shadow) i n e)) (let r = less (sold_of i) (sold_blue i) b a ids back in omega (arith, r, l))
+        at (Some n) e s l =
+            subst (λ o. IfSome o (λ n. total (sold_of i) b + q ≤ supply b i n)) (sym (still (λ m. as_item m.shadow) i n e)) (let r = less (sold_of i) (sold_blue i) b a ids back in omega (arith, r, l))
 
-  same_cat : (i : Id) (c : ℕ) → option_map (λ (n : NewItem). n.cat) (item_at i a) ≡ Some c → option_map (λ (n : NewItem). n.cat) (item_at i b) ≡ Some c
+  same_cat : (i : Id) (c : ℕ) → option_map (λ (n : NewItem). n.cat) (item_at i a) ≡ Some c
+      → option_map (λ (n : NewItem). n.cat) (item_at i b) ≡ Some c
   same_cat i c h = at (item_at i a) refl h
     where
-      at : (o : Option NewItem) → item_at i a ≡ o → option_map (λ (n : NewItem). n.cat) o ≡ Some c → option_map (λ (n : NewItem). n.cat) (item_at i b) ≡ Some c
+      at : (o : Option NewItem) → item_at i a ≡ o → option_map (λ (n : NewItem). n.cat) o ≡ Some c
+          → option_map (λ (n : NewItem). n.cat) (item_at i b) ≡ Some c
       at None e k = absurd cc
       at (Some n) e k = ap (option_map (λ (n : NewItem). n.cat)) (still (λ m. as_item m.shadow) i n e) ∙ k
 
@@ -134,6 +143,8 @@ module _ (a b : List Core) (within : (m : Core) → Member a m → Member b m) (
   fits_on (User n) r f = sym (same_named (r refl) n) ∙ f
   fits_on (Item n) r f = still_some _ n.seller f
   fits_on (Bid x) r f = (still_some _ x.item f.0, still_some _ x.bidder f.1, sym (same_close (r refl) x.item) ∙ f.2)
-  fits_on (Buy p) r f = (still_some _ p.item f.0, still_some _ p.buyer f.1, sym (same_close (r refl) p.item) ∙ f.2, enough (r refl) p.item p.quantity f.0 f.3)
-  fits_on (Close c) r f = (same_cat c.item c.cat f.0, sym (same_close (r refl) c.item) ∙ f.1, f.2 ∙ ap (option_map (λ (m : Core). m.id)) (same_best (r refl) c.item))
+  fits_on (Buy p) r f =
+      (still_some _ p.item f.0, still_some _ p.buyer f.1, sym (same_close (r refl) p.item) ∙ f.2, enough (r refl) p.item p.quantity f.0 f.3)
+  fits_on (Close c) r f =
+      (same_cat c.item c.cat f.0, sym (same_close (r refl) c.item) ∙ f.1, f.2 ∙ ap (option_map (λ (m : Core). m.id)) (same_best (r refl) c.item))
   fits_on (Comment c) r f = (still_some _ c.item f.0, still_some _ c.from f.1, still_some _ c.to f.2)

@@ -75,11 +75,13 @@ folded_fit t ms entry part id (e ∷ es) h =
 fit_two : (t : Tables) (e f : Effect) → ¬ (f.key ≡ e.key) → misfit_of t e ≡ None → misfit_of t f ≡ None → AllFit t (e ∷ f ∷ [])
 fit_two t e f n p q = (p, (ap (λ d. d.misfit) (doing_else t e f n) ∙ q, tt))
 
-fit_three : (t : Tables) (e f g : Effect) → ¬ (f.key ≡ e.key) → ¬ (g.key ≡ e.key) → ¬ (g.key ≡ f.key) → misfit_of t e ≡ None → misfit_of t f ≡ None → misfit_of t g ≡ None → AllFit t (e ∷ f ∷ g ∷ [])
+fit_three : (t : Tables) (e f g : Effect) → ¬ (f.key ≡ e.key) → ¬ (g.key ≡ e.key) → ¬ (g.key ≡ f.key) → misfit_of t e ≡ None → misfit_of t f ≡ None
+    → misfit_of t g ≡ None → AllFit t (e ∷ f ∷ g ∷ [])
 fit_three t e f g n k l p q r =
     (p, (ap (λ d. d.misfit) (doing_else t e f n) ∙ q, (ap (λ d. d.misfit) (doing_else (after t e) f g l ∙ doing_else t e g k) ∙ r, tt)))
 
-fits_at : (t : Tables) (a : List Core) (k : RowKey) (c : Change) → map.get t k ≡ meaning_row a k → (change_row c (meaning_row a k)).misfit ≡ None → (change_row c (map.get t k)).misfit ≡ None
+fits_at : (t : Tables) (a : List Core) (k : RowKey) (c : Change) → map.get t k ≡ meaning_row a k → (change_row c (meaning_row a k)).misfit ≡ None
+    → (change_row c (map.get t k)).misfit ≡ None
 fits_at t a k c e h = ap (λ o. (change_row c o).misfit) e ∙ h
 
 new_row : (a : List Core) (k : RowKey) (r : Row) → meaning_row a k ≡ None → (change_row (Insert r) (meaning_row a k)).misfit ≡ None
@@ -94,7 +96,8 @@ of_mapped : {X Y : Type 0} (f : X → Y) (o : Option X) (y : Y) → option_map f
 of_mapped f None y e = absurd cc
 of_mapped f (Some x) y e = refl
 
-user_fits : (a : List Core) (u : Id) (c : Change) → ((n : List ℕ) → (change_row c (Some (user_row a u n))).misfit ≡ None) → IsSome (user_at u a) → (change_row c (meaning_row a (key.User u))).misfit ≡ None
+user_fits : (a : List Core) (u : Id) (c : Change) → ((n : List ℕ) → (change_row c (Some (user_row a u n))).misfit ≡ None) → IsSome (user_at u a)
+    → (change_row c (meaning_row a (key.User u))).misfit ≡ None
 unfolding meaning_row
 user_fits a u c each s =
     let n = some_of (nick_at u a) (nick_some u a s) in
@@ -119,15 +122,18 @@ item_fits a i c s shut each =
     let n = some_of (item_at i a) s in
     (λ j. (change_row c (option_map (item_of (supply a i) (total (sold_of i) a) (count (bids_on i) a) (best_bid i a) (shut j)) (n.1 j))).misfit) ∙ each n.0 n.1
 
-bid_fits : (b : Best) (w : NewItem → ℕ) (s c : ℕ) (best : Option Core) (n : NewItem) → (change_row (BidTaken b) (Some (item_of w s c best None n))).misfit ≡ None
+bid_fits : (b : Best) (w : NewItem → ℕ) (s c : ℕ) (best : Option Core) (n : NewItem)
+    → (change_row (BidTaken b) (Some (item_of w s c best None n))).misfit ≡ None
 unfolding change_row
 bid_fits b w s c best n = refl
 
-end_fits : (e : Option Id) (w : NewItem → ℕ) (s c : ℕ) (best : Option Core) (n : NewItem) → (change_row (End e) (Some (item_of w s c best None n))).misfit ≡ None
+end_fits : (e : Option Id) (w : NewItem → ℕ) (s c : ℕ) (best : Option Core) (n : NewItem)
+    → (change_row (End e) (Some (item_of w s c best None n))).misfit ≡ None
 unfolding change_row
 end_fits e w s c best n = refl
 
-sold_fits : (q : ℕ) (w : NewItem → ℕ) (s c : ℕ) (best : Option Core) (n : NewItem) → s + q ≤ w n → (change_row (Sold q) (Some (item_of w s c best None n))).misfit ≡ None
+sold_fits : (q : ℕ) (w : NewItem → ℕ) (s c : ℕ) (best : Option Core) (n : NewItem) → s + q ≤ w n
+    → (change_row (Sold q) (Some (item_of w s c best None n))).misfit ≡ None
 unfolding change_row
 sold_fits q w s c best n h = split (nat_le q (w n - s)) _ (le_true q (w n - s) (omega arith))
   where
@@ -135,7 +141,8 @@ sold_fits q w s c best n h = split (nat_le q (w n - s)) _ (le_true q (w n - s) (
     split true r e = refl
     split false r e = absurd (true≢false (sym e))
 
-cat_fits : (a : List Core) (k : ℕ) (c : Change) → k < 1000 → (change_row c (Some (category_row a k))).misfit ≡ None → (change_row c (meaning_row a (key.Cat k))).misfit ≡ None
+cat_fits : (a : List Core) (k : ℕ) (c : Change) → k < 1000 → (change_row c (Some (category_row a k))).misfit ≡ None
+    → (change_row c (meaning_row a (key.Cat k))).misfit ≡ None
 unfolding meaning_row
 cat_fits a k c h each = ap (λ b. (change_row c (when b (Some (category_row a k)))).misfit) (lt_true k 1000 h) ∙ each
   where
@@ -153,7 +160,8 @@ cat_ended a k = refl
 no_row : {X : Type 0} (f : Core → Option X) (wrap : X → Row) (i : Id) (a : List Core) → has_id i a ≡ None → option_map wrap (at_id f i a) ≡ None
 no_row f wrap i a e = ap (option_map wrap) (none_at f i a e)
 
-all_fit : (t : Tables) (a : List Core) (s : Head) (x : Shadow) → ((q : RowKey) → map.get t q ≡ meaning_row a q) → Good a → Follows a (msg s x) → AllFit t (parts s.id s.red x)
+all_fit : (t : Tables) (a : List Core) (s : Head) (x : Shadow) → ((q : RowKey) → map.get t q ≡ meaning_row a q) → Good a → Follows a (msg s x)
+    → AllFit t (parts s.id s.red x)
 unfolding meaning_row
 all_fit t a s (shadow.User n) r g f =
     fit_two t _ _ (λ e. cc)
@@ -184,7 +192,8 @@ all_fit t a s (shadow.Comment c) r g f =
 
 -- ---- one more message
 
-rows_more : (t : Tables) (a : List Core) (s : Head) (x : Shadow) → ((q : RowKey) → map.get t q ≡ meaning_row a q) → Good a → Follows a (msg s x) → length a < 2 ^ 32 →
+rows_more : (t : Tables) (a : List Core) (s : Head) (x : Shadow) → ((q : RowKey) → map.get t q ≡ meaning_row a q) → Good a → Follows a (msg s x)
+    → length a < 2 ^ 32 →
     (q : RowKey) → map.get (effects_after t (parts s.id s.red x)) q ≡ meaning_row (a ++ msg s x ∷ []) q
 rows_more t a s x r g f h q = get-effects_after t (parts s.id s.red x) q ∙ ap (λ o. fold (at_key q) o (parts s.id s.red x)) (r q) ∙ at q
   where
@@ -243,7 +252,8 @@ opening_rows q = map.get-from_entries key_total (categories_from 0 1000) q ∙ o
 append_none : {X : Type 0} (xs : List X) → xs ++ [] ≡ xs
 append_none xs = search Rattle.std.proofs.Common.rules
 
-numbered_push : (k : ℕ) (a : List Core) (m : Core) → numbered_from k (a ++ m ∷ []) ≡ numbered_from k a ++ number_parts (k + length a) 1 m.id (parts_of m)
+numbered_push : (k : ℕ) (a : List Core) (m : Core)
+    → numbered_from k (a ++ m ∷ []) ≡ numbered_from k a ++ number_parts (k + length a) 1 m.id (parts_of m)
 numbered_push k [] m = append_none _ ∙ ap (λ n. number_parts n 1 m.id (parts_of m)) (omega arith)
 numbered_push k (x ∷ a) m =
     ap (λ ns. number_parts k 1 x.id (parts_of x) ++ ns) (numbered_push (k + 1) a m)

@@ -41,12 +41,14 @@ module _ (keep : ℕ) (few : keep ≤ 1000000) (w : World) (i : ℕ) (s : Sound 
       least k a b h e = grind (arith, nat_tests)
 
   -- a red number is within the limit, and is positive just where the shadow is red
-  red_small : (x : Shadow) → decision (rows_at (site w i).log) (standing_of keep (site w i)) ask ≡ Ok x → (b : Bool) → is_red x ≡ b → (o : Option ℕ) → (site w i).held ≡ o
+  red_small : (x : Shadow) → decision (rows_at (site w i).log) (standing_of keep (site w i)) ask ≡ Ok x → (b : Bool) → is_red x ≡ b → (o : Option ℕ)
+      → (site w i).held ≡ o
       → (red_for x (site w i).held ≤ 1000000) × (is_red x ≡ nat_lt 0 (red_for x (site w i).held))
   red_small x e false r o h =
       let none : red_for x (site w i).held ≡ 0 = ap (λ b. cond b (unwrap_or (site w i).held 0 + 1) 0) r in
       (omega (arith, none), r ∙ sym (ap (nat_lt 0) none))
-  red_small x e true r None h = absurd (true≢false (sym (red_allowed (rows_at (site w i).log) (standing_of keep (site w i)) ask x e r).0 ∙ ap is_some h))
+  red_small x e true r None h =
+      absurd (true≢false (sym (red_allowed (rows_at (site w i).log) (standing_of keep (site w i)) ask x e r).0 ∙ ap is_some h))
   red_small x e true r (Some issued) h =
       let number : red_for x (site w i).held ≡ issued + 1 = (λ j. cond (r j) (unwrap_or (h j) 0 + 1) 0) in
       let up : reds (site w i).log ≡ issued = eqb-true (reds (site w i).log) issued (ap (λ q. option_map_or (λ n. reds (site w i).log == n) q false) (sym h) ∙ (red_allowed (rows_at (site w i).log) (standing_of keep (site w i)) ask x e r).1) in
@@ -57,7 +59,8 @@ module _ (keep : ℕ) (few : keep ≤ 1000000) (w : World) (i : ℕ) (s : Sound 
       positive : (n : ℕ) → nat_lt 0 (n + 1) ≡ true
       positive n = grind (arith, nat_tests)
 
-  pub made_formed : (x : Shadow) → decision (rows_at (site w i).log) (standing_of keep (site w i)) ask ≡ Ok x → IsMessage (made (place keep w i) (site w i) x)
+  pub made_formed : (x : Shadow) → decision (rows_at (site w i).log) (standing_of keep (site w i)) ask ≡ Ok x
+      → IsMessage (made (place keep w i) (site w i) x)
   made_formed x e =
       let n : length (made (place keep w i) (site w i) x).stamp.deps ≡ length w.sites = length-map-range_with_len (λ j. counted j (site w i).log) 0 (length w.sites) in
       let room = room_left x e in
@@ -94,16 +97,21 @@ module _ (keep : ℕ) (w : World) (i : ℕ) (f : AllFormed w) where
   coming_formed (Some (Mail m)) = f
   coming_formed (Some (Right t)) = f
 
-  asking_formed : (ask : Ask) (a : Result Shadow Refusal) → ((x : Shadow) → a ≡ Ok x → IsMessage (made (place keep w i) (site w i) x)) → AllFormed (answering Mail w i (generating (place keep w i) (site w i) a))
+  asking_formed : (ask : Ask) (a : Result Shadow Refusal) → ((x : Shadow) → a ≡ Ok x → IsMessage (made (place keep w i) (site w i) x))
+      → AllFormed (answering Mail w i (generating (place keep w i) (site w i) a))
   asking_formed ask (Err r) h m k = none_more m k
-  asking_formed ask (Ok x) h m k = ⊎_elim (λ a. f m a) (λ e. subst IsMessage (sym e) (h x refl)) (shadow_cases m (made (place keep w i) (site w i) x) w.sent k)
+  asking_formed ask (Ok x) h m k =
+      ⊎_elim (λ a. f m a) (λ e. subst IsMessage (sym e) (h x refl)) (shadow_cases m (made (place keep w i) (site w i) x) w.sent k)
 
-pub event_formed : (keep : ℕ) → keep ≤ 1000000 → (w : World) (e : Event) → length w.sites ≤ 16 → IsEvent (length w.sites) e → Sound w → AllFormed w → AllFormed (happens keep w e)
-event_formed keep few w (Request i ask) n a s f = asking_formed keep w i f ask (decision (rows_at (site w i).log) (standing_of keep (site w i)) ask) (made_formed keep few w i s a.0 n ask a.1)
+pub event_formed : (keep : ℕ) → keep ≤ 1000000 → (w : World) (e : Event) → length w.sites ≤ 16 → IsEvent (length w.sites) e → Sound w → AllFormed w
+    → AllFormed (happens keep w e)
+event_formed keep few w (Request i ask) n a s f =
+    asking_formed keep w i f ask (decision (rows_at (site w i).log) (standing_of keep (site w i)) ask) (made_formed keep few w i s a.0 n ask a.1)
 event_formed keep few w (Pass i to) n a s f = passing_formed keep w i f to (site w i).held
 event_formed keep few w (Deliver i k) n a s f = coming_formed keep w i f (slice_get w.sent k)
 
-pub run_formed : (keep : ℕ) → keep ≤ 1000000 → (es : List Event) (w : World) → length w.sites ≤ 16 → AreEvents (length w.sites) es → Sound w → AllFormed w → AllFormed (run keep es w)
+pub run_formed : (keep : ℕ) → keep ≤ 1000000 → (es : List Event) (w : World) → length w.sites ≤ 16 → AreEvents (length w.sites) es → Sound w
+    → AllFormed w → AllFormed (run keep es w)
 run_formed keep few [] w n a s f = f
 run_formed keep few (e ∷ es) w n a s f =
     let same = event_sites keep w e in

@@ -64,10 +64,12 @@ not_there (Some x) s e = absurd cc
 
 -- a test of two ids fails where one names a row and the other has none
 other_user : (u v : Id) (a : List Core) → user_at u a ≡ None → IsSome (user_at v a) → same_id u v ≡ false
-other_user u v a e s = elim (same_id u v) as (λ b. same_id u v ≡ b → b ≡ false) [ true ↦ λ h. absurd (not_there (user_at v a) s (subst (λ w. user_at w a ≡ None) ((Decides-same_id u v).0 h) e)) | false ↦ λ h. refl ] refl
+other_user u v a e s =
+    elim (same_id u v) as (λ b. same_id u v ≡ b → b ≡ false) [ true ↦ λ h. absurd (not_there (user_at v a) s (subst (λ w. user_at w a ≡ None) ((Decides-same_id u v).0 h) e)) | false ↦ λ h. refl ] refl
 
 other_item : (u v : Id) (a : List Core) → item_at u a ≡ None → IsSome (item_at v a) → same_id u v ≡ false
-other_item u v a e s = elim (same_id u v) as (λ b. same_id u v ≡ b → b ≡ false) [ true ↦ λ h. absurd (not_there (item_at v a) s (subst (λ w. item_at w a ≡ None) ((Decides-same_id u v).0 h) e)) | false ↦ λ h. refl ] refl
+other_item u v a e s =
+    elim (same_id u v) as (λ b. same_id u v ≡ b → b ≡ false) [ true ↦ λ h. absurd (not_there (item_at v a) s (subst (λ w. item_at w a ≡ None) ((Decides-same_id u v).0 h) e)) | false ↦ λ h. refl ] refl
 
 mapped_some : {X Y : Type 0} (f : X → Y) (o : Option X) (y : Y) → option_map f o ≡ Some y → IsSome o
 mapped_some f None y e = absurd cc
@@ -86,8 +88,10 @@ record SaysNothingOfItem (i : Id) (x : Shadow) : Type 0 where
 
 nothing_of_user : (u : Id) (a : List Core) (x : Shadow) → Fits a x → user_at u a ≡ None → SaysNothingOfUser u x
 nothing_of_user u a (Item n) f e = record { items = other_user u n.seller a e f; bought = refl; rating = refl; comments = refl }
-nothing_of_user u a (Buy p) f e = record { items = refl; bought = ap (λ b. cond b p.quantity 0) (other_user u p.buyer a e f.1); rating = refl; comments = refl }
-nothing_of_user u a (Comment c) f e = record { items = refl; bought = refl; rating = ap (λ b. cond b c.rating (pos 0)) (other_user u c.to a e f.2); comments = other_user u c.to a e f.2 }
+nothing_of_user u a (Buy p) f e =
+    record { items = refl; bought = ap (λ b. cond b p.quantity 0) (other_user u p.buyer a e f.1); rating = refl; comments = refl }
+nothing_of_user u a (Comment c) f e =
+    record { items = refl; bought = refl; rating = ap (λ b. cond b c.rating (pos 0)) (other_user u c.to a e f.2); comments = other_user u c.to a e f.2 }
 nothing_of_user u a x f e = record { items = refl; bought = refl; rating = refl; comments = refl }
 
 nothing_of_item : (i : Id) (a : List Core) (x : Shadow) → Fits a x → item_at i a ≡ None → SaysNothingOfItem i x
@@ -117,32 +121,39 @@ if_some_both None f h k = tt
 if_some_both (Some x) f h k = f x h k
 
 -- no other item, and so many pieces of this one bought
-stocked : (i : Id) (a : List Core) (m : Core) (q : ℕ) → sold_of i m.shadow ≡ q → (n : NewItem) → total (sold_of i) a + q ≤ supply a i n → Stocked a i n → Stocked (a ++ m ∷ []) i n
+stocked : (i : Id) (a : List Core) (m : Core) (q : ℕ) → sold_of i m.shadow ≡ q → (n : NewItem) → total (sold_of i) a + q ≤ supply a i n
+    → Stocked a i n → Stocked (a ++ m ∷ []) i n
 stocked i a m q e n l h = record { enough = (let t = total_push (sold_of i) a m in omega (arith, t, e, l)); opening = h.opening }
 
 none_sold : (i : Id) (a : List Core) (n : NewItem) → Stocked a i n → total (sold_of i) a + 0 ≤ supply a i n
 none_sold i a n h = let e = h.enough in omega (arith, e)
 
-same_items : (i : Id) (a : List Core) (m : Core) → as_item m.shadow ≡ None → IfSome (item_at i a) (Stocked (a ++ m ∷ []) i) → IfSome (item_at i (a ++ m ∷ [])) (Stocked (a ++ m ∷ []) i)
+same_items : (i : Id) (a : List Core) (m : Core) → as_item m.shadow ≡ None → IfSome (item_at i a) (Stocked (a ++ m ∷ []) i)
+    → IfSome (item_at i (a ++ m ∷ [])) (Stocked (a ++ m ∷ []) i)
 same_items i a m e h = subst (λ o. IfSome o (Stocked (a ++ m ∷ []) i)) (sym (at_id_push_not (λ m. as_item m.shadow) i a m e)) h
 
-listed_stocked : (i : Id) (a : List Core) (s : Head) (n : NewItem) (o : Option NewItem) → n.stock ≤ 1000000 → (o ≡ None → total (sold_of i) a ≡ 0) → IfSome o (Stocked a i) → (b : Bool) →
+listed_stocked : (i : Id) (a : List Core) (s : Head) (n : NewItem) (o : Option NewItem) → n.stock ≤ 1000000 → (o ≡ None → total (sold_of i) a ≡ 0)
+    → IfSome o (Stocked a i) → (b : Bool) →
     IfSome (option_or o (when b (Some n))) (Stocked (a ++ msg s (Item n) ∷ []) i)
 listed_stocked i a s n (Some k) l z h b = stocked i a (msg s (Item n)) 0 refl k (none_sold i a k h) h
-listed_stocked i a s n None l z h true = record { enough = (let e = z refl in let t = total_push (sold_of i) a (msg s (Item n)) in omega (arith, e, t)); opening = l }
+listed_stocked i a s n None l z h true =
+    record { enough = (let e = z refl in let t = total_push (sold_of i) a (msg s (Item n)) in omega (arith, e, t)); opening = l }
 listed_stocked i a s n None l z h false = tt
 
-stock_push : (a : List Core) (s : Head) (x : Shadow) → Good a → Fits a x → IsLimited x → (i : Id) → IfSome (item_at i (a ++ msg s x ∷ [])) (Stocked (a ++ msg s x ∷ []) i)
+stock_push : (a : List Core) (s : Head) (x : Shadow) → Good a → Fits a x → IsLimited x → (i : Id)
+    → IfSome (item_at i (a ++ msg s x ∷ [])) (Stocked (a ++ msg s x ∷ []) i)
 stock_push a s (Buy p) g f l i = same_items i a (msg s (Buy p)) refl (at (same_id i p.item) refl)
   where
     at : (b : Bool) → same_id i p.item ≡ b → IfSome (item_at i a) (Stocked (a ++ msg s (Buy p) ∷ []) i)
     at true e = if_some_both (item_at i a) (λ n. stocked i a (msg s (Buy p)) p.quantity (ap (λ b. cond b p.quantity 0) e) n)
         (subst (λ j. IfSome (item_at j a) (λ n. total (sold_of j) a + p.quantity ≤ supply a j n)) (sym ((Decides-same_id i p.item).0 e)) f.3) (g.stock i)
-    at false e = if_some_map (item_at i a) (λ n h. stocked i a (msg s (Buy p)) 0 (ap (λ b. cond b p.quantity 0) e) n (none_sold i a n h) h) (g.stock i)
+    at false e =
+        if_some_map (item_at i a) (λ n h. stocked i a (msg s (Buy p)) 0 (ap (λ b. cond b p.quantity 0) e) n (none_sold i a n h) h) (g.stock i)
 stock_push a s (Item n) g f l i =
     subst (λ o. IfSome o (Stocked (a ++ msg s (Item n) ∷ []) i)) (sym (at_id_push (λ m. as_item m.shadow) i a (msg s (Item n))))
     (listed_stocked i a s n (item_at i a) l.1.stock.small (λ e. (g.no_item i e).sold) (g.stock i) (same_id i s.id))
-stock_push a s x g f l i = same_items i a (msg s x) refl (if_some_map (item_at i a) (λ n h. stocked i a (msg s x) 0 refl n (none_sold i a n h) h) (g.stock i))
+stock_push a s x g f l i =
+    same_items i a (msg s x) refl (if_some_map (item_at i a) (λ n h. stocked i a (msg s x) 0 refl n (none_sold i a n h) h) (g.stock i))
 
 pub rated_in : (u : Id) (x : Shadow) → IsLimited x → unsigned_abs (rating_for u x) ≤ 5
 rated_in u (Comment c) h = elim (same_id u c.to) as (λ b. unsigned_abs (cond b c.rating (pos 0)) ≤ 5) [ true ↦ h.1.rating | false ↦ omega arith ]
@@ -151,10 +162,13 @@ rated_in u x h = omega arith
 pub abs_sum : (a b : ℤ) → unsigned_abs (a +ℤ b) ≤ unsigned_abs a + unsigned_abs b
 abs_sum a b = grind (arith, ints)
 
-pub more_reds : (a : List Core) (m : Core) → m.red ≡ cond (is_red m.shadow) (count is_red a + 1) 0 → m.red ≤ count is_red a + cond (is_red m.shadow) 1 0
-more_reds a m e = elim (is_red m.shadow) as (λ b. m.red ≡ cond b (count is_red a + 1) 0 → m.red ≤ count is_red a + cond b 1 0) [ true ↦ λ h. omega arith | false ↦ λ h. omega arith ] e
+pub more_reds : (a : List Core) (m : Core) → m.red ≡ cond (is_red m.shadow) (count is_red a + 1) 0
+    → m.red ≤ count is_red a + cond (is_red m.shadow) 1 0
+more_reds a m e =
+    elim (is_red m.shadow) as (λ b. m.red ≡ cond b (count is_red a + 1) 0 → m.red ≤ count is_red a + cond b 1 0) [ true ↦ λ h. omega arith | false ↦ λ h. omega arith ] e
 
-choice_red : (n k : ℕ) (beats : Core → Core → Bool) (p : Core → Bool) (o : Option Core) (m : Core) → n ≤ k → m.red ≤ k → IfSome o (λ x. x.red ≤ n) → IfSome (choice beats p o m) (λ x. x.red ≤ k)
+choice_red : (n k : ℕ) (beats : Core → Core → Bool) (p : Core → Bool) (o : Option Core) (m : Core) → n ≤ k → m.red ≤ k → IfSome o (λ x. x.red ≤ n)
+    → IfSome (choice beats p o m) (λ x. x.red ≤ k)
 choice_red n k beats p None m le r h = elim (p m) as (λ b. IfSome (cond b (Some m) None) (λ x. x.red ≤ k)) [ true ↦ r | false ↦ tt ]
 choice_red n k beats p (Some x) m le r h =
     let old : x.red ≤ k = omega (arith, le, h) in
@@ -167,7 +181,8 @@ user_gives a s k g f v =
     nick_push_user v a s k (none_at (λ m. as_user m.shadow) s.id a f.new_id)
 
 nicks_push : (a : List Core) (s : Head) (x : Shadow) → Good a → Follows a (msg s x) → Unique (λ u. nick_at u (a ++ msg s x ∷ []))
-nicks_push a s (User k) g f = unique_given (λ u. nick_at u a) (λ u. nick_at u (a ++ msg s (User k) ∷ [])) s.id k (user_gives a s k g f) g.nicks (not_named k a f.fits)
+nicks_push a s (User k) g f =
+    unique_given (λ u. nick_at u a) (λ u. nick_at u (a ++ msg s (User k) ∷ [])) s.id k (user_gives a s k g f) g.nicks (not_named k a f.fits)
 nicks_push a s x g f = λ n u v p q. g.nicks n u v (sym (nick_push_not u a (msg s x) refl) ∙ p) (sym (nick_push_not v a (msg s x) refl) ∙ q)
 
 -- ---- one more message

@@ -62,22 +62,27 @@ home_within shards (key.Comment i) l = mod_below _ shards l
 home_within shards (key.Nick n) l = mod_below _ shards l
 home_within shards (key.Cat k) l = mod_below _ shards l
 
-noted_part : (shards k : ℕ) (os : List (Numbered × Option MisfitKind)) (z : Misfit) → Has z (all_noted (filter (λ o. nat_eq (home_of shards o) k) os)) → Has z (all_noted os)
+noted_part : (shards k : ℕ) (os : List (Numbered × Option MisfitKind)) (z : Misfit) → Has z (all_noted (filter (λ o. nat_eq (home_of shards o) k) os))
+    → Has z (all_noted os)
 noted_part shards k [] z m = m
 noted_part shards k (o ∷ os) z m = at (nat_eq (home_of shards o) k) m (noted_part shards k os z)
   where
-    at : (b : Bool) → Has z (all_noted (cond b (o ∷ filter (λ o. nat_eq (home_of shards o) k) os) (filter (λ o. nat_eq (home_of shards o) k) os))) → (Has z (all_noted (filter (λ o. nat_eq (home_of shards o) k) os)) → Has z (all_noted os)) → Has z (noted o.0 o.1 ++ all_noted os)
-    at true m ih = ⊎_elim (λ l. has_left z (noted o.0 o.1) (all_noted os) l) (λ r. has_right z (noted o.0 o.1) (all_noted os) (ih r)) (has_append z (noted o.0 o.1) (all_noted (filter (λ o. nat_eq (home_of shards o) k) os)) m)
+    at : (b : Bool) → Has z (all_noted (cond b (o ∷ filter (λ o. nat_eq (home_of shards o) k) os) (filter (λ o. nat_eq (home_of shards o) k) os)))
+        → (Has z (all_noted (filter (λ o. nat_eq (home_of shards o) k) os)) → Has z (all_noted os)) → Has z (noted o.0 o.1 ++ all_noted os)
+    at true m ih =
+        ⊎_elim (λ l. has_left z (noted o.0 o.1) (all_noted os) l) (λ r. has_right z (noted o.0 o.1) (all_noted os) (ih r)) (has_append z (noted o.0 o.1) (all_noted (filter (λ o. nat_eq (home_of shards o) k) os)) m)
     at false m ih = has_right z (noted o.0 o.1) (all_noted os) (ih m)
 
-more_noted : (shards k : ℕ) (o : Numbered × Option MisfitKind) (os : List (Numbered × Option MisfitKind)) (z : Misfit) → Has z (all_noted (filter (λ o. nat_eq (home_of shards o) k) os)) → Has z (all_noted (filter (λ o. nat_eq (home_of shards o) k) (o ∷ os)))
+more_noted : (shards k : ℕ) (o : Numbered × Option MisfitKind) (os : List (Numbered × Option MisfitKind)) (z : Misfit)
+    → Has z (all_noted (filter (λ o. nat_eq (home_of shards o) k) os)) → Has z (all_noted (filter (λ o. nat_eq (home_of shards o) k) (o ∷ os)))
 more_noted shards k o os z m = at (nat_eq (home_of shards o) k)
   where
     at : (b : Bool) → Has z (all_noted (cond b (o ∷ filter (λ o. nat_eq (home_of shards o) k) os) (filter (λ o. nat_eq (home_of shards o) k) os)))
     at true = has_right z (noted o.0 o.1) _ m
     at false = m
 
-noted_home : (shards : ℕ) → 0 < shards → (os : List (Numbered × Option MisfitKind)) (z : Misfit) → Has z (all_noted os) → (k : ℕ) × (k < shards) × Has z (all_noted (filter (λ o. nat_eq (home_of shards o) k) os))
+noted_home : (shards : ℕ) → 0 < shards → (os : List (Numbered × Option MisfitKind)) (z : Misfit) → Has z (all_noted os)
+    → (k : ℕ) × (k < shards) × Has z (all_noted (filter (λ o. nat_eq (home_of shards o) k) os))
 noted_home shards some [] z m = absurd m
 noted_home shards some (o ∷ os) z m = ⊎_elim here (λ r. let w = noted_home shards some os z r in (w.0, w.1, more_noted shards w.0 o os z w.2)) (has_append z (noted o.0 o.1) (all_noted os) m)
   where
@@ -105,7 +110,8 @@ abbrev PartsInPlace : List Numbered → Type 0
 PartsInPlace [] = ⊤
 PartsInPlace (x ∷ xs) = ((y : Numbered) → Has y xs → PartBefore x y) × PartsInPlace xs
 
-part_place : (entry part : ℕ) (id : Id) (es : List Effect) (y : Numbered) → Has y (number_parts entry part id es) → (y.entry ≡ entry) × (part ≤ y.part)
+part_place : (entry part : ℕ) (id : Id) (es : List Effect) (y : Numbered) → Has y (number_parts entry part id es)
+    → (y.entry ≡ entry) × (part ≤ y.part)
 part_place entry part id [] y h = absurd h
 part_place entry part id (e ∷ es) y (inl p) = (ap (λ (n : Numbered). n.entry) p, (let q = ap (λ (n : Numbered). n.part) p in omega (arith, q)))
 part_place entry part id (e ∷ es) y (inr h) = let w = part_place entry (part + 1) id es y h in (w.0, (let l = w.1 in omega (arith, l)))
@@ -117,7 +123,8 @@ later_place first (m ∷ ms) y h = ⊎_elim
     (λ k. let l = later_place (first + 1) ms y k in omega (arith, l))
     (has_append y (number_parts first 1 m.id (parts_of m)) (numbered_from (first + 1) ms) h)
 
-parts_rise : (entry part : ℕ) (id : Id) (es : List Effect) (rest : List Numbered) → ((y : Numbered) → Has y rest → entry + 1 ≤ y.entry) → PartsInPlace rest → PartsInPlace (number_parts entry part id es ++ rest)
+parts_rise : (entry part : ℕ) (id : Id) (es : List Effect) (rest : List Numbered) → ((y : Numbered) → Has y rest → entry + 1 ≤ y.entry)
+    → PartsInPlace rest → PartsInPlace (number_parts entry part id es ++ rest)
 parts_rise entry part id [] rest l r = r
 parts_rise entry part id (e ∷ es) rest l r = (
   (λ y h. ⊎_elim
@@ -129,10 +136,12 @@ parts_rise entry part id (e ∷ es) rest l r = (
 
 numbered_rise : (first : ℕ) (ms : List Core) → PartsInPlace (numbered_from first ms)
 numbered_rise first [] = tt
-numbered_rise first (m ∷ ms) = parts_rise first 1 m.id (parts_of m) (numbered_from (first + 1) ms) (later_place (first + 1) ms) (numbered_rise (first + 1) ms)
+numbered_rise first (m ∷ ms) =
+    parts_rise first 1 m.id (parts_of m) (numbered_from (first + 1) ms) (later_place (first + 1) ms) (numbered_rise (first + 1) ms)
 
 -- whose misfit it is
-noted_of : (t : Tables) (ns : List Numbered) (z : Misfit) → Has z (all_noted (outcomes t ns)) → (n : Numbered) × (Has n ns) × (z.entry ≡ n.entry) × (z.part ≡ n.part)
+noted_of : (t : Tables) (ns : List Numbered) (z : Misfit) → Has z (all_noted (outcomes t ns))
+    → (n : Numbered) × (Has n ns) × (z.entry ≡ n.entry) × (z.part ≡ n.part)
 noted_of t [] z h = absurd h
 noted_of t (n ∷ ns) z h = ⊎_elim (here (misfit_of t n.effect)) (λ k. let w = noted_of (after t n.effect) ns z k in (w.0, inr w.1, w.2, w.3)) (has_append z (noted n (misfit_of t n.effect)) (all_noted (outcomes (after t n.effect) ns)) h)
   where
@@ -145,20 +154,24 @@ misfits_rise : (t : Tables) (ns : List Numbered) → PartsInPlace ns → InPlace
 misfits_rise t [] r = tt
 misfits_rise t (n ∷ ns) r = at (misfit_of t n.effect) (misfits_rise (after t n.effect) ns r.1)
   where
-    later : (kind : MisfitKind) (z : Misfit) → Has z (all_noted (outcomes (after t n.effect) ns)) → IsBefore (record { entry = n.entry; part = n.part; id = n.id; kind = kind }) z
+    later : (kind : MisfitKind) (z : Misfit) → Has z (all_noted (outcomes (after t n.effect) ns))
+        → IsBefore (record { entry = n.entry; part = n.part; id = n.id; kind = kind }) z
     later kind z h =
         let w = noted_of (after t n.effect) ns z h in
         ⊎_elim (λ l. inl (let e = w.2 in omega (arith, l, e))) (λ p. inr (p.0 ∙ sym w.2, (let l = p.1 in let e = w.3 in omega (arith, l, e)))) (r.0 w.0 w.1)
 
-    at : (o : Option MisfitKind) → InPlace (all_noted (outcomes (after t n.effect) ns)) → InPlace (noted n o ++ all_noted (outcomes (after t n.effect) ns))
+    at : (o : Option MisfitKind) → InPlace (all_noted (outcomes (after t n.effect) ns))
+        → InPlace (noted n o ++ all_noted (outcomes (after t n.effect) ns))
     at None k = k
     at (Some kind) k = (later kind, k)
 
 -- ---- the misfits of a batch are in place, and no other such list has the shards' misfits and no others
-batch_misfits : (first : ℕ) (t : Tables) (batch : List Core) → (batch_folded first t batch).misfits ≡ all_noted (outcomes t (numbered_from first batch))
+batch_misfits : (first : ℕ) (t : Tables) (batch : List Core)
+    → (batch_folded first t batch).misfits ≡ all_noted (outcomes t (numbered_from first batch))
 batch_misfits first t batch = ap (λ f. f.misfits) (fold_on_is t [] (numbered_from first batch))
 
-share_misfits : (shards first : ℕ) (t : Tables) (batch : List Core) (k : ℕ) → (share_folded shards first t batch k).misfits ≡ all_noted (filter (λ o. nat_eq (home_of shards o) k) (outcomes t (numbered_from first batch)))
+share_misfits : (shards first : ℕ) (t : Tables) (batch : List Core) (k : ℕ)
+    → (share_folded shards first t batch k).misfits ≡ all_noted (filter (λ o. nat_eq (home_of shards o) k) (outcomes t (numbered_from first batch)))
 share_misfits shards first t batch k =
     ap (λ f. f.misfits) (fold_on_is (part_of shards k t) [] (share shards first batch k))
     ∙ ap all_noted (share_outcomes shards k t (numbered_from first batch))

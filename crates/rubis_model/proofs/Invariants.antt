@@ -23,18 +23,21 @@ still i a m p q h =
     subst (λ o. IfSome o (λ k. winner_of k.shadow ≡ option_map (λ (z : Core). z.id) (best_bid i (a ++ m ∷ [])))) (sym c)
     (subst (λ o. IfSome (close_of i a) (λ k. winner_of k.shadow ≡ option_map (λ (z : Core). z.id) o)) (sym b) h)
 
-winner_push : (a : List Core) (s : Head) (x : Shadow) → Fits a x → ((i : Id) → IfSome (close_of i a) (λ m. winner_of m.shadow ≡ option_map (λ (b : Core). b.id) (best_bid i a))) →
+winner_push : (a : List Core) (s : Head) (x : Shadow) → Fits a x
+    → ((i : Id) → IfSome (close_of i a) (λ m. winner_of m.shadow ≡ option_map (λ (b : Core). b.id) (best_bid i a))) →
     (i : Id) → IfSome (close_of i (a ++ msg s x ∷ [])) (λ m. winner_of m.shadow ≡ option_map (λ (b : Core). b.id) (best_bid i (a ++ msg s x ∷ [])))
 winner_push a s (Bid b) f h i = at (same_id i b.item) refl
   where
-    at : (t : Bool) → same_id i b.item ≡ t → IfSome (close_of i (a ++ msg s (Bid b) ∷ [])) (λ m. winner_of m.shadow ≡ option_map (λ (b : Core). b.id) (best_bid i (a ++ msg s (Bid b) ∷ [])))
+    at : (t : Bool) → same_id i b.item ≡ t
+        → IfSome (close_of i (a ++ msg s (Bid b) ∷ [])) (λ m. winner_of m.shadow ≡ option_map (λ (b : Core). b.id) (best_bid i (a ++ msg s (Bid b) ∷ [])))
     at true e =
         subst (λ o. IfSome o (λ m. winner_of m.shadow ≡ option_map (λ (b : Core). b.id) (best_bid i (a ++ msg s (Bid b) ∷ []))))
         (sym (choose_push earlier (λ n. closes i n.shadow) a (msg s (Bid b)) ∙ choice_not earlier (λ n. closes i n.shadow) (close_of i a) (msg s (Bid b)) refl ∙ subst (λ j. close_of j a ≡ None) (sym ((Decides-same_id i b.item).0 e)) f.2)) tt
     at false e = still i a (msg s (Bid b)) e refl (h i)
 winner_push a s (Close c) f h i = at (same_id i c.item) refl
   where
-    at : (t : Bool) → same_id i c.item ≡ t → IfSome (close_of i (a ++ msg s (Close c) ∷ [])) (λ m. winner_of m.shadow ≡ option_map (λ (b : Core). b.id) (best_bid i (a ++ msg s (Close c) ∷ [])))
+    at : (t : Bool) → same_id i c.item ≡ t
+        → IfSome (close_of i (a ++ msg s (Close c) ∷ [])) (λ m. winner_of m.shadow ≡ option_map (λ (b : Core). b.id) (best_bid i (a ++ msg s (Close c) ∷ [])))
     at true e =
         let j = (Decides-same_id i c.item).0 e in
         let gone : close_of i a ≡ None = subst (λ k. close_of k a ≡ None) (sym j) f.1 in
@@ -54,7 +57,8 @@ holds_push a m g f h = record {
 
 holds_from : (a rest : List Core) → Good a → Holds a → CheckedFrom a rest → Holds (a ++ rest)
 holds_from a [] g u c = subst Holds (search Rattle.std.proofs.Common.rules) u
-holds_from a (m ∷ rest) g u c = subst Holds (append_assoc a (m ∷ []) rest) (holds_from (a ++ m ∷ []) rest (good_push a m g c.0) (holds_push a m g c.0 u) c.1)
+holds_from a (m ∷ rest) g u c =
+    subst Holds (append_assoc a (m ∷ []) rest) (holds_from (a ++ m ∷ []) rest (good_push a m g c.0) (holds_push a m g c.0 u) c.1)
 
 pub checked_holds : (log : List Core) → Checked log → Holds log
 checked_holds log c = holds_from [] log good_none (record { stock = λ i. tt; nicks = good_none.nicks; winner = λ i. tt }) c

@@ -64,13 +64,15 @@ good_after w i m held l s k j = set_at (λ q x. Good (w.sent ++ Mail m ∷ []) q
     (λ q _. good_more w.sent (Mail m) q (site w q).log (site w q).waiting (s.good q)) j
 
 -- what is in a log stays there
-stays : (w : World) (i : ℕ) (m u : Message) (held : Option ℕ) → i < length w.sites → (j : ℕ) → Has u (reverse (site w j).log) → Has u (reverse (get_or (set w.sites i (after w i m held)) j (opening_at 1)).log)
+stays : (w : World) (i : ℕ) (m u : Message) (held : Option ℕ) → i < length w.sites → (j : ℕ) → Has u (reverse (site w j).log)
+    → Has u (reverse (get_or (set w.sites i (after w i m held)) j (opening_at 1)).log)
 unfolding after
 stays w i m u held l j = set_at (λ q x. Has u (reverse (site w q).log) → Has u (reverse x.log)) w.sites i (after w i m held) (opening_at 1) l
     (λ h. settle_grows u (length (site w i).waiting) ((site w i).log ++ m ∷ []) (site w i).waiting (subst (Has u) (sym (reverse_push (site w i).log m)) (inr h)))
     (λ q _ h. h) j
 
-arrives : (w : World) (i : ℕ) (m : Message) (held : Option ℕ) → i < length w.sites → Has m (reverse (get_or (set w.sites i (after w i m held)) i (opening_at 1)).log)
+arrives : (w : World) (i : ℕ) (m : Message) (held : Option ℕ) → i < length w.sites
+    → Has m (reverse (get_or (set w.sites i (after w i m held)) i (opening_at 1)).log)
 unfolding after
 arrives w i m held l = subst (λ (x : Replica). Has m (reverse x.log)) (sym (get_or-set_same w.sites i (after w i m held) (opening_at 1) l))
     (settle_grows m (length (site w i).waiting) ((site w i).log ++ m ∷ []) (site w i).waiting (subst (Has m) (sym (reverse_push (site w i).log m)) (inl refl)))
@@ -78,35 +80,43 @@ arrives w i m held l = subst (λ (x : Replica). Has m (reverse x.log)) (sym (get
 home_after : (w : World) (i : ℕ) (m : Message) (held : Option ℕ) → i < length w.sites → Sound w → IsMade i (site w i).log m
     → Home (length w.sites) (λ j. (get_or (set w.sites i (after w i m held)) j (opening_at 1)).log) (w.sent ++ Mail m ∷ [])
 home_after w i m held l s k = record {
-  origin = λ u h. ⊎_elim (λ a. s.home.origin u a) (λ e. let o = ap (λ (x : Message). x.stamp.id.site) e in omega (arith, k.origin)) (shadow_cases u m w.sent h);
+  origin =
+      λ u h. ⊎_elim (λ a. s.home.origin u a) (λ e. let o = ap (λ (x : Message). x.stamp.id.site) e in omega (arith, k.origin)) (shadow_cases u m w.sent h);
   home = λ u h. ⊎_elim (λ a. stays w i m u held l u.stamp.id.site (s.home.home u a))
       (λ e. subst (λ x. Has x (reverse (get_or (set w.sites i (after w i m held)) x.stamp.id.site (opening_at 1)).log)) (sym e)
       (subst (λ q. Has m (reverse (get_or (set w.sites i (after w i m held)) q (opening_at 1)).log)) (sym k.origin) (arrives w i m held l)))
       (shadow_cases u m w.sent h);
 }
 
-last_after : (w : World) (i : ℕ) (m : Message) (held : Option ℕ) → i < length w.sites → (j : ℕ) → (get_or (set w.sites i (after w i m held)) j (opening_at 1)).last ≡ (site w j).last
+last_after : (w : World) (i : ℕ) (m : Message) (held : Option ℕ) → i < length w.sites → (j : ℕ)
+    → (get_or (set w.sites i (after w i m held)) j (opening_at 1)).last ≡ (site w j).last
 unfolding after
 last_after w i m held l j = set_at (λ q x. x.last ≡ (site w q).last) w.sites i (after w i m held) (opening_at 1) l refl (λ q _. refl) j
 
-held_after_other : (w : World) (i : ℕ) (m : Message) (held : Option ℕ) (j : ℕ) → (j ≡ i → ⊥) → (get_or (set w.sites i (after w i m held)) j (opening_at 1)).held ≡ (site w j).held
+held_after_other : (w : World) (i : ℕ) (m : Message) (held : Option ℕ) (j : ℕ) → (j ≡ i → ⊥)
+    → (get_or (set w.sites i (after w i m held)) j (opening_at 1)).held ≡ (site w j).held
 held_after_other w i m held j n = ap (λ (x : Replica). x.held) (get_or-set_other w.sites i j (after w i m held) (opening_at 1) n)
 
-held_after_same : (w : World) (i : ℕ) (m : Message) (held : Option ℕ) → i < length w.sites → (get_or (set w.sites i (after w i m held)) i (opening_at 1)).held ≡ held
+held_after_same : (w : World) (i : ℕ) (m : Message) (held : Option ℕ) → i < length w.sites
+    → (get_or (set w.sites i (after w i m held)) i (opening_at 1)).held ≡ held
 unfolding after
 held_after_same w i m held l = ap (λ (x : Replica). x.held) (get_or-set_same w.sites i (after w i m held) (opening_at 1) l)
 
-sound_after : (w : World) (i : ℕ) (m : Message) (held : Option ℕ) → i < length w.sites → Sound w → IsMade i (site w i).log m → Reds (w.sent ++ Mail m ∷ [])
+sound_after : (w : World) (i : ℕ) (m : Message) (held : Option ℕ) → i < length w.sites → Sound w → IsMade i (site w i).log m
+    → Reds (w.sent ++ Mail m ∷ [])
     → OneToken (length w.sites) (λ j. (get_or (set w.sites i (after w i m held)) j (opening_at 1)).held) (λ j. (get_or (set w.sites i (after w i m held)) j (opening_at 1)).last) (w.sent ++ Mail m ∷ [])
     → Sound (record { sites = set w.sites i (after w i m held); sent = w.sent ++ Mail m ∷ [] })
 sound_after w i m held l s k r t = record {
   good = good_after w i m held l s k;
-  home = subst (λ n. Home n (λ j. (get_or (set w.sites i (after w i m held)) j (opening_at 1)).log) (w.sent ++ Mail m ∷ [])) (sym (length-set w.sites i (after w i m held))) (home_after w i m held l s k);
+  home =
+      subst (λ n. Home n (λ j. (get_or (set w.sites i (after w i m held)) j (opening_at 1)).log) (w.sent ++ Mail m ∷ [])) (sym (length-set w.sites i (after w i m held))) (home_after w i m held l s k);
   reds = r;
-  token = subst (λ n. OneToken n (λ j. (get_or (set w.sites i (after w i m held)) j (opening_at 1)).held) (λ j. (get_or (set w.sites i (after w i m held)) j (opening_at 1)).last) (w.sent ++ Mail m ∷ [])) (sym (length-set w.sites i (after w i m held))) t;
+  token =
+      subst (λ n. OneToken n (λ j. (get_or (set w.sites i (after w i m held)) j (opening_at 1)).held) (λ j. (get_or (set w.sites i (after w i m held)) j (opening_at 1)).last) (w.sent ++ Mail m ∷ [])) (sym (length-set w.sites i (after w i m held))) t;
 }
 
-sound_blue : (keep : ℕ) (w : World) (i : ℕ) (x : Shadow) → i < length w.sites → red_for x (site w i).held ≡ 0 → issued_after x (site w i).held ≡ (site w i).held
+sound_blue : (keep : ℕ) (w : World) (i : ℕ) (x : Shadow) → i < length w.sites → red_for x (site w i).held ≡ 0
+    → issued_after x (site w i).held ≡ (site w i).held
     → IsMade i (site w i).log (made (place keep w i) (site w i) x) → Sound w → Sound (record { sites = set w.sites i (after_made (place keep w i) (site w i) x); sent = w.sent ++ Mail (made (place keep w i) (site w i) x) ∷ [] })
 unfolding after
 sound_blue keep w i x l none same k s =
@@ -118,7 +128,8 @@ sound_blue keep w i x l none same k s =
     (last_after w i m held l)
     (red_count_blue w.sent m none) (turns_shadow w.sent m) (λ t h. not_right t m w.sent h) (λ t h. has_left (Right t) w.sent (Mail m ∷ []) h) s.token)
 
-sound_red : (keep : ℕ) (w : World) (i issued : ℕ) (x : Shadow) → (site w i).held ≡ Some issued → i < length w.sites → reds (site w i).log ≡ issued → red_for x (site w i).held ≡ issued + 1 → issued_after x (site w i).held ≡ Some (issued + 1)
+sound_red : (keep : ℕ) (w : World) (i issued : ℕ) (x : Shadow) → (site w i).held ≡ Some issued → i < length w.sites → reds (site w i).log ≡ issued
+    → red_for x (site w i).held ≡ issued + 1 → issued_after x (site w i).held ≡ Some (issued + 1)
     → IsMade i (site w i).log (made (place keep w i) (site w i) x) → Sound w → Sound (record { sites = set w.sites i (after_made (place keep w i) (site w i) x); sent = w.sent ++ Mail (made (place keep w i) (site w i) x) ∷ [] })
 unfolding after
 sound_red keep w i issued x e l f number next k s =
@@ -144,12 +155,14 @@ quiet w i held last = record (site w i) { held = held; last = last }
 quiet_site : (w : World) (i : ℕ) (held : Option ℕ) (last : ℕ) → i < length w.sites → (j : ℕ)
     → ((get_or (set w.sites i (quiet w i held last)) j (opening_at 1)).log ≡ (site w j).log) × ((get_or (set w.sites i (quiet w i held last)) j (opening_at 1)).waiting ≡ (site w j).waiting)
 unfolding quiet
-quiet_site w i held last l j = set_at (λ q x. (x.log ≡ (site w q).log) × (x.waiting ≡ (site w q).waiting)) w.sites i (quiet w i held last) (opening_at 1) l (refl, refl) (λ q _. (refl, refl)) j
+quiet_site w i held last l j =
+    set_at (λ q x. (x.log ≡ (site w q).log) × (x.waiting ≡ (site w q).waiting)) w.sites i (quiet w i held last) (opening_at 1) l (refl, refl) (λ q _. (refl, refl)) j
 
 quiet_same : (w : World) (i : ℕ) (held : Option ℕ) (last : ℕ) → i < length w.sites
     → ((get_or (set w.sites i (quiet w i held last)) i (opening_at 1)).held ≡ held) × ((get_or (set w.sites i (quiet w i held last)) i (opening_at 1)).last ≡ last)
 unfolding quiet
-quiet_same w i held last l = let e = get_or-set_same w.sites i (quiet w i held last) (opening_at 1) l in (ap (λ (x : Replica). x.held) e, ap (λ (x : Replica). x.last) e)
+quiet_same w i held last l =
+    let e = get_or-set_same w.sites i (quiet w i held last) (opening_at 1) l in (ap (λ (x : Replica). x.held) e, ap (λ (x : Replica). x.last) e)
 
 quiet_other : (w : World) (i : ℕ) (x : Replica) (j : ℕ) → (j ≡ i → ⊥)
     → ((get_or (set w.sites i x) j (opening_at 1)).held ≡ (site w j).held) × ((get_or (set w.sites i x) j (opening_at 1)).last ≡ (site w j).last)
@@ -167,7 +180,8 @@ home_same n log log' sent e h = record {
   home = λ u k. subst (λ x. Has u (reverse x)) (sym (e u.stamp.id.site)) (h.home u k);
 }
 
-good_same : (sent : List Packet) (i : ℕ) (log waiting log' waiting' : List Message) → (log' ≡ log) × (waiting' ≡ waiting) → Good sent i log waiting → Good sent i log' waiting'
+good_same : (sent : List Packet) (i : ℕ) (log waiting log' waiting' : List Message) → (log' ≡ log) × (waiting' ≡ waiting) → Good sent i log waiting
+    → Good sent i log' waiting'
 good_same sent i log waiting log' waiting' e g = subst (λ x. Good sent i x waiting') (sym e.0) (subst (λ x. Good sent i log x) (sym e.1) g)
 
 -- logs and waiting messages are the same, and at most one token more was sent
@@ -176,11 +190,13 @@ sound_quiet : (w : World) (i : ℕ) (held : Option ℕ) (last : ℕ) (sent : Lis
     → OneToken (length w.sites) (λ j. (get_or (set w.sites i (quiet w i held last)) j (opening_at 1)).held) (λ j. (get_or (set w.sites i (quiet w i held last)) j (opening_at 1)).last) sent
     → Sound (record { sites = set w.sites i (quiet w i held last); sent = sent })
 sound_quiet w i held last sent l g h r t = record {
-  good = λ j. good_same sent j (site w j).log (site w j).waiting (get_or (set w.sites i (quiet w i held last)) j (opening_at 1)).log (get_or (set w.sites i (quiet w i held last)) j (opening_at 1)).waiting (quiet_site w i held last l j) (g j);
+  good =
+      λ j. good_same sent j (site w j).log (site w j).waiting (get_or (set w.sites i (quiet w i held last)) j (opening_at 1)).log (get_or (set w.sites i (quiet w i held last)) j (opening_at 1)).waiting (quiet_site w i held last l j) (g j);
   home = subst (λ n. Home n (λ j. (get_or (set w.sites i (quiet w i held last)) j (opening_at 1)).log) sent) (sym (length-set w.sites i (quiet w i held last)))
       (home_same (length w.sites) (λ j. (site w j).log) (λ j. (get_or (set w.sites i (quiet w i held last)) j (opening_at 1)).log) sent (λ j. (quiet_site w i held last l j).0) h);
   reds = r;
-  token = subst (λ n. OneToken n (λ j. (get_or (set w.sites i (quiet w i held last)) j (opening_at 1)).held) (λ j. (get_or (set w.sites i (quiet w i held last)) j (opening_at 1)).last) sent) (sym (length-set w.sites i (quiet w i held last))) t;
+  token =
+      subst (λ n. OneToken n (λ j. (get_or (set w.sites i (quiet w i held last)) j (opening_at 1)).held) (λ j. (get_or (set w.sites i (quiet w i held last)) j (opening_at 1)).last) sent) (sym (length-set w.sites i (quiet w i held last))) t;
 }
 
 -- ---- the token is passed
@@ -229,7 +245,8 @@ or_second false y e = e
 
 known : (m : Message) (log : List Message) → Has m log → list_any (λ u. same_id m.stamp.id u.stamp.id) log ≡ true
 known m [] h = absurd h
-known m (x ∷ log) (inl e) = or_first (same_id m.stamp.id x.stamp.id) (list_any (λ u. same_id m.stamp.id u.stamp.id) log) ((Decides-same_id m.stamp.id x.stamp.id).1 (ap (λ (u : Message). u.stamp.id) e))
+known m (x ∷ log) (inl e) =
+    or_first (same_id m.stamp.id x.stamp.id) (list_any (λ u. same_id m.stamp.id u.stamp.id) log) ((Decides-same_id m.stamp.id x.stamp.id).1 (ap (λ (u : Message). u.stamp.id) e))
 known m (x ∷ log) (inr h) = or_second (same_id m.stamp.id x.stamp.id) (list_any (λ u. same_id m.stamp.id u.stamp.id) log) (known m log h)
 
 -- what isn't released or waiting is another site's
@@ -242,17 +259,20 @@ foreign w i m h b s e =
 came : World → ℕ → Message → Replica
 came w i m = after_came (site w i) m
 
-good_waiting : (sent : List Packet) (i : ℕ) (log waiting : List Message) (m : Message) → Has (Mail m) sent → (m.stamp.id.site ≡ i → ⊥) → Good sent i log waiting → Good sent i log (waiting ++ m ∷ [])
+good_waiting : (sent : List Packet) (i : ℕ) (log waiting : List Message) (m : Message) → Has (Mail m) sent → (m.stamp.id.site ≡ i → ⊥)
+    → Good sent i log waiting → Good sent i log (waiting ++ m ∷ [])
 good_waiting sent i log waiting m h n g = record {
   released = g.released;
   made = g.made;
   decided = g.decided;
   log_sent = g.log_sent;
   waiting_sent = λ u k. ⊎_elim (λ a. g.waiting_sent u a) (λ e. subst (λ x. Has (Mail x) sent) (sym e) h) (push_cases u m waiting k);
-  waiting_others = λ u k o. ⊎_elim (λ a. g.waiting_others u a o) (λ e. n (ap (λ (x : Message). x.stamp.id.site) (sym e) ∙ o)) (push_cases u m waiting k);
+  waiting_others =
+      λ u k o. ⊎_elim (λ a. g.waiting_others u a o) (λ e. n (ap (λ (x : Message). x.stamp.id.site) (sym e) ∙ o)) (push_cases u m waiting k);
 }
 
-sound_came : (w : World) (i : ℕ) (m : Message) → i < length w.sites → Has (Mail m) w.sent → (m.stamp.id.site ≡ i → ⊥) → Sound w → Sound (record { sites = set w.sites i (came w i m); sent = w.sent })
+sound_came : (w : World) (i : ℕ) (m : Message) → i < length w.sites → Has (Mail m) w.sent → (m.stamp.id.site ≡ i → ⊥) → Sound w
+    → Sound (record { sites = set w.sites i (came w i m); sent = w.sent })
 unfolding came
 sound_came w i m l h n s = record {
   good = set_at (λ q x. Good w.sent q x.log x.waiting) w.sites i (came w i m) (opening_at 1) l
@@ -324,17 +344,21 @@ module _ (keep : ℕ) (w : World) (i : ℕ) (l : i < length w.sites) (s : Sound 
       is_there n to e = grind (arith, nat_tests)
 
   module _ (few : keep ≤ 1000000) (ask : Ask) (limits : IsAsk (length w.sites) ask) where
-    inside_made : (x : Shadow) → decision (rows_at (site w i).log) (standing_of keep (site w i)) ask ≡ Ok x → is_red x ≡ nat_lt 0 (red_for x (site w i).held) → (0 < red_for x (site w i).held → red_for x (site w i).held ≡ reds (site w i).log + 1)
+    inside_made : (x : Shadow) → decision (rows_at (site w i).log) (standing_of keep (site w i)) ask ≡ Ok x
+        → is_red x ≡ nat_lt 0 (red_for x (site w i).held) → (0 < red_for x (site w i).held → red_for x (site w i).held ≡ reds (site w i).log + 1)
         → IsMade i (site w i).log (made (place keep w i) (site w i) x)
-    inside_made x e colour number = is_made (place keep w i) (site w i) x (decided keep few w i s ask x limits e colour) (λ m h. inside w i m s h) number
+    inside_made x e colour number =
+        is_made (place keep w i) (site w i) x (decided keep few w i s ask x limits e colour) (λ m h. inside w i m s h) number
 
-    made_keeps : (x : Shadow) → decision (rows_at (site w i).log) (standing_of keep (site w i)) ask ≡ Ok x → (b : Bool) → is_red x ≡ b → (o : Option ℕ) → (site w i).held ≡ o
+    made_keeps : (x : Shadow) → decision (rows_at (site w i).log) (standing_of keep (site w i)) ask ≡ Ok x → (b : Bool) → is_red x ≡ b
+        → (o : Option ℕ) → (site w i).held ≡ o
         → Sound (record { sites = set w.sites i (after_made (place keep w i) (site w i) x); sent = w.sent ++ Mail (made (place keep w i) (site w i) x) ∷ [] })
     made_keeps x e false r o h =
         let none : red_for x (site w i).held ≡ 0 = ap (λ b. cond b (unwrap_or (site w i).held 0 + 1) 0) r in
         sound_blue keep w i x l none (ap (λ b. cond b (option_map (λ issued. issued + 1) (site w i).held) (site w i).held) r)
         (inside_made x e (r ∙ sym (ap (nat_lt 0) none)) (λ q. absurd (omega (arith, none)))) s
-    made_keeps x e true r None h = absurd (true≢false (sym (red_allowed (rows_at (site w i).log) (standing_of keep (site w i)) ask x e r).0 ∙ ap is_some h))
+    made_keeps x e true r None h =
+        absurd (true≢false (sym (red_allowed (rows_at (site w i).log) (standing_of keep (site w i)) ask x e r).0 ∙ ap is_some h))
     made_keeps x e true r (Some issued) h =
         let number : red_for x (site w i).held ≡ issued + 1 = (λ j. cond (r j) (unwrap_or (h j) 0 + 1) 0) in
         let up : reds (site w i).log ≡ issued = eqb-true (reds (site w i).log) issued (ap (λ q. option_map_or (λ n. reds (site w i).log == n) q false) (sym h) ∙ (red_allowed (rows_at (site w i).log) (standing_of keep (site w i)) ask x e r).1) in
@@ -344,12 +368,14 @@ module _ (keep : ℕ) (w : World) (i : ℕ) (l : i < length w.sites) (s : Sound 
         positive : (n : ℕ) → nat_lt 0 (n + 1) ≡ true
         positive n = grind (arith, nat_tests)
 
-    asking_keeps : (a : Result Shadow Refusal) → decision (rows_at (site w i).log) (standing_of keep (site w i)) ask ≡ a → Sound (answering Mail w i (generating (place keep w i) (site w i) a))
+    asking_keeps : (a : Result Shadow Refusal) → decision (rows_at (site w i).log) (standing_of keep (site w i)) ask ≡ a
+        → Sound (answering Mail w i (generating (place keep w i) (site w i) a))
     asking_keeps (Err r) e = refused
     asking_keeps (Ok x) e = made_keeps x e (is_red x) refl (site w i).held refl
 
 pub event_keeps : (keep : ℕ) → keep ≤ 1000000 → (w : World) (e : Event) → IsEvent (length w.sites) e → Sound w → Sound (happens keep w e)
-event_keeps keep few w (Request i ask) a s = asking_keeps keep w i a.0 s few ask a.1 (decision (rows_at (site w i).log) (standing_of keep (site w i)) ask) refl
+event_keeps keep few w (Request i ask) a s =
+    asking_keeps keep w i a.0 s few ask a.1 (decision (rows_at (site w i).log) (standing_of keep (site w i)) ask) refl
 event_keeps keep few w (Pass i to) a s = passing_keeps keep w i a s to (site w i).held refl
 event_keeps keep few w (Deliver i k) a s = coming_keeps keep w i a s (slice_get w.sent k) (has_get w.sent k)
 
@@ -366,7 +392,8 @@ event_sites keep w (Deliver i k) = coming_sites keep w i (slice_get w.sent k)
 
 pub run_keeps : (keep : ℕ) → keep ≤ 1000000 → (es : List Event) (w : World) → AreEvents (length w.sites) es → Sound w → Sound (run keep es w)
 run_keeps keep few [] w a s = s
-run_keeps keep few (e ∷ es) w a s = run_keeps keep few es (happens keep w e) (subst (λ n. AreEvents n es) (sym (event_sites keep w e)) a.1) (event_keeps keep few w e a.0 s)
+run_keeps keep few (e ∷ es) w a s =
+    run_keeps keep few es (happens keep w e) (subst (λ n. AreEvents n es) (sym (event_sites keep w e)) a.1) (event_keeps keep few w e a.0 s)
 
 -- ---- the start
 pub start_sites : (n : ℕ) → length (start n).sites ≡ n
@@ -379,7 +406,8 @@ start_at P here there n i = ⊎_elim
     (cases_lt i n)
 
 good_start : (i : ℕ) → Good [] i [] []
-good_start i = record { released = tt; made = tt; decided = tt; log_sent = λ m h. absurd h; waiting_sent = λ m h. absurd h; waiting_others = λ m h. absurd h }
+good_start i =
+    record { released = tt; made = tt; decided = tt; log_sent = λ m h. absurd h; waiting_sent = λ m h. absurd h; waiting_others = λ m h. absurd h }
 
 pub start_sound : (n : ℕ) → 1 ≤ n → Sound (start n)
 start_sound n some = record {

@@ -27,12 +27,14 @@ push_cases x y xs h = ⊎_elim (λ l. inl l) (λ r. ⊎_elim (λ e. inr e) (λ z
 -- ---- turned round
 pub has_back : {A : Type 0} (x : A) (xs : List A) → Has x xs → Has x (reverse xs)
 has_back x [] h = h
-has_back x (y ∷ xs) (inl e) = subst (Has x) (sym (reverse-append (y ∷ []) xs)) (subst (λ q. Has q (reverse xs ++ y ∷ [])) (sym e) (has_last y (reverse xs)))
+has_back x (y ∷ xs) (inl e) =
+    subst (Has x) (sym (reverse-append (y ∷ []) xs)) (subst (λ q. Has q (reverse xs ++ y ∷ [])) (sym e) (has_last y (reverse xs)))
 has_back x (y ∷ xs) (inr h) = subst (Has x) (sym (reverse-append (y ∷ []) xs)) (has_left x (reverse xs) (y ∷ []) (has_back x xs h))
 
 pub has_reverse : {A : Type 0} (x : A) (xs : List A) → Has x (reverse xs) → Has x xs
 has_reverse x [] h = h
-has_reverse x (y ∷ xs) h = ⊎_elim (λ k. inr (has_reverse x xs k)) (λ e. inl e) (push_cases x y (reverse xs) (subst (Has x) (reverse-append (y ∷ []) xs) h))
+has_reverse x (y ∷ xs) h =
+    ⊎_elim (λ k. inr (has_reverse x xs k)) (λ e. inl e) (push_cases x y (reverse xs) (subst (Has x) (reverse-append (y ∷ []) xs) h))
 
 -- ---- by a place in the list
 pub contained : {A : Type 0} (xs : List A) (x : A) → Contains xs x → Has x xs

@@ -44,9 +44,11 @@ new_here past v r k = at (has_id v.stamp.id (cores (reverse past))) refl
 
 pub one_each_back : (past : List Message) → Released past → OneEach (cores (reverse past))
 one_each_back [] r = tt
-one_each_back (m ∷ past) r = subst OneEach (sym (back_push m past)) (one_each_push (cores (reverse past)) (core m) (one_each_back past r.1) (new_here past m r.1 r.0))
+one_each_back (m ∷ past) r =
+    subst OneEach (sym (back_push m past)) (one_each_push (cores (reverse past)) (core m) (one_each_back past r.1) (new_here past m r.1 r.0))
 
-pub count_reds : (past : List Message) → ((m : Message) → Has m past → is_red m.shadow ≡ nat_lt 0 m.stamp.red) → count is_red (cores (reverse past)) ≡ reds past
+pub count_reds : (past : List Message) → ((m : Message) → Has m past → is_red m.shadow ≡ nat_lt 0 m.stamp.red)
+    → count is_red (cores (reverse past)) ≡ reds past
 count_reds [] h = refl
 count_reds (m ∷ past) h =
     ap (count is_red) (back_push m past) ∙ count_push is_red (cores (reverse past)) (core m)
@@ -76,17 +78,21 @@ one_red w past s all c d h k e f g =
     sym u.2 ∙ ap core (s.reds.single u.0 v.0 a (all v.0 v.1) p (ap (λ (x : Core). x.red) u.2 ∙ g ∙ sym (ap (λ (x : Core). x.red) v.2))) ∙ v.2
 
 -- each red one that stands before a red one precedes it
-reds_before : (w : World) (past : List Message) (v m : Message) → Sound w → Released past → ((x : Message) → Has x past → Sent w x) → Sent w v → Ready past v → is_red v.shadow ≡ true → Has m past → is_red m.shadow ≡ true → Precedes m v
+reds_before : (w : World) (past : List Message) (v m : Message) → Sound w → Released past → ((x : Message) → Has x past → Sent w x) → Sent w v
+    → Ready past v → is_red v.shadow ≡ true → Has m past → is_red m.shadow ≡ true → Precedes m v
 reds_before w past v m s r all b k e h f =
     let a = all m h in
     let p = red_positive w m s a f in
     s.reds.ordered m v a b p (omega (arith, red_within past m r h, k.number (red_positive w v s b e)))
 
-pub follows : (w : World) (past : List Message) (v : Message) → Sound w → Released past → ((x : Message) → Has x past → Sent w x) → Sent w v → Ready past v → Follows (cores (reverse past)) (core v)
+pub follows : (w : World) (past : List Message) (v : Message) → Sound w → Released past → ((x : Message) → Has x past → Sent w x) → Sent w v
+    → Ready past v → Follows (cores (reverse past)) (core v)
 follows w past v s r all b k = record {
   new_id = new_here past v r k;
-  next_red = number_is v.stamp.red (count is_red (cores (reverse past))) (is_red v.shadow) (colour w v s b) (λ l. k.number l ∙ ap (λ n. n + 1) (sym (count_reds past (λ m h. colour w m s (all m h)))));
-  fits = fits_on (cores (reverse f.past)) (cores (reverse past)) within (one_each_back f.past f.released) (one_each_back past r) (one_red w past s all) v.shadow back f.decided.fits;
+  next_red =
+      number_is v.stamp.red (count is_red (cores (reverse past))) (is_red v.shadow) (colour w v s b) (λ l. k.number l ∙ ap (λ n. n + 1) (sym (count_reds past (λ m h. colour w m s (all m h)))));
+  fits =
+      fits_on (cores (reverse f.past)) (cores (reverse past)) within (one_each_back f.past f.released) (one_each_back past r) (one_red w past s all) v.shadow back f.decided.fits;
   limits = f.decided.limits;
 }
   where
@@ -108,7 +114,8 @@ follows w past v s r all b k = record {
 -- ---- so the whole log is checked
 pub checked_end : (before xs : List Core) (m : Core) → CheckedFrom before xs → Follows (before ++ xs) m → CheckedFrom before (xs ++ m ∷ [])
 checked_end before [] m c f = (subst (λ l. Follows l m) (search Rattle.std.proofs.Common.rules) f, tt)
-checked_end before (x ∷ xs) m c f = (c.0, checked_end (before ++ x ∷ []) xs m c.1 (subst (λ l. Follows l m) (sym (append_assoc before (x ∷ []) xs)) f))
+checked_end before (x ∷ xs) m c f =
+    (c.0, checked_end (before ++ x ∷ []) xs m c.1 (subst (λ l. Follows l m) (sym (append_assoc before (x ∷ []) xs)) f))
 
 checked_back : (w : World) (past : List Message) → Sound w → Released past → ((x : Message) → Has x past → Sent w x) → Checked (cores (reverse past))
 checked_back w [] s r all = tt
@@ -117,4 +124,5 @@ checked_back w (m ∷ past) s r all =
     (follows w past m s r.1 (λ x h. all x (inr h)) (all m (inl refl)) r.0))
 
 pub log_checked : (w : World) (i : ℕ) → Sound w → Checked (cores (site w i).log)
-log_checked w i s = subst (λ l. Checked (cores l)) (reverse-reverse (site w i).log) (checked_back w (reverse (site w i).log) s (s.good i).released (s.good i).log_sent)
+log_checked w i s =
+    subst (λ l. Checked (cores l)) (reverse-reverse (site w i).log) (checked_back w (reverse (site w i).log) s (s.good i).released (s.good i).log_sent)

@@ -20,7 +20,8 @@ use Rattle.rubis_model.proofs.Settling.{counted_reverse, reds_reverse, reverse_p
 use Rattle.rubis_model.proofs.Lists.{has_left, has_last, push_cases}
 
 -- ---- one site of many is changed
-pub set_at : (P : ℕ → Replica → Type 0) (sites : List Replica) (i : ℕ) (x d : Replica) → i < length sites → P i x → ((j : ℕ) → (j ≡ i → ⊥) → P j (get_or sites j d)) → (j : ℕ) → P j (get_or (set sites i x) j d)
+pub set_at : (P : ℕ → Replica → Type 0) (sites : List Replica) (i : ℕ) (x d : Replica) → i < length sites → P i x
+    → ((j : ℕ) → (j ≡ i → ⊥) → P j (get_or sites j d)) → (j : ℕ) → P j (get_or (set sites i x) j d)
 set_at P sites i x d l here there j = ⊎_elim
     (λ e. subst (λ k. P k (get_or (set sites i x) k d)) (sym e) (subst (P i) (sym (get_or-set_same sites i x d l)) here))
     (λ n. subst (P j) (sym (get_or-set_other sites i j x d n)) (there j n))
@@ -74,7 +75,8 @@ counted_zero : (j : ℕ) (log : List Message) → ((m : Message) → Has m log �
 counted_zero j [] h = refl
 counted_zero j (m ∷ log) h = counted_no j m log (h m (inl refl)) ∙ counted_zero j log (λ u k. h u (inr k))
 
-pub made_dep : (p : Place) (s : Replica) (x : Shadow) → ((m : Message) → Has m (reverse s.log) → m.stamp.id.site < p.sites) → (j : ℕ) → dep (made p s x) j ≡ counted j s.log
+pub made_dep : (p : Place) (s : Replica) (x : Shadow) → ((m : Message) → Has m (reverse s.log) → m.stamp.id.site < p.sites) → (j : ℕ)
+    → dep (made p s x) j ≡ counted j s.log
 made_dep p s x inside j = ⊎_elim
     (λ k. get_or-map-range_with_len (λ q. counted q s.log) 0 p.sites j j 0 k (omega arith))
     (λ k. get_or_past (map (λ q. counted q s.log) (range_with_len 0 p.sites)) j 0 (subst (λ n. n ≤ j) (sym (length-map-range_with_len (λ q. counted q s.log) 0 p.sites)) k)
@@ -89,7 +91,9 @@ pub record IsMade (i : ℕ) (log : List Message) (m : Message) : Type 0 where
   pub number : 0 < m.stamp.red → m.stamp.red ≡ reds log + 1
   pub decided : Decided (reverse log) m
 
-pub is_made : (p : Place) (s : Replica) (x : Shadow) → Decided (reverse s.log) (made p s x) → ((m : Message) → Has m (reverse s.log) → m.stamp.id.site < p.sites) → (0 < red_for x s.held → red_for x s.held ≡ reds s.log + 1) → IsMade p.site s.log (made p s x)
+pub is_made : (p : Place) (s : Replica) (x : Shadow) → Decided (reverse s.log) (made p s x)
+    → ((m : Message) → Has m (reverse s.log) → m.stamp.id.site < p.sites) → (0 < red_for x s.held → red_for x s.held ≡ reds s.log + 1)
+    → IsMade p.site s.log (made p s x)
 is_made p s x decided inside number = record { origin = refl; seq = refl; deps = made_dep p s x inside; number = number; decided = decided }
 
 made_ready : (i : ℕ) (log : List Message) (m : Message) → IsMade i log m → Ready (reverse log) m
@@ -100,12 +104,14 @@ made_ready i log m k = record {
 }
 
 -- a good site makes a message
-pub good_make : (sent : List Packet) (i : ℕ) (log waiting : List Message) (m : Message) → IsMade i log m → Good sent i log waiting → Good (sent ++ Mail m ∷ []) i (log ++ m ∷ []) waiting
+pub good_make : (sent : List Packet) (i : ℕ) (log waiting : List Message) (m : Message) → IsMade i log m → Good sent i log waiting
+    → Good (sent ++ Mail m ∷ []) i (log ++ m ∷ []) waiting
 good_make sent i log waiting m k g = record {
   released = subst Released (sym (reverse_push log m)) (made_ready i log m k, g.released);
   made = subst (CountedBy i) (sym (reverse_push log m)) ((λ e j. k.deps j ∙ sym (counted_reverse j log)), g.made);
   decided = subst (DecidedBy i) (sym (reverse_push log m)) ((λ e. k.decided), g.decided);
-  log_sent = λ u h. ⊎_elim (λ e. subst (λ x. Has (Mail x) (sent ++ Mail m ∷ [])) (sym e) (has_last (Mail m) sent)) (λ q. has_left (Mail u) sent (Mail m ∷ []) (g.log_sent u q)) (subst (Has u) (reverse_push log m) h);
+  log_sent =
+      λ u h. ⊎_elim (λ e. subst (λ x. Has (Mail x) (sent ++ Mail m ∷ [])) (sym e) (has_last (Mail m) sent)) (λ q. has_left (Mail u) sent (Mail m ∷ []) (g.log_sent u q)) (subst (Has u) (reverse_push log m) h);
   waiting_sent = λ u h. has_left (Mail u) sent (Mail m ∷ []) (g.waiting_sent u h);
   waiting_others = g.waiting_others;
 }
@@ -142,7 +148,8 @@ reds_blue sent m blue r = record {
     same = red_count_blue sent m blue
 
 -- all red ones so far are in a log that has as many
-red_there : (sent : List Packet) (i : ℕ) (log waiting : List Message) (u : Message) → Good sent i log waiting → Reds sent → reds log ≡ red_count sent → Has (Mail u) sent → 0 < u.stamp.red → u.stamp.id.seq ≤ counted u.stamp.id.site log
+red_there : (sent : List Packet) (i : ℕ) (log waiting : List Message) (u : Message) → Good sent i log waiting → Reds sent → reds log ≡ red_count sent
+    → Has (Mail u) sent → 0 < u.stamp.red → u.stamp.id.seq ≤ counted u.stamp.id.site log
 red_there sent i log waiting u g r full h l =
     let few : u.stamp.red ≤ reds (reverse log) = omega (arith, r.small u h, reds_reverse log) in
     let f = found_red (reverse log) u.stamp.red g.released l few in
@@ -150,7 +157,8 @@ red_there sent i log waiting u g r full h l =
     let within = seq_within (reverse log) u g.released (subst (λ x. Has x (reverse log)) same f.1) in
     omega (arith, within.1, counted_reverse u.stamp.id.site log)
 
-pub reds_red : (sent : List Packet) (i : ℕ) (log waiting : List Message) (m : Message) → Good sent i log waiting → reds log ≡ red_count sent → IsMade i log m → m.stamp.red ≡ red_count sent + 1 → Reds sent → Reds (sent ++ Mail m ∷ [])
+pub reds_red : (sent : List Packet) (i : ℕ) (log waiting : List Message) (m : Message) → Good sent i log waiting → reds log ≡ red_count sent
+    → IsMade i log m → m.stamp.red ≡ red_count sent + 1 → Reds sent → Reds (sent ++ Mail m ∷ [])
 reds_red sent i log waiting m g full k number r = record {
   small = λ u h. ⊎_elim (λ a. omega (arith, r.small u a, more)) (λ e. omega (arith, red_same u m e, more)) (shadow_cases u m sent h);
   single = λ u v hu hv l e. ⊎_elim

@@ -28,7 +28,8 @@ given b k o = cond b (Some k) o
 pub nick_push_not : (u : Id) (a : List Core) (m : Core) → as_user m.shadow ≡ None → nick_at u (a ++ m ∷ []) ≡ nick_at u a
 nick_push_not u a m e = at_id_push_not (λ n. as_user n.shadow) u a m e
 
-pub nick_push_user : (v : Id) (a : List Core) (s : Head) (k : List ℕ) → user_at s.id a ≡ None → nick_at v (a ++ msg s (User k) ∷ []) ≡ given (same_id v s.id) k (nick_at v a)
+pub nick_push_user : (v : Id) (a : List Core) (s : Head) (k : List ℕ) → user_at s.id a ≡ None
+    → nick_at v (a ++ msg s (User k) ∷ []) ≡ given (same_id v s.id) k (nick_at v a)
 nick_push_user v a s k e = at_id_push (λ n. as_user n.shadow) v a (msg s (User k)) ∙ at (same_id v s.id) refl
   where
     at : (b : Bool) → same_id v s.id ≡ b → option_or (user_at v a) (when b (Some k)) ≡ given b k (nick_at v a)
@@ -40,10 +41,12 @@ nick_push_user v a s k e = at_id_push (λ n. as_user n.shadow) v a (msg s (User 
 abbrev pub Free : List ℕ → (Id → Option (List ℕ)) → Type 0
 Free n o = (v : Id) → o v ≡ Some n → ⊥
 
-pub unique_given : (o p : Id → Option (List ℕ)) (w : Id) (n : List ℕ) → ((v : Id) → p v ≡ given (same_id v w) n (o v)) → Unique o → Free n o → Unique p
+pub unique_given : (o p : Id → Option (List ℕ)) (w : Id) (n : List ℕ) → ((v : Id) → p v ≡ given (same_id v w) n (o v)) → Unique o → Free n o
+    → Unique p
 unique_given o p w n e h f k u v a b = at (same_id u w) refl (same_id v w) refl (sym (e u) ∙ a) (sym (e v) ∙ b)
   where
-    at : (c : Bool) → same_id u w ≡ c → (d : Bool) → same_id v w ≡ d → given (same_id u w) n (o u) ≡ Some k → given (same_id v w) n (o v) ≡ Some k → u ≡ v
+    at : (c : Bool) → same_id u w ≡ c → (d : Bool) → same_id v w ≡ d → given (same_id u w) n (o u) ≡ Some k → given (same_id v w) n (o v) ≡ Some k
+        → u ≡ v
     at true c true d x y = (Decides-same_id u w).0 c ∙ sym ((Decides-same_id v w).0 d)
     at true c false d x y =
         let z : Some n ≡ Some k = ap (λ t. given t n (o u)) (sym c) ∙ x in
@@ -103,7 +106,8 @@ named_is n a u h e = at (named n a) refl (choose_is earlier_ranks (has n a) a)
     at None q k = absurd (not_named n a q u e)
     at (Some m) q k = ap (λ i. Some (row.Nick i)) (h n m.id u (is_nick_of n (nick_at m.id a) k.passes) e)
 
-pub named_same : (n : List ℕ) (a : List Core) (m : Core) → ((v : Id) → is_nick n (nick_at v (a ++ m ∷ [])) ≡ is_nick n (nick_at v a)) → nick_at m.id a ≡ None → named n (a ++ m ∷ []) ≡ named n a
+pub named_same : (n : List ℕ) (a : List Core) (m : Core) → ((v : Id) → is_nick n (nick_at v (a ++ m ∷ [])) ≡ is_nick n (nick_at v a))
+    → nick_at m.id a ≡ None → named n (a ++ m ∷ []) ≡ named n a
 named_same n a m e h =
     choose_push earlier (has n (a ++ m ∷ [])) a m
     ∙ choice_not earlier (has n (a ++ m ∷ [])) _ m (e m.id ∙ ap (is_nick n) h)

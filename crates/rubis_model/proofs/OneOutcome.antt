@@ -41,9 +41,12 @@ not_ready log m n = false_from_ne_true (is_ready log m) (λ e. n (ready_is log m
 -- ---- the first that is ready
 none_first : (log waiting : List Message) → ((x : Message) → Has x waiting → Ready log x → ⊥) → first_ready log waiting ≡ None
 none_first log [] h = refl
-none_first log (m ∷ rest) h = cond-false (is_ready log m) (Some (m, rest)) (behind m (first_ready log rest)) (not_ready log m (h m (inl refl))) ∙ ap (behind m) (none_first log rest (λ x k. h x (inr k)))
+none_first log (m ∷ rest) h =
+    cond-false (is_ready log m) (Some (m, rest)) (behind m (first_ready log rest)) (not_ready log m (h m (inl refl)))
+    ∙ ap (behind m) (none_first log rest (λ x k. h x (inr k)))
 
-this_first : (log front back : List Message) (m : Message) → ((x : Message) → Has x front → Ready log x → ⊥) → Ready log m → first_ready log (front ++ m ∷ back) ≡ Some (m, front ++ back)
+this_first : (log front back : List Message) (m : Message) → ((x : Message) → Has x front → Ready log x → ⊥) → Ready log m
+    → first_ready log (front ++ m ∷ back) ≡ Some (m, front ++ back)
 this_first log [] back m h r = cond-true (is_ready log m) (Some (m, back)) (behind m (first_ready log back)) (is_ready_from log m r)
 this_first log (x ∷ front) back m h r =
     cond-false (is_ready log x) (Some (x, front ++ m ∷ back)) (behind x (first_ready log (front ++ m ∷ back))) (not_ready log x (h x (inl refl)))
@@ -61,12 +64,14 @@ unfolding next
 settle_none zero log waiting e = refl
 settle_none (suc n) log waiting e = ap (next n log waiting) e
 
-settle_some : (n : ℕ) (log waiting : List Message) (p : Message × List Message) → first_ready log waiting ≡ Some p → settle (suc n) log waiting ≡ settle n (log ++ p.0 ∷ []) p.1
+settle_some : (n : ℕ) (log waiting : List Message) (p : Message × List Message) → first_ready log waiting ≡ Some p
+    → settle (suc n) log waiting ≡ settle n (log ++ p.0 ∷ []) p.1
 unfolding next
 settle_some n log waiting p e = ap (next n log waiting) e
 
 -- what the relation gives is what the function gives, so there is one answer
-pub settles_one : (log waiting log' waiting' : List Message) → Settles log waiting log' waiting' → settle (length waiting) log waiting ≡ (log', waiting')
+pub settles_one : (log waiting log' waiting' : List Message) → Settles log waiting log' waiting'
+    → settle (length waiting) log waiting ≡ (log', waiting')
 settles_one _ _ _ _ (Rest log waiting h) = settle_none (length waiting) log waiting (none_first log waiting h)
 settles_one _ _ _ _ (Release log front back log' waiting' m h r s) =
     ap (λ n. settle n log (front ++ m ∷ back)) (shorter front back m)
@@ -76,13 +81,16 @@ settles_one _ _ _ _ (Release log front back log' waiting' m h r s) =
 -- ---- and the function gives what the relation allows
 Split : List Message → List Message → Option (Message × List Message) → Type 0
 Split log waiting None = (x : Message) → Has x waiting → Ready log x → ⊥
-Split log waiting (Some p) = (front : List Message) × (back : List Message) × (waiting ≡ front ++ p.0 ∷ back) × (p.1 ≡ front ++ back) × ((x : Message) → Has x front → Ready log x → ⊥) × (Ready log p.0)
+Split log waiting (Some p) =
+    (front : List Message) × (back : List Message) × (waiting ≡ front ++ p.0 ∷ back) × (p.1 ≡ front ++ back) × ((x : Message) → Has x front → Ready log x → ⊥) × (Ready log p.0)
 
-none_more : (log rest : List Message) (m : Message) → (Ready log m → ⊥) → ((x : Message) → Has x rest → Ready log x → ⊥) → (x : Message) → Has x (m ∷ rest) → Ready log x → ⊥
+none_more : (log rest : List Message) (m : Message) → (Ready log m → ⊥) → ((x : Message) → Has x rest → Ready log x → ⊥) → (x : Message)
+    → Has x (m ∷ rest) → Ready log x → ⊥
 none_more log rest m n h x (inl e) r = n (subst (Ready log) e r)
 none_more log rest m n h x (inr k) r = h x k r
 
-split_behind : (log rest : List Message) (m : Message) (o : Option (Message × List Message)) → (Ready log m → ⊥) → Split log rest o → Split log (m ∷ rest) (behind m o)
+split_behind : (log rest : List Message) (m : Message) (o : Option (Message × List Message)) → (Ready log m → ⊥) → Split log rest o
+    → Split log (m ∷ rest) (behind m o)
 unfolding Split
 split_behind log rest m None n h = none_more log rest m n h
 split_behind log rest m (Some p) n h = (m ∷ h.0, h.1, ap (λ q. m ∷ q) h.2, ap (λ q. m ∷ q) h.3, none_more log h.0 m n h.4, h.5)
@@ -97,7 +105,8 @@ unready log m e r = let k = is_ready_from log m r in absurd (cc)
 split_first : (log waiting : List Message) → Split log waiting (first_ready log waiting)
 unfolding Split
 split_first log [] = λ x h. absurd h
-split_first log (m ∷ rest) = cond_both (is_ready log m) (Some (m, rest)) (behind m (first_ready log rest)) (Split log (m ∷ rest)) (split_this log rest m) (λ e. split_behind log rest m (first_ready log rest) (unready log m e) (split_first log rest))
+split_first log (m ∷ rest) =
+    cond_both (is_ready log m) (Some (m, rest)) (behind m (first_ready log rest)) (Split log (m ∷ rest)) (split_this log rest m) (λ e. split_behind log rest m (first_ready log rest) (unready log m e) (split_first log rest))
 
 settles_next : (n : ℕ) → ((log waiting : List Message) → length waiting ≤ n → Settles log waiting (settle n log waiting).0 (settle n log waiting).1)
     → (log waiting : List Message) (o : Option (Message × List Message)) → Split log waiting o → length waiting ≤ suc n → Settles log waiting (next n log waiting o).0 (next n log waiting o).1

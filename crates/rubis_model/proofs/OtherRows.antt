@@ -61,15 +61,19 @@ row_of_comment a s x f i = same_rows (λ m. as_comment m.shadow) row.Comment i a
 -- ---- nicknames
 
 -- a message that gives no nickname
-other_nick : (n : List ℕ) (a : List Core) (m : Core) → has_id m.id a ≡ None → as_user m.shadow ≡ None → named_row (named n a) ≡ named_row (named n (a ++ m ∷ []))
-other_nick n a m none e = ap named_row (sym (named_same n a m (λ v. ap (is_nick n) (nick_push_not v a m e)) (nick_none m.id a (none_at (λ k. as_user k.shadow) m.id a none))))
+other_nick : (n : List ℕ) (a : List Core) (m : Core) → has_id m.id a ≡ None → as_user m.shadow ≡ None
+    → named_row (named n a) ≡ named_row (named n (a ++ m ∷ []))
+other_nick n a m none e =
+    ap named_row (sym (named_same n a m (λ v. ap (is_nick n) (nick_push_not v a m e)) (nick_none m.id a (none_at (λ k. as_user k.shadow) m.id a none))))
 
 -- one that gives another
-not_given : (n k : List ℕ) (b : Bool) (o : Option (List ℕ)) → bytes_eq n k ≡ false → (b ≡ true → is_nick n o ≡ false) → is_nick n (cond b (Some k) o) ≡ is_nick n o
+not_given : (n k : List ℕ) (b : Bool) (o : Option (List ℕ)) → bytes_eq n k ≡ false → (b ≡ true → is_nick n o ≡ false)
+    → is_nick n (cond b (Some k) o) ≡ is_nick n o
 not_given n k true o e h = e ∙ sym (h refl)
 not_given n k false o e h = refl
 
-new_nick : (a : List Core) (s : Head) (k n : List ℕ) → Good a → Good (a ++ msg s (shadow.User k) ∷ []) → Follows a (msg s (shadow.User k)) → (b : Bool) → bytes_eq n k ≡ b →
+new_nick : (a : List Core) (s : Head) (k n : List ℕ) → Good a → Good (a ++ msg s (shadow.User k) ∷ []) → Follows a (msg s (shadow.User k))
+    → (b : Bool) → bytes_eq n k ≡ b →
     cond b (change_row (Insert (row.Nick s.id)) (named_row (named n a))).row (named_row (named n a)) ≡ named_row (named n (a ++ msg s (shadow.User k) ∷ []))
 unfolding change_row
 new_nick a s k n g h f true e =
@@ -116,7 +120,8 @@ one_live c e p q = grind (arith, ints)
 one_ended : (c e : ℕ) → c < 2 ^ 61 → e < 2 ^ 61 → unsigned_abs (pos c -ℤ pos e +ℤ negsuc 0) < 2 ^ 63
 one_ended c e p q = grind (arith, ints)
 
-listed : (t b : Bool) (c e : ℕ) → c < 2 ^ 61 → e < 2 ^ 61 → cond b (change_row CatListed (when t (Some (cat_of c e)))).row (when t (Some (cat_of c e))) ≡ when t (Some (cat_of (c + cond b 1 0) (e + 0)))
+listed : (t b : Bool) (c e : ℕ) → c < 2 ^ 61 → e < 2 ^ 61
+    → cond b (change_row CatListed (when t (Some (cat_of c e)))).row (when t (Some (cat_of c e))) ≡ when t (Some (cat_of (c + cond b 1 0) (e + 0)))
 unfolding change_row
 listed true true c e p q = λ j. Some (row.Cat (record { items = small_sum c 1 (omega arith) j; live = (small_int _ (one_live c e p q) ∙ sums) j }))
   where
@@ -125,7 +130,8 @@ listed true true c e p q = λ j. Some (row.Cat (record { items = small_sum c 1 (
 listed false true c e p q = refl
 listed t false c e p q = still t c e
 
-ended : (t b : Bool) (c e : ℕ) → c < 2 ^ 61 → e < 2 ^ 61 → cond b (change_row CatEnded (when t (Some (cat_of c e)))).row (when t (Some (cat_of c e))) ≡ when t (Some (cat_of (c + 0) (e + cond b 1 0)))
+ended : (t b : Bool) (c e : ℕ) → c < 2 ^ 61 → e < 2 ^ 61
+    → cond b (change_row CatEnded (when t (Some (cat_of c e)))).row (when t (Some (cat_of c e))) ≡ when t (Some (cat_of (c + 0) (e + cond b 1 0)))
 unfolding change_row
 ended true true c e p q = λ j. Some (row.Cat (record { items = zero_more c j; live = (small_int _ (one_ended c e p q) ∙ sums) j }))
   where
@@ -140,6 +146,8 @@ small p a h = let l = count_by-le-length (λ (m : Core). p m.shadow) a in omega 
 pub row_of_cat : (a : List Core) (s : Head) (x : Shadow) → length a < 2 ^ 32 → (k : ℕ) →
     fold (at_key (key.Cat k)) (meaning_row a (key.Cat k)) (parts s.id s.red x) ≡ meaning_row (a ++ msg s x ∷ []) (key.Cat k)
 unfolding meaning_row
-row_of_cat a s (shadow.Item n) h k = listed (nat_lt k 1000) (nat_eq k n.cat) _ _ (small (lists_in k) a h) (small (closes_in k) a h) ∙ meaning_push a (msg s (shadow.Item n)) k
-row_of_cat a s (shadow.Close n) h k = ended (nat_lt k 1000) (nat_eq k n.cat) _ _ (small (lists_in k) a h) (small (closes_in k) a h) ∙ meaning_push a (msg s (shadow.Close n)) k
+row_of_cat a s (shadow.Item n) h k =
+    listed (nat_lt k 1000) (nat_eq k n.cat) _ _ (small (lists_in k) a h) (small (closes_in k) a h) ∙ meaning_push a (msg s (shadow.Item n)) k
+row_of_cat a s (shadow.Close n) h k =
+    ended (nat_lt k 1000) (nat_eq k n.cat) _ _ (small (lists_in k) a h) (small (closes_in k) a h) ∙ meaning_push a (msg s (shadow.Close n)) k
 row_of_cat a s x h k = still (nat_lt k 1000) _ _ ∙ meaning_push a (msg s x) k

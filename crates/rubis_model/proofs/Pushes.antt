@@ -26,7 +26,8 @@ total_push f a m = sum_by_push _ a m
 pub int_sum_push : (f : Core → ℤ) (a : List Core) (m : Core) → int_sum_by f (a ++ m ∷ []) ≡ int_sum_by f a +ℤ f m
 int_sum_push f a m = fold_push _ (pos 0) a m
 
-pub choose_push : (beats : Core → Core → Bool) (p : Core → Bool) (a : List Core) (m : Core) → choose beats p (a ++ m ∷ []) ≡ choice beats p (choose beats p a) m
+pub choose_push : (beats : Core → Core → Bool) (p : Core → Bool) (a : List Core) (m : Core)
+    → choose beats p (a ++ m ∷ []) ≡ choice beats p (choose beats p a) m
 choose_push beats p a m = fold_push (choice beats p) None a m
 
 -- one that doesn't pass is never chosen
@@ -52,15 +53,20 @@ when_none false = refl
 
 -- a message of another kind adds no row
 pub at_id_push_not : {X : Type 0} (f : Core → Option X) (i : Id) (a : List Core) (m : Core) → f m ≡ None → at_id f i (a ++ m ∷ []) ≡ at_id f i a
-at_id_push_not f i a m e = first_push _ a m ∙ ap (λ o. option_or (at_id f i a) (when (same_id i m.id) o)) e ∙ ap (option_or (at_id f i a)) (when_none (same_id i m.id)) ∙ or_none _
+at_id_push_not f i a m e =
+    first_push _ a m ∙ ap (λ o. option_or (at_id f i a) (when (same_id i m.id) o)) e ∙ ap (option_or (at_id f i a)) (when_none (same_id i m.id))
+    ∙ or_none _
 
-pub at_id_push : {X : Type 0} (f : Core → Option X) (i : Id) (a : List Core) (m : Core) → at_id f i (a ++ m ∷ []) ≡ option_or (at_id f i a) (when (same_id i m.id) (f m))
+pub at_id_push : {X : Type 0} (f : Core → Option X) (i : Id) (a : List Core) (m : Core)
+    → at_id f i (a ++ m ∷ []) ≡ option_or (at_id f i a) (when (same_id i m.id) (f m))
 at_id_push f i a m = first_push _ a m
 
 -- where no message has the id, none of a kind has it
-none_at_first : {X : Type 0} (f : Core → Option X) (i : Id) (m : Core) (a : List Core) → (at_id Some i a ≡ None → at_id f i a ≡ None) → (b : Bool) → same_id i m.id ≡ b → at_id Some i (m ∷ a) ≡ None → at_id f i (m ∷ a) ≡ None
+none_at_first : {X : Type 0} (f : Core → Option X) (i : Id) (m : Core) (a : List Core) → (at_id Some i a ≡ None → at_id f i a ≡ None) → (b : Bool)
+    → same_id i m.id ≡ b → at_id Some i (m ∷ a) ≡ None → at_id f i (m ∷ a) ≡ None
 none_at_first f i m a ih true h e = absurd (let k : Some m ≡ None = ap (λ b. option_or (when b (Some m)) (at_id Some i a)) (sym h) ∙ e in cc)
-none_at_first f i m a ih false h e = ap (λ b. option_or (when b (f m)) (at_id f i a)) h ∙ ih (ap (λ b. option_or (when b (Some m)) (at_id Some i a)) (sym h) ∙ e)
+none_at_first f i m a ih false h e =
+    ap (λ b. option_or (when b (f m)) (at_id f i a)) h ∙ ih (ap (λ b. option_or (when b (Some m)) (at_id Some i a)) (sym h) ∙ e)
 
 pub none_at : {X : Type 0} (f : Core → Option X) (i : Id) (a : List Core) → at_id Some i a ≡ None → at_id f i a ≡ None
 none_at f i [] e = refl

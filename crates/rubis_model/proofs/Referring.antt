@@ -19,7 +19,8 @@ use Rattle.rubis_model.proofs.Cores.{core_of}
 
 -- where all of the log precedes v
 module _ (all : Message → Type 0) (v : Message) (past : List Message) (known : (u : Message) → Has u past → all u × Precedes u v) where
-  to_any : {X : Type 0} (f : Shadow → Option X) (i : Id) → IsSome (at_id (λ m. f m.shadow) i (cores past)) → Referred all v (λ m. IsSome (f m.shadow)) i
+  to_any : {X : Type 0} (f : Shadow → Option X) (i : Id) → IsSome (at_id (λ m. f m.shadow) i (cores past))
+      → Referred all v (λ m. IsSome (f m.shadow)) i
   to_any f i h = at (at_id (λ m. f m.shadow) i (cores past)) refl h
     where
       at : (o : Option _) → at_id (λ m. f m.shadow) i (cores past) ≡ o → IsSome o → Referred all v (λ m. IsSome (f m.shadow)) i

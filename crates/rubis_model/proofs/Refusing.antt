@@ -65,13 +65,16 @@ hand_refused false false s t k r e = absurd cc
 
 pub pass_refused : (p : Place) (s : Replica) (to : ℕ) (o : Option ℕ) (r : Refusal) → (passing p s to o).1 ≡ Err r → (passing p s to o).0 ≡ s
 pass_refused p s to None r e = refl
-pass_refused p s to (Some issued) r e = hand_refused (nat_le p.sites to || (to == p.site)) (nat_le 1000000000 s.last) s (record s { held = None }) (token_for s to issued) r e
+pass_refused p s to (Some issued) r e =
+    hand_refused (nat_le p.sites to || (to == p.site)) (nat_le 1000000000 s.last) s (record s { held = None }) (token_for s to issued) r e
 
 pub arrival_refused : (p : Place) (s : Replica) (m : Message) (r : Refusal) → (arrived p s m).1 ≡ Err r → (arrived p s m).0 ≡ s
-arrival_refused p s m r e = mail_refused (not_ours p s m) (is_repeat s m) (is_full p.keep s) s (after_came s m) (length (after_came s m).log - length s.log) r e
+arrival_refused p s m r e =
+    mail_refused (not_ours p s m) (is_repeat s m) (is_full p.keep s) s (after_came s m) (length (after_came s m).log - length s.log) r e
 
 pub arrival_repeated : (p : Place) (s : Replica) (m : Message) → (arrived p s m).1 ≡ Ok arrival.Repeat → (arrived p s m).0 ≡ s
-arrival_repeated p s m e = mail_repeated (not_ours p s m) (is_repeat s m) (is_full p.keep s) s (after_came s m) (length (after_came s m).log - length s.log) e
+arrival_repeated p s m e =
+    mail_repeated (not_ours p s m) (is_repeat s m) (is_full p.keep s) s (after_came s m) (length (after_came s m).log - length s.log) e
 
 pub take_refused : (p : Place) (s : Replica) (t : Token) (r : Refusal) → (took p s t).1 ≡ Err r → (took p s t).0 ≡ s
 take_refused p s t r e = token_refused (not (t.to == p.site)) (nat_le t.turn s.last) s (record s { held = Some t.issued; last = t.turn }) r e
@@ -80,7 +83,8 @@ pub take_repeated : (p : Place) (s : Replica) (t : Token) → (took p s t).1 ≡
 take_repeated p s t e = token_repeated (not (t.to == p.site)) (nat_le t.turn s.last) s (record s { held = Some t.issued; last = t.turn }) e
 
 -- ---- in the world
-no_answer : {A : Type 0} (pack : A → Packet) (w : World) (i : ℕ) (p : Replica × Result A Refusal) (r : Refusal) → p.0 ≡ site w i → p.1 ≡ Err r → answering pack w i p ≡ w
+no_answer : {A : Type 0} (pack : A → Packet) (w : World) (i : ℕ) (p : Replica × Result A Refusal) (r : Refusal) → p.0 ≡ site w i → p.1 ≡ Err r
+    → answering pack w i p ≡ w
 no_answer pack w i p r e f = (λ j. record { sites = slice_set w.sites i (e j); sent = w.sent ++ sending pack (f j) }) ∙ nothing_sent w i
 
 same_state : (w : World) (i : ℕ) (s : Replica) → s ≡ site w i → with_site w i s ≡ w

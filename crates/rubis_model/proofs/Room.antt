@@ -30,9 +30,11 @@ abbrev Holds : ℕ → Replica → Type 0
 Holds keep s = length s.log + length s.waiting ≤ keep
 
 holds_settled : (keep : ℕ) (s : Replica) → Holds keep s → Holds keep (settled s)
-holds_settled keep s h = settle_keeps (λ l w. length l + length w ≤ keep) (λ l w p t k. omega (arith, t.3, k, length-append l (p.0 ∷ []))) (length s.waiting) s.log s.waiting h
+holds_settled keep s h =
+    settle_keeps (λ l w. length l + length w ≤ keep) (λ l w p t k. omega (arith, t.3, k, length-append l (p.0 ∷ []))) (length s.waiting) s.log s.waiting h
 
-room_set : (keep : ℕ) (w : World) (i : ℕ) (x : Replica) (sent : List Packet) → Room keep w → Holds keep x → Room keep (record { sites = slice_set w.sites i x; sent = sent })
+room_set : (keep : ℕ) (w : World) (i : ℕ) (x : Replica) (sent : List Packet) → Room keep w → Holds keep x
+    → Room keep (record { sites = slice_set w.sites i x; sent = sent })
 room_set keep w i x sent r h j = ⊎_elim
     (λ l. set_at (λ q y. Holds keep y) w.sites i x (opening_at 1) l h (λ q _. r q) j)
     (λ l. subst (λ (s : List Replica). Holds keep (get_or s j (opening_at 1))) (sym (set_past w.sites i x l)) (r j))
@@ -42,7 +44,8 @@ under : (keep a b : ℕ) → nat_le keep (a + b) ≡ false → a + b < keep
 under keep a b e = grind (arith, nat_tests)
 
 module _ (keep : ℕ) (w : World) (i : ℕ) (r : Room keep w) where
-  room_asking : (ask : Ask) (a : Result Shadow Refusal) → decision (rows_at (site w i).log) (standing_of keep (site w i)) ask ≡ a → Room keep (answering Mail w i (generating (place keep w i) (site w i) a))
+  room_asking : (ask : Ask) (a : Result Shadow Refusal) → decision (rows_at (site w i).log) (standing_of keep (site w i)) ask ≡ a
+      → Room keep (answering Mail w i (generating (place keep w i) (site w i) a))
   room_asking ask (Err k) e = room_set keep w i (site w i) (w.sent ++ []) r (r i)
   room_asking ask (Ok x) e =
       room_set keep w i (after_made (place keep w i) (site w i) x) (w.sent ++ Mail (made (place keep w i) (site w i) x) ∷ []) r

@@ -41,7 +41,8 @@ item_of w s b best close n = row.Item (record {
   sale = sale_after close;
 })
 
-same_item : (w : NewItem → ℕ) {s t b c : ℕ} {best beat close end : Option Core} (n : NewItem) → s ≡ t → b ≡ c → best ≡ beat → close ≡ end → item_of w s b best close n ≡ item_of w t c beat end n
+same_item : (w : NewItem → ℕ) {s t b c : ℕ} {best beat close end : Option Core} (n : NewItem) → s ≡ t → b ≡ c → best ≡ beat → close ≡ end
+    → item_of w s b best close n ≡ item_of w t c beat end n
 same_item w n p q r v = λ i. item_of w (p i) (q i) (r i) (v i) n
 
 abbrev bids : Id → Core → Bool
@@ -51,18 +52,22 @@ abbrev ends : Id → Core → Bool
 ends i m = closes i m.shadow
 
 abbrev grown : List Core → Core → Id → NewItem → Row
-grown a m i = item_of (supply a i) (total (sold_of i) a + sold_of i m.shadow) (count (bids_on i) a + cond (bids i m) 1 0) (choice higher (bids i) (best_bid i a) m) (choice earlier (ends i) (close_of i a) m)
+grown a m i =
+    item_of (supply a i) (total (sold_of i) a + sold_of i m.shadow) (count (bids_on i) a + cond (bids i m) 1 0) (choice higher (bids i) (best_bid i a) m) (choice earlier (ends i) (close_of i a) m)
 
 item_row_push : (a : List Core) (m : Core) (i : Id) (n : NewItem) → item_row (a ++ m ∷ []) i n ≡ grown a m i n
-item_row_push a m i n = same_item (supply a i) n (total_push (sold_of i) a m) (count_push (bids_on i) a m) (choose_push higher (bids i) a m) (choose_push earlier (ends i) a m)
+item_row_push a m i n =
+    same_item (supply a i) n (total_push (sold_of i) a m) (count_push (bids_on i) a m) (choose_push higher (bids i) a m) (choose_push earlier (ends i) a m)
 
-item_meaning_push : (a : List Core) (m : Core) (i : Id) → as_item m.shadow ≡ None → meaning_row (a ++ m ∷ []) (key.Item i) ≡ option_map (grown a m i) (item_at i a)
+item_meaning_push : (a : List Core) (m : Core) (i : Id) → as_item m.shadow ≡ None
+    → meaning_row (a ++ m ∷ []) (key.Item i) ≡ option_map (grown a m i) (item_at i a)
 unfolding meaning_row
 item_meaning_push a m i e = λ j. option_map (λ n. item_row_push a m i n j) (at_id_push_not (λ m. as_item m.shadow) i a m e j)
 
 still : (w : NewItem → ℕ) (s b : ℕ) (best close : Option Core) (i : Id) (m : Core) (o : Option NewItem) → bids i m ≡ false → ends i m ≡ false →
     option_map (item_of w s b best close) o ≡ option_map (item_of w (s + 0) (b + 0) (choice higher (bids i) best m) (choice earlier (ends i) close m)) o
-still w s b best close i m o p q = λ j. option_map (λ n. same_item w {s = s} {t = s + 0} {b = b} {c = b + 0} n (omega arith) (omega arith) (sym (choice_not higher (bids i) best m p)) (sym (choice_not earlier (ends i) close m q)) j) o
+still w s b best close i m o p q =
+    λ j. option_map (λ n. same_item w {s = s} {t = s + 0} {b = b} {c = b + 0} n (omega arith) (omega arith) (sym (choice_not higher (bids i) best m p)) (sym (choice_not earlier (ends i) close m q)) j) o
 
 -- a later message of an equal amount isn't higher
 not_before : (m old n : ℕ) → n < m → old ≤ n → nat_lt m old ≡ false
@@ -88,7 +93,8 @@ best_more n p (Some old) m later h e =
     split false = refl
 
 -- a bid
-bid_taken : (t : Bool) (n : ℕ) (w : NewItem → ℕ) (s c : ℕ) (best close : Option Core) (i : Id) (m : Core) (o : Option NewItem) → bids i m ≡ t → ends i m ≡ false → (t ≡ true → close ≡ None) →
+bid_taken : (t : Bool) (n : ℕ) (w : NewItem → ℕ) (s c : ℕ) (best close : Option Core) (i : Id) (m : Core) (o : Option NewItem) → bids i m ≡ t
+    → ends i m ≡ false → (t ≡ true → close ≡ None) →
     n < m.red → IfSome best (λ x. x.red ≤ n) → c < 2 ^ 62 →
     cond t (change_row (BidTaken (best_of m)) (option_map (item_of w s c best close) o)).row (option_map (item_of w s c best close) o)
     ≡ option_map (item_of w (s + 0) (c + cond t 1 0) (choice higher (bids i) best m) (choice earlier (ends i) close m)) o
@@ -121,7 +127,8 @@ bid_taken false n w s c best close i m o p q shut later h small = still w s c be
 pub le_true : (m n : ℕ) → m ≤ n → nat_le m n ≡ true
 le_true m n h = grind (arith, nat_tests)
 
-sold_more : (t : Bool) (q : ℕ) (w : NewItem → ℕ) (s c : ℕ) (best close : Option Core) (i : Id) (m : Core) (o : Option NewItem) → bids i m ≡ false → ends i m ≡ false → (t ≡ true → close ≡ None) →
+sold_more : (t : Bool) (q : ℕ) (w : NewItem → ℕ) (s c : ℕ) (best close : Option Core) (i : Id) (m : Core) (o : Option NewItem) → bids i m ≡ false
+    → ends i m ≡ false → (t ≡ true → close ≡ None) →
     (t ≡ true → IfSome o (λ n. s + q ≤ w n)) → s + q < 2 ^ 62 →
     cond t (change_row (Sold q) (option_map (item_of w s c best close) o)).row (option_map (item_of w s c best close) o)
     ≡ option_map (item_of w (s + cond t q 0) (c + 0) (choice higher (bids i) best m) (choice earlier (ends i) close m)) o
@@ -172,7 +179,8 @@ sold_more true q w s c best close i m (Some k) p e shut stock small =
 sold_more false q w s c best close i m o p e shut stock small = still w s c best close i m o p e
 
 -- a close
-closed : (t : Bool) (w : NewItem → ℕ) (s c : ℕ) (best close : Option Core) (i : Id) (st : Head) (e : NewClose) (o : Option NewItem) → same_id i e.item ≡ t → (t ≡ true → close ≡ None) →
+closed : (t : Bool) (w : NewItem → ℕ) (s c : ℕ) (best close : Option Core) (i : Id) (st : Head) (e : NewClose) (o : Option NewItem)
+    → same_id i e.item ≡ t → (t ≡ true → close ≡ None) →
     cond t (change_row (End e.winner) (option_map (item_of w s c best close) o)).row (option_map (item_of w s c best close) o)
     ≡ option_map (item_of w (s + 0) (c + 0) (choice higher (bids i) best (msg st (shadow.Close e))) (choice earlier (ends i) close (msg st (shadow.Close e)))) o
 unfolding change_row

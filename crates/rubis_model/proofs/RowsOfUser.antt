@@ -44,32 +44,39 @@ small_int (pos n) h = ap pos (omega arith)
 small_int (negsuc n) h = ap negsuc (omega arith)
 
 abbrev grown : List Core → Shadow → Id → List ℕ → Row
-grown a x u = user_of (count (lists_item_of u) a + cond (lists_item_of u x) 1 0) (total (bought_by u) a + bought_by u x) (int_sum_by (λ m. rating_for u m.shadow) a +ℤ rating_for u x) (count (rates u) a + cond (rates u x) 1 0)
+grown a x u =
+    user_of (count (lists_item_of u) a + cond (lists_item_of u x) 1 0) (total (bought_by u) a + bought_by u x) (int_sum_by (λ m. rating_for u m.shadow) a +ℤ rating_for u x) (count (rates u) a + cond (rates u x) 1 0)
 
 user_row_push : (a : List Core) (m : Core) (u : Id) (n : List ℕ) → user_row (a ++ m ∷ []) u n ≡ grown a m.shadow u n
-user_row_push a m u n = same_user n (count_push (lists_item_of u) a m) (total_push (bought_by u) a m) (int_sum_push (λ m. rating_for u m.shadow) a m) (count_push (rates u) a m)
+user_row_push a m u n =
+    same_user n (count_push (lists_item_of u) a m) (total_push (bought_by u) a m) (int_sum_push (λ m. rating_for u m.shadow) a m) (count_push (rates u) a m)
 
-user_meaning_push : (a : List Core) (m : Core) (u : Id) → as_user m.shadow ≡ None → meaning_row (a ++ m ∷ []) (key.User u) ≡ option_map (grown a m.shadow u) (nick_at u a)
+user_meaning_push : (a : List Core) (m : Core) (u : Id) → as_user m.shadow ≡ None
+    → meaning_row (a ++ m ∷ []) (key.User u) ≡ option_map (grown a m.shadow u) (nick_at u a)
 unfolding meaning_row
 user_meaning_push a m u e = λ i. option_map (λ n. user_row_push a m u n i) (nick_push_not u a m e i)
 
 -- a message that says nothing of users
 still : (c s k : ℕ) (r : ℤ) (o : Option (List ℕ)) → option_map (user_of c s r k) o ≡ option_map (user_of (c + 0) (s + 0) (r +ℤ pos 0) (k + 0)) o
-still c s k r o = λ i. option_map (λ n. same_user {c = c} {d = c + 0} {s = s} {t = s + 0} {k = k} {l = k + 0} n (omega arith) (omega arith) (nothing_added r) (omega arith) i) o
+still c s k r o =
+    λ i. option_map (λ n. same_user {c = c} {d = c + 0} {s = s} {t = s + 0} {k = k} {l = k + 0} n (omega arith) (omega arith) (nothing_added r) (omega arith) i) o
 
-listed : (b : Bool) (c s k : ℕ) (r : ℤ) (o : Option (List ℕ)) → c < 2 ^ 62 → cond b (change_row ItemListed (option_map (user_of c s r k) o)).row (option_map (user_of c s r k) o) ≡ option_map (user_of (c + cond b 1 0) (s + 0) (r +ℤ pos 0) (k + 0)) o
+listed : (b : Bool) (c s k : ℕ) (r : ℤ) (o : Option (List ℕ)) → c < 2 ^ 62
+    → cond b (change_row ItemListed (option_map (user_of c s r k) o)).row (option_map (user_of c s r k) o) ≡ option_map (user_of (c + cond b 1 0) (s + 0) (r +ℤ pos 0) (k + 0)) o
 unfolding change_row
 listed true c s k r None h = refl
 listed true c s k r (Some n) h = ap Some (same_user n (small_sum c 1 (omega arith)) (omega arith) (nothing_added r) (omega arith))
 listed false c s k r o h = still c s k r o
 
-bought_more : (b : Bool) (q c s k : ℕ) (r : ℤ) (o : Option (List ℕ)) → s + q < 2 ^ 62 → cond b (change_row (Bought q) (option_map (user_of c s r k) o)).row (option_map (user_of c s r k) o) ≡ option_map (user_of (c + 0) (s + cond b q 0) (r +ℤ pos 0) (k + 0)) o
+bought_more : (b : Bool) (q c s k : ℕ) (r : ℤ) (o : Option (List ℕ)) → s + q < 2 ^ 62
+    → cond b (change_row (Bought q) (option_map (user_of c s r k) o)).row (option_map (user_of c s r k) o) ≡ option_map (user_of (c + 0) (s + cond b q 0) (r +ℤ pos 0) (k + 0)) o
 unfolding change_row
 bought_more true q c s k r None h = refl
 bought_more true q c s k r (Some n) h = ap Some (same_user n (omega arith) (small_sum s q (omega arith)) (nothing_added r) (omega arith))
 bought_more false q c s k r o h = still c s k r o
 
-rated : (b : Bool) (z : ℤ) (c s k : ℕ) (r : ℤ) (o : Option (List ℕ)) → k < 2 ^ 62 → unsigned_abs (r +ℤ z) < 2 ^ 63 → cond b (change_row (Rated z) (option_map (user_of c s r k) o)).row (option_map (user_of c s r k) o) ≡ option_map (user_of (c + 0) (s + 0) (r +ℤ cond b z (pos 0)) (k + cond b 1 0)) o
+rated : (b : Bool) (z : ℤ) (c s k : ℕ) (r : ℤ) (o : Option (List ℕ)) → k < 2 ^ 62 → unsigned_abs (r +ℤ z) < 2 ^ 63
+    → cond b (change_row (Rated z) (option_map (user_of c s r k) o)).row (option_map (user_of c s r k) o) ≡ option_map (user_of (c + 0) (s + 0) (r +ℤ cond b z (pos 0)) (k + cond b 1 0)) o
 unfolding change_row
 rated true z c s k r None h g = refl
 rated true z c s k r (Some n) h g = ap Some (same_user n (omega arith) (omega arith) (small_int _ g) (small_sum k 1 (omega arith)))
@@ -98,7 +105,12 @@ pub row_of_user : (a : List Core) (s : Head) (x : Shadow) → Good a → Follows
     fold (at_key (key.User u)) (meaning_row a (key.User u)) (parts s.id s.red x) ≡ meaning_row (a ++ msg s x ∷ []) (key.User u)
 unfolding meaning_row
 row_of_user a s (shadow.User n) g f h u = inserted a s n u _ refl g f
-row_of_user a s (shadow.Item n) g f h u = listed (same_id u n.seller) _ _ _ _ (nick_at u a) (count_small (lists_item_of u) a h) ∙ sym (user_meaning_push a (msg s (shadow.Item n)) u refl)
-row_of_user a s (shadow.Buy p) g f h u = bought_more (same_id u p.buyer) p.quantity _ _ _ _ (nick_at u a) (let l = g.bought u in let q = f.limits.1.quantity.small in omega (arith, l, q, h)) ∙ sym (user_meaning_push a (msg s (shadow.Buy p)) u refl)
-row_of_user a s (shadow.Comment c) g f h u = rated (same_id u c.to) c.rating _ _ _ _ (nick_at u a) (count_small (rates u) a h) (let l = g.rating u in let q = f.limits.1.rating in let t = abs_sum (int_sum_by (λ m. rating_for u m.shadow) a) c.rating in omega (arith, l, q, t, h)) ∙ sym (user_meaning_push a (msg s (shadow.Comment c)) u refl)
+row_of_user a s (shadow.Item n) g f h u =
+    listed (same_id u n.seller) _ _ _ _ (nick_at u a) (count_small (lists_item_of u) a h) ∙ sym (user_meaning_push a (msg s (shadow.Item n)) u refl)
+row_of_user a s (shadow.Buy p) g f h u =
+    bought_more (same_id u p.buyer) p.quantity _ _ _ _ (nick_at u a) (let l = g.bought u in let q = f.limits.1.quantity.small in omega (arith, l, q, h))
+    ∙ sym (user_meaning_push a (msg s (shadow.Buy p)) u refl)
+row_of_user a s (shadow.Comment c) g f h u =
+    rated (same_id u c.to) c.rating _ _ _ _ (nick_at u a) (count_small (rates u) a h) (let l = g.rating u in let q = f.limits.1.rating in let t = abs_sum (int_sum_by (λ m. rating_for u m.shadow) a) c.rating in omega (arith, l, q, t, h))
+    ∙ sym (user_meaning_push a (msg s (shadow.Comment c)) u refl)
 row_of_user a s x g f h u = still _ _ _ _ (nick_at u a) ∙ sym (user_meaning_push a (msg s x) u refl)

@@ -33,14 +33,16 @@ module _ (w : World) (s : Sound w) where
     members = λ u h. (((foundation w v s b).exactly u).0 (has_reverse u (foundation w v s b).past h)).0;
     ids = one_each_back (foundation w v s b).past (foundation w v s b).released;
     fits = (foundation w v s b).decided.fits;
-    reds = λ u a e f q. has_back u (foundation w v s b).past (((foundation w v s b).exactly u).1 (a, s.reds.ordered u v a b (red_positive w u s a e) q));
+    reds =
+        λ u a e f q. has_back u (foundation w v s b).past (((foundation w v s b).exactly u).1 (a, s.reds.ordered u v a b (red_positive w u s a e) q));
   }
 
   pub single : (u v : Message) → Sent w u → Sent w v → is_red u.shadow ≡ true → is_red v.shadow ≡ true → u.stamp.red ≡ v.stamp.red → u ≡ v
   single u v a b e f q = s.reds.single u v a b (red_positive w u s a e) q
 
   pub refers : (v : Message) → Sent w v → RefersOf (Sent w) v v.shadow
-  refers v b = refers_of (Sent w) v (reverse (foundation w v s b).past) (λ u h. ((foundation w v s b).exactly u).0 (has_reverse u (foundation w v s b).past h)) v.shadow (foundation w v s b).decided.fits
+  refers v b =
+      refers_of (Sent w) v (reverse (foundation w v s b).past) (λ u h. ((foundation w v s b).exactly u).0 (has_reverse u (foundation w v s b).past h)) v.shadow (foundation w v s b).decided.fits
 
   pub logged : (i : ℕ) (m : Message) → Has m (site w i).log → Sent w m
   logged i m h = (s.good i).log_sent m (has_back m (site w i).log h)
@@ -64,7 +66,8 @@ in_run keep w few room s = record {
 
 -- ---- every run is sound
 pub sound_run : (n keep : ℕ) (events : List Event) → 1 ≤ n → keep ≤ 1000000 → AreEvents n events → Sound (run keep events (start n))
-sound_run n keep events some few a = run_keeps keep few events (start n) (subst (λ k. AreEvents k events) (sym (start_sites n)) a) (start_sound n some)
+sound_run n keep events some few a =
+    run_keeps keep few events (start n) (subst (λ k. AreEvents k events) (sym (start_sites n)) a) (start_sound n some)
 
 pub room_of : (n keep : ℕ) (events : List Event) → Room keep (run keep events (start n))
 room_of n keep events = room_run keep events (start n) (room_start keep n)

@@ -180,7 +180,8 @@ one_int : (n m : ℕ) (z : ℤ) → pos n -ℤ pos m +ℤ z ≡ pos (n + above z
 one_int n m (pos k) = omega (arith, ints)
 one_int n m (negsuc k) = omega (arith, ints)
 
-int_sum_split : (f : Core → ℤ) (n m : ℕ) (a : List Core) → fold (λ s x. s +ℤ f x) (pos n -ℤ pos m) a ≡ pos (n + sum_by (λ x. above (f x)) a) -ℤ pos (m + sum_by (λ x. below (f x)) a)
+int_sum_split : (f : Core → ℤ) (n m : ℕ) (a : List Core)
+    → fold (λ s x. s +ℤ f x) (pos n -ℤ pos m) a ≡ pos (n + sum_by (λ x. above (f x)) a) -ℤ pos (m + sum_by (λ x. below (f x)) a)
 int_sum_split f n m [] = λ i. pos (zero_more n i) -ℤ pos (zero_more m i)
   where
     zero_more : (k : ℕ) → k ≡ k + 0

@@ -31,7 +31,8 @@ outcomes t (n ∷ ns) = (n, misfit_of t n.effect) ∷ outcomes (after t n.effect
 abbrev pub all_noted : List (Numbered × Option MisfitKind) → List Misfit
 all_noted os = flat_map (λ o. noted o.0 o.1) os
 
-pub fold_on_is : (t : Tables) (ms : List Misfit) (ns : List Numbered) → fold_on (record { tables = t; misfits = ms }) ns ≡ record { tables = tables_after t ns; misfits = ms ++ all_noted (outcomes t ns) }
+pub fold_on_is : (t : Tables) (ms : List Misfit) (ns : List Numbered)
+    → fold_on (record { tables = t; misfits = ms }) ns ≡ record { tables = tables_after t ns; misfits = ms ++ all_noted (outcomes t ns) }
 fold_on_is t ms [] = λ i. record { tables = t; misfits = nothing_more i }
   where
     nothing_more : ms ≡ ms ++ []
@@ -94,7 +95,8 @@ pub in_its_part : (shards : ℕ) (t : Tables) (q : RowKey) → map.get (part_of 
 in_its_part shards t q = get-part_of shards (home shards q) t q ∙ ap (λ b. cond b (map.get t q) None) ((Decides-eqb _ _).1 refl)
 
 -- ---- a whole share
-pub share_is_part : (shards first k : ℕ) (t : Tables) (batch : List Core) → (share_folded shards first t batch k).tables ≡ part_of shards k (batch_folded first t batch).tables
+pub share_is_part : (shards first k : ℕ) (t : Tables) (batch : List Core)
+    → (share_folded shards first t batch k).tables ≡ part_of shards k (batch_folded first t batch).tables
 share_is_part shards first k t batch =
     ap (λ f. f.tables) (fold_on_is (part_of shards k t) [] (share shards first batch k))
     ∙ share_tables shards k t (numbered_from first batch)

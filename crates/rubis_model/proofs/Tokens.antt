@@ -12,7 +12,8 @@ use Rattle.rubis_model.proofs.Making.{not_right, right_cases, red_count_right, t
 use Rattle.rubis_model.proofs.Lists.{has_last}
 
 -- only where the token stands is it held, and it says how many red ones were sent
-pub held_is : (n : ℕ) (held : ℕ → Option ℕ) (last : ℕ → ℕ) (sent : List Packet) (i issued : ℕ) → OneToken n held last sent → held i ≡ Some issued → Stands n held last sent i × (issued ≡ red_count sent)
+pub held_is : (n : ℕ) (held : ℕ → Option ℕ) (last : ℕ → ℕ) (sent : List Packet) (i issued : ℕ) → OneToken n held last sent → held i ≡ Some issued
+    → Stands n held last sent i × (issued ≡ red_count sent)
 held_is n held last sent i issued (inr t) e = let k = t.1.nowhere i in absurd (cc)
 held_is n held last sent i issued (inl t) e = ⊎_elim (here) (λ k. let a = t.1.alone i k in absurd (cc)) (cases_eq i t.0)
   where
@@ -92,7 +93,8 @@ token_taken n held held' last last' sent u h l e f eh el (inr t) = ⊎_elim here
       here = e ∙ ap (λ x. Some x) s.issued;
       alone = λ j q. eh j q ∙ s.nowhere j;
       now = f ∙ s.turn;
-      earlier = λ j. ⊎_elim (λ q. subst (λ x. last' x ≤ turns sent) (sym q) (omega (arith, f, s.turn))) (λ q. omega (arith, el j q, s.earlier j)) (cases_eq j u.to);
+      earlier =
+          λ j. ⊎_elim (λ q. subst (λ x. last' x ≤ turns sent) (sym q) (omega (arith, f, s.turn))) (λ q. omega (arith, el j q, s.earlier j)) (cases_eq j u.to);
       taken = λ v b. ⊎_elim
           (λ q. let a : last' v.to ≡ u.turn = ap (λ (x : Token). last' x.to) q ∙ f in let c : v.turn ≡ u.turn = ap (λ (x : Token). x.turn) q in omega arith)
           (λ q. ⊎_elim (λ p. let a : last' v.to ≡ u.turn = ap last' p ∙ f in let c = ap last p in omega (arith, s.untaken)) (λ p. omega (arith, el v.to p)) (cases_eq v.to u.to))

@@ -33,7 +33,8 @@ item_in (row.Item r) = Some r
 item_in r = None
 
 -- the same item row
-pub same_row : (a : List Core) (j : Id) (n : NewItem) (r : ItemRow) → Some (item_row a j n) ≡ Some (row.Item r) → {X : Type 0} (f : ItemRow → X) → option_map f (item_in (item_row a j n)) ≡ Some (f r)
+pub same_row : (a : List Core) (j : Id) (n : NewItem) (r : ItemRow) → Some (item_row a j n) ≡ Some (row.Item r) → {X : Type 0} (f : ItemRow → X)
+    → option_map f (item_in (item_row a j n)) ≡ Some (f r)
 same_row a j n r e f = ap (λ o. option_map f (option_and_then item_in o)) e
 
 -- ---- what the checks say of one shadow
@@ -54,7 +55,8 @@ not_both j (Bid b) e f = true≢false (sym f)
 not_both j x e f = true≢false (sym e)
 
 none_closes : (a : List Core) (j : Id) (m : Core) → close_of j a ≡ None → Member a m → closes j m.shadow ≡ true → ⊥
-none_closes a j m e h t = true≢false (sym t ∙ subst (IsChoice earlier (λ x. closes j x.shadow) a) e (choose_is earlier_ranks (λ x. closes j x.shadow) a) m h)
+none_closes a j m e h t =
+    true≢false (sym t ∙ subst (IsChoice earlier (λ x. closes j x.shadow) a) e (choose_is earlier_ranks (λ x. closes j x.shadow) a) m h)
 
 -- ---- what v was decided against: oldest first, with every red message of a smaller number
 pub record Ground (all : Message → Type 0) (v : Message) : Type 0 where
@@ -65,10 +67,12 @@ pub record Ground (all : Message → Type 0) (v : Message) : Type 0 where
   pub reds : (u : Message) → all u → is_red u.shadow ≡ true → is_red v.shadow ≡ true → u.stamp.red < v.stamp.red → Has u past
 
 -- who has a nickname has it after each log with that message
-nick_kept : (a : List Message) (u : Message) (n : List ℕ) → OneEach (cores a) → Has u a → as_user u.shadow ≡ Some n → nick_at u.stamp.id (cores a) ≡ Some n
+nick_kept : (a : List Message) (u : Message) (n : List ℕ) → OneEach (cores a) → Has u a → as_user u.shadow ≡ Some n
+    → nick_at u.stamp.id (cores a) ≡ Some n
 nick_kept a u n ids h e = at_member (λ m. as_user m.shadow) (cores a) (core u) ids (has_core u a h) ∙ e
 
-user_taken : (a : List Message) (u : Message) (n : List ℕ) (x : Shadow) → OneEach (cores a) → Has u a → as_user u.shadow ≡ Some n → as_user x ≡ Some n → Fits (cores a) x → ⊥
+user_taken : (a : List Message) (u : Message) (n : List ℕ) (x : Shadow) → OneEach (cores a) → Has u a → as_user u.shadow ≡ Some n → as_user x ≡ Some n
+    → Fits (cores a) x → ⊥
 user_taken a u n (User k) ids h e f g =
     let same : k ≡ n = cc in
     not_named n (cores a) (subst (λ z. named z (cores a) ≡ None) same g) u.stamp.id (nick_kept a u n ids h e)
@@ -96,7 +100,8 @@ module _ (all : Message → Type 0) (ground : (v : Message) → all v → Ground
       (red_cases u v a b (close_red j u.shadow e) (close_red j v.shadow f))
 
   -- a bid for an item that was closed is in what the close was decided against
-  bid_before : (j : Id) (b c : Message) (sb : all b) (sc : all c) → bids_on j b.shadow ≡ true → closes j c.shadow ≡ true → Member (cores (ground c sc).past) (core b)
+  bid_before : (j : Id) (b c : Message) (sb : all b) (sc : all c) → bids_on j b.shadow ≡ true → closes j c.shadow ≡ true
+      → Member (cores (ground c sc).past) (core b)
   bid_before j b c sb sc e f = has_core b (ground c sc).past (⊎_elim
       (λ q. absurd (not_both j c.shadow (subst (λ (x : Message). bids_on j x.shadow ≡ true) q e) f))
       (λ o. ⊎_elim (λ h. h) (λ h. absurd (none_closes (cores (ground b sb).past) j (core c) (open_for (cores (ground b sb).past) j b.shadow (ground b sb).fits e) (has_core c (ground b sb).past h) f)) o)
@@ -105,7 +110,8 @@ module _ (all : Message → Type 0) (ground : (v : Message) → all v → Ground
   pub winner_is : (j : Id) (c : Message) → all c → closes j c.shadow ≡ true → IsHighestBid all j (winner_of c.shadow)
   winner_is j c sc f = subst (IsHighestBid all j) (sym (won_by (cores (ground c sc).past) j c.shadow (ground c sc).fits f)) (at (best_bid j (cores (ground c sc).past)) (choose_is higher_ranks (λ m. bids_on j m.shadow) (cores (ground c sc).past)))
     where
-      at : (o : Option Core) → IsChoice higher (λ m. bids_on j m.shadow) (cores (ground c sc).past) o → IsHighestBid all j (option_map (λ (m : Core). m.id) o)
+      at : (o : Option Core) → IsChoice higher (λ m. bids_on j m.shadow) (cores (ground c sc).past) o
+          → IsHighestBid all j (option_map (λ (m : Core). m.id) o)
       at None h = λ b k. true≢false (sym k.1 ∙ h (core b) (bid_before j b c k.0 sc k.1 f))
       at (Some m) h =
           let w = core_of m (ground c sc).past h.there in (
@@ -115,7 +121,8 @@ module _ (all : Message → Type 0) (ground : (v : Message) → all v → Ground
             (λ b k. ap (higher (core b)) w.2 ∙ h.unbeaten (core b) (bid_before j b c k.0 sc k.1 f) k.1),
           )
 
-  ended_winner : (a : List Message) (j : Id) → ((m : Message) → Has m a → all m) → IfSome (close_of j (cores a)) (λ c. IsHighestBid all j (winner_of c.shadow))
+  ended_winner : (a : List Message) (j : Id) → ((m : Message) → Has m a → all m)
+      → IfSome (close_of j (cores a)) (λ c. IsHighestBid all j (winner_of c.shadow))
   ended_winner a j inside = at (close_of j (cores a)) (choose_is earlier_ranks (λ m. closes j m.shadow) (cores a))
     where
       at : (o : Option Core) → IsChoice earlier (λ m. closes j m.shadow) (cores a) o → IfSome o (λ c. IsHighestBid all j (winner_of c.shadow))
@@ -125,7 +132,8 @@ module _ (all : Message → Type 0) (ground : (v : Message) → all v → Ground
           subst (λ (x : Core). IsHighestBid all j (winner_of x.shadow)) w.2 (winner_is j w.0 (inside w.0 w.1) (ap (λ (x : Core). closes j x.shadow) w.2 ∙ h.passes))
 
   -- as the item's row shows it
-  pub row_winner : (a : List Message) (j : Id) (r : ItemRow) (o : Option Id) → ((m : Message) → Has m a → all m) → meaning_row (cores a) (key.Item j) ≡ Some (row.Item r) → r.sale ≡ Ended o → IsHighestBid all j o
+  pub row_winner : (a : List Message) (j : Id) (r : ItemRow) (o : Option Id) → ((m : Message) → Has m a → all m)
+      → meaning_row (cores a) (key.Item j) ≡ Some (row.Item r) → r.sale ≡ Ended o → IsHighestBid all j o
   unfolding meaning_row
   row_winner a j r o inside e f = at (item_at j (cores a)) e
     where
@@ -141,7 +149,8 @@ module _ (all : Message → Type 0) (ground : (v : Message) → all v → Ground
           sale_of n g = same_Some _ _ (same_row (cores a) j n r g (λ (q : ItemRow). q.sale))
 
 -- what wasn't sold is what the item's row shows
-pub stock_left : (a : List Core) (j : Id) (n : NewItem) (r : ItemRow) → Holds a → item_at j a ≡ Some n → meaning_row a (key.Item j) ≡ Some (row.Item r) → r.stock + r.sold ≡ n.stock
+pub stock_left : (a : List Core) (j : Id) (n : NewItem) (r : ItemRow) → Holds a → item_at j a ≡ Some n
+    → meaning_row a (key.Item j) ≡ Some (row.Item r) → r.stock + r.sold ≡ n.stock
 unfolding meaning_row
 stock_left a j n r h e g =
     let same : Some (item_row a j n) ≡ Some (row.Item r) = ap (option_map (item_row a j)) (sym e) ∙ g in

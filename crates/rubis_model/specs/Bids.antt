@@ -12,4 +12,5 @@ IsAcceptedBid all item b = (all b) × (bids_on item b.shadow ≡ true)
 -- the id of the accepted bid than which none is higher, and `none` just where there is no bid
 abbrev pub IsHighestBid : (Message → Type 0) → Id → Option Id → Type 0
 IsHighestBid all item None = (b : Message) → IsAcceptedBid all item b → ⊥
-IsHighestBid all item (Some id) = (b : Message) × (IsAcceptedBid all item b) × (b.stamp.id ≡ id) × ((c : Message) → IsAcceptedBid all item c → higher (core c) (core b) ≡ false)
+IsHighestBid all item (Some id) =
+    (b : Message) × (IsAcceptedBid all item b) × (b.stamp.id ≡ id) × ((c : Message) → IsAcceptedBid all item c → higher (core c) (core b) ≡ false)

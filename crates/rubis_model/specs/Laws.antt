@@ -66,7 +66,8 @@ DecidedShadowsFit = (log : List Core) (standing : Standing) (ask : Ask) (x : Sha
 
 -- logs that pass the checks and have equal sets fold to equal tables
 abbrev pub EqualSetsEqualTables : Type 0
-EqualSetsEqualTables = (a b : List Core) → Checked a → Checked b → length a ≤ 2 ^ 32 → length b ≤ 2 ^ 32 → SameSet a b → (fold_of a).tables ≡ (fold_of b).tables
+EqualSetsEqualTables =
+    (a b : List Core) → Checked a → Checked b → length a ≤ 2 ^ 32 → length b ≤ 2 ^ 32 → SameSet a b → (fold_of a).tables ≡ (fold_of b).tables
 
 -- a log with a batch folds to the batch folded on the tables of the log, the new misfits after the old ones
 abbrev pub FoldsBatchByBatch : Type 0
@@ -81,7 +82,8 @@ RowsAreAtHome = (shards : ℕ) (t : Tables) (q : RowKey) → map.get (part_of sh
 
 -- a shard that folds its share of a batch on what it holds comes to hold its part of what the whole batch folds to
 abbrev pub SharesFoldToTheWhole : Type 0
-SharesFoldToTheWhole = (shards first k : ℕ) (t : Tables) (batch : List Core) → (share_folded shards first t batch k).tables ≡ part_of shards k (batch_folded first t batch).tables
+SharesFoldToTheWhole =
+    (shards first k : ℕ) (t : Tables) (batch : List Core) → (share_folded shards first t batch k).tables ≡ part_of shards k (batch_folded first t batch).tables
 
 -- the misfits of a batch stand in the order of their places, and a list in that order that has the shards' misfits and no
 -- others is the list of them
@@ -121,24 +123,36 @@ pub record InOrder (w : World) : Type 0 where
   -- the right to make red shadows is at one site, or in one packet that wasn't taken, with the greatest red number
   pub token : OneToken (length w.sites) (λ i. (site w i).held) (λ i. (site w i).last) w.sent
 
+-- what the tables of a site know of its log, those tables, and the misfits
+abbrev pub known_at : World → ℕ → List Core
+known_at w i = cores (site w i).log
+
+abbrev pub tables_at : World → ℕ → Tables
+tables_at w i = (fold_of (known_at w i)).tables
+
+abbrev pub misfits_at : World → ℕ → List Misfit
+misfits_at w i = (fold_of (known_at w i)).misfits
+
 -- in each log and over all sites, the invariants hold
 pub record InRun (w : World) : Type 0 where
   pub in_order : InOrder w
   -- each log passes the checks, and folds without misfit to the meaning of its set
-  pub checked : (i : ℕ) → Checked (cores (site w i).log)
-  pub meaning : (i : ℕ) → IsMeaning (cores (site w i).log) (fold_of (cores (site w i).log)).tables
-  pub clean : (i : ℕ) → (fold_of (cores (site w i).log)).misfits ≡ []
+  pub checked : (i : ℕ) → Checked (known_at w i)
+  pub meaning : (i : ℕ) → IsMeaning (known_at w i) (tables_at w i)
+  pub clean : (i : ℕ) → misfits_at w i ≡ []
   -- each refers to messages of the right kind that precede it
   pub refers : (v : Message) → Sent w v → RefersOf (Sent w) v v.shadow
   -- no more of an item is sold than its opening stock, and the rest is what the tables show
-  pub sold : (i : ℕ) (item : Id) → IfSome (item_at item (cores (site w i).log)) (λ n. total (sold_of item) (cores (site w i).log) ≤ n.stock)
-  pub stock : (i : ℕ) (item : Id) (n : NewItem) (r : ItemRow) → item_at item (cores (site w i).log) ≡ Some n → rows_at (site w i).log (key.Item item) ≡ Some (row.Item r) → r.stock + r.sold ≡ n.stock
+  pub sold : (i : ℕ) (item : Id) → IfSome (item_at item (known_at w i)) (λ n. total (sold_of item) (known_at w i) ≤ n.stock)
+  pub stock : (i : ℕ) (item : Id) (n : NewItem) (r : ItemRow) → item_at item (known_at w i) ≡ Some n
+      → rows_at (site w i).log (key.Item item) ≡ Some (row.Item r) → r.stock + r.sold ≡ n.stock
   -- over all sites: a nickname has one user, and an item is closed once
   pub nicks : (nick : List ℕ) (u v : Message) → Sent w u → Sent w v → as_user u.shadow ≡ Some nick → as_user v.shadow ≡ Some nick → u ≡ v
   pub closed_once : (item : Id) (u v : Message) → Sent w u → Sent w v → closes item u.shadow ≡ true → closes item v.shadow ≡ true → u ≡ v
   -- the winner is the highest of all bids accepted anywhere; as the close says it, and as the tables of each site show it
   pub winner : (item : Id) (c : Message) → Sent w c → closes item c.shadow ≡ true → IsHighestBid (Sent w) item (winner_of c.shadow)
-  pub ended : (i : ℕ) (item : Id) (r : ItemRow) (winner : Option Id) → rows_at (site w i).log (key.Item item) ≡ Some (row.Item r) → r.sale ≡ Ended winner → IsHighestBid (Sent w) item winner
+  pub ended : (i : ℕ) (item : Id) (r : ItemRow) (winner : Option Id) → rows_at (site w i).log (key.Item item) ≡ Some (row.Item r)
+      → r.sale ≡ Ended winner → IsHighestBid (Sent w) item winner
 
 -- what any events at n sites lead to, where each site keeps at most so many messages
 abbrev pub EveryRun : (World → Type 0) → Type 0
@@ -154,20 +168,25 @@ RunsKeepInvariants = EveryRun InRun
 
 -- among at most 16 sites, each message that is made meets the conditions of its type
 abbrev pub RunsMakeMessages : Type 0
-RunsMakeMessages = (n keep : ℕ) (events : List Event) → 1 ≤ n → n ≤ 16 → keep ≤ 1000000 → AreEvents n events → (m : Message) → Sent (run keep events (start n)) m → IsMessage m
+RunsMakeMessages =
+    (n keep : ℕ) (events : List Event) → 1 ≤ n → n ≤ 16 → keep ≤ 1000000 → AreEvents n events → (m : Message) → Sent (run keep events (start n)) m → IsMessage m
 
 -- equal sets of messages have equal tables, at any two sites and moments, even of two runs
 abbrev pub RunsAgreeOnTables : Type 0
-RunsAgreeOnTables = EveryRun (λ w. EveryRun (λ v. (i j : ℕ) → SameSet (site w i).log (site v j).log → (fold_of (cores (site w i).log)).tables ≡ (fold_of (cores (site v j).log)).tables))
+RunsAgreeOnTables = EveryRun (λ w. EveryRun (λ v. (i j : ℕ) → SameSet (site w i).log (site v j).log → tables_at w i ≡ tables_at v j))
 
 -- what site i refuses changes nothing, nor does what it has had before
 pub record ChangesNothing (keep : ℕ) (w : World) (i : ℕ) : Type 0 where
   pub ask : (ask : Ask) (r : Refusal) → (asked (place keep w i) (site w i) ask).1 ≡ Err r → happens keep w (Request i ask) ≡ w
   pub pass : (to : ℕ) (r : Refusal) → (passed (place keep w i) (site w i) to).1 ≡ Err r → happens keep w (Pass i to) ≡ w
-  pub mail : (k : ℕ) (m : Message) (r : Refusal) → slice_get w.sent k ≡ Some (Mail m) → (arrived (place keep w i) (site w i) m).1 ≡ Err r → happens keep w (Deliver i k) ≡ w
-  pub mail_again : (k : ℕ) (m : Message) → slice_get w.sent k ≡ Some (Mail m) → (arrived (place keep w i) (site w i) m).1 ≡ Ok arrival.Repeat → happens keep w (Deliver i k) ≡ w
-  pub token : (k : ℕ) (t : Token) (r : Refusal) → slice_get w.sent k ≡ Some (Right t) → (took (place keep w i) (site w i) t).1 ≡ Err r → happens keep w (Deliver i k) ≡ w
-  pub token_again : (k : ℕ) (t : Token) → slice_get w.sent k ≡ Some (Right t) → (took (place keep w i) (site w i) t).1 ≡ Ok taken.Repeat → happens keep w (Deliver i k) ≡ w
+  pub mail : (k : ℕ) (m : Message) (r : Refusal) → slice_get w.sent k ≡ Some (Mail m) → (arrived (place keep w i) (site w i) m).1 ≡ Err r
+      → happens keep w (Deliver i k) ≡ w
+  pub mail_again : (k : ℕ) (m : Message) → slice_get w.sent k ≡ Some (Mail m) → (arrived (place keep w i) (site w i) m).1 ≡ Ok arrival.Repeat
+      → happens keep w (Deliver i k) ≡ w
+  pub token : (k : ℕ) (t : Token) (r : Refusal) → slice_get w.sent k ≡ Some (Right t) → (took (place keep w i) (site w i) t).1 ≡ Err r
+      → happens keep w (Deliver i k) ≡ w
+  pub token_again : (k : ℕ) (t : Token) → slice_get w.sent k ≡ Some (Right t) → (took (place keep w i) (site w i) t).1 ≡ Ok taken.Repeat
+      → happens keep w (Deliver i k) ≡ w
 
 abbrev pub RefusalsChangeNothing : Type 0
 RefusalsChangeNothing = (keep : ℕ) (w : World) (i : ℕ) → ChangesNothing keep w i
