@@ -4,6 +4,7 @@ use Rattle.std.specs.Prelude.{reverse, IfSome}
 use Rattle.std.proofs.lemmas.Bool.{ltb-true}
 use Rattle.std.proofs.lemmas.List.{reverse-reverse}
 use Rattle.rubis_schema.specs.declared.ids.Id.{Id}
+use Rattle.rubis_schema.specs.declared.row_keys.RowKey.TheVariants as key
 use Rattle.rubis_shadow.specs.Shadows.{is_red}
 use Rattle.rubis_shadow.specs.declared.shadows.Shadow.{Shadow}
 use Rattle.rubis_shadow.specs.declared.shadows.Shadow.TheVariants.{User, Item, Bid, Buy, Close, Comment}
@@ -23,7 +24,7 @@ use Rattle.rubis_model.proofs.Invariants.{checked_holds}
 use Rattle.rubis_model.proofs.RunsInOrder.{own, there, seen, unique, foundation}
 use Rattle.rubis_model.proofs.Cores.{back_push, cores_length}
 use Rattle.rubis_model.proofs.LogsChecked.{new_here, count_reds, checked_end, number_is, follows, colour}
-use Rattle.rubis_model.proofs.Winners.{one_nick, one_close, winner_is}
+use Rattle.rubis_model.proofs.Winners.{one_nick, one_close, winner_is, row_winner, stock_left}
 use Rattle.rubis_model.proofs.Runs.{refers, logged}
 use Rattle.rubis_model.proofs.Lengths.{log_short}
 use Rattle.rubis_model.proofs.AuditedOrder.{sound_order, sound_log, run_ordered}
@@ -58,6 +59,21 @@ checked_from i (v ∷ past) c h f =
 pub logs_short : (sites : ℕ → ℕ) (log : ℕ → List Message) → ((k : ℕ) → AllOrdered (sites k) (reverse (log k)))
     → ((v : Message) → Logged log v → IsMessage v) → (k : ℕ) → length (log k) ≤ 2 ^ 32
 logs_short sites log o h k = log_short (log k) (released_all (sites k) (reverse (log k)) (o k)) (λ v b. h v (k, has_reverse v (log k) b))
+
+-- so what is left to check of such messages are clashes, the order of each log, red numbers, and what each refers to
+pub messages_faultless : (sites : ℕ → ℕ) (log : ℕ → List Message) → ((v : Message) → Logged log v → IsMessage v)
+    → ((u v : Message) → Logged log u → Logged log v → u.stamp.id.site ≡ v.stamp.id.site → u.stamp.id.seq ≡ v.stamp.id.seq → u ≡ v)
+    → ((k : ℕ) → AllOrdered (sites k) (reverse (log k)))
+    → ((u v : Message) → Logged log u → Logged log v → 0 < u.stamp.red → u.stamp.red ≡ v.stamp.red → u ≡ v)
+    → ((k : ℕ) → AllFitting (reverse (log k))) → AreFaultless sites log
+messages_faultless sites log h clash ordered once fitting = record {
+  formed = λ v a. message_formed v (h v a);
+  short = logs_short sites log ordered h;
+  clash = clash;
+  ordered = ordered;
+  red_once = once;
+  fitting = fitting;
+}
 
 -- ---- references, among more messages
 refer_more : (all wide : Message → Type 0) (v : Message) (kind : Message → Type 0) (i : Id) → ((m : Message) → all m → Precedes m v → wide m)
@@ -110,6 +126,10 @@ module _ (sites : ℕ → ℕ) (log : ℕ → List Message) (f : AreFaultless si
     meaning = λ k. (fold_is_meaning (cores (log k)) (each k) (few k)).0;
     clean = λ k. (fold_is_meaning (cores (log k)) (each k) (few k)).1;
     sold = λ k. (checked_holds (cores (log k)) (each k)).stock;
+    stock = λ k j n r e g. stock_left (cores (log k)) j n r (checked_holds (cores (log k)) (each k)) e
+        (sym ((fold_is_meaning (cores (log k)) (each k) (few k)).0.rows (key.Item j)) ∙ g);
+    ended = λ k j r o e g. row_winner (Logged log) (ground log each once) once (log k) j r o (λ m h. (k, h))
+        (sym ((fold_is_meaning (cores (log k)) (each k) (few k)).0.rows (key.Item j)) ∙ e) g;
     nicks = one_nick (Logged log) (ground log each once) once;
     closed_once = one_close (Logged log) (ground log each once) once;
     winner = winner_is (Logged log) (ground log each once) once;
