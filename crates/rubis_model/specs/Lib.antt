@@ -3,3 +3,14 @@ pub mod Settle
 pub mod Site
 pub mod Answers
 pub mod Runs
+pub mod Meaning
+pub mod Checks
+pub mod Shares
+pub mod Invariants
+pub mod Order
+pub mod References
+pub mod Bids
+pub mod Audit
+pub mod System
+pub mod Sound
+pub mod Laws

@@ -1,0 +1,5 @@
+use Rattle.rubis_model.proofs.Commute.{parts_commute}
+use Rattle.rubis_model.proofs.laws.parts_commute.Goals as goal
+
+pub returns : goal.returns
+returns c = parts_commute

@@ -1,0 +1,202 @@
+-- The laws of every run and of every log, as contracts name them.
+use Rattle.std.specs.Prelude.{◌≡◌, ◌≢◌, ℕ, ◌+◌, ◌^◌, ◌<◌, ◌≤◌, List, [], ◌++◌, length, Option, Some, IfSome, true, Ok, Err, slice_get, ◌↔◌}
+use Rattle.std.specs.FinMap as map
+use Rattle.rubis_schema.specs.Keys.{home}
+use Rattle.rubis_schema.specs.Tables.{Tables}
+use Rattle.rubis_schema.specs.declared.row_keys.RowKey.{RowKey}
+use Rattle.rubis_shadow.specs.Changes.{after, misfit_of}
+use Rattle.rubis_shadow.specs.declared.asks.Ask.{Ask}
+use Rattle.rubis_shadow.specs.declared.changes.Effect.{Effect}
+use Rattle.rubis_shadow.specs.declared.shadows.NewItem.{NewItem}
+use Rattle.rubis_shadow.specs.declared.shadows.Shadow.{Shadow}
+use Rattle.rubis_generate.specs.Decision.{decision}
+use Rattle.rubis_generate.specs.Lookup.{rows_of}
+use Rattle.rubis_generate.specs.declared.standing.Standing.{Standing}
+use Rattle.rubis_shadow.specs.declared.numbered.Misfit.{Misfit}
+use Rattle.rubis_message.specs.declared.answers.Arrival.TheVariants as arrival
+use Rattle.rubis_message.specs.declared.answers.Taken.TheVariants as taken
+use Rattle.rubis_message.specs.declared.tokens.Token.{Token}
+use Rattle.rubis_schema.specs.declared.ids.Id.{Id}
+use Rattle.rubis_schema.specs.declared.row_keys.RowKey.TheVariants as key
+use Rattle.rubis_schema.specs.declared.rows.ItemRow.{ItemRow}
+use Rattle.rubis_schema.specs.declared.rows.Row.TheVariants as row
+use Rattle.rubis_schema.specs.declared.rows.Sale.TheVariants.{Ended}
+use Rattle.rubis_schema.specs.declared.refusals.Refusal.{Refusal}
+use Rattle.rubis_schema.specs.declared.refusals.Refusal.TheVariants.{NotOurs}
+use Rattle.rubis_message.specs.Message.{Message, IsMessage}
+use Rattle.rubis_model.specs.Settle.{Has, Settles, settle}
+use Rattle.rubis_model.specs.Site.{asked, arrived, took, passed, rows_at}
+use Rattle.rubis_model.specs.Log.{Core, cores, fold_of}
+use Rattle.rubis_model.specs.Meaning.{IsMeaning, item_at, total, sold_of, as_user, closes, winner_of}
+use Rattle.rubis_model.specs.Checks.{Fits, Checked, SameSet}
+use Rattle.rubis_model.specs.Invariants.{Holds}
+use Rattle.rubis_model.specs.Shares.{part_of, batch_folded, share_folded, InPlace}
+use Rattle.rubis_model.specs.Audit.{AreFaultless, AreSound}
+use Rattle.rubis_model.specs.References.{RefersOf}
+use Rattle.rubis_model.specs.Bids.{IsHighestBid}
+use Rattle.rubis_model.specs.Order.{Precedes, IsRedBlueOrder, Serializes, Foundation}
+use Rattle.rubis_model.specs.System.{World, Event, AreEvents, site, place, happens, run, start}
+use Rattle.rubis_model.specs.System.Packet.{Mail, Right}
+use Rattle.rubis_model.specs.System.Event.{Request, Pass, Deliver}
+use Rattle.rubis_model.specs.Sound.{red_count, OneToken}
+
+-- ---- parts and logs
+
+-- parts on different keys may be done in either order: the tables are the same, and the misfit of each part
+abbrev pub PartsCommute : Type 0
+PartsCommute = (t : Tables) (e f : Effect) → ¬ (e.key ≡ f.key)
+    → (after (after t e) f ≡ after (after t f) e) × (misfit_of (after t e) f ≡ misfit_of t f) × (misfit_of (after t f) e ≡ misfit_of t e)
+
+-- a set of messages has one meaning
+abbrev pub MeaningIsOne : Type 0
+MeaningIsOne = (a : List Core) (t u : Tables) → IsMeaning a t → IsMeaning a u → t ≡ u
+
+-- a log that passes the checks folds without misfit to the meaning of its set
+abbrev pub FoldIsMeaning : Type 0
+FoldIsMeaning = (log : List Core) → Checked log → length log ≤ 2 ^ 32 → IsMeaning log (fold_of log).tables × ((fold_of log).misfits ≡ [])
+
+-- the invariants hold in a log that passes the checks
+abbrev pub CheckedLogsHold : Type 0
+CheckedLogsHold = (log : List Core) → Checked log → Holds log
+
+-- the shadow of an ask that isn't refused at the tables of such a log fits after it
+abbrev pub DecidedShadowsFit : Type 0
+DecidedShadowsFit = (log : List Core) (standing : Standing) (ask : Ask) (x : Shadow) → Checked log → length log ≤ 2 ^ 32
+    → decision (rows_of (fold_of log).tables) standing ask ≡ Ok x → Fits log x
+
+-- logs that pass the checks and have equal sets fold to equal tables
+abbrev pub EqualSetsEqualTables : Type 0
+EqualSetsEqualTables =
+    (a b : List Core) → Checked a → Checked b → length a ≤ 2 ^ 32 → length b ≤ 2 ^ 32 → SameSet a b → (fold_of a).tables ≡ (fold_of b).tables
+
+-- a log with a batch folds to the batch folded on the tables of the log, the new misfits after the old ones
+abbrev pub FoldsBatchByBatch : Type 0
+FoldsBatchByBatch = (log batch : List Core) → fold_of (log ++ batch) ≡ record {
+  tables = (batch_folded (1 + length log) (fold_of log).tables batch).tables;
+  misfits = (fold_of log).misfits ++ (batch_folded (1 + length log) (fold_of log).tables batch).misfits;
+}
+
+-- each row is held by its home shard
+abbrev pub RowsAreAtHome : Type 0
+RowsAreAtHome = (shards : ℕ) (t : Tables) (q : RowKey) → map.get (part_of shards (home shards q) t) q ≡ map.get t q
+
+-- a shard that folds its share of a batch on what it holds comes to hold its part of what the whole batch folds to
+abbrev pub SharesFoldToTheWhole : Type 0
+SharesFoldToTheWhole =
+    (shards first k : ℕ) (t : Tables) (batch : List Core) → (share_folded shards first t batch k).tables ≡ part_of shards k (batch_folded first t batch).tables
+
+-- the misfits of a batch stand in the order of their places, and a list in that order that has the shards' misfits and no
+-- others is the list of them
+abbrev pub MisfitsFallInPlace : Type 0
+MisfitsFallInPlace = (shards first : ℕ) (t : Tables) (batch : List Core) (all : List Misfit) → 0 < shards → InPlace (batch_folded first t batch).misfits
+    × (InPlace all → ((z : Misfit) → Has z all ↔ ((k : ℕ) × (k < shards) × Has z (share_folded shards first t batch k).misfits)) → all ≡ (batch_folded first t batch).misfits)
+
+-- ---- settling
+
+-- what a log and its waiting messages settle to is given by `settle`, and there is nothing else that they settle to
+abbrev pub SettlingHasOneOutcome : Type 0
+SettlingHasOneOutcome = (log waiting : List Message) → Settles log waiting (settle (length waiting) log waiting).0 (settle (length waiting) log waiting).1
+    × ((released left : List Message) → Settles log waiting released left → settle (length waiting) log waiting ≡ (released, left))
+
+-- ---- runs
+
+-- the message was made at one of the sites
+abbrev pub Sent : World → Message → Type 0
+Sent w m = Has (Mail m) w.sent
+
+-- all sites' logs causally serialize one RedBlue order
+pub record InOrder (w : World) : Type 0 where
+  -- two messages of one id are one
+  pub ids : (u v : Message) → Sent w u → Sent w v → u.stamp.id.site ≡ v.stamp.id.site → u.stamp.id.seq ≡ v.stamp.id.seq → u ≡ v
+  pub order : IsRedBlueOrder (Sent w)
+  -- of two red ones, the one with the smaller number precedes
+  pub smaller_first : (u v : Message) → Sent w u → Sent w v → 0 < u.stamp.red → u.stamp.red < v.stamp.red → Precedes u v
+  -- the red numbers are 1 to their count, each once
+  pub numbers : (m : Message) → Sent w m → m.stamp.red ≤ red_count w.sent
+  pub numbered : (r : ℕ) → 1 ≤ r → r ≤ red_count w.sent → (m : Message) × (Sent w m) × (m.stamp.red ≡ r)
+  pub numbered_once : (u v : Message) → Sent w u → Sent w v → 0 < u.stamp.red → u.stamp.red ≡ v.stamp.red → u ≡ v
+  pub logs : (i : ℕ) → Serializes i (Sent w) (site w i).log
+  -- each was decided against just what precedes it
+  pub foundation : (v : Message) → Sent w v → Foundation (Sent w) v
+  -- no site answers NotOurs to a message that was sent
+  pub ours : (keep i : ℕ) (m : Message) → Sent w m → (arrived (place keep w i) (site w i) m).1 ≢ Err NotOurs
+  -- the right to make red shadows is at one site, or in one packet that wasn't taken, with the greatest red number
+  pub token : OneToken (length w.sites) (λ i. (site w i).held) (λ i. (site w i).last) w.sent
+
+-- what the tables of a site know of its log, those tables, and the misfits
+abbrev pub known_at : World → ℕ → List Core
+known_at w i = cores (site w i).log
+
+abbrev pub tables_at : World → ℕ → Tables
+tables_at w i = (fold_of (known_at w i)).tables
+
+abbrev pub misfits_at : World → ℕ → List Misfit
+misfits_at w i = (fold_of (known_at w i)).misfits
+
+-- in each log and over all sites, the invariants hold
+pub record InRun (w : World) : Type 0 where
+  pub in_order : InOrder w
+  -- each log passes the checks, and folds without misfit to the meaning of its set
+  pub checked : (i : ℕ) → Checked (known_at w i)
+  pub meaning : (i : ℕ) → IsMeaning (known_at w i) (tables_at w i)
+  pub clean : (i : ℕ) → misfits_at w i ≡ []
+  -- each refers to messages of the right kind that precede it
+  pub refers : (v : Message) → Sent w v → RefersOf (Sent w) v v.shadow
+  -- no more of an item is sold than its opening stock, and the rest is what the tables show
+  pub sold : (i : ℕ) (item : Id) → IfSome (item_at item (known_at w i)) (λ n. total (sold_of item) (known_at w i) ≤ n.stock)
+  pub stock : (i : ℕ) (item : Id) (n : NewItem) (r : ItemRow) → item_at item (known_at w i) ≡ Some n
+      → rows_at (site w i).log (key.Item item) ≡ Some (row.Item r) → r.stock + r.sold ≡ n.stock
+  -- over all sites: a nickname has one user, and an item is closed once
+  pub nicks : (nick : List ℕ) (u v : Message) → Sent w u → Sent w v → as_user u.shadow ≡ Some nick → as_user v.shadow ≡ Some nick → u ≡ v
+  pub closed_once : (item : Id) (u v : Message) → Sent w u → Sent w v → closes item u.shadow ≡ true → closes item v.shadow ≡ true → u ≡ v
+  -- the winner is the highest of all bids accepted anywhere; as the close says it, and as the tables of each site show it
+  pub winner : (item : Id) (c : Message) → Sent w c → closes item c.shadow ≡ true → IsHighestBid (Sent w) item (winner_of c.shadow)
+  pub ended : (i : ℕ) (item : Id) (r : ItemRow) (winner : Option Id) → rows_at (site w i).log (key.Item item) ≡ Some (row.Item r)
+      → r.sale ≡ Ended winner → IsHighestBid (Sent w) item winner
+
+-- what any events at n sites lead to, where each site keeps at most so many messages
+abbrev pub EveryRun : (World → Type 0) → Type 0
+EveryRun claim = (n keep : ℕ) (events : List Event) → 1 ≤ n → keep ≤ 1000000 → AreEvents n events → claim (run keep events (start n))
+
+-- every run is in order
+abbrev pub RunsAreInOrder : Type 0
+RunsAreInOrder = EveryRun InOrder
+
+-- every run keeps the invariants
+abbrev pub RunsKeepInvariants : Type 0
+RunsKeepInvariants = EveryRun InRun
+
+-- among at most 16 sites, each message that is made meets the conditions of its type
+abbrev pub RunsMakeMessages : Type 0
+RunsMakeMessages =
+    (n keep : ℕ) (events : List Event) → 1 ≤ n → n ≤ 16 → keep ≤ 1000000 → AreEvents n events → (m : Message) → Sent (run keep events (start n)) m → IsMessage m
+
+-- equal sets of messages have equal tables, at any two sites and moments, even of two runs
+abbrev pub RunsAgreeOnTables : Type 0
+RunsAgreeOnTables = EveryRun (λ w. EveryRun (λ v. (i j : ℕ) → SameSet (site w i).log (site v j).log → tables_at w i ≡ tables_at v j))
+
+-- what site i refuses changes nothing, nor does what it has had before
+pub record ChangesNothing (keep : ℕ) (w : World) (i : ℕ) : Type 0 where
+  pub ask : (ask : Ask) (r : Refusal) → (asked (place keep w i) (site w i) ask).1 ≡ Err r → happens keep w (Request i ask) ≡ w
+  pub pass : (to : ℕ) (r : Refusal) → (passed (place keep w i) (site w i) to).1 ≡ Err r → happens keep w (Pass i to) ≡ w
+  pub mail : (k : ℕ) (m : Message) (r : Refusal) → slice_get w.sent k ≡ Some (Mail m) → (arrived (place keep w i) (site w i) m).1 ≡ Err r
+      → happens keep w (Deliver i k) ≡ w
+  pub mail_again : (k : ℕ) (m : Message) → slice_get w.sent k ≡ Some (Mail m) → (arrived (place keep w i) (site w i) m).1 ≡ Ok arrival.Repeat
+      → happens keep w (Deliver i k) ≡ w
+  pub token : (k : ℕ) (t : Token) (r : Refusal) → slice_get w.sent k ≡ Some (Right t) → (took (place keep w i) (site w i) t).1 ≡ Err r
+      → happens keep w (Deliver i k) ≡ w
+  pub token_again : (k : ℕ) (t : Token) → slice_get w.sent k ≡ Some (Right t) → (took (place keep w i) (site w i) t).1 ≡ Ok taken.Repeat
+      → happens keep w (Deliver i k) ≡ w
+
+abbrev pub RefusalsChangeNothing : Type 0
+RefusalsChangeNothing = (keep : ℕ) (w : World) (i : ℕ) → ChangesNothing keep w i
+
+-- ---- logs together
+
+-- logs that pass the checks together are sound
+abbrev pub FaultlessLogsAreSound : Type 0
+FaultlessLogsAreSound = (sites : ℕ → ℕ) (log : ℕ → List Message) → AreFaultless sites log → AreSound sites log
+
+-- the logs of a run pass the checks together
+abbrev pub RunsAreFaultless : Type 0
+RunsAreFaultless = EveryRun (λ w. AreFaultless (λ i. i) (λ i. (site w i).log))

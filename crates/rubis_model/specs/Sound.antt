@@ -1,0 +1,88 @@
+-- What every event keeps of all sites together.
+use Rattle.std.specs.Prelude.{◌≡◌, ℕ, ◌+◌, ◌<◌, ◌≤◌, cond, nat_lt, Option, Some, None, List, [], ◌∷◌, length, reverse, ◌⊎◌, ⊤}
+use Rattle.rubis_message.specs.Message.{Message, dep}
+use Rattle.rubis_message.specs.declared.tokens.Token.{Token}
+use Rattle.rubis_model.specs.Settle.{Has, counted}
+use Rattle.rubis_model.specs.Order.{Precedes, Released, Decided}
+use Rattle.rubis_model.specs.System.{Packet, World, site}
+use Rattle.rubis_model.specs.System.Packet.{Mail, Right}
+
+-- how many red messages were sent
+abbrev pub red_count : List Packet → ℕ
+red_count [] = 0
+red_count (Mail m ∷ ps) = red_count ps + cond (nat_lt 0 m.stamp.red) 1 0
+red_count (Right t ∷ ps) = red_count ps
+
+-- how many tokens were sent
+abbrev pub turns : List Packet → ℕ
+turns [] = 0
+turns (Mail m ∷ ps) = turns ps
+turns (Right t ∷ ps) = turns ps + 1
+
+-- each that site i made counts what stood before it; newest first
+abbrev pub CountedBy : ℕ → List Message → Type 0
+CountedBy i [] = ⊤
+CountedBy i (m ∷ past) = (m.stamp.id.site ≡ i → (j : ℕ) → dep m j ≡ counted j past) × CountedBy i past
+
+-- each that site i made was decided against what stood before it; newest first
+abbrev pub DecidedBy : ℕ → List Message → Type 0
+DecidedBy i [] = ⊤
+DecidedBy i (m ∷ past) = (m.stamp.id.site ≡ i → Decided past m) × DecidedBy i past
+
+-- of site i: each message of its log was ready when it was released, its own count all before them and were decided
+-- against that; the log and the waiting messages were sent, and none that waits is its own
+pub record Good (sent : List Packet) (i : ℕ) (log waiting : List Message) : Type 0 where
+  pub released : Released (reverse log)
+  pub made : CountedBy i (reverse log)
+  pub decided : DecidedBy i (reverse log)
+  pub log_sent : (m : Message) → Has m (reverse log) → Has (Mail m) sent
+  pub waiting_sent : (m : Message) → Has m waiting → Has (Mail m) sent
+  pub waiting_others : (m : Message) → Has m waiting → m.stamp.id.site ≡ i → ⊥
+
+-- of each message: one of the sites made it, and has it in its log
+pub record Home (n : ℕ) (log : ℕ → List Message) (sent : List Packet) : Type 0 where
+  pub origin : (m : Message) → Has (Mail m) sent → m.stamp.id.site < n
+  pub home : (m : Message) → Has (Mail m) sent → Has m (reverse (log m.stamp.id.site))
+
+-- of the red messages: their numbers are 1 to their count, each once, and the smaller number precedes
+pub record Reds (sent : List Packet) : Type 0 where
+  pub small : (m : Message) → Has (Mail m) sent → m.stamp.red ≤ red_count sent
+  pub single : (u v : Message) → Has (Mail u) sent → Has (Mail v) sent → 0 < u.stamp.red → u.stamp.red ≡ v.stamp.red → u ≡ v
+  pub ordered : (u v : Message) → Has (Mail u) sent → Has (Mail v) sent → 0 < u.stamp.red → u.stamp.red < v.stamp.red → Precedes u v
+  pub each : (r : ℕ) → 1 ≤ r → r ≤ red_count sent → (m : Message) × (Has (Mail m) sent) × (m.stamp.red ≡ r)
+
+-- the token is at site h and nowhere else: it has issued as many red numbers as were sent, and no packet would still be
+-- taken
+pub record Stands (n : ℕ) (held : ℕ → Option ℕ) (last : ℕ → ℕ) (sent : List Packet) (h : ℕ) : Type 0 where
+  pub within : h < n
+  pub here : held h ≡ Some (red_count sent)
+  pub alone : (i : ℕ) → (i ≡ h → ⊥) → held i ≡ None
+  pub now : last h ≡ turns sent
+  pub earlier : (i : ℕ) → last i ≤ turns sent
+  pub taken : (t : Token) → Has (Right t) sent → t.turn ≤ last t.to
+
+-- the token is at no site, and in the packet t alone, which is still to be taken
+pub record Travels (n : ℕ) (held : ℕ → Option ℕ) (last : ℕ → ℕ) (sent : List Packet) (t : Token) : Type 0 where
+  pub within : t.to < n
+  pub there : Has (Right t) sent
+  pub issued : t.issued ≡ red_count sent
+  pub turn : t.turn ≡ turns sent
+  pub untaken : last t.to < t.turn
+  pub nowhere : (i : ℕ) → held i ≡ None
+  pub earlier : (i : ℕ) → last i ≤ turns sent
+  pub others : (u : Token) → Has (Right u) sent → (u ≡ t) ⊎ (u.turn ≤ last u.to)
+
+-- the right to make red shadows is at one site, or in one packet that wasn't taken
+abbrev pub OneToken : ℕ → (ℕ → Option ℕ) → (ℕ → ℕ) → List Packet → Type 0
+OneToken n held last sent = ((h : ℕ) × Stands n held last sent h) ⊎ ((t : Token) × Travels n held last sent t)
+
+-- what every event keeps
+pub record Sound (w : World) : Type 0 where
+  pub good : (i : ℕ) → Good w.sent i (site w i).log (site w i).waiting
+  pub home : Home (length w.sites) (λ i. (site w i).log) w.sent
+  pub reds : Reds w.sent
+  pub token : OneToken (length w.sites) (λ i. (site w i).held) (λ i. (site w i).last) w.sent
+
+-- no site has more messages than it keeps
+abbrev pub Room : ℕ → World → Type 0
+Room keep w = (i : ℕ) → length (site w i).log + length (site w i).waiting ≤ keep

@@ -1,0 +1,85 @@
+// The laws, each with its statement in specs/Laws.
+ghost use Rattle.rubis_model.specs.Laws.{PartsCommute, MeaningIsOne, FoldIsMeaning, CheckedLogsHold, DecidedShadowsFit, EqualSetsEqualTables, FoldsBatchByBatch, RowsAreAtHome, SharesFoldToTheWhole, MisfitsFallInPlace, SettlingHasOneOutcome, RunsAreInOrder, RunsKeepInvariants, RunsAgreeOnTables, RunsMakeMessages, RefusalsChangeNothing, FaultlessLogsAreSound, RunsAreFaultless};
+
+/// Parts on different keys may be done in either order, with the same tables and misfits.
+pub fn parts_commute()
+    ensures { PartsCommute }
+{}
+
+/// A log that passes the checks folds without misfit to the meaning of its set, and there is only one.
+pub fn fold_is_meaning()
+    ensures fold { FoldIsMeaning }
+    ensures one { MeaningIsOne }
+{}
+
+/// In a log that passes the checks no more is sold than there was, each nickname has one user, and the winner of a closed
+/// item is its highest bid.
+pub fn checked_logs_hold()
+    ensures { CheckedLogsHold }
+{}
+
+/// The shadow of an ask that isn't refused at the tables of a log that passes the checks fits after it.
+pub fn decided_shadows_fit()
+    ensures { DecidedShadowsFit }
+{}
+
+/// Logs that pass the checks and have equal sets fold to equal tables.
+pub fn equal_sets_equal_tables()
+    ensures { EqualSetsEqualTables }
+{}
+
+/// A log may be folded batch by batch.
+pub fn folds_batch_by_batch()
+    ensures { FoldsBatchByBatch }
+{}
+
+/// Each row is held by its home shard, and a shard that folds its share comes to hold its part of the whole.
+pub fn shares_fold_to_the_whole()
+    ensures home { RowsAreAtHome }
+    ensures part { SharesFoldToTheWhole }
+{}
+
+/// The misfits of a batch stand in the order of their places, which fixes their list.
+pub fn misfits_fall_in_place()
+    ensures { MisfitsFallInPlace }
+{}
+
+/// What a log and its waiting messages settle to is given by `settle`, and is nothing else.
+pub fn settling_has_one_outcome()
+    ensures { SettlingHasOneOutcome }
+{}
+
+/// In every run all logs causally serialize one RedBlue order.
+pub fn every_run_is_in_order()
+    ensures { RunsAreInOrder }
+{}
+
+/// In every run each log passes the checks, and the invariants hold over all sites.
+pub fn every_run_keeps_invariants()
+    ensures { RunsKeepInvariants }
+{}
+
+/// Logs with equal sets have equal tables, at any two sites and moments of any two runs.
+pub fn every_run_agrees_on_tables()
+    ensures { RunsAgreeOnTables }
+{}
+
+/// Among at most 16 sites, each message of a run meets the conditions of its type.
+pub fn every_run_makes_messages()
+    ensures { RunsMakeMessages }
+{}
+
+/// What a site refuses, or has had before, changes nothing.
+pub fn refusals_change_nothing()
+    ensures { RefusalsChangeNothing }
+{}
+
+/// Logs that pass the checks together are sound.
+pub fn faultless_logs_are_sound()
+    ensures { FaultlessLogsAreSound }
+{}
+
+/// The logs of every run pass the checks together.
+pub fn every_run_is_faultless()
+    ensures { RunsAreFaultless }
+{}
