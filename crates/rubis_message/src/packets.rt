@@ -1,7 +1,7 @@
 // What one site sends to others, read from its record.
 
 ghost use Rattle.std.specs.Prelude.{◌≡◌, ◌≢◌, ◌<◌, ◌≤◌, [], ◌∷◌, ◌↔◌, IfOk, IsErrOf, IsTrue, All, length, nat_lt, decimal};
-ghost use Rattle.rubis_message.specs.Grammar.{IsPacket, IsPost, IsStamp, IsToken, deps_text, message_fields, packet_record, stamp_fields, token_fields};
+ghost use Rattle.rubis_message.specs.Grammar.{IsPacket, IsMessageAmong, IsStamp, IsToken, deps_text, message_fields, packet_record, stamp_fields, token_fields};
 ghost use Rattle.rubis_shadow.specs.Shadows.{is_red};
 ghost use Rattle.rubis_message.specs.Reading.{Reads, Takes};
 
@@ -76,7 +76,7 @@ impl<'a> Reader<'a> {
     /// The rest of the record is a message.
     fn message(&mut self, alloc: Global, sites: u8) -> Result<Message, ReadFault>
         requires { sites ≤ 16 }
-        ensures { Reads (IsPost sites) message_fields self.old result }
+        ensures { Reads (IsMessageAmong sites) message_fields self.old result }
     {
         let stamp = self.stamp(sites)?;
         let shadow = self.shadow(alloc, sites)?;
