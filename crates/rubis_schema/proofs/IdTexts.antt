@@ -13,7 +13,7 @@ use Rattle.rubis_schema.proofs.Marks.{same_parts, found}
 pub decimal_free : (n mark : ℕ) → n < 2 ^ 64 → ¬ (IsInRange 48 57 mark) → All (λ b. b ≢ mark) (decimal n)
 decimal_free n mark h none = All-from_get_or (λ b. b ≢ mark) (decimal n) 0 (λ i lt e. none (subst (λ b. IsInRange 48 57 b) e (decimal_at n i h lt)))
 
-no_point : ¬ (IsInRange 48 57 46)
+pub no_point : ¬ (IsInRange 48 57 46)
 no_point h = absurd (omega (arith, h.0))
 
 pub decimal_short : (n : ℕ) → n < 2 ^ 32 → length (decimal n) ≤ 10
