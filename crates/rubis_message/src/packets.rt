@@ -121,7 +121,8 @@ impl<'a> Reader<'a> {
     }
 }
 
-/// Reads a packet to a site among so many.
+/// Reads a packet to a site among so many. `BadRecord` only where no packet is written so; `Memory` where there is
+/// none for a name or a text.
 pub fn read_packet(alloc: Global, fields: &Fields, sites: u8) -> Result<Packet, ReadFault>
     requires { sites ≤ 16 }
     ensures ok { IfOk result (λ p. IsPacket sites p × (fields.now ≡ packet_record p)) }
