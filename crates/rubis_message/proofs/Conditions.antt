@@ -8,7 +8,7 @@ use Rattle.rubis_shadow.specs.declared.shadows.Shadow.{Shadow}
 use Rattle.rubis_shadow.specs.declared.shadows.Shadow.TheVariants.{User, Item, Bid, Buy, Close, Comment}
 use Rattle.rubis_clock.specs.declared.stamps.Stamp.{Stamp}
 use Rattle.rubis_message.specs.Message.{Message}
-use Rattle.rubis_message.specs.Grammar.{IsStamp, IsPost, deps_text, stamp_fields, shadow_fields, message_fields}
+use Rattle.rubis_message.specs.Grammar.{IsStamp, IsMessageAmong, deps_text, stamp_fields, shadow_fields, message_fields}
 use Rattle.rubis_message.proofs.Counts.{small_fits}
 use Rattle.rubis_message.proofs.OneText.{same_deps}
 
@@ -45,9 +45,9 @@ same_colour (Comment c) (Close x) e = absurd cc
 same_colour s t e = refl
 
 -- the red number doesn't go with the colour
-pub no_post : (sites : ℕ) (fields : List (List ℕ)) (stamp : Stamp) (shadow : Shadow) (x : Message) → stamp.red ≤ 1000000
-    → fields ≡ stamp_fields stamp ++ shadow_fields shadow → (is_red shadow ≡ nat_lt 0 stamp.red → ⊥) → IsPost sites x → fields ≡ message_fields x → ⊥
-no_post sites fields stamp shadow x low is other h e =
+pub no_message : (sites : ℕ) (fields : List (List ℕ)) (stamp : Stamp) (shadow : Shadow) (x : Message) → stamp.red ≤ 1000000
+    → fields ≡ stamp_fields stamp ++ shadow_fields shadow → (is_red shadow ≡ nat_lt 0 stamp.red → ⊥) → IsMessageAmong sites x → fields ≡ message_fields x → ⊥
+no_message sites fields stamp shadow x low is other h e =
     let reds_written : decimal stamp.red ≡ decimal x.stamp.red = cc in
     let shadows_written : shadow_fields shadow ≡ shadow_fields x.shadow = cc in
     let r : stamp.red ≡ x.stamp.red = decimal_injective stamp.red x.stamp.red (small_fits stamp.red low) (small_fits x.stamp.red h.0.red) reds_written in

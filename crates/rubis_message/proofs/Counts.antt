@@ -31,7 +31,7 @@ text_more counts text marked more i at next lt e mark last is =
     (λ some. mark (omega (arith, rest, some))) (λ none. last (omega (arith, rest, none, lt))) is
     ∙ ap deps_text (sym (drop-cons counts i 0 lt))
 
-abbrev Small : List ℕ → Type 0
+abbrev pub Small : List ℕ → Type 0
 Small counts = All (λ n. n ≤ 1000000) counts
 
 -- where so many counts stand, the text is the first of them, a mark, and the others

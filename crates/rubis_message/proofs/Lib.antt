@@ -7,3 +7,5 @@ pub mod Counts
 pub mod OneText
 pub mod Conditions
 pub mod OneReading
+pub mod PacketTests
+pub mod PacketReadings

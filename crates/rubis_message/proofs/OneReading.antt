@@ -22,7 +22,7 @@ use Rattle.rubis_shadow.specs.declared.shadows.NewClose.{NewClose}
 use Rattle.rubis_shadow.specs.declared.shadows.Shadow.{Shadow}
 use Rattle.rubis_shadow.specs.declared.shadows.Shadow.TheVariants as shadow
 use Rattle.rubis_message.specs.Message.{Message}
-use Rattle.rubis_message.specs.Grammar.{IsListing, IsPacket, IsPost, IsRequest, IsToken, ask_record, asked_close_fields, bid_fields, close_fields, comment_fields, item_fields, listing_fields, message_fields, packet_record, purchase_fields, request_record, shadow_fields, token_fields, winner_text}
+use Rattle.rubis_message.specs.Grammar.{IsListing, IsPacket, IsMessageAmong, IsRequest, IsToken, ask_record, asked_close_fields, bid_fields, close_fields, comment_fields, item_fields, listing_fields, message_fields, packet_record, purchase_fields, request_record, shadow_fields, token_fields, winner_text}
 use Rattle.rubis_message.specs.declared.requests.Request.{Request}
 use Rattle.rubis_message.specs.declared.requests.Request.TheVariants as request
 use Rattle.rubis_message.specs.declared.tokens.Token.{Token}
@@ -167,13 +167,13 @@ module _ (sites : ℕ) (few : sites < 2 ^ 8) where
       let issued = same_number s.issued t.issued (omega (arith, hs.issued)) (omega (arith, ht.issued)) (cc e) in
       λ i. record { turn = turn i; to = to i; issued = issued i }
 
-  small_site : (m : Message) → IsPost sites m → m.stamp.id.site ≤ 1000000000000
+  small_site : (m : Message) → IsMessageAmong sites m → m.stamp.id.site ≤ 1000000000000
   small_site m h = omega (arith, h.0.id.site, h.0.sites)
 
-  within : (m : Message) → IsPost sites m → InLimits sites m.shadow
+  within : (m : Message) → IsMessageAmong sites m → InLimits sites m.shadow
   within m h = subst (λ n. InLimits n m.shadow) h.1 h.0.shadow
 
-  one_message : (m n : Message) → IsPost sites m → IsPost sites n → message_fields m ≡ message_fields n → m ≡ n
+  one_message : (m n : Message) → IsMessageAmong sites m → IsMessageAmong sites n → message_fields m ≡ message_fields n → m ≡ n
   one_message m n hm hn e =
       let site = same_number m.stamp.id.site n.stamp.id.site (small_site m hm) (small_site n hn) (cc e) in
       let seq = same_number m.stamp.id.seq n.stamp.id.seq (omega (arith, hm.0.id.small)) (omega (arith, hn.0.id.small)) (cc e) in

@@ -2,19 +2,15 @@
 use Rattle.std.proofs.Common.{◌≡◌, ◌≢◌, ◌≤◌, ◌<◌, ◌+◌, ◌^◌, ℕ, List, [], ◌∷◌, ◌++◌, length, decimal, refl, ap, sym, subst, arith, length-append}
 use Rattle.std.specs.Prelude.{ℤ, pos, negsuc, unsigned_abs}
 use Rattle.std.specs.List.{All}
-use Rattle.std.specs.Int.{IsInRange}
 use Rattle.std.proofs.lemmas.List.Elements.{All-head, All-tail}
 use Rattle.std.proofs.lemmas.Fmt.{decimal_injective, decimal_nonempty}
 use Rattle.rubis_schema.specs.Ids.{id_text, int_text}
 use Rattle.rubis_schema.specs.declared.ids.Id.{Id}
 use Rattle.rubis_schema.proofs.Decimals.{no_sign}
 use Rattle.rubis_schema.proofs.Marks.{same_parts, found}
-use Rattle.rubis_schema.proofs.IdTexts.{decimal_free}
+use Rattle.rubis_schema.proofs.IdTexts.{decimal_free, no_point}
 use Rattle.rubis_message.specs.Grammar.{deps_text}
-use Rattle.rubis_message.proofs.Counts.{no_colon, small_fits}
-
-abbrev Small : List ℕ → Type 0
-Small counts = All (λ n. n ≤ 1000000) counts
+use Rattle.rubis_message.proofs.Counts.{Small, no_colon, small_fits}
 
 not_empty : (n : ℕ) (rest : List ℕ) → n ≤ 1000000 → [] ≡ decimal n ++ rest → ⊥
 not_empty n rest low e = absurd (omega (arith, decimal_nonempty n (small_fits n low), ap length e, length-append (decimal n) rest))
@@ -44,9 +40,6 @@ same_deps (x ∷ w ∷ ws) (y ∷ z ∷ zs) hd he is =
     let first : x ≡ y = decimal_injective x y lowx lowy parts.0 in
     let others : w ∷ ws ≡ z ∷ zs = same_deps (w ∷ ws) (z ∷ zs) (All-tail (λ n. n ≤ 1000000) x (w ∷ ws) hd) (All-tail (λ n. n ≤ 1000000) y (z ∷ zs) he) parts.1 in
     λ i. first i ∷ others i
-
-no_point : ¬ (IsInRange 48 57 46)
-no_point h = absurd (omega (arith, h.0))
 
 -- ids of a site that a byte can name
 pub same_id : (i j : Id) → i.site < 2 ^ 8 → j.site < 2 ^ 8 → i.seq ≤ 1000000 → j.seq ≤ 1000000 → id_text i ≡ id_text j → i ≡ j

@@ -40,35 +40,35 @@ le_of m n e = grind (arith, nat_tests)
 pub of_le : (m n : ℕ) → m ≤ n → nat_le m n ≡ true
 of_le m n h = grind (arith, nat_tests)
 
-id_in : (sites : ℕ) (id : Id) → is_id sites id ≡ true → IsId sites id
+pub id_in : (sites : ℕ) (id : Id) → is_id sites id ≡ true → IsId sites id
 id_in sites id e = record {
   site = lt_of _ _ (first _ _ e);
   positive = le_of _ _ (first (nat_le 1 id.seq) (nat_le id.seq 1000000) (second (nat_lt id.site sites) _ e));
   small = le_of _ _ (second (nat_le 1 id.seq) (nat_le id.seq 1000000) (second (nat_lt id.site sites) _ e));
 }
 
-in_id : (sites : ℕ) (id : Id) → IsId sites id → is_id sites id ≡ true
+pub in_id : (sites : ℕ) (id : Id) → IsId sites id → is_id sites id ≡ true
 in_id sites id h = both _ _ (of_lt _ _ h.site) (both _ _ (of_le _ _ h.positive) (of_le _ _ h.small))
 
-quantity_in : (n : ℕ) → is_quantity n ≡ true → IsQuantity n
+pub quantity_in : (n : ℕ) → is_quantity n ≡ true → IsQuantity n
 quantity_in n e = record { positive = le_of _ _ (first _ _ e); small = le_of _ _ (second (nat_le 1 n) _ e) }
 
-in_quantity : (n : ℕ) → IsQuantity n → is_quantity n ≡ true
+pub in_quantity : (n : ℕ) → IsQuantity n → is_quantity n ≡ true
 in_quantity n h = both _ _ (of_le _ _ h.positive) (of_le _ _ h.small)
 
-amount_in : (n : ℕ) → is_amount n ≡ true → IsAmount n
+pub amount_in : (n : ℕ) → is_amount n ≡ true → IsAmount n
 amount_in n e = record { positive = le_of _ _ (first _ _ e); small = le_of _ _ (second (nat_le 1 n) _ e) }
 
-in_amount : (n : ℕ) → IsAmount n → is_amount n ≡ true
+pub in_amount : (n : ℕ) → IsAmount n → is_amount n ≡ true
 in_amount n h = both _ _ (of_le _ _ h.positive) (of_le _ _ h.small)
 
-nick_in : (n : List ℕ) → is_nick n ≡ true → IsNick n
+pub nick_in : (n : List ℕ) → is_nick n ≡ true → IsNick n
 nick_in n e =
     let size = first (is_between 1 20 (length n)) _ e in
     let rest = second (is_between 1 20 (length n)) _ e in
     record { some = le_of _ _ (first _ _ size); few = le_of _ _ (second (nat_le 1 (length n)) _ size); each = first _ _ rest; first = second (list_all is_nick_byte n) _ rest }
 
-in_nick : (n : List ℕ) → IsNick n → is_nick n ≡ true
+pub in_nick : (n : List ℕ) → IsNick n → is_nick n ≡ true
 in_nick n h = both _ _ (both _ _ (of_le _ _ h.some) (of_le _ _ h.few)) (both _ _ h.each h.first)
 
 name_in : (n : List ℕ) → is_name n ≡ true → IsName n
@@ -79,13 +79,13 @@ name_in n e =
 in_name : (n : List ℕ) → IsName n → is_name n ≡ true
 in_name n h = both _ _ (both _ _ (of_le _ _ h.some) (of_le _ _ h.few)) h.each
 
-text_in : (n : List ℕ) → is_text n ≡ true → IsText n
+pub text_in : (n : List ℕ) → is_text n ≡ true → IsText n
 text_in n e = record { few = le_of _ _ (first _ _ e); each = second (nat_le (length n) 200) _ e }
 
-in_text : (n : List ℕ) → IsText n → is_text n ≡ true
+pub in_text : (n : List ℕ) → IsText n → is_text n ≡ true
 in_text n h = both _ _ (of_le _ _ h.few) h.each
 
-ask_in : (sites : ℕ) (a : Ask) → is_ask sites a ≡ true → IsAsk sites a × HasTexts a
+pub ask_in : (sites : ℕ) (a : Ask) → is_ask sites a ≡ true → IsAsk sites a × HasTexts a
 ask_in sites (ask.User n) e = (tt, nick_in n e)
 ask_in sites (ask.Item n) e =
     let e1 = second (is_id sites n.seller) _ e in
@@ -121,7 +121,7 @@ ask_in sites (ask.Comment c) e =
       text_in c.text (second (nat_le (unsigned_abs c.rating) 5) _ e3),
     )
 
-in_ask : (sites : ℕ) (a : Ask) → IsAsk sites a → HasTexts a → is_ask sites a ≡ true
+pub in_ask : (sites : ℕ) (a : Ask) → IsAsk sites a → HasTexts a → is_ask sites a ≡ true
 in_ask sites (ask.User n) h t = in_nick n t
 in_ask sites (ask.Item n) h t =
     both _ _ (in_id sites n.seller h.seller) (both _ _ (in_name n.name t) (both _ _ (of_lt _ _ h.cat) (both _ _ (in_quantity n.stock h.stock) (both _ _ (in_amount n.start h.start) (of_le _ _ h.price)))))

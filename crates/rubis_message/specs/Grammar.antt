@@ -152,8 +152,8 @@ pub record IsStamp (sites : ℕ) (s : Stamp) : Type 0 where
   pub red : s.red ≤ 1000000
 
 -- a message among so many sites, with its texts in their grammars
-abbrev pub IsPost : ℕ → Message → Type 0
-IsPost sites m = IsMessage m × (sites_of m ≡ sites) × HasShadowTexts m.shadow
+abbrev pub IsMessageAmong : ℕ → Message → Type 0
+IsMessageAmong sites m = IsMessage m × (sites_of m ≡ sites) × HasShadowTexts m.shadow
 
 -- a token among so many sites
 pub record IsToken (sites : ℕ) (t : Token) : Type 0 where
@@ -163,7 +163,7 @@ pub record IsToken (sites : ℕ) (t : Token) : Type 0 where
 
 -- a packet among so many sites
 abbrev pub IsPacket : ℕ → Packet → Type 0
-IsPacket sites (packet.Msg m) = IsPost sites m
+IsPacket sites (packet.Msg m) = IsMessageAmong sites m
 IsPacket sites (packet.Token t) = IsToken sites t
 
 -- ---- one reading

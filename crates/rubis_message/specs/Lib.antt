@@ -2,3 +2,4 @@ pub mod Message
 pub mod Grammar
 pub mod Readings
 pub mod Reading
+pub mod PacketReadings

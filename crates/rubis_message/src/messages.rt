@@ -36,6 +36,7 @@ impl Message {
         Message { stamp, shadow }
     }
 
+    /// The id, the red number and the counts.
     pub fn stamp(&self) -> &Stamp
         ensures value { result.now ≡ self.now.stamp }
         ensures conditions { IsMessage self.now }
@@ -43,6 +44,7 @@ impl Message {
         &self.stamp
     }
 
+    /// What the message does.
     pub fn shadow(&self) -> &Shadow
         ensures value { result.now ≡ self.now.shadow }
         ensures conditions { IsMessage self.now }

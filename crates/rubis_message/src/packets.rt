@@ -1,7 +1,7 @@
 // What one site sends to others, read from its record.
 
 ghost use Rattle.std.specs.Prelude.{◌≡◌, ◌≢◌, ◌<◌, ◌≤◌, [], ◌∷◌, ◌↔◌, IfOk, IsErrOf, IsTrue, All, length, nat_lt, decimal};
-ghost use Rattle.rubis_message.specs.Grammar.{IsPacket, IsPost, IsStamp, IsToken, deps_text, message_fields, packet_record, stamp_fields, token_fields};
+ghost use Rattle.rubis_message.specs.Grammar.{IsPacket, IsMessageAmong, IsStamp, IsToken, deps_text, message_fields, packet_record, stamp_fields, token_fields};
 ghost use Rattle.rubis_shadow.specs.Shadows.{is_red};
 ghost use Rattle.rubis_message.specs.Reading.{Reads, Takes};
 
@@ -76,7 +76,7 @@ impl<'a> Reader<'a> {
     /// The rest of the record is a message.
     fn message(&mut self, alloc: Global, sites: u8) -> Result<Message, ReadFault>
         requires { sites ≤ 16 }
-        ensures { Reads (IsPost sites) message_fields self.old result }
+        ensures { Reads (IsMessageAmong sites) message_fields self.old result }
     {
         let stamp = self.stamp(sites)?;
         let shadow = self.shadow(alloc, sites)?;
@@ -121,11 +121,61 @@ impl<'a> Reader<'a> {
     }
 }
 
-/// Reads a packet to a site among so many.
+/// Reads a packet to a site among so many. `BadRecord` only where no packet is written so; `Memory` where there is
+/// none for a name or a text.
 pub fn read_packet(alloc: Global, fields: &Fields, sites: u8) -> Result<Packet, ReadFault>
     requires { sites ≤ 16 }
     ensures ok { IfOk result (λ p. IsPacket sites p × (fields.now ≡ packet_record p)) }
     ensures bad { IsErrOf result ReadFault.BadRecord → (p : Packet) → IsPacket sites p → fields.now ≢ packet_record p }
 {
     Reader::new(fields).packet(alloc, sites)
+}
+
+#[cfg(test)]
+mod tests {
+    use super::read_packet;
+    use crate::tokens::Packet;
+    use crate::writers::{write_message, write_token};
+    use rubis_schema::Fields;
+    use std::alloc::{AllocError, Global};
+    use std::test::Fail;
+
+    fn record(alloc: Global, words: &[&[u8]]) -> Result<Fields, AllocError> {
+        let mut fields = Fields::new(alloc);
+        for word in words {
+            fields.push(word)?;
+        }
+        Ok(fields)
+    }
+
+    #[test]
+    fn a_message_is_read_back(rt: HostRuntime) -> Result<(), Fail> {
+        let words: [&[u8]; 8] = [b"msg", b"1", b"0", b"3", b"2", b"2:7", b"user", b"ann"];
+        let fields = record(rt.alloc(), &words)?;
+        let packet = read_packet(rt.alloc(), &fields, 2)?;
+        let Packet::Msg(message) = packet else {
+            return Err(Fail::from("no message"));
+        };
+        let written = write_message(rt.alloc(), &message)?;
+        assert_eq!(rt; written.len(), words.len());
+        for (place, word) in words.iter().enumerate() {
+            assert_eq!(rt; written.field(place), Some(*word));
+        }
+        Ok(())
+    }
+
+    #[test]
+    fn a_token_is_read_back(rt: HostRuntime) -> Result<(), Fail> {
+        let words: [&[u8]; 5] = [b"token", b"1", b"12", b"1", b"40"];
+        let fields = record(rt.alloc(), &words)?;
+        let Packet::Token(token) = read_packet(rt.alloc(), &fields, 2)? else {
+            return Err(Fail::from("no token"));
+        };
+        assert_eq!(rt; (token.turn, token.to, token.issued), (12, 1, 40));
+        let written = write_token(rt.alloc(), &token)?;
+        for (place, word) in words.iter().enumerate() {
+            assert_eq!(rt; written.field(place), Some(*word));
+        }
+        Ok(())
+    }
 }

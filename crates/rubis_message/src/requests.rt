@@ -95,7 +95,8 @@ impl<'a> Reader<'a> {
     }
 }
 
-/// Reads a request to a site among so many.
+/// Reads a request to a site among so many. `BadRecord` only where no request is written so; `Memory` where there is
+/// none for a name or a text.
 pub fn read_request(alloc: Global, fields: &Fields, sites: u8) -> Result<Request, ReadFault>
     ensures ok { IfOk result (λ r. IsRequest sites r × (fields.now ≡ request_record r)) }
     ensures bad { IsErrOf result ReadFault.BadRecord → (r : Request) → IsRequest sites r → fields.now ≢ request_record r }

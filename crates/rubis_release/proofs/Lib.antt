@@ -1,0 +1,6 @@
+pub mod Entries
+pub mod Counting
+pub mod Releasing
+pub mod Keeping
+pub mod Intakes
+pub mod Makes

@@ -1,7 +1,23 @@
 -- What a site has taken in.
+use Rattle.std.specs.Prelude.{◌≡◌, ℕ, ◌+◌, ◌<◌, ◌≤◌, length}
+use Rattle.rubis_clock.specs.Clocks.{Counted}
 use Rattle.rubis_model.specs.Site.{Place, Replica}
+use Rattle.rubis_release.specs.Release.{clock_of, AreKept}
 
 -- a site and its state
 pub record Intake : Type 0 where
   pub place : Place
   pub state : Replica
+
+-- the conditions that every intake meets
+pub record IsIntake (i : Intake) : Type 0 where
+  pub site : i.place.site < i.place.sites
+  pub sites : i.place.sites ≤ 16
+  pub keep : i.place.keep ≤ 1000000
+  pub kept : AreKept i.place i.state.log i.state.waiting
+
+-- the clock counts its log, which has room for all that waits
+pub record Holds (i : Intake) (c : Counted) (capacity : ℕ) : Type 0 where
+  pub conditions : IsIntake i
+  pub clock : c ≡ clock_of i.place.sites i.state.log
+  pub room : length i.state.log + length i.state.waiting ≤ capacity

@@ -1,1 +1,3 @@
+pub mod Release
 pub mod Intake
+pub mod Answers

@@ -1,49 +1,74 @@
-ghost use Rattle.std.specs.Prelude.{◌≡◌, ◌<◌, ◌≤◌, ◌+◌, ℕ, true, false, IfOk, IsErrOf, IfErr, OnErr, Ok, Err, length, All};
+ghost use Rattle.std.specs.Prelude.{◌≡◌, ◌<◌, ◌≤◌, ◌-◌, true, false, Ok, IfOk, IfErr, OnOk, OnErr, length};
 ghost use Rattle.rubis_message.specs.Message.{sites_of};
 ghost use Rattle.rubis_shadow.specs.Limits.{InLimits};
 ghost use Rattle.rubis_shadow.specs.Shadows.{is_red};
-ghost use Rattle.rubis_model.specs.Site.{Place, Replica, opening_at, made, after_made, standing_of, passed, is_full, is_current};
+ghost use Rattle.rubis_model.specs.Site.{opening_at, made, after_made, after_came, arrived, standing_of, is_full, is_current, is_repeat, not_ours};
+ghost use Rattle.rubis_release.specs.declared.intake.IntakeFault.TheVariants.{Memory};
 ghost use Rattle.rubis_release.specs.Intake as model;
+ghost use Rattle.rubis_release.specs.Intake.{IsIntake};
+ghost use Rattle.rubis_release.specs.Release.{IsAmong, clock_of};
+ghost use Rattle.rubis_release.specs.Answers.{IsFaultOf, IsTaken};
 
+mod tokens;
+
+use crate::settling::{release, take_in};
+use crate::waiting::Waiting;
+use rubis_clock::{Clock, Stamp};
 use rubis_generate::Standing;
-use rubis_message::{Message, Token};
-use rubis_schema::Refusal;
-use rubis_shadow::Shadow;
+use rubis_message::{Arrival, Message};
+use rubis_schema::{Id, Refusal};
+use rubis_shadow::{Colour, Shadow};
 use std::alloc::{AllocError, Global};
 use std::marker::Model;
+pub use tokens::Held;
 
+/// Why an intake answers no more than that.
 #[derive(Clone, Copy, PartialEq, Eq, Debug)]
 pub enum IntakeFault {
+    /// The message is refused.
     Refused(Refusal),
+    /// There is no memory for it.
     Memory,
 }
 
+impl From<AllocError> for IntakeFault {
+    ghost from_gives = { λ _ fault. fault ≡ Memory };
+
+    fn from(_error: AllocError) -> IntakeFault {
+        IntakeFault::Memory
+    }
+}
+
+/// What a site has taken in: the log of released messages, those that wait, and the token.
 #[derive(Drop)]
 pub struct Intake {
+    // It has room for all that wait.
     log: Vec<Message>,
-    waiting: Vec<Message>,
+    waiting: Waiting,
+    clock: Clock,
+    // How many red numbers were issued, if the site holds the token.
     held: Option<u32>,
+    // The greatest turn that the site took.
     last: u32,
-    standing: Standing,
     site: u8,
     sites: u8,
     keep: u32,
 }
 
 impl Model for Intake {
-    ghost use Rattle.std.specs.Prelude.{◌≡◌, ◌≤◌, length, All};
-    ghost use Rattle.rubis_message.specs.Message.{sites_of};
-    ghost use Rattle.rubis_model.specs.Site.{standing_of};
+    ghost use Rattle.std.specs.Prelude.{vec_capacity};
     ghost use Rattle.rubis_release.specs.Intake as model;
+    ghost use Rattle.rubis_release.specs.Intake.{Holds};
 
     ghost Value = { model.Intake };
 
-    ghost view = { λ s. record { place = record { site = s.site; sites = s.sites; keep = s.keep }; state = record { log = s.log.items; waiting = s.waiting.items; held = s.held; last = s.last } } };
+    ghost view = { λ s. record { place = record { site = s.site; sites = s.sites; keep = s.keep }; state = record { log = s.log.items; waiting = s.waiting; held = s.held; last = s.last } } };
 
-    ghost invariant = { λ s. (s.standing ≡ standing_of s.keep (record { log = s.log.items; waiting = s.waiting.items; held = s.held; last = s.last })) × (length s.log.items ≤ s.keep) × (s.keep ≤ 1000000) × (All (λ m. sites_of m ≡ s.sites) s.log.items) };
+    ghost invariant = { λ s. Holds (record { place = record { site = s.site; sites = s.sites; keep = s.keep }; state = record { log = s.log.items; waiting = s.waiting; held = s.held; last = s.last } }) s.clock (vec_capacity s.log) };
 }
 
 impl Intake {
+    /// A site with nothing done, of 1 to 16 sites, that keeps 1 to 1,000,000 messages.
     pub fn new(alloc: Global, site: u8, sites: u8, keep: u32) -> Result<Intake, AllocError>
         requires sites { sites ≤ 16 }
         requires site { site < sites }
@@ -51,24 +76,81 @@ impl Intake {
         requires keep { keep ≤ 1000000 }
         ensures { IfOk result (λ intake. intake ≡ record { place = record { site = site; sites = sites; keep = keep }; state = opening_at site }) }
     {
-        Err(AllocError)
+        Ok(Intake {
+            log: Vec::new(alloc),
+            waiting: Waiting::new(alloc),
+            clock: Clock::new(sites),
+            held: if site == 0 { Some(0) } else { None },
+            last: 0,
+            site,
+            sites,
+            keep,
+        })
     }
 
+    /// The released messages, in release order.
     pub fn log(&self) -> &[Message]
         ensures value { result.now ≡ self.now.state.log }
-        ensures few { length self.now.state.log ≤ self.now.place.keep }
-        ensures keep { self.now.place.keep ≤ 1000000 }
-        ensures sites { All (λ m. sites_of m ≡ self.now.place.sites) self.now.state.log }
+        ensures conditions { IsIntake self.now }
     {
         self.log.as_slice()
     }
 
+    /// How many messages of each site were released, and how many red ones.
+    pub fn clock(&self) -> &Clock
+        ensures counts { result.now ≡ clock_of self.now.place.sites self.now.state.log }
+        ensures conditions { IsIntake self.now }
+    {
+        &self.clock
+    }
+
+    /// How many messages wait.
+    pub fn waiting(&self) -> usize
+        ensures value { result ≡ length self.now.state.waiting }
+        ensures conditions { IsIntake self.now }
+    {
+        self.waiting.len()
+    }
+
+    /// What a decision has to know of the site.
     pub fn standing(&self) -> Standing
         ensures { result ≡ standing_of self.now.place.keep self.now.state }
     {
-        self.standing
+        Standing {
+            full: self.is_full(),
+            holds: self.held.is_some(),
+            current: self.held == Some(self.clock.red()),
+        }
     }
 
+    /// Takes a message in that arrived. It waits until it is ready, and all that is ready then is released.
+    ///
+    /// A message that says that this site made it, and it didn't, is refused, and one that comes where the site is
+    /// full. One that came before is a repeat. After an error nothing has changed.
+    pub fn arrive(&mut self, message: Message) -> Result<Arrival, IntakeFault>
+        requires { sites_of message ≡ self.old.place.sites }
+        ensures place { self.new.place ≡ self.old.place }
+        ensures step { IfOk result (λ answer. (self.new.state, Ok answer) ≡ arrived self.old.place self.old.state message) }
+        ensures err { OnErr result (self.new ≡ self.old) }
+        ensures fault { IfErr result (IsFaultOf self.old.place self.old.state message) }
+    {
+        if self.is_not_ours(&message) {
+            return Err(IntakeFault::Refused(Refusal::NotOurs));
+        }
+        if self.is_repeat(&message) {
+            return Ok(Arrival::Repeat);
+        }
+        if self.is_full() {
+            return Err(IntakeFault::Refused(Refusal::Full));
+        }
+        match self.take_in(message)? {
+            0 => Ok(Arrival::Held),
+            released => Ok(Arrival::Released(released)),
+        }
+    }
+
+    /// Makes the site's next message of a shadow and releases it, and all that is ready then. Without memory nothing
+    /// has changed.
     pub fn generated(&mut self, shadow: Shadow) -> Result<Message, IntakeFault>
         requires room { is_full self.old.place.keep self.old.state ≡ false }
         requires right { is_red shadow ≡ true → is_current self.old.state ≡ true }
@@ -79,26 +161,69 @@ impl Intake {
         ensures err { OnErr result (self.new ≡ self.old) }
         ensures fault { IfErr result (λ e. e ≡ IntakeFault.Memory) }
     {
-        Err(IntakeFault::Memory)
+        let message = Message::new(self.next_stamp(&shadow), shadow);
+        let copy = message.copy()?;
+        release(&mut self.log, &mut self.waiting, &mut self.clock, message)?;
+        let red = copy.stamp().red;
+        self.held = if red == 0 { self.held } else { Some(red) };
+        Ok(copy)
     }
 
-    pub fn pass_token(&mut self, to: u8) -> Result<Token, Refusal>
-        ensures place { self.new.place ≡ self.old.place }
-        ensures step { (self.new.state, result) ≡ passed self.old.place self.old.state to }
+    // Whether released and waiting messages are as many as the site keeps.
+    fn is_full(&self) -> bool
+        ensures { result ≡ is_full self.now.place.keep self.now.state }
     {
-        let Some(issued) = self.held else {
-            return Err(Refusal::NoToken);
+        self.log.len() + self.waiting.len() >= self.keep as usize
+    }
+
+    // Whether the message says that this site made it, and it didn't.
+    fn is_not_ours(&self, message: &Message) -> bool
+        ensures { result ≡ not_ours self.now.place self.now.state message.now }
+    {
+        let id = message.stamp().id;
+        id.site == self.site && id.seq > self.clock.count(self.site)
+    }
+
+    // Whether a message with that id is released or waits.
+    fn is_repeat(&self, message: &Message) -> bool
+        requires { sites_of message.now ≡ self.now.place.sites }
+        ensures value { result ≡ is_repeat self.now.state message.now }
+        ensures site { IsAmong self.now.place.sites message.now }
+    {
+        let id = message.stamp().id;
+        id.seq <= self.clock.count(id.site) || self.waiting.has(&id)
+    }
+
+    // Puts a new message last among those that wait, and releases what is ready; how many were released.
+    fn take_in(&mut self, message: Message) -> Result<u32, AllocError>
+        requires site { IsAmong self.old.place.sites message }
+        requires new { IsTaken self.old.place self.old.state message }
+        ensures ok { OnOk result (self.new ≡ record { place = self.old.place; state = after_came self.old.state message }) }
+        ensures released { IfOk result (λ n. n ≡ length (after_came self.old.state message).log - length self.old.state.log) }
+        ensures err { OnErr result (self.new ≡ self.old) }
+    {
+        let before = self.log.len();
+        take_in(&mut self.log, &mut self.waiting, &mut self.clock, message)?;
+        Ok((self.log.len() - before) as u32)
+    }
+
+    // The stamp of the message that the site makes of the shadow.
+    fn next_stamp(&self, shadow: &Shadow) -> Stamp
+        requires room { is_full self.now.place.keep self.now.state ≡ false }
+        requires right { is_red shadow.now ≡ true → is_current self.now.state ≡ true }
+        ensures { result ≡ (made self.now.place self.now.state shadow.now).stamp }
+    {
+        let red = match shadow.colour() {
+            Colour::Red => self.clock.red() + 1,
+            Colour::Blue => 0,
         };
-        if to >= self.sites || to == self.site {
-            return Err(Refusal::BadTarget);
+        Stamp {
+            id: Id {
+                site: self.site,
+                seq: self.clock.count(self.site) + 1,
+            },
+            red,
+            deps: self.clock.deps(),
         }
-        if self.last >= 1_000_000_000 {
-            return Err(Refusal::LastTurn);
-        }
-        let turn = self.last + 1;
-        self.held = None;
-        self.standing.holds = false;
-        self.standing.current = false;
-        Ok(Token { turn, to, issued })
     }
 }

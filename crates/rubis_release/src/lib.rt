@@ -2,5 +2,8 @@
 #![tactic(auto)]
 
 mod intake;
+mod settling;
+mod waiting;
 
-pub use intake::{Intake, IntakeFault};
+pub use intake::{Held, Intake, IntakeFault};
+pub use rubis_message::{Arrival, Taken};

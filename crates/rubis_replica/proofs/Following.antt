@@ -1,5 +1,5 @@
 -- Tables that follow a log: with what is left they come to the log's tables.
-use Rattle.std.proofs.Common.{◌≡◌, ℕ, ◌+◌, ◌<◌, ◌≤◌, List, [], ◌∷◌, ◌++◌, length, get_or, take, drop, sym, ap, ◌∙◌, subst, arith}
+use Rattle.std.proofs.Common.{◌≡◌, ℕ, ◌+◌, ◌<◌, ◌≤◌, List, [], ◌∷◌, ◌++◌, length, length-append, length-drop, get_or, take, drop, sym, ap, ◌∙◌, subst, arith}
 use Rattle.std.specs.Prelude.{Some, slice_get, All}
 use Rattle.std.proofs.Math.Seq.{drop-length}
 use Rattle.std.proofs.lemmas.List.{append-nil, drop_more}
@@ -56,6 +56,10 @@ rest_of log i p m h e l =
 same_sites : (log : List Message) (i sites : ℕ) (m : Message) → i < length log → m ≡ get_or log i m → All (λ x. sites_of x ≡ sites) log → sites_of m ≡ sites
 same_sites log i sites m h e a = subst (λ (x : Message). sites_of x ≡ sites) (sym e) (All-get_or (λ (x : Message). sites_of x ≡ sites) log i m h a)
 
+fewer_left : (all from to es rest : List Effect) (p p' : ℕ) → from ≡ drop p es ++ rest → to ≡ drop p' es ++ rest → p ≤ p' → length from ≤ length all → length to ≤ length all
+fewer_left all from to es rest p p' e f on h =
+    omega (arith, ap length e, ap length f, length-append (drop p es) rest, length-append (drop p' es) rest, length-drop p es, length-drop p' es)
+
 -- within the next message
 pub followed_in : (log : List Message) (old t new : Tables) (m0 p0 i p p' : ℕ) (m : Message) → i < length log → m ≡ get_or log i m
     → Followed log old t m0 p0 i p → Walked m t new p p' → Followed log old new m0 p0 i p'
@@ -71,6 +75,7 @@ followed_in log old t new m0 p0 i p p' m h e f w =
         started = subst (λ (es : List Effect). p' ≤ length es) (sym (ap (λ (xs : List Message). effects_of (cores (take 1 xs))) (place_of log i m h e) ∙ first_parts m (drop (i + 1) log))) w.within;
       };
       on = f.on;
+      fewer = fewer_left (left_of log m0 p0) (left_of log i p) (left_of log i p') (parts_in m) rest p p' (rest_of log i p m h e from) (rest_of log i p' m h e w.within) w.on f.fewer;
       limits = λ sites a k.
           let same = same_sites log i sites m h e a in
           subst (λ s. AllInLimits s new) same (w.limits (subst (λ s. AllInLimits s t) (sym same) (f.limits sites a k)));
@@ -86,5 +91,6 @@ followed_past log old new m0 p0 i p m h e f all =
       left = ap (tables_after new) (sym (rest_of log i p m h e from ∙ ap (λ (es : List Effect). es ++ effects_of (cores (drop (i + 1) log))) none)) ∙ f.left;
       place = record { inside = omega arith; started = omega arith };
       on = omega (arith, f.on);
+      fewer = omega (arith, f.fewer, ap length (rest_of log i p m h e from ∙ ap (λ (es : List Effect). es ++ effects_of (cores (drop (i + 1) log))) none));
       limits = f.limits;
     }

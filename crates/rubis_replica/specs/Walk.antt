@@ -31,6 +31,7 @@ pub record Followed (log : List Message) (old new : Tables) (messages parts mess
   pub left : tables_after new (left_of log messages' parts') ≡ tables_after old (left_of log messages parts)
   pub place : IsPlace log messages' parts'
   pub on : messages ≤ messages'
+  pub fewer : length (left_of log messages' parts') ≤ length (left_of log messages parts)
   pub limits : (sites : ℕ) → All (λ m. sites_of m ≡ sites) log → AllInLimits sites old → AllInLimits sites new
 
 -- the tables with what is left of the log come to the log's tables, and they are within the limits

@@ -1,7 +1,8 @@
 // Brings the tables up to the log.
 
-ghost use Rattle.std.specs.Prelude.{◌≡◌, true, false, Err, IfErr, OnOk, length};
+ghost use Rattle.std.specs.Prelude.{◌≡◌, ◌≤◌, true, false, Err, IfErr, OnOk, length};
 ghost use Rattle.rubis_model.specs.Log.{cores, fold_of};
+ghost use Rattle.rubis_replica.specs.State.{left_of};
 ghost use Rattle.rubis_replica.specs.Walk.{Follows, IsRefreshFault};
 
 use crate::applying::{Progress, apply_log};
@@ -23,6 +24,7 @@ pub fn refresh(
     ensures messages { OnOk result (applied.new.messages ≡ length intake.now.state.log) }
     ensures parts { OnOk result (applied.new.parts ≡ 0) }
     ensures ready { OnOk result (behind.new ≡ false) }
+    ensures fewer { length (left_of intake.now.state.log applied.new.messages applied.new.parts) ≤ length (left_of intake.now.state.log applied.old.messages applied.old.parts) }
     ensures fault { IfErr result (IsRefreshFault applied.old applied.new behind.new) }
     ensures waits { behind.old ≡ true → (result ≡ Err Fault.Behind) × (applied.new ≡ applied.old) × (behind.new ≡ true) }
 {

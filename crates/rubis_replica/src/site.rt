@@ -1,7 +1,8 @@
 ghost use Rattle.std.specs.Prelude.{◌≡◌, ◌≤◌, false, true, IfOk, IfErr, Ok};
 ghost use Rattle.rubis_schema.specs.declared.listings.Listing.TheVariants as Listing;
 ghost use Rattle.rubis_shadow.specs.Limits.{IsAsk};
-ghost use Rattle.rubis_model.specs.Site.{asked, passed, opening_at};
+ghost use Rattle.rubis_message.specs.Message.{sites_of};
+ghost use Rattle.rubis_model.specs.Site.{arrived, asked, opening_at, passed, took};
 ghost use Rattle.rubis_replica.specs.Setup.{place_of};
 ghost use Rattle.rubis_replica.specs.State.{Answers, IsCutFault, IsUpToDate, WaitsBehind, listed};
 
@@ -11,7 +12,7 @@ use crate::faults::Fault;
 use crate::refreshing::refresh;
 use crate::users::users;
 use rubis_generate::decide;
-use rubis_message::{Message, Token};
+use rubis_message::{Arrival, Message, Taken, Token};
 use rubis_release::{Intake, IntakeFault};
 use rubis_schema::{Fields, Items, Listing, Refusal};
 use rubis_shadow::{Ask, PlainTables};
@@ -94,6 +95,40 @@ impl Site {
         };
         self.apply_batch();
         Ok(message)
+    }
+
+    /// Takes a message in that arrived from another site; all that is ready then is released.
+    pub fn arrive(&mut self, message: Message) -> Result<Arrival, Fault>
+        requires { sites_of message ≡ self.old.place.sites }
+        ensures place { self.new.place ≡ self.old.place }
+        ensures waits { WaitsBehind self.old self.new result }
+        ensures step { Answers self.old self.new (arrived self.old.place self.old.state message) result }
+    {
+        if self.behind {
+            return Err(Fault::Behind);
+        }
+        let arrival = match self.intake.arrive(message) {
+            Ok(arrival) => arrival,
+            Err(IntakeFault::Refused(refusal)) => return Err(Fault::Refused(refusal)),
+            Err(IntakeFault::Memory) => return Err(Fault::Memory),
+        };
+        self.apply_batch();
+        Ok(arrival)
+    }
+
+    /// Takes a token that arrived.
+    pub fn token(&mut self, token: Token) -> Result<Taken, Fault>
+        ensures place { self.new.place ≡ self.old.place }
+        ensures waits { WaitsBehind self.old self.new result }
+        ensures step { Answers self.old self.new (took self.old.place self.old.state token) result }
+    {
+        if self.behind {
+            return Err(Fault::Behind);
+        }
+        match self.intake.take_token(token) {
+            Ok(taken) => Ok(taken),
+            Err(refusal) => Err(Fault::Refused(refusal)),
+        }
     }
 
     // Applies what is pending where that is a batch.

@@ -121,24 +121,13 @@ impl Desk {
     }
 
     // Answers a record.
-    fn respond(
-        &mut self,
-        number: u64,
-        fields: &Fields,
-        sink: &mut Sink,
-    ) -> Result<(), AllocError>
+    fn respond(&mut self, number: u64, fields: &Fields, sink: &mut Sink) -> Result<(), AllocError>
         ensures place { self.new.site.place ≡ self.old.site.place }
         ensures told { OnOk result (sink.new ≡ sink.old ++ rows_text (request_rows self.old.site.place self.old.site.state number (request_of self.old.site.place.sites fields.now))) }
         ensures state { OnOk result (self.new.site.state ≡ after_request self.old.site.place self.old.site.state (request_of self.old.site.place.sites fields.now)) }
     {
         match read_request(self.alloc, fields, self.sites) {
-            Ok(request) => answer_request(
-                &mut self.site,
-                &mut self.reply,
-                sink,
-                number,
-                request,
-            ),
+            Ok(request) => answer_request(&mut self.site, &mut self.reply, sink, number, request),
             Err(ReadFault::BadRecord) => {
                 write_refusal(&mut self.reply, sink, number, Refusal::BadRecord)
             }

@@ -1,0 +1,22 @@
+-- What an intake answers.
+use Rattle.std.specs.Prelude.{◌≡◌, false, Option, option_map, Err}
+use Rattle.rubis_message.specs.Message.{Message}
+use Rattle.rubis_model.specs.Site.{Place, Replica, arrived, not_ours, is_repeat, is_full}
+use Rattle.rubis_release.specs.declared.intake.tokens.Held.{Held}
+use Rattle.rubis_release.specs.declared.intake.IntakeFault.{IntakeFault}
+use Rattle.rubis_release.specs.declared.intake.IntakeFault.TheVariants.{Refused, Memory}
+
+-- the message is put among the waiting ones
+pub record IsTaken (p : Place) (s : Replica) (m : Message) : Type 0 where
+  pub not_ours : not_ours p s m ≡ false
+  pub new : is_repeat s m ≡ false
+  pub room : is_full p.keep s ≡ false
+
+-- the message is refused so, or there was no memory to put it among the waiting ones
+abbrev pub IsFaultOf : Place → Replica → Message → IntakeFault → Type 0
+IsFaultOf p s m (Refused r) = arrived p s m ≡ (s, Err r)
+IsFaultOf p s m Memory = IsTaken p s m
+
+-- the token, if the site holds it
+abbrev pub held_by : Replica → Option Held
+held_by s = option_map (λ issued. record { turn = s.last; issued = issued }) s.held
