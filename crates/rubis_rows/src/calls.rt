@@ -1,44 +1,15 @@
 // Each call that takes memory, once, with enough of it.
 
+use crate::records::{message, record, text_of};
 use rubis_message::{
-    Message, Packet, Request, Token, read_packet, read_request, write_message, write_token,
+    Packet, Request, Token, read_packet, read_request, write_message, write_token,
 };
 use rubis_release::Intake;
 use rubis_schema::{Fields, Id, Items, Name, Nick, Text, push_int, push_number};
 use rubis_shadow::{Ask, Change, Shadow};
-use std::alloc::{AllocError, Global};
 use std::test::Fail;
 
 const MESSAGE: &str = "msg,1,0,3,0,2:0,item,0.1,lamp,7,1,100,0";
-
-// The record of these fields, which have commas between them.
-fn record(alloc: Global, text: &str) -> Result<Fields, AllocError> {
-    let mut fields = Fields::new(alloc);
-    for field in text.split(',') {
-        fields.push(field.as_bytes())?;
-    }
-    Ok(fields)
-}
-
-// The fields of a record, with commas between them.
-fn text_of(alloc: Global, fields: &Fields) -> Result<Vec<u8>, AllocError> {
-    let mut text = Vec::new(alloc);
-    for place in 0..fields.len() {
-        if place > 0 {
-            text.push(b',')?;
-        }
-        text.extend_from_slice(fields.field(place).unwrap_or(b""))?;
-    }
-    Ok(text)
-}
-
-// The message of the record.
-fn message(alloc: Global) -> Result<Message, Fail> {
-    match read_packet(alloc, &record(alloc, MESSAGE)?, 2)? {
-        Packet::Msg(message) => Ok(message),
-        Packet::Token(_) => Err(Fail::from("a token")),
-    }
-}
 
 #[test]
 fn ids_names_and_texts(rt: HostRuntime) -> Result<(), Fail> {
@@ -74,8 +45,8 @@ fn records_of_fields(rt: HostRuntime) -> Result<(), Fail> {
 #[test]
 fn a_request_is_read(rt: HostRuntime) -> Result<(), Fail> {
     let alloc = rt.alloc();
-    match read_request(alloc, &record(alloc, "user,ann")?, 1)? {
-        Request::Ask(Ask::User(nick)) => assert!(rt; nick.as_bytes() == b"ann".as_slice()),
+    match read_request(alloc, &record(alloc, "bid,0.3,0.2,500")?, 1)? {
+        Request::Ask(Ask::Bid(bid)) => assert_eq!(rt; bid.amount, 500),
         _ => assert!(rt; false, "another request"),
     }
     Ok(())
@@ -84,7 +55,7 @@ fn a_request_is_read(rt: HostRuntime) -> Result<(), Fail> {
 #[test]
 fn a_message_is_read_copied_and_written(rt: HostRuntime) -> Result<(), Fail> {
     let alloc = rt.alloc();
-    let copy = message(alloc)?.copy()?;
+    let copy = message(alloc, MESSAGE, 2)?.copy()?;
     let fields = write_message(alloc, &copy)?;
     assert!(rt; text_of(alloc, &fields)?.as_slice() == MESSAGE.as_bytes());
     Ok(())
@@ -109,7 +80,7 @@ fn a_token_is_written_and_read(rt: HostRuntime) -> Result<(), Fail> {
 
 #[test]
 fn a_part_is_owned(rt: HostRuntime) -> Result<(), Fail> {
-    let message = message(rt.alloc())?;
+    let message = message(rt.alloc(), MESSAGE, 2)?;
     let stamp = *message.stamp();
     let part = message
         .shadow()

@@ -9,6 +9,10 @@ mod conversations;
 #[cfg(test)]
 mod failing;
 #[cfg(test)]
+mod packets;
+#[cfg(test)]
+mod records;
+#[cfg(test)]
 mod sites;
 #[cfg(test)]
 mod tables;
