@@ -1,6 +1,9 @@
 -- The packet that fields are: it is within the limits and written so, and there is no other.
 use Rattle.std.proofs.Common.{◌≡◌, ◌≢◌, ℕ, ◌+◌, ◌<◌, ◌≤◌, ◌^◌, Bool, true, false, ◌&&◌, cond, List, [], ◌∷◌, ◌++◌, length, map, refl, sym, ap, subst, ◌∙◌, arith, decimal}
-use Rattle.std.specs.Prelude.{Option, Some, None, IfSome, codes, Decides}
+use Rattle.std.specs.Prelude.{Option, Some, None, Result, Ok, Err, IfOk, IsErrOf, IfSome, codes, Decides}
+use Rattle.rubis_message.specs.Reading.{Reads}
+use Rattle.rubis_message.specs.declared.faults.ReadFault.{ReadFault}
+use Rattle.rubis_message.specs.declared.faults.ReadFault.TheVariants.{BadRecord, Memory}
 use Rattle.std.specs.List.{AllByRecursion}
 use Rattle.std.specs.Cmp.Lexicographic.{pointwise_decides, bytes_decides}
 use Rattle.std.proofs.lemmas.Bool.{ne_eqb}
@@ -144,3 +147,13 @@ none_by (Some p) n = absurd (n p refl)
 -- fields that no packet is written as are none
 pub packet_none : (sites : ℕ) (fields : List (List ℕ)) → ((p : Packet) → IsPacket sites p → fields ≡ packet_record p → ⊥) → packet_of sites fields ≡ None
 packet_none sites fields n = none_by (packet_of sites fields) (λ p e. let s = packet_sound sites fields p e in n p s.0 s.1)
+
+-- a reading finds the packet that the fields are
+pub found_packet : (sites : ℕ) (fields : List (List ℕ)) (r : Result Packet ReadFault) → sites < 2 ^ 8 → Reads (IsPacket sites) packet_record fields r → IfOk r (λ q. packet_of sites fields ≡ Some q)
+found_packet sites fields (Ok q) f h = ap (packet_of sites) h.1 ∙ packet_complete sites q f h.0
+found_packet sites fields (Err e) f h = tt
+
+pub found_none : (sites : ℕ) (fields : List (List ℕ)) (r : Result Packet ReadFault) → Reads (IsPacket sites) packet_record fields r → IsErrOf r BadRecord → packet_of sites fields ≡ None
+found_none sites fields (Ok q) h e = absurd cc
+found_none sites fields (Err BadRecord) h e = packet_none sites fields h
+found_none sites fields (Err Memory) h e = absurd cc

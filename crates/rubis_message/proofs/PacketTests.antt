@@ -74,16 +74,19 @@ message_in sites m e =
     let s2 = second (nat_le sites 16) _ s1 in
     let s3 = second (is_id sites m.stamp.id) _ s2 in
     let s4 = second (m.stamp.id.seq == slice_index m.stamp.deps m.stamp.id.site + 1) _ s3 in
-    let x = shadow_in sites m.shadow (second (same_truth (is_red m.shadow) (nat_lt 0 m.stamp.red)) _ r) in
-    (record {
-      sites = omega (arith, size, le_of _ _ (first (nat_le sites 16) _ s1));
-      id = subst (λ n. IsId n m.stamp.id) (sym size) (id_in sites m.stamp.id (first (is_id sites m.stamp.id) _ s2));
-      own = (Decides-eqb _ _).0 (first (m.stamp.id.seq == slice_index m.stamp.deps m.stamp.id.site + 1) _ s3);
-      counts = All-from_recursion (λ n. n ≤ 1000000) m.stamp.deps (all_by m.stamp.deps (first (list_all (λ n. nat_le n 1000000) m.stamp.deps) _ s4));
-      red = le_of _ _ (second (list_all (λ n. nat_le n 1000000) m.stamp.deps) _ s4);
-      colour = truth _ _ (first (same_truth (is_red m.shadow) (nat_lt 0 m.stamp.red)) _ r);
-      shadow = subst (λ n. InLimits n m.shadow) (sym size) x.0;
-    }, size, x.1)
+    let x = shadow_in sites m.shadow (second (same_truth (is_red m.shadow) (nat_lt 0 m.stamp.red)) _ r) in (
+      record {
+        sites = omega (arith, size, le_of _ _ (first (nat_le sites 16) _ s1));
+        id = subst (λ n. IsId n m.stamp.id) (sym size) (id_in sites m.stamp.id (first (is_id sites m.stamp.id) _ s2));
+        own = (Decides-eqb _ _).0 (first (m.stamp.id.seq == slice_index m.stamp.deps m.stamp.id.site + 1) _ s3);
+        counts = All-from_recursion (λ n. n ≤ 1000000) m.stamp.deps (all_by m.stamp.deps (first (list_all (λ n. nat_le n 1000000) m.stamp.deps) _ s4));
+        red = le_of _ _ (second (list_all (λ n. nat_le n 1000000) m.stamp.deps) _ s4);
+        colour = truth _ _ (first (same_truth (is_red m.shadow) (nat_lt 0 m.stamp.red)) _ r);
+        shadow = subst (λ n. InLimits n m.shadow) (sym size) x.0;
+      },
+      size,
+      x.1,
+    )
 
 in_message : (sites : ℕ) (m : Message) → IsMessageAmong sites m → is_message sites m ≡ true
 in_message sites m h =

@@ -1,8 +1,9 @@
 // What one site sends to others, read from its record.
 
-ghost use Rattle.std.specs.Prelude.{◌≡◌, ◌≢◌, ◌<◌, ◌≤◌, [], ◌∷◌, ◌↔◌, IfOk, IsErrOf, IsTrue, All, length, nat_lt, decimal};
+ghost use Rattle.std.specs.Prelude.{◌≡◌, ◌≢◌, ◌<◌, ◌≤◌, [], ◌∷◌, ◌↔◌, None, Some, IfOk, IsErrOf, IsTrue, All, length, nat_lt, decimal};
 ghost use Rattle.rubis_message.specs.Grammar.{IsPacket, IsMessageAmong, IsStamp, IsToken, deps_text, message_fields, packet_record, stamp_fields, token_fields};
 ghost use Rattle.rubis_shadow.specs.Shadows.{is_red};
+ghost use Rattle.rubis_message.specs.PacketReadings.{packet_of};
 ghost use Rattle.rubis_message.specs.Reading.{Reads, Takes};
 
 use crate::faults::ReadFault;
@@ -127,6 +128,10 @@ pub fn read_packet(alloc: Global, fields: &Fields, sites: u8) -> Result<Packet, 
     requires { sites ≤ 16 }
     ensures ok { IfOk result (λ p. IsPacket sites p × (fields.now ≡ packet_record p)) }
     ensures bad { IsErrOf result ReadFault.BadRecord → (p : Packet) → IsPacket sites p → fields.now ≢ packet_record p }
+
+    // In one word: it is the packet that the fields are.
+    ensures some { IfOk result (λ p. packet_of sites fields.now ≡ Some p) }
+    ensures none { IsErrOf result ReadFault.BadRecord → packet_of sites fields.now ≡ None }
 {
     Reader::new(fields).packet(alloc, sites)
 }

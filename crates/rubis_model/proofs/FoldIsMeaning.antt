@@ -40,7 +40,7 @@ use Rattle.rubis_model.proofs.Nicks.{nick_none, nick_some}
 
 -- ---- one message's parts, all fitting
 
-abbrev effects_after : Tables → List Effect → Tables
+abbrev pub effects_after : Tables → List Effect → Tables
 effects_after t [] = t
 effects_after t (e ∷ es) = effects_after (after t e) es
 
@@ -58,7 +58,7 @@ get-after t e q =
     ∙ one_key (tied q e.key) e.change (map.get t e.key) (map.get t q) (λ h. map.get_tied key_total t q e.key ((Equal-is (key_order q e.key)).0 h))
     ∙ ap (λ b. cond b (change_row e.change (map.get t q)).row (map.get t q)) (tied-key_eq q e.key)
 
-get-effects_after : (t : Tables) (es : List Effect) (q : RowKey) → map.get (effects_after t es) q ≡ fold (at_key q) (map.get t q) es
+pub get-effects_after : (t : Tables) (es : List Effect) (q : RowKey) → map.get (effects_after t es) q ≡ fold (at_key q) (map.get t q) es
 get-effects_after t [] q = refl
 get-effects_after t (e ∷ es) q = get-effects_after (after t e) es q ∙ ap (λ o. fold (at_key q) o es) (get-after t e q)
 
@@ -243,7 +243,7 @@ opened_at (key.Cat k) = found k 0 1000 ∙ ap (λ b. when b (Some new_category))
     below : (k : ℕ) → (nat_le 0 k && nat_lt k 1000) ≡ nat_lt k 1000
     below k = grind (arith, nat_tests)
 
-opening_rows : (q : RowKey) → map.get opening q ≡ meaning_row [] q
+pub opening_rows : (q : RowKey) → map.get opening q ≡ meaning_row [] q
 unfolding opening
 opening_rows q = map.get-from_entries key_total (categories_from 0 1000) q ∙ opened_at q
 
@@ -260,7 +260,7 @@ numbered_push k (x ∷ a) m =
     ∙ sym (append_assoc (number_parts k 1 x.id (parts_of x)) _ _)
     ∙ ap (λ n. (number_parts k 1 x.id (parts_of x) ++ numbered_from (k + 1) a) ++ number_parts n 1 m.id (parts_of m)) (omega arith)
 
-fold_push_parts : (a : List Core) (m : Core) → fold_of (a ++ m ∷ []) ≡ fold_on (fold_of a) (number_parts (1 + length a) 1 m.id (parts_of m))
+pub fold_push_parts : (a : List Core) (m : Core) → fold_of (a ++ m ∷ []) ≡ fold_on (fold_of a) (number_parts (1 + length a) 1 m.id (parts_of m))
 fold_push_parts a m = ap (fold_on (record { tables = opening; misfits = [] })) (numbered_push 1 a m) ∙ fold-append step _ (numbered_from 1 a) _
 
 pub record Right (a : List Core) : Type 0 where

@@ -37,4 +37,5 @@ pub mod AuditedMeaning
 pub mod Audited
 pub mod Refusing
 pub mod ByMeaning
+pub mod Forged
 pub mod Examples

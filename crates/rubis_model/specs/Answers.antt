@@ -14,6 +14,10 @@ use Rattle.rubis_schema.specs.declared.rows.Row.TheVariants as row
 use Rattle.rubis_schema.specs.declared.rows.UserRow.{UserRow}
 use Rattle.rubis_message.specs.Message.{Message}
 use Rattle.rubis_message.specs.Grammar.{message_record, token_record}
+use Rattle.rubis_message.specs.declared.answers.Arrival.{Arrival}
+use Rattle.rubis_message.specs.declared.answers.Arrival.TheVariants as arrival
+use Rattle.rubis_message.specs.declared.answers.Taken.{Taken}
+use Rattle.rubis_message.specs.declared.answers.Taken.TheVariants as taken
 use Rattle.rubis_message.specs.declared.tokens.Token.{Token}
 
 -- the answer to record n
@@ -36,6 +40,25 @@ asked_rows n (Err r) = refused_row n r ∷ []
 abbrev pub passed_rows : ℕ → Result Token Refusal → List (List (List ℕ))
 passed_rows n (Ok t) = reply n (codes "passed" ∷ []) ∷ send_row (token_record t) ∷ []
 passed_rows n (Err r) = refused_row n r ∷ []
+
+-- a message that arrived: how many were released, or that it waits, or that it had come before
+abbrev pub arrival_row : ℕ → Arrival → List (List ℕ)
+arrival_row n (arrival.Released k) = reply n (codes "released" ∷ decimal k ∷ [])
+arrival_row n arrival.Held = reply n (codes "held" ∷ [])
+arrival_row n arrival.Repeat = reply n (codes "repeat" ∷ [])
+
+abbrev pub arrived_rows : ℕ → Result Arrival Refusal → List (List (List ℕ))
+arrived_rows n (Ok a) = arrival_row n a ∷ []
+arrived_rows n (Err r) = refused_row n r ∷ []
+
+-- a token that arrived: the site holds it, or its turn had come before
+abbrev pub taken_row : ℕ → Taken → List (List ℕ)
+taken_row n taken.Holding = reply n (codes "holding" ∷ [])
+taken_row n taken.Repeat = reply n (codes "repeat" ∷ [])
+
+abbrev pub took_rows : ℕ → Result Taken Refusal → List (List (List ℕ))
+took_rows n (Ok t) = taken_row n t ∷ []
+took_rows n (Err r) = refused_row n r ∷ []
 
 -- a listing is answered by the number of its rows, and the rows
 abbrev pub listed_rows : ℕ → List (List (List ℕ)) → List (List (List ℕ))

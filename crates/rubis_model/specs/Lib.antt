@@ -7,6 +7,7 @@ pub mod Meaning
 pub mod Checks
 pub mod Shares
 pub mod Invariants
+pub mod Forged
 pub mod Order
 pub mod References
 pub mod Bids

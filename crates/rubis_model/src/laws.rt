@@ -1,4 +1,5 @@
 // The laws, each with its statement in specs/Laws.
+ghost use Rattle.rubis_model.specs.Forged.{FirstKeepsTheName, StockIsKept};
 ghost use Rattle.rubis_model.specs.Laws.{PartsCommute, MeaningIsOne, FoldIsMeaning, CheckedLogsHold, DecidedShadowsFit, EqualSetsEqualTables, FoldsBatchByBatch, RowsAreAtHome, SharesFoldToTheWhole, MisfitsFallInPlace, SettlingHasOneOutcome, RunsAreInOrder, RunsKeepInvariants, RunsAgreeOnTables, RunsMakeMessages, RefusalsChangeNothing, FaultlessLogsAreSound, RunsAreFaultless};
 
 /// Parts on different keys may be done in either order, with the same tables and misfits.
@@ -82,4 +83,10 @@ pub fn faultless_logs_are_sound()
 /// The logs of every run pass the checks together.
 pub fn every_run_is_faultless()
     ensures { RunsAreFaultless }
+{}
+
+/// In every log, forged ones too, no stock is below zero, and a nickname stays with the first user that has it.
+pub fn every_log_holds()
+    ensures stock { StockIsKept }
+    ensures names { FirstKeepsTheName }
 {}

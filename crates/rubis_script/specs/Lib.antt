@@ -2,3 +2,4 @@ pub mod Text
 pub mod Rows
 pub mod Reading
 pub mod Progress
+pub mod Inputs

@@ -1,12 +1,13 @@
 // The records that answer a record.
 
 ghost use Rattle.std.specs.Prelude.{◌≡◌, ◌++◌, ◌∷◌, [], Ok, OnOk, codes};
+ghost use Rattle.rubis_message.specs.declared.answers.Arrival.TheVariants.{Released};
 ghost use Rattle.rubis_schema.specs.Ids.{id_text};
-ghost use Rattle.rubis_model.specs.Answers.{asked_rows, listed_rows, passed_rows, refused_row, reply};
+ghost use Rattle.rubis_model.specs.Answers.{arrived_rows, asked_rows, listed_rows, passed_rows, refused_row, reply, took_rows};
 ghost use Rattle.rubis_script.specs.Text.{rows_text};
 
 use crate::sink::Sink;
-use rubis_message::{Message, Token, append_message, append_token};
+use rubis_message::{Arrival, Message, Taken, Token, append_message, append_token};
 use rubis_schema::{Fields, Items, Refusal, push_number};
 use std::alloc::AllocError;
 
@@ -78,6 +79,64 @@ pub fn write_passed(
     fields.clear();
     append_token(fields, token)?;
     sink.write_after(&[b"send".as_slice()], fields)
+}
+
+// Says how many messages were released.
+fn write_released(
+    fields: &mut Fields,
+    sink: &mut Sink,
+    number: u64,
+    count: u32,
+) -> Result<(), AllocError>
+    ensures { OnOk result (sink.new ≡ sink.old ++ rows_text (arrived_rows number (Ok (Released count)))) }
+{
+    begin(fields, number, b"released")?;
+    push_number(fields, u64::from(count))?;
+    sink.write_fields(fields)
+}
+
+// Answers with one word.
+fn write_word(
+    fields: &mut Fields,
+    sink: &mut Sink,
+    number: u64,
+    word: &[u8],
+) -> Result<(), AllocError>
+    ensures { OnOk result (sink.new ≡ sink.old ++ rows_text (reply number (word.now ∷ []) ∷ [])) }
+{
+    begin(fields, number, word)?;
+    sink.write_fields(fields)
+}
+
+/// Says what became of a message that arrived.
+pub fn write_arrival(
+    fields: &mut Fields,
+    sink: &mut Sink,
+    number: u64,
+    arrival: Arrival,
+) -> Result<(), AllocError>
+    ensures { OnOk result (sink.new ≡ sink.old ++ rows_text (arrived_rows number (Ok arrival))) }
+{
+    match arrival {
+        Arrival::Released(count) => write_released(fields, sink, number, count),
+        Arrival::Held => write_word(fields, sink, number, b"held"),
+        Arrival::Repeat => write_word(fields, sink, number, b"repeat"),
+    }
+}
+
+/// Says what became of a token that arrived.
+pub fn write_taken(
+    fields: &mut Fields,
+    sink: &mut Sink,
+    number: u64,
+    taken: Taken,
+) -> Result<(), AllocError>
+    ensures { OnOk result (sink.new ≡ sink.old ++ rows_text (took_rows number (Ok taken))) }
+{
+    match taken {
+        Taken::Holding => write_word(fields, sink, number, b"holding"),
+        Taken::Repeat => write_word(fields, sink, number, b"repeat"),
+    }
 }
 
 // Writes rows as they are.

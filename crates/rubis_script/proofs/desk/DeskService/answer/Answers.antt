@@ -1,6 +1,3 @@
-use Rattle.std.proofs.Common.{refl}
-use Rattle.rubis_model.specs.Runs.{answers, after_request, request_rows}
-use Rattle.rubis_message.specs.Readings.{request_of}
 use Rattle.rubis_script.proofs.Answering.{site_goes}
 use Rattle.rubis_script.proofs.desk.DeskService.answer.Goals as goal
 
