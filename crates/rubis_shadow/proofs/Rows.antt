@@ -1,5 +1,5 @@
 -- Entries of a map as tables, and what one change does to them.
-use Rattle.std.proofs.Common.{◌≡◌, rules, ℕ, refl, sym, ap, ◌∙◌, List, [], ◌∷◌, Bool, true, false, cond}
+use Rattle.std.proofs.Common.{◌≡◌, rules, refl, sym, ap, ◌∙◌, List, [], ◌∷◌, Bool, true, false, cond}
 use Rattle.std.specs.Prelude.{Some, None, Option, is_none}
 use Rattle.std.specs.Ordering.{eq_by_cmp}
 use Rattle.std.specs.Cmp.{eq_by_cmp_equiv, Equal-is}

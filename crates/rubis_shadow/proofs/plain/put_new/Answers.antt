@@ -1,5 +1,5 @@
-use Rattle.std.proofs.Common.{◌≡◌, sym, ap, ◌∙◌, refl, rules, Some, None, is_none}
-use Rattle.rubis_shadow.proofs.Rows.{get_tables_of, tables_of_update}
+use Rattle.std.proofs.Common.{rules}
+use Rattle.rubis_shadow.proofs.Rows.{get_tables_of}
 use Rattle.rubis_shadow.proofs.plain.put_new.Goals as goal
 
 pub returns-in-Occupied-clause-free : goal.returns-in-Occupied-clause-free
@@ -15,4 +15,3 @@ returns-in-Vacant-clause-free c =
     let f = c.in_ok-rows.ensures.found in
     let i = c.in-Vacant.is in
     search rules
-

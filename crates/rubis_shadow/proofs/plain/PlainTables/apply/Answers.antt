@@ -83,7 +83,7 @@ returns c =
     let g : map.get c.args.self.now k ≡ Some c.in-Some.row.now = ap (λ t. map.get t k) (sym c.self.view_is) ∙ get_tables_of _ k ∙ sym c.in-Some.ensures.value in
     record {
       tables = tables_of_update _ _ k row ((c.get_mut.follows.holds row).3 (search rules)).0 ∙ ap (λ (t : Tables). map.insert t k row) c.self.view_is
-        ∙ after_alter c.args.self.now c.args.effect.now c.in-Some.row.now row g c.alter.ensures.row;
+          ∙ after_alter c.args.self.now c.args.effect.now c.in-Some.row.now row g c.alter.ensures.row;
       misfit = misfit_alter c.args.self.now c.args.effect.now c.in-Some.row.now c.alter.result g c.alter.ensures.misfit;
       err = tt;
     }
