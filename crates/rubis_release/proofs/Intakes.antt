@@ -14,7 +14,7 @@ use Rattle.rubis_model.specs.Site.{Place, Replica, counts, after_came, not_ours,
 use Rattle.rubis_model.proofs.OneOutcome.{settles_one}
 use Rattle.rubis_release.specs.Release.{IsAmong, AllAmong, AreKept, clock_of}
 use Rattle.rubis_release.specs.Intake.{Intake, Holds}
-use Rattle.rubis_release.specs.Answers.{IsTaken}
+use Rattle.rubis_release.specs.Answers.{IsAdmitted}
 use Rattle.rubis_release.proofs.Counting.{length_counts, counts_at}
 use Rattle.rubis_release.proofs.Keeping.{is_released, settling_keeps, coming_keeps}
 
@@ -42,12 +42,13 @@ opening_counts sites = λ i. record { counts = same i; red = 0 }
     same = same_number_lists (replicate sites 0) (counts sites []) (length-replicate {A = ℕ} sites 0 ∙ sym (length_counts sites []))
         (λ j l. let k : j < sites = (let e = length-replicate {A = ℕ} sites 0 in omega (arith, e, l)) in get_or-replicate {A = ℕ} sites j 0 0 k ∙ sym (counts_at sites [] j k))
 
-pub opening_holds : (p : Place) (log waiting : List Message) (held : Option ℕ) (k : Counted) (n : ℕ) → p.site < p.sites → p.sites ≤ 16 → p.keep ≤ 1000000 → log ≡ [] → waiting ≡ [] → k ≡ opening_clock p.sites
+pub opening_holds : (p : Place) (log waiting : List Message) (held : Option ℕ) (k : Counted) (n : ℕ) → p.site < p.sites → p.sites ≤ 16 → 1 ≤ p.keep → p.keep ≤ 1000000 → log ≡ [] → waiting ≡ [] → k ≡ opening_clock p.sites
     → Holds (record { place = p; state = record { log = log; waiting = waiting; held = held; last = 0 } }) k n
-opening_holds p log waiting held k n a b c e f g = subst₂ (λ (l w : List Message). Holds (record { place = p; state = record { log = l; waiting = w; held = held; last = 0 } }) k n) (sym e) (sym f) (record {
+opening_holds p log waiting held k n a b some c e f g = subst₂ (λ (l w : List Message). Holds (record { place = p; state = record { log = l; waiting = w; held = held; last = 0 } }) k n) (sym e) (sym f) (record {
   conditions = record {
     site = a;
     sites = b;
+    some = some;
     keep = c;
     kept = record {
       few = omega arith;
@@ -67,7 +68,7 @@ opening_holds p log waiting held k n a b c e f g = subst₂ (λ (l w : List Mess
 pub next_holds : (i : Intake) (k k' : Counted) (n n' : ℕ) (log waiting : List Message) (held : Option ℕ) → Holds i k n → AreKept i.place log waiting → k' ≡ clock_of (length k.counts) log → length log + length waiting ≤ n'
     → Holds (record { place = i.place; state = record { log = log; waiting = waiting; held = held; last = i.state.last } }) k' n'
 next_holds i k k' n n' log waiting held h kept e room = record {
-  conditions = record { site = h.conditions.site; sites = h.conditions.sites; keep = h.conditions.keep; kept = kept };
+  conditions = record { site = h.conditions.site; sites = h.conditions.sites; some = h.conditions.some; keep = h.conditions.keep; kept = kept };
   clock = e ∙ ap (λ x. clock_of x log) (sites_of_clock i k n h);
   room = room;
 }
@@ -100,7 +101,7 @@ fresh_told i k n m h a s e count is l =
 pub none_waits : (i : Intake) (m : Message) → is_repeat i.state m ≡ false → list_any (λ (u : Message). same_id m.stamp.id u.stamp.id) i.state.waiting ≡ false
 none_waits i m e = (or_parts (list_any (λ (u : Message). same_id m.stamp.id u.stamp.id) i.state.log) (list_any (λ (u : Message). same_id m.stamp.id u.stamp.id) i.state.waiting) e).1
 
-pub came_kept : (i : Intake) (k : Counted) (n : ℕ) (m : Message) (log waiting : List Message) → Holds i k n → IsAmong i.place.sites m → IsTaken i.place i.state m → Settles i.state.log (i.state.waiting ++ m ∷ []) log waiting → AreKept i.place log waiting
+pub came_kept : (i : Intake) (k : Counted) (n : ℕ) (m : Message) (log waiting : List Message) → Holds i k n → IsAmong i.place.sites m → IsAdmitted i.place i.state m → Settles i.state.log (i.state.waiting ++ m ∷ []) log waiting → AreKept i.place log waiting
 came_kept i k n m log waiting h a t s = settling_keeps i.place i.state.log (i.state.waiting ++ m ∷ []) log waiting (coming_keeps i.place i.state m h.conditions.kept a t) s
 
 pub came_is : (s : Replica) (m : Message) (log waiting : List Message) → Settles s.log (s.waiting ++ m ∷ []) log waiting → record { log = log; waiting = waiting; held = s.held; last = s.last } ≡ after_came s m

@@ -17,7 +17,7 @@ use Rattle.rubis_model.proofs.Pasts.{counted_yes, counted_no, seq_within, found}
 use Rattle.rubis_model.proofs.Settling.{counted_push, counted_reverse, reds_reverse, reverse_push}
 use Rattle.rubis_model.proofs.Lists.{push_cases, has_reverse, has_back}
 use Rattle.rubis_release.specs.Release.{id_of, IsAmong, AllAmong, HaveOwnIds, AreKept}
-use Rattle.rubis_release.specs.Answers.{IsTaken}
+use Rattle.rubis_release.specs.Answers.{IsAdmitted}
 
 -- ---- ids
 same_ids : (u m : Message) → u.stamp.id.site ≡ m.stamp.id.site → u.stamp.id.seq ≡ m.stamp.id.seq → id_of u ≡ id_of m
@@ -152,7 +152,7 @@ is_released log m r one = same_tests _ _ forth back
         let f = found (reverse log) m.stamp.id.site m.stamp.id.seq r one l in
         any_has (λ (u : Message). same_id m.stamp.id u.stamp.id) log f.0 (has_reverse f.0 log f.1) ((Decides-same_id m.stamp.id f.0.stamp.id).1 (same_ids m f.0 (sym f.2) (sym f.3)))
 
-pub coming_keeps : (p : Place) (s : Replica) (m : Message) → AreKept p s.log s.waiting → IsAmong p.sites m → IsTaken p s m → AreKept p s.log (s.waiting ++ m ∷ [])
+pub coming_keeps : (p : Place) (s : Replica) (m : Message) → AreKept p s.log s.waiting → IsAmong p.sites m → IsAdmitted p s m → AreKept p s.log (s.waiting ++ m ∷ [])
 coming_keeps p s m k a t = record {
   few = omega (arith, room, length_push s.waiting m);
   log_sites = k.log_sites;

@@ -7,7 +7,7 @@ use Rattle.rubis_release.specs.declared.intake.IntakeFault.{IntakeFault}
 use Rattle.rubis_release.specs.declared.intake.IntakeFault.TheVariants.{Refused, Memory}
 
 -- the message is put among the waiting ones
-pub record IsTaken (p : Place) (s : Replica) (m : Message) : Type 0 where
+pub record IsAdmitted (p : Place) (s : Replica) (m : Message) : Type 0 where
   pub not_ours : not_ours p s m ≡ false
   pub new : is_repeat s m ≡ false
   pub room : is_full p.keep s ≡ false
@@ -15,7 +15,7 @@ pub record IsTaken (p : Place) (s : Replica) (m : Message) : Type 0 where
 -- the message is refused so, or there was no memory to put it among the waiting ones
 abbrev pub IsFaultOf : Place → Replica → Message → IntakeFault → Type 0
 IsFaultOf p s m (Refused r) = arrived p s m ≡ (s, Err r)
-IsFaultOf p s m Memory = IsTaken p s m
+IsFaultOf p s m Memory = IsAdmitted p s m
 
 -- the token, if the site holds it
 abbrev pub held_by : Replica → Option Held

@@ -13,6 +13,7 @@ pub record Intake : Type 0 where
 pub record IsIntake (i : Intake) : Type 0 where
   pub site : i.place.site < i.place.sites
   pub sites : i.place.sites ≤ 16
+  pub some : 1 ≤ i.place.keep
   pub keep : i.place.keep ≤ 1000000
   pub kept : AreKept i.place i.state.log i.state.waiting
 

@@ -7,7 +7,7 @@ ghost use Rattle.rubis_release.specs.declared.intake.IntakeFault.TheVariants.{Me
 ghost use Rattle.rubis_release.specs.Intake as model;
 ghost use Rattle.rubis_release.specs.Intake.{IsIntake};
 ghost use Rattle.rubis_release.specs.Release.{IsAmong, clock_of};
-ghost use Rattle.rubis_release.specs.Answers.{IsFaultOf, IsTaken};
+ghost use Rattle.rubis_release.specs.Answers.{IsFaultOf, IsAdmitted};
 
 mod tokens;
 
@@ -197,7 +197,7 @@ impl Intake {
     // Puts a new message last among those that wait, and releases what is ready; how many were released.
     fn take_in(&mut self, message: Message) -> Result<u32, AllocError>
         requires site { IsAmong self.old.place.sites message }
-        requires new { IsTaken self.old.place self.old.state message }
+        requires new { IsAdmitted self.old.place self.old.state message }
         ensures ok { OnOk result (self.new ≡ record { place = self.old.place; state = after_came self.old.state message }) }
         ensures released { IfOk result (λ n. n ≡ length (after_came self.old.state message).log - length self.old.state.log) }
         ensures err { OnErr result (self.new ≡ self.old) }

@@ -3,6 +3,8 @@
 
 mod intake;
 mod settling;
+#[cfg(test)]
+mod tests;
 mod waiting;
 
 pub use intake::{Held, Intake, IntakeFault};

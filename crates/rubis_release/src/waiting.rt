@@ -76,7 +76,7 @@ impl Waiting {
     }
 
     // The message at that place.
-    fn message_at(&self, at: usize) -> &Message
+    pub fn message_at(&self, at: usize) -> &Message
         requires { at < length self.now }
         ensures { (d : model.Message) → slice_index_or self.now at d ≡ result.now }
     {

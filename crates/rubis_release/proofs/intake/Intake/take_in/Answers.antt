@@ -2,7 +2,7 @@ use Rattle.std.proofs.Common.{◌≡◌, length, ap, ◌∙◌, sym, subst, arit
 use Rattle.rubis_model.specs.Site.{Replica, after_came}
 use Rattle.rubis_release.specs.Intake.{Intake}
 use Rattle.rubis_release.specs.Release.{IsAmong, AreKept}
-use Rattle.rubis_release.specs.Answers.{IsTaken}
+use Rattle.rubis_release.specs.Answers.{IsAdmitted}
 use Rattle.rubis_release.proofs.Keeping.{settling_longer}
 use Rattle.rubis_release.proofs.Intakes.{sites_of_clock, clock_counts, waiting_among, next_holds, unchanged_kept, came_kept, came_is}
 use Rattle.rubis_release.proofs.intake.Intake.take_in.Goals as goal
@@ -26,7 +26,7 @@ kept : (c : goal.After-len) → AreKept (record { site = c.self.inside.site; sit
 kept c =
     came_kept _ _ _ c.args.message c.take_in.new.log.items c.take_in.new.waiting c.self.invariant
     (subst (λ (i : Intake). IsAmong i.place.sites c.args.message) (sym c.self.view_is) c.requires.site)
-    (subst (λ (i : Intake). IsTaken i.place i.state c.args.message) (sym c.self.view_is) c.requires.new)
+    (subst (λ (i : Intake). IsAdmitted i.place i.state c.args.message) (sym c.self.view_is) c.requires.new)
     c.in_ok-take_in.ensures.settles
 
 pub overflow_sub-result : goal.overflow_sub-result

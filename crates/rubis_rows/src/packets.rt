@@ -1,0 +1,94 @@
+// Messages and tokens that arrive at a site.
+
+ghost use Rattle.std.specs.Prelude.{◌≡◌, IfOk};
+
+use crate::records::{message, token};
+use rubis_message::{Arrival, Taken};
+use rubis_replica::{Config, Fault, Site};
+use rubis_schema::Refusal;
+use std::alloc::Global;
+use std::test::Fail;
+
+const ANN: &str = "msg,1,0,1,1,0:0,user,ann";
+
+const BOB: &str = "msg,1,0,2,2,1:0,user,bob";
+
+const CAT: &str = "msg,1,0,3,3,2:0,user,cat";
+
+const CUP: &str = "msg,1,0,3,0,2:0,item,0.1,cup,9,3,50,80";
+
+// Site 1 of 2, which keeps so many messages.
+fn second_of_two(alloc: Global, keep: u32) -> Result<Site, Fail>
+    ensures { IfOk result (λ site. site.place.sites ≡ 2) }
+{
+    let config = Config::new(1, 2, 4, 2, 64, keep).ok_or("a configuration")?;
+    Ok(Site::new(alloc, &config)?)
+}
+
+// Takes in the message that is written so.
+fn arrive(site: &mut Site, alloc: Global, text: &str) -> Result<Arrival, Fail>
+    requires { site.old.place.sites ≡ 2 }
+    ensures { site.new.place ≡ site.old.place }
+{
+    let message = message(alloc, text, 2)?;
+    Ok(site.arrive(message)?)
+}
+
+#[test]
+fn three_messages_are_cut_at_once(rt: HostRuntime) -> Result<(), Fail> {
+    let mut site = second_of_two(rt.alloc(), 1_000_000)?;
+    assert_eq!(rt; arrive(&mut site, rt.alloc(), ANN)?, Arrival::Released(1));
+    assert_eq!(rt; arrive(&mut site, rt.alloc(), BOB)?, Arrival::Released(1));
+    assert_eq!(rt; arrive(&mut site, rt.alloc(), CUP)?, Arrival::Released(1));
+    assert_eq!(rt; site.cut()?, 3);
+    assert_eq!(rt; site.cut()?, 0);
+    assert_eq!(rt; site.catch_up()?, 0);
+    Ok(())
+}
+
+#[test]
+fn messages_wait_for_those_before(rt: HostRuntime) -> Result<(), Fail> {
+    let mut site = second_of_two(rt.alloc(), 1_000_000)?;
+    assert_eq!(rt; arrive(&mut site, rt.alloc(), BOB)?, Arrival::Held);
+    assert_eq!(rt; arrive(&mut site, rt.alloc(), BOB)?, Arrival::Repeat);
+    assert_eq!(rt; arrive(&mut site, rt.alloc(), ANN)?, Arrival::Released(2));
+    assert_eq!(rt; arrive(&mut site, rt.alloc(), BOB)?, Arrival::Repeat);
+    assert_eq!(rt; arrive(&mut site, rt.alloc(), ANN)?, Arrival::Repeat);
+    assert_eq!(rt; site.history().len(), 2);
+    Ok(())
+}
+
+#[test]
+fn a_full_site_refuses_what_is_new(rt: HostRuntime) -> Result<(), Fail> {
+    let mut site = second_of_two(rt.alloc(), 2)?;
+    assert_eq!(rt; arrive(&mut site, rt.alloc(), ANN)?, Arrival::Released(1));
+    assert_eq!(rt; arrive(&mut site, rt.alloc(), BOB)?, Arrival::Released(1));
+    let cat = message(rt.alloc(), CAT, 2)?;
+    let refused = site.arrive(cat).err();
+    assert_eq!(rt; refused, Some(Fault::Refused(Refusal::Full)));
+    assert_eq!(rt; arrive(&mut site, rt.alloc(), ANN)?, Arrival::Repeat);
+    Ok(())
+}
+
+#[test]
+fn a_site_refuses_its_own_unmade_message(rt: HostRuntime) -> Result<(), Fail> {
+    let mut site = second_of_two(rt.alloc(), 2)?;
+    let forged = message(rt.alloc(), "msg,1,1,1,1,0:0,user,ann", 2)?;
+    let refused = site.arrive(forged).err();
+    assert_eq!(rt; refused, Some(Fault::Refused(Refusal::NotOurs)));
+    Ok(())
+}
+
+#[test]
+fn the_last_turn_is_not_handed_on(rt: HostRuntime) -> Result<(), Fail> {
+    let mut site = second_of_two(rt.alloc(), 2)?;
+    let last = token(rt.alloc(), "token,1,1000000000,1,0", 2)?;
+    assert_eq!(rt; site.token(last)?, Taken::Holding);
+    assert_eq!(rt; site.token(last)?, Taken::Repeat);
+    let refused = site.pass(0).err();
+    assert_eq!(rt; refused, Some(Fault::Refused(Refusal::LastTurn)));
+    let other = token(rt.alloc(), "token,1,1,0,0", 2)?;
+    let refused = site.token(other).err();
+    assert_eq!(rt; refused, Some(Fault::Refused(Refusal::NotForMe)));
+    Ok(())
+}

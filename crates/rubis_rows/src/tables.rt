@@ -1,0 +1,108 @@
+// Plain tables, and decisions over them.
+
+use rubis_generate::{Standing, decide};
+use rubis_schema::{Id, Name, Nick, Refusal, Row, RowKey, View};
+use rubis_shadow::{Ask, MisfitKind, NewBid, NewClose, NewItem, PlainTables, Shadow};
+use std::alloc::Global;
+use std::process::Abort;
+use std::test::Fail;
+
+const ANN: Id = Id { site: 0, seq: 1 };
+
+const BOB: Id = Id { site: 0, seq: 2 };
+
+const LAMP: Id = Id { site: 0, seq: 3 };
+
+const CLOSE: Id = Id { site: 0, seq: 4 };
+
+fn user(nick: &[u8]) -> Result<Shadow, Fail> {
+    Ok(Shadow::User(Nick::read(nick).ok_or("a nickname")?))
+}
+
+// A lamp that ann offers.
+fn lamp(alloc: Global) -> Result<Shadow, Fail> {
+    let name = Name::read(alloc, b"lamp")?.ok_or("a name")?;
+    Ok(Shadow::Item(NewItem {
+        seller: ANN,
+        name,
+        cat: 7,
+        stock: 1,
+        start: 100,
+        price: 0,
+    }))
+}
+
+// Applies all parts of a shadow, each of which fits.
+fn apply_whole<R: Abort>(
+    rt: &R,
+    tables: &mut PlainTables,
+    id: Id,
+    red: u32,
+    shadow: &Shadow,
+) -> Result<(), Fail> {
+    for part in shadow.effects(id, red) {
+        assert_eq!(rt; tables.apply(&part.own()?)?, None);
+    }
+    Ok(())
+}
+
+#[test]
+fn a_nickname_stays_with_the_first(rt: HostRuntime) -> Result<(), Fail> {
+    let mut tables = PlainTables::new(rt.alloc())?;
+    let shadow = user(b"ann")?;
+    apply_whole(&rt, &mut tables, ANN, 1, &shadow)?;
+    let second = shadow.effect(BOB, 2, 1).ok_or("a part")?;
+    let misfit = tables.apply(&second.own()?)?;
+    assert_eq!(rt; misfit, Some(MisfitKind::RowThere));
+    match tables.row(&second.key()) {
+        Some(Row::Nick(id)) => assert_eq!(rt; *id, ANN),
+        _ => assert!(rt; false, "no nickname"),
+    }
+    Ok(())
+}
+
+#[test]
+fn tables_have_a_thousand_categories(rt: HostRuntime) -> Result<(), Fail> {
+    let tables = PlainTables::new(rt.alloc())?;
+    assert_eq!(rt; tables.iter().count(), 1000);
+    assert!(rt; tables.row(&RowKey::Cat(999)).is_some());
+    assert!(rt; tables.row(&RowKey::Cat(1000)).is_none());
+    Ok(())
+}
+
+// The tables in which ann offered a lamp and closed it, with no bid.
+fn ended_lamp<R: Abort + AllocGlobal>(rt: &R) -> Result<PlainTables, Fail> {
+    let mut tables = PlainTables::new(rt.alloc())?;
+    let close = Shadow::Close(NewClose {
+        item: LAMP,
+        cat: 7,
+        winner: None,
+    });
+    apply_whole(rt, &mut tables, ANN, 1, &user(b"ann")?)?;
+    apply_whole(rt, &mut tables, BOB, 2, &user(b"bob")?)?;
+    apply_whole(rt, &mut tables, LAMP, 0, &lamp(rt.alloc())?)?;
+    apply_whole(rt, &mut tables, CLOSE, 3, &close)?;
+    Ok(tables)
+}
+
+#[test]
+fn red_behind_comes_before_closed(rt: HostRuntime) -> Result<(), Fail> {
+    let tables = ended_lamp(&rt)?;
+    for (current, want) in [(false, Refusal::RedBehind), (true, Refusal::Closed)] {
+        let ask = Ask::Bid(NewBid {
+            item: LAMP,
+            bidder: BOB,
+            amount: 500,
+        });
+        let standing = Standing {
+            full: false,
+            holds: true,
+            current,
+        };
+        match decide(ask, &tables, &standing) {
+            Err(refusal) => assert_eq!(rt; refusal, want),
+            Ok(_) => assert!(rt; false, "accepted"),
+        }
+    }
+    Ok(())
+}
