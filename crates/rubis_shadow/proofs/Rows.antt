@@ -1,6 +1,6 @@
 -- Entries of a map as tables, and what one change does to them.
-use Rattle.std.proofs.Common.{◌≡◌, ℕ, refl, sym, ap, ◌∙◌, List, [], ◌∷◌, Bool, true, false, cond}
-use Rattle.std.specs.Prelude.{Some, None, Option}
+use Rattle.std.proofs.Common.{◌≡◌, rules, refl, sym, ap, ◌∙◌, List, [], ◌∷◌, Bool, true, false, cond}
+use Rattle.std.specs.Prelude.{Some, None, Option, is_none}
 use Rattle.std.specs.Ordering.{eq_by_cmp}
 use Rattle.std.specs.Cmp.{eq_by_cmp_equiv, Equal-is}
 use Rattle.std.specs.BTreeMap.{is_at}
@@ -11,7 +11,10 @@ use Rattle.rubis_schema.specs.KeyLaws.{key_total, key_antisymmetric}
 use Rattle.rubis_schema.specs.Tables.{Tables}
 use Rattle.rubis_schema.specs.declared.row_keys.RowKey.{RowKey}
 use Rattle.rubis_schema.specs.declared.rows.Row.{Row}
-use Rattle.rubis_shadow.specs.Changes.{change_row, after, misfit_of, with_row, Done}
+use Rattle.rubis_shadow.specs.Changes.{change_row, after, misfit_of, misfits_as, with_row, Done}
+use Rattle.rubis_shadow.specs.declared.changes.Change.{Change}
+use Rattle.rubis_shadow.specs.declared.changes.Change.TheVariants.{Insert}
+use Rattle.rubis_shadow.specs.declared.changes.MisfitKind.TheVariants.{RowThere}
 use Rattle.rubis_shadow.specs.declared.changes.Effect.{Effect}
 use Rattle.rubis_shadow.specs.declared.changes.MisfitKind.{MisfitKind}
 
@@ -55,3 +58,31 @@ put_nothing t k q g false e = refl
 
 pub remove_none : (t : Tables) (k : RowKey) → map.get t k ≡ None → map.remove t k ≡ t
 remove_none t k g = map.same_map key_total key_antisymmetric _ _ (λ q. map.get-remove key_total t k q ∙ put_nothing t k q g _ refl)
+
+-- an option that is none, and one that isn't
+pub none_of : (o : Option Row) → true ≡ is_none o → o ≡ None
+none_of None e = refl
+none_of (Some row) e = absurd (search rules)
+
+pub some_of : (o : Option Row) → false ≡ is_none o → (row : Row) × (o ≡ Some row)
+some_of None e = absurd (search rules)
+some_of (Some row) e = (row, refl)
+
+-- putting a row where it is
+put_same : (t : Tables) (k q : RowKey) (row : Row) → map.get t k ≡ Some row → (b : Bool) → eq_by_cmp key_order q k ≡ b → cond b (Some row) (map.get t q) ≡ map.get t q
+put_same t k q row g true e = sym g ∙ map.get_tied key_total t q k ((Equal-is (key_order q k)).0 e)
+put_same t k q row g false e = refl
+
+pub insert_same : (t : Tables) (k : RowKey) (row : Row) → map.get t k ≡ Some row → map.insert t k row ≡ t
+insert_same t k row g = map.same_map key_total key_antisymmetric _ _ (λ q. map.get-insert key_total t k row q ∙ put_same t k q row g _ refl)
+
+-- an insert where a row is
+refused : (h : Change) (row old : Row) → h ≡ Insert row → change_row h (Some old) ≡ misfits_as RowThere (Some old)
+unfolding change_row
+refused h row old e = ap (λ x. change_row x (Some old)) e
+
+pub after_refused : (t : Tables) (e : Effect) (row old : Row) → map.get t e.key ≡ Some old → e.change ≡ Insert row → t ≡ after t e
+after_refused t e row old g i = sym (insert_same t e.key old g) ∙ ap (λ (x : Done). with_row t e.key x.row) (sym (refused e.change row old i) ∙ ap (change_row e.change) (sym g))
+
+pub misfit_refused : (t : Tables) (e : Effect) (row old : Row) → map.get t e.key ≡ Some old → e.change ≡ Insert row → Some RowThere ≡ misfit_of t e
+misfit_refused t e row old g i = ap (λ (x : Done). x.misfit) (sym (refused e.change row old i) ∙ ap (change_row e.change) (sym g))

@@ -1,4 +1,5 @@
-ghost use Rattle.std.specs.Prelude.{◌≡◌, IfOk, OnOk, OnErr};
+ghost use Rattle.std.specs.Prelude.{◌≡◌, IfOk, OnOk, OnErr, is_none};
+ghost use Rattle.std.specs.Bool.{MatchBool};
 ghost use Rattle.std.specs.FinMap as map;
 ghost use Rattle.rubis_schema.specs.Keys.{key_order};
 ghost use Rattle.rubis_shadow.specs.Tables.{opening};
@@ -7,6 +8,7 @@ ghost use Rattle.rubis_shadow.specs.Changes.{after, misfit_of};
 use crate::changes::{Change, Effect, MisfitKind};
 use rubis_schema::{CatRow, Row, RowKey, View};
 use std::alloc::{AllocError, Global};
+use std::collections::btree_map::Entry;
 use std::collections::{BTreeMap, btree_map};
 use std::marker::Model;
 
@@ -41,6 +43,22 @@ fn put_row(rows: &mut BTreeMap<RowKey, Row>, key: RowKey, row: Row) -> Result<()
     Ok(())
 }
 
+// Puts the row at the key where none is there, and says whether it did.
+#[tactic(auto, using(crate::proofs::Rows::tables_of_update))]
+fn put_new(rows: &mut BTreeMap<RowKey, Row>, key: RowKey, row: Row) -> Result<bool, AllocError>
+    ensures free { IfOk result (λ put. put ≡ is_none (map.get (map.from_entries {R = key_order} rows.old.entries) key)) }
+    ensures put { IfOk result (λ put. MatchBool put (map.from_entries {R = key_order} rows.new.entries ≡ map.insert (map.from_entries rows.old.entries) key row) (rows.new.entries ≡ rows.old.entries)) }
+    ensures err { OnErr result (rows.new.entries ≡ rows.old.entries) }
+{
+    match rows.entry(key)? {
+        Entry::Occupied(_) => Ok(false),
+        Entry::Vacant(vacant) => {
+            vacant.insert(row);
+            Ok(true)
+        }
+    }
+}
+
 impl PlainTables {
     /// The tables before any message: the categories, without items.
     pub fn new(alloc: Global) -> Result<PlainTables, AllocError>
@@ -67,17 +85,16 @@ impl PlainTables {
         ensures misfit { IfOk result (λ misfit. misfit ≡ misfit_of self.old effect.now) }
         ensures err { OnErr result (self.new ≡ self.old) }
     {
-        match self.rows.get_mut(&effect.key) {
-            Some(row) => Ok(effect.change.alter(row)),
-            None => match &effect.change {
-                Change::Insert(row) => {
-                    let row = row.copy()?;
-                    put_row(&mut self.rows, effect.key, row)?;
-                    Ok(None)
-                }
-                _ => Ok(Some(MisfitKind::NoRow)),
-            },
+        if let Change::Insert(row) = &effect.change {
+            if put_new(&mut self.rows, effect.key, row.copy()?)? {
+                return Ok(None);
+            }
+            return Ok(Some(MisfitKind::RowThere));
         }
+        let Some(row) = self.rows.get_mut(&effect.key) else {
+            return Ok(Some(MisfitKind::NoRow));
+        };
+        Ok(effect.change.alter(row))
     }
 }
 

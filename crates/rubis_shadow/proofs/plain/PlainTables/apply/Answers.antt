@@ -1,4 +1,5 @@
-use Rattle.std.proofs.Common.{◌≡◌, sym, ap, ◌∙◌, refl, rules}
+use Rattle.std.proofs.Common.{◌≡◌, sym, ap, ◌∙◌, refl, rules, Bool, true, false}
+use Rattle.std.specs.Bool.{MatchBool}
 use Rattle.std.specs.Prelude.{Some, None}
 use Rattle.std.specs.FinMap as map
 use Rattle.rubis_schema.specs.Tables.{Tables}
@@ -6,22 +7,8 @@ use Rattle.rubis_shadow.specs.Changes.{change_row, fits, misfits_as}
 use Rattle.rubis_shadow.specs.declared.changes.Change.{Change}
 use Rattle.rubis_shadow.specs.declared.changes.Change.TheVariants.{Insert, ItemListed, Bought, Rated, CatListed, CatEnded, BidTaken, Sold, End}
 use Rattle.rubis_shadow.specs.declared.changes.MisfitKind.TheVariants.{NoRow}
-use Rattle.rubis_shadow.proofs.Rows.{tables_of, get_tables_of, tables_of_update, after_alter, misfit_alter, after_none, misfit_none, remove_none}
+use Rattle.rubis_shadow.proofs.Rows.{tables_of, get_tables_of, tables_of_update, after_alter, misfit_alter, after_none, misfit_none, remove_none, none_of, some_of, after_refused, misfit_refused}
 use Rattle.rubis_shadow.proofs.plain.PlainTables.apply.Goals as goal
-
-pub returns-in-Some-clause-tables : goal.returns-in-Some-clause-tables
-returns-in-Some-clause-tables c =
-    let k = c.args.effect.now.key in
-    let row = c.alter.new.row in
-    let g : map.get c.args.self.now k ≡ Some c.in-Some.row.now = ap (λ t. map.get t k) (sym c.self.view_is) ∙ get_tables_of _ k ∙ sym c.in-Some.ensures.value in
-    tables_of_update _ _ k row ((c.get_mut.follows.holds row).3 (search rules)).0 ∙ ap (λ (t : Tables). map.insert t k row) c.self.view_is
-    ∙ after_alter c.args.self.now c.args.effect.now c.in-Some.row.now row g c.alter.ensures.row
-
-pub returns-in-Some-clause-misfit : goal.returns-in-Some-clause-misfit
-returns-in-Some-clause-misfit c =
-    let k = c.args.effect.now.key in
-    let g : map.get c.args.self.now k ≡ Some c.in-Some.row.now = ap (λ t. map.get t k) (sym c.self.view_is) ∙ get_tables_of _ k ∙ sym c.in-Some.ensures.value in
-    misfit_alter c.args.self.now c.args.effect.now c.in-Some.row.now c.alter.result g c.alter.ensures.misfit
 
 inserted : (h : Change) (row new : _) → h ≡ Insert row → new ≡ row → change_row h None ≡ fits new
 unfolding change_row
@@ -39,10 +26,48 @@ not_insert (BidTaken b) d = refl
 not_insert (Sold q) d = refl
 not_insert (End w) d = refl
 
-pub returns-in_default : goal.returns-in_default
-returns-in_default c =
+put_then : (P Q : Type 0) → (put : Bool) → put ≡ true → MatchBool put P Q → P
+put_then P Q true e m = m
+put_then P Q false e m = absurd (search rules)
+
+put_else : (P Q : Type 0) → (put : Bool) → put ≡ false → MatchBool put P Q → Q
+put_else P Q true e m = absurd (search rules)
+put_else P Q false e m = m
+
+pub returns-then-branch-clause-tables : goal.returns-then-branch-clause-tables
+returns-then-branch-clause-tables c =
     let k = c.args.effect.now.key in
-    let g : map.get c.args.self.now k ≡ None = ap (λ t. map.get t k) (sym c.self.view_is) ∙ get_tables_of _ k ∙ sym c.in-None.ensures.value in
+    let row = c.in_ok-copy.field-0 in
+    let g : map.get c.args.self.now k ≡ None = ap (λ t. map.get t k) (sym c.self.view_is) ∙ none_of _ (sym c.if-branch.true ∙ c.in_ok-put_new.ensures.free) in
+    let n = put_then _ _ _ c.if-branch.true c.in_ok-put_new.ensures.put ∙ ap (λ (t : Tables). map.insert t k row) c.self.view_is in
+    n ∙ after_none c.args.self.now c.args.effect.now (fits row) g (inserted c.args.effect.now.change c.in-Insert.row row c.in-Insert.is c.in_ok-copy.ensures)
+
+pub returns-then-branch-clause-misfit : goal.returns-then-branch-clause-misfit
+returns-then-branch-clause-misfit c =
+    let k = c.args.effect.now.key in
+    let row = c.in_ok-copy.field-0 in
+    let g : map.get c.args.self.now k ≡ None = ap (λ t. map.get t k) (sym c.self.view_is) ∙ none_of _ (sym c.if-branch.true ∙ c.in_ok-put_new.ensures.free) in
+    misfit_none c.args.self.now c.args.effect.now (fits row) g (inserted c.args.effect.now.change c.in-Insert.row row c.in-Insert.is c.in_ok-copy.ensures)
+
+pub returns-in-Insert-clause-tables : goal.returns-in-Insert-clause-tables
+returns-in-Insert-clause-tables c =
+    let k = c.args.effect.now.key in
+    let there = some_of _ (sym c.if-branch.false ∙ c.in_ok-put_new.ensures.free) in
+    let g : map.get c.args.self.now k ≡ Some there.0 = ap (λ t. map.get t k) (sym c.self.view_is) ∙ there.1 in
+    ap (λ es. tables_of es) (put_else _ _ _ c.if-branch.false c.in_ok-put_new.ensures.put) ∙ c.self.view_is
+    ∙ after_refused c.args.self.now c.args.effect.now c.in-Insert.row there.0 g c.in-Insert.is
+
+pub returns-in-Insert-clause-misfit : goal.returns-in-Insert-clause-misfit
+returns-in-Insert-clause-misfit c =
+    let k = c.args.effect.now.key in
+    let there = some_of _ (sym c.if-branch.false ∙ c.in_ok-put_new.ensures.free) in
+    let g : map.get c.args.self.now k ≡ Some there.0 = ap (λ t. map.get t k) (sym c.self.view_is) ∙ there.1 in
+    misfit_refused c.args.self.now c.args.effect.now c.in-Insert.row there.0 g c.in-Insert.is
+
+pub returns-in_default-get_mut : goal.returns-in_default-get_mut
+returns-in_default-get_mut c =
+    let k = c.args.effect.now.key in
+    let g : map.get c.args.self.now k ≡ None = ap (λ t. map.get t k) (sym c.self.view_is) ∙ get_tables_of _ k ∙ sym c.in_default-get_mut.ensures.value in
     let n = ap (λ m. tables_of m.entries) c.get_mut.follows.holds-at-none ∙ c.self.view_is in
     let d = not_insert c.args.effect.now.change c.in_default.not-Insert in
     record {
@@ -51,17 +76,14 @@ returns-in_default c =
       err = tt;
     }
 
-pub returns-in_ok-put_row-in-Insert-clause-tables : goal.returns-in_ok-put_row-in-Insert-clause-tables
-returns-in_ok-put_row-in-Insert-clause-tables c =
+pub returns : goal.returns
+returns c =
     let k = c.args.effect.now.key in
-    let row = c.in_ok-row-in-Insert.row in
-    let g : map.get c.args.self.now k ≡ None = ap (λ t. map.get t k) (sym c.self.view_is) ∙ get_tables_of _ k ∙ sym c.in-None.ensures.value in
-    let n = c.in_ok-put_row-in-Insert.ensures.ok ∙ ap (λ (t : Tables). map.insert t k row) (ap (λ m. tables_of m.entries) c.get_mut.follows.holds-at-none ∙ c.self.view_is) in
-    n ∙ after_none c.args.self.now c.args.effect.now (fits row) g (inserted c.args.effect.now.change c.in-Insert.row row c.in-Insert.is c.in_ok-row-in-Insert.ensures)
-
-pub returns-in_ok-put_row-in-Insert-clause-misfit : goal.returns-in_ok-put_row-in-Insert-clause-misfit
-returns-in_ok-put_row-in-Insert-clause-misfit c =
-    let k = c.args.effect.now.key in
-    let row = c.in_ok-row-in-Insert.row in
-    let g : map.get c.args.self.now k ≡ None = ap (λ t. map.get t k) (sym c.self.view_is) ∙ get_tables_of _ k ∙ sym c.in-None.ensures.value in
-    misfit_none c.args.self.now c.args.effect.now (fits row) g (inserted c.args.effect.now.change c.in-Insert.row row c.in-Insert.is c.in_ok-row-in-Insert.ensures)
+    let row = c.alter.new.row in
+    let g : map.get c.args.self.now k ≡ Some c.in-Some.row.now = ap (λ t. map.get t k) (sym c.self.view_is) ∙ get_tables_of _ k ∙ sym c.in-Some.ensures.value in
+    record {
+      tables = tables_of_update _ _ k row ((c.get_mut.follows.holds row).3 (search rules)).0 ∙ ap (λ (t : Tables). map.insert t k row) c.self.view_is
+          ∙ after_alter c.args.self.now c.args.effect.now c.in-Some.row.now row g c.alter.ensures.row;
+      misfit = misfit_alter c.args.self.now c.args.effect.now c.in-Some.row.now c.alter.result g c.alter.ensures.misfit;
+      err = tt;
+    }
