@@ -46,20 +46,22 @@ abbrev pub sold_of : Id → Shadow → ℕ
 sold_of i (Buy p) = cond (same_id i p.item) p.quantity 0
 sold_of i s = 0
 
--- it is a bid on the item, of this amount
+-- it is a bid on the item
 abbrev pub bids_on : Id → Shadow → Bool
 bids_on i (Bid b) = same_id i b.item
 bids_on i s = false
 
+-- the amount of a bid
 abbrev pub amount_of : Shadow → ℕ
 amount_of (Bid b) = b.amount
 amount_of s = 0
 
--- it is a close of the item, with this winner
+-- it is a close of the item
 abbrev pub closes : Id → Shadow → Bool
 closes i (Close c) = same_id i c.item
 closes i s = false
 
+-- the winner that a close names
 abbrev pub winner_of : Shadow → Option Id
 winner_of (Close c) = c.winner
 winner_of s = None
@@ -153,7 +155,7 @@ abbrev pub is_nick : List ℕ → Option (List ℕ) → Bool
 is_nick n None = false
 is_nick n (Some k) = bytes_eq n k
 
--- the user that has the nickname
+-- the user that has the nickname; of several, the one with the smallest red number
 abbrev pub named : List ℕ → List Core → Option Core
 named n a = choose earlier (λ m. is_nick n (nick_at m.id a)) a
 

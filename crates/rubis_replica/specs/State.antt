@@ -27,14 +27,15 @@ tables_after t es = fold after t es
 abbrev pub left_of : List Message → ℕ → ℕ → List Effect
 left_of log messages parts = drop parts (effects_of (cores (drop messages log)))
 
--- a site: which one, its state, how many released messages and how many parts aren't applied yet, and whether some but
--- not all of a batch stands in its tables
+-- a site: which one, its state, how many released messages and how many parts aren't applied yet, whether some but
+-- not all of a batch stands in its tables, and how many messages a batch has
 pub record SiteState : Type 0 where
   pub place : Place
   pub state : Replica
   pub pending : ℕ
   pub left : ℕ
   pub behind : Bool
+  pub batch : ℕ
 
 -- the call answers as the step says; where it doesn't, the site's state is as it was
 abbrev pub Answers : {A : Type 0} → SiteState → SiteState → Replica × Result A Refusal → Result A Fault → Type 0

@@ -46,6 +46,7 @@ impl Model for Site {
       pending = length s.intake.state.log - s.applied.messages;
       left = length (left_of s.intake.state.log s.applied.messages s.applied.parts);
       behind = s.behind;
+      batch = s.batch;
     } };
 
     ghost invariant = { λ s. Follows s.intake.place.sites s.intake.state.log s.tables s.applied.messages s.applied.parts };
@@ -54,7 +55,7 @@ impl Model for Site {
 impl Site {
     /// A site with nothing done, set up so.
     pub fn new(alloc: Global, config: &Config) -> Result<Site, AllocError>
-        ensures { IfOk result (λ site. (site.place ≡ place_of config.now) × (site.state ≡ opening_at config.now.site) × (site.pending ≡ 0) × (site.behind ≡ false)) }
+        ensures { IfOk result (λ site. (site.place ≡ place_of config.now) × (site.state ≡ opening_at config.now.site) × (site.pending ≡ 0) × (site.behind ≡ false) × (site.batch ≡ config.now.batch)) }
     {
         let intake = Intake::new(alloc, config.site(), config.sites(), config.keep())?;
         let tables = PlainTables::new(alloc)?;
@@ -75,6 +76,7 @@ impl Site {
     pub fn request(&mut self, ask: Ask) -> Result<Message, Fault>
         requires { IsAsk self.old.place.sites ask }
         ensures place { self.new.place ≡ self.old.place }
+        ensures batch { self.new.batch ≡ self.old.batch }
         ensures waits { WaitsBehind self.old self.new result }
         ensures step { Answers self.old self.new (asked self.old.place self.old.state ask) result }
     {
@@ -101,6 +103,7 @@ impl Site {
     pub fn arrive(&mut self, message: Message) -> Result<Arrival, Fault>
         requires { sites_of message ≡ self.old.place.sites }
         ensures place { self.new.place ≡ self.old.place }
+        ensures batch { self.new.batch ≡ self.old.batch }
         ensures waits { WaitsBehind self.old self.new result }
         ensures step { Answers self.old self.new (arrived self.old.place self.old.state message) result }
     {
@@ -119,6 +122,7 @@ impl Site {
     /// Takes a token that arrived.
     pub fn token(&mut self, token: Token) -> Result<Taken, Fault>
         ensures place { self.new.place ≡ self.old.place }
+        ensures batch { self.new.batch ≡ self.old.batch }
         ensures waits { WaitsBehind self.old self.new result }
         ensures step { Answers self.old self.new (took self.old.place self.old.state token) result }
     {
@@ -134,6 +138,7 @@ impl Site {
     // Applies what is pending where that is a batch.
     fn apply_batch(&mut self)
         ensures place { self.new.place ≡ self.old.place }
+        ensures batch { self.new.batch ≡ self.old.batch }
         ensures state { self.new.state ≡ self.old.state }
     {
         let pending = self.intake.log().len() - self.applied.messages;
@@ -150,6 +155,7 @@ impl Site {
     /// Hands the token on to a site.
     pub fn pass(&mut self, to: u8) -> Result<Token, Fault>
         ensures place { self.new.place ≡ self.old.place }
+        ensures batch { self.new.batch ≡ self.old.batch }
         ensures waits { WaitsBehind self.old self.new result }
         ensures step { Answers self.old self.new (passed self.old.place self.old.state to) result }
     {
@@ -165,6 +171,7 @@ impl Site {
     /// The rows of a listing. So far only users are listed; any other listing is refused as no record of the grammar.
     pub fn list(&mut self, listing: &Listing) -> Result<Items<Fields>, Fault>
         ensures place { self.new.place ≡ self.old.place }
+        ensures batch { self.new.batch ≡ self.old.batch }
         ensures waits { listing.now ≡ Listing.Users → WaitsBehind self.old self.new result }
         ensures step { Answers self.old self.new (listed self.old.state listing.now) result }
     {
@@ -188,6 +195,7 @@ impl Site {
     /// memory, all stays as it was; where some could, the site is behind.
     pub fn cut(&mut self) -> Result<u32, Fault>
         ensures place { self.new.place ≡ self.old.place }
+        ensures batch { self.new.batch ≡ self.old.batch }
         ensures state { self.new.state ≡ self.old.state }
         ensures waits { WaitsBehind self.old self.new result }
         ensures ok { IfOk result (λ count. (count ≡ self.old.pending) × IsUpToDate self.new) }
@@ -207,6 +215,7 @@ impl Site {
     /// behind. Where memory runs out again, the site stays behind, and what was applied is not applied again.
     pub fn catch_up(&mut self) -> Result<u32, Fault>
         ensures place { self.new.place ≡ self.old.place }
+        ensures batch { self.new.batch ≡ self.old.batch }
         ensures state { self.new.state ≡ self.old.state }
         ensures ready { self.old.behind ≡ false → (result ≡ Ok 0) × (self.new ≡ self.old) }
         ensures ok { IfOk result (λ parts. self.old.behind ≡ true → (parts ≡ self.old.left) × IsUpToDate self.new) }

@@ -66,7 +66,7 @@ InLimits sites (shadow.Buy p) = IsPurchase sites p
 InLimits sites (shadow.Close c) = IsId sites c.item × (c.cat < 1000) × IfSome c.winner (IsId sites)
 InLimits sites (shadow.Comment c) = IsComment sites c
 
--- what is known of every row: an item is in a category, and its best bid is a bid's id
+-- what is known of every row: an item is in a category, and the id of its best bid is within the limits
 abbrev pub RowInLimits : ℕ → Row → Type 0
 RowInLimits sites (row.Item i) = (i.cat < 1000) × IfSome i.best (λ b. IsId sites b.bid)
 RowInLimits sites r = ⊤
