@@ -1,5 +1,5 @@
 -- A site's state, and what its calls answer.
-use Rattle.std.specs.Prelude.{◌≡◌, ℕ, Bool, true, false, List, drop, fold, Result, Ok, Err}
+use Rattle.std.specs.Prelude.{◌≡◌, ◌-◌, ◌<◌, ◌≤◌, ◌⊎◌, ℕ, Bool, true, false, List, length, drop, fold, Result, Ok, Err}
 use Rattle.std.specs.List.{flat_map}
 use Rattle.rubis_schema.specs.Tables.{Tables}
 use Rattle.rubis_schema.specs.declared.listings.Listing.{Listing}
@@ -27,15 +27,25 @@ tables_after t es = fold after t es
 abbrev pub left_of : List Message → ℕ → ℕ → List Effect
 left_of log messages parts = drop parts (effects_of (cores (drop messages log)))
 
--- a site: which one, its state, how many released messages and how many parts aren't applied yet, whether some but
--- not all of a batch stands in its tables, and how many messages a batch has
+-- a site: which one, its state, how many released messages its tables have, how many parts of the others they don't have
+-- yet, whether some but not all of a batch stands in them, and how many messages a batch has
 pub record SiteState : Type 0 where
   pub place : Place
   pub state : Replica
-  pub pending : ℕ
+  pub applied : ℕ
   pub left : ℕ
   pub behind : Bool
   pub batch : ℕ
+
+-- how many released messages aren't applied yet
+abbrev pub pending : SiteState → ℕ
+pending s = length s.state.log - s.applied
+
+-- where so many were applied before: all else waits where it is less than a batch, and is applied where it isn't, if there
+-- is memory for it
+abbrev pub IsBatched : ℕ → SiteState → Type 0
+IsBatched before s = (length s.state.log - before < s.batch → s.applied ≡ before)
+    × (s.batch ≤ length s.state.log - before → (s.applied ≡ length s.state.log) ⊎ (s.applied ≡ before) ⊎ (s.behind ≡ true))
 
 -- the call answers as the step says; where it doesn't, the site's state is as it was
 abbrev pub Answers : {A : Type 0} → SiteState → SiteState → Replica × Result A Refusal → Result A Fault → Type 0
@@ -50,7 +60,7 @@ WaitsBehind old new result = old.behind ≡ true → (result ≡ Err Behind) × 
 
 -- nothing is pending
 pub record IsUpToDate (s : SiteState) : Type 0 where
-  pub pending : s.pending ≡ 0
+  pub pending : pending s ≡ 0
   pub left : s.left ≡ 0
   pub behind : s.behind ≡ false
 

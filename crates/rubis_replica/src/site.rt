@@ -1,10 +1,10 @@
-ghost use Rattle.std.specs.Prelude.{◌≡◌, ◌≤◌, false, true, IfOk, IfErr, Ok};
+ghost use Rattle.std.specs.Prelude.{◌≡◌, ◌≤◌, false, true, IfOk, IfErr, Ok, OnOk, length};
 ghost use Rattle.rubis_schema.specs.declared.listings.Listing.TheVariants as Listing;
 ghost use Rattle.rubis_shadow.specs.Limits.{IsAsk};
 ghost use Rattle.rubis_message.specs.Message.{sites_of};
 ghost use Rattle.rubis_model.specs.Site.{arrived, asked, opening_at, passed, took};
 ghost use Rattle.rubis_replica.specs.Setup.{place_of};
-ghost use Rattle.rubis_replica.specs.State.{Answers, IsCutFault, IsUpToDate, WaitsBehind, listed};
+ghost use Rattle.rubis_replica.specs.State.{Answers, IsBatched, IsCutFault, IsUpToDate, WaitsBehind, listed, pending};
 
 use crate::applying::{Progress, parts_left};
 use crate::config::Config;
@@ -34,7 +34,7 @@ pub struct Site {
 }
 
 impl Model for Site {
-    ghost use Rattle.std.specs.Prelude.{◌-◌, length};
+    ghost use Rattle.std.specs.Prelude.{length};
     ghost use Rattle.rubis_replica.specs.State.{SiteState, left_of};
     ghost use Rattle.rubis_replica.specs.Walk.{Follows};
 
@@ -43,7 +43,7 @@ impl Model for Site {
     ghost view = { λ s. record {
       place = s.intake.place;
       state = s.intake.state;
-      pending = length s.intake.state.log - s.applied.messages;
+      applied = s.applied.messages;
       left = length (left_of s.intake.state.log s.applied.messages s.applied.parts);
       behind = s.behind;
       batch = s.batch;
@@ -55,7 +55,7 @@ impl Model for Site {
 impl Site {
     /// A site with nothing done, set up so.
     pub fn new(alloc: Global, config: &Config) -> Result<Site, AllocError>
-        ensures { IfOk result (λ site. (site.place ≡ place_of config.now) × (site.state ≡ opening_at config.now.site) × (site.pending ≡ 0) × (site.behind ≡ false) × (site.batch ≡ config.now.batch)) }
+        ensures { IfOk result (λ site. (site.place ≡ place_of config.now) × (site.state ≡ opening_at config.now.site) × (site.applied ≡ 0) × (site.behind ≡ false) × (site.batch ≡ config.now.batch)) }
     {
         let intake = Intake::new(alloc, config.site(), config.sites(), config.keep())?;
         let tables = PlainTables::new(alloc)?;
@@ -79,6 +79,7 @@ impl Site {
         ensures batch { self.new.batch ≡ self.old.batch }
         ensures waits { WaitsBehind self.old self.new result }
         ensures step { Answers self.old self.new (asked self.old.place self.old.state ask) result }
+        ensures batched { OnOk result (IsBatched (length self.old.state.log) self.new) }
     {
         refresh(
             &self.intake,
@@ -106,6 +107,7 @@ impl Site {
         ensures batch { self.new.batch ≡ self.old.batch }
         ensures waits { WaitsBehind self.old self.new result }
         ensures step { Answers self.old self.new (arrived self.old.place self.old.state message) result }
+        ensures batched { OnOk result (IsBatched self.old.applied self.new) }
     {
         if self.behind {
             return Err(Fault::Behind);
@@ -124,6 +126,7 @@ impl Site {
         ensures place { self.new.place ≡ self.old.place }
         ensures batch { self.new.batch ≡ self.old.batch }
         ensures waits { WaitsBehind self.old self.new result }
+        ensures applied { self.new.applied ≡ self.old.applied }
         ensures step { Answers self.old self.new (took self.old.place self.old.state token) result }
     {
         if self.behind {
@@ -140,6 +143,7 @@ impl Site {
         ensures place { self.new.place ≡ self.old.place }
         ensures batch { self.new.batch ≡ self.old.batch }
         ensures state { self.new.state ≡ self.old.state }
+        ensures batched { IsBatched self.old.applied self.new }
     {
         let pending = self.intake.log().len() - self.applied.messages;
         if pending >= self.batch as usize {
@@ -157,6 +161,7 @@ impl Site {
         ensures place { self.new.place ≡ self.old.place }
         ensures batch { self.new.batch ≡ self.old.batch }
         ensures waits { WaitsBehind self.old self.new result }
+        ensures applied { self.new.applied ≡ self.old.applied }
         ensures step { Answers self.old self.new (passed self.old.place self.old.state to) result }
     {
         if self.behind {
@@ -174,6 +179,7 @@ impl Site {
         ensures batch { self.new.batch ≡ self.old.batch }
         ensures waits { listing.now ≡ Listing.Users → WaitsBehind self.old self.new result }
         ensures step { Answers self.old self.new (listed self.old.state listing.now) result }
+        ensures applied { OnOk result (self.new.applied ≡ length self.old.state.log) }
     {
         match listing {
             Listing::Users => {}
@@ -198,7 +204,7 @@ impl Site {
         ensures batch { self.new.batch ≡ self.old.batch }
         ensures state { self.new.state ≡ self.old.state }
         ensures waits { WaitsBehind self.old self.new result }
-        ensures ok { IfOk result (λ count. (count ≡ self.old.pending) × IsUpToDate self.new) }
+        ensures ok { IfOk result (λ count. (count ≡ pending self.old) × IsUpToDate self.new) }
         ensures fault { IfErr result (IsCutFault self.old self.new) }
     {
         let pending = self.intake.log().len() - self.applied.messages;
