@@ -3,3 +3,4 @@ pub mod Rows
 pub mod Categories
 pub mod InLimits
 pub mod Entries
+pub mod Examples
