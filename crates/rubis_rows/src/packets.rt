@@ -6,7 +6,7 @@ use crate::records::{message, token};
 use rubis_message::{Arrival, Taken};
 use rubis_replica::{Config, Fault, Site};
 use rubis_schema::Refusal;
-use std::alloc::Global;
+use std::alloc::{AllocError, Global};
 use std::test::Fail;
 
 const ANN: &str = "msg,1,0,1,1,0:0,user,ann";
@@ -90,5 +90,54 @@ fn the_last_turn_is_not_handed_on(rt: HostRuntime) -> Result<(), Fail> {
     let other = token(rt.alloc(), "token,1,1,0,0", 2)?;
     let refused = site.token(other).err();
     assert_eq!(rt; refused, Some(Fault::Refused(Refusal::NotForMe)));
+    Ok(())
+}
+
+const JUG: &str = "msg,1,1,2,0,1:1:0,item,0.1,jug,7,1,100,0";
+
+const POT: &str = "msg,1,1,1,0,1:0:0,item,0.1,pot,7,1,100,0";
+
+const SECOND: &str = "msg,1,0,2,0,1:0:0,item,0.1,cup,7,1,100,0";
+
+// Site 2 of 3.
+fn third_of_three(alloc: Global) -> Result<Site, Fail>
+    ensures { IfOk result (λ site. site.place.sites ≡ 3) }
+{
+    let config = Config::new(2, 3, 4, 2, 64, 1_000_000).ok_or("a configuration")?;
+    Ok(Site::new(alloc, &config)?)
+}
+
+// Takes in, at a site of three, the message that is written so.
+fn arrive_of_three(site: &mut Site, alloc: Global, text: &str) -> Result<Arrival, Fail>
+    requires { site.old.place.sites ≡ 3 }
+    ensures { site.new.place ≡ site.old.place }
+{
+    let message = message(alloc, text, 3)?;
+    Ok(site.arrive(message)?)
+}
+
+// The ids of a site's log.
+fn ids_of(alloc: Global, site: &Site) -> Result<Vec<(u8, u32)>, AllocError> {
+    let mut ids = Vec::new(alloc);
+    for message in site.history() {
+        let id = message.stamp().id;
+        ids.push((id.site, id.seq))?;
+    }
+    Ok(ids)
+}
+
+#[test]
+fn the_earliest_that_is_ready_is_released(rt: HostRuntime) -> Result<(), Fail> {
+    let mut site = third_of_three(rt.alloc())?;
+    assert_eq!(rt; arrive_of_three(&mut site, rt.alloc(), JUG)?, Arrival::Held);
+    assert_eq!(rt; arrive_of_three(&mut site, rt.alloc(), POT)?, Arrival::Held);
+    assert_eq!(rt;
+        arrive_of_three(&mut site, rt.alloc(), SECOND)?,
+        Arrival::Held
+    );
+    let last = arrive_of_three(&mut site, rt.alloc(), "msg,1,0,1,1,0:0:0,user,ann")?;
+    assert_eq!(rt; last, Arrival::Released(4));
+    let ids = ids_of(rt.alloc(), &site)?;
+    assert!(rt; ids.as_slice() == [(0, 1), (1, 1), (1, 2), (0, 2)].as_slice());
     Ok(())
 }
