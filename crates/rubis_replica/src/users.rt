@@ -3,7 +3,7 @@
 ghost use Rattle.std.specs.Prelude.{◌≡◌, IfOk};
 ghost use Rattle.rubis_model.specs.Answers.{user_fields, users_of};
 
-use rubis_schema::{Fields, Id, Items, Row, RowKey, UserRow, push_int, push_number};
+use rubis_schema::{Fields, Id, Items, Row, RowKey, Table, UserRow, push_int, push_number};
 use rubis_shadow::PlainTables;
 use std::alloc::{AllocError, Global};
 
@@ -28,7 +28,7 @@ pub fn users(alloc: Global, tables: &PlainTables) -> Result<Items<Fields>, Alloc
     ensures { IfOk result (λ rows. rows ≡ users_of tables.now) }
 {
     let mut rows = Items::new(alloc);
-    for (key, row) in tables.iter() {
+    for (key, row) in tables.rows(alloc, Table::Users)? {
         if let (RowKey::User(id), Row::User(user)) = (key, row) {
             rows.push(user_record(alloc, id, user)?)?;
         }

@@ -1,7 +1,7 @@
 // Plain tables, and decisions over them.
 
 use rubis_generate::{Standing, decide};
-use rubis_schema::{Id, Name, Nick, Refusal, Row, RowKey, View};
+use rubis_schema::{Id, Name, Nick, Refusal, Row, RowKey, Table, View};
 use rubis_shadow::{Ask, MisfitKind, NewBid, NewClose, NewItem, PlainTables, Shadow};
 use std::alloc::Global;
 use std::process::Abort;
@@ -64,9 +64,22 @@ fn a_nickname_stays_with_the_first(rt: HostRuntime) -> Result<(), Fail> {
 #[test]
 fn tables_have_a_thousand_categories(rt: HostRuntime) -> Result<(), Fail> {
     let tables = PlainTables::new(rt.alloc())?;
-    assert_eq!(rt; tables.iter().count(), 1000);
+    assert_eq!(rt; tables.rows(rt.alloc(), Table::Cats)?.len(), 1000);
     assert!(rt; tables.row(&RowKey::Cat(999)).is_some());
     assert!(rt; tables.row(&RowKey::Cat(1000)).is_none());
+    Ok(())
+}
+
+#[test]
+fn rows_are_listed_in_key_order(rt: HostRuntime) -> Result<(), Fail> {
+    let mut tables = PlainTables::new(rt.alloc())?;
+    apply_whole(&rt, &mut tables, BOB, 1, &user(b"bob")?)?;
+    apply_whole(&rt, &mut tables, ANN, 2, &user(b"ann")?)?;
+    let rows = tables.rows(rt.alloc(), Table::Users)?;
+    assert_eq!(rt; rows.len(), 2);
+    let mut keys = rows.iter().map(|entry| *entry.0);
+    assert!(rt; keys.next() == Some(RowKey::User(ANN)));
+    assert!(rt; keys.next() == Some(RowKey::User(BOB)));
     Ok(())
 }
 

@@ -86,7 +86,7 @@ cat_of : RowKey → ℕ
 cat_of (Cat k) = k
 cat_of k = 0
 
-Decides-key_eq : (k l : RowKey) → Decides (key_eq k l) (k ≡ l)
+pub Decides-key_eq : (k l : RowKey) → Decides (key_eq k l) (k ≡ l)
 unfolding id_of nick_of cat_of
 Decides-key_eq (User i) (User j) = of_ids User id_of (λ _. refl) i j
 Decides-key_eq (Item i) (Item j) = of_ids Item id_of (λ _. refl) i j

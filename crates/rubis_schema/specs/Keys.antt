@@ -1,11 +1,14 @@
--- The order of row keys, and the home shard of a key.
-use Rattle.std.specs.Prelude.{ℕ, ◌+◌, ◌*◌, ◌%◌, List, [], ◌∷◌, sum, Bool, false, ◌&&◌, nat_eq, bytes_eq}
+-- The order of row keys, the table and the home shard of a key, and what it is hashed by.
+use Rattle.std.specs.Prelude.{ℕ, ◌+◌, ◌*◌, ◌%◌, List, [], ◌∷◌, ◌++◌, sum, Bool, true, false, ◌&&◌, nat_eq, bytes_eq}
 use Rattle.std.specs.Ordering.{on, eq_by_cmp, nat_cmp}
 use Rattle.std.specs.declared.cmp.Ordering.{Ordering}
 use Rattle.std.specs.Cmp.Lexicographic.{slice_cmp}
+use Rattle.std.specs.Hash as fed
 use Rattle.rubis_schema.specs.declared.ids.Id.{Id}
 use Rattle.rubis_schema.specs.declared.row_keys.RowKey.{RowKey}
 use Rattle.rubis_schema.specs.declared.row_keys.RowKey.TheVariants.{User, Item, Bid, Purchase, Comment, Nick, Cat}
+use Rattle.rubis_schema.specs.declared.row_keys.Table.{Table}
+use Rattle.rubis_schema.specs.declared.row_keys.Table.TheVariants.{Users, Items, Bids, Purchases, Comments, Nicks, Cats}
 
 -- a key as a list of numbers: that of its table, and then its id, its nickname or its category
 abbrev pub key_code : RowKey → List ℕ
@@ -45,6 +48,17 @@ table_of (Comment i) = 4
 table_of (Nick n) = 5
 table_of (Cat k) = 6
 
+-- a table has the keys of its kind
+abbrev pub holds : Table → RowKey → Bool
+holds Users (User i) = true
+holds Items (Item i) = true
+holds Bids (Bid i) = true
+holds Purchases (Purchase i) = true
+holds Comments (Comment i) = true
+holds Nicks (Nick n) = true
+holds Cats (Cat k) = true
+holds t k = false
+
 abbrev pub same_id : Id → Id → Bool
 same_id i j = nat_eq i.site j.site && nat_eq i.seq j.seq
 
@@ -58,3 +72,17 @@ key_eq (Comment i) (Comment j) = same_id i j
 key_eq (Nick m) (Nick n) = bytes_eq m n
 key_eq (Cat k) (Cat l) = nat_eq k l
 key_eq k l = false
+
+-- an id in a table, as it is hashed
+abbrev pub id_writes : ℕ → Id → fed.HashWrites
+id_writes table i = fed.u8 table ++ fed.u8 i.site ++ fed.u32 i.seq
+
+-- what a key is hashed by: the number of its table, and then its id, its nickname or its category
+abbrev pub key_writes : RowKey → fed.HashWrites
+key_writes (User i) = id_writes 0 i
+key_writes (Item i) = id_writes 1 i
+key_writes (Bid i) = id_writes 2 i
+key_writes (Purchase i) = id_writes 3 i
+key_writes (Comment i) = id_writes 4 i
+key_writes (Nick n) = fed.u8 5 ++ n ∷ []
+key_writes (Cat k) = fed.u8 6 ++ fed.u16 k

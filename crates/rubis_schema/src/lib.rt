@@ -23,7 +23,7 @@ pub use lists::Items;
 pub use nicks::{NICK_MAX, Nick};
 pub use numbers::{RATING_MAX, push_int, push_number, read_number, read_rating};
 pub use refusals::Refusal;
-pub use row_keys::{RowKey, key_cmp};
+pub use row_keys::{RowKey, Table, key_cmp};
 pub use rows::{Best, BidRow, CatRow, CommentRow, ItemRow, PurchaseRow, Row, Sale, UserRow};
 pub use short_texts::{SHORT_TEXT_MAX, ShortText};
 pub use splits::split_once;

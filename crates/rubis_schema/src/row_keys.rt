@@ -1,9 +1,10 @@
 ghost use Rattle.std.specs.Prelude.{◌≡◌, ◌<◌};
-ghost use Rattle.rubis_schema.specs.Keys.{home, key_eq, key_order, table_of};
+ghost use Rattle.rubis_schema.specs.Keys.{holds, home, key_eq, key_order, table_of};
 
 use crate::ids::Id;
 use crate::nicks::Nick;
 use std::cmp::Ordering;
+use std::hash::{Hash, Hasher};
 
 /// The key of a row: its table, and the id, nickname or category that it has there. Keys are ordered by table, then
 /// by site and number, by the nickname's bytes, or by the category.
@@ -16,6 +17,36 @@ pub enum RowKey {
     Comment(Id),
     Nick(Nick),
     Cat(u16),
+}
+
+/// One of the seven tables.
+#[derive(Clone, Copy, PartialEq, Eq, Debug)]
+pub enum Table {
+    Users,
+    Items,
+    Bids,
+    Purchases,
+    Comments,
+    Nicks,
+    Cats,
+}
+
+impl Table {
+    /// Whether the key is one of this table's.
+    pub fn holds(self, key: &RowKey) -> bool
+        ensures { result ≡ holds self key.now }
+    {
+        match (self, key) {
+            (Table::Users, RowKey::User(_)) => true,
+            (Table::Items, RowKey::Item(_)) => true,
+            (Table::Bids, RowKey::Bid(_)) => true,
+            (Table::Purchases, RowKey::Purchase(_)) => true,
+            (Table::Comments, RowKey::Comment(_)) => true,
+            (Table::Nicks, RowKey::Nick(_)) => true,
+            (Table::Cats, RowKey::Cat(_)) => true,
+            _ => false,
+        }
+    }
 }
 
 /// The order of two keys.
@@ -83,6 +114,32 @@ impl Eq for RowKey {
     ghost use Rattle.rubis_schema.specs.KeyLaws.{key_eq_equiv};
 
     ghost laws = { key_eq_equiv };
+}
+
+impl Hash for RowKey {
+    ghost use Rattle.std.specs.Hash.{same_Alike};
+    ghost use Rattle.rubis_schema.specs.Keys.{key_writes};
+    ghost use Rattle.rubis_schema.specs.KeyLaws.{Decides-key_eq};
+
+    ghost hash_input = { key_writes };
+
+    ghost respects_eq = { (same_Alike key_writes Decides-key_eq).fed };
+
+    fn hash<H: Hasher>(&self, state: &mut H) {
+        state.write_u8(table_number(self));
+        match self {
+            RowKey::User(id)
+            | RowKey::Item(id)
+            | RowKey::Bid(id)
+            | RowKey::Purchase(id)
+            | RowKey::Comment(id) => {
+                state.write_u8(id.site);
+                state.write_u32(id.seq);
+            }
+            RowKey::Nick(nick) => state.write(nick.as_bytes()),
+            RowKey::Cat(cat) => state.write_u16(*cat),
+        }
+    }
 }
 
 impl PartialOrd for RowKey {

@@ -1,5 +1,5 @@
 -- The categories before any message, from the last to the first.
-use Rattle.std.proofs.Common.{◌≡◌, ℕ, ◌+◌, ◌-◌, ◌<◌, ◌≤◌, suc, ◌∷◌, refl, ap, ◌∙◌, arith, subst₂, sym}
+use Rattle.std.proofs.Common.{◌≡◌, ℕ, ◌+◌, ◌-◌, ◌<◌, ◌≤◌, suc, ◌∷◌, refl, ap, ◌∙◌, arith}
 use Rattle.rubis_schema.specs.declared.row_keys.RowKey.TheVariants as key
 use Rattle.rubis_shadow.specs.Tables.{categories_from, new_category}
 

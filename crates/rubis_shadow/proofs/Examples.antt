@@ -1,11 +1,10 @@
 -- Worked examples, computed on the definitions.
-use Rattle.std.proofs.Common.{ℕ, ◌≡◌, ◌^◌, ◌-◌, List, [], ◌∷◌, refl, Option, Some, None}
-use Rattle.std.specs.Prelude.{ℤ, pos, negsuc, map, codes}
+use Rattle.std.proofs.Common.{ℕ, ◌≡◌, ◌^◌, ◌-◌, [], ◌∷◌, refl, Some, None}
+use Rattle.std.specs.Prelude.{pos, negsuc, map, codes}
 use Rattle.rubis_schema.specs.declared.ids.Id.{Id}
 use Rattle.rubis_schema.specs.declared.row_keys.RowKey.TheVariants as key
 use Rattle.rubis_schema.specs.declared.rows.Best.{Best}
 use Rattle.rubis_schema.specs.declared.rows.ItemRow.{ItemRow}
-use Rattle.rubis_schema.specs.declared.rows.Row.{Row}
 use Rattle.rubis_schema.specs.declared.rows.Row.TheVariants as row
 use Rattle.rubis_schema.specs.declared.rows.Sale.TheVariants.{Open, Ended}
 use Rattle.rubis_schema.specs.declared.rows.UserRow.{UserRow}

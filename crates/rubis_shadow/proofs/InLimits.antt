@@ -1,6 +1,6 @@
 -- Parts of shadows within the limits keep the tables within the limits.
-use Rattle.std.proofs.Common.{◌≡◌, ℕ, zero, suc, ◌+◌, ◌<◌, Bool, true, false, cond, refl, sym, ap, subst, ◌∙◌, List, [], ◌∷◌, arith}
-use Rattle.std.specs.Prelude.{Some, None, Option, IfSome, ⊤, nat_lt, nat_le, All}
+use Rattle.std.proofs.Common.{ℕ, zero, suc, ◌+◌, Bool, true, false, cond, sym, subst, List, [], ◌∷◌}
+use Rattle.std.specs.Prelude.{Some, None, Option, IfSome, ⊤, nat_lt, nat_le}
 use Rattle.std.specs.FinMap as map
 use Rattle.rubis_schema.specs.Ids.{IsId}
 use Rattle.rubis_schema.specs.Keys.{key_order, tied}
@@ -15,7 +15,7 @@ use Rattle.rubis_schema.specs.declared.rows.Best.{Best}
 use Rattle.rubis_schema.specs.declared.rows.Sale.{Sale}
 use Rattle.rubis_schema.specs.declared.rows.Sale.TheVariants.{Open, Ended}
 use Rattle.rubis_schema.specs.declared.rows.ItemRow.{ItemRow}
-use Rattle.rubis_shadow.specs.Changes.{Done, change_row, after, with_row, better, if_open, fits, misfits_as}
+use Rattle.rubis_shadow.specs.Changes.{Done, change_row, after, with_row, better, if_open, misfits_as}
 use Rattle.rubis_shadow.specs.Limits.{RowInLimits, AllInLimits, InLimits}
 use Rattle.rubis_shadow.specs.Parts.{parts}
 use Rattle.rubis_shadow.specs.Tables.{categories_from, new_category, opening}

@@ -2,12 +2,11 @@
 use Rattle.std.proofs.Common.{◌≡◌, rules, refl, sym, ap, ◌∙◌, List, [], ◌∷◌, Bool, true, false, cond}
 use Rattle.std.specs.Prelude.{Some, None, Option, is_none}
 use Rattle.std.specs.Ordering.{eq_by_cmp}
-use Rattle.std.specs.Cmp.{eq_by_cmp_equiv, Equal-is}
-use Rattle.std.specs.BTreeMap.{is_at}
+use Rattle.std.specs.Cmp.{Equal-is}
 use Rattle.std.specs.Map.{lookup}
 use Rattle.std.specs.FinMap as map
-use Rattle.rubis_schema.specs.Keys.{key_order}
-use Rattle.rubis_schema.specs.KeyLaws.{key_total, key_antisymmetric}
+use Rattle.rubis_schema.specs.Keys.{key_eq, key_order, tied}
+use Rattle.rubis_schema.specs.KeyLaws.{key_total, key_antisymmetric, key_eq_equiv, tied-key_eq}
 use Rattle.rubis_schema.specs.Tables.{Tables}
 use Rattle.rubis_schema.specs.declared.row_keys.RowKey.{RowKey}
 use Rattle.rubis_schema.specs.declared.rows.Row.{Row}
@@ -22,19 +21,21 @@ use Rattle.rubis_shadow.specs.declared.changes.MisfitKind.{MisfitKind}
 abbrev pub tables_of : List (RowKey × Row) → Tables
 tables_of es = map.from_entries es
 
-lookup_find : (es : List (RowKey × Row)) (q : RowKey) → map.find key_order q es ≡ lookup (is_at (key_order q)) es
+pub lookup_find : (es : List (RowKey × Row)) (q : RowKey) → map.find key_order q es ≡ lookup (key_eq q) es
 lookup_find [] q = refl
-lookup_find (e ∷ es) q = ap (cond (is_at (key_order q) e.0) (Some e.1)) (lookup_find es q)
+lookup_find (e ∷ es) q =
+    ap (λ b. cond b (Some e.1) (map.find key_order q es)) (tied-key_eq q e.0)
+    ∙ ap (cond (key_eq q e.0) (Some e.1)) (lookup_find es q)
 
-pub get_tables_of : (es : List (RowKey × Row)) (q : RowKey) → map.get (tables_of es) q ≡ lookup (is_at (key_order q)) es
+pub get_tables_of : (es : List (RowKey × Row)) (q : RowKey) → map.get (tables_of es) q ≡ lookup (key_eq q) es
 get_tables_of es q = map.get-from_entries key_total es q ∙ lookup_find es q
 
 -- entries that have v at k, and at each other key what es has
-pub tables_of_update : (es fs : List (RowKey × Row)) (k : RowKey) (v : Row) → ((q : RowKey) → lookup (is_at (key_order q)) fs ≡ cond (is_at (key_order k) q) (Some v) (lookup (is_at (key_order q)) es)) → tables_of fs ≡ map.insert (tables_of es) k v
+pub tables_of_update : (es fs : List (RowKey × Row)) (k : RowKey) (v : Row) → ((q : RowKey) → lookup (key_eq q) fs ≡ cond (key_eq k q) (Some v) (lookup (key_eq q) es)) → tables_of fs ≡ map.insert (tables_of es) k v
 tables_of_update es fs k v h = map.same_map key_total key_antisymmetric _ _ (λ q.
     get_tables_of fs q ∙ h q
-    ∙ ap (λ b. cond b (Some v) (lookup (is_at (key_order q)) es)) ((eq_by_cmp_equiv key_total).symm k q)
-    ∙ ap (cond (eq_by_cmp key_order q k) (Some v)) (sym (get_tables_of es q))
+    ∙ ap (λ b. cond b (Some v) (lookup (key_eq q) es)) (key_eq_equiv.symm k q ∙ sym (tied-key_eq q k))
+    ∙ ap (cond (tied q k) (Some v)) (sym (get_tables_of es q))
     ∙ sym (map.get-insert key_total (tables_of es) k v q))
 
 -- a change in place of a row that is there

@@ -1,5 +1,5 @@
 -- The limits on the ids and numbers of asks and shadows, among so many sites.
-use Rattle.std.specs.Prelude.{ℕ, ◌<◌, ◌≤◌, ℤ, ⊤, IfSome, unsigned_abs}
+use Rattle.std.specs.Prelude.{ℕ, ◌<◌, ◌≤◌, ⊤, IfSome, unsigned_abs}
 use Rattle.std.specs.FinMap as map
 use Rattle.rubis_schema.specs.Ids.{IsId}
 use Rattle.rubis_schema.specs.Tables.{Tables}

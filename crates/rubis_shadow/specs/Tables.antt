@@ -1,9 +1,11 @@
 -- The tables before any message.
-use Rattle.std.specs.Prelude.{ℕ, ◌+◌, pos, List, [], ◌∷◌}
+use Rattle.std.specs.Prelude.{ℕ, ◌+◌, pos, List, [], ◌∷◌, filter}
 use Rattle.std.specs.FinMap as map
+use Rattle.rubis_schema.specs.Keys.{holds}
 use Rattle.rubis_schema.specs.Tables.{Tables}
 use Rattle.rubis_schema.specs.declared.row_keys.RowKey.{RowKey}
 use Rattle.rubis_schema.specs.declared.row_keys.RowKey.TheVariants as key
+use Rattle.rubis_schema.specs.declared.row_keys.Table.{Table}
 use Rattle.rubis_schema.specs.declared.rows.Row.{Row}
 use Rattle.rubis_schema.specs.declared.rows.Row.TheVariants as row
 
@@ -19,3 +21,7 @@ categories_from k (ℕ.suc n) = (key.Cat k, new_category) ∷ categories_from (k
 -- the tables before any message: the categories 0 to 999, without items
 unfoldable pub opening : Tables
 opening = map.from_entries (categories_from 0 1000)
+
+-- the rows of one table with their keys, in key order
+abbrev pub rows_of : Table → Tables → List (RowKey × Row)
+rows_of t tables = filter (λ e. holds t e.0) (map.entries tables)

@@ -1,15 +1,18 @@
-ghost use Rattle.std.specs.Prelude.{◌≡◌, IfOk, OnOk, OnErr, is_none};
+ghost use Rattle.std.specs.Prelude.{◌≡◌, IfOk, OnOk, OnErr, is_none, length, map as each};
 ghost use Rattle.std.specs.Bool.{MatchBool};
 ghost use Rattle.std.specs.FinMap as map;
+ghost use Rattle.std.specs.List.Sorted.{IsPermutation, IsSortedByKey};
+ghost use Rattle.std.specs.Map.Iter.{deref_pair};
 ghost use Rattle.rubis_schema.specs.Keys.{key_order};
-ghost use Rattle.rubis_shadow.specs.Tables.{opening};
+ghost use Rattle.rubis_shadow.specs.Tables.{opening, rows_of};
 ghost use Rattle.rubis_shadow.specs.Changes.{after, misfit_of};
 
 use crate::changes::{Change, Effect, MisfitKind};
-use rubis_schema::{CatRow, Row, RowKey, View};
+use indexmap::IndexMap;
+use indexmap::map::Entry;
+use rubis_schema::{CatRow, Row, RowKey, Table, View, key_cmp};
 use std::alloc::{AllocError, Global};
-use std::collections::btree_map::Entry;
-use std::collections::{BTreeMap, btree_map};
+use std::cmp::Ordering;
 use std::marker::Model;
 
 /// How many categories there are, from 0 on.
@@ -18,7 +21,7 @@ pub const CATEGORIES: u16 = 1000;
 /// The tables of a site in one map. Contracts see the finite map.
 #[derive(Drop)]
 pub struct PlainTables {
-    rows: BTreeMap<RowKey, Row>,
+    rows: IndexMap<RowKey, Row>,
 }
 
 impl Model for PlainTables {
@@ -35,7 +38,7 @@ impl Model for PlainTables {
 }
 
 // Puts the row at the key.
-fn put_row(rows: &mut BTreeMap<RowKey, Row>, key: RowKey, row: Row) -> Result<(), AllocError>
+fn put_row(rows: &mut IndexMap<RowKey, Row>, key: RowKey, row: Row) -> Result<(), AllocError>
     ensures ok { OnOk result (map.from_entries {R = key_order} rows.new.entries ≡ map.insert (map.from_entries rows.old.entries) key row) }
     ensures err { OnErr result (rows.new.entries ≡ rows.old.entries) }
 {
@@ -45,7 +48,7 @@ fn put_row(rows: &mut BTreeMap<RowKey, Row>, key: RowKey, row: Row) -> Result<()
 
 // Puts the row at the key where none is there, and says whether it did.
 #[tactic(auto, using(crate::proofs::Rows::tables_of_update))]
-fn put_new(rows: &mut BTreeMap<RowKey, Row>, key: RowKey, row: Row) -> Result<bool, AllocError>
+fn put_new(rows: &mut IndexMap<RowKey, Row>, key: RowKey, row: Row) -> Result<bool, AllocError>
     ensures free { IfOk result (λ put. put ≡ is_none (map.get (map.from_entries {R = key_order} rows.old.entries) key)) }
     ensures put { IfOk result (λ put. MatchBool put (map.from_entries {R = key_order} rows.new.entries ≡ map.insert (map.from_entries rows.old.entries) key row) (rows.new.entries ≡ rows.old.entries)) }
     ensures err { OnErr result (rows.new.entries ≡ rows.old.entries) }
@@ -59,12 +62,25 @@ fn put_new(rows: &mut BTreeMap<RowKey, Row>, key: RowKey, row: Row) -> Result<bo
     }
 }
 
+// Puts rows into key order.
+fn put_in_order<'a>(rows: &mut [(&'a RowKey, &'a Row)])
+    ensures permutation { IsPermutation (each deref_pair rows.old) (each deref_pair rows.new) }
+    ensures sorted { IsSortedByKey (λ e. e.0) key_order (each deref_pair rows.new) }
+    ensures len { length rows.new ≡ length rows.old }
+{
+    rows.sort_unstable_by(
+        |a: &(&RowKey, &Row), b: &(&RowKey, &Row)| -> Ordering
+            ensures { result ≡ key_order a.now.0.now b.now.0.now }
+        { key_cmp(a.0, b.0) },
+    );
+}
+
 impl PlainTables {
     /// The tables before any message: the categories, without items.
     pub fn new(alloc: Global) -> Result<PlainTables, AllocError>
         ensures { IfOk result (λ tables. tables ≡ opening) }
     {
-        let mut rows = BTreeMap::new(alloc);
+        let mut rows = IndexMap::new(alloc);
         for cat in (0..CATEGORIES).rev() {
             let row = Row::Cat(CatRow { items: 0, live: 0 });
             put_row(&mut rows, RowKey::Cat(cat), row)?;
@@ -72,11 +88,18 @@ impl PlainTables {
         Ok(PlainTables { rows })
     }
 
-    /// The rows with their keys, in key order.
-    pub fn iter(&self) -> btree_map::Iter<'_, RowKey, Row>
-        ensures { result ≡ map.entries self.now }
+    /// The rows of one table with their keys, in key order.
+    pub fn rows(&self, alloc: Global, table: Table) -> Result<Vec<(&RowKey, &Row)>, AllocError>
+        ensures { IfOk result (λ rows. each deref_pair rows.items ≡ rows_of table self.now) }
     {
-        self.rows.iter()
+        let mut rows = Vec::new(alloc);
+        for (key, row) in self.rows.iter() {
+            if table.holds(key) {
+                rows.push((key, row))?;
+            }
+        }
+        put_in_order(&mut rows);
+        Ok(rows)
     }
 
     /// Does one part: changes its row, or says why the part doesn't fit.

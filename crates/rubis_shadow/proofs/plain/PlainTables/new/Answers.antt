@@ -1,4 +1,4 @@
-use Rattle.std.proofs.Common.{◌≡◌, ◌-◌, ◌<◌, ◌≤◌, ◌∷◌, ap, sym, ◌∙◌, arith, rules}
+use Rattle.std.proofs.Common.{◌≡◌, ◌-◌, ◌<◌, ◌≤◌, ap, sym, ◌∙◌, arith}
 use Rattle.std.specs.FinMap as map
 use Rattle.rubis_schema.specs.Tables.{Tables}
 use Rattle.rubis_schema.specs.declared.row_keys.RowKey.TheVariants as key

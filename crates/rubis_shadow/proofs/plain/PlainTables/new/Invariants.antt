@@ -1,4 +1,4 @@
-use Rattle.std.proofs.Common.{◌≡◌, ◌-◌, ◌≤◌}
+use Rattle.std.proofs.Common.{◌≡◌, ◌-◌}
 use Rattle.std.specs.FinMap as map
 use Rattle.rubis_shadow.specs.Tables.{categories_from}
 use Rattle.rubis_shadow.proofs.Rows.{tables_of}
