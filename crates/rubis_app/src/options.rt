@@ -1,5 +1,11 @@
 //! The command line.
 
+ghost use Rattle.std.specs.Prelude.{◌≡◌, false, [], map, string_bytes, IfErr, IfOk};
+ghost use Rattle.std.specs.Option.{SomeIff};
+ghost use Rattle.clap.specs.Words.{app_of, fault_of, found_of, one_of, rows_of, rule_of};
+ghost use Rattle.rubis_replica.specs.Setup.{IsSetup};
+ghost use Rattle.rubis_app.specs.CommandLine.{AreOptionsIn, IsAsked, IsFaultAmong, IsNumberOf, command_line, number_option, setup_of, with_setup};
+
 use clap::builder::ValueParser;
 use clap::error::ErrorKind;
 use clap::{Arg, ArgMatches, Command, Error};
@@ -22,35 +28,47 @@ pub enum OptionFault {
 }
 
 impl From<Error> for OptionFault {
+    ghost use Rattle.std.specs.Prelude.{◌≡◌};
+    ghost use Rattle.clap.specs.Words.{kind_of};
+    ghost use Rattle.rubis_app.specs.CommandLine.{fault_by};
+
+    ghost from_gives = { λ error fault. fault ≡ fault_by (kind_of error) error };
+
     fn from(error: Error) -> OptionFault {
-        if error.kind() == ErrorKind::OutOfMemory {
-            OptionFault::Memory
-        } else {
-            OptionFault::Words(error)
+        match error.kind() {
+            ErrorKind::OutOfMemory => OptionFault::Memory,
+            _ => OptionFault::Words(error),
         }
     }
 }
 
 impl From<AllocError> for OptionFault {
+    ghost use Rattle.std.specs.Prelude.{◌≡◌};
+    ghost use Rattle.rubis_app.specs.declared.options.OptionFault.TheVariants.{Memory};
+
+    ghost from_gives = { λ error fault. fault ≡ Memory };
+
     fn from(_: AllocError) -> OptionFault {
         OptionFault::Memory
     }
 }
 
-/// The numbers of a site, each within its range.
+/// The numbers of a site.
 #[derive(Clone, Copy)]
 pub struct Options {
-    site: u8,
-    sites: u8,
-    shards: u8,
-    workers: u8,
-    batch: u32,
-    keep: u32,
+    pub site: u8,
+    pub sites: u8,
+    pub shards: u8,
+    pub workers: u8,
+    pub batch: u32,
+    pub keep: u32,
 }
 
 impl Options {
-    /// The site's configuration, if the site is below `sites`.
-    pub fn config(&self) -> Option<Config> {
+    /// The site's configuration, if each number is within its limits and the site is below `sites`.
+    pub fn config(&self) -> Option<Config>
+        ensures { SomeIff result (IsSetup (setup_of self.now)) (setup_of self.now) }
+    {
         Config::new(
             self.site,
             self.sites,
@@ -70,21 +88,24 @@ fn number<'a>(
     high: u64,
     default: &'a str,
     help: &'a str,
-) -> Result<Arg<'a>, AllocError> {
-    Ok(
-        Arg::new(alloc, name)
-            .long(name)
-            .value_name("n")
-            .value_parser(ValueParser::unsigned(low, high))
-            .default_value(default)
-            .help(help),
-    )
+) -> Arg<'a>
+    ensures rule { rule_of result ≡ number_option name.entry.now low high default.entry.now }
+    ensures local { result.global ≡ false }
+{
+    Arg::new(alloc, name)
+        .long(name)
+        .value_name("n")
+        .value_parser(ValueParser::unsigned(low, high))
+        .default_value(default)
+        .help(help)
 }
 
 // The options that say how sites are set up.
-fn with_setup<'a>(alloc: Global, command: Command<'a>) -> Result<Command<'a>, AllocError> {
+fn with_setup<'a>(alloc: Global, command: Command<'a>) -> Result<Command<'a>, AllocError>
+    ensures { IfOk result (λ made. app_of made ≡ with_setup (app_of command.entry)) }
+{
     command
-        .arg(number(alloc, "sites", 1, 8, "1", "How many sites there are")?)?
+        .arg(number(alloc, "sites", 1, 8, "1", "How many sites there are"))?
         .arg(number(
             alloc,
             "shards",
@@ -92,7 +113,7 @@ fn with_setup<'a>(alloc: Global, command: Command<'a>) -> Result<Command<'a>, Al
             64,
             "4",
             "How many shards the tables have",
-        )?)?
+        ))?
         .arg(number(
             alloc,
             "workers",
@@ -100,7 +121,7 @@ fn with_setup<'a>(alloc: Global, command: Command<'a>) -> Result<Command<'a>, Al
             16,
             "2",
             "How many workers apply shadows",
-        )?)?
+        ))?
         .arg(number(
             alloc,
             "batch",
@@ -108,7 +129,7 @@ fn with_setup<'a>(alloc: Global, command: Command<'a>) -> Result<Command<'a>, Al
             65_536,
             "64",
             "How many pending shadows make a batch",
-        )?)?
+        ))?
         .arg(number(
             alloc,
             "keep",
@@ -116,14 +137,16 @@ fn with_setup<'a>(alloc: Global, command: Command<'a>) -> Result<Command<'a>, Al
             1_000_000,
             "1000000",
             "How many messages a site keeps",
-        )?)
+        ))
 }
 
 // The program's command line.
-fn program<'a>(alloc: Global) -> Result<Command<'a>, AllocError> {
+fn program<'a>(alloc: Global) -> Result<Command<'a>, AllocError>
+    ensures { IfOk result (λ made. app_of made ≡ command_line) }
+{
     let site = Command::new(alloc, "site")
         .about("Runs one site: records on standard input, answers on standard output")
-        .arg(number(alloc, "site", 0, 7, "0", "Which site it is, from 0")?)?;
+        .arg(number(alloc, "site", 0, 7, "0", "Which site it is, from 0"))?;
     let site = with_setup(alloc, site)?;
     Command::new(alloc, "rubis")
         .bin_name("rubis")?
@@ -134,15 +157,21 @@ fn program<'a>(alloc: Global) -> Result<Command<'a>, AllocError> {
 }
 
 // A number that `clap` has read and found in its range.
-fn byte(matches: &ArgMatches<'_>, name: &str) -> u8 {
+fn byte(matches: &ArgMatches<'_>, name: &str) -> u8
+    ensures { IsNumberOf 8 (one_of name.now (rows_of (found_of matches.now))) result }
+{
     matches.get_one::<u8>(name).unwrap_or(0)
 }
 
-fn word(matches: &ArgMatches<'_>, name: &str) -> u32 {
+fn word(matches: &ArgMatches<'_>, name: &str) -> u32
+    ensures { IsNumberOf 32 (one_of name.now (rows_of (found_of matches.now))) result }
+{
     matches.get_one::<u32>(name).unwrap_or(0)
 }
 
-fn site_options(matches: &ArgMatches<'_>) -> Options {
+fn site_options(matches: &ArgMatches<'_>) -> Options
+    ensures { AreOptionsIn (rows_of (found_of matches.now)) result }
+{
     Options {
         site: byte(matches, "site"),
         sites: byte(matches, "sites"),
@@ -153,11 +182,16 @@ fn site_options(matches: &ArgMatches<'_>) -> Options {
     }
 }
 
-/// What the words of a command line ask for.
-pub fn read_options(alloc: Global, words: &[String]) -> Result<Run, OptionFault> {
+/// What the words of a command line, the program's name first, ask for. Where they are refused, it is for a reason that
+/// this command line has to refuse them, or for want of memory.
+pub fn read_options(alloc: Global, words: &[String]) -> Result<Run, OptionFault>
+    ensures ok { IfOk result (IsAsked (map string_bytes words.now)) }
+    ensures fits { IfOk result (λ run. fault_of command_line (map string_bytes words.now) ≡ []) }
+    ensures fault { IfErr result (IsFaultAmong (fault_of command_line (map string_bytes words.now))) }
+{
     let matches = program(alloc)?.try_get_matches_from(words)?;
     match matches.subcommand() {
         Some((_, inner)) => Ok(Run::Site(site_options(inner))),
-        None => Ok(Run::Site(site_options(&matches))),
+        None => unreachable!(),
     }
 }
