@@ -1,5 +1,5 @@
 -- What the words of the command line give.
-use Rattle.std.proofs.Common.{◌≡◌, ℕ, ◌<◌, ◌^◌, ◌⊎◌, inl, inr, Bool, true, false, not, ◌&&◌, rules, sym, subst, refl}
+use Rattle.std.proofs.Common.{◌≡◌, ℕ, ◌<◌, ◌^◌, ◌⊎◌, inl, inr, Bool, true, false, not, ◌&&◌, rules, sym, ap, subst, ◌∙◌, refl, [], ◌∷◌}
 use Rattle.std.specs.Prelude.{Option, Some, None, unwrap_or}
 use Rattle.std.specs.Str.Parse.{ExplainsUnsignedError, HasUnsignedDigitsIfOk, IsNumeral, ParsesUnsigned, digits_value, without_leading_plus}
 use Rattle.clap.specs.Words.{HasKind, IsAmong, Kinds, ReadsOne, Text, is_simple, is_simple_and_free, kind_of}
@@ -8,6 +8,7 @@ use Rattle.clap.specs.declared.error.kind.ErrorKind.{ErrorKind}
 use Rattle.clap.specs.declared.error.kind.ErrorKind.TheVariants.{OutOfMemory}
 use Rattle.clap.proofs.OnLiterals.{clap_on_literals}
 use Rattle.rubis_app.specs.CommandLine.{IsFaultAmong, command_line, fault_by}
+use Rattle.rubis_app.specs.Statuses.{IsStatusAmong, status_by}
 
 -- a number that was read of a text is the number that it writes
 pub number_read : (bits : ℕ) (t : Text) (r : Option ℕ) → ReadsOne (λ bs x. ParsesUnsigned bits 10 bs x × ExplainsUnsignedError 10 bs x × HasUnsignedDigitsIfOk bs x) t r → IsNumeral 10 (without_leading_plus t) → digits_value 10 (without_leading_plus t) < 2 ^ bits → unwrap_or r 0 ≡ digits_value 10 (without_leading_plus t)
@@ -34,3 +35,9 @@ by_kind kinds e k is (inr h) = subst (λ x. IsAmong x kinds) (sym is) h
 
 pub fault_among : (kinds : Kinds) (e : Error) → HasKind kinds e → IsFaultAmong kinds (fault_by (kind_of e) e)
 fault_among kinds e h = by_kind kinds e (kind_of e) refl h
+
+-- the status of one of the reasons
+pub status_among : (kinds : Kinds) (k : ErrorKind) (s : ℕ) → s ≡ status_by k → IsAmong k kinds → IsStatusAmong kinds s
+status_among [] k s e h = h
+status_among (x ∷ xs) k s e (inl is) = inl (e ∙ ap status_by is)
+status_among (x ∷ xs) k s e (inr h) = inr (status_among xs k s e h)

@@ -3,8 +3,16 @@
 
 mod options;
 
+ghost use Rattle.std.specs.Prelude.{◌≡◌, ◌⊎◌, cond, is_ok, map, string_bytes};
+ghost use Rattle.std.specs.Process.{exit_status};
+ghost use Rattle.clap.specs.Words.{kind_of};
+ghost use Rattle.rubis_replica.specs.Setup.{IsSetup};
+ghost use Rattle.rubis_app.specs.CommandLine.{setup_of};
+ghost use Rattle.rubis_app.specs.Statuses.{IsStatusOf, status_by};
+
 use crate::options::{OptionFault, Options, Run, read_options};
-use rubis_script::{RunFault, run_site};
+use clap::Error;
+use rubis_script::{Count, RunFault, run_site};
 use std::io::ErrorKind;
 use std::process::ExitCode;
 use std::{env, io};
@@ -16,26 +24,63 @@ const FAULT: u8 = 1;
 const MISUSE: u8 = 2;
 
 // Says why the run ended.
-fn fail<R: Eprint>(rt: &R, fault: RunFault) -> ExitCode {
+fn fail<R: Eprint>(rt: &R, fault: RunFault) -> ExitCode
+    ensures { exit_status result ≡ 1 }
+{
     let _ = eprintln!(rt; "run fault: {fault}");
     ExitCode::from(FAULT)
 }
 
 // Says what is wrong with the command line.
-fn misuse<R: Eprint>(rt: &R, text: &str) -> ExitCode {
+fn misuse<R: Eprint>(rt: &R, text: &str) -> ExitCode
+    ensures { exit_status result ≡ 2 }
+{
     let _ = eprintln!(rt; "fault: {text}");
     ExitCode::from(MISUSE)
 }
 
+// Says what `clap` says: the help or the version that was asked for, or what is wrong with the command line.
+fn tell<R: Print + Eprint>(rt: &R, error: &Error) -> ExitCode
+    ensures { exit_status result ≡ status_by (kind_of error.now) }
+{
+    let _ = error.print(rt);
+    if error.exit_code() == 0 {
+        ExitCode::SUCCESS
+    } else {
+        ExitCode::from(MISUSE)
+    }
+}
+
+// Says how a run ended, if a fault ended it.
+fn end<R: Eprint>(rt: &R, ended: Result<Count, RunFault>) -> ExitCode
+    ensures { exit_status result ≡ cond (is_ok ended) 0 1 }
+{
+    match ended {
+        Ok(_) => ExitCode::SUCCESS,
+        Err(fault) => fail(rt, fault),
+    }
+}
+
 // Runs a site over standard input and output.
-fn run<R: Print + Eprint + Input + AllocGlobal>(rt: &R, options: &Options) -> ExitCode {
+fn run<R: Print + Eprint + Input + AllocGlobal>(rt: &R, options: &Options) -> ExitCode
+    ensures misuse { ¬ IsSetup (setup_of options.now) → exit_status result ≡ 2 }
+    ensures runs { IsSetup (setup_of options.now) → (exit_status result ≡ 0) ⊎ (exit_status result ≡ 1) }
+{
     let Some(config) = options.config() else {
         return misuse(rt, "site must be below sites");
     };
     let mut writer = io::writer(rt);
-    match run_site(rt.alloc(), rt.reader(), &mut writer, &config) {
-        Ok(_) => ExitCode::SUCCESS,
-        Err(fault) => fail(rt, fault),
+    end(rt, run_site(rt.alloc(), rt.reader(), &mut writer, &config))
+}
+
+// Does what the words of the command line ask for.
+fn start<R: Print + Eprint + Input + AllocGlobal>(rt: &R, words: &[String]) -> ExitCode
+    ensures { IsStatusOf (map string_bytes words.now) (exit_status result) }
+{
+    match read_options(rt.alloc(), words) {
+        Ok(Run::Site(options)) => run(rt, &options),
+        Err(OptionFault::Memory) => fail(rt, RunFault::Memory),
+        Err(OptionFault::Words(error)) => tell(rt, &error),
     }
 }
 
@@ -50,19 +95,9 @@ fn main(rt: HostRuntime) -> ExitCode {
             };
         }
     };
-    let Ok(words): Result<Vec<String>, _> = args.collect(rt.alloc()) else {
-        return fail(&rt, RunFault::Memory);
-    };
-    match read_options(rt.alloc(), words.as_slice()) {
-        Ok(Run::Site(options)) => run(&rt, &options),
-        Err(OptionFault::Memory) => fail(&rt, RunFault::Memory),
-        Err(OptionFault::Words(error)) => {
-            let _ = error.print(&rt);
-            if error.exit_code() == 0 {
-                ExitCode::SUCCESS
-            } else {
-                ExitCode::from(MISUSE)
-            }
-        }
+    let words: Result<Vec<String>, _> = args.collect(rt.alloc());
+    match words {
+        Ok(words) => start(&rt, words.as_slice()),
+        Err(_) => fail(&rt, RunFault::Memory),
     }
 }

@@ -1,6 +1,6 @@
 //! The command line.
 
-ghost use Rattle.std.specs.Prelude.{◌≡◌, false, [], map, string_bytes, IfErr, IfOk};
+ghost use Rattle.std.specs.Prelude.{◌≡◌, false, [], Some, map, string_bytes, IfErr, IfOk};
 ghost use Rattle.std.specs.Option.{SomeIff};
 ghost use Rattle.clap.specs.Words.{app_of, fault_of, found_of, one_of, rows_of, rule_of};
 ghost use Rattle.rubis_replica.specs.Setup.{IsSetup};
@@ -90,6 +90,7 @@ fn number<'a>(
     help: &'a str,
 ) -> Arg<'a>
     ensures rule { rule_of result ≡ number_option name.entry.now low high default.entry.now }
+    ensures help { result.help ≡ Some help.entry }
     ensures local { result.global ≡ false }
 {
     Arg::new(alloc, name)

@@ -1,0 +1,23 @@
+-- The status with which the program ends: 0 where all went well, 1 where a fault ended a run, 2 for a command line that
+-- isn't one.
+use Rattle.std.specs.Prelude.{◌≡◌, ◌⊎◌, ℕ, List, [], ◌∷◌}
+use Rattle.clap.specs.Words.{Kinds, Text, fault_of}
+use Rattle.clap.specs.declared.error.kind.ErrorKind.{ErrorKind}
+use Rattle.clap.specs.declared.error.kind.ErrorKind.TheVariants.{DisplayHelp, DisplayVersion}
+use Rattle.rubis_app.specs.CommandLine.{command_line}
+
+-- help and the version are shown, and all else that `clap` says is a mistake
+abbrev pub status_by : ErrorKind → ℕ
+status_by DisplayHelp = 0
+status_by DisplayVersion = 0
+status_by k = 2
+
+-- the status of words that are refused for one of these reasons
+abbrev pub IsStatusAmong : Kinds → ℕ → Type 0
+IsStatusAmong [] s = ⊥
+IsStatusAmong (k ∷ ks) s = (s ≡ status_by k) ⊎ IsStatusAmong ks s
+
+-- the status of these words: that of a fault, as any run may end; that of a reason to refuse them; or, where there is
+-- none, that of a run that went well, or of a site that isn't below `sites`
+abbrev pub IsStatusOf : List Text → ℕ → Type 0
+IsStatusOf words s = (s ≡ 1) ⊎ IsStatusAmong (fault_of command_line words) s ⊎ ((fault_of command_line words ≡ []) × ((s ≡ 0) ⊎ (s ≡ 2)))
