@@ -6,6 +6,7 @@ use rubis_message::{
 };
 use rubis_release::Intake;
 use rubis_schema::{Fields, Id, Items, Name, Nick, Text, push_int, push_number};
+use rubis_script::Sink;
 use rubis_shadow::{Ask, Change, Shadow};
 use std::test::Fail;
 
@@ -39,6 +40,21 @@ fn records_of_fields(rt: HostRuntime) -> Result<(), Fail> {
     let mut items = Items::new(alloc);
     items.push(copy)?;
     assert_eq!(rt; items.len(), 1);
+    Ok(())
+}
+
+#[test]
+fn much_text_is_time_to_write(rt: HostRuntime) -> Result<(), Fail> {
+    let mut sink = Sink::new(rt.alloc());
+    assert!(rt; !sink.is_full());
+    for _ in 0..4000 {
+        sink.write_row(&[b"a row of 32 bytes with its end."])?;
+    }
+    assert!(rt; sink.is_full());
+    let mut out = Vec::new(rt.alloc());
+    assert!(rt; sink.drain(&mut out).is_ok());
+    assert_eq!(rt; out.len(), 128_000);
+    assert!(rt; !sink.is_full());
     Ok(())
 }
 
