@@ -1,21 +1,22 @@
 //! `rubis`: an auction site over standard input and output.
 #![tactic(auto)]
 
-mod options;
-
 ghost use Rattle.std.specs.Prelude.{◌≡◌, ◌⊎◌, cond, is_ok, map, string_bytes};
+ghost use Rattle.std.specs.Option.{SomeIff};
 ghost use Rattle.std.specs.Process.{exit_status};
 ghost use Rattle.clap.specs.Words.{kind_of};
 ghost use Rattle.rubis_replica.specs.Setup.{IsSetup};
-ghost use Rattle.rubis_app.specs.CommandLine.{setup_of};
+ghost use Rattle.rubis_app.specs.Setups.{setup_of};
 ghost use Rattle.rubis_app.specs.Statuses.{IsStatusOf, status_by};
 
-use crate::options::{OptionFault, Options, Run, read_options};
 use clap::Error;
-use rubis_script::{Count, RunFault, run_site};
+use rubis_command::{OptionFault, Options, Run, read_options};
+use rubis_replica::Config;
+use rubis_schema::RECORDS_MAX;
+use rubis_script::{Count, Desk, RunFault, run_upto};
 use std::io::ErrorKind;
 use std::process::ExitCode;
-use std::{env, io};
+use std::{env, io, mem};
 
 /// The status of a run that a fault ended.
 const FAULT: u8 = 1;
@@ -61,16 +62,43 @@ fn end<R: Eprint>(rt: &R, ended: Result<Count, RunFault>) -> ExitCode
     }
 }
 
+// The site's configuration, if each number is within its limits and the site is below `sites`.
+fn config_of(options: &Options) -> Option<Config>
+    ensures { SomeIff result (IsSetup (setup_of options.now)) (setup_of options.now) }
+{
+    Config::new(
+        options.site,
+        options.sites,
+        options.shards,
+        options.workers,
+        options.batch,
+        options.keep,
+    )
+}
+
 // Runs a site over standard input and output.
 fn run<R: Print + Eprint + Input + AllocGlobal>(rt: &R, options: &Options) -> ExitCode
     ensures misuse { ¬ IsSetup (setup_of options.now) → exit_status result ≡ 2 }
     ensures runs { IsSetup (setup_of options.now) → (exit_status result ≡ 0) ⊎ (exit_status result ≡ 1) }
 {
-    let Some(config) = options.config() else {
+    let Some(config) = config_of(options) else {
         return misuse(rt, "site must be below sites");
     };
+    let Ok(mut desk) = Desk::new(rt.alloc(), &config) else {
+        return fail(rt, RunFault::Memory);
+    };
     let mut writer = io::writer(rt);
-    end(rt, run_site(rt.alloc(), rt.reader(), &mut writer, &config))
+    let ended = run_upto(
+        &(),
+        rt.alloc(),
+        rt.reader(),
+        &mut writer,
+        &mut desk,
+        RECORDS_MAX,
+    );
+    // The process ends now, so its site needn't be taken apart.
+    mem::forget(desk);
+    end(rt, ended)
 }
 
 // Does what the words of the command line ask for.

@@ -1,13 +1,14 @@
--- Counts in a row of sixteen places.
+-- Counts in a row of as many places as a message counts sites at most.
 use Rattle.std.specs.Prelude.{◌≡◌, ℕ, ◌-◌, ◌≤◌, List, ◌++◌, length, take, replicate}
+use Rattle.rubis_schema.specs.declared.limits.TheConstants.{COUNTED_MAX}
 
--- with zeros behind them, sixteen in all
+-- with zeros behind them, so that the row is full
 abbrev pub filled : List ℕ → List ℕ
-filled counts = counts ++ replicate (16 - length counts) 0
+filled counts = counts ++ replicate (COUNTED_MAX - length counts) 0
 
 -- the first `used` of the row are in use, and zeros stand behind them
 pub record IsFilled (row : List ℕ) (used : ℕ) : Type 0 where
-  pub few : used ≤ 16
+  pub few : used ≤ COUNTED_MAX
   pub behind : filled (take used row) ≡ row
   pub counted : length (take used row) ≡ used
 

@@ -3,6 +3,7 @@ ghost use Rattle.rubis_clock.specs.Clocks.{IsReady, Precedes, advanced, opening_
 
 use crate::counts::Deps;
 use crate::stamps::Stamp;
+use rubis_schema::COUNTED_MAX;
 use std::marker::Model;
 
 /// How many messages of each site a log has, and how many red ones.
@@ -38,7 +39,7 @@ fn others_released(deps: &[u32], counts: &[u32], origin: usize) -> bool
 impl Clock {
     /// Nothing is counted yet, at so many sites.
     pub fn new(sites: u8) -> Clock
-        requires { sites ≤ 16 }
+        requires { sites ≤ COUNTED_MAX }
         ensures { result ≡ opening_clock sites }
     {
         let mut counts = Deps::new();
@@ -103,6 +104,25 @@ impl Clock {
             self.red = stamp.red;
         }
     }
+}
+
+impl PartialEq for Clock {
+    ghost use Rattle.rubis_clock.specs.Clocks.{same_counted, same_counted_equiv};
+    ghost use Rattle.std.specs.Cmp.{partial_equiv_from_equiv};
+
+    ghost eq = { same_counted };
+
+    ghost laws = { partial_equiv_from_equiv same_counted_equiv };
+
+    fn eq(&self, other: &Clock) -> bool {
+        self.counts == other.counts && self.red == other.red
+    }
+}
+
+impl Eq for Clock {
+    ghost use Rattle.rubis_clock.specs.Clocks.{same_counted_equiv};
+
+    ghost laws = { same_counted_equiv };
 }
 
 /// Whether the message with the stamp `v` was made where that with the stamp `u` had been released.

@@ -1,15 +1,13 @@
 ghost use Rattle.std.specs.Prelude.{◌≡◌, ◌<◌, ◌≤◌, [], ◌∷◌, ◌++◌, length, slice_index, slice_set};
 
+use rubis_schema::COUNTED_MAX;
 use std::marker::Model;
-
-/// The most sites that a row of counts has room for.
-pub const SITES_MAX: usize = 16;
 
 /// For each site, in site order, how many of its messages had been released. Contracts see the list of the counts.
 #[derive(Clone, Copy, Debug)]
 pub struct Deps {
     // The counts, and zeros after them.
-    counts: [u32; 16],
+    counts: [u32; COUNTED_MAX],
     used: u8,
 }
 
@@ -34,14 +32,14 @@ impl Deps {
         ensures { result ≡ [] }
     {
         Deps {
-            counts: [0; SITES_MAX],
+            counts: [0; COUNTED_MAX],
             used: 0,
         }
     }
 
     /// Puts the count of the next site last.
     pub fn push(&mut self, count: u32)
-        requires { length self.old < 16 }
+        requires { length self.old < COUNTED_MAX }
         ensures { self.new ≡ self.old ++ count ∷ [] }
     {
         self.counts[usize::from(self.used)] = count;
@@ -51,7 +49,7 @@ impl Deps {
     /// The counts, in site order.
     pub fn as_slice(&self) -> &[u32]
         ensures value { result.now ≡ self.now }
-        ensures few { length self.now ≤ 16 }
+        ensures few { length self.now ≤ COUNTED_MAX }
     {
         &self.counts[..usize::from(self.used)]
     }
@@ -59,7 +57,7 @@ impl Deps {
     /// Of how many sites there are counts.
     pub fn len(&self) -> usize
         ensures value { result ≡ length self.now }
-        ensures few { length self.now ≤ 16 }
+        ensures few { length self.now ≤ COUNTED_MAX }
     {
         usize::from(self.used)
     }
@@ -79,4 +77,24 @@ impl Deps {
     {
         self.counts[usize::from(site)] = count;
     }
+}
+
+impl PartialEq for Deps {
+    ghost use Rattle.std.specs.Prelude.{nat_eq};
+    ghost use Rattle.std.specs.Cmp.Lexicographic.{pointwise, nat_list_eq_equiv};
+    ghost use Rattle.std.specs.Cmp.{partial_equiv_from_equiv};
+
+    ghost eq = { pointwise nat_eq };
+
+    ghost laws = { partial_equiv_from_equiv nat_list_eq_equiv };
+
+    fn eq(&self, other: &Deps) -> bool {
+        self.as_slice() == other.as_slice()
+    }
+}
+
+impl Eq for Deps {
+    ghost use Rattle.std.specs.Cmp.Lexicographic.{nat_list_eq_equiv};
+
+    ghost laws = { nat_list_eq_equiv };
 }

@@ -6,5 +6,5 @@ mod counts;
 mod stamps;
 
 pub use clocks::{Clock, precedes};
-pub use counts::{Deps, SITES_MAX};
+pub use counts::Deps;
 pub use stamps::Stamp;

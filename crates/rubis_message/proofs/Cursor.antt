@@ -1,11 +1,11 @@
 -- The next field of a record.
-use Rattle.std.proofs.Common.{◌≡◌, ◌<◌, ◌≤◌, ◌+◌, ◌^◌, ℕ, List, [], ◌∷◌, length, get_or, drop, Bor, Option, Some, None, sym, ◌∙◌, arith, add-one, decimal}
+use Rattle.std.proofs.Common.{◌≡◌, ◌<◌, ◌+◌, ℕ, List, [], ◌∷◌, length, get_or, drop, Bor, Option, Some, None, sym, ap, ◌∙◌, add-one}
 use Rattle.std.specs.Prelude.{MatchResult, option_map}
 use Rattle.std.specs.List.{slice_get}
 use Rattle.std.specs.Option.{ok_or}
 use Rattle.std.proofs.Math.Seq.{drop-cons}
 use Rattle.std.proofs.lemmas.Option.{slice_get-get_or, none-some, same_Some}
-use Rattle.std.proofs.lemmas.Fmt.{decimal_injective}
+use Rattle.rubis_message.specs.Forms.{at_end}
 use Rattle.rubis_message.specs.declared.faults.ReadFault.TheVariants.{BadRecord}
 
 pub next_field : (xs : List (List ℕ)) (n : ℕ) (o : Option (Bor (List ℕ))) → n < length xs → option_map (λ s. s.now) o ≡ slice_get xs n
@@ -16,14 +16,5 @@ next_field xs n (Some f) lt e =
     drop-cons xs n [] lt ∙ (λ i. sym item i ∷ drop (sym (add-one n) i) xs)
 
 -- a field is left
-pub some_left : (xs : List (List ℕ)) (n : ℕ) → n < length xs → drop n xs ≡ [] → ⊥
-some_left xs n lt e =
-    let cut = drop-cons xs n [] lt in
-    absurd cc
-
--- 0 is no number from 1 on
-pub not_zero : (fields rest behind : List (List ℕ)) (n x max : ℕ) → max < 2 ^ 64 → n ≡ 0 → fields ≡ decimal n ∷ rest → 1 ≤ x → x ≤ max → fields ≡ decimal x ∷ behind → ⊥
-not_zero fields rest behind n x max fits zero e low high f =
-    let same : decimal n ≡ decimal x = cc in
-    let is : n ≡ x = decimal_injective n x (omega (arith, zero)) (omega (arith, high, fits)) same in
-    absurd (omega (arith, is, zero, low))
+pub more_left : (xs left : List (List ℕ)) (n : ℕ) → n < length xs → drop n xs ≡ left → at_end left ≡ None
+more_left xs left n lt is = ap at_end (sym is ∙ drop-cons xs n [] lt)

@@ -1,11 +1,5 @@
-pub mod Guesses
-pub mod Tests
-pub mod Readings
 pub mod Cursor
-pub mod Failures
 pub mod Counts
-pub mod OneText
-pub mod Conditions
-pub mod OneReading
-pub mod PacketTests
-pub mod PacketReadings
+pub mod Fields
+pub mod Forms
+pub mod Records

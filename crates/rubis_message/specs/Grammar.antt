@@ -4,6 +4,7 @@ use Rattle.std.specs.List.{join_with_byte}
 use Rattle.rubis_schema.specs.Ids.{IsId, id_text, int_text}
 use Rattle.rubis_schema.specs.Texts.{IsNick, IsName, IsText}
 use Rattle.rubis_schema.specs.declared.ids.Id.{Id}
+use Rattle.rubis_schema.specs.declared.limits.TheConstants.{CATEGORIES, COUNT_MAX, PASS_MAX, TURN_MAX}
 use Rattle.rubis_schema.specs.declared.listings.Listing.{Listing}
 use Rattle.rubis_schema.specs.declared.listings.Listing.TheVariants.{Users, Items, Bids, Purchases, Comments, Categories, Log, Misfits, Tables}
 use Rattle.rubis_schema.specs.declared.rows.PurchaseRow.{PurchaseRow}
@@ -86,7 +87,7 @@ HasTexts (ask.Comment c) = IsText c.text
 -- the category or the id of a listing is within its limits
 abbrev pub IsListing : ℕ → Listing → Type 0
 IsListing sites Users = ⊤
-IsListing sites (Items cat) = cat < 1000
+IsListing sites (Items cat) = cat < CATEGORIES
 IsListing sites (Bids item) = IsId sites item
 IsListing sites (Purchases item) = IsId sites item
 IsListing sites (Comments user) = IsId sites user
@@ -98,7 +99,7 @@ IsListing sites Tables = ⊤
 -- a request within the limits, among so many sites
 abbrev pub IsRequest : ℕ → Request → Type 0
 IsRequest sites (request.Ask a) = IsAsk sites a × HasTexts a
-IsRequest sites (request.Pass to) = to ≤ 99
+IsRequest sites (request.Pass to) = to ≤ PASS_MAX
 IsRequest sites (request.List l) = IsListing sites l
 
 -- ---- packets
@@ -123,12 +124,24 @@ message_fields m = stamp_fields m.stamp ++ shadow_fields m.shadow
 abbrev pub token_fields : Token → List (List ℕ)
 token_fields t = decimal t.turn ∷ decimal t.to ∷ decimal t.issued ∷ []
 
+-- the version of a message, by the kind of its shadow
+abbrev pub version_of : Shadow → List ℕ
+version_of (shadow.User n) = codes "1"
+version_of (shadow.Item n) = codes "1"
+version_of (shadow.Bid b) = codes "1"
+version_of (shadow.Buy p) = codes "1"
+version_of (shadow.Close c) = codes "1"
+version_of (shadow.Comment c) = codes "1"
+
 -- the second field is the version
 abbrev pub message_record : Message → List (List ℕ)
-message_record m = codes "msg" ∷ codes "1" ∷ message_fields m
+message_record m = codes "msg" ∷ version_of m.shadow ∷ message_fields m
+
+abbrev pub token_version : List ℕ
+token_version = codes "1"
 
 abbrev pub token_record : Token → List (List ℕ)
-token_record t = codes "token" ∷ codes "1" ∷ token_fields t
+token_record t = codes "token" ∷ token_version ∷ token_fields t
 
 abbrev pub packet_record : Packet → List (List ℕ)
 packet_record (packet.Msg m) = message_record m
@@ -148,8 +161,8 @@ pub record IsStamp (sites : ℕ) (s : Stamp) : Type 0 where
   pub counted : length s.deps ≡ sites
   pub id : IsId sites s.id
   pub own : s.id.seq ≡ slice_index s.deps s.id.site + 1
-  pub counts : All (λ n. n ≤ 1000000) s.deps
-  pub red : s.red ≤ 1000000
+  pub counts : All (λ n. n ≤ COUNT_MAX) s.deps
+  pub red : s.red ≤ COUNT_MAX
 
 -- a message among so many sites, with its texts in their grammars
 abbrev pub IsMessageAmong : ℕ → Message → Type 0
@@ -157,9 +170,9 @@ IsMessageAmong sites m = IsMessage m × (sites_of m ≡ sites) × HasShadowTexts
 
 -- a token among so many sites
 pub record IsToken (sites : ℕ) (t : Token) : Type 0 where
-  pub turn : t.turn ≤ 1000000000
+  pub turn : t.turn ≤ TURN_MAX
   pub to : t.to < sites
-  pub issued : t.issued ≤ 1000000
+  pub issued : t.issued ≤ COUNT_MAX
 
 -- a packet among so many sites
 abbrev pub IsPacket : ℕ → Packet → Type 0
@@ -176,3 +189,7 @@ RequestsHaveOneReading =
 abbrev pub PacketsHaveOneReading : Type 0
 PacketsHaveOneReading =
     (sites : ℕ) → sites < 2 ^ 8 → (p q : Packet) → IsPacket sites p → IsPacket sites q → packet_record p ≡ packet_record q → p ≡ q
+
+-- no record is that of a request and of a packet
+abbrev pub NoRequestIsAPacket : Type 0
+NoRequestIsAPacket = (r : Request) (p : Packet) → ¬ (request_record r ≡ packet_record p)

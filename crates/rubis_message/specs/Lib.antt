@@ -1,5 +1,7 @@
 pub mod Message
+pub mod Equal
 pub mod Grammar
+pub mod Words
+pub mod Counts
+pub mod Forms
 pub mod Readings
-pub mod Reading
-pub mod PacketReadings

@@ -1,6 +1,7 @@
 -- Messages, as contracts see them.
 use Rattle.std.specs.Prelude.{◌≡◌, ℕ, ◌+◌, ◌≤◌, nat_lt, length, slice_index, All}
 use Rattle.rubis_schema.specs.Ids.{IsId}
+use Rattle.rubis_schema.specs.declared.limits.TheConstants.{COUNT_MAX, COUNTED_MAX}
 use Rattle.rubis_shadow.specs.Shadows.{is_red}
 use Rattle.rubis_shadow.specs.Limits.{InLimits}
 use Rattle.rubis_shadow.specs.declared.shadows.Shadow.{Shadow}
@@ -21,10 +22,10 @@ sites_of m = length m.stamp.deps
 
 -- the conditions that every message meets
 pub record IsMessage (m : Message) : Type 0 where
-  pub sites : sites_of m ≤ 16
+  pub sites : sites_of m ≤ COUNTED_MAX
   pub id : IsId (sites_of m) m.stamp.id
   pub own : m.stamp.id.seq ≡ dep m m.stamp.id.site + 1
-  pub counts : All (λ n. n ≤ 1000000) m.stamp.deps
-  pub red : m.stamp.red ≤ 1000000
+  pub counts : All (λ n. n ≤ COUNT_MAX) m.stamp.deps
+  pub red : m.stamp.red ≤ COUNT_MAX
   pub colour : is_red m.shadow ≡ nat_lt 0 m.stamp.red
   pub shadow : InLimits (sites_of m) m.shadow

@@ -1,134 +1,190 @@
--- The request, or the packet, that a record is.
-use Rattle.std.specs.Prelude.{ℕ, ◌-◌, ◌==◌, Bool, true, false, ◌&&◌, cond, nat_lt, nat_le, nat_eq, ℤ, pos, negsuc, unsigned_abs, List, [], ◌∷◌, length, slice_index, drop, Option, Some, None, codes, bytes_eq}
-use Rattle.std.specs.List.{list_all}
-use Rattle.std.specs.Str.Parse.{digits_value}
-use Rattle.std.specs.Cmp.Lexicographic.{pointwise}
-use Rattle.rubis_schema.specs.declared.ids.Id.{Id}
+-- The request, and the packet, that the fields of a record are.
+use Rattle.std.specs.Prelude.{◌≡◌, ◌↔◌, ◌<◌, ◌≤◌, ◌^◌, ℕ, ◌+◌, ◌==◌, Bool, cond, nat_lt, bytes_eq, List, slice_index, Option, Some, codes}
 use Rattle.rubis_schema.specs.declared.listings.Listing.{Listing}
-use Rattle.rubis_schema.specs.declared.listings.Listing.TheVariants.{Users, Items, Bids, Purchases, Comments, Categories, Log, Misfits, Tables}
-use Rattle.rubis_schema.specs.Texts.{is_nick_byte, is_small_letter, is_printable}
-use Rattle.rubis_shadow.specs.declared.asks.Ask.{Ask}
+use Rattle.rubis_schema.specs.declared.listings.Listing.TheVariants as listing
+use Rattle.rubis_schema.specs.declared.limits.TheConstants.{AMOUNT_MAX, CAT_MAX, COUNTED_MAX, COUNT_MAX, PASS_MAX, QUANTITY_MAX, SEQ_MAX, TURN_MAX}
+use Rattle.rubis_schema.specs.declared.rows.PurchaseRow.{PurchaseRow}
+use Rattle.rubis_schema.specs.declared.rows.CommentRow.{CommentRow}
+use Rattle.rubis_shadow.specs.Shadows.{is_red}
 use Rattle.rubis_shadow.specs.declared.asks.Ask.TheVariants as ask
+use Rattle.rubis_shadow.specs.declared.asks.AskedClose.{AskedClose}
 use Rattle.rubis_shadow.specs.declared.shadows.NewItem.{NewItem}
+use Rattle.rubis_shadow.specs.declared.shadows.NewBid.{NewBid}
+use Rattle.rubis_shadow.specs.declared.shadows.NewClose.{NewClose}
+use Rattle.rubis_shadow.specs.declared.shadows.Shadow.{Shadow}
+use Rattle.rubis_shadow.specs.declared.shadows.Shadow.TheVariants as shadow
+use Rattle.rubis_clock.specs.declared.stamps.Stamp.{Stamp}
+use Rattle.rubis_message.specs.Forms.{Form, ◌>>=◌, ◌>>◌, give, none, made, check, whole, one, take_deps, take_id, take_name, take_nick, take_number, take_positive, take_rating, take_site, take_text, take_winner}
+use Rattle.rubis_message.specs.Grammar.{IsPacket, IsRequest, packet_record, request_record, token_version, version_of}
+use Rattle.rubis_message.specs.Message.{Message}
+use Rattle.rubis_message.specs.Words.{kind_of, shown_of}
+use Rattle.rubis_message.specs.declared.kinds.Kind.{Kind}
+use Rattle.rubis_message.specs.declared.kinds.Kind.TheVariants as kind
+use Rattle.rubis_message.specs.declared.kinds.Shown.{Shown}
+use Rattle.rubis_message.specs.declared.kinds.Shown.TheVariants as shown
 use Rattle.rubis_message.specs.declared.requests.Request.{Request}
 use Rattle.rubis_message.specs.declared.requests.Request.TheVariants as request
-use Rattle.rubis_message.specs.Grammar.{request_record}
+use Rattle.rubis_message.specs.declared.tokens.Token.{Token}
+use Rattle.rubis_message.specs.declared.tokens.Packet.{Packet}
+use Rattle.rubis_message.specs.declared.tokens.Packet.TheVariants as packet
 
--- ---- the limits, as tests
+-- ---- what stands behind the word for a kind
 
-abbrev pub is_between : ℕ → ℕ → ℕ → Bool
-is_between low high n = nat_le low n && nat_le n high
+unfoldable pub take_item : ℕ → Form NewItem
+take_item sites = do
+  seller ← take_id sites
+  name ← take_name
+  cat ← take_number CAT_MAX
+  stock ← take_positive QUANTITY_MAX
+  start ← take_positive AMOUNT_MAX
+  price ← take_number AMOUNT_MAX
+  give (record { seller = seller; name = name; cat = cat; stock = stock; start = start; price = price })
 
-abbrev pub is_id : ℕ → Id → Bool
-is_id sites id = nat_lt id.site sites && is_between 1 1000000 id.seq
+unfoldable pub take_bid : ℕ → Form NewBid
+take_bid sites = do
+  item ← take_id sites
+  bidder ← take_id sites
+  amount ← take_positive AMOUNT_MAX
+  give (record { item = item; bidder = bidder; amount = amount })
 
-abbrev pub is_quantity : ℕ → Bool
-is_quantity n = is_between 1 1000000 n
+unfoldable pub take_purchase : ℕ → Form PurchaseRow
+take_purchase sites = do
+  item ← take_id sites
+  buyer ← take_id sites
+  quantity ← take_positive QUANTITY_MAX
+  give (record { item = item; buyer = buyer; quantity = quantity })
 
-abbrev pub is_amount : ℕ → Bool
-is_amount n = is_between 1 1000000000000 n
+unfoldable pub take_asked_close : ℕ → Form AskedClose
+take_asked_close sites = do
+  item ← take_id sites
+  seller ← take_id sites
+  give (record { item = item; seller = seller })
 
-abbrev pub is_nick : List ℕ → Bool
-is_nick n = is_between 1 20 (length n) && (list_all is_nick_byte n && is_small_letter (slice_index n 0))
+unfoldable pub take_close : ℕ → Form NewClose
+take_close sites = do
+  item ← take_id sites
+  cat ← take_number CAT_MAX
+  winner ← take_winner sites
+  give (record { item = item; cat = cat; winner = winner })
 
-abbrev pub is_name : List ℕ → Bool
-is_name n = is_between 1 64 (length n) && list_all is_printable n
+unfoldable pub take_comment : ℕ → Form CommentRow
+take_comment sites = do
+  item ← take_id sites
+  from ← take_id sites
+  to ← take_id sites
+  rating ← take_rating
+  text ← take_text
+  give (record { item = item; from = from; to = to; rating = rating; text = text })
 
-abbrev pub is_text : List ℕ → Bool
-is_text n = nat_le (length n) 200 && list_all is_printable n
+-- ---- requests
 
-abbrev pub is_new_item : ℕ → NewItem → Bool
-is_new_item sites n =
-    is_id sites n.seller && (is_name n.name && (nat_lt n.cat 1000 && (is_quantity n.stock && (is_amount n.start && nat_le n.price 1000000000000))))
+unfoldable pub take_kind : Form Kind
+take_kind = one kind_of
 
-abbrev pub is_ask : ℕ → Ask → Bool
-is_ask sites (ask.User n) = is_nick n
-is_ask sites (ask.Item n) = is_new_item sites n
-is_ask sites (ask.Bid b) = is_id sites b.item && (is_id sites b.bidder && is_amount b.amount)
-is_ask sites (ask.Buy p) = is_id sites p.item && (is_id sites p.buyer && is_quantity p.quantity)
-is_ask sites (ask.Close c) = is_id sites c.item && is_id sites c.seller
-is_ask sites (ask.Comment c) =
-    is_id sites c.item && (is_id sites c.from && (is_id sites c.to && (nat_le (unsigned_abs c.rating) 5 && is_text c.text)))
+unfoldable pub take_shown : Form Shown
+take_shown = one shown_of
 
-abbrev pub is_listing : ℕ → Listing → Bool
-is_listing sites Users = true
-is_listing sites (Items cat) = nat_lt cat 1000
-is_listing sites (Bids item) = is_id sites item
-is_listing sites (Purchases item) = is_id sites item
-is_listing sites (Comments user) = is_id sites user
-is_listing sites Categories = true
-is_listing sites Log = true
-is_listing sites Misfits = true
-is_listing sites Tables = true
+abbrev pub listing_by : ℕ → Shown → Form Listing
+listing_by sites shown.Users = give listing.Users
+listing_by sites shown.Items = made listing.Items (take_number CAT_MAX)
+listing_by sites shown.Bids = made listing.Bids (take_id sites)
+listing_by sites shown.Purchases = made listing.Purchases (take_id sites)
+listing_by sites shown.Comments = made listing.Comments (take_id sites)
+listing_by sites shown.Categories = give listing.Categories
+listing_by sites shown.Log = give listing.Log
+listing_by sites shown.Misfits = give listing.Misfits
+listing_by sites shown.Tables = give listing.Tables
 
-abbrev pub is_request : ℕ → Request → Bool
-is_request sites (request.Ask a) = is_ask sites a
-is_request sites (request.Pass to) = nat_le to 99
-is_request sites (request.List l) = is_listing sites l
+unfoldable pub take_listing : ℕ → Form Listing
+take_listing sites = take_shown >>= listing_by sites
 
--- ---- what a field would be, if it is in the grammar at all
+abbrev pub request_by : ℕ → Kind → Form Request
+request_by sites kind.User = made (λ n. request.Ask (ask.User n)) take_nick
+request_by sites kind.Item = made (λ n. request.Ask (ask.Item n)) (take_item sites)
+request_by sites kind.Bid = made (λ b. request.Ask (ask.Bid b)) (take_bid sites)
+request_by sites kind.Buy = made (λ p. request.Ask (ask.Buy p)) (take_purchase sites)
+request_by sites kind.Close = made (λ c. request.Ask (ask.Close c)) (take_asked_close sites)
+request_by sites kind.Comment = made (λ c. request.Ask (ask.Comment c)) (take_comment sites)
+request_by sites kind.Pass = made request.Pass (take_number PASS_MAX)
+request_by sites kind.List = made request.List (take_listing sites)
 
-abbrev pub number_from : List ℕ → ℕ
-number_from field = digits_value 10 field
+unfoldable pub take_request : ℕ → Form Request
+take_request sites = take_kind >>= request_by sites
 
--- what stands before the first point
-abbrev pub before_point : List ℕ → List ℕ
-before_point [] = []
-before_point (b ∷ bs) = cond (nat_eq b 46) [] (b ∷ before_point bs)
-
--- what stands behind it
-abbrev pub behind_point : List ℕ → List ℕ
-behind_point [] = []
-behind_point (b ∷ bs) = cond (nat_eq b 46) bs (behind_point bs)
-
-abbrev pub id_from : List ℕ → Id
-id_from field = record { site = number_from (before_point field); seq = number_from (behind_point field) }
-
-abbrev pub below_zero : ℕ → ℤ
-below_zero n = negsuc (n - 1)
-
-abbrev pub int_from : List ℕ → ℤ
-int_from field = cond (slice_index field 0 == 45) (below_zero (number_from (drop 1 field))) (pos (number_from field))
-
-abbrev pub says : List ℕ → List ℕ → Bool
-says field word = bytes_eq field word
-
--- a listing of one word, and one of a word and a field
-abbrev pub plain_listing : List ℕ → Listing
-plain_listing a =
-    cond (says a (codes "users")) Users
-    (cond (says a (codes "categories")) Categories
-    (cond (says a (codes "log")) Log
-    (cond (says a (codes "misfits")) Misfits Tables)))
-
-abbrev pub listing_of : List ℕ → List ℕ → Listing
-listing_of a b =
-    cond (says a (codes "items")) (Items (number_from b))
-    (cond (says a (codes "bids")) (Bids (id_from b))
-    (cond (says a (codes "purchases")) (Purchases (id_from b)) (Comments (id_from b))))
-
--- what the fields would be, if they are a request at all: it shows in their number, and in the first
-abbrev pub request_from : List (List ℕ) → Request
-request_from (kind ∷ a ∷ []) =
-    cond (says kind (codes "user")) (request.Ask (ask.User a))
-    (cond (says kind (codes "pass")) (request.Pass (number_from a)) (request.List (plain_listing a)))
-request_from (kind ∷ a ∷ b ∷ []) =
-    cond (says kind (codes "close")) (request.Ask (ask.Close (record { item = id_from a; seller = id_from b })))
-    (request.List (listing_of a b))
-request_from (kind ∷ a ∷ b ∷ c ∷ []) =
-    cond (says kind (codes "bid"))
-    (request.Ask (ask.Bid (record { item = id_from a; bidder = id_from b; amount = number_from c })))
-    (request.Ask (ask.Buy (record { item = id_from a; buyer = id_from b; quantity = number_from c })))
-request_from (kind ∷ a ∷ b ∷ c ∷ d ∷ e ∷ []) =
-    request.Ask (ask.Comment (record { item = id_from a; from = id_from b; to = id_from c; rating = int_from d; text = e }))
-request_from (kind ∷ a ∷ b ∷ c ∷ d ∷ e ∷ f ∷ []) =
-    request.Ask (ask.Item (record { seller = id_from a; name = b; cat = number_from c; stock = number_from d; start = number_from e; price = number_from f }))
-request_from fields = request.Pass 100
-
-abbrev pub same_fields : List (List ℕ) → List (List ℕ) → Bool
-same_fields = pointwise bytes_eq
-
--- the request that the fields are: the one that is within the limits and is written so
+-- the request that the fields are
 unfoldable pub request_of : ℕ → List (List ℕ) → Option Request
-request_of sites fields =
-    cond (is_request sites (request_from fields) && same_fields (request_record (request_from fields)) fields) (Some (request_from fields)) None
+request_of sites = whole (take_request sites)
+
+-- ---- packets
+
+unfoldable pub take_stamp : ℕ → Form Stamp
+take_stamp sites = do
+  site ← take_site sites
+  seq ← take_positive SEQ_MAX
+  red ← take_number COUNT_MAX
+  deps ← take_deps sites
+  check (seq == slice_index deps site + 1)
+  give (record { id = record { site = site; seq = seq }; red = red; deps = deps })
+
+abbrev pub shadow_by : ℕ → Kind → Form Shadow
+shadow_by sites kind.User = made shadow.User take_nick
+shadow_by sites kind.Item = made shadow.Item (take_item sites)
+shadow_by sites kind.Bid = made shadow.Bid (take_bid sites)
+shadow_by sites kind.Buy = made shadow.Buy (take_purchase sites)
+shadow_by sites kind.Close = made shadow.Close (take_close sites)
+shadow_by sites kind.Comment = made shadow.Comment (take_comment sites)
+shadow_by sites kind.Pass = none
+shadow_by sites kind.List = none
+
+unfoldable pub take_shadow : ℕ → Form Shadow
+take_shadow sites = take_kind >>= shadow_by sites
+
+-- the red number is 0 just where the shadow is blue
+abbrev pub agrees : Shadow → ℕ → Bool
+agrees shadow red = cond (is_red shadow) (nat_lt 0 red) (red == 0)
+
+-- the version of a message is that of its kind of shadow
+unfoldable pub take_message : ℕ → List ℕ → Form Message
+take_message sites version = do
+  stamp ← take_stamp sites
+  shadow ← take_shadow sites
+  check (bytes_eq version (version_of shadow))
+  check (agrees shadow stamp.red)
+  give (record { stamp = stamp; shadow = shadow })
+
+unfoldable pub take_token : ℕ → List ℕ → Form Token
+take_token sites version = do
+  check (bytes_eq version token_version)
+  turn ← take_number TURN_MAX
+  to ← take_site sites
+  issued ← take_number COUNT_MAX
+  give (record { turn = turn; to = to; issued = issued })
+
+abbrev pub packet_by : ℕ → List ℕ → List ℕ → Form Packet
+packet_by sites word version =
+    cond (bytes_eq word (codes "msg")) (made packet.Msg (take_message sites version))
+    (cond (bytes_eq word (codes "token")) (made packet.Token (take_token sites version)) none)
+
+unfoldable pub take_packet : ℕ → Form Packet
+take_packet sites = do
+  word ← one Some
+  version ← one Some
+  packet_by sites word version
+
+-- the packet that the fields are
+unfoldable pub packet_of : ℕ → List (List ℕ) → Option Packet
+packet_of sites = whole (take_packet sites)
+
+-- ---- what is written is read, and nothing else
+
+-- a record is just the request that is within its limits and is written so
+abbrev pub RequestsAreReadAsWritten : Type 0
+RequestsAreReadAsWritten =
+    (sites : ℕ) → sites < 2 ^ 8 → (fields : List (List ℕ)) (r : Request)
+    → (request_of sites fields ≡ Some r) ↔ (IsRequest sites r × (fields ≡ request_record r))
+
+-- and so with packets
+abbrev pub PacketsAreReadAsWritten : Type 0
+PacketsAreReadAsWritten =
+    (sites : ℕ) → sites ≤ COUNTED_MAX → (fields : List (List ℕ)) (p : Packet)
+    → (packet_of sites fields ≡ Some p) ↔ (IsPacket sites p × (fields ≡ packet_record p))

@@ -1,39 +1,19 @@
 // What stands behind the word for a kind.
 
-ghost use Rattle.std.specs.Prelude.{[], ◌∷◌};
-ghost use Rattle.rubis_schema.specs.Texts.{IsName, IsNick, IsText};
-ghost use Rattle.rubis_shadow.specs.Limits.{IsNewItem, IsNewBid, IsPurchase, IsComment};
-ghost use Rattle.rubis_message.specs.Grammar.{item_fields, bid_fields, purchase_fields, comment_fields};
-ghost use Rattle.rubis_message.specs.Reading.{Reads};
+ghost use Rattle.rubis_message.specs.Forms.{Takes};
+ghost use Rattle.rubis_message.specs.Readings.{take_bid, take_comment, take_item, take_purchase};
 
 use crate::faults::ReadFault;
 use crate::readers::Reader;
-use rubis_schema::{CommentRow, Nick, PurchaseRow};
+use rubis_schema::{AMOUNT_MAX, CAT_MAX, CommentRow, PurchaseRow, QUANTITY_MAX};
 use rubis_shadow::{NewBid, NewItem};
 use std::alloc::Global;
 
-/// The greatest category.
-pub const CAT_MAX: u64 = 999;
-
-/// The greatest quantity, and the greatest stock.
-pub const QUANTITY_MAX: u64 = 1_000_000;
-
-/// The greatest amount, and the greatest price.
-pub const AMOUNT_MAX: u64 = 1_000_000_000_000;
-
 impl<'a> Reader<'a> {
-    /// The rest of the record is a nickname.
-    pub fn only_nick(&mut self) -> Result<Nick, ReadFault>
-        ensures { Reads IsNick (λ nick. nick ∷ []) self.old result }
-    {
-        let nick = self.nick()?;
-        self.end()?;
-        Ok(nick)
-    }
-
-    /// The rest of the record is a new item.
+    /// A new item.
+    #[tactic(auto, unfolding(crate::specs::Readings::take_item))]
     pub fn new_item(&mut self, alloc: Global, sites: u8) -> Result<NewItem, ReadFault>
-        ensures { Reads (λ n. IsNewItem sites n × IsName n.name) item_fields self.old result }
+        ensures { Takes (take_item sites) self.old self.new result }
     {
         let seller = self.id(sites)?;
         let name = self.name(alloc)?;
@@ -41,7 +21,6 @@ impl<'a> Reader<'a> {
         let stock = self.positive(QUANTITY_MAX)?;
         let start = self.positive(AMOUNT_MAX)?;
         let price = self.number(AMOUNT_MAX)?;
-        self.end()?;
         Ok(NewItem {
             seller,
             name,
@@ -52,14 +31,14 @@ impl<'a> Reader<'a> {
         })
     }
 
-    /// The rest of the record is a bid.
+    /// A bid.
+    #[tactic(auto, unfolding(crate::specs::Readings::take_bid))]
     pub fn new_bid(&mut self, sites: u8) -> Result<NewBid, ReadFault>
-        ensures { Reads (IsNewBid sites) bid_fields self.old result }
+        ensures { Takes (take_bid sites) self.old self.new result }
     {
         let item = self.id(sites)?;
         let bidder = self.id(sites)?;
         let amount = self.positive(AMOUNT_MAX)?;
-        self.end()?;
         Ok(NewBid {
             item,
             bidder,
@@ -67,14 +46,14 @@ impl<'a> Reader<'a> {
         })
     }
 
-    /// The rest of the record is a purchase.
+    /// A purchase.
+    #[tactic(auto, unfolding(crate::specs::Readings::take_purchase))]
     pub fn purchase(&mut self, sites: u8) -> Result<PurchaseRow, ReadFault>
-        ensures { Reads (IsPurchase sites) purchase_fields self.old result }
+        ensures { Takes (take_purchase sites) self.old self.new result }
     {
         let item = self.id(sites)?;
         let buyer = self.id(sites)?;
         let quantity = self.positive(QUANTITY_MAX)?;
-        self.end()?;
         Ok(PurchaseRow {
             item,
             buyer,
@@ -82,16 +61,16 @@ impl<'a> Reader<'a> {
         })
     }
 
-    /// The rest of the record is a comment.
+    /// A comment.
+    #[tactic(auto, unfolding(crate::specs::Readings::take_comment))]
     pub fn comment(&mut self, alloc: Global, sites: u8) -> Result<CommentRow, ReadFault>
-        ensures { Reads (λ c. IsComment sites c × IsText c.text) comment_fields self.old result }
+        ensures { Takes (take_comment sites) self.old self.new result }
     {
         let item = self.id(sites)?;
         let from = self.id(sites)?;
         let to = self.id(sites)?;
         let rating = self.rating()?;
         let text = self.text(alloc)?;
-        self.end()?;
         Ok(CommentRow {
             item,
             from,

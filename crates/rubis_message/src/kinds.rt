@@ -1,10 +1,10 @@
 // The words that say what a record is.
 
-ghost use Rattle.std.specs.Prelude.{◌≡◌, ◌≢◌, ◌↔◌, IfSome, IsNone, IsTrue};
-ghost use Rattle.rubis_message.specs.Reading.{kind_text, shown_text};
+ghost use Rattle.std.specs.Prelude.{◌≡◌, bytes_eq};
+ghost use Rattle.rubis_message.specs.Words.{kind_of, shown_of};
 
 /// The first word of a request, or that of a message's shadow.
-#[derive(Clone, Copy, Debug)]
+#[derive(Clone, Copy, PartialEq, Eq, Debug)]
 pub enum Kind {
     User,
     Item,
@@ -17,7 +17,7 @@ pub enum Kind {
 }
 
 /// The second word of a `list` request.
-#[derive(Clone, Copy, Debug)]
+#[derive(Clone, Copy, PartialEq, Eq, Debug)]
 pub enum Shown {
     Users,
     Items,
@@ -32,16 +32,16 @@ pub enum Shown {
 
 /// Whether the field is this word.
 pub fn says(field: &[u8], word: &[u8]) -> bool
-    ensures { IsTrue result ↔ (field.now ≡ word.now) }
+    ensures { result ≡ bytes_eq field.now word.now }
 {
     field == word
 }
 
 impl Kind {
     /// The kind that the word says.
+    #[tactic(auto, unfolding(crate::specs::Words::kind_of))]
     pub fn read(word: &[u8]) -> Option<Kind>
-        ensures some { IfSome result (λ kind. word.now ≡ kind_text kind) }
-        ensures none { IsNone result → (kind : Kind) → word.now ≢ kind_text kind }
+        ensures { result ≡ kind_of word.now }
     {
         if says(word, b"user") {
             Some(Kind::User)
@@ -67,9 +67,9 @@ impl Kind {
 
 impl Shown {
     /// What the word says to show.
+    #[tactic(auto, unfolding(crate::specs::Words::shown_of))]
     pub fn read(word: &[u8]) -> Option<Shown>
-        ensures some { IfSome result (λ shown. word.now ≡ shown_text shown) }
-        ensures none { IsNone result → (shown : Shown) → word.now ≢ shown_text shown }
+        ensures { result ≡ shown_of word.now }
     {
         if says(word, b"users") {
             Some(Shown::Users)

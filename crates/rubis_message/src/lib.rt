@@ -17,7 +17,7 @@ mod writers;
 
 pub use answers::{Arrival, Taken};
 pub use faults::ReadFault;
-pub use laws::records_have_one_reading;
+pub use laws::{records_are_read_as_written, records_have_one_reading};
 pub use messages::Message;
 pub use packets::read_packet;
 pub use requests::{Request, read_request};

@@ -70,3 +70,22 @@ impl Message {
         })
     }
 }
+
+impl PartialEq for Message {
+    ghost use Rattle.rubis_message.specs.Equal.{same_message, same_message_equiv};
+    ghost use Rattle.std.specs.Cmp.{partial_equiv_from_equiv};
+
+    ghost eq = { same_message };
+
+    ghost laws = { partial_equiv_from_equiv same_message_equiv };
+
+    fn eq(&self, other: &Message) -> bool {
+        self.stamp == other.stamp && self.shadow == other.shadow
+    }
+}
+
+impl Eq for Message {
+    ghost use Rattle.rubis_message.specs.Equal.{same_message_equiv};
+
+    ghost laws = { same_message_equiv };
+}

@@ -1,29 +1,25 @@
 // What one site sends to others, read from its record.
 
-ghost use Rattle.std.specs.Prelude.{◌≡◌, ◌≢◌, ◌<◌, ◌≤◌, [], ◌∷◌, ◌↔◌, None, Some, IfOk, IsErrOf, IsTrue, All, length, nat_lt, decimal};
-ghost use Rattle.rubis_message.specs.Grammar.{IsPacket, IsMessageAmong, IsStamp, IsToken, deps_text, message_fields, packet_record, stamp_fields, token_fields};
-ghost use Rattle.rubis_shadow.specs.Shadows.{is_red};
-ghost use Rattle.rubis_message.specs.PacketReadings.{packet_of};
-ghost use Rattle.rubis_message.specs.Reading.{Reads, Takes};
+ghost use Rattle.std.specs.Prelude.{◌≡◌, ◌≢◌, ◌<◌, ◌≤◌, None, Some, IfOk, IsErrOf, length};
+ghost use Rattle.rubis_message.specs.Forms.{Takes, take_deps, take_site};
+ghost use Rattle.rubis_message.specs.Grammar.{IsPacket, packet_record};
+ghost use Rattle.rubis_message.specs.Readings.{agrees, packet_of, take_message, take_packet, take_stamp, take_token};
 
 use crate::faults::ReadFault;
 use crate::kinds::says;
 use crate::messages::Message;
 use crate::readers::Reader;
-use crate::stamps::{COUNT_MAX, read_deps};
-use crate::tokens::{Packet, Token};
-use crate::writers::VERSION;
+use crate::shadows::version_of;
+use crate::stamps::read_deps;
+use crate::tokens::{Packet, TOKEN_VERSION, Token};
 use rubis_clock::{Deps, Stamp};
-use rubis_schema::{Fields, Id, SEQ_MAX};
+use rubis_schema::{COUNT_MAX, COUNTED_MAX, Fields, Id, SEQ_MAX, TURN_MAX};
 use rubis_shadow::{Colour, Shadow};
 use std::alloc::Global;
 
-/// The greatest turn of a token.
-const TURN_MAX: u64 = 1_000_000_000;
-
 // Whether the red number is 0 just where the shadow is blue.
 fn agree(shadow: &Shadow, red: u32) -> bool
-    ensures { IsTrue result ↔ (is_red shadow.now ≡ nat_lt 0 red) }
+    ensures { result ≡ agrees shadow.now red }
 {
     match shadow.colour() {
         Colour::Red => red > 0,
@@ -33,8 +29,10 @@ fn agree(shadow: &Shadow, red: u32) -> bool
 
 impl<'a> Reader<'a> {
     /// The number of one of so many sites.
+    #[tactic(auto, unfolding(crate::specs::Forms::take_site))]
     fn site(&mut self, sites: u8) -> Result<u8, ReadFault>
-        ensures { Takes (λ n. n < sites) (λ n. decimal n ∷ []) self.old self.new result }
+        ensures form { Takes (take_site sites) self.old self.new result }
+        ensures below { IfOk result (λ n. n < sites) }
     {
         let site = self.number(u64::from(u8::MAX))?;
         if site >= u64::from(sites) {
@@ -46,16 +44,18 @@ impl<'a> Reader<'a> {
     /// A count for each of so many sites.
     fn deps(&mut self, sites: u8) -> Result<Deps, ReadFault>
         requires some_sites { 0 < sites }
-        requires few_sites { sites ≤ 16 }
-        ensures { Takes (λ d. (length d ≡ sites) × All (λ n. n ≤ 1000000) d) (λ d. deps_text d ∷ []) self.old self.new result }
+        requires few_sites { sites ≤ COUNTED_MAX }
+        ensures form { Takes (take_deps sites) self.old self.new result }
+        ensures counted { IfOk result (λ d. length d ≡ sites) }
     {
         read_deps(self.field()?, sites).ok_or(ReadFault::BadRecord)
     }
 
     /// A stamp.
+    #[tactic(auto, unfolding(crate::specs::Readings::take_stamp))]
     fn stamp(&mut self, sites: u8) -> Result<Stamp, ReadFault>
-        requires { sites ≤ 16 }
-        ensures { Takes (IsStamp sites) stamp_fields self.old self.new result }
+        requires { sites ≤ COUNTED_MAX }
+        ensures { Takes (take_stamp sites) self.old self.new result }
     {
         let site = self.site(sites)?;
         let seq = self.positive(u64::from(SEQ_MAX))?;
@@ -74,27 +74,34 @@ impl<'a> Reader<'a> {
         })
     }
 
-    /// The rest of the record is a message.
-    fn message(&mut self, alloc: Global, sites: u8) -> Result<Message, ReadFault>
-        requires { sites ≤ 16 }
-        ensures { Reads (IsMessageAmong sites) message_fields self.old result }
+    /// A message, in that version.
+    #[tactic(auto, unfolding(crate::specs::Readings::take_message))]
+    fn message(&mut self, alloc: Global, sites: u8, version: &[u8]) -> Result<Message, ReadFault>
+        requires { sites ≤ COUNTED_MAX }
+        ensures { Takes (take_message sites version.now) self.old self.new result }
     {
         let stamp = self.stamp(sites)?;
         let shadow = self.shadow(alloc, sites)?;
+        if !says(version, version_of(&shadow)) {
+            return Err(ReadFault::BadRecord);
+        }
         if !agree(&shadow, stamp.red) {
             return Err(ReadFault::BadRecord);
         }
         Ok(Message::new(stamp, shadow))
     }
 
-    /// The rest of the record is a token.
-    fn token(&mut self, sites: u8) -> Result<Token, ReadFault>
-        ensures { Reads (IsToken sites) token_fields self.old result }
+    /// A token, in that version.
+    #[tactic(auto, unfolding(crate::specs::Readings::take_token))]
+    fn token(&mut self, sites: u8, version: &[u8]) -> Result<Token, ReadFault>
+        ensures { Takes (take_token sites version.now) self.old self.new result }
     {
-        let turn = self.number(TURN_MAX)?;
+        if !says(version, TOKEN_VERSION) {
+            return Err(ReadFault::BadRecord);
+        }
+        let turn = self.number(u64::from(TURN_MAX))?;
         let to = self.site(sites)?;
         let issued = self.number(COUNT_MAX)?;
-        self.end()?;
         Ok(Token {
             turn: turn as u32,
             to,
@@ -102,20 +109,18 @@ impl<'a> Reader<'a> {
         })
     }
 
-    /// The rest of the record is a packet.
+    /// A packet.
+    #[tactic(auto, unfolding(crate::specs::Readings::take_packet))]
     fn packet(&mut self, alloc: Global, sites: u8) -> Result<Packet, ReadFault>
-        requires { sites ≤ 16 }
-        ensures { Reads (IsPacket sites) packet_record self.old result }
+        requires { sites ≤ COUNTED_MAX }
+        ensures { Takes (take_packet sites) self.old self.new result }
     {
         let word = self.field()?;
         let version = self.field()?;
-        if !says(version, VERSION) {
-            return Err(ReadFault::BadRecord);
-        }
         if says(word, b"msg") {
-            Ok(Packet::Msg(self.message(alloc, sites)?))
+            Ok(Packet::Msg(self.message(alloc, sites, version)?))
         } else if says(word, b"token") {
-            Ok(Packet::Token(self.token(sites)?))
+            Ok(Packet::Token(self.token(sites, version)?))
         } else {
             Err(ReadFault::BadRecord)
         }
@@ -124,8 +129,9 @@ impl<'a> Reader<'a> {
 
 /// Reads a packet to a site among so many. `BadRecord` only where no packet is written so; `Memory` where there is
 /// none for a name or a text.
+#[tactic(auto, unfolding(crate::specs::Readings::packet_of))]
 pub fn read_packet(alloc: Global, fields: &Fields, sites: u8) -> Result<Packet, ReadFault>
-    requires { sites ≤ 16 }
+    requires { sites ≤ COUNTED_MAX }
     ensures ok { IfOk result (λ p. IsPacket sites p × (fields.now ≡ packet_record p)) }
     ensures bad { IsErrOf result ReadFault.BadRecord → (p : Packet) → IsPacket sites p → fields.now ≢ packet_record p }
 
@@ -133,7 +139,10 @@ pub fn read_packet(alloc: Global, fields: &Fields, sites: u8) -> Result<Packet, 
     ensures some { IfOk result (λ p. packet_of sites fields.now ≡ Some p) }
     ensures none { IsErrOf result ReadFault.BadRecord → packet_of sites fields.now ≡ None }
 {
-    Reader::new(fields).packet(alloc, sites)
+    let mut reader = Reader::new(fields);
+    let packet = reader.packet(alloc, sites)?;
+    reader.end()?;
+    Ok(packet)
 }
 
 #[cfg(test)]

@@ -1,12 +1,8 @@
 // A record that is read field by field.
 
-ghost use Rattle.std.specs.Prelude.{◌≡◌, ◌≢◌, ◌≤◌, ℕ, ℤ, List, [], ◌∷◌, ⊤, Option, IfSome, MatchResult, decimal, unsigned_abs};
-ghost use Rattle.rubis_schema.specs.Ids.{IsId, id_text, int_text};
-ghost use Rattle.rubis_schema.specs.Texts.{IsNick, IsName, IsText};
-ghost use Rattle.rubis_schema.specs.declared.ids.Id.{Id};
-ghost use Rattle.rubis_message.specs.Grammar.{winner_text};
-ghost use Rattle.rubis_message.specs.Reading.{Takes, kind_text, shown_text};
-ghost use Rattle.rubis_message.specs.declared.kinds.Kind.{Kind};
+ghost use Rattle.std.specs.Prelude.{◌≡◌, ◌≤◌, ℕ, List, [], ◌∷◌, IfOk, MatchResult};
+ghost use Rattle.rubis_message.specs.Forms.{Takes, at_end, take_id, take_name, take_nick, take_number, take_positive, take_rating, take_text, take_winner};
+ghost use Rattle.rubis_message.specs.Readings.{take_kind, take_shown};
 
 use crate::faults::ReadFault;
 use crate::kinds::{Kind, Shown, says};
@@ -53,7 +49,7 @@ impl<'a> Reader<'a> {
 
     /// Nothing is left to read.
     pub fn end(&self) -> Result<(), ReadFault>
-        ensures { MatchResult result (λ _. self.now ≡ []) (λ e. (e ≡ ReadFault.BadRecord) × (self.now ≢ [])) }
+        ensures { Takes at_end self.now self.now result }
     {
         if self.next < self.fields.len() {
             return Err(ReadFault::BadRecord);
@@ -62,29 +58,34 @@ impl<'a> Reader<'a> {
     }
 
     /// A word for a kind.
+    #[tactic(auto, unfolding(crate::specs::Readings::take_kind))]
     pub fn kind(&mut self) -> Result<Kind, ReadFault>
-        ensures { Takes (λ _. ⊤) (λ kind. kind_text kind ∷ []) self.old self.new result }
+        ensures { Takes take_kind self.old self.new result }
     {
         Kind::read(self.field()?).ok_or(ReadFault::BadRecord)
     }
 
     /// A word for what a listing shows.
+    #[tactic(auto, unfolding(crate::specs::Readings::take_shown))]
     pub fn shown(&mut self) -> Result<Shown, ReadFault>
-        ensures { Takes (λ _. ⊤) (λ shown. shown_text shown ∷ []) self.old self.new result }
+        ensures { Takes take_shown self.old self.new result }
     {
         Shown::read(self.field()?).ok_or(ReadFault::BadRecord)
     }
 
     /// A number up to `max`.
     pub fn number(&mut self, max: u64) -> Result<u64, ReadFault>
-        ensures { Takes (λ n. n ≤ max) (λ n. decimal n ∷ []) self.old self.new result }
+        ensures form { Takes (take_number max) self.old self.new result }
+        ensures small { IfOk result (λ n. n ≤ max) }
     {
         read_number(self.field()?, max).ok_or(ReadFault::BadRecord)
     }
 
     /// A number from 1 to `max`.
+    #[tactic(auto, unfolding(crate::specs::Forms::take_positive))]
     pub fn positive(&mut self, max: u64) -> Result<u64, ReadFault>
-        ensures { Takes (λ n. (1 ≤ n) × (n ≤ max)) (λ n. decimal n ∷ []) self.old self.new result }
+        ensures form { Takes (take_positive max) self.old self.new result }
+        ensures small { IfOk result (λ n. n ≤ max) }
     {
         match self.number(max)? {
             0 => Err(ReadFault::BadRecord),
@@ -94,21 +95,22 @@ impl<'a> Reader<'a> {
 
     /// A rating.
     pub fn rating(&mut self) -> Result<i8, ReadFault>
-        ensures { Takes (λ z. unsigned_abs z ≤ 5) (λ z. int_text z ∷ []) self.old self.new result }
+        ensures { Takes take_rating self.old self.new result }
     {
         read_rating(self.field()?).ok_or(ReadFault::BadRecord)
     }
 
     /// An id of one of so many sites.
     pub fn id(&mut self, sites: u8) -> Result<Id, ReadFault>
-        ensures { Takes (IsId sites) (λ id. id_text id ∷ []) self.old self.new result }
+        ensures { Takes (take_id sites) self.old self.new result }
     {
         Id::read(self.field()?, sites).ok_or(ReadFault::BadRecord)
     }
 
     /// An id of one of so many sites, or `none`.
+    #[tactic(auto, unfolding(crate::specs::Forms::winner_of))]
     pub fn winner(&mut self, sites: u8) -> Result<Option<Id>, ReadFault>
-        ensures { Takes (λ winner. IfSome winner (IsId sites)) (λ winner. winner_text winner ∷ []) self.old self.new result }
+        ensures { Takes (take_winner sites) self.old self.new result }
     {
         let field = self.field()?;
         if says(field, b"none") {
@@ -122,21 +124,21 @@ impl<'a> Reader<'a> {
 
     /// A nickname.
     pub fn nick(&mut self) -> Result<Nick, ReadFault>
-        ensures { Takes IsNick (λ nick. nick ∷ []) self.old self.new result }
+        ensures { Takes take_nick self.old self.new result }
     {
         Nick::read(self.field()?).ok_or(ReadFault::BadRecord)
     }
 
     /// An item's name.
     pub fn name(&mut self, alloc: Global) -> Result<Name, ReadFault>
-        ensures { Takes IsName (λ name. name ∷ []) self.old self.new result }
+        ensures { Takes take_name self.old self.new result }
     {
         Name::read(alloc, self.field()?)?.ok_or(ReadFault::BadRecord)
     }
 
     /// A comment's text.
     pub fn text(&mut self, alloc: Global) -> Result<Text, ReadFault>
-        ensures { Takes IsText (λ text. text ∷ []) self.old self.new result }
+        ensures { Takes take_text self.old self.new result }
     {
         Text::read(alloc, self.field()?)?.ok_or(ReadFault::BadRecord)
     }

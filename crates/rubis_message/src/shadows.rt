@@ -1,25 +1,26 @@
 // The shadow of a message.
 
-ghost use Rattle.rubis_shadow.specs.Limits.{InLimits};
-ghost use Rattle.rubis_message.specs.Grammar.{HasShadowTexts, close_fields, shadow_fields};
-ghost use Rattle.rubis_message.specs.Reading.{Reads};
+ghost use Rattle.std.specs.Prelude.{◌≡◌};
+ghost use Rattle.rubis_message.specs.Forms.{Takes};
+ghost use Rattle.rubis_message.specs.Grammar as grammar;
+ghost use Rattle.rubis_message.specs.Readings.{take_close, take_shadow};
 
-use crate::asks::CAT_MAX;
 use crate::faults::ReadFault;
 use crate::kinds::Kind;
 use crate::readers::Reader;
+use rubis_schema::CAT_MAX;
 use rubis_shadow::{NewClose, Shadow};
 use std::alloc::Global;
 
 impl<'a> Reader<'a> {
-    /// The rest of the record is the end of a sale.
+    /// The end of a sale.
+    #[tactic(auto, unfolding(crate::specs::Readings::take_close))]
     pub fn new_close(&mut self, sites: u8) -> Result<NewClose, ReadFault>
-        ensures { Reads (λ c. InLimits sites (Shadow.Close c)) close_fields self.old result }
+        ensures { Takes (take_close sites) self.old self.new result }
     {
         let item = self.id(sites)?;
         let cat = self.number(CAT_MAX)?;
         let winner = self.winner(sites)?;
-        self.end()?;
         Ok(NewClose {
             item,
             cat: cat as u16,
@@ -27,12 +28,13 @@ impl<'a> Reader<'a> {
         })
     }
 
-    /// The rest of the record is a shadow.
+    /// A shadow.
+    #[tactic(auto, unfolding(crate::specs::Readings::take_shadow))]
     pub fn shadow(&mut self, alloc: Global, sites: u8) -> Result<Shadow, ReadFault>
-        ensures { Reads (λ s. InLimits sites s × HasShadowTexts s) shadow_fields self.old result }
+        ensures { Takes (take_shadow sites) self.old self.new result }
     {
         match self.kind()? {
-            Kind::User => Ok(Shadow::User(self.only_nick()?)),
+            Kind::User => Ok(Shadow::User(self.nick()?)),
             Kind::Item => Ok(Shadow::Item(self.new_item(alloc, sites)?)),
             Kind::Bid => Ok(Shadow::Bid(self.new_bid(sites)?)),
             Kind::Buy => Ok(Shadow::Buy(self.purchase(sites)?)),
@@ -40,5 +42,19 @@ impl<'a> Reader<'a> {
             Kind::Comment => Ok(Shadow::Comment(self.comment(alloc, sites)?)),
             Kind::Pass | Kind::List => Err(ReadFault::BadRecord),
         }
+    }
+}
+
+/// The version of the record of a message with this shadow, by the shadow's kind.
+pub fn version_of(shadow: &Shadow) -> &'static [u8]
+    ensures { result.now ≡ grammar.version_of shadow.now }
+{
+    match shadow {
+        Shadow::User(_)
+        | Shadow::Item(_)
+        | Shadow::Bid(_)
+        | Shadow::Buy(_)
+        | Shadow::Close(_)
+        | Shadow::Comment(_) => b"1",
     }
 }

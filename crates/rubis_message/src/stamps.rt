@@ -1,21 +1,19 @@
 // The counts of a stamp.
 
-ghost use Rattle.std.specs.Prelude.{◌≡◌, ◌≢◌, ◌<◌, ◌≤◌, [], ◌∷◌, ◌++◌, ℕ, List, All, IfSome, IsNone, OnErr, OnOk, length};
+ghost use Rattle.std.specs.Prelude.{◌≡◌, ◌<◌, ◌≤◌, [], ◌∷◌, ◌++◌, IfSome, OnErr, OnOk, length};
+ghost use Rattle.rubis_message.specs.Counts.{deps_of};
 ghost use Rattle.rubis_message.specs.Grammar.{deps_text};
 
 use rubis_clock::Deps;
-use rubis_schema::{Fields, ShortText, read_number, split_once};
+use rubis_schema::{COUNT_MAX, COUNTED_MAX, Fields, ShortText, read_number, split_once};
 use std::alloc::AllocError;
-
-/// The greatest count.
-pub const COUNT_MAX: u64 = 1_000_000;
 
 /// The counts of so many sites that are written so.
 pub fn read_deps(text: &[u8], sites: u8) -> Option<Deps>
     requires some_sites { 0 < sites }
-    requires few_sites { sites ≤ 16 }
-    ensures some { IfSome result (λ d. (length d ≡ sites) × All (λ n. n ≤ 1000000) d × (text.now ≡ deps_text d)) }
-    ensures none { IsNone result → (d : List ℕ) → length d ≡ sites → All (λ n. n ≤ 1000000) d → text.now ≢ deps_text d }
+    requires few_sites { sites ≤ COUNTED_MAX }
+    ensures value { result ≡ deps_of sites text.now }
+    ensures counted { IfSome result (λ d. length d ≡ sites) }
 {
     let mut deps = Deps::new();
     let mut rest = text;

@@ -1,5 +1,8 @@
 use crate::messages::Message;
 
+/// The version of the records of tokens.
+pub const TOKEN_VERSION: &[u8] = b"1";
+
 /// The right to make red shadows, on its way: the number of its turn, the site that it is for, and how many red
 /// numbers were issued.
 #[derive(Clone, Copy, PartialEq, Eq, Debug)]
@@ -10,7 +13,7 @@ pub struct Token {
 }
 
 /// What one site sends to others.
-#[derive(Drop, Debug)]
+#[derive(Drop, PartialEq, Eq, Debug)]
 pub enum Packet {
     Msg(Message),
     Token(Token),

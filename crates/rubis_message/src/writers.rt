@@ -4,14 +4,12 @@ ghost use Rattle.std.specs.Prelude.{◌≡◌, ◌++◌, ◌∷◌, [], IfOk, On
 ghost use Rattle.rubis_message.specs.Grammar.{bid_fields, close_fields, comment_fields, item_fields, message_record, purchase_fields, shadow_fields, token_record, winner_text};
 
 use crate::messages::Message;
+use crate::shadows::version_of;
 use crate::stamps::push_deps;
-use crate::tokens::Token;
+use crate::tokens::{TOKEN_VERSION, Token};
 use rubis_schema::{CommentRow, Fields, Id, PurchaseRow, push_int, push_number};
 use rubis_shadow::{NewBid, NewClose, NewItem, Shadow};
 use std::alloc::{AllocError, Global};
-
-/// The version of the records.
-pub const VERSION: &[u8] = b"1";
 
 fn push_item(fields: &mut Fields, item: &NewItem) -> Result<(), AllocError>
     ensures { OnOk result (fields.new ≡ fields.old ++ item_fields item.now) }
@@ -103,7 +101,7 @@ fn push_message(fields: &mut Fields, message: &Message) -> Result<(), AllocError
 {
     let stamp = message.stamp();
     fields.push(b"msg")?;
-    fields.push(VERSION)?;
+    fields.push(version_of(message.shadow()))?;
     push_number(fields, u64::from(stamp.id.site))?;
     push_number(fields, u64::from(stamp.id.seq))?;
     push_number(fields, u64::from(stamp.red))?;
@@ -115,7 +113,7 @@ fn push_token(fields: &mut Fields, token: &Token) -> Result<(), AllocError>
     ensures { OnOk result (fields.new ≡ fields.old ++ token_record token.now) }
 {
     fields.push(b"token")?;
-    fields.push(VERSION)?;
+    fields.push(TOKEN_VERSION)?;
     push_number(fields, u64::from(token.turn))?;
     push_number(fields, u64::from(token.to))?;
     push_number(fields, u64::from(token.issued))

@@ -13,7 +13,7 @@ use Rattle.rubis_schema.specs.Keys.{tied, home}
 use Rattle.rubis_schema.specs.Tables.{Tables}
 use Rattle.rubis_shadow.specs.declared.numbered.Numbered.{Numbered}
 use Rattle.rubis_shadow.specs.declared.numbered.Misfit.{Misfit}
-use Rattle.rubis_shadow.specs.Changes.{after, doing, misfit_of, change_row}
+use Rattle.rubis_shadow.specs.Changes.{with_row, after, doing, misfit_of, change_row}
 use Rattle.rubis_model.specs.Log.{Core, noted, number_parts, numbered_from, parts_of, share, step, fold_on, before_any, fold_of}
 use Rattle.rubis_model.specs.Shares.{part_of, batch_folded, share_folded}
 use Rattle.rubis_schema.specs.KeyLaws.{key_antisymmetric, Decides-tied}
@@ -63,15 +63,25 @@ module _ (shards k : ℕ) where
   one_key false true true x y e = absurd (true≢false (sym (e refl)))
   one_key false true false x y e = refl
 
-  part_after : (t : Tables) (e : Effect) → part_of shards k (after t e) ≡ cond (at_home e.key) (after (part_of shards k t) e) (part_of shards k t)
-  part_after t e = elim (at_home e.key) as (λ b. at_home e.key ≡ b → part_of shards k (after t e) ≡ cond b (after (part_of shards k t) e) (part_of shards k t)) [
-    | true ↦ λ h. same_tables _ _ (λ q. left q ∙ one_key (at_home q) (tied q e.key) true _ _ (λ s. ap at_home ((Decides-tied q e.key).0 s) ∙ h)
-        ∙ sym (get-with_row (part_of shards k t) e.key _ q ∙ (λ i. cond (tied q e.key) (same_doing t e h i).row (get-part_of t q i))))
-    | false ↦ λ h. same_tables _ _ (λ q. left q ∙ one_key (at_home q) (tied q e.key) false _ _ (λ s. ap at_home ((Decides-tied q e.key).0 s) ∙ h) ∙ sym (get-part_of t q))
+  -- a row at a key in the part and in the whole
+  pub part_with_row : (t : Tables) (p : RowKey) (o : Option Row)
+      → part_of shards k (with_row t p o) ≡ cond (at_home p) (with_row (part_of shards k t) p o) (part_of shards k t)
+  part_with_row t p o = elim (at_home p) as (λ b. at_home p ≡ b → part_of shards k (with_row t p o) ≡ cond b (with_row (part_of shards k t) p o) (part_of shards k t)) [
+    | true ↦ λ h. same_tables _ _ (λ q. left q ∙ one_key (at_home q) (tied q p) true _ _ (λ s. ap at_home ((Decides-tied q p).0 s) ∙ h)
+        ∙ sym (get-with_row (part_of shards k t) p o q ∙ ap (cond (tied q p) o) (get-part_of t q)))
+    | false ↦ λ h. same_tables _ _ (λ q. left q ∙ one_key (at_home q) (tied q p) false _ _ (λ s. ap at_home ((Decides-tied q p).0 s) ∙ h) ∙ sym (get-part_of t q))
   ] refl
     where
-      left : (q : RowKey) → map.get (part_of shards k (after t e)) q ≡ cond (at_home q) (cond (tied q e.key) (doing t e).row (map.get t q)) None
-      left q = get-part_of (after t e) q ∙ ap (λ o. cond (at_home q) o None) (get-with_row t e.key _ q)
+      left : (q : RowKey) → map.get (part_of shards k (with_row t p o)) q ≡ cond (at_home q) (cond (tied q p) o (map.get t q)) None
+      left q = get-part_of (with_row t p o) q ∙ ap (λ x. cond (at_home q) x None) (get-with_row t p o q)
+
+  pub part_after : (t : Tables) (e : Effect) → part_of shards k (after t e) ≡ cond (at_home e.key) (after (part_of shards k t) e) (part_of shards k t)
+  part_after t e = part_with_row t e.key (doing t e).row ∙ at (at_home e.key) refl
+    where
+      at : (b : Bool) → at_home e.key ≡ b
+          → cond b (with_row (part_of shards k t) e.key (doing t e).row) (part_of shards k t) ≡ cond b (after (part_of shards k t) e) (part_of shards k t)
+      at true h = ap (λ d. with_row (part_of shards k t) e.key d.row) (sym (same_doing t e h))
+      at false h = refl
 
   pub share_tables : (t : Tables) (ns : List Numbered) → tables_after (part_of shards k t) (filter mine ns) ≡ part_of shards k (tables_after t ns)
   share_tables t [] = refl

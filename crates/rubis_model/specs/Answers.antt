@@ -1,17 +1,8 @@
 -- The records that a site writes.
-use Rattle.std.specs.Prelude.{ℕ, List, [], ◌∷◌, length, map, Option, Some, None, Result, Ok, Err, codes, decimal}
-use Rattle.std.specs.List.{flat_map}
-use Rattle.std.specs.FinMap as map
-use Rattle.rubis_schema.specs.Ids.{id_text, int_text}
+use Rattle.std.specs.Prelude.{ℕ, List, [], ◌∷◌, length, Result, Ok, Err, codes, decimal}
+use Rattle.rubis_schema.specs.Ids.{id_text}
 use Rattle.rubis_schema.specs.Refusals.{code_of, name_of}
-use Rattle.rubis_schema.specs.Tables.{Tables}
-use Rattle.rubis_schema.specs.declared.ids.Id.{Id}
 use Rattle.rubis_schema.specs.declared.refusals.Refusal.{Refusal}
-use Rattle.rubis_schema.specs.declared.row_keys.RowKey.{RowKey}
-use Rattle.rubis_schema.specs.declared.row_keys.RowKey.TheVariants as key
-use Rattle.rubis_schema.specs.declared.rows.Row.{Row}
-use Rattle.rubis_schema.specs.declared.rows.Row.TheVariants as row
-use Rattle.rubis_schema.specs.declared.rows.UserRow.{UserRow}
 use Rattle.rubis_message.specs.Message.{Message}
 use Rattle.rubis_message.specs.Grammar.{message_record, token_record}
 use Rattle.rubis_message.specs.declared.answers.Arrival.{Arrival}
@@ -61,20 +52,6 @@ took_rows n (Ok t) = taken_row n t ∷ []
 took_rows n (Err r) = refused_row n r ∷ []
 
 -- a listing is answered by the number of its rows, and the rows
-abbrev pub listed_rows : ℕ → List (List (List ℕ)) → List (List (List ℕ))
-listed_rows n rows = reply n (codes "rows" ∷ decimal (length rows) ∷ []) ∷ rows
-
--- ---- the rows of listings
-
-abbrev pub user_fields : Id → UserRow → List (List ℕ)
-user_fields id u =
-    codes "row" ∷ codes "user" ∷ id_text id ∷ u.nick ∷ decimal u.items ∷ decimal u.bought ∷ int_text u.rating ∷ decimal u.comments ∷ []
-
--- the record of a user's row; other rows have none here
-abbrev pub user_record : RowKey → Row → List (List (List ℕ))
-user_record (key.User id) (row.User u) = user_fields id u ∷ []
-user_record k r = []
-
--- the users of the tables, in key order
-abbrev pub users_of : Tables → List (List (List ℕ))
-users_of t = flat_map (λ e. user_record e.0 e.1) (map.entries t)
+abbrev pub listed_rows : ℕ → Result (List (List (List ℕ))) Refusal → List (List (List ℕ))
+listed_rows n (Ok rows) = reply n (codes "rows" ∷ decimal (length rows) ∷ []) ∷ rows
+listed_rows n (Err r) = refused_row n r ∷ []

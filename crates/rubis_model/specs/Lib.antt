@@ -1,6 +1,7 @@
 pub mod Log
 pub mod Settle
 pub mod Site
+pub mod Listings
 pub mod Answers
 pub mod Runs
 pub mod Meaning

@@ -1,6 +1,7 @@
 -- What is known of a shadow that was decided.
-use Rattle.std.proofs.Common.{◌≡◌, ℕ, ◌<◌, Bool, true, false, cond, not, refl, sym, subst, lit<}
-use Rattle.std.specs.Prelude.{Option, Some, None, Ok, IfSome, find, option_map, option_and_then}
+use Rattle.std.proofs.Common.{◌≡◌, ap, ◌∙◌, rules, ℕ, ◌<◌, Bool, true, false, cond, not, refl, sym, subst, lit<, List, take}
+use Rattle.std.specs.Prelude.{Option, Some, None, Result, Ok, Err, IfSome, IsErr, find, length, option_map, option_and_then}
+use Rattle.std.specs.Result.{IsErrAnd}
 use Rattle.std.specs.Option.{option_map_or}
 use Rattle.std.specs.FinMap as map
 use Rattle.rubis_schema.specs.Ids.{IsId}
@@ -18,6 +19,18 @@ use Rattle.rubis_shadow.specs.declared.shadows.Shadow.{Shadow}
 use Rattle.rubis_generate.specs.Lookup.{Rows, as_item_row, item_in, rows_of}
 use Rattle.rubis_generate.specs.Decision.{decision, holds, order_of, refused_or, shadow_of}
 use Rattle.rubis_generate.specs.declared.standing.Standing.{Standing}
+use Rattle.rubis_model.specs.Log.{cores, fold_of}
+use Rattle.rubis_message.specs.Message.{Message}
+use Rattle.rubis_model.specs.Site.{Place, Replica, asked, generating, standing_of}
+use Rattle.rubis_shard.specs.Holdings.{union}
+use Rattle.rubis_shadow.specs.declared.numbered.Misfit.{Misfit}
+use Rattle.rubis_pieces.specs.Misfits.{AreOfTheLog}
+use Rattle.rubis_replica.specs.Follow.{Follower, FollowsAt}
+use Rattle.rubis_replica.specs.Progress.{whole}
+use Rattle.rubis_replica.specs.State.{Answers, Decides, SiteState, decision_at, with_all_applied}
+use Rattle.rubis_replica.specs.declared.faults.Fault.{Fault}
+use Rattle.rubis_replica.specs.declared.faults.Fault.TheVariants.{Refused, Behind, Memory}
+use Rattle.rubis_replica.proofs.Growing.{all_at, log_in_limits, tables_of_log}
 use Rattle.rubis_schema.specs.declared.refusals.Refusal.{Refusal}
 use Rattle.rubis_schema.specs.declared.refusals.Refusal.TheVariants.{Full, NoToken, RedBehind}
 
@@ -102,3 +115,59 @@ pub decided_right : (t : Rows) (s : Standing) (ask : Ask) (x : Shadow) → decis
 decided_right t s ask x e r =
     let w = granted _ (shadow_of t ask) x e in
     right_by t s ask w.0 (subst (λ (y : Shadow). is_red y ≡ true) (sym w.1) r)
+
+-- ---- a site's decision
+
+-- a site whose log is all applied
+module _ (old : SiteState) (place : Place) (state : Replica) (batch : ℕ) (f : Follower)
+    (same : record { place = place; state = state; progress = f.progress; batch = batch } ≡ with_all_applied old)
+    (follows : FollowsAt place.sites state.log f) where
+  same_place : place ≡ old.place
+  same_place = ap (λ (s : SiteState). s.place) same
+
+  same_state : state ≡ old.state
+  same_state = ap (λ (s : SiteState). s.state) same
+
+  all_applied : f.progress ≡ whole (length state.log)
+  all_applied = ap (λ (s : SiteState). s.progress) same ∙ ap (λ (r : Replica). whole (length r.log)) (sym same_state)
+
+  -- its tables are those of the log
+  pub log_tables : union f.tables ≡ (fold_of (cores old.state.log)).tables
+  log_tables = tables_of_log place.sites state.log f follows all_applied ∙ ap (λ (r : Replica). (fold_of (cores r.log)).tables) same_state
+
+  -- and its misfits too
+  pub log_misfits : (ms : List Misfit) → AreOfTheLog f.tables ms → ms ≡ (fold_of (cores old.state.log)).misfits
+  log_misfits ms h =
+      let whole_log : take f.at state.log ≡ old.state.log = all_at state.log f follows.follows all_applied ∙ ap (λ (r : Replica). r.log) same_state in
+      h (length f.tables) (cores (take f.at state.log)) follows.follows.some follows.follows.holds ∙ ap (λ l. (fold_of (cores l)).misfits) whole_log
+
+  -- so it decides by the model
+  pub same_decision : (st : Standing) (ask : Ask) → st ≡ standing_of place.keep state → decision_at old ask ≡ decision (rows_of (union f.tables)) st ask
+  same_decision st ask e =
+      let standing : standing_of old.place.keep old.state ≡ st = (λ i. standing_of (sym same_place i).keep (sym same_state i)) ∙ sym e in
+      λ i. decision (rows_of (sym log_tables i)) (standing i) ask
+
+  -- and what it decides is within the limits
+  pub decided_limits : (st : Standing) (ask : Ask) (x : Shadow) → IsAsk old.place.sites ask → decision (rows_of (union f.tables)) st ask ≡ Ok x
+      → InLimits old.place.sites x
+  decided_limits st ask x asks e =
+      let within = subst (λ (p : Place). AllInLimits p.sites (fold_of (cores state.log)).tables) same_place (log_in_limits place.sites state.log f follows all_applied) in
+      let tables = tables_of_log place.sites state.log f follows all_applied in
+      decided_fits old.place.sites (union f.tables) st ask x (subst (AllInLimits old.place.sites) (sym tables) within) asks e
+
+pub decides_err : (old : SiteState) (ask : Ask) (r : Result Shadow Fault) (refusal : Refusal) → IsErr r × IsErrAnd r (λ fault. fault ≡ Refused refusal)
+    → decision_at old ask ≡ Err refusal → Decides old ask r
+decides_err old ask (Ok x) refusal h e = absurd (search rules)
+decides_err old ask (Err (Refused r)) refusal h e = let same : r ≡ refusal = cc h.1 in e ∙ ap Err (sym same)
+decides_err old ask (Err Behind) refusal h e = tt
+decides_err old ask (Err Memory) refusal h e = tt
+
+-- an ask that isn't decided is refused, or nothing is said of it
+pub undecided : (old new : SiteState) (ask : Ask) (r : Result Message Fault) (fault : Fault) → IsErr r × IsErrAnd r (λ e. e ≡ fault) → new.state ≡ old.state
+    → Decides old ask (Err fault) → Answers old new (asked old.place old.state ask) r
+undecided old new ask (Ok m) fault h same d = absurd (search rules)
+undecided old new ask (Err (Refused r)) fault h same d =
+    let refused : decision_at old ask ≡ Err r = subst (λ e. Decides old ask (Err e)) (sym (let e : Refused r ≡ fault = search rules in e)) d in
+    (same, ap (λ o. (generating old.place old.state o).1) refused)
+undecided old new ask (Err Behind) fault h same d = same
+undecided old new ask (Err Memory) fault h same d = same

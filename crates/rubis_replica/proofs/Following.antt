@@ -1,96 +1,148 @@
--- Tables that follow a log: with what is left they come to the log's tables.
-use Rattle.std.proofs.Common.{◌≡◌, ℕ, ◌+◌, ◌<◌, ◌≤◌, List, [], ◌∷◌, ◌++◌, length, length-append, length-drop, get_or, take, drop, sym, ap, ◌∙◌, subst, arith}
-use Rattle.std.specs.Prelude.{Some, slice_get, All}
-use Rattle.std.proofs.Math.Seq.{drop-length}
-use Rattle.std.proofs.lemmas.List.{append-nil, drop_more}
-use Rattle.std.proofs.lemmas.List.Elements.{All-get_or}
-use Rattle.std.proofs.lemmas.Option.{slice_get_within}
-use Rattle.rubis_schema.specs.Tables.{Tables}
-use Rattle.rubis_shadow.specs.Changes.{after}
-use Rattle.rubis_shadow.specs.Limits.{AllInLimits}
+-- Tables that follow a log: a batch that is whole or has begun, and a log that grows.
+use Rattle.std.proofs.Common.{◌≡◌, ℕ, ◌+◌, ◌<◌, ◌≤◌, List, ◌++◌, length, length-append, take, refl, sym, ap, ◌∙◌, subst, arith, inl, inr}
+use Rattle.std.specs.Prelude.{◌⊎◌, OnErr, Result, Ok, Err}
+use Rattle.std.specs.declared.alloc.AllocError.{AllocError}
+use Rattle.std.proofs.lemmas.List.{take-append-le}
 use Rattle.rubis_shadow.specs.declared.changes.Effect.{Effect}
-use Rattle.rubis_shadow.proofs.InLimits.{ChangeInLimits, PartsInLimits, after_kept, parts_in_limits}
-use Rattle.rubis_shadow.proofs.Lists.{drop_from}
-use Rattle.rubis_message.specs.Message.{Message, IsMessage, sites_of}
+use Rattle.rubis_message.specs.Message.{Message}
 use Rattle.rubis_model.specs.Log.{cores}
-use Rattle.rubis_replica.specs.State.{effects_of, tables_after, left_of}
-use Rattle.rubis_replica.specs.Walk.{Followed, IsPlace, Walked, parts_in}
-use Rattle.rubis_replica.proofs.Effects.{after_append, drop_within}
+use Rattle.rubis_shard.specs.Holdings.{HoldsLog}
+use Rattle.rubis_shard.specs.States.{ShardState}
+use Rattle.rubis_replica.specs.Follow.{Follower, Follows, IsNoted}
+use Rattle.rubis_replica.specs.Progress.{GoesOn, HasBegun, IsProgress, Progress, parts_between, whole}
+use Rattle.rubis_replica.proofs.Between.{below_or, between_inside, between_meets, nothing_between, some_between}
 
-part_in : (sites : ℕ) (es : List Effect) (i : ℕ) (e : Effect) → PartsInLimits sites es → slice_get es i ≡ Some e → ChangeInLimits sites e.change
-part_in sites [] i e h s = absurd cc
-part_in sites (x ∷ es) ℕ.zero e h s = let same : x ≡ e = cc in subst (λ (y : Effect). ChangeInLimits sites y.change) same h.0
-part_in sites (x ∷ es) (ℕ.suc i) e h s = part_in sites es i e h.1 s
+zero_or : (n : ℕ) → (n ≡ 0) ⊎ (0 < n)
+zero_or ℕ.zero = inl refl
+zero_or (ℕ.suc n) = inr (omega arith)
 
--- one part more
-pub walked_on : (m : Message) (old t new : Tables) (from to : ℕ) (e : Effect) → IsMessage m → Walked m old t from to → slice_get (parts_in m) to ≡ Some e → new ≡ after t e → Walked m old new from (to + 1)
-walked_on m old t new from to e c w s n =
-    let inside = slice_get_within (parts_in m) to e s in
-    let limits = part_in (sites_of m) (parts_in m) to e (parts_in_limits (sites_of m) m.stamp.id m.stamp.red m.shadow c.id c.shadow) s in
+-- with nothing left all messages stand
+pub all_stand : (log : List Message) (at upto : ℕ) → at ≤ upto → upto ≤ length log → length (parts_between log at upto) ≡ 0 → at ≡ upto
+all_stand log at upto h g e = elim (below_or at upto) [
+  | inl less ↦ absurd (omega (arith, e, some_between log at upto less g))
+  | inr more ↦ omega (arith, h, more)
+]
+
+-- some of a batch that has begun is done
+pub some_done : (log : List Message) (applied : ℕ) (f : Follower) → IsNoted log applied f → 0 < f.progress.left
+    → f.progress.left < length (parts_between log f.progress.applied f.progress.upto)
+some_done log applied f n l =
+    let done = some_between log applied f.at (n.some l) (omega (arith, n.inside, n.within)) in
+    let meets = ap length (between_meets log applied f.at f.progress.upto n.on n.inside) in
+    let count = length-append (parts_between log applied f.at) (parts_between log f.at f.progress.upto) in
+    subst (λ a. f.progress.left < length (parts_between log a f.progress.upto)) (sym (n.begun l)) (omega (arith, n.left, done, meets, count))
+
+noted_on : (log : List Message) (applied : ℕ) (f : Follower) → IsNoted log applied f → f.progress.applied ≤ f.at
+noted_on log applied f n = elim (zero_or f.progress.left) [
+  | inl z ↦ omega (arith, n.rests z, all_stand log f.at f.progress.upto n.inside n.within (sym n.left ∙ z))
+  | inr l ↦ omega (arith, n.begun l, n.on)
+]
+
+pub noted_progress : (log : List Message) (applied : ℕ) (f : Follower) → IsNoted log applied f → IsProgress log f.progress
+noted_progress log applied f n = record {
+  on = omega (arith, noted_on log applied f n, n.inside);
+  inside = n.within;
+  rests = n.rests;
+  begun = λ l. (omega (arith, n.begun l, n.some l, n.inside), some_done log applied f n l);
+}
+
+pub noted_follows : (log : List Message) (applied : ℕ) (f : Follower) → IsNoted log applied f → 0 < length f.tables
+    → HoldsLog (length f.tables) (cores (take f.at log)) f.tables → Follows log f
+noted_follows log applied f n some holds = record {
+  progress = noted_progress log applied f n;
+  on = noted_on log applied f n;
+  inside = n.inside;
+  left = n.left;
+  some = some;
+  holds = holds;
+}
+
+-- all messages of the batch stand, so it is whole
+pub noted_whole : (log : List Message) (applied : ℕ) (f : Follower) → IsNoted log applied f → f.at ≡ f.progress.upto → f.progress ≡ whole f.progress.upto
+noted_whole log applied f n e =
+    let none : f.progress.left ≡ 0 = n.left ∙ ap length (nothing_between log f.at f.progress.upto (omega (arith, e))) in
+    λ i. record { applied = n.rests none i; upto = f.progress.upto; left = none i }
+
+-- not all of them stand, so parts are left
+pub noted_left : (log : List Message) (applied : ℕ) (f : Follower) → IsNoted log applied f → f.at < f.progress.upto → 0 < f.progress.left
+noted_left log applied f n l = omega (arith, n.left, some_between log f.at f.progress.upto l n.within)
+
+-- a batch of all that was pending, which isn't whole, has begun
+pub noted_begun : (log : List Message) (old : Progress) (f : Follower) → IsNoted log old.applied f → f.progress.upto ≡ length log → f.at < f.progress.upto
+    → HasBegun log old f.progress
+noted_begun log old f n e l =
+    let left = noted_left log old.applied f n l in
     record {
-      left = ap (λ x. tables_after x (drop (to + 1) (parts_in m))) n ∙ ap (tables_after t) (sym (drop_from (parts_in m) to e s)) ∙ w.left;
-      within = omega (arith, inside);
-      on = omega (arith, w.on);
-      limits = λ h. subst (λ (x : Tables). AllInLimits (sites_of m) x) (sym n) (after_kept (sites_of m) t e limits (w.limits h));
+      batch = λ i. record { applied = n.begun left i; upto = e i; left = f.progress.left };
+      some_left = left;
+      some_done = some_done log old.applied f n left;
     }
 
--- ---- a log
+-- where nothing is left, as many messages stand as are applied
+pub rests_at : (log : List Message) (f : Follower) → Follows log f → f.progress.left ≡ 0 → f.at ≡ f.progress.applied
+rests_at log f h z = omega (arith, h.on, h.inside, h.progress.rests z)
 
-place_of : (log : List Message) (i : ℕ) (m : Message) → i < length log → m ≡ get_or log i m → drop i log ≡ m ∷ drop (i + 1) log
-place_of log i m h e = drop_more log i m h ∙ ap (λ x. x ∷ drop (i + 1) log) (sym e)
+-- what stands is no more than is left of the batch that has begun, and some of it is done
+pub begun_at : (log : List Message) (f : Follower) → Follows log f → 0 < f.progress.left → f.progress.applied < f.at
+begun_at log f h l = elim (below_or f.progress.applied f.at) [
+  | inl less ↦ less
+  | inr more ↦ absurd (omega (
+    arith,
+    (h.progress.begun l).1,
+    h.left,
+    ap (λ n. length (parts_between log n f.progress.upto)) (let e : f.at ≡ f.progress.applied = omega (arith, h.on, more) in e),
+  ))
+]
 
-first_parts : (m : Message) (rest : List Message) → effects_of (cores (take 1 (m ∷ rest))) ≡ parts_in m
-first_parts m rest = append-nil (parts_in m)
+-- fewer are left where more messages stand
+pub fewer_left : (log : List Message) (a b upto : ℕ) → a ≤ b → b ≤ upto → length (parts_between log b upto) ≤ length (parts_between log a upto)
+fewer_left log a b upto h g =
+    omega (arith, ap length (between_meets log a b upto h g), length-append (parts_between log a b) (parts_between log b upto))
 
--- how many parts of the message there are, where it is the next
-pub started_in : (log : List Message) (i p : ℕ) (m : Message) → i < length log → m ≡ get_or log i m → IsPlace log i p → p ≤ length (parts_in m)
-started_in log i p m h e w =
-    let parts = ap (λ (xs : List Message). effects_of (cores (take 1 xs))) (place_of log i m h e) ∙ first_parts m (drop (i + 1) log) in
-    subst (λ (es : List Effect). p ≤ length es) parts w.started
+-- ---- a batch that was gone on with
 
-rest_of : (log : List Message) (i p : ℕ) (m : Message) → i < length log → m ≡ get_or log i m → p ≤ length (parts_in m) → left_of log i p ≡ drop p (parts_in m) ++ effects_of (cores (drop (i + 1) log))
-rest_of log i p m h e l =
-    ap (λ (xs : List Message). drop p (effects_of (cores xs))) (place_of log i m h e)
-    ∙ drop_within p (parts_in m) (effects_of (cores (drop (i + 1) log))) l
+pub on_err : {P Q : Type 0} (r : Result (Unit {0}) AllocError) → OnErr r P → (P → Q) → OnErr r Q
+on_err (Ok x) h f = tt
+on_err (Err e) h f = f h
 
-same_sites : (log : List Message) (i sites : ℕ) (m : Message) → i < length log → m ≡ get_or log i m → All (λ x. sites_of x ≡ sites) log → sites_of m ≡ sites
-same_sites log i sites m h e a = subst (λ (x : Message). sites_of x ≡ sites) (sym e) (All-get_or (λ (x : Message). sites_of x ≡ sites) log i m h a)
+pub gone_follows : (log : List Message) (old new : Follower) (at : ℕ) (t : List ShardState) → Follows log old → IsNoted log old.progress.applied new
+    → 0 < length t → (HoldsLog (length old.tables) (cores (take old.at log)) old.tables → HoldsLog (length t) (cores (take at log)) t)
+    → new.at ≡ at → new.tables ≡ t → Follows log new
+gone_follows log old new at t follows noted some holds same_at same =
+    noted_follows log old.progress.applied new noted (omega (arith, some, ap length same))
+    (subst (λ n. HoldsLog (length new.tables) (cores (take n log)) new.tables) (sym same_at)
+    (subst (λ ts. HoldsLog (length ts) (cores (take at log)) ts) (sym same) (holds follows.holds)))
 
-fewer_left : (all from to es rest : List Effect) (p p' : ℕ) → from ≡ drop p es ++ rest → to ≡ drop p' es ++ rest → p ≤ p' → length from ≤ length all → length to ≤ length all
-fewer_left all from to es rest p p' e f on h =
-    omega (arith, ap length e, ap length f, length-append (drop p es) rest, length-append (drop p' es) rest, length-drop p es, length-drop p' es)
-
--- within the next message
-pub followed_in : (log : List Message) (old t new : Tables) (m0 p0 i p p' : ℕ) (m : Message) → i < length log → m ≡ get_or log i m
-    → Followed log old t m0 p0 i p → Walked m t new p p' → Followed log old new m0 p0 i p'
-followed_in log old t new m0 p0 i p p' m h e f w =
-    let rest = effects_of (cores (drop (i + 1) log)) in
-    let from = started_in log i p m h e f.place in
+-- it isn't whole, and no more is left than before
+pub goes_on : (log : List Message) (old new : Follower) → Follows log old → IsNoted log old.progress.applied new → new.progress.upto ≡ old.progress.upto
+    → old.at ≤ new.at → new.at < new.progress.upto → GoesOn old.progress new.progress
+goes_on log old new follows noted same on less =
+    let left = noted_left log old.progress.applied new noted less in
+    let fewer = fewer_left log old.at new.at new.progress.upto on noted.inside in
     record {
-      left = ap (tables_after new) (rest_of log i p' m h e w.within) ∙ after_append new (drop p' (parts_in m)) rest
-          ∙ ap (λ x. tables_after x rest) w.left ∙ sym (after_append t (drop p (parts_in m)) rest)
-          ∙ ap (tables_after t) (sym (rest_of log i p m h e from)) ∙ f.left;
-      place = record {
-        inside = f.place.inside;
-        started = subst (λ (es : List Effect). p' ≤ length es) (sym (ap (λ (xs : List Message). effects_of (cores (take 1 xs))) (place_of log i m h e) ∙ first_parts m (drop (i + 1) log))) w.within;
+      batch = λ i. record { applied = noted.begun left i; upto = same i; left = new.progress.left };
+      some_left = left;
+      fewer = omega (arith, noted.left, fewer, follows.left, ap (λ n. length (parts_between log old.at n)) same);
+    }
+
+-- ---- a log that grows
+
+-- the batch, and what is done of it, are the same
+pub follows_more : (log more : List Message) (f : Follower) → Follows log f → Follows (log ++ more) f
+follows_more log more f h =
+    let inside : f.progress.upto ≤ length log = h.progress.inside in
+    let batch = sym (between_inside f.progress.applied f.progress.upto log more h.progress.on inside) in
+    record {
+      progress = record {
+        on = h.progress.on;
+        inside = omega (arith, inside, length-append log more);
+        rests = h.progress.rests;
+        begun = λ l. ((h.progress.begun l).0, subst (λ (es : List Effect). f.progress.left < length es) batch (h.progress.begun l).1);
       };
-      on = f.on;
-      fewer = fewer_left (left_of log m0 p0) (left_of log i p) (left_of log i p') (parts_in m) rest p p' (rest_of log i p m h e from) (rest_of log i p' m h e w.within) w.on f.fewer;
-      limits = λ sites a k.
-          let same = same_sites log i sites m h e a in
-          subst (λ s. AllInLimits s new) same (w.limits (subst (λ s. AllInLimits s t) (sym same) (f.limits sites a k)));
-    }
-
--- past the next message
-pub followed_past : (log : List Message) (old new : Tables) (m0 p0 i p : ℕ) (m : Message) → i < length log → m ≡ get_or log i m
-    → Followed log old new m0 p0 i p → p ≡ length (parts_in m) → Followed log old new m0 p0 (i + 1) 0
-followed_past log old new m0 p0 i p m h e f all =
-    let from = started_in log i p m h e f.place in
-    let none : drop p (parts_in m) ≡ [] = ap (λ n. drop n (parts_in m)) all ∙ drop-length (parts_in m) in
-    record {
-      left = ap (tables_after new) (sym (rest_of log i p m h e from ∙ ap (λ (es : List Effect). es ++ effects_of (cores (drop (i + 1) log))) none)) ∙ f.left;
-      place = record { inside = omega arith; started = omega arith };
-      on = omega (arith, f.on);
-      fewer = omega (arith, f.fewer, ap length (rest_of log i p m h e from ∙ ap (λ (es : List Effect). es ++ effects_of (cores (drop (i + 1) log))) none));
-      limits = f.limits;
+      on = h.on;
+      inside = h.inside;
+      left = h.left ∙ ap length (sym (between_inside f.at f.progress.upto log more h.inside inside));
+      some = h.some;
+      holds = subst (λ (xs : List Message). HoldsLog (length f.tables) (cores xs) f.tables)
+          (sym (take-append-le f.at log more (omega (arith, h.inside, inside)))) h.holds;
     }

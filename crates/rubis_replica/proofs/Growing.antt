@@ -1,21 +1,29 @@
--- A log grows at its end, and tables that follow it follow on.
-use Rattle.std.proofs.Common.{◌≡◌, ℕ, zero, suc, ◌≤◌, List, [], ◌∷◌, ◌++◌, length, take, drop, sym, ap, ◌∙◌, subst, arith, append_assoc, length-append}
-use Rattle.std.specs.Prelude.{Some, None}
-use Rattle.std.proofs.lemmas.List.{append-nil}
-use Rattle.rubis_schema.specs.Tables.{Tables}
-use Rattle.rubis_message.specs.Message.{Message}
+-- A site's log grows at its end, and the tables that follow it follow it still.
+use Rattle.std.proofs.Common.{◌≡◌, ℕ, zero, suc, ◌<◌, ◌≤◌, Bool, true, false, cond, List, [], ◌∷◌, ◌++◌, length, take, sym, ap, ◌∙◌, subst, append_assoc, refl, arith}
+use Rattle.std.specs.Prelude.{◌==◌, ◌||◌, Option, Some, None, All, Result, nat_le}
+use Rattle.std.proofs.Math.Seq.{take-length}
+use Rattle.std.proofs.lemmas.List.{append-nil, take-append-le}
+use Rattle.rubis_shadow.specs.Limits.{AllInLimits}
+use Rattle.rubis_shadow.specs.declared.shadows.Shadow.{Shadow}
+use Rattle.rubis_shadow.proofs.InLimits.{opening_in_limits}
+use Rattle.rubis_schema.specs.declared.refusals.Refusal.{Refusal}
+use Rattle.rubis_message.specs.Message.{Message, sites_of}
+use Rattle.rubis_message.specs.declared.tokens.Token.{Token}
 use Rattle.rubis_model.specs.Log.{cores, fold_of}
 use Rattle.rubis_model.specs.Settle.{first_ready, settle}
-use Rattle.rubis_shadow.specs.Tables.{opening}
-use Rattle.rubis_replica.specs.State.{effects_of, tables_after, left_of}
-use Rattle.rubis_replica.specs.Walk.{Follows, IsPlace}
-use Rattle.rubis_replica.proofs.Effects.{after_append, cores_append, drop_within, effects_append, fold_is}
+use Rattle.rubis_model.specs.Site.{Place, Replica, after_made, arrived, is_full, is_repeat, made, not_ours, passed, passing}
+use Rattle.rubis_shard.specs.Holdings.{HoldsLog, union}
+use Rattle.rubis_shard.proofs.Unions.{union_of_log}
+use Rattle.rubis_replica.specs.Follow.{AreWithin, Follower, Follows, FollowsAt}
+use Rattle.rubis_replica.specs.Progress.{IsProgress, Progress, whole}
+use Rattle.rubis_replica.proofs.Between.{nothing_between}
+use Rattle.rubis_replica.proofs.Following.{follows_more, rests_at}
 
 abbrev pub Extends : List Message → List Message → Type 0
 Extends log new = (more : List Message) × (new ≡ log ++ more)
 
 -- the settled log is the log and some more
-pub settle_extends : (n : ℕ) (log waiting : List Message) → Extends log (settle n log waiting).0
+settle_extends : (n : ℕ) (log waiting : List Message) → Extends log (settle n log waiting).0
 settle_extends zero log waiting = ([], sym (append-nil log))
 settle_extends (suc n) log waiting =
     elim (first_ready log waiting) as (λ o. Extends log (elim o as (λ _. List Message × List Message) [ None ↦ (log, waiting) | Some p ↦ settle n (log ++ p.0 ∷ []) p.1 ]).0) [
@@ -23,40 +31,111 @@ settle_extends (suc n) log waiting =
       | Some p ↦ let r = settle_extends n (log ++ p.0 ∷ []) p.1 in (p.0 ∷ r.0, r.1 ∙ append_assoc log (p.0 ∷ []) r.0)
     ]
 
--- ---- the tables follow on
+follows_extended : (p q : Place) (log new : List Message) (f : Follower) → q ≡ p → Extends log new → FollowsAt p.sites log f → FollowsAt q.sites new f
+follows_extended p q log new f same e h =
+    let inside : f.at ≤ length log = omega (arith, h.follows.inside, h.follows.progress.inside) in
+    let front : take f.at log ≡ take f.at new = sym (take-append-le f.at log e.0 inside) ∙ ap (take f.at) (sym e.1) in
+    subst (λ (y : Place). FollowsAt y.sites new f) (sym same) (record {
+      follows = subst (λ (l : List Message). Follows l f) (sym e.1) (follows_more log e.0 f h.follows);
+      limits = subst (λ (xs : List Message). AllInLimits p.sites (fold_of (cores xs)).tables) front h.limits;
+    })
 
-drop_inside : (n : ℕ) (xs ys : List Message) → n ≤ length xs → drop n (xs ++ ys) ≡ drop n xs ++ ys
-drop_inside n xs ys h = drop_within n xs ys h
+-- ---- a message that the site makes
 
-take_inside : (p : ℕ) (xs ys : List Message) → p ≤ length (effects_of (cores (take 1 xs))) → p ≤ length (effects_of (cores (take 1 (xs ++ ys))))
-take_inside p [] ys h = omega (arith, h)
-take_inside p (x ∷ xs) ys h = h
+made_extends : (p : Place) (s : Replica) (x : Shadow) → Extends s.log (after_made p s x).log
+made_extends p s x =
+    let r = settle_extends (length s.waiting) (s.log ++ made p s x ∷ []) s.waiting in
+    (made p s x ∷ r.0, r.1 ∙ append_assoc s.log (made p s x ∷ []) r.0)
 
-first_of_all : (xs : List Message) (p : ℕ) → p ≤ length (effects_of (cores (take 1 xs))) → p ≤ length (effects_of (cores xs))
-first_of_all [] p h = h
-first_of_all (x ∷ xs) p h = omega (arith, h, ap length (effects_append (cores (x ∷ [])) (cores xs)), length-append (effects_of (cores (x ∷ []))) (effects_of (cores xs)))
+pub follows_made : (p q : Place) (s new : Replica) (x : Shadow) (f : Follower) → q ≡ p → new ≡ after_made p s x → FollowsAt p.sites s.log f → FollowsAt q.sites new.log f
+follows_made p q s new x f same e h =
+    let more = made_extends p s x in
+    follows_extended p q s.log new.log f same (more.0, ap (λ (r : Replica). r.log) e ∙ more.1) h
 
-left_more : (log more : List Message) (m p : ℕ) → IsPlace log m p → left_of (log ++ more) m p ≡ left_of log m p ++ effects_of (cores more)
-left_more log more m p w =
-    ap (λ (xs : List Message). drop p (effects_of (cores xs))) (drop_inside m log more w.inside)
-    ∙ ap (λ xs. drop p (effects_of xs)) (cores_append (drop m log) more)
-    ∙ ap (drop p) (effects_append (cores (drop m log)) (cores more))
-    ∙ drop_within p (effects_of (cores (drop m log))) (effects_of (cores more)) (first_of_all (drop m log) p w.started)
+-- ---- a message that arrives
 
-fold_more : (log more : List Message) → tables_after (fold_of (cores log)).tables (effects_of (cores more)) ≡ (fold_of (cores (log ++ more))).tables
-fold_more log more =
-    ap (λ t. tables_after t (effects_of (cores more))) (fold_is (cores log))
-    ∙ sym (after_append opening (effects_of (cores log)) (effects_of (cores more)))
-    ∙ ap (tables_after opening) (sym (effects_append (cores log) (cores more)))
-    ∙ ap (λ xs. tables_after opening (effects_of xs)) (sym (cores_append log more))
-    ∙ sym (fold_is (cores (log ++ more)))
+none_more : (s : Replica) → Extends s.log s.log
+none_more s = ([], sym (append-nil s.log))
 
-pub follows_more : (sites : ℕ) (log more : List Message) (t : Tables) (m p : ℕ) → Follows sites log t m p → Follows sites (log ++ more) t m p
-follows_more sites log more t m p f = record {
-  place = record {
-    inside = omega (arith, f.place.inside, length-append log more);
-    started = subst (λ (xs : List Message). p ≤ length (effects_of (cores (take 1 xs)))) (sym (drop_inside m log more f.place.inside)) (take_inside p (drop m log) more f.place.started);
-  };
-  comes = ap (tables_after t) (left_more log more m p f.place) ∙ after_append t (left_of log m p) (effects_of (cores more)) ∙ ap (λ x. tables_after x (effects_of (cores more))) f.comes ∙ fold_more log more;
-  limits = f.limits;
+one_of : {A : Type 0} (b : Bool) (log : List Message) (x y : Replica × A) → Extends log x.0.log → Extends log y.0.log → Extends log (cond b x y).0.log
+one_of true log x y h g = h
+one_of false log x y h g = g
+
+arrived_extends : (p : Place) (s : Replica) (m : Message) → Extends s.log (arrived p s m).0.log
+arrived_extends p s m =
+    one_of (not_ours p s m) s.log _ _ (none_more s)
+    (one_of (is_repeat s m) s.log _ _ (none_more s)
+    (one_of (is_full p.keep s) s.log _ _ (none_more s) (settle_extends (length (s.waiting ++ m ∷ [])) s.log (s.waiting ++ m ∷ []))))
+
+pub follows_arrived : (p q : Place) (s new : Replica) (m : Message) (f : Follower) → q ≡ p → new ≡ (arrived p s m).0 → FollowsAt p.sites s.log f → FollowsAt q.sites new.log f
+follows_arrived p q s new m f same e h =
+    let more = arrived_extends p s m in
+    follows_extended p q s.log new.log f same (more.0, ap (λ (r : Replica). r.log) e ∙ more.1) h
+
+-- ---- the token, which leaves the log
+
+pub follows_same : (p q : Place) (s new : Replica) (f : Follower) → q ≡ p → new.log ≡ s.log → FollowsAt p.sites s.log f → FollowsAt q.sites new.log f
+follows_same p q s new f same e h = follows_extended p q s.log new.log f same ([], e ∙ sym (append-nil s.log)) h
+
+same_log : {A : Type 0} (b : Bool) (log : List Message) (x y : Replica × A) → x.0.log ≡ log → y.0.log ≡ log → (cond b x y).0.log ≡ log
+same_log true log x y h g = h
+same_log false log x y h g = g
+
+passing_log : (p : Place) (s : Replica) (to : ℕ) (held : Option ℕ) → (passing p s to held).0.log ≡ s.log
+passing_log p s to None = refl
+passing_log p s to (Some issued) = same_log (nat_le p.sites to || (to == p.site)) s.log _ _ refl (same_log (nat_le 1000000000 s.last) s.log _ _ refl refl)
+
+pub follows_passed : (p q : Place) (s new : Replica) (to : ℕ) (a : Result Token Refusal) (f : Follower) → q ≡ p → (new, a) ≡ passed p s to
+    → FollowsAt p.sites s.log f → FollowsAt q.sites new.log f
+follows_passed p q s new to a f same e h = follows_same p q s new f same (ap (λ r. r.0.log) e ∙ passing_log p s to s.held) h
+
+-- ---- the opening tables
+
+pub follows_opening : (sites : ℕ) (log : List Message) (f : Follower) → log ≡ [] → (f.progress ≡ whole 0) × (f.at ≡ 0) → 0 < length f.tables
+    → HoldsLog (length f.tables) [] f.tables → FollowsAt sites log f
+follows_opening sites log f e p some holds =
+    subst (λ (l : List Message). FollowsAt sites l f) (sym e) (record {
+      follows = record {
+        progress = subst (IsProgress []) (sym p.0) (record { on = omega arith; inside = omega arith; rests = λ z. refl; begun = λ l. absurd (omega (arith, l)) });
+        on = omega (arith, p.1, ap (λ (x : Progress). x.applied) p.0);
+        inside = omega (arith, p.1);
+        left = ap (λ (x : Progress). x.left) p.0 ∙ ap length (sym (nothing_between [] f.at f.progress.upto (omega (arith, ap (λ (x : Progress). x.upto) p.0))));
+        some = some;
+        holds = subst (λ (xs : List Message). HoldsLog (length f.tables) (cores xs) f.tables) (sym (none_taken f.at)) holds;
+      };
+      limits = subst (λ (xs : List Message). AllInLimits sites (fold_of (cores xs)).tables) (sym (none_taken f.at)) (opening_in_limits sites);
+    })
+  where
+    none_taken : (n : ℕ) → take n (let xs : List Message = [] in xs) ≡ []
+    none_taken zero = refl
+    none_taken (suc n) = refl
+
+-- ---- tables that were brought on
+
+pub follows_on : (sites : ℕ) (log read : List Message) (old new : Follower) → read ≡ log → All (λ m. sites_of m ≡ sites) log
+    → FollowsAt sites log old → Follows read new
+    → ((k : ℕ) → All (λ m. sites_of m ≡ k) read → AreWithin k read old.at → AreWithin k read new.at) → FollowsAt sites log new
+follows_on sites log read old new e all f h k = record {
+  follows = subst (λ (l : List Message). Follows l new) e h;
+  limits = subst (λ (l : List Message). AreWithin sites l new.at) e
+      (k sites (subst (λ (l : List Message). All (λ m. sites_of m ≡ sites) l) (sym e) all) (subst (λ (l : List Message). AreWithin sites l old.at) (sym e) f.limits));
 }
+
+-- with all of the log applied, all of it stands
+pub all_at : (log : List Message) (f : Follower) → Follows log f → f.progress ≡ whole (length log) → take f.at log ≡ log
+all_at log f h e =
+    let applied = ap (λ (p : Progress). p.applied) e in
+    let at : f.at ≡ length log = rests_at log f h (ap (λ (p : Progress). p.left) e) ∙ applied in
+    ap (λ n. take n log) at ∙ take-length log
+
+-- the tables are those of the whole log
+pub tables_of_log : (sites : ℕ) (log : List Message) (f : Follower) → FollowsAt sites log f → f.progress ≡ whole (length log)
+    → union f.tables ≡ (fold_of (cores log)).tables
+tables_of_log sites log f h e =
+    union_of_log (length f.tables) (cores (take f.at log)) f.tables h.follows.some h.follows.holds
+    ∙ ap (λ xs. (fold_of (cores xs)).tables) (all_at log f h.follows e)
+
+-- and within the limits
+pub log_in_limits : (sites : ℕ) (log : List Message) (f : Follower) → FollowsAt sites log f → f.progress ≡ whole (length log)
+    → AllInLimits sites (fold_of (cores log)).tables
+log_in_limits sites log f h e = subst (λ (xs : List Message). AllInLimits sites (fold_of (cores xs)).tables) (all_at log f h.follows e) h.limits

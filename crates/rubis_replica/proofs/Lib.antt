@@ -1,8 +1,7 @@
-pub mod Effects
+pub mod Between
+pub mod NextMessage
 pub mod Following
-pub mod Refreshed
-pub mod Deciding
 pub mod Growing
-pub mod UserRows
-pub mod Starting
-pub mod Made
+pub mod Kept
+pub mod Deciding
+pub mod Listing

@@ -1,3 +1,5 @@
+pub mod Faults
+pub mod Follow
+pub mod Progress
 pub mod Setup
 pub mod State
-pub mod Walk

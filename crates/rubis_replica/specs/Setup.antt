@@ -1,5 +1,6 @@
 -- How a site is set up.
 use Rattle.std.specs.Prelude.{ℕ, ◌<◌, ◌≤◌}
+use Rattle.rubis_schema.specs.declared.limits.TheConstants.{BATCH_MAX, KEEP_MAX, SHARDS_MAX, SITES_MAX, WORKERS_MAX}
 use Rattle.rubis_model.specs.Site.{Place}
 
 -- the site, of so many; its shards, workers and batches; how many messages it keeps
@@ -19,11 +20,11 @@ pub record IsCount (n most : ℕ) : Type 0 where
 -- each number is within its limits
 pub record IsSetup (s : Setup) : Type 0 where
   pub site : s.site < s.sites
-  pub sites : IsCount s.sites 8
-  pub shards : IsCount s.shards 64
-  pub workers : IsCount s.workers 16
-  pub batch : IsCount s.batch 65536
-  pub keep : IsCount s.keep 1000000
+  pub sites : IsCount s.sites SITES_MAX
+  pub shards : IsCount s.shards SHARDS_MAX
+  pub workers : IsCount s.workers WORKERS_MAX
+  pub batch : IsCount s.batch BATCH_MAX
+  pub keep : IsCount s.keep KEEP_MAX
 
 -- all of it that answers depend on
 abbrev pub place_of : Setup → Place

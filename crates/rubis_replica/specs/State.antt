@@ -1,76 +1,94 @@
 -- A site's state, and what its calls answer.
-use Rattle.std.specs.Prelude.{◌≡◌, ◌-◌, ◌<◌, ◌≤◌, ◌⊎◌, ℕ, Bool, true, false, List, length, drop, fold, Result, Ok, Err}
-use Rattle.std.specs.List.{flat_map}
-use Rattle.rubis_schema.specs.Tables.{Tables}
+use Rattle.std.specs.Prelude.{◌≡◌, ◌-◌, ◌<◌, ◌⊎◌, ℕ, length, Result, Ok, Err, MatchResult, ⊤}
 use Rattle.rubis_schema.specs.declared.listings.Listing.{Listing}
-use Rattle.rubis_schema.specs.declared.listings.Listing.TheVariants.{Users}
+use Rattle.rubis_schema.specs.declared.listings.Listing.TheVariants.{Log}
 use Rattle.rubis_schema.specs.declared.refusals.Refusal.{Refusal}
-use Rattle.rubis_schema.specs.declared.refusals.Refusal.TheVariants.{BadRecord}
-use Rattle.rubis_shadow.specs.Changes.{after}
-use Rattle.rubis_shadow.specs.declared.changes.Effect.{Effect}
-use Rattle.rubis_message.specs.Message.{Message}
-use Rattle.rubis_model.specs.Answers.{users_of}
-use Rattle.rubis_model.specs.Log.{Core, cores, fold_of, parts_of}
-use Rattle.rubis_model.specs.Site.{Place, Replica}
+use Rattle.rubis_shadow.specs.declared.asks.Ask.{Ask}
+use Rattle.rubis_shadow.specs.declared.shadows.Shadow.{Shadow}
+use Rattle.rubis_generate.specs.Decision.{decision}
+use Rattle.rubis_message.specs.declared.answers.Arrival.{Arrival}
+use Rattle.rubis_message.specs.declared.answers.Arrival.TheVariants.{Released, Held, Repeat}
+use Rattle.rubis_model.specs.Site.{Place, Replica, rows_at, standing_of}
+use Rattle.rubis_replica.specs.Progress.{HasBegun, IsBatched, Progress, whole}
 use Rattle.rubis_replica.specs.declared.faults.Fault.{Fault}
 use Rattle.rubis_replica.specs.declared.faults.Fault.TheVariants.{Refused, Behind, Memory}
 
--- the parts of the messages, in order
-abbrev pub effects_of : List Core → List Effect
-effects_of log = flat_map parts_of log
-
--- the tables after these parts
-abbrev pub tables_after : Tables → List Effect → Tables
-tables_after t es = fold after t es
-
--- the parts of a log that are left where so many messages and, of the next one, so many parts were done
-abbrev pub left_of : List Message → ℕ → ℕ → List Effect
-left_of log messages parts = drop parts (effects_of (cores (drop messages log)))
-
--- a site: which one, its state, how many released messages its tables have, how many parts of the others they don't have
--- yet, whether some but not all of a batch stands in them, and how many messages a batch has
+-- a site: which one, its state, how far its tables are in its log, and how many messages a batch has
 pub record SiteState : Type 0 where
   pub place : Place
   pub state : Replica
-  pub applied : ℕ
-  pub left : ℕ
-  pub behind : Bool
+  pub progress : Progress
   pub batch : ℕ
 
 -- how many released messages aren't applied yet
 abbrev pub pending : SiteState → ℕ
-pending s = length s.state.log - s.applied
+pending s = length s.state.log - s.progress.applied
 
--- where so many were applied before: all else waits where it is less than a batch, and is applied where it isn't, if there
--- is memory for it
-abbrev pub IsBatched : ℕ → SiteState → Type 0
-IsBatched before s = (length s.state.log - before < s.batch → s.applied ≡ before)
-    × (s.batch ≤ length s.state.log - before → (s.applied ≡ length s.state.log) ⊎ (s.applied ≡ before) ⊎ (s.behind ≡ true))
+-- the site with all that was pending applied
+abbrev pub with_all_applied : SiteState → SiteState
+with_all_applied s = record s { progress = whole (length s.state.log) }
 
 -- the call answers as the step says; where it doesn't, the site's state is as it was
 abbrev pub Answers : {A : Type 0} → SiteState → SiteState → Replica × Result A Refusal → Result A Fault → Type 0
 Answers old new step (Ok a) = (new.state ≡ step.0) × (step.1 ≡ Ok a)
 Answers old new step (Err (Refused r)) = (new.state ≡ old.state) × (step.1 ≡ Err r)
-Answers old new step (Err Behind) = (new.state ≡ old.state) × (new.behind ≡ true)
-Answers old new step (Err Memory) = (new.state ≡ old.state) × (new.behind ≡ false)
+Answers old new step (Err fault) = new.state ≡ old.state
+
+-- what the site decides of an ask, against the tables of its whole log
+abbrev pub decision_at : SiteState → Ask → Result Shadow Refusal
+decision_at s ask = decision (rows_at s.state.log) (standing_of s.place.keep s.state) ask
+
+-- the shadow, or the refusal, is what the site decides; where there is neither nothing is said
+abbrev pub Decides : SiteState → Ask → Result Shadow Fault → Type 0
+Decides s ask (Ok x) = decision_at s ask ≡ Ok x
+Decides s ask (Err (Refused r)) = decision_at s ask ≡ Err r
+Decides s ask (Err fault) = ⊤
 
 -- a site that is behind says so, and stays as it is
 abbrev pub WaitsBehind : {A : Type 0} → SiteState → SiteState → Result A Fault → Type 0
-WaitsBehind old new result = old.behind ≡ true → (result ≡ Err Behind) × (new ≡ old)
+WaitsBehind old new result = 0 < old.progress.left → (result ≡ Err Behind) × (new ≡ old)
 
--- nothing is pending
-pub record IsUpToDate (s : SiteState) : Type 0 where
-  pub pending : pending s ≡ 0
-  pub left : s.left ≡ 0
-  pub behind : s.behind ≡ false
+-- ---- how far the tables are after a call
 
--- why what is pending wasn't applied: nothing was, or the site is behind
+-- a call without tables and without memory leaves them, and nothing but a site that was behind keeps it from an answer
+abbrev pub NeedsNoTables : {A : Type 0} → SiteState → SiteState → Result A Fault → Type 0
+NeedsNoTables old new (Ok a) = new.progress ≡ old.progress
+NeedsNoTables old new (Err (Refused r)) = new ≡ old
+NeedsNoTables old new (Err Behind) = 0 < old.progress.left
+NeedsNoTables old new (Err Memory) = ⊥
+
+-- after an arrival that released something, what is pending is a batch or waits; any other leaves the tables, and one
+-- that is refused all else too
+abbrev pub TakesIn : SiteState → SiteState → Result Arrival Fault → Type 0
+TakesIn old new (Ok (Released n)) = IsBatched old.batch new.state.log old.progress new.progress
+TakesIn old new (Ok Held) = new.progress ≡ old.progress
+TakesIn old new (Ok Repeat) = new.progress ≡ old.progress
+TakesIn old new (Err (Refused r)) = new ≡ old
+TakesIn old new (Err Behind) = 0 < old.progress.left
+TakesIn old new (Err Memory) = new ≡ old
+
+-- why what was pending isn't applied: some but not all of it is, or nothing
 abbrev pub IsCutFault : SiteState → SiteState → Fault → Type 0
 IsCutFault old new (Refused r) = ⊥
-IsCutFault old new Behind = new.behind ≡ true
+IsCutFault old new Behind = old.progress.left ≡ 0 → HasBegun old.state.log old.progress new.progress
 IsCutFault old new Memory = new ≡ old
 
--- a listing of users shows those of the log's tables; the others aren't there yet
-abbrev pub listed : Replica → Listing → Replica × Result (List (List (List ℕ))) Refusal
-listed s Users = (s, Ok (users_of (fold_of (cores s.log)).tables))
-listed s l = (s, Err BadRecord)
+-- why a call that reads the tables gives no answer. It applies all that is pending first: without memory for that nothing
+-- is applied, or some but not all; where it comes to nothing later, all stays applied
+abbrev pub IsReadFault : SiteState → SiteState → Fault → Type 0
+IsReadFault old new (Refused r) = new ≡ with_all_applied old
+IsReadFault old new Behind = old.progress.left ≡ 0 → HasBegun old.state.log old.progress new.progress
+IsReadFault old new Memory = (new ≡ old) ⊎ (new ≡ with_all_applied old)
+
+-- a listing of the log reads no tables and changes nothing, and nothing but a site that was behind and want of memory
+-- keeps it from its rows
+abbrev pub ListsTheLog : {A : Type 0} → SiteState → SiteState → Result A Fault → Type 0
+ListsTheLog old new (Ok rows) = new ≡ old
+ListsTheLog old new (Err (Refused r)) = ⊥
+ListsTheLog old new (Err Behind) = (0 < old.progress.left) × (new ≡ old)
+ListsTheLog old new (Err Memory) = new ≡ old
+
+-- how far the tables are after a listing: all but that of the log read them, so all is applied first
+abbrev pub Lists : {A : Type 0} → Listing → SiteState → SiteState → Result A Fault → Type 0
+Lists Log old new result = ListsTheLog old new result
+Lists l old new result = MatchResult result (λ rows. new ≡ with_all_applied old) (IsReadFault old new)

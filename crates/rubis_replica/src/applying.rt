@@ -1,87 +1,52 @@
-ghost use Rattle.std.specs.Prelude.{◌≡◌, ◌≤◌, ℕ, OnOk, length};
-ghost use Rattle.rubis_schema.specs.declared.ids.Id.{Id};
-ghost use Rattle.rubis_shadow.specs.Parts.{parts};
-ghost use Rattle.rubis_replica.specs.State.{left_of};
-ghost use Rattle.rubis_replica.specs.Walk.{Followed, IsPlace, Walked, parts_in};
+// Messages of a log, one after the other on the tables.
+
+ghost use Rattle.std.specs.Prelude.{◌≡◌, ◌≤◌, ◌<◌, ℕ, All, OnOk, OnErr, length, take};
+ghost use Rattle.std.specs.List.{flat_map};
+ghost use Rattle.rubis_message.specs.Message.{sites_of};
+ghost use Rattle.rubis_model.specs.Log.{cores, parts_of};
+ghost use Rattle.rubis_shard.specs.Holdings.{HoldsLog};
+ghost use Rattle.rubis_replica.specs.Follow.{AreWithin};
 
 use rubis_message::Message;
-use rubis_shadow::{PlainTables, Shadow};
+use rubis_shard::Tables;
 use std::alloc::AllocError;
 
-/// How much of a log was applied: so many messages, and so many parts of the next one.
-#[derive(Clone, Copy, PartialEq, Eq)]
-pub struct Progress {
-    pub messages: usize,
-    pub parts: u8,
-}
-
-// The most parts of a message.
-const PARTS_MAX: u8 = 3;
-
-// Applies the parts of a message from `done` on, which then says how many are done.
-fn apply_message(
-    tables: &mut PlainTables,
-    message: &Message,
-    done: &mut u8,
-) -> Result<(), AllocError>
-    requires { done.old ≤ length (parts_in message.now) }
-    ensures walked { Walked message.now tables.old tables.new done.old done.new }
-    ensures all { OnOk result (done.new ≡ length (parts_in message.now)) }
-{
-    let stamp = *message.stamp();
-    for place in *done..PARTS_MAX {
-        let Some(part) = message.shadow().effect(stamp.id, stamp.red, place) else {
-            return Ok(());
-        };
-        let effect = part.own()?;
-        tables.apply(&effect)?;
-        *done = place + 1;
-    }
-    Ok(())
-}
-
-// Applies the log from `at` on, which then says how much is applied.
-pub fn apply_log(
-    tables: &mut PlainTables,
+// Applies the messages from `at` up to `upto`, each whole or not at all; `at` says then how many stand.
+pub fn apply_upto(
+    tables: &mut Tables,
     log: &[Message],
-    at: &mut Progress,
+    at: &mut usize,
+    upto: usize,
 ) -> Result<(), AllocError>
-    requires { IsPlace log.now at.old.messages at.old.parts }
-    ensures followed { Followed log.now tables.old tables.new at.old.messages at.old.parts at.new.messages at.new.parts }
-    ensures all { OnOk result ((at.new.messages ≡ length log.now) × (at.new.parts ≡ 0)) }
+    requires few { length log.now ≤ 1000000 }
+    requires inside { upto ≤ length log.now }
+    requires on { at.old ≤ upto }
+    requires some { 0 < length tables.old }
+    ensures on { at.old ≤ at.new }
+    ensures inside { at.new ≤ upto }
+    ensures some { 0 < length tables.new }
+    ensures holds { HoldsLog (length tables.old) (cores (take at.old log.now)) tables.old → HoldsLog (length tables.new) (cores (take at.new log.now)) tables.new }
+    ensures limits { (sites : ℕ) → All (λ m. sites_of m ≡ sites) log.now → AreWithin sites log.now at.old → AreWithin sites log.now at.new }
+    ensures ok { OnOk result (at.new ≡ upto) }
+    ensures err { OnErr result (at.new < upto) }
 {
-    for place in at.messages..log.len() {
-        apply_message(tables, &log[place], &mut at.parts)?;
-        at.messages = place + 1;
-        at.parts = 0;
+    for place in *at..upto {
+        let message = &log[place];
+        let stamp = *message.stamp();
+        tables.apply_message(place as u32 + 1, stamp.id, stamp.red, message.shadow())?;
+        *at = place + 1;
     }
     Ok(())
 }
 
-// How many parts of the log aren't applied yet.
-pub fn parts_left(log: &[Message], at: &Progress) -> u32
-    requires few { length log.now ≤ 1000000 }
-    requires place { IsPlace log.now at.now.messages at.now.parts }
-    ensures { result ≡ length (left_of log.now at.now.messages at.now.parts) }
+// How many parts the messages have.
+pub fn count_parts(messages: &[Message]) -> u32
+    requires { length messages.now ≤ 1000000 }
+    ensures { result ≡ length (flat_map parts_of (cores messages.now)) }
 {
     let mut parts = 0;
-    for message in &log[at.messages..] {
-        parts += count_parts(message.shadow());
+    for message in messages {
+        parts += u32::from(message.shadow().count_parts());
     }
-    parts - u32::from(at.parts)
-}
-
-// How many parts a shadow has.
-fn count_parts(shadow: &Shadow) -> u32
-    ensures count { (id : Id) (red : ℕ) → result ≡ length (parts id red shadow.now) }
-    ensures few { result ≤ 3 }
-{
-    match shadow {
-        Shadow::User(_) => 2,
-        Shadow::Item(_) => 3,
-        Shadow::Bid(_) => 2,
-        Shadow::Buy(_) => 3,
-        Shadow::Close(_) => 2,
-        Shadow::Comment(_) => 2,
-    }
+    parts
 }

@@ -2,26 +2,12 @@ ghost use Rattle.std.specs.Prelude.{◌≡◌, ◌≤◌, ◌<◌, ◌↔◌, Is
 ghost use Rattle.std.specs.Option.{SomeIff};
 ghost use Rattle.rubis_replica.specs.Setup.{IsCount, IsSetup, Setup};
 
+use rubis_schema::{BATCH_MAX, KEEP_MAX, SHARDS_MAX, SITES_MAX, WORKERS_MAX};
 use std::marker::Model;
-
-/// The most sites.
-pub const SITES_MAX: u8 = 8;
-
-/// The most shards.
-pub const SHARDS_MAX: u8 = 64;
-
-/// The most workers.
-pub const WORKERS_MAX: u8 = 16;
-
-/// The most shadows of a batch.
-pub const BATCH_MAX: u32 = 65_536;
-
-/// The most messages that a site keeps, released and waiting ones together.
-pub const KEEP_MAX: u32 = 1_000_000;
 
 /// How a site is set up: which one it is, of how many; how many shards its tables have, how many workers apply
 /// shadows to them, and how many shadows make a batch; and how many messages it keeps.
-#[derive(Clone, Copy, Debug)]
+#[derive(Clone, Copy, PartialEq, Eq, Debug)]
 pub struct Config {
     site: u8,
     sites: u8,
@@ -92,7 +78,7 @@ impl Config {
     /// How many sites there are.
     pub fn sites(&self) -> u8
         ensures value { result ≡ self.now.sites }
-        ensures limits { IsCount result 8 }
+        ensures limits { IsCount result SITES_MAX }
     {
         self.sites
     }
@@ -100,7 +86,7 @@ impl Config {
     /// How many shards the tables have.
     pub fn shards(&self) -> u8
         ensures value { result ≡ self.now.shards }
-        ensures limits { IsCount result 64 }
+        ensures limits { IsCount result SHARDS_MAX }
     {
         self.shards
     }
@@ -108,7 +94,7 @@ impl Config {
     /// How many workers apply shadows.
     pub fn workers(&self) -> u8
         ensures value { result ≡ self.now.workers }
-        ensures limits { IsCount result 16 }
+        ensures limits { IsCount result WORKERS_MAX }
     {
         self.workers
     }
@@ -116,7 +102,7 @@ impl Config {
     /// How many pending shadows make a batch.
     pub fn batch(&self) -> u32
         ensures value { result ≡ self.now.batch }
-        ensures limits { IsCount result 65536 }
+        ensures limits { IsCount result BATCH_MAX }
     {
         self.batch
     }
@@ -124,7 +110,7 @@ impl Config {
     /// How many messages the site keeps.
     pub fn keep(&self) -> u32
         ensures value { result ≡ self.now.keep }
-        ensures limits { IsCount result 1000000 }
+        ensures limits { IsCount result KEEP_MAX }
     {
         self.keep
     }

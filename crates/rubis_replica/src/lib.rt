@@ -4,9 +4,8 @@
 mod applying;
 mod config;
 mod faults;
-mod refreshing;
+mod follower;
 mod site;
-mod users;
 
 pub use config::Config;
 pub use faults::Fault;

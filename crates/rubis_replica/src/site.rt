@@ -1,21 +1,24 @@
-ghost use Rattle.std.specs.Prelude.{◌≡◌, ◌≤◌, false, true, IfOk, IfErr, Ok, OnOk, length};
-ghost use Rattle.rubis_schema.specs.declared.listings.Listing.TheVariants as Listing;
-ghost use Rattle.rubis_shadow.specs.Limits.{IsAsk};
+ghost use Rattle.std.specs.Prelude.{◌≡◌, ◌≤◌, ◌<◌, All, IfOk, IfErr, IsErrOf, Ok, OnOk, length};
+ghost use Rattle.rubis_shadow.specs.Limits.{InLimits, IsAsk};
 ghost use Rattle.rubis_message.specs.Message.{sites_of};
+ghost use Rattle.rubis_model.specs.Log.{cores, fold_of};
+ghost use Rattle.rubis_model.specs.Runs.{listed, listing_rows};
 ghost use Rattle.rubis_model.specs.Site.{arrived, asked, opening_at, passed, took};
+ghost use Rattle.rubis_replica.specs.Progress.{GoesOn, IsBatched, IsProgress, is_behind, whole};
+ghost use Rattle.rubis_release.specs.Answers.{IsAdmitted};
 ghost use Rattle.rubis_replica.specs.Setup.{place_of};
-ghost use Rattle.rubis_replica.specs.State.{Answers, IsBatched, IsCutFault, IsUpToDate, WaitsBehind, listed, pending};
+ghost use Rattle.rubis_replica.specs.State.{Answers, Decides, IsCutFault, IsReadFault, Lists, NeedsNoTables, TakesIn, WaitsBehind, pending, with_all_applied};
 
-use crate::applying::{Progress, parts_left};
 use crate::config::Config;
 use crate::faults::Fault;
-use crate::refreshing::refresh;
-use crate::users::users;
+use crate::follower::Follower;
 use rubis_generate::decide;
+use rubis_listing::{bids, categories, comments, items, log, misfit_rows, purchases, users};
 use rubis_message::{Arrival, Message, Taken, Token};
-use rubis_release::{Intake, IntakeFault};
-use rubis_schema::{Fields, Items, Listing, Refusal};
-use rubis_shadow::{Ask, PlainTables};
+use rubis_pieces::misfits;
+use rubis_release::Intake;
+use rubis_schema::{Fields, Items, Listing};
+use rubis_shadow::{Ask, Shadow};
 use std::alloc::{AllocError, Global};
 use std::marker::Model;
 
@@ -24,52 +27,85 @@ use std::marker::Model;
 #[derive(Drop)]
 pub struct Site {
     intake: Intake,
-    tables: PlainTables,
-    // How much of the log the tables have.
-    applied: Progress,
-    // Whether they have some but not all of a batch.
-    behind: bool,
+    follower: Follower,
     batch: u32,
     alloc: Global,
 }
 
 impl Model for Site {
-    ghost use Rattle.std.specs.Prelude.{length};
-    ghost use Rattle.rubis_replica.specs.State.{SiteState, left_of};
-    ghost use Rattle.rubis_replica.specs.Walk.{Follows};
+    ghost use Rattle.rubis_replica.specs.State.{SiteState};
+    ghost use Rattle.rubis_replica.specs.Follow.{FollowsAt};
 
     ghost Value = { SiteState };
 
-    ghost view = { λ s. record {
-      place = s.intake.place;
-      state = s.intake.state;
-      applied = s.applied.messages;
-      left = length (left_of s.intake.state.log s.applied.messages s.applied.parts);
-      behind = s.behind;
-      batch = s.batch;
-    } };
+    ghost view = { λ s. record { place = s.intake.place; state = s.intake.state; progress = s.follower.progress; batch = s.batch } };
 
-    ghost invariant = { λ s. Follows s.intake.place.sites s.intake.state.log s.tables s.applied.messages s.applied.parts };
+    ghost invariant = { λ s. FollowsAt s.intake.place.sites s.intake.state.log s.follower };
 }
 
 impl Site {
     /// A site with nothing done, set up so.
     pub fn new(alloc: Global, config: &Config) -> Result<Site, AllocError>
-        ensures { IfOk result (λ site. (site.place ≡ place_of config.now) × (site.state ≡ opening_at config.now.site) × (site.applied ≡ 0) × (site.behind ≡ false) × (site.batch ≡ config.now.batch)) }
+        ensures { IfOk result (λ site. site ≡ record { place = place_of config.now; state = opening_at config.now.site; progress = whole 0; batch = config.now.batch }) }
     {
-        let intake = Intake::new(alloc, config.site(), config.sites(), config.keep())?;
-        let tables = PlainTables::new(alloc)?;
         Ok(Site {
-            intake,
-            tables,
-            applied: Progress {
-                messages: 0,
-                parts: 0,
-            },
-            behind: false,
+            intake: Intake::new(alloc, config.site(), config.sites(), config.keep())?,
+            follower: Follower::new(alloc, config.shards())?,
             batch: config.batch(),
             alloc,
         })
+    }
+
+    // Applies all that is pending, as one batch.
+    fn refresh(&mut self) -> Result<(), Fault>
+        ensures place { self.new.place ≡ self.old.place }
+        ensures batch { self.new.batch ≡ self.old.batch }
+        ensures state { self.new.state ≡ self.old.state }
+        ensures waits { WaitsBehind self.old self.new result }
+        ensures ok { OnOk result (self.new ≡ with_all_applied self.old) }
+        ensures fault { IfErr result (IsCutFault self.old self.new) }
+    {
+        if self.follower.is_behind() {
+            return Err(Fault::Behind);
+        }
+        if self.follower.follow(self.intake.log()).is_ok() {
+            return Ok(());
+        }
+        if self.follower.is_behind() {
+            return Err(Fault::Behind);
+        }
+        Err(Fault::Memory)
+    }
+
+    // Applies what is pending where that is a batch.
+    fn apply_batch(&mut self)
+        requires { self.old.progress.left ≡ 0 }
+        ensures place { self.new.place ≡ self.old.place }
+        ensures batch { self.new.batch ≡ self.old.batch }
+        ensures state { self.new.state ≡ self.old.state }
+        ensures batched { IsBatched self.old.batch self.old.state.log self.old.progress self.new.progress }
+    {
+        let pending = self.intake.log().len() - self.follower.applied();
+        if pending >= self.batch as usize {
+            let _ = self.follower.follow(self.intake.log());
+        }
+    }
+
+    // Decides an ask against the tables of the log, all of which is applied first.
+    fn decided(&mut self, ask: Ask) -> Result<Shadow, Fault>
+        requires { IsAsk self.old.place.sites ask }
+        ensures place { self.new.place ≡ self.old.place }
+        ensures batch { self.new.batch ≡ self.old.batch }
+        ensures state { self.new.state ≡ self.old.state }
+        ensures waits { WaitsBehind self.old self.new result }
+        ensures decides { Decides self.old ask result }
+        ensures limits { IfOk result (InLimits self.old.place.sites) }
+        ensures ok { OnOk result (self.new ≡ with_all_applied self.old) }
+        ensures fault { IfErr result (IsReadFault self.old self.new) }
+    {
+        self.refresh()?;
+        let standing = self.intake.standing();
+        Ok(decide(ask, self.follower.tables(), &standing)?)
     }
 
     /// Decides an ask against the tables, and makes the message of its shadow.
@@ -79,23 +115,11 @@ impl Site {
         ensures batch { self.new.batch ≡ self.old.batch }
         ensures waits { WaitsBehind self.old self.new result }
         ensures step { Answers self.old self.new (asked self.old.place self.old.state ask) result }
-        ensures batched { OnOk result (IsBatched (length self.old.state.log) self.new) }
+        ensures ok { OnOk result (IsBatched self.old.batch self.new.state.log (whole (length self.old.state.log)) self.new.progress) }
+        ensures fault { IfErr result (IsReadFault self.old self.new) }
     {
-        refresh(
-            &self.intake,
-            &mut self.tables,
-            &mut self.applied,
-            &mut self.behind,
-        )?;
-        let standing = self.intake.standing();
-        let shadow = match decide(ask, &self.tables, &standing) {
-            Ok(shadow) => shadow,
-            Err(refusal) => return Err(Fault::Refused(refusal)),
-        };
-        let message = match self.intake.generated(shadow) {
-            Ok(message) => message,
-            Err(_) => return Err(Fault::Memory),
-        };
+        let shadow = self.decided(ask)?;
+        let message = self.intake.generated(shadow)?;
         self.apply_batch();
         Ok(message)
     }
@@ -107,17 +131,16 @@ impl Site {
         ensures batch { self.new.batch ≡ self.old.batch }
         ensures waits { WaitsBehind self.old self.new result }
         ensures step { Answers self.old self.new (arrived self.old.place self.old.state message) result }
-        ensures batched { OnOk result (IsBatched self.old.applied self.new) }
+        ensures progress { TakesIn self.old self.new result }
+        ensures memory { IsErrOf result Fault.Memory → IsAdmitted self.old.place self.old.state message }
     {
-        if self.behind {
+        if self.follower.is_behind() {
             return Err(Fault::Behind);
         }
-        let arrival = match self.intake.arrive(message) {
-            Ok(arrival) => arrival,
-            Err(IntakeFault::Refused(refusal)) => return Err(Fault::Refused(refusal)),
-            Err(IntakeFault::Memory) => return Err(Fault::Memory),
-        };
-        self.apply_batch();
+        let arrival = self.intake.arrive(message)?;
+        if let Arrival::Released(_) = arrival {
+            self.apply_batch();
+        }
         Ok(arrival)
     }
 
@@ -126,34 +149,13 @@ impl Site {
         ensures place { self.new.place ≡ self.old.place }
         ensures batch { self.new.batch ≡ self.old.batch }
         ensures waits { WaitsBehind self.old self.new result }
-        ensures applied { self.new.applied ≡ self.old.applied }
         ensures step { Answers self.old self.new (took self.old.place self.old.state token) result }
+        ensures progress { NeedsNoTables self.old self.new result }
     {
-        if self.behind {
+        if self.follower.is_behind() {
             return Err(Fault::Behind);
         }
-        match self.intake.take_token(token) {
-            Ok(taken) => Ok(taken),
-            Err(refusal) => Err(Fault::Refused(refusal)),
-        }
-    }
-
-    // Applies what is pending where that is a batch.
-    fn apply_batch(&mut self)
-        ensures place { self.new.place ≡ self.old.place }
-        ensures batch { self.new.batch ≡ self.old.batch }
-        ensures state { self.new.state ≡ self.old.state }
-        ensures batched { IsBatched self.old.applied self.new }
-    {
-        let pending = self.intake.log().len() - self.applied.messages;
-        if pending >= self.batch as usize {
-            let _ = refresh(
-                &self.intake,
-                &mut self.tables,
-                &mut self.applied,
-                &mut self.behind,
-            );
-        }
+        Ok(self.intake.take_token(token)?)
     }
 
     /// Hands the token on to a site.
@@ -161,40 +163,51 @@ impl Site {
         ensures place { self.new.place ≡ self.old.place }
         ensures batch { self.new.batch ≡ self.old.batch }
         ensures waits { WaitsBehind self.old self.new result }
-        ensures applied { self.new.applied ≡ self.old.applied }
         ensures step { Answers self.old self.new (passed self.old.place self.old.state to) result }
+        ensures progress { NeedsNoTables self.old self.new result }
     {
-        if self.behind {
+        if self.follower.is_behind() {
             return Err(Fault::Behind);
         }
-        match self.intake.pass_token(to) {
-            Ok(token) => Ok(token),
-            Err(refusal) => Err(Fault::Refused(refusal)),
+        Ok(self.intake.pass_token(to)?)
+    }
+
+    // The rows of a listing, of the log and of the tables as far as they are.
+    fn rows(&self, listing: &Listing) -> Result<Items<Fields>, AllocError>
+        requires { self.now.progress ≡ whole (length self.now.state.log) }
+        ensures { IfOk result (λ rows. rows ≡ listing_rows self.now.state.log (fold_of (cores self.now.state.log)) listing.now) }
+    {
+        let tables = self.follower.tables();
+        match listing {
+            Listing::Users => users(self.alloc, tables),
+            Listing::Items(cat) => items(self.alloc, tables, *cat),
+            Listing::Bids(item) => bids(self.alloc, tables, *item),
+            Listing::Purchases(item) => purchases(self.alloc, tables, *item),
+            Listing::Comments(user) => comments(self.alloc, tables, *user),
+            Listing::Categories => categories(self.alloc, tables),
+            Listing::Tables => rubis_listing::tables(self.alloc, tables),
+            Listing::Log => log(self.alloc, self.intake.log()),
+            Listing::Misfits => misfit_rows(self.alloc, misfits(self.alloc, tables)?.as_slice()),
         }
     }
 
-    /// The rows of a listing. So far only users are listed; any other listing is refused as no record of the grammar.
+    /// The rows of a listing. That of the log reads no tables and applies nothing; before any other all that is pending
+    /// is applied. A site that is behind has no rows.
     pub fn list(&mut self, listing: &Listing) -> Result<Items<Fields>, Fault>
         ensures place { self.new.place ≡ self.old.place }
         ensures batch { self.new.batch ≡ self.old.batch }
-        ensures waits { listing.now ≡ Listing.Users → WaitsBehind self.old self.new result }
+        ensures waits { WaitsBehind self.old self.new result }
         ensures step { Answers self.old self.new (listed self.old.state listing.now) result }
-        ensures applied { OnOk result (self.new.applied ≡ length self.old.state.log) }
+        ensures progress { Lists listing.now self.old self.new result }
     {
-        match listing {
-            Listing::Users => {}
-            _ => return Err(Fault::Refused(Refusal::BadRecord)),
+        if let Listing::Log = listing {
+            if self.follower.is_behind() {
+                return Err(Fault::Behind);
+            }
+            return Ok(log(self.alloc, self.intake.log())?);
         }
-        refresh(
-            &self.intake,
-            &mut self.tables,
-            &mut self.applied,
-            &mut self.behind,
-        )?;
-        match users(self.alloc, &self.tables) {
-            Ok(rows) => Ok(rows),
-            Err(_) => Err(Fault::Memory),
-        }
+        self.refresh()?;
+        Ok(self.rows(listing)?)
     }
 
     /// Applies all that is pending, and says how many messages that were. Where nothing could be applied for want of
@@ -204,16 +217,11 @@ impl Site {
         ensures batch { self.new.batch ≡ self.old.batch }
         ensures state { self.new.state ≡ self.old.state }
         ensures waits { WaitsBehind self.old self.new result }
-        ensures ok { IfOk result (λ count. (count ≡ pending self.old) × IsUpToDate self.new) }
+        ensures ok { IfOk result (λ count. (count ≡ pending self.old) × (self.new ≡ with_all_applied self.old)) }
         ensures fault { IfErr result (IsCutFault self.old self.new) }
     {
-        let pending = self.intake.log().len() - self.applied.messages;
-        refresh(
-            &self.intake,
-            &mut self.tables,
-            &mut self.applied,
-            &mut self.behind,
-        )?;
+        let pending = self.intake.log().len() - self.follower.applied();
+        self.refresh()?;
         Ok(pending as u32)
     }
 
@@ -223,23 +231,12 @@ impl Site {
         ensures place { self.new.place ≡ self.old.place }
         ensures batch { self.new.batch ≡ self.old.batch }
         ensures state { self.new.state ≡ self.old.state }
-        ensures ready { self.old.behind ≡ false → (result ≡ Ok 0) × (self.new ≡ self.old) }
-        ensures ok { IfOk result (λ parts. self.old.behind ≡ true → (parts ≡ self.old.left) × IsUpToDate self.new) }
-        ensures fault { IfErr result (λ fault. (fault ≡ Fault.Behind) × (self.new.behind ≡ true) × (self.new.left ≤ self.old.left)) }
+        ensures ready { self.old.progress.left ≡ 0 → (result ≡ Ok 0) × (self.new ≡ self.old) }
+        ensures ok { IfOk result (λ parts. (parts ≡ self.old.progress.left) × (self.new.progress ≡ whole self.old.progress.upto)) }
+        ensures fault { IfErr result (λ fault. (fault ≡ Fault.Behind) × GoesOn self.old.progress self.new.progress) }
     {
-        if !self.behind {
-            return Ok(0);
-        }
-        let left = parts_left(self.intake.log(), &self.applied);
-        self.behind = false;
-        let caught = refresh(
-            &self.intake,
-            &mut self.tables,
-            &mut self.applied,
-            &mut self.behind,
-        );
-        if caught.is_err() {
-            self.behind = true;
+        let left = self.follower.left();
+        if self.follower.finish(self.intake.log()).is_err() {
             return Err(Fault::Behind);
         }
         Ok(left)
@@ -247,14 +244,17 @@ impl Site {
 
     /// Whether some but not all of a batch stands in the tables.
     pub fn is_behind(&self) -> bool
-        ensures { result ≡ self.now.behind }
+        ensures value { result ≡ is_behind self.now.progress }
+        ensures conditions { IsProgress self.now.state.log self.now.progress }
     {
-        self.behind
+        self.follower.is_behind()
     }
 
     /// The released messages, in release order.
     pub fn history(&self) -> &[Message]
-        ensures { result.now ≡ self.now.state.log }
+        ensures value { result.now ≡ self.now.state.log }
+        ensures sites { All (λ m. sites_of m ≡ self.now.place.sites) result.now }
+        ensures few { length result.now ≤ self.now.place.keep }
     {
         self.intake.log()
     }

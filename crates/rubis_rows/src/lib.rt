@@ -1,15 +1,14 @@
-//! The tests that cross crates: conversations with a site, tables and decisions, each call that takes memory, and
-//! readers and writers that fail.
+//! The tests that cross crates: a site's calls, tables and decisions, each call that takes memory, readers and writers
+//! that fail, and inputs that no line of text can write down. Whole conversations are no code: they lie in
+//! `conversations/`.
 #![tactic(auto)]
 
 #[cfg(test)]
-mod arrivals;
-#[cfg(test)]
 mod calls;
 #[cfg(test)]
-mod conversations;
-#[cfg(test)]
 mod failing;
+#[cfg(test)]
+mod inputs;
 #[cfg(test)]
 mod packets;
 #[cfg(test)]

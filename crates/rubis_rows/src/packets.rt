@@ -5,7 +5,8 @@ ghost use Rattle.std.specs.Prelude.{◌≡◌, IfOk};
 use crate::records::{message, token};
 use rubis_message::{Arrival, Taken};
 use rubis_replica::{Config, Fault, Site};
-use rubis_schema::Refusal;
+use rubis_schema::{Nick, Refusal};
+use rubis_shadow::Ask;
 use std::alloc::{AllocError, Global};
 use std::test::Fail;
 
@@ -43,6 +44,46 @@ fn three_messages_are_cut_at_once(rt: HostRuntime) -> Result<(), Fail> {
     assert_eq!(rt; site.cut()?, 3);
     assert_eq!(rt; site.cut()?, 0);
     assert_eq!(rt; site.catch_up()?, 0);
+    Ok(())
+}
+
+// A site of two that keeps many messages and applies batches of three.
+fn site_with_batches_of_three(alloc: Global, site: u8) -> Result<Site, Fail>
+    ensures { IfOk result (λ made. made.place.sites ≡ 2) }
+{
+    let config = Config::new(site, 2, 4, 2, 3, 1_000_000).ok_or("a configuration")?;
+    Ok(Site::new(alloc, &config)?)
+}
+
+#[test]
+fn a_batch_is_applied_at_the_third_arrival(rt: HostRuntime) -> Result<(), Fail> {
+    let mut site = site_with_batches_of_three(rt.alloc(), 1)?;
+    assert_eq!(rt; arrive(&mut site, rt.alloc(), ANN)?, Arrival::Released(1));
+    assert_eq!(rt; arrive(&mut site, rt.alloc(), BOB)?, Arrival::Released(1));
+    assert_eq!(rt; arrive(&mut site, rt.alloc(), CUP)?, Arrival::Released(1));
+    assert_eq!(rt; site.cut()?, 0);
+    Ok(())
+}
+
+const FIRST_OF_THE_OTHER: &str = "msg,1,1,1,0,1:0,comment,0.1,0.1,0.1,1,x";
+
+const SECOND_OF_THE_OTHER: &str = "msg,1,1,2,0,1:1,comment,0.1,0.1,0.1,1,y";
+
+#[test]
+fn a_batch_is_applied_at_a_request_that_releases_three(rt: HostRuntime) -> Result<(), Fail> {
+    let mut site = site_with_batches_of_three(rt.alloc(), 0)?;
+    assert_eq!(rt;
+        arrive(&mut site, rt.alloc(), FIRST_OF_THE_OTHER)?,
+        Arrival::Held
+    );
+    assert_eq!(rt;
+        arrive(&mut site, rt.alloc(), SECOND_OF_THE_OTHER)?,
+        Arrival::Held
+    );
+    let nick = Nick::read(b"ann").ok_or("a nickname")?;
+    assert_eq!(rt; site.request(Ask::User(nick))?.stamp().id.seq, 1);
+    assert_eq!(rt; site.history().len(), 3);
+    assert_eq!(rt; site.cut()?, 0);
     Ok(())
 }
 

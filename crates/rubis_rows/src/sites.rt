@@ -42,8 +42,8 @@ fn a_listing_has_a_row_for_each_user(rt: HostRuntime) -> Result<(), Fail> {
     assert_eq!(rt; ask_user(&mut site, b"ann")?, 1);
     assert_eq!(rt; site.list(&Listing::Users)?.len(), 1);
     assert_eq!(rt; site.cut()?, 0);
-    let refused = site.list(&Listing::Log).err();
-    assert_eq!(rt; refused, Some(Fault::Refused(Refusal::BadRecord)));
+    assert_eq!(rt; site.list(&Listing::Log)?.len(), 1);
+    assert_eq!(rt; site.list(&Listing::Misfits)?.len(), 0);
     Ok(())
 }
 

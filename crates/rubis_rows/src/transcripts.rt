@@ -8,7 +8,7 @@ use std::process::Abort;
 
 /// Both sides of a conversation, each line with its end.
 #[derive(Drop)]
-pub struct Talk {
+pub(crate) struct Talk {
     pub said: String,
     pub heard: String,
 }
@@ -20,7 +20,7 @@ fn add_line(text: &mut String, line: &str) -> Result<(), AllocError> {
 }
 
 /// Takes a conversation apart.
-pub fn take_apart(alloc: Global, transcript: &str) -> Result<Talk, AllocError> {
+pub(crate) fn take_apart(alloc: Global, transcript: &str) -> Result<Talk, AllocError> {
     let mut said = String::new(alloc);
     let mut heard = String::new(alloc);
     for line in transcript.lines() {
@@ -33,12 +33,12 @@ pub fn take_apart(alloc: Global, transcript: &str) -> Result<Talk, AllocError> {
 }
 
 /// A site of so many, with all else as the program has it where no option says otherwise.
-pub fn usual<R: Abort>(rt: &R, site: u8, sites: u8) -> Config {
+pub(crate) fn usual<R: Abort>(rt: &R, site: u8, sites: u8) -> Config {
     Config::new(site, sites, 4, 2, 64, 1_000_000).expect(rt, "a configuration")
 }
 
 /// Runs a site on an input, which must end well, after so many records, with this output.
-pub fn run_whole<R: Abort + AllocGlobal>(
+pub(crate) fn run_whole<R: Abort + AllocGlobal>(
     rt: &R,
     config: &Config,
     input: &[u8],
@@ -49,22 +49,4 @@ pub fn run_whole<R: Abort + AllocGlobal>(
     let end = run_site(rt.alloc(), input, &mut out, config);
     assert_eq!(rt; end, Ok(Count { records }));
     assert!(rt; out.as_slice() == want.as_bytes(), "expected {want}");
-}
-
-/// Holds a conversation with a site, which must answer as it is written down.
-pub fn hold_with<R: Abort + AllocGlobal>(rt: &R, config: &Config, transcript: &str) {
-    let talk = take_apart(rt.alloc(), transcript).expect(rt, "memory");
-    let records = talk.said.lines().count() as u64;
-    run_whole(
-        rt,
-        config,
-        talk.said.as_bytes(),
-        talk.heard.as_str(),
-        records,
-    );
-}
-
-/// Holds a conversation with the usual site of so many.
-pub fn hold<R: Abort + AllocGlobal>(rt: &R, site: u8, sites: u8, transcript: &str) {
-    hold_with(rt, &usual(rt, site, sites), transcript);
 }

@@ -4,3 +4,4 @@ pub mod Decimals
 pub mod Marks
 pub mod IdTexts
 pub mod Digits
+pub mod FieldLaws

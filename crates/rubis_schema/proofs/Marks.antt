@@ -1,69 +1,47 @@
--- A text that is cut at a mark.
-use Rattle.std.proofs.Common.{◌≡◌, ◌≢◌, ◌≤◌, ◌<◌, ◌+◌, ◌-◌, ◌==◌, ℕ, Bool, true, false, List, [], ◌∷◌, ◌++◌, length, get_or, take, drop, Some, None, cond, refl, ap, sym, ◌∙◌, arith, add-one, length-drop, length-take}
-use Rattle.std.specs.Prelude.{nat_lt}
-use Rattle.std.specs.List.{All, AllByRecursion, position, position_or_len}
-use Rattle.std.proofs.lemmas.List.Elements.{recursion_from_All, All-from_get_or}
+-- A text that is cut at its first mark.
+use Rattle.std.proofs.Common.{◌≡◌, ◌≢◌, ◌<◌, ◌+◌, ◌==◌, ℕ, List, ◌∷◌, ◌++◌, length, get_or, take, drop, refl, ap, sym, subst, ◌∙◌, arith, add-one, length-append}
+use Rattle.std.specs.Prelude.{nat_lt, cond, Option, Some, None, option_map}
+use Rattle.std.specs.List.{All, position, position_or_len}
+use Rattle.std.proofs.lemmas.List.{get_or_append_left}
+use Rattle.std.proofs.lemmas.List.Elements.{All-get_or}
 use Rattle.std.proofs.lemmas.List.Quantifiers.{position-Some}
-use Rattle.std.proofs.lemmas.List.Sums.{fails_before_first}
-use Rattle.std.proofs.lemmas.List.{take_all, get_or-take}
-use Rattle.std.proofs.lemmas.Bool.{false≢true}
-use Rattle.std.proofs.lemmas.Bool.Decides.{Decides-eqb, nat_tests}
-use Rattle.std.proofs.Math.Seq.{split_at}
+use Rattle.std.proofs.lemmas.List.Sums.{position_or_len_is}
+use Rattle.std.proofs.lemmas.Option.{same_Some}
+use Rattle.std.proofs.lemmas.Bool.{ne_eqb}
+use Rattle.std.proofs.lemmas.Bool.Decides.{Decides-eqb, Decides-ltb}
+use Rattle.std.proofs.Math.Seq.{split_at, get_or-append_seam, take-append_seam, drop-append-add}
+use Rattle.rubis_schema.specs.FieldForms.{cut_at}
 
-different : (b mark : ℕ) → (b == mark) ≡ false → b ≢ mark
-different b mark f e = false≢true (sym f ∙ (Decides-eqb b mark).1 e)
+first_mark : (mark : ℕ) (xs ys : List ℕ) → All (λ b. b ≢ mark) xs → position_or_len (λ b. b == mark) (xs ++ mark ∷ ys) ≡ length xs
+first_mark mark xs ys free =
+    position_or_len_is (λ b. b == mark) (xs ++ mark ∷ ys) (length xs) 0 (omega (arith, length-append xs (mark ∷ ys)))
+    (λ k lt. ap (λ b. b == mark) (get_or_append_left xs (mark ∷ ys) 0 k lt)
+    ∙ ne_eqb _ mark (All-get_or (λ b. b ≢ mark) xs k 0 lt free))
+    (λ lt. ap (λ b. b == mark) (get_or-append_seam xs mark ys 0) ∙ (Decides-eqb mark mark).1 refl)
 
--- before the place of the first mark there is none
-pub free_before : (bytes : List ℕ) (mark place : ℕ) → position (λ b. b == mark) bytes ≡ Some place → All (λ b. b ≢ mark) (take place bytes)
-free_before bytes mark place e =
-    let at = position-Some (λ b. b == mark) bytes place 0 e in
-    All-from_get_or (λ b. b ≢ mark) (take place bytes) 0 (λ i h.
-    let lt : i < place = omega (arith, length-take place bytes, h) in
-    different _ mark (ap (λ b. b == mark) (get_or-take place bytes i 0 lt) ∙ at.2 i lt))
+mark_at : (mark : ℕ) (xs ys : List ℕ) → All (λ b. b ≢ mark) xs → position (λ b. b == mark) (xs ++ mark ∷ ys) ≡ Some (length xs)
+mark_at mark xs ys free =
+    let within : length xs < length (xs ++ mark ∷ ys) = omega (arith, length-append xs (mark ∷ ys)) in
+    ap (λ n. cond (nat_lt n (length (xs ++ mark ∷ ys))) (Some n) None) (first_mark mark xs ys free)
+    ∙ ap (λ b. cond b (Some (length xs)) None) ((Decides-ltb (length xs) (length (xs ++ mark ∷ ys))).1 within)
 
-past_by : (n size : ℕ) (b : Bool) → nat_lt n size ≡ b → cond b (Some n) None ≡ None → size ≤ n
-past_by n size true h e = absurd cc
-past_by n size false h e = grind (arith, nat_tests)
+-- it falls into what is free of marks in front, and what stands behind the mark
+pub cut_back : (mark : ℕ) (xs ys : List ℕ) → All (λ b. b ≢ mark) xs → cut_at mark (xs ++ mark ∷ ys) ≡ Some (xs, ys)
+cut_back mark xs ys free =
+    ap (option_map (λ place. (take place (xs ++ mark ∷ ys), drop (place + 1) (xs ++ mark ∷ ys)))) (mark_at mark xs ys free)
+    ∙ (λ i. Some (take-append_seam xs (mark ∷ ys) i, drop-append-add xs (mark ∷ ys) 1 i))
 
-past_end : (n size : ℕ) → cond (nat_lt n size) (Some n) None ≡ None → size ≤ n
-past_end n size e = past_by n size (nat_lt n size) refl e
+cut_by : (mark : ℕ) (field : List ℕ) (parts : List ℕ × List ℕ) (o : Option ℕ) → position (λ b. b == mark) field ≡ o
+    → option_map (λ place. (take place field, drop (place + 1) field)) o ≡ Some parts → field ≡ parts.0 ++ mark ∷ parts.1
+cut_by mark field parts None is e = absurd cc
+cut_by mark field parts (Some place) is e =
+    let at = position-Some (λ b. b == mark) field place 0 is in
+    let here : get_or field place 0 ≡ mark = (Decides-eqb (get_or field place 0) mark).0 at.1 in
+    let cut : field ≡ take place field ++ mark ∷ drop (place + 1) field =
+    split_at field place 0 at.0 ∙ (λ i. take place field ++ here i ∷ drop (sym (add-one place) i) field) in
+    subst (λ (p : List ℕ × List ℕ). field ≡ p.0 ++ mark ∷ p.1) (same_Some _ _ e) cut
 
--- where it has no place there is none
-pub free_of : (bytes : List ℕ) (mark : ℕ) → position (λ b. b == mark) bytes ≡ None → All (λ b. b ≢ mark) bytes
-free_of bytes mark e =
-    let far = past_end (position_or_len (λ b. b == mark) bytes) (length bytes) e in
-    All-from_get_or (λ b. b ≢ mark) bytes 0 (λ i h. different _ mark (fails_before_first (λ b. b == mark) bytes i 0 (omega (arith, far, h))))
-
--- the text is its two parts with the mark between
-pub parts_of : (bytes : List ℕ) (mark place : ℕ) → position (λ b. b == mark) bytes ≡ Some place
-    → bytes ≡ take place bytes ++ mark ∷ take (length bytes - (place + 1)) (drop (place + 1) bytes)
-parts_of bytes mark place e =
-    let at = position-Some (λ b. b == mark) bytes place 0 e in
-    let here : get_or bytes place 0 ≡ mark = (Decides-eqb (get_or bytes place 0) mark).0 at.1 in
-    let rest : take (length bytes - (place + 1)) (drop (place + 1) bytes) ≡ drop (place + 1) bytes =
-    take_all _ _ (omega (arith, length-drop (place + 1) bytes)) in
-    let cut = split_at bytes place 0 at.0 in
-    cut ∙ (λ i. take place bytes ++ here i ∷ (ap (λ n. drop n bytes) (sym (add-one place)) ∙ sym rest) i)
-
-same_by : (mark : ℕ) (xs us ys vs : List ℕ) → AllByRecursion (λ b. b ≢ mark) xs → AllByRecursion (λ b. b ≢ mark) us → xs ++ mark ∷ ys ≡ us ++ mark ∷ vs → (xs ≡ us) × (ys ≡ vs)
-same_by mark [] [] ys vs hx hu e = (refl, cc)
-same_by mark [] (u ∷ us) ys vs hx hu e = let same : u ≡ mark = cc in absurd (hu.0 same)
-same_by mark (x ∷ xs) [] ys vs hx hu e = let same : x ≡ mark = cc in absurd (hx.0 same)
-same_by mark (x ∷ xs) (u ∷ us) ys vs hx hu e =
-    let head : x ≡ u = cc in
-    let tail : xs ++ mark ∷ ys ≡ us ++ mark ∷ vs = cc in
-    let more = same_by mark xs us ys vs hx.1 hu.1 tail in
-    let front : xs ≡ us = more.0 in
-    (cc, more.1)
-
--- a text is cut at its first mark in one way
-pub same_parts : (mark : ℕ) (xs us ys vs : List ℕ) → All (λ b. b ≢ mark) xs → All (λ b. b ≢ mark) us → xs ++ mark ∷ ys ≡ us ++ mark ∷ vs → (xs ≡ us) × (ys ≡ vs)
-same_parts mark xs us ys vs hx hu = same_by mark xs us ys vs (recursion_from_All (λ b. b ≢ mark) xs hx) (recursion_from_All (λ b. b ≢ mark) us hu)
-
-found_by : (mark : ℕ) (xs ys : List ℕ) → AllByRecursion (λ b. b ≢ mark) (xs ++ mark ∷ ys) → ⊥
-found_by mark [] ys h = h.0 refl
-found_by mark (x ∷ xs) ys h = found_by mark xs ys h.1
-
--- a text with a mark in it is not free of it
-pub found : (mark : ℕ) (xs ys : List ℕ) → All (λ b. b ≢ mark) (xs ++ mark ∷ ys) → ⊥
-found mark xs ys h = found_by mark xs ys (recursion_from_All (λ b. b ≢ mark) (xs ++ mark ∷ ys) h)
+-- put together with the mark between, the two parts are the text
+pub cut_only : (mark : ℕ) (field : List ℕ) (parts : List ℕ × List ℕ) → cut_at mark field ≡ Some parts
+    → field ≡ parts.0 ++ mark ∷ parts.1
+cut_only mark field parts e = cut_by mark field parts _ refl e

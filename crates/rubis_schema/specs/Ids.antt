@@ -1,12 +1,13 @@
 -- Ids, and how they and numbers are written.
 use Rattle.std.specs.Prelude.{ℕ, ◌<◌, ◌≤◌, ◌+◌, ℤ, pos, negsuc, List, ◌∷◌, ◌++◌, decimal}
 use Rattle.rubis_schema.specs.declared.ids.Id.{Id}
+use Rattle.rubis_schema.specs.declared.limits.TheConstants.{SEQ_MAX}
 
 -- an id of one of so many sites
 pub record IsId (sites : ℕ) (id : Id) : Type 0 where
   pub site : id.site < sites
   pub positive : 1 ≤ id.seq
-  pub small : id.seq ≤ 1000000
+  pub small : id.seq ≤ SEQ_MAX
 
 -- an id is written as its site, a point and its number
 abbrev pub id_text : Id → List ℕ

@@ -1,5 +1,6 @@
 pub mod Ids
 pub mod Texts
+pub mod FieldForms
 pub mod Keys
 pub mod KeyLaws
 pub mod Refusals

@@ -1,6 +1,7 @@
 -- The grammar of nicknames, names and texts.
-use Rattle.std.specs.Prelude.{◌≡◌, ℕ, ◌-◌, ◌≤◌, List, ◌++◌, length, replicate, Bool, ◌&&◌, ◌||◌, ◌==◌, nat_le, IsTrue, slice_index, take}
+use Rattle.std.specs.Prelude.{◌≡◌, ℕ, ◌-◌, List, ◌++◌, length, replicate, Bool, ◌&&◌, ◌||◌, ◌==◌, nat_le, nat_lt, IsTrue, slice_index, take}
 use Rattle.std.specs.List.{list_all}
+use Rattle.rubis_schema.specs.declared.limits.TheConstants.{NICK_MAX, NAME_MAX, TEXT_MAX}
 
 abbrev pub is_small_letter : ℕ → Bool
 is_small_letter b = nat_le 97 b && nat_le b 122
@@ -16,27 +17,30 @@ is_nick_byte b = is_small_letter b || (is_digit b || (b == 95))
 abbrev pub is_printable : ℕ → Bool
 is_printable b = nat_le 32 b && nat_le b 126
 
--- a nickname: 1 to 20 small letters, digits and `_`, the first a letter
-pub record IsNick (text : List ℕ) : Type 0 where
-  pub some : 1 ≤ length text
-  pub few : length text ≤ 20
-  pub each : IsTrue (list_all is_nick_byte text)
-  pub first : IsTrue (is_small_letter (slice_index text 0))
+-- a nickname: small letters, digits and `_`, the first a letter
+abbrev pub is_nick : List ℕ → Bool
+is_nick text = is_small_letter (slice_index text 0) && (nat_le (length text) NICK_MAX && list_all is_nick_byte text)
 
--- a name: 1 to 64 printable bytes
-pub record IsName (text : List ℕ) : Type 0 where
-  pub some : 1 ≤ length text
-  pub few : length text ≤ 64
-  pub each : IsTrue (list_all is_printable text)
+abbrev pub IsNick : List ℕ → Type 0
+IsNick text = IsTrue (is_nick text)
 
--- a text: 0 to 200 printable bytes
-pub record IsText (text : List ℕ) : Type 0 where
-  pub few : length text ≤ 200
-  pub each : IsTrue (list_all is_printable text)
+-- a name: printable bytes, at least one
+abbrev pub is_name : List ℕ → Bool
+is_name text = nat_lt 0 (length text) && (nat_le (length text) NAME_MAX && list_all is_printable text)
 
--- with zeros behind it, 20 bytes in all
+abbrev pub IsName : List ℕ → Type 0
+IsName text = IsTrue (is_name text)
+
+-- a text: printable bytes, or none
+abbrev pub is_text : List ℕ → Bool
+is_text text = nat_le (length text) TEXT_MAX && list_all is_printable text
+
+abbrev pub IsText : List ℕ → Type 0
+IsText text = IsTrue (is_text text)
+
+-- with zeros behind it, as many bytes as a nickname can have
 abbrev pub padded : List ℕ → List ℕ
-padded bytes = bytes ++ replicate (20 - length bytes) 0
+padded bytes = bytes ++ replicate (NICK_MAX - length bytes) 0
 
 -- the first `len` of these bytes are a nickname, and zeros stand behind it
 pub record IsPadded (bytes : List ℕ) (len : ℕ) : Type 0 where

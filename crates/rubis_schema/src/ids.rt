@@ -1,14 +1,13 @@
-ghost use Rattle.std.specs.Prelude.{◌≡◌, ◌≢◌, ◌++◌, ◌∷◌, [], IfOk, IfSome, IsNone, OnErr, OnOk};
-ghost use Rattle.rubis_schema.specs.Ids.{IsId, id_text};
+ghost use Rattle.std.specs.Prelude.{◌≡◌, ◌++◌, ◌∷◌, [], IfOk, OnErr, OnOk};
+ghost use Rattle.rubis_schema.specs.FieldForms.{id_of};
+ghost use Rattle.rubis_schema.specs.Ids.{id_text};
 
 use crate::field_list::Fields;
+use crate::limits::SEQ_MAX;
 use crate::numbers::read_number;
 use crate::short_texts::ShortText;
 use crate::splits::split_once;
 use std::alloc::{AllocError, Global};
-
-/// The greatest number of an id.
-pub const SEQ_MAX: u32 = 1_000_000;
 
 /// The id of a shadow, and of the row that it inserts: the site that made it, and its number there, from 1.
 #[derive(Clone, Copy, PartialEq, Eq, PartialOrd, Ord, Hash, Debug)]
@@ -19,9 +18,9 @@ pub struct Id {
 
 impl Id {
     /// The id of one of so many sites that is written so.
+    #[tactic(auto, unfolding(crate::specs::FieldForms::id_of))]
     pub fn read(bytes: &[u8], sites: u8) -> Option<Id>
-        ensures some { IfSome result (λ id. IsId sites id × (bytes.now ≡ id_text id)) }
-        ensures none { IsNone result → (id : Id) → IsId sites id → bytes.now ≢ id_text id }
+        ensures { result ≡ id_of sites bytes.now }
     {
         let (front, back) = split_once(bytes, b'.')?;
         let site = read_number(front, u64::from(u8::MAX))?;

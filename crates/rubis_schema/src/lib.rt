@@ -3,7 +3,10 @@
 #![tactic(auto)]
 
 mod field_list;
+mod homes;
 mod ids;
+mod laws;
+mod limits;
 mod listings;
 mod lists;
 mod nicks;
@@ -17,15 +20,22 @@ mod texts;
 mod views;
 
 pub use field_list::Fields;
-pub use ids::{Id, SEQ_MAX};
+pub use homes::shard_of;
+pub use ids::Id;
+pub use laws::fields_have_one_reading;
+pub use limits::{
+    AMOUNT_MAX, BATCH_MAX, CAT_MAX, CATEGORIES, COUNT_MAX, COUNTED_MAX, KEEP_MAX, NAME_MAX,
+    NICK_MAX, PASS_MAX, QUANTITY_MAX, RATING_MAX, RECORDS_MAX, SEQ_MAX, SHARDS_MAX, SHORT_TEXT_MAX,
+    SITES_MAX, TEXT_MAX, TURN_MAX, WORKERS_MAX,
+};
 pub use listings::Listing;
 pub use lists::Items;
-pub use nicks::{NICK_MAX, Nick};
-pub use numbers::{RATING_MAX, push_int, push_number, read_number, read_rating};
+pub use nicks::Nick;
+pub use numbers::{push_int, push_number, read_number, read_rating};
 pub use refusals::Refusal;
 pub use row_keys::{RowKey, Table, key_cmp};
 pub use rows::{Best, BidRow, CatRow, CommentRow, ItemRow, PurchaseRow, Row, Sale, UserRow};
-pub use short_texts::{SHORT_TEXT_MAX, ShortText};
+pub use short_texts::ShortText;
 pub use splits::split_once;
-pub use texts::{NAME_MAX, Name, TEXT_MAX, Text};
+pub use texts::{Name, Text};
 pub use views::View;

@@ -1,20 +1,18 @@
-ghost use Rattle.std.specs.Prelude.{◌≡◌, ◌↔◌, IsTrue};
-ghost use Rattle.std.specs.Option.{SomeIff};
+ghost use Rattle.std.specs.Prelude.{◌≡◌};
 ghost use Rattle.std.specs.List.{list_all};
-ghost use Rattle.rubis_schema.specs.Texts.{IsNick, is_nick_byte, is_small_letter};
+ghost use Rattle.rubis_schema.specs.FieldForms.{nick_of};
+ghost use Rattle.rubis_schema.specs.Texts.{IsNick, is_nick, is_nick_byte, is_small_letter};
 
+use crate::limits::NICK_MAX;
 use std::cmp::Ordering;
 use std::marker::Model;
-
-/// The most bytes of a nickname.
-pub const NICK_MAX: usize = 20;
 
 /// A nickname: 1 to 20 of `a-z`, `0-9` and `_`, the first a letter. Contracts see its bytes, by which nicknames are
 /// ordered.
 #[derive(Clone, Copy, Debug)]
 pub struct Nick {
     // The bytes, and zeros after them.
-    bytes: [u8; 20],
+    bytes: [u8; NICK_MAX],
     len: u8,
 }
 
@@ -54,7 +52,7 @@ fn all_inner(text: &[u8]) -> bool
 }
 
 fn is_nick(text: &[u8]) -> bool
-    ensures { IsTrue result ↔ IsNick text.now }
+    ensures { result ≡ is_nick text.now }
 {
     match text.first() {
         Some(byte) => is_small(*byte) && text.len() <= NICK_MAX && all_inner(text),
@@ -64,8 +62,9 @@ fn is_nick(text: &[u8]) -> bool
 
 impl Nick {
     /// The nickname of these bytes, if they are one.
+    #[tactic(auto, unfolding(crate::specs::FieldForms::nick_of))]
     pub fn read(text: &[u8]) -> Option<Nick>
-        ensures { SomeIff result (IsNick text.now) text.now }
+        ensures { result ≡ nick_of text.now }
     {
         if !is_nick(text) {
             return None;

@@ -1,14 +1,13 @@
 // Numbers as text, each in one spelling.
 
-ghost use Rattle.std.specs.Prelude.{◌≡◌, ◌≢◌, ◌≤◌, ◌<◌, ◌↔◌, ◌∷◌, ◌++◌, [], ℕ, ℤ, IfSome, IsNone, IsTrue, OnErr, OnOk, decimal, length, slice_index, unsigned_abs};
+ghost use Rattle.std.specs.Prelude.{◌≡◌, ◌≤◌, ◌<◌, ◌↔◌, ◌∷◌, ◌++◌, [], IfSome, IsTrue, OnErr, OnOk, decimal, length, slice_index};
+ghost use Rattle.rubis_schema.specs.FieldForms.{below_zero_of, number_of, rating_of};
 ghost use Rattle.rubis_schema.specs.Ids.{int_text};
 
 use crate::field_list::Fields;
+use crate::limits::RATING_MAX;
 use itoa::Buffer;
 use std::alloc::AllocError;
-
-/// The greatest rating of a comment; the least is as far below 0.
-pub const RATING_MAX: u8 = 5;
 
 // Whether the bytes begin with a 0 that isn't the whole number.
 fn has_leading_zero(bytes: &[u8]) -> bool
@@ -19,8 +18,8 @@ fn has_leading_zero(bytes: &[u8]) -> bool
 
 /// The number up to `max` that is written so, without leading zeros.
 pub fn read_number(bytes: &[u8], max: u64) -> Option<u64>
-    ensures some { IfSome result (λ n. (n ≤ max) × (bytes.now ≡ decimal n)) }
-    ensures none { IsNone result → (n : ℕ) → n ≤ max → bytes.now ≢ decimal n }
+    ensures value { result ≡ number_of max bytes.now }
+    ensures small { IfSome result (λ n. n ≤ max) }
 {
     if bytes.is_empty() || has_leading_zero(bytes) {
         return None;
@@ -37,9 +36,9 @@ pub fn read_number(bytes: &[u8], max: u64) -> Option<u64>
 }
 
 // The rating whose digit, after a `-`, is written so: not 0, which has no sign.
+#[tactic(auto, unfolding(crate::specs::FieldForms::below_zero_of))]
 fn below_zero(digits: &[u8]) -> Option<i8>
-    ensures some { IfSome result (λ z. (unsigned_abs z ≤ 5) × (45 ∷ digits.now ≡ int_text z)) }
-    ensures none { IsNone result → (z : ℤ) → unsigned_abs z ≤ 5 → 45 ∷ digits.now ≢ int_text z }
+    ensures { result ≡ below_zero_of digits.now }
 {
     let size = read_number(digits, u64::from(RATING_MAX))?;
     if size == 0 {
@@ -49,9 +48,9 @@ fn below_zero(digits: &[u8]) -> Option<i8>
 }
 
 /// The rating, -5 to 5, that is written so: 0 without a sign, and no sign but `-`.
+#[tactic(auto, unfolding(crate::specs::FieldForms::rating_of))]
 pub fn read_rating(bytes: &[u8]) -> Option<i8>
-    ensures some { IfSome result (λ z. (unsigned_abs z ≤ 5) × (bytes.now ≡ int_text z)) }
-    ensures none { IsNone result → (z : ℤ) → unsigned_abs z ≤ 5 → bytes.now ≢ int_text z }
+    ensures { result ≡ rating_of bytes.now }
 {
     match bytes.split_first() {
         Some((b'-', digits)) => below_zero(digits),

@@ -7,7 +7,7 @@ use std::alloc::AllocError;
 
 /// A user: the nickname, how many items the user listed, how many pieces the user bought, and the sum and the count
 /// of the comments to the user.
-#[derive(Clone, Copy, Debug)]
+#[derive(Clone, Copy, PartialEq, Eq, Debug)]
 pub struct UserRow {
     pub nick: Nick,
     pub items: u64,
@@ -33,7 +33,7 @@ pub enum Sale {
 
 /// An item: `stock` pieces are left and `sold` were bought; bids begin at `start`, and `price` buys a piece at once
 /// (0: that can't be done).
-#[derive(Drop, Clone, Debug)]
+#[derive(Drop, Clone, PartialEq, Eq, Debug)]
 pub struct ItemRow {
     pub seller: Id,
     pub name: Name,
@@ -65,7 +65,7 @@ pub struct PurchaseRow {
 }
 
 /// A comment on an item, from one user to another, with a rating of -5 to 5.
-#[derive(Drop, Clone, Debug)]
+#[derive(Drop, Clone, PartialEq, Eq, Debug)]
 pub struct CommentRow {
     pub item: Id,
     pub from: Id,
@@ -82,7 +82,7 @@ pub struct CatRow {
 }
 
 /// A row of one of the seven tables. A nickname's row holds the id of its user.
-#[derive(Drop, Clone, Debug)]
+#[derive(Drop, Clone, PartialEq, Eq, Debug)]
 pub enum Row {
     User(UserRow),
     Item(ItemRow),

@@ -1,7 +1,7 @@
 // Parts of a text.
 
-ghost use Rattle.std.specs.Prelude.{◌≡◌, ◌≢◌, ◌==◌, ◌++◌, ◌∷◌, IfSome, IsNone};
-ghost use Rattle.std.specs.List.{All, position};
+ghost use Rattle.std.specs.Prelude.{◌≡◌, ◌==◌, option_map, position};
+ghost use Rattle.rubis_schema.specs.FieldForms.{cut_at};
 
 fn place_of(bytes: &[u8], mark: u8) -> Option<usize>
     ensures { result ≡ position (λ b. b == mark) bytes.now }
@@ -11,8 +11,7 @@ fn place_of(bytes: &[u8], mark: u8) -> Option<usize>
 
 /// The bytes before the first `mark`, and those after it, or `None` where it stands nowhere.
 pub fn split_once(bytes: &[u8], mark: u8) -> Option<(&[u8], &[u8])>
-    ensures some { IfSome result (λ parts. (bytes.now ≡ parts.0.now ++ mark ∷ parts.1.now) × All (λ b. b ≢ mark) parts.0.now) }
-    ensures none { IsNone result → All (λ b. b ≢ mark) bytes.now }
+    ensures { option_map (λ parts. (parts.0.now, parts.1.now)) result ≡ cut_at mark bytes.now }
 {
     let place = place_of(bytes, mark)?;
     Some((&bytes[..place], &bytes[place + 1..]))

@@ -1,16 +1,11 @@
-ghost use Rattle.std.specs.Prelude.{◌≡◌, ◌↔◌, IsTrue, IfOk};
-ghost use Rattle.std.specs.Option.{SomeIff};
+ghost use Rattle.std.specs.Prelude.{◌≡◌, IfOk};
 ghost use Rattle.std.specs.List.{list_all};
-ghost use Rattle.rubis_schema.specs.Texts.{IsName, IsText, is_printable};
+ghost use Rattle.rubis_schema.specs.FieldForms.{name_of, text_of};
+ghost use Rattle.rubis_schema.specs.Texts.{IsName, IsText, is_name, is_printable, is_text};
 
+use crate::limits::{NAME_MAX, TEXT_MAX};
 use std::alloc::{AllocError, Global};
 use std::marker::Model;
-
-/// The most bytes of an item's name.
-pub const NAME_MAX: usize = 64;
-
-/// The most bytes of a comment's text.
-pub const TEXT_MAX: usize = 200;
 
 /// The name of an item: 1 to 64 bytes from space to `~`. Contracts see its bytes.
 #[derive(Drop, Clone, Debug)]
@@ -59,21 +54,22 @@ fn all_plain(text: &[u8]) -> bool
 }
 
 fn is_name(text: &[u8]) -> bool
-    ensures { IsTrue result ↔ IsName text.now }
+    ensures { result ≡ is_name text.now }
 {
     !text.is_empty() && text.len() <= NAME_MAX && all_plain(text)
 }
 
 fn is_text(text: &[u8]) -> bool
-    ensures { IsTrue result ↔ IsText text.now }
+    ensures { result ≡ is_text text.now }
 {
     text.len() <= TEXT_MAX && all_plain(text)
 }
 
 impl Name {
     /// The name of these bytes, if they are one.
+    #[tactic(auto, unfolding(crate::specs::FieldForms::name_of))]
     pub fn read(alloc: Global, text: &[u8]) -> Result<Option<Name>, AllocError>
-        ensures { IfOk result (λ name. SomeIff name (IsName text.now) text.now) }
+        ensures { IfOk result (λ name. name ≡ name_of text.now) }
     {
         if !is_name(text) {
             return Ok(None);
@@ -100,8 +96,9 @@ impl Name {
 
 impl Text {
     /// The text of these bytes, if they are one.
+    #[tactic(auto, unfolding(crate::specs::FieldForms::text_of))]
     pub fn read(alloc: Global, text: &[u8]) -> Result<Option<Text>, AllocError>
-        ensures { IfOk result (λ read. SomeIff read (IsText text.now) text.now) }
+        ensures { IfOk result (λ read. read ≡ text_of text.now) }
     {
         if !is_text(text) {
             return Ok(None);
@@ -124,4 +121,44 @@ impl Text {
     {
         self.clone()
     }
+}
+
+impl PartialEq for Name {
+    ghost use Rattle.std.specs.Prelude.{nat_eq};
+    ghost use Rattle.std.specs.Cmp.Lexicographic.{pointwise, nat_list_eq_equiv};
+    ghost use Rattle.std.specs.Cmp.{partial_equiv_from_equiv};
+
+    ghost eq = { pointwise nat_eq };
+
+    ghost laws = { partial_equiv_from_equiv nat_list_eq_equiv };
+
+    fn eq(&self, other: &Name) -> bool {
+        self.as_bytes() == other.as_bytes()
+    }
+}
+
+impl Eq for Name {
+    ghost use Rattle.std.specs.Cmp.Lexicographic.{nat_list_eq_equiv};
+
+    ghost laws = { nat_list_eq_equiv };
+}
+
+impl PartialEq for Text {
+    ghost use Rattle.std.specs.Prelude.{nat_eq};
+    ghost use Rattle.std.specs.Cmp.Lexicographic.{pointwise, nat_list_eq_equiv};
+    ghost use Rattle.std.specs.Cmp.{partial_equiv_from_equiv};
+
+    ghost eq = { pointwise nat_eq };
+
+    ghost laws = { partial_equiv_from_equiv nat_list_eq_equiv };
+
+    fn eq(&self, other: &Text) -> bool {
+        self.as_bytes() == other.as_bytes()
+    }
+}
+
+impl Eq for Text {
+    ghost use Rattle.std.specs.Cmp.Lexicographic.{nat_list_eq_equiv};
+
+    ghost laws = { nat_list_eq_equiv };
 }

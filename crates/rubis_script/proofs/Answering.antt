@@ -1,24 +1,24 @@
 -- What a site answers to a record, and then to those after it.
 use Rattle.std.specs.Prelude.{OnOk, Result, Ok, Err}
-use Rattle.std.proofs.Common.{◌≡◌, ◌+◌, ◌++◌, ◌∷◌, ℕ, List, refl, sym, ap, ◌∙◌, subst}
-use Rattle.rubis_model.specs.Runs.{after_input, answers, input_of, input_rows}
+use Rattle.std.proofs.Common.{◌≡◌, ◌+◌, ◌++◌, ◌∷◌, ℕ, List, refl, ap, ◌∙◌, subst, sym}
+use Rattle.rubis_model.specs.Runs.{answers, input_of, input_step}
 use Rattle.rubis_model.specs.Site.{Place, Replica}
 use Rattle.rubis_replica.specs.State.{SiteState}
+use Rattle.rubis_script.specs.Inputs.{IsAnswered}
 use Rattle.rubis_script.specs.Text.{rows_text}
-use Rattle.rubis_script.proofs.TextFacts.{text-answers}
+use Rattle.rubis_script.proofs.TextFacts.{text-goes}
 
 goes_on : (p : Place) (s : Replica) (n : ℕ) (fields : List (List ℕ)) (more : List (List (List ℕ)))
-    → answers p s n (fields ∷ more) ≡ input_rows p s n (input_of p.sites fields) ++ answers p (after_input p s (input_of p.sites fields)) (n + 1) more
+    → let step = input_step p s n (input_of p.sites fields) in answers p s n (fields ∷ more) ≡ step.1 ++ answers p step.0 (n + 1) more
 unfolding answers
 goes_on p s n fields more = refl
 
 pub site_goes : {E : Type 0} (r : Result (Unit {0}) E) (old new : SiteState) (n : ℕ) (fields : List (List ℕ)) (sink sink2 : List ℕ)
-    → new.place ≡ old.place
-    → OnOk r (sink2 ≡ sink ++ rows_text (input_rows old.place old.state n (input_of old.place.sites fields)))
-    → OnOk r (new.state ≡ after_input old.place old.state (input_of old.place.sites fields))
+    → new.place ≡ old.place → OnOk r (IsAnswered n (input_of old.place.sites fields) old new sink sink2)
     → OnOk r ((more : List (List (List ℕ))) → sink ++ rows_text (answers old.place old.state n (fields ∷ more)) ≡ sink2 ++ rows_text (answers new.place new.state (n + 1) more))
-site_goes r old new n fields sink sink2 place told state =
-    subst (λ (p : Place). OnOk r ((more : List (List (List ℕ))) → sink ++ rows_text (answers old.place old.state n (fields ∷ more)) ≡ sink2 ++ rows_text (answers p new.state (n + 1) more)))
-    (sym place)
-    (text-answers r (λ s k records. answers old.place s k records) old.state new.state (after_input old.place old.state (input_of old.place.sites fields)) n fields
-    (input_rows old.place old.state n (input_of old.place.sites fields)) sink sink2 (λ more. goes_on old.place old.state n fields more) told state)
+site_goes (Ok u) old new n fields sink sink2 place answered = λ more.
+    let step = input_step old.place old.state n (input_of old.place.sites fields) in
+    ap (λ rows. sink ++ rows_text rows) (goes_on old.place old.state n fields more)
+    ∙ text-goes sink sink2 step.1 (answers old.place step.0 (n + 1) more) answered.1
+    ∙ (λ i. sink2 ++ rows_text (answers (sym place i) (sym answered.0 i) (n + 1) more))
+site_goes (Err e) old new n fields sink sink2 place answered = tt

@@ -1,13 +1,30 @@
--- What the reading of a record finds.
-use Rattle.std.specs.Prelude.{◌≡◌, ℕ, List}
+-- What a record is to a site, and what the site answers to it.
+use Rattle.std.specs.Prelude.{◌≡◌, ◌++◌, ℕ, List, Result, Ok, Err}
+use Rattle.rubis_schema.specs.declared.refusals.Refusal.{Refusal}
 use Rattle.rubis_message.specs.Grammar.{IsPacket, IsRequest}
-use Rattle.rubis_model.specs.Runs.{input_of}
+use Rattle.rubis_model.specs.Runs.{Input as Meant, input_of, input_step}
 use Rattle.rubis_model.specs.Runs.Input.{Asked, Came, Neither}
+use Rattle.rubis_replica.specs.State.{SiteState}
+use Rattle.rubis_replica.specs.declared.faults.Fault.{Fault}
+use Rattle.rubis_replica.specs.declared.faults.Fault.TheVariants.{Refused, Behind, Memory}
+use Rattle.rubis_script.specs.Text.{rows_text}
 use Rattle.rubis_script.specs.declared.desk.Input.{Input}
 use Rattle.rubis_script.specs.declared.desk.Input.TheVariants as read
+use Rattle.rubis_script.specs.declared.fault.OutOfMemory.{OutOfMemory}
 
 -- it is what the record is, and within the limits
 abbrev pub IsRead : ℕ → List (List ℕ) → Input → Type 0
 IsRead sites fields (read.Asked r) = (input_of sites fields ≡ Asked r) × IsRequest sites r
 IsRead sites fields (read.Came p) = (input_of sites fields ≡ Came p) × IsPacket sites p
 IsRead sites fields read.Neither = input_of sites fields ≡ Neither
+
+-- the site has come to what record n makes of it, and the text of its answers stands behind what stood before
+abbrev pub IsAnswered : ℕ → Meant → SiteState → SiteState → List ℕ → List ℕ → Type 0
+IsAnswered n input old new before after =
+    (new.state ≡ (input_step old.place old.state n input).0) × (after ≡ before ++ rows_text (input_step old.place old.state n input).1)
+
+-- an answer of a site, or a refusal; a site that is behind or has no memory gives none
+abbrev pub answer_of : {A : Type 0} → Result A Fault → Result (Result A Refusal) OutOfMemory
+answer_of (Ok a) = Ok (Ok a)
+answer_of (Err (Refused r)) = Ok (Err r)
+answer_of (Err fault) = Err (record {})

@@ -1,18 +1,19 @@
 // A site as a service: a record in, its answers out.
 
-ghost use Rattle.std.specs.Prelude.{◌≡◌, ◌++◌, ◌≤◌, IfOk, OnOk};
-ghost use Rattle.rubis_message.specs.Grammar.{IsPacket, IsRequest};
+ghost use Rattle.std.specs.Prelude.{◌≡◌, ◌≤◌, IfOk, OnOk};
 ghost use Rattle.rubis_shadow.specs.Limits.{IsAsk};
-ghost use Rattle.rubis_model.specs.Runs.{after_input, answers, input_of, input_rows};
-ghost use Rattle.rubis_model.specs.Runs.Input.{Asked, Came};
+ghost use Rattle.rubis_message.specs.Grammar.{IsPacket, IsRequest};
+ghost use Rattle.rubis_message.specs.Message.{sites_of};
 ghost use Rattle.rubis_message.specs.declared.requests.Request.TheVariants as Request;
 ghost use Rattle.rubis_message.specs.declared.tokens.Packet.TheVariants as Packet;
+ghost use Rattle.rubis_model.specs.Runs.{answers, input_of};
+ghost use Rattle.rubis_model.specs.Runs.Input.{Asked, Came};
 ghost use Rattle.rubis_model.specs.Site.{opening_at};
 ghost use Rattle.rubis_replica.specs.Setup.{place_of};
-ghost use Rattle.rubis_message.specs.Message.{sites_of};
-ghost use Rattle.rubis_script.specs.Inputs.{IsRead};
+ghost use Rattle.rubis_script.specs.Inputs.{IsAnswered, IsRead, answer_of};
 ghost use Rattle.rubis_script.specs.Text.{rows_text};
 
+use crate::fault::OutOfMemory;
 use crate::replies::{
     write_arrival, write_asked, write_listed, write_passed, write_refusal, write_taken,
 };
@@ -24,6 +25,18 @@ use rubis_schema::{Fields, Listing, Refusal};
 use rubis_shadow::Ask;
 use std::alloc::{AllocError, Global};
 
+// The answer of a site's call, or its refusal. A site that has no memory for an answer gives none, nor does one that is
+// behind, which had none for a batch.
+fn answered<A>(answer: Result<A, Fault>) -> Result<Result<A, Refusal>, OutOfMemory>
+    ensures { result ≡ answer_of answer }
+{
+    match answer {
+        Ok(answer) => Ok(Ok(answer)),
+        Err(Fault::Refused(refusal)) => Ok(Err(refusal)),
+        Err(Fault::Behind) | Err(Fault::Memory) => Err(OutOfMemory),
+    }
+}
+
 // Answers an ask.
 fn answer_ask(
     site: &mut Site,
@@ -31,17 +44,14 @@ fn answer_ask(
     sink: &mut Sink,
     number: u64,
     ask: Ask,
-) -> Result<(), AllocError>
+) -> Result<(), OutOfMemory>
     requires { IsAsk site.old.place.sites ask }
     ensures place { site.new.place ≡ site.old.place }
-    ensures told { OnOk result (sink.new ≡ sink.old ++ rows_text (input_rows site.old.place site.old.state number (Asked (Request.Ask ask)))) }
-    ensures state { OnOk result (site.new.state ≡ after_input site.old.place site.old.state (Asked (Request.Ask ask))) }
+    ensures answered { OnOk result (IsAnswered number (Asked (Request.Ask ask)) site.old site.new sink.old sink.new) }
 {
-    match site.request(ask) {
-        Ok(message) => write_asked(fields, sink, number, &message),
-        Err(Fault::Refused(refusal)) => write_refusal(fields, sink, number, refusal),
-        Err(_) => Err(AllocError),
-    }
+    let answer = answered(site.request(ask))?;
+    write_asked(fields, sink, number, &answer)?;
+    Ok(())
 }
 
 // Answers a request to hand the token on.
@@ -51,16 +61,13 @@ fn answer_pass(
     sink: &mut Sink,
     number: u64,
     to: u8,
-) -> Result<(), AllocError>
+) -> Result<(), OutOfMemory>
     ensures place { site.new.place ≡ site.old.place }
-    ensures told { OnOk result (sink.new ≡ sink.old ++ rows_text (input_rows site.old.place site.old.state number (Asked (Request.Pass to)))) }
-    ensures state { OnOk result (site.new.state ≡ after_input site.old.place site.old.state (Asked (Request.Pass to))) }
+    ensures answered { OnOk result (IsAnswered number (Asked (Request.Pass to)) site.old site.new sink.old sink.new) }
 {
-    match site.pass(to) {
-        Ok(token) => write_passed(fields, sink, number, &token),
-        Err(Fault::Refused(refusal)) => write_refusal(fields, sink, number, refusal),
-        Err(_) => Err(AllocError),
-    }
+    let answer = answered(site.pass(to))?;
+    write_passed(fields, sink, number, &answer)?;
+    Ok(())
 }
 
 // Answers a request for a listing.
@@ -70,16 +77,13 @@ fn answer_list(
     sink: &mut Sink,
     number: u64,
     listing: &Listing,
-) -> Result<(), AllocError>
+) -> Result<(), OutOfMemory>
     ensures place { site.new.place ≡ site.old.place }
-    ensures told { OnOk result (sink.new ≡ sink.old ++ rows_text (input_rows site.old.place site.old.state number (Asked (Request.List listing.now)))) }
-    ensures state { OnOk result (site.new.state ≡ after_input site.old.place site.old.state (Asked (Request.List listing.now))) }
+    ensures answered { OnOk result (IsAnswered number (Asked (Request.List listing.now)) site.old site.new sink.old sink.new) }
 {
-    match site.list(listing) {
-        Ok(rows) => write_listed(fields, sink, number, &rows),
-        Err(Fault::Refused(refusal)) => write_refusal(fields, sink, number, refusal),
-        Err(_) => Err(AllocError),
-    }
+    let answer = answered(site.list(listing))?;
+    write_listed(fields, sink, number, &answer)?;
+    Ok(())
 }
 
 // Answers a request.
@@ -89,11 +93,10 @@ fn answer_request(
     sink: &mut Sink,
     number: u64,
     request: Request,
-) -> Result<(), AllocError>
+) -> Result<(), OutOfMemory>
     requires { IsRequest site.old.place.sites request }
     ensures place { site.new.place ≡ site.old.place }
-    ensures told { OnOk result (sink.new ≡ sink.old ++ rows_text (input_rows site.old.place site.old.state number (Asked request))) }
-    ensures state { OnOk result (site.new.state ≡ after_input site.old.place site.old.state (Asked request)) }
+    ensures answered { OnOk result (IsAnswered number (Asked request) site.old site.new sink.old sink.new) }
 {
     match request {
         Request::Ask(ask) => answer_ask(site, fields, sink, number, ask),
@@ -109,17 +112,14 @@ fn answer_message(
     sink: &mut Sink,
     number: u64,
     message: Message,
-) -> Result<(), AllocError>
+) -> Result<(), OutOfMemory>
     requires { sites_of message ≡ site.old.place.sites }
     ensures place { site.new.place ≡ site.old.place }
-    ensures told { OnOk result (sink.new ≡ sink.old ++ rows_text (input_rows site.old.place site.old.state number (Came (Packet.Msg message)))) }
-    ensures state { OnOk result (site.new.state ≡ after_input site.old.place site.old.state (Came (Packet.Msg message))) }
+    ensures answered { OnOk result (IsAnswered number (Came (Packet.Msg message)) site.old site.new sink.old sink.new) }
 {
-    match site.arrive(message) {
-        Ok(arrival) => write_arrival(fields, sink, number, arrival),
-        Err(Fault::Refused(refusal)) => write_refusal(fields, sink, number, refusal),
-        Err(_) => Err(AllocError),
-    }
+    let answer = answered(site.arrive(message))?;
+    write_arrival(fields, sink, number, &answer)?;
+    Ok(())
 }
 
 // Answers a token that arrives.
@@ -129,16 +129,13 @@ fn answer_token(
     sink: &mut Sink,
     number: u64,
     token: Token,
-) -> Result<(), AllocError>
+) -> Result<(), OutOfMemory>
     ensures place { site.new.place ≡ site.old.place }
-    ensures told { OnOk result (sink.new ≡ sink.old ++ rows_text (input_rows site.old.place site.old.state number (Came (Packet.Token token)))) }
-    ensures state { OnOk result (site.new.state ≡ after_input site.old.place site.old.state (Came (Packet.Token token))) }
+    ensures answered { OnOk result (IsAnswered number (Came (Packet.Token token)) site.old site.new sink.old sink.new) }
 {
-    match site.token(token) {
-        Ok(taken) => write_taken(fields, sink, number, taken),
-        Err(Fault::Refused(refusal)) => write_refusal(fields, sink, number, refusal),
-        Err(_) => Err(AllocError),
-    }
+    let answer = answered(site.token(token))?;
+    write_taken(fields, sink, number, &answer)?;
+    Ok(())
 }
 
 // Answers a packet.
@@ -148,11 +145,10 @@ fn answer_packet(
     sink: &mut Sink,
     number: u64,
     packet: Packet,
-) -> Result<(), AllocError>
+) -> Result<(), OutOfMemory>
     requires { IsPacket site.old.place.sites packet }
     ensures place { site.new.place ≡ site.old.place }
-    ensures told { OnOk result (sink.new ≡ sink.old ++ rows_text (input_rows site.old.place site.old.state number (Came packet))) }
-    ensures state { OnOk result (site.new.state ≡ after_input site.old.place site.old.state (Came packet)) }
+    ensures answered { OnOk result (IsAnswered number (Came packet) site.old site.new sink.old sink.new) }
 {
     match packet {
         Packet::Msg(message) => answer_message(site, fields, sink, number, message),
@@ -210,27 +206,16 @@ impl Desk {
     }
 
     // Answers a record.
-    fn respond(&mut self, number: u64, fields: &Fields, sink: &mut Sink) -> Result<(), AllocError>
+    fn respond(&mut self, number: u64, fields: &Fields, sink: &mut Sink) -> Result<(), OutOfMemory>
         ensures place { self.new.site.place ≡ self.old.site.place }
-        ensures told { OnOk result (sink.new ≡ sink.old ++ rows_text (input_rows self.old.site.place self.old.site.state number (input_of self.old.site.place.sites fields.now))) }
-        ensures state { OnOk result (self.new.site.state ≡ after_input self.old.site.place self.old.site.state (input_of self.old.site.place.sites fields.now)) }
+        ensures answered { OnOk result (IsAnswered number (input_of self.old.site.place.sites fields.now) self.old.site self.new.site sink.old sink.new) }
     {
+        let site = &mut self.site;
+        let reply = &mut self.reply;
         match read_input(self.alloc, fields, self.sites)? {
-            Input::Asked(request) => answer_request(
-                &mut self.site,
-                &mut self.reply,
-                sink,
-                number,
-                request,
-            ),
-            Input::Came(packet) => answer_packet(
-                &mut self.site,
-                &mut self.reply,
-                sink,
-                number,
-                packet,
-            ),
-            Input::Neither => { write_refusal(&mut self.reply, sink, number, Refusal::BadRecord) }
+            Input::Asked(request) => answer_request(site, reply, sink, number, request),
+            Input::Came(packet) => answer_packet(site, reply, sink, number, packet),
+            Input::Neither => Ok(write_refusal(reply, sink, number, Refusal::BadRecord)?),
         }
     }
 }
@@ -244,11 +229,11 @@ impl<T> Service<T> for Desk {
         number: u64,
         fields: &Fields,
         sink: &mut Sink,
-    ) -> Result<(), AllocError> {
+    ) -> Result<(), OutOfMemory> {
         self.respond(number, fields, sink)
     }
 
-    fn settle(&mut self, _rt: &T, _sink: &mut Sink) -> Result<(), AllocError> {
+    fn settle(&mut self, _rt: &T, _sink: &mut Sink) -> Result<(), OutOfMemory> {
         Ok(())
     }
 }

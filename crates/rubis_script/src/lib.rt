@@ -11,12 +11,13 @@ mod service;
 mod sink;
 mod site_run;
 
-pub use fault::{Count, RunFault};
+pub use desk::Desk;
+pub use fault::{Count, OutOfMemory, RunFault};
 pub use record_list::Records;
 pub use run::run_upto;
 pub use service::Service;
 pub use sink::Sink;
-pub use site_run::{RECORDS_MAX, run_site, run_site_upto};
+pub use site_run::{run_site, run_site_upto};
 
 #[cfg(test)]
 mod tests;

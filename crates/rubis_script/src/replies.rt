@@ -50,8 +50,8 @@ fn write_accepted(
     sink.write_fields(fields)
 }
 
-/// Gives the id of an accepted ask, and sends its message.
-pub fn write_asked(
+// The message of an accepted ask, with its id in front.
+fn write_sent(
     fields: &mut Fields,
     sink: &mut Sink,
     number: u64,
@@ -65,8 +65,23 @@ pub fn write_asked(
     sink.write_after(&[b"send".as_slice()], fields)
 }
 
-/// Says that the token is handed on, and sends it.
-pub fn write_passed(
+/// Gives the id of an accepted ask, and sends its message; or says why the ask is refused.
+pub fn write_asked(
+    fields: &mut Fields,
+    sink: &mut Sink,
+    number: u64,
+    answer: &Result<Message, Refusal>,
+) -> Result<(), AllocError>
+    ensures { OnOk result (sink.new ≡ sink.old ++ rows_text (asked_rows number answer.now)) }
+{
+    match answer {
+        Ok(message) => write_sent(fields, sink, number, message),
+        Err(refusal) => write_refusal(fields, sink, number, *refusal),
+    }
+}
+
+// The token that is handed on.
+fn write_handed_on(
     fields: &mut Fields,
     sink: &mut Sink,
     number: u64,
@@ -79,6 +94,21 @@ pub fn write_passed(
     fields.clear();
     append_token(fields, token)?;
     sink.write_after(&[b"send".as_slice()], fields)
+}
+
+/// Says that the token is handed on, and sends it; or why it isn't.
+pub fn write_passed(
+    fields: &mut Fields,
+    sink: &mut Sink,
+    number: u64,
+    answer: &Result<Token, Refusal>,
+) -> Result<(), AllocError>
+    ensures { OnOk result (sink.new ≡ sink.old ++ rows_text (passed_rows number answer.now)) }
+{
+    match answer {
+        Ok(token) => write_handed_on(fields, sink, number, token),
+        Err(refusal) => write_refusal(fields, sink, number, *refusal),
+    }
 }
 
 // Says how many messages were released.
@@ -108,34 +138,36 @@ fn write_word(
     sink.write_fields(fields)
 }
 
-/// Says what became of a message that arrived.
+/// Says what became of a message that arrived, or why it is refused.
 pub fn write_arrival(
     fields: &mut Fields,
     sink: &mut Sink,
     number: u64,
-    arrival: Arrival,
+    answer: &Result<Arrival, Refusal>,
 ) -> Result<(), AllocError>
-    ensures { OnOk result (sink.new ≡ sink.old ++ rows_text (arrived_rows number (Ok arrival))) }
+    ensures { OnOk result (sink.new ≡ sink.old ++ rows_text (arrived_rows number answer.now)) }
 {
-    match arrival {
-        Arrival::Released(count) => write_released(fields, sink, number, count),
-        Arrival::Held => write_word(fields, sink, number, b"held"),
-        Arrival::Repeat => write_word(fields, sink, number, b"repeat"),
+    match answer {
+        Ok(Arrival::Released(count)) => write_released(fields, sink, number, *count),
+        Ok(Arrival::Held) => write_word(fields, sink, number, b"held"),
+        Ok(Arrival::Repeat) => write_word(fields, sink, number, b"repeat"),
+        Err(refusal) => write_refusal(fields, sink, number, *refusal),
     }
 }
 
-/// Says what became of a token that arrived.
+/// Says what became of a token that arrived, or why it is refused.
 pub fn write_taken(
     fields: &mut Fields,
     sink: &mut Sink,
     number: u64,
-    taken: Taken,
+    answer: &Result<Taken, Refusal>,
 ) -> Result<(), AllocError>
-    ensures { OnOk result (sink.new ≡ sink.old ++ rows_text (took_rows number (Ok taken))) }
+    ensures { OnOk result (sink.new ≡ sink.old ++ rows_text (took_rows number answer.now)) }
 {
-    match taken {
-        Taken::Holding => write_word(fields, sink, number, b"holding"),
-        Taken::Repeat => write_word(fields, sink, number, b"repeat"),
+    match answer {
+        Ok(Taken::Holding) => write_word(fields, sink, number, b"holding"),
+        Ok(Taken::Repeat) => write_word(fields, sink, number, b"repeat"),
+        Err(refusal) => write_refusal(fields, sink, number, *refusal),
     }
 }
 
@@ -149,17 +181,32 @@ fn write_rows(sink: &mut Sink, rows: &[Fields]) -> Result<(), AllocError>
     Ok(())
 }
 
-/// Says how many rows a listing has, and gives them.
-pub fn write_listed(
+// How many rows a listing has, and the rows.
+fn write_listing(
     fields: &mut Fields,
     sink: &mut Sink,
     number: u64,
     rows: &Items<Fields>,
 ) -> Result<(), AllocError>
-    ensures { OnOk result (sink.new ≡ sink.old ++ rows_text (listed_rows number rows.now)) }
+    ensures { OnOk result (sink.new ≡ sink.old ++ rows_text (listed_rows number (Ok rows.now))) }
 {
     begin(fields, number, b"rows")?;
     push_number(fields, rows.len() as u64)?;
     sink.write_fields(fields)?;
     write_rows(sink, rows.as_slice())
+}
+
+/// Says how many rows a listing has, and gives them; or says why it is refused.
+pub fn write_listed(
+    fields: &mut Fields,
+    sink: &mut Sink,
+    number: u64,
+    answer: &Result<Items<Fields>, Refusal>,
+) -> Result<(), AllocError>
+    ensures { OnOk result (sink.new ≡ sink.old ++ rows_text (listed_rows number answer.now)) }
+{
+    match answer {
+        Ok(rows) => write_listing(fields, sink, number, rows),
+        Err(refusal) => write_refusal(fields, sink, number, *refusal),
+    }
 }

@@ -31,9 +31,7 @@ fn write_out<T, S: Service<T>, R: Read, W: Write>(
     ensures faults { IfErr result (λ e. (e ≡ RunFault.Write) ⊎ (e ≡ RunFault.Memory)) }
 {
     if records.is_used_up() {
-        if service.settle(rt, sink).is_err() {
-            return Err(RunFault::Memory);
-        }
+        service.settle(rt, sink)?;
         return sink.close(writer);
     }
     if sink.is_full() {
@@ -143,34 +141,34 @@ fn serve<T, S: Service<T>, R: Read, W: Write>(
 }
 
 /// Answers the records of `reader` until its end, or up to `limit` of them, and appends the text to `writer`.
-/// Where all that the reader gave so far was used up, the answers are written out before it is asked for more.
+/// Where all that the reader gave so far was used up, the answers are written out before it is asked for more. The service
+/// is lent, so that a program can let it go as it likes.
 ///
 /// # Errors
 ///
 /// `Read` where the reader failed: the first records are answered then, as if there were no more. `Write` where the
 /// writer failed. `Memory` where there was not enough: what was written is the front of the whole text. `TooLong`
 /// where the input has more than `limit` records: the first `limit` are answered then.
-pub fn run_upto<T, S: Service<T> + Drop, R: Read + Drop, W: Write>(
+pub fn run_upto<T, S: Service<T>, R: Read + Drop, W: Write>(
     rt: &T,
     alloc: Global,
     reader: R,
     writer: &mut W,
-    service: S,
+    service: &mut S,
     limit: u64,
 ) -> Result<Count, RunFault>
     ensures ok { IfOk result (λ count. IfSome (R.remaining reader) (λ input.
-        Appends (W.contents writer.old) (W.contents writer.new) (S.text service 1 (records_of input))
+        Appends (W.contents writer.old) (W.contents writer.new) (S.text service.old 1 (records_of input))
         × (count.records ≡ length (records_of input)) × (count.records ≤ limit))) }
     ensures too_long { IsErrOf result RunFault.TooLong → IfSome (R.remaining reader) (λ input.
-        Appends (W.contents writer.old) (W.contents writer.new) (S.text service 1 (take limit (records_of input)))
+        Appends (W.contents writer.old) (W.contents writer.new) (S.text service.old 1 (take limit (records_of input)))
         × (limit < length (records_of input))) }
     ensures read { IsErrOf result RunFault.Read → IfSome (R.remaining reader) (λ input.
-        (k : ℕ) × Appends (W.contents writer.old) (W.contents writer.new) (S.text service 1 (take k (records_of input)))) }
+        (k : ℕ) × Appends (W.contents writer.old) (W.contents writer.new) (S.text service.old 1 (take k (records_of input)))) }
     ensures memory { IsErrOf result RunFault.Memory → IfSome (R.remaining reader) (λ input.
-        WroteFront (S.text service 1) (W.contents writer.old) (W.contents writer.new) (records_of input)) }
+        WroteFront (S.text service.old 1) (W.contents writer.old) (W.contents writer.new) (records_of input)) }
 {
-    let mut service = service;
     let mut records = Records::new(alloc, reader);
     let mut sink = Sink::new(alloc);
-    serve(rt, &mut records, &mut service, &mut sink, writer, limit)
+    serve(rt, &mut records, service, &mut sink, writer, limit)
 }

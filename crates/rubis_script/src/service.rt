@@ -2,9 +2,9 @@
 
 ghost use Rattle.std.specs.Prelude.{◌≡◌, ◌++◌, ◌∷◌, ◌+◌, [], ℕ, List, OnOk};
 
+use super::fault::OutOfMemory;
 use super::sink::Sink;
 use rubis_schema::Fields;
-use std::alloc::AllocError;
 
 /// A service that answers records, one after the other. `T` is the runtime that it is lent.
 pub trait Service<T> {
@@ -18,12 +18,12 @@ pub trait Service<T> {
         number: u64,
         fields: &Fields,
         sink: &mut Sink,
-    ) -> Result<(), AllocError>
+    ) -> Result<(), OutOfMemory>
         ensures { OnOk result ((more : List (List (List ℕ)))
             → sink.old ++ text self.old number (fields.now ∷ more) ≡ sink.new ++ text self.new (number + 1) more) };
 
     /// Writes what is held back, so that nothing is left to be written where no record follows.
-    fn settle(&mut self, rt: &T, sink: &mut Sink) -> Result<(), AllocError>
+    fn settle(&mut self, rt: &T, sink: &mut Sink) -> Result<(), OutOfMemory>
         ensures keeps { OnOk result ((n : ℕ) (more : List (List (List ℕ))) → sink.old ++ text self.old n more ≡ sink.new ++ text self.new n more) }
         ensures none { OnOk result ((n : ℕ) → text self.new n [] ≡ []) };
 }

@@ -11,11 +11,9 @@ use crate::desk::Desk;
 use crate::fault::{Count, RunFault};
 use crate::run::run_upto;
 use rubis_replica::Config;
+use rubis_schema::RECORDS_MAX;
 use std::alloc::Global;
 use std::io::{Read, Write};
-
-/// The most records of a run.
-pub const RECORDS_MAX: u64 = 4_000_000;
 
 /// Runs a site over the records of `reader` until its end, or up to `limit` of them: appends the text of its answers to
 /// `writer`. The answers depend on the records, and on which site it is, of how many, and how many messages it keeps.
@@ -43,10 +41,10 @@ pub fn run_site_upto<R: Read + Drop, W: Write>(
     ensures memory { IsErrOf result RunFault.Memory → IfSome (R.remaining reader) (λ input.
         WroteFront (λ records. rows_text (output_of (place_of config.now) records)) (W.contents writer.old) (W.contents writer.new) (records_of input)) }
 {
-    let Ok(desk) = Desk::new(alloc, config) else {
+    let Ok(mut desk) = Desk::new(alloc, config) else {
         return Err(RunFault::Memory);
     };
-    run_upto(&(), alloc, reader, writer, desk, limit)
+    run_upto(&(), alloc, reader, writer, &mut desk, limit)
 }
 
 /// Runs a site over at most 4,000,000 records, as `run_site_upto`.
@@ -62,10 +60,10 @@ pub fn run_site<R: Read + Drop, W: Write>(
 ) -> Result<Count, RunFault>
     ensures ok { IfOk result (λ count. IfSome (R.remaining reader) (λ input.
         Appends (W.contents writer.old) (W.contents writer.new) (rows_text (output_of (place_of config.now) (records_of input)))
-        × (count.records ≡ length (records_of input)) × (count.records ≤ RECORDS_MAX))) }
+        × (count.records ≡ length (records_of input)) × (count.records ≤ 4000000))) }
     ensures too_long { IsErrOf result RunFault.TooLong → IfSome (R.remaining reader) (λ input.
-        Appends (W.contents writer.old) (W.contents writer.new) (rows_text (output_of (place_of config.now) (take RECORDS_MAX (records_of input))))
-        × (RECORDS_MAX < length (records_of input))) }
+        Appends (W.contents writer.old) (W.contents writer.new) (rows_text (output_of (place_of config.now) (take 4000000 (records_of input))))
+        × (4000000 < length (records_of input))) }
     ensures read { IsErrOf result RunFault.Read → IfSome (R.remaining reader) (λ input.
         (k : ℕ) × Appends (W.contents writer.old) (W.contents writer.new) (rows_text (output_of (place_of config.now) (take k (records_of input))))) }
     ensures memory { IsErrOf result RunFault.Memory → IfSome (R.remaining reader) (λ input.

@@ -2,9 +2,8 @@ ghost use Rattle.std.specs.Prelude.{◌∷◌, ◌++◌, codes, map};
 ghost use Rattle.std.specs.Option.{option_to_list};
 ghost use Rattle.rubis_script.specs.Text.{rows_text};
 
-use crate::{Count, RunFault, Service, Sink, run_upto};
+use crate::{Count, OutOfMemory, RunFault, Service, Sink, run_upto};
 use rubis_schema::Fields;
-use std::alloc::{AllocError, Global};
 use std::cell::Cell;
 use std::io;
 use std::io::{Read, Write};
@@ -35,14 +34,14 @@ impl<T> Service<T> for Echo {
         _number: u64,
         fields: &Fields,
         sink: &mut Sink,
-    ) -> Result<(), AllocError> {
+    ) -> Result<(), OutOfMemory> {
         if let Some(last) = self.last.replace(fields.copy()?) {
             sink.write_after(&[b"got".as_slice()], &last)?;
         }
         Ok(())
     }
 
-    fn settle(&mut self, _rt: &T, sink: &mut Sink) -> Result<(), AllocError> {
+    fn settle(&mut self, _rt: &T, sink: &mut Sink) -> Result<(), OutOfMemory> {
         if let Some(last) = self.last.take() {
             sink.write_after(&[b"got".as_slice()], &last)?;
         }
@@ -158,7 +157,14 @@ impl<'a> Write for Wire<'a> {
 #[test]
 fn answers_in_order(rt: HostRuntime) {
     let mut out = Vec::new(rt.alloc());
-    let end = run_upto(&(), rt.alloc(), INPUT.as_slice(), &mut out, Echo::new(), 5);
+    let end = run_upto(
+        &(),
+        rt.alloc(),
+        INPUT.as_slice(),
+        &mut out,
+        &mut Echo::new(),
+        5,
+    );
     assert!(rt; end == Ok(Count { records: 5 }));
     assert!(rt; out.as_slice() == WANT.as_slice());
 }
@@ -166,7 +172,14 @@ fn answers_in_order(rt: HostRuntime) {
 #[test]
 fn stops_at_the_limit(rt: HostRuntime) {
     let mut out = Vec::new(rt.alloc());
-    let end = run_upto(&(), rt.alloc(), INPUT.as_slice(), &mut out, Echo::new(), 1);
+    let end = run_upto(
+        &(),
+        rt.alloc(),
+        INPUT.as_slice(),
+        &mut out,
+        &mut Echo::new(),
+        1,
+    );
     assert!(rt; end == Err(RunFault::TooLong));
     assert!(rt; out.as_slice() == b"got,ann,1\n".as_slice());
 }
@@ -181,7 +194,7 @@ fn a_failing_reader(rt: HostRuntime) {
             rt.alloc(),
             Flaky { text, at: 0 },
             &mut out,
-            Echo::new(),
+            &mut Echo::new(),
             9,
         );
         assert!(rt; end == Err(RunFault::Read), "after {cut} bytes");
@@ -210,7 +223,7 @@ fn a_failing_writer(rt: HostRuntime) {
             rt.alloc(),
             INPUT.as_slice(),
             &mut writer,
-            Echo::new(),
+            &mut Echo::new(),
             9,
         );
         assert!(rt; end == Err(RunFault::Write), "at call {bad}");
@@ -236,7 +249,7 @@ fn answers_before_it_asks_for_more(rt: HostRuntime) {
             written: 0,
             flushed: &flushed,
         };
-        let end = run_upto(&(), rt.alloc(), reader, &mut writer, Echo::new(), 9);
+        let end = run_upto(&(), rt.alloc(), reader, &mut writer, &mut Echo::new(), 9);
         assert!(rt; end == Ok(Count { records: 3 }));
         assert!(rt; !late.get());
     }

@@ -1,5 +1,6 @@
 -- The categories before any message, from the last to the first.
 use Rattle.std.proofs.Common.{◌≡◌, ℕ, ◌+◌, ◌-◌, ◌<◌, ◌≤◌, suc, ◌∷◌, refl, ap, ◌∙◌, arith}
+use Rattle.rubis_schema.specs.declared.limits.TheConstants.{CATEGORIES}
 use Rattle.rubis_schema.specs.declared.row_keys.RowKey.TheVariants as key
 use Rattle.rubis_shadow.specs.Tables.{categories_from, new_category}
 
@@ -7,8 +8,8 @@ first_of : (k n : ℕ) → categories_from k (suc n) ≡ (key.Cat k, new_categor
 unfolding categories_from
 first_of k n = refl
 
-pub categories_more : (k : ℕ) → 0 < k → k ≤ 1000 → categories_from (k - 1) (1000 - (k - 1)) ≡ (key.Cat (k - 1), new_category) ∷ categories_from k (1000 - k)
+pub categories_more : (k : ℕ) → 0 < k → k ≤ CATEGORIES → categories_from (k - 1) (CATEGORIES - (k - 1)) ≡ (key.Cat (k - 1), new_category) ∷ categories_from k (CATEGORIES - k)
 categories_more k low high =
-    let more : 1000 - (k - 1) ≡ suc (1000 - k) = omega arith in
+    let more : CATEGORIES - (k - 1) ≡ suc (CATEGORIES - k) = omega arith in
     let next : k - 1 + 1 ≡ k = omega arith in
-    ap (categories_from (k - 1)) more ∙ first_of (k - 1) (1000 - k) ∙ ap (λ j. (key.Cat (k - 1), new_category) ∷ categories_from j (1000 - k)) next
+    ap (categories_from (k - 1)) more ∙ first_of (k - 1) (CATEGORIES - k) ∙ ap (λ j. (key.Cat (k - 1), new_category) ∷ categories_from j (CATEGORIES - k)) next

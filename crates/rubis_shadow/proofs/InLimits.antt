@@ -2,6 +2,7 @@
 use Rattle.std.proofs.Common.{ℕ, zero, suc, ◌+◌, Bool, true, false, cond, sym, subst, List, [], ◌∷◌}
 use Rattle.std.specs.Prelude.{Some, None, Option, IfSome, ⊤, nat_lt, nat_le}
 use Rattle.std.specs.FinMap as map
+use Rattle.rubis_schema.specs.declared.limits.TheConstants.{CATEGORIES}
 use Rattle.rubis_schema.specs.Ids.{IsId}
 use Rattle.rubis_schema.specs.Keys.{key_order, tied}
 use Rattle.rubis_schema.specs.KeyLaws.{key_total}
@@ -101,4 +102,4 @@ module _ (sites : ℕ) where
   -- so are the tables before any message
   pub opening_in_limits : AllInLimits sites opening
   unfolding opening
-  opening_in_limits = categories_in_limits 0 1000
+  opening_in_limits = categories_in_limits 0 CATEGORIES

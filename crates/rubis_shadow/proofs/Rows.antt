@@ -1,5 +1,6 @@
 -- Entries of a map as tables, and what one change does to them.
 use Rattle.std.proofs.Common.{◌≡◌, rules, refl, sym, ap, ◌∙◌, List, [], ◌∷◌, Bool, true, false, cond}
+use Rattle.std.specs.Bool.{MatchBool}
 use Rattle.std.specs.Prelude.{Some, None, Option, is_none}
 use Rattle.std.specs.Ordering.{eq_by_cmp}
 use Rattle.std.specs.Cmp.{Equal-is}
@@ -10,10 +11,10 @@ use Rattle.rubis_schema.specs.KeyLaws.{key_total, key_antisymmetric, key_eq_equi
 use Rattle.rubis_schema.specs.Tables.{Tables}
 use Rattle.rubis_schema.specs.declared.row_keys.RowKey.{RowKey}
 use Rattle.rubis_schema.specs.declared.rows.Row.{Row}
-use Rattle.rubis_shadow.specs.Changes.{change_row, after, misfit_of, misfits_as, with_row, Done}
+use Rattle.rubis_shadow.specs.Changes.{change_row, after, fits, misfit_of, misfits_as, with_row, Done}
 use Rattle.rubis_shadow.specs.declared.changes.Change.{Change}
-use Rattle.rubis_shadow.specs.declared.changes.Change.TheVariants.{Insert}
-use Rattle.rubis_shadow.specs.declared.changes.MisfitKind.TheVariants.{RowThere}
+use Rattle.rubis_shadow.specs.declared.changes.Change.TheVariants.{Insert, ItemListed, Bought, Rated, CatListed, CatEnded, BidTaken, Sold, End}
+use Rattle.rubis_shadow.specs.declared.changes.MisfitKind.TheVariants.{RowThere, NoRow}
 use Rattle.rubis_shadow.specs.declared.changes.Effect.{Effect}
 use Rattle.rubis_shadow.specs.declared.changes.MisfitKind.{MisfitKind}
 
@@ -87,3 +88,21 @@ after_refused t e row old g i = sym (insert_same t e.key old g) ∙ ap (λ (x : 
 
 pub misfit_refused : (t : Tables) (e : Effect) (row old : Row) → map.get t e.key ≡ Some old → e.change ≡ Insert row → Some RowThere ≡ misfit_of t e
 misfit_refused t e row old g i = ap (λ (x : Done). x.misfit) (sym (refused e.change row old i) ∙ ap (change_row e.change) (sym g))
+
+-- an insert at a free key, and every other change there
+pub inserted : (h : Change) (row new : _) → h ≡ Insert row → new ≡ row → change_row h None ≡ fits new
+unfolding change_row
+inserted h row new e s = ap (λ x. change_row x None) e ∙ ap fits (sym s)
+
+pub not_insert : (h : Change) → ((x : _) → h ≡ Insert x → ⊥) → change_row h None ≡ misfits_as NoRow None
+unfolding change_row
+not_insert (Insert x) d = absurd (d x refl)
+not_insert change d = refl
+
+pub put_then : (P Q : Type 0) → (put : Bool) → put ≡ true → MatchBool put P Q → P
+put_then P Q true e m = m
+put_then P Q false e m = absurd (search rules)
+
+pub put_else : (P Q : Type 0) → (put : Bool) → put ≡ false → MatchBool put P Q → Q
+put_else P Q true e m = absurd (search rules)
+put_else P Q false e m = m

@@ -3,6 +3,7 @@ use Rattle.std.specs.Prelude.{ℕ, ◌<◌, ◌≤◌, ⊤, IfSome, unsigned_abs
 use Rattle.std.specs.FinMap as map
 use Rattle.rubis_schema.specs.Ids.{IsId}
 use Rattle.rubis_schema.specs.Tables.{Tables}
+use Rattle.rubis_schema.specs.declared.limits.TheConstants.{AMOUNT_MAX, CATEGORIES, QUANTITY_MAX, RATING_MAX}
 use Rattle.rubis_schema.specs.declared.row_keys.RowKey.{RowKey}
 use Rattle.rubis_schema.specs.declared.rows.Row.{Row}
 use Rattle.rubis_schema.specs.declared.rows.Row.TheVariants as row
@@ -15,22 +16,22 @@ use Rattle.rubis_shadow.specs.declared.shadows.NewBid.{NewBid}
 use Rattle.rubis_shadow.specs.declared.shadows.Shadow.{Shadow}
 use Rattle.rubis_shadow.specs.declared.shadows.Shadow.TheVariants as shadow
 
--- a quantity, or a stock at the opening: 1 to 1,000,000
+-- a quantity, or a stock at the opening: at least 1
 pub record IsQuantity (n : ℕ) : Type 0 where
   pub positive : 1 ≤ n
-  pub small : n ≤ 1000000
+  pub small : n ≤ QUANTITY_MAX
 
--- a start price or an amount: 1 to 10^12
+-- a start price or an amount: at least 1
 pub record IsAmount (n : ℕ) : Type 0 where
   pub positive : 1 ≤ n
-  pub small : n ≤ 1000000000000
+  pub small : n ≤ AMOUNT_MAX
 
 pub record IsNewItem (sites : ℕ) (n : NewItem) : Type 0 where
   pub seller : IsId sites n.seller
-  pub cat : n.cat < 1000
+  pub cat : n.cat < CATEGORIES
   pub stock : IsQuantity n.stock
   pub start : IsAmount n.start
-  pub price : n.price ≤ 1000000000000
+  pub price : n.price ≤ AMOUNT_MAX
 
 pub record IsNewBid (sites : ℕ) (b : NewBid) : Type 0 where
   pub item : IsId sites b.item
@@ -46,7 +47,7 @@ pub record IsComment (sites : ℕ) (c : CommentRow) : Type 0 where
   pub item : IsId sites c.item
   pub from : IsId sites c.from
   pub to : IsId sites c.to
-  pub rating : unsigned_abs c.rating ≤ 5
+  pub rating : unsigned_abs c.rating ≤ RATING_MAX
 
 -- an ask within the limits
 abbrev pub IsAsk : ℕ → Ask → Type 0
@@ -63,12 +64,12 @@ InLimits sites (shadow.User n) = ⊤
 InLimits sites (shadow.Item n) = IsNewItem sites n
 InLimits sites (shadow.Bid b) = IsNewBid sites b
 InLimits sites (shadow.Buy p) = IsPurchase sites p
-InLimits sites (shadow.Close c) = IsId sites c.item × (c.cat < 1000) × IfSome c.winner (IsId sites)
+InLimits sites (shadow.Close c) = IsId sites c.item × (c.cat < CATEGORIES) × IfSome c.winner (IsId sites)
 InLimits sites (shadow.Comment c) = IsComment sites c
 
 -- what is known of every row: an item is in a category, and the id of its best bid is within the limits
 abbrev pub RowInLimits : ℕ → Row → Type 0
-RowInLimits sites (row.Item i) = (i.cat < 1000) × IfSome i.best (λ b. IsId sites b.bid)
+RowInLimits sites (row.Item i) = (i.cat < CATEGORIES) × IfSome i.best (λ b. IsId sites b.bid)
 RowInLimits sites r = ⊤
 
 -- every row of the tables is within the limits

@@ -1,5 +1,5 @@
 -- The colour of a shadow.
-use Rattle.std.specs.Prelude.{Bool, true, false}
+use Rattle.std.specs.Prelude.{Bool, true, false, cond}
 use Rattle.rubis_shadow.specs.declared.shadows.Shadow.{Shadow}
 use Rattle.rubis_shadow.specs.declared.shadows.Shadow.TheVariants.{User, Item, Bid, Buy, Close, Comment}
 use Rattle.rubis_shadow.specs.declared.shadows.Colour.{Colour}
@@ -15,9 +15,4 @@ is_red (Close c) = true
 is_red (Comment c) = false
 
 abbrev pub colour_of : Shadow → Colour
-colour_of (User n) = Red
-colour_of (Item n) = Blue
-colour_of (Bid b) = Red
-colour_of (Buy p) = Red
-colour_of (Close c) = Red
-colour_of (Comment c) = Blue
+colour_of shadow = cond (is_red shadow) Red Blue

@@ -3,6 +3,7 @@ use Rattle.std.specs.Prelude.{ℕ, ◌+◌, pos, List, [], ◌∷◌, filter}
 use Rattle.std.specs.FinMap as map
 use Rattle.rubis_schema.specs.Keys.{holds}
 use Rattle.rubis_schema.specs.Tables.{Tables}
+use Rattle.rubis_schema.specs.declared.limits.TheConstants.{CATEGORIES}
 use Rattle.rubis_schema.specs.declared.row_keys.RowKey.{RowKey}
 use Rattle.rubis_schema.specs.declared.row_keys.RowKey.TheVariants as key
 use Rattle.rubis_schema.specs.declared.row_keys.Table.{Table}
@@ -18,9 +19,9 @@ unfoldable pub categories_from : ℕ → ℕ → List (RowKey × Row)
 categories_from k ℕ.zero = []
 categories_from k (ℕ.suc n) = (key.Cat k, new_category) ∷ categories_from (k + 1) n
 
--- the tables before any message: the categories 0 to 999, without items
+-- the tables before any message: all categories, without items
 unfoldable pub opening : Tables
-opening = map.from_entries (categories_from 0 1000)
+opening = map.from_entries (categories_from 0 CATEGORIES)
 
 -- the rows of one table with their keys, in key order
 abbrev pub rows_of : Table → Tables → List (RowKey × Row)

@@ -9,7 +9,7 @@ pub struct AskedClose {
 }
 
 /// What a user asks of a site.
-#[derive(Drop, Clone, Debug)]
+#[derive(Drop, Clone, PartialEq, Eq, Debug)]
 pub enum Ask {
     User(Nick),
     Item(NewItem),

@@ -1,7 +1,10 @@
+ghost use Rattle.std.specs.Prelude.{◌≡◌, IfOk};
+
 use rubis_schema::{Best, Id, Row, RowKey};
+use std::alloc::AllocError;
 
 /// What a part does to the row of its key.
-#[derive(Drop, Clone, Debug)]
+#[derive(Drop, Clone, PartialEq, Eq, Debug)]
 pub enum Change {
     /// A new row.
     Insert(Row),
@@ -23,11 +26,32 @@ pub enum Change {
     End(Option<Id>),
 }
 
+impl Change {
+    /// An equal change.
+    pub fn copy(&self) -> Result<Change, AllocError>
+        ensures { IfOk result (λ change. change ≡ self.now) }
+    {
+        self.clone()
+    }
+}
+
 /// One part of a shadow: a change of the row at a key.
-#[derive(Drop, Clone, Debug)]
+#[derive(Drop, Clone, PartialEq, Eq, Debug)]
 pub struct Effect {
     pub key: RowKey,
     pub change: Change,
+}
+
+impl Effect {
+    /// An equal effect.
+    pub fn copy(&self) -> Result<Effect, AllocError>
+        ensures { IfOk result (λ effect. effect ≡ self.now) }
+    {
+        Ok(Effect {
+            key: self.key,
+            change: self.change.copy()?,
+        })
+    }
 }
 
 /// Why a part doesn't fit, in the order in which that is tested.

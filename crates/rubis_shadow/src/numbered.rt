@@ -1,14 +1,31 @@
+ghost use Rattle.std.specs.Prelude.{◌≡◌, IfOk};
+
 use crate::changes::{Effect, MisfitKind};
 use rubis_schema::Id;
+use std::alloc::AllocError;
 
 /// A part with its place: the message's place in the log, from 1, the part's place in its message, from 1, and the
 /// message's id.
-#[derive(Drop, Clone, Debug)]
+#[derive(Drop, Clone, PartialEq, Eq, Debug)]
 pub struct Numbered {
     pub entry: u32,
     pub part: u8,
     pub id: Id,
     pub effect: Effect,
+}
+
+impl Numbered {
+    /// An equal part.
+    pub fn copy(&self) -> Result<Numbered, AllocError>
+        ensures { IfOk result (λ part. part ≡ self.now) }
+    {
+        Ok(Numbered {
+            entry: self.entry,
+            part: self.part,
+            id: self.id,
+            effect: self.effect.copy()?,
+        })
+    }
 }
 
 /// A part that didn't fit, by its place, and why.

@@ -1,4 +1,5 @@
-ghost use Rattle.std.specs.Prelude.{◌≡◌, slice_get, IfOk};
+ghost use Rattle.std.specs.Prelude.{◌≡◌, ◌≤◌, ℕ, length, slice_get, IfOk};
+ghost use Rattle.rubis_schema.specs.declared.ids.Id.{Id};
 ghost use Rattle.std.specs.Iterator.{item_count, YieldsFirst};
 ghost use Rattle.rubis_shadow.specs.declared.shadows.Shadow.TheVariants as Shadow;
 ghost use Rattle.rubis_shadow.specs.Parts.{new_item, parts};
@@ -11,6 +12,9 @@ use rubis_schema::{
 };
 use std::alloc::AllocError;
 use std::marker::Model;
+
+/// The most parts of a shadow.
+pub const PARTS_MAX: u8 = 3;
 
 // A change that borrows the texts of its shadow.
 #[derive(Clone, Copy)]
@@ -61,12 +65,13 @@ impl<'a> Model for Effects<'a> {
     ghost use Rattle.std.specs.Prelude.{List, drop, ◌≤◌};
     ghost use Rattle.rubis_shadow.specs.declared.changes.Effect.{Effect};
     ghost use Rattle.rubis_shadow.specs.Parts.{parts};
+    ghost use Rattle.rubis_shadow.specs.declared.parts.TheConstants.{PARTS_MAX};
 
     ghost Value = { List Effect };
 
     ghost view = { λ e. drop e.given (parts e.id e.red e.shadow.now) };
 
-    ghost invariant = { λ e. e.given ≤ 3 };
+    ghost invariant = { λ e. e.given ≤ PARTS_MAX };
 }
 
 impl Shadow {
@@ -79,6 +84,17 @@ impl Shadow {
             red,
             shadow: self,
             given: 0,
+        }
+    }
+
+    /// How many parts the shadow has.
+    pub fn count_parts(&self) -> u8
+        ensures count { (id : Id) (red : ℕ) → result ≡ length (parts id red self.now) }
+        ensures few { result ≤ PARTS_MAX }
+    {
+        match self {
+            Shadow::User(_) | Shadow::Bid(_) | Shadow::Close(_) | Shadow::Comment(_) => 2,
+            Shadow::Item(_) | Shadow::Buy(_) => 3,
         }
     }
 

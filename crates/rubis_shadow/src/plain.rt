@@ -1,22 +1,18 @@
-ghost use Rattle.std.specs.Prelude.{◌≡◌, IfOk, OnOk, OnErr, is_none, length, map as each};
+ghost use Rattle.std.specs.Prelude.{◌≡◌, IfOk, OnOk, OnErr, is_none, map as each};
 ghost use Rattle.std.specs.Bool.{MatchBool};
 ghost use Rattle.std.specs.FinMap as map;
-ghost use Rattle.std.specs.List.Sorted.{IsPermutation, IsSortedByKey};
 ghost use Rattle.std.specs.Map.Iter.{deref_pair};
 ghost use Rattle.rubis_schema.specs.Keys.{key_order};
 ghost use Rattle.rubis_shadow.specs.Tables.{opening, rows_of};
 ghost use Rattle.rubis_shadow.specs.Changes.{after, misfit_of};
 
 use crate::changes::{Change, Effect, MisfitKind};
+use crate::listing::rows_in_order;
 use indexmap::IndexMap;
 use indexmap::map::Entry;
-use rubis_schema::{CatRow, Row, RowKey, Table, View, key_cmp};
+use rubis_schema::{CATEGORIES, CatRow, Row, RowKey, Table, View};
 use std::alloc::{AllocError, Global};
-use std::cmp::Ordering;
 use std::marker::Model;
-
-/// How many categories there are, from 0 on.
-pub const CATEGORIES: u16 = 1000;
 
 /// The tables of a site in one map. Contracts see the finite map.
 #[derive(Drop)]
@@ -62,19 +58,6 @@ fn put_new(rows: &mut IndexMap<RowKey, Row>, key: RowKey, row: Row) -> Result<bo
     }
 }
 
-// Puts rows into key order.
-fn put_in_order<'a>(rows: &mut [(&'a RowKey, &'a Row)])
-    ensures permutation { IsPermutation (each deref_pair rows.old) (each deref_pair rows.new) }
-    ensures sorted { IsSortedByKey (λ e. e.0) key_order (each deref_pair rows.new) }
-    ensures len { length rows.new ≡ length rows.old }
-{
-    rows.sort_unstable_by(
-        |a: &(&RowKey, &Row), b: &(&RowKey, &Row)| -> Ordering
-            ensures { result ≡ key_order a.now.0.now b.now.0.now }
-        { key_cmp(a.0, b.0) },
-    );
-}
-
 impl PlainTables {
     /// The tables before any message: the categories, without items.
     pub fn new(alloc: Global) -> Result<PlainTables, AllocError>
@@ -92,14 +75,7 @@ impl PlainTables {
     pub fn rows(&self, alloc: Global, table: Table) -> Result<Vec<(&RowKey, &Row)>, AllocError>
         ensures { IfOk result (λ rows. each deref_pair rows.items ≡ rows_of table self.now) }
     {
-        let mut rows = Vec::new(alloc);
-        for (key, row) in self.rows.iter() {
-            if table.holds(key) {
-                rows.push((key, row))?;
-            }
-        }
-        put_in_order(&mut rows);
-        Ok(rows)
+        rows_in_order(alloc, &self.rows, table)
     }
 
     /// Does one part: changes its row, or says why the part doesn't fit.

@@ -6,7 +6,7 @@ use std::alloc::AllocError;
 
 /// An item that is offered: `stock` pieces of it, bids from `start` on, and `price` for a piece at once (0: no
 /// buy-now).
-#[derive(Drop, Clone, Debug)]
+#[derive(Drop, Clone, PartialEq, Eq, Debug)]
 pub struct NewItem {
     pub seller: Id,
     pub name: Name,
@@ -33,7 +33,7 @@ pub struct NewClose {
 }
 
 /// What an accepted ask does, at every site.
-#[derive(Drop, Clone, Debug)]
+#[derive(Drop, Clone, PartialEq, Eq, Debug)]
 pub enum Shadow {
     User(Nick),
     Item(NewItem),

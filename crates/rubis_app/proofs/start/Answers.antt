@@ -1,8 +1,8 @@
 use Rattle.std.proofs.Common.{inl, inr, map, string_bytes, subst}
 use Rattle.std.specs.Process.{exit_status}
 use Rattle.clap.specs.Words.{fault_of, kind_of}
-use Rattle.rubis_app.specs.CommandLine.{IsFaultAmong, command_line}
-use Rattle.rubis_app.proofs.Words.{status_among}
+use Rattle.rubis_command.specs.CommandLine.{IsFaultAmong, command_line}
+use Rattle.rubis_app.proofs.Reasons.{status_among}
 use Rattle.rubis_app.proofs.start.Goals as goal
 
 pub returns-in-Err-Words : goal.returns-in-Err-Words

@@ -1,15 +1,23 @@
-use Rattle.std.proofs.Common.{ℕ, List, subst, arith}
-use Rattle.rubis_message.specs.Grammar.{IsPacket, packet_record}
-use Rattle.rubis_message.specs.Reading.{Reads}
-use Rattle.rubis_message.proofs.PacketReadings.{found_packet, found_none}
+use Rattle.std.proofs.Common.{◌≡◌, Some, None, arith, rules}
+use Rattle.std.proofs.lemmas.Grind.{common_steps}
+use Rattle.rubis_message.specs.Readings.{packet_of}
+use Rattle.rubis_message.proofs.Records.{no_packet, packet_is}
 use Rattle.rubis_message.proofs.packets.read_packet.Goals as goal
 
-pub returns-clause-some : goal.returns-clause-some
-returns-clause-some c =
-    let read = subst (λ (f : List (List ℕ)). Reads (IsPacket c.args.sites) packet_record f c.packet.result) c.new.ensures c.packet.ensures in
-    found_packet c.args.sites c.args.fields.now c.packet.result (omega arith) read
+pub returns-clause-ok : goal.returns-clause-ok
+unfolding packet_of
+returns-clause-ok c =
+    let is : packet_of c.args.sites c.args.fields.now ≡ Some c.in_ok-packet.packet = search rules in
+    (packet_is c.args.sites (omega arith) (omega arith) c.args.fields.now c.in_ok-packet.packet).0 is
 
-pub returns-clause-none : goal.returns-clause-none
-returns-clause-none c =
-    let read = subst (λ (f : List (List ℕ)). Reads (IsPacket c.args.sites) packet_record f c.packet.result) c.new.ensures c.packet.ensures in
-    found_none c.args.sites c.args.fields.now c.packet.result read
+pub returns-in_err-packet-clause-bad : goal.returns-in_err-packet-clause-bad
+unfolding packet_of
+returns-in_err-packet-clause-bad c = λ bad.
+    let none : packet_of c.args.sites c.args.fields.now ≡ None = grind (arith, common_steps) in
+    no_packet c.args.sites (omega arith) (omega arith) c.args.fields.now none
+
+pub returns-in_err-end-clause-bad : goal.returns-in_err-end-clause-bad
+unfolding packet_of
+returns-in_err-end-clause-bad c = λ bad.
+    let none : packet_of c.args.sites c.args.fields.now ≡ None = grind (arith, common_steps) in
+    no_packet c.args.sites (omega arith) (omega arith) c.args.fields.now none

@@ -1,15 +1,23 @@
-use Rattle.std.proofs.Common.{ℕ, List, subst, arith}
-use Rattle.rubis_message.specs.Grammar.{IsRequest, request_record}
-use Rattle.rubis_message.specs.Reading.{Reads}
-use Rattle.rubis_message.proofs.Readings.{found_request, found_none}
+use Rattle.std.proofs.Common.{◌≡◌, Some, None, arith, rules}
+use Rattle.std.proofs.lemmas.Grind.{common_steps}
+use Rattle.rubis_message.specs.Readings.{request_of}
+use Rattle.rubis_message.proofs.Records.{no_request, request_is}
 use Rattle.rubis_message.proofs.requests.read_request.Goals as goal
 
-pub returns-clause-some : goal.returns-clause-some
-returns-clause-some c =
-    let read = subst (λ (f : List (List ℕ)). Reads (IsRequest c.args.sites) request_record f c.request.result) c.new.ensures c.request.ensures in
-    found_request c.args.sites c.args.fields.now c.request.result (omega arith) read
+pub returns-clause-ok : goal.returns-clause-ok
+unfolding request_of
+returns-clause-ok c =
+    let is : request_of c.args.sites c.args.fields.now ≡ Some c.in_ok-request.request = search rules in
+    (request_is c.args.sites (omega arith) c.args.fields.now c.in_ok-request.request).0 is
 
-pub returns-clause-none : goal.returns-clause-none
-returns-clause-none c =
-    let read = subst (λ (f : List (List ℕ)). Reads (IsRequest c.args.sites) request_record f c.request.result) c.new.ensures c.request.ensures in
-    found_none c.args.sites c.args.fields.now c.request.result read
+pub returns-in_err-request-clause-bad : goal.returns-in_err-request-clause-bad
+unfolding request_of
+returns-in_err-request-clause-bad c = λ bad.
+    let none : request_of c.args.sites c.args.fields.now ≡ None = grind (arith, common_steps) in
+    no_request c.args.sites (omega arith) c.args.fields.now none
+
+pub returns-in_err-end-clause-bad : goal.returns-in_err-end-clause-bad
+unfolding request_of
+returns-in_err-end-clause-bad c = λ bad.
+    let none : request_of c.args.sites c.args.fields.now ≡ None = grind (arith, common_steps) in
+    no_request c.args.sites (omega arith) c.args.fields.now none

@@ -1,8 +1,8 @@
-use Rattle.std.proofs.Common.{◌<◌, ◌∙◌, length, refl, arith}
-use Rattle.rubis_message.proofs.Cursor.{some_left}
+use Rattle.std.proofs.Common.{◌<◌, length, arith}
+use Rattle.rubis_message.proofs.Cursor.{more_left}
 use Rattle.rubis_message.proofs.readers.Reader.end.Goals as goal
 
 pub returns-then-self-len : goal.returns-then-self-len
 returns-then-self-len c =
     let lt : c.self.inside.next < length c.self.inside.fields.now = omega arith in
-    (refl, λ e. some_left c.self.inside.fields.now c.self.inside.next lt (c.self.view_is ∙ e))
+    more_left c.self.inside.fields.now c.args.self.now c.self.inside.next lt c.self.view_is

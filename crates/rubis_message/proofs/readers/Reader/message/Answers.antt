@@ -1,8 +1,8 @@
-use Rattle.std.proofs.lemmas.Bool.{false≢true}
-use Rattle.rubis_message.proofs.Conditions.{no_message}
+use Rattle.std.proofs.Common.{sym, ◌∙◌, arith}
+use Rattle.rubis_message.proofs.Records.{message_meets}
 use Rattle.rubis_message.proofs.readers.Reader.message.Goals as goal
 
-pub returns-then-not-agree : goal.returns-then-not-agree
-returns-then-not-agree c = λ x h e.
-    no_message c.args.sites c.args.self.now c.in_ok-stamp.stamp c.in_ok-shadow.shadow x c.in_ok-stamp.ensures.0.red
-    (cc (c.in_ok-stamp.ensures.1, c.in_ok-shadow.ensures.1)) (λ same. false≢true (c.if-not-agree.ensures.1 same)) h e
+pub new-requires : goal.new-requires
+new-requires c =
+    message_meets c.args.sites (omega arith) (omega arith) c.args.self.now c.stamp.new.self c.shadow.new.self c.in_ok-stamp.stamp c.in_ok-shadow.shadow
+    c.in_ok-stamp.ensures c.in_ok-shadow.ensures (sym c.agree.ensures ∙ c.if-not-agree.false)

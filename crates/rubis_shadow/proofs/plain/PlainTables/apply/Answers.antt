@@ -1,38 +1,10 @@
-use Rattle.std.proofs.Common.{◌≡◌, sym, ap, ◌∙◌, refl, rules, Bool, true, false}
-use Rattle.std.specs.Bool.{MatchBool}
+use Rattle.std.proofs.Common.{◌≡◌, sym, ap, ◌∙◌, rules}
 use Rattle.std.specs.Prelude.{Some, None}
 use Rattle.std.specs.FinMap as map
 use Rattle.rubis_schema.specs.Tables.{Tables}
-use Rattle.rubis_shadow.specs.Changes.{change_row, fits, misfits_as}
-use Rattle.rubis_shadow.specs.declared.changes.Change.{Change}
-use Rattle.rubis_shadow.specs.declared.changes.Change.TheVariants.{Insert, ItemListed, Bought, Rated, CatListed, CatEnded, BidTaken, Sold, End}
-use Rattle.rubis_shadow.specs.declared.changes.MisfitKind.TheVariants.{NoRow}
-use Rattle.rubis_shadow.proofs.Rows.{tables_of, get_tables_of, tables_of_update, after_alter, misfit_alter, after_none, misfit_none, remove_none, none_of, some_of, after_refused, misfit_refused}
+use Rattle.rubis_shadow.specs.Changes.{fits}
+use Rattle.rubis_shadow.proofs.Rows.{tables_of, get_tables_of, tables_of_update, after_alter, misfit_alter, after_none, misfit_none, remove_none, none_of, some_of, after_refused, misfit_refused, inserted, not_insert, put_then, put_else}
 use Rattle.rubis_shadow.proofs.plain.PlainTables.apply.Goals as goal
-
-inserted : (h : Change) (row new : _) → h ≡ Insert row → new ≡ row → change_row h None ≡ fits new
-unfolding change_row
-inserted h row new e s = ap (λ x. change_row x None) e ∙ ap fits (sym s)
-
-not_insert : (h : Change) → ((x : _) → h ≡ Insert x → ⊥) → change_row h None ≡ misfits_as NoRow None
-unfolding change_row
-not_insert (Insert x) d = absurd (d x refl)
-not_insert ItemListed d = refl
-not_insert (Bought q) d = refl
-not_insert (Rated r) d = refl
-not_insert CatListed d = refl
-not_insert CatEnded d = refl
-not_insert (BidTaken b) d = refl
-not_insert (Sold q) d = refl
-not_insert (End w) d = refl
-
-put_then : (P Q : Type 0) → (put : Bool) → put ≡ true → MatchBool put P Q → P
-put_then P Q true e m = m
-put_then P Q false e m = absurd (search rules)
-
-put_else : (P Q : Type 0) → (put : Bool) → put ≡ false → MatchBool put P Q → Q
-put_else P Q true e m = absurd (search rules)
-put_else P Q false e m = m
 
 pub returns-then-branch-clause-tables : goal.returns-then-branch-clause-tables
 returns-then-branch-clause-tables c =

@@ -1,0 +1,6 @@
+pub mod Views
+pub mod Items
+pub mod Passing
+pub mod Posts
+pub mod Takes
+pub mod Joins

@@ -1,0 +1,5 @@
+use Rattle.rubis_board.proofs.Joins.{merges}
+use Rattle.rubis_board.proofs.board.Board.join.Goals as goal
+
+pub absorb-requires-clause-rule : goal.absorb-requires-clause-rule
+absorb-requires-clause-rule c = merges _ _ _ _ c.pass.invariant.1 c.other.invariant.1

@@ -1,0 +1,5 @@
+use Rattle.rubis_board.proofs.Passing.{begins}
+use Rattle.rubis_board.proofs.board.Poster.new.Goals as goal
+
+pub ruled-requires-clause-rule : goal.ruled-requires-clause-rule
+ruled-requires-clause-rule c = begins

@@ -1,0 +1,29 @@
+-- Every step keeps the rule, and does to the board what its event does to the posted list of the schedule machine.
+use Rattle.std.specs.Prelude.{◌≡◌, ℕ, ◌<◌, List, [], ◌∷◌, ◌++◌}
+use Rattle.crossbeam_queue.specs.Fifo.{Pushes, Pops, Forks, Merges}
+use Rattle.rubis_pieces.specs.declared.pieces.Piece.{Piece}
+use Rattle.rubis_pieces.specs.Posted.{Moves}
+use Rattle.rubis_pieces.specs.Posted.Move.{Posted, Taken}
+use Rattle.rubis_board.specs.declared.rule.PassView.{PassView}
+use Rattle.rubis_board.specs.declared.rule.Item.{Item}
+use Rattle.rubis_board.specs.declared.rule.Item.TheVariants.{Work, Mark}
+use Rattle.rubis_board.specs.Rule.{Ruled, first_view, spent, posting, content, HasPosted, HasTaken, HasMarked, one_part_less, new_part, both}
+
+-- whatever the queue holds and whatever the other passes know
+pub record StepsKeepTheRule : Type 0 where
+  pub opening : Ruled [] (first_view ∷ [])
+  pub post : (room place : ℕ) (v : PassView) (p : Piece) → v ≡ posting v.posted
+      → Pushes Ruled room place v (Work p) (HasPosted v (Work p))
+  pub take : (place : ℕ) (v : PassView) → 0 < v.parts → Pops Ruled place v (HasTaken v)
+  pub mark : (room place : ℕ) (v : PassView) → 0 < v.parts → Pushes Ruled room place v Mark (HasMarked v Mark)
+  pub split : (place : ℕ) (v : PassView) → 1 < v.parts → Forks Ruled place v (one_part_less v) (new_part v)
+  pub join : (place : ℕ) (v : PassView) (other : ℕ) (u : PassView) → 0 < v.parts → 0 < u.parts
+      → Merges Ruled place v other u (both v u) spent
+
+-- a post puts its piece last on the board, and a take takes the first one off it, as the posted list of the schedule machine
+-- changes; marks change nothing
+pub record StepsMoveThePosted : Type 0 where
+  pub post : (items : List Item) (p : Piece) → Moves (content items) (Posted p) (content (items ++ Work p ∷ []))
+  pub take : (items : List Item) (p : Piece) → Moves (content (Work p ∷ items)) (Taken p) (content items)
+  pub mark : (items : List Item) → content (items ++ Mark ∷ []) ≡ content items
+  pub take_mark : (items : List Item) → content (Mark ∷ items) ≡ content items

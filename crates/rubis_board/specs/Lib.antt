@@ -1,0 +1,4 @@
+pub mod Rule
+pub mod Passes
+pub mod Codes
+pub mod Laws

@@ -1,0 +1,7 @@
+//! The command line of `rubis`: what its words ask for. Which words it takes is written out as data in `specs`, and read by
+//! `clap`.
+#![tactic(auto)]
+
+mod options;
+
+pub use options::{OptionFault, Options, Run, read_options};

@@ -1,0 +1,194 @@
+//! The command line.
+
+ghost use Rattle.std.specs.Prelude.{◌≡◌, false, [], Some, map, string_bytes, IfErr, IfOk};
+ghost use Rattle.clap.specs.Words.{app_of, fault_of, found_of, one_of, rows_of, rule_of};
+ghost use Rattle.rubis_command.specs.CommandLine.{AreOptionsIn, IsAsked, IsFaultAmong, IsNumberOf, command_line, number_option, with_setup};
+
+use clap::builder::ValueParser;
+use clap::error::ErrorKind;
+use clap::{Arg, ArgMatches, Command, Error};
+use rubis_schema::{BATCH_MAX, KEEP_MAX, SHARDS_MAX, SITES_MAX, WORKERS_MAX};
+use std::alloc::{AllocError, Global};
+
+/// What the command line asks for.
+#[derive(Drop)]
+pub enum Run {
+    Site(Options),
+}
+
+/// Why nothing is run.
+#[derive(Drop)]
+pub enum OptionFault {
+    /// There was not enough memory to read the command line.
+    Memory,
+    /// What `clap` says of it: a fault, or the help or version that was asked for.
+    Words(Error),
+}
+
+impl From<Error> for OptionFault {
+    ghost use Rattle.std.specs.Prelude.{◌≡◌};
+    ghost use Rattle.clap.specs.Words.{kind_of};
+    ghost use Rattle.rubis_command.specs.CommandLine.{fault_by};
+
+    ghost from_gives = { λ error fault. fault ≡ fault_by (kind_of error) error };
+
+    fn from(error: Error) -> OptionFault {
+        match error.kind() {
+            ErrorKind::OutOfMemory => OptionFault::Memory,
+            _ => OptionFault::Words(error),
+        }
+    }
+}
+
+impl From<AllocError> for OptionFault {
+    ghost use Rattle.std.specs.Prelude.{◌≡◌};
+    ghost use Rattle.rubis_command.specs.declared.options.OptionFault.TheVariants.{Memory};
+
+    ghost from_gives = { λ error fault. fault ≡ Memory };
+
+    fn from(_: AllocError) -> OptionFault {
+        OptionFault::Memory
+    }
+}
+
+/// The numbers of a site.
+#[derive(Clone, Copy)]
+pub struct Options {
+    pub site: u8,
+    pub sites: u8,
+    pub shards: u8,
+    pub workers: u8,
+    pub batch: u32,
+    pub keep: u32,
+}
+
+// An option that takes a number of this range.
+fn number<'a>(
+    alloc: Global,
+    name: &'a str,
+    low: u64,
+    high: u64,
+    default: &'a str,
+    help: &'a str,
+) -> Arg<'a>
+    ensures rule { rule_of result ≡ number_option name.entry.now low high default.entry.now }
+    ensures help { result.help ≡ Some help.entry }
+    ensures local { result.global ≡ false }
+{
+    Arg::new(alloc, name)
+        .long(name)
+        .value_name("n")
+        .value_parser(ValueParser::unsigned(low, high))
+        .default_value(default)
+        .help(help)
+}
+
+// The options that say how sites are set up.
+fn with_setup<'a>(alloc: Global, command: Command<'a>) -> Result<Command<'a>, AllocError>
+    ensures { IfOk result (λ made. app_of made ≡ with_setup (app_of command.entry)) }
+{
+    command
+        .arg(number(
+            alloc,
+            "sites",
+            1,
+            SITES_MAX as u64,
+            "1",
+            "How many sites there are",
+        ))?
+        .arg(number(
+            alloc,
+            "shards",
+            1,
+            SHARDS_MAX as u64,
+            "4",
+            "How many shards the tables have",
+        ))?
+        .arg(number(
+            alloc,
+            "workers",
+            1,
+            WORKERS_MAX as u64,
+            "2",
+            "How many workers apply shadows",
+        ))?
+        .arg(number(
+            alloc,
+            "batch",
+            1,
+            BATCH_MAX as u64,
+            "64",
+            "How many pending shadows make a batch",
+        ))?
+        .arg(number(
+            alloc,
+            "keep",
+            1,
+            KEEP_MAX as u64,
+            "1000000",
+            "How many messages a site keeps",
+        ))
+}
+
+// The program's command line.
+fn program<'a>(alloc: Global) -> Result<Command<'a>, AllocError>
+    ensures { IfOk result (λ made. app_of made ≡ command_line) }
+{
+    let site = Command::new(alloc, "site")
+        .about("Runs one site: records on standard input, answers on standard output")
+        .arg(number(
+            alloc,
+            "site",
+            0,
+            SITES_MAX as u64 - 1,
+            "0",
+            "Which site it is, from 0",
+        ))?;
+    let site = with_setup(alloc, site)?;
+    Command::new(alloc, "rubis")
+        .bin_name("rubis")?
+        .version("0.1.0")
+        .about("A replicated auction house whose answers are proved")
+        .subcommand_required(true)
+        .subcommand(site)
+}
+
+// A number that `clap` has read and found in its range.
+fn byte(matches: &ArgMatches<'_>, name: &str) -> u8
+    ensures { IsNumberOf 8 (one_of name.now (rows_of (found_of matches.now))) result }
+{
+    matches.get_one::<u8>(name).unwrap_or(0)
+}
+
+fn word(matches: &ArgMatches<'_>, name: &str) -> u32
+    ensures { IsNumberOf 32 (one_of name.now (rows_of (found_of matches.now))) result }
+{
+    matches.get_one::<u32>(name).unwrap_or(0)
+}
+
+fn site_options(matches: &ArgMatches<'_>) -> Options
+    ensures { AreOptionsIn (rows_of (found_of matches.now)) result }
+{
+    Options {
+        site: byte(matches, "site"),
+        sites: byte(matches, "sites"),
+        shards: byte(matches, "shards"),
+        workers: byte(matches, "workers"),
+        batch: word(matches, "batch"),
+        keep: word(matches, "keep"),
+    }
+}
+
+/// What the words of a command line, the program's name first, ask for. Where they are refused, it is for a reason that
+/// this command line has to refuse them, or for want of memory.
+pub fn read_options(alloc: Global, words: &[String]) -> Result<Run, OptionFault>
+    ensures ok { IfOk result (IsAsked (map string_bytes words.now)) }
+    ensures fits { IfOk result (λ run. fault_of command_line (map string_bytes words.now) ≡ []) }
+    ensures fault { IfErr result (IsFaultAmong (fault_of command_line (map string_bytes words.now))) }
+{
+    let matches = program(alloc)?.try_get_matches_from(words)?;
+    match matches.subcommand() {
+        Some((_, inner)) => Ok(Run::Site(site_options(inner))),
+        None => unreachable!(),
+    }
+}

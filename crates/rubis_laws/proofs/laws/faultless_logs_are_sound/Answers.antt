@@ -1,0 +1,5 @@
+use Rattle.rubis_laws.proofs.Audited.{faultless_sound}
+use Rattle.rubis_laws.proofs.laws.faultless_logs_are_sound.Goals as goal
+
+pub returns : goal.returns
+returns c = faultless_sound

@@ -1,0 +1,5 @@
+use Rattle.rubis_laws.proofs.Refusing.{refusals_change_nothing}
+use Rattle.rubis_laws.proofs.laws.refusals_change_nothing.Goals as goal
+
+pub returns : goal.returns
+returns c = refusals_change_nothing

@@ -1,0 +1,66 @@
+// The laws of runs and of logs, each with its statement in rubis_model/specs.
+ghost use Rattle.rubis_model.specs.Forged.{FirstKeepsTheName, StockIsKept};
+ghost use Rattle.rubis_model.specs.Laws.{MeaningIsOne, FoldIsMeaning, CheckedLogsHold, DecidedShadowsFit, EqualSetsEqualTables, RunsAreInOrder, RunsKeepInvariants, RunsAgreeOnTables, RunsMakeMessages, RefusalsChangeNothing, FaultlessLogsAreSound, RunsAreFaultless};
+
+/// A log that passes the checks folds without misfit to the meaning of its set, and there is only one.
+pub fn fold_is_meaning()
+    ensures fold { FoldIsMeaning }
+    ensures one { MeaningIsOne }
+{}
+
+/// In a log that passes the checks no more is sold than there was, each nickname has one user, and the winner of a closed
+/// item is its highest bid.
+pub fn checked_logs_hold()
+    ensures { CheckedLogsHold }
+{}
+
+/// The shadow of an ask that isn't refused at the tables of a log that passes the checks fits after it.
+pub fn decided_shadows_fit()
+    ensures { DecidedShadowsFit }
+{}
+
+/// Logs that pass the checks and have equal sets fold to equal tables.
+pub fn equal_sets_equal_tables()
+    ensures { EqualSetsEqualTables }
+{}
+
+/// In every run all logs causally serialize one RedBlue order.
+pub fn every_run_is_in_order()
+    ensures { RunsAreInOrder }
+{}
+
+/// In every run each log passes the checks, and the invariants hold over all sites.
+pub fn every_run_keeps_invariants()
+    ensures { RunsKeepInvariants }
+{}
+
+/// Logs with equal sets have equal tables, at any two sites and moments of any two runs.
+pub fn every_run_agrees_on_tables()
+    ensures { RunsAgreeOnTables }
+{}
+
+/// Among at most 16 sites, each message of a run meets the conditions of its type.
+pub fn every_run_makes_messages()
+    ensures { RunsMakeMessages }
+{}
+
+/// What a site refuses, or has had before, changes nothing.
+pub fn refusals_change_nothing()
+    ensures { RefusalsChangeNothing }
+{}
+
+/// Logs that pass the checks together are sound.
+pub fn faultless_logs_are_sound()
+    ensures { FaultlessLogsAreSound }
+{}
+
+/// The logs of every run pass the checks together.
+pub fn every_run_is_faultless()
+    ensures { RunsAreFaultless }
+{}
+
+/// In every log, forged ones too, no stock is below zero, and a nickname stays with the first user that has it.
+pub fn every_log_holds()
+    ensures stock { StockIsKept }
+    ensures names { FirstKeepsTheName }
+{}

@@ -1,0 +1,12 @@
+//! The laws of every run, of every log and of the auditor's checks, over the definitions of `rubis_model`. Each law is a
+//! function with an empty body, whose contract names the statement. No crate of a site waits for them.
+#![tactic(auto)]
+
+mod laws;
+
+pub use laws::{
+    checked_logs_hold, decided_shadows_fit, equal_sets_equal_tables, every_log_holds,
+    every_run_agrees_on_tables, every_run_is_faultless, every_run_is_in_order,
+    every_run_keeps_invariants, every_run_makes_messages, faultless_logs_are_sound,
+    fold_is_meaning, refusals_change_nothing,
+};

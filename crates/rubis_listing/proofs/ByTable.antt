@@ -1,0 +1,255 @@
+-- Entries in key order stand table by table.
+use Rattle.std.proofs.Common.{◌≡◌, ℕ, ◌+◌, ◌<◌, ◌≤◌, inl, inr, Bool, true, false, cond, T, List, [], ◌∷◌, ◌++◌, ◌&&◌, refl, sym, ap, ◌∙◌, arith}
+use Rattle.std.specs.Prelude.{⊤, filter, nat_eq, nat_le, nat_lt, ◌==◌}
+use Rattle.std.specs.Cmp.Lexicographic.{slice_cmp}
+use Rattle.std.specs.Ordering.{nat_cmp, is_lt, ordering_then}
+use Rattle.std.specs.declared.cmp.Ordering.{Ordering}
+use Rattle.std.specs.declared.cmp.Ordering.TheVariants.{Less, Equal, Greater}
+use Rattle.std.specs.FinMap as map
+use Rattle.std.specs.FinMap.Entries.{below_all, is_sorted}
+use Rattle.std.proofs.lemmas.Bool.{cases_order, eqb-true, ltb-true}
+use Rattle.std.proofs.lemmas.Bool.Decides.{nat_tests}
+use Rattle.std.proofs.lemmas.List.{append-nil}
+use Rattle.rubis_schema.specs.Keys.{holds, key_code, key_order, table_of}
+use Rattle.rubis_schema.specs.Tables.{Tables}
+use Rattle.rubis_schema.specs.declared.listings.Listing.TheVariants as listing
+use Rattle.rubis_schema.specs.declared.row_keys.RowKey.{RowKey}
+use Rattle.rubis_schema.specs.declared.row_keys.RowKey.TheVariants as key
+use Rattle.rubis_schema.specs.declared.row_keys.Table.{Table}
+use Rattle.rubis_schema.specs.declared.row_keys.Table.TheVariants as table
+use Rattle.rubis_schema.specs.declared.rows.Row.{Row}
+use Rattle.rubis_shadow.specs.Tables.{rows_of}
+use Rattle.rubis_model.specs.Listings.{records_of, table_rows}
+use Rattle.rubis_listing.proofs.Selecting.{Entries, records_append}
+
+-- ---- keys in order have tables in order
+
+first_by : (x y : Bool) (a b : ℕ) (o : Ordering) → nat_lt a b ≡ x → (a == b) ≡ y → ordering_then (cond x Less (cond y Equal Greater)) o ≡ Less → a ≤ b
+first_by true y a b o l q e = let h = ltb-true a b l in omega (arith, h)
+first_by false true a b o l q e = let h = eqb-true a b q in omega (arith, h)
+first_by false false a b o l q e = absurd cc
+
+first_in_order : (a b : ℕ) (xs ys : List ℕ) → slice_cmp nat_cmp (a ∷ xs) (b ∷ ys) ≡ Less → a ≤ b
+first_in_order a b xs ys e = first_by (nat_lt a b) (a == b) a b (slice_cmp nat_cmp xs ys) refl refl e
+
+code_of : (k : RowKey) → (rest : List ℕ) × (key_code k ≡ table_of k ∷ rest)
+code_of (key.User i) = (_, refl)
+code_of (key.Item i) = (_, refl)
+code_of (key.Bid i) = (_, refl)
+code_of (key.Purchase i) = (_, refl)
+code_of (key.Comment i) = (_, refl)
+code_of (key.Nick n) = (_, refl)
+code_of (key.Cat k) = (_, refl)
+
+tables_in_order : (k l : RowKey) → key_order k l ≡ Less → table_of k ≤ table_of l
+unfolding key_order
+tables_in_order k l e =
+    let a = code_of k in
+    let b = code_of l in
+    first_in_order (table_of k) (table_of l) a.0 b.0 (sym (λ i. slice_cmp nat_cmp (a.1 i) (b.1 i)) ∙ e)
+
+-- the tables of the entries have no smaller numbers
+abbrev Above : ℕ → Entries → Type 0
+Above n [] = ⊤
+Above n (e ∷ es) = (n ≤ table_of e.0) × Above n es
+
+abbrev Rise : Entries → Type 0
+Rise [] = ⊤
+Rise (e ∷ es) = Above (table_of e.0) es × Rise es
+
+less : (o : Ordering) → T (is_lt o) → o ≡ Less
+less Less p = refl
+less Equal p = absurd p
+less Greater p = absurd p
+
+both : (a b : Bool) → T (a && b) → T a × T b
+both true b p = (tt, p)
+both false b p = absurd p
+
+above_sorted : (k : RowKey) (es : Entries) → T (below_all key_order k es) → Above (table_of k) es
+above_sorted k [] h = tt
+above_sorted k (e ∷ es) h =
+    let w = both (is_lt (key_order k e.0)) (below_all key_order k es) h in
+    (tables_in_order k e.0 (less (key_order k e.0) w.0), above_sorted k es w.1)
+
+rise_sorted : (es : Entries) → T (is_sorted key_order es) → Rise es
+rise_sorted [] h = tt
+rise_sorted (e ∷ es) h =
+    let w = both (below_all key_order e.0 es) (is_sorted key_order es) h in
+    (above_sorted e.0 es w.0, rise_sorted es w.1)
+
+-- ---- the entries of one table, and those from a table on
+
+abbrev at : ℕ → Entries → Entries
+at n es = filter (λ e. nat_eq (table_of e.0) n) es
+
+abbrev from : ℕ → Entries → Entries
+from n es = filter (λ e. nat_le n (table_of e.0)) es
+
+no_number : (m n : ℕ) → n < m → nat_eq m n ≡ false
+no_number m n h = grind (arith, nat_tests)
+
+none_at : (n m : ℕ) → n < m → (es : Entries) → Above m es → at n es ≡ []
+none_at n m l [] h = refl
+none_at n m l (e ∷ es) h =
+    ap (λ b. cond b (e ∷ at n es) (at n es)) (no_number (table_of e.0) n (omega (arith, l, h.0))) ∙ none_at n m l es h.1
+
+-- what the three tests say of a number
+abbrev Tests : ℕ → ℕ → Bool → Bool → Bool → Type 0
+Tests k n a b c = (nat_le n k ≡ a) × (nat_eq k n ≡ b) × (nat_le (n + 1) k ≡ c)
+
+one : (k n : ℕ) → k ≡ n → Tests k n true true false
+one k n h = (grind (arith, nat_tests), grind (arith, nat_tests), grind (arith, nat_tests))
+
+before : (k n : ℕ) → k < n → Tests k n false false false
+before k n h = (grind (arith, nat_tests), grind (arith, nat_tests), grind (arith, nat_tests))
+
+behind : (k n : ℕ) → n < k → Tests k n true false true
+behind k n h = (grind (arith, nat_tests), grind (arith, nat_tests), grind (arith, nat_tests))
+
+stepped : (e : RowKey × Row) (n : ℕ) (a b c : Bool) (es : Entries) → Tests (table_of e.0) n a b c
+    → cond a (e ∷ from n es) (from n es) ≡ cond b (e ∷ at n es) (at n es) ++ cond c (e ∷ from (n + 1) es) (from (n + 1) es)
+    → from n (e ∷ es) ≡ at n (e ∷ es) ++ from (n + 1) (e ∷ es)
+stepped e n a b c es t same =
+    ap (λ b. cond b (e ∷ from n es) (from n es)) t.0 ∙ same
+    ∙ sym (λ i. cond (t.1 i) (e ∷ at n es) (at n es) ++ cond (t.2 i) (e ∷ from (n + 1) es) (from (n + 1) es))
+
+split_at : (n : ℕ) (es : Entries) → Rise es → from n es ≡ at n es ++ from (n + 1) es
+split_at n [] h = refl
+split_at n (e ∷ es) h =
+    let rest = split_at n es h.1 in
+    elim (cases_order (table_of e.0) n) [
+      | inl same ↦ stepped e n true true false es (one (table_of e.0) n same) (ap (λ fs. e ∷ fs) rest)
+      | inr (inl less) ↦ stepped e n false false false es (before (table_of e.0) n less) rest
+      | inr (inr more) ↦
+          let none = none_at n (table_of e.0) more es h.0 in
+          stepped e n true false true es (behind (table_of e.0) n more)
+          (ap (λ fs. e ∷ fs) (rest ∙ ap (λ fs. fs ++ from (n + 1) es) none) ∙ sym (ap (λ fs. fs ++ (e ∷ from (n + 1) es)) none))
+    ]
+
+-- ---- all tables
+
+from_nought : (n : ℕ) → nat_le 0 n ≡ true
+from_nought n = grind (arith, nat_tests)
+
+all_from : (es : Entries) → from 0 es ≡ es
+all_from [] = refl
+all_from (e ∷ es) = ap (λ b. cond b (e ∷ from 0 es) (from 0 es)) (from_nought (table_of e.0)) ∙ ap (λ fs. e ∷ fs) (all_from es)
+
+few_tables : (k : RowKey) → table_of k < 7
+few_tables (key.User i) = omega arith
+few_tables (key.Item i) = omega arith
+few_tables (key.Bid i) = omega arith
+few_tables (key.Purchase i) = omega arith
+few_tables (key.Comment i) = omega arith
+few_tables (key.Nick n) = omega arith
+few_tables (key.Cat k) = omega arith
+
+below_seven : (n : ℕ) → n < 7 → nat_le 7 n ≡ false
+below_seven n h = grind (arith, nat_tests)
+
+none_from : (es : Entries) → from 7 es ≡ []
+none_from [] = refl
+none_from (e ∷ es) =
+    ap (λ b. cond b (e ∷ from 7 es) (from 7 es)) (below_seven (table_of e.0) (few_tables e.0)) ∙ none_from es
+
+abbrev shown : Entries → List (List (List ℕ))
+shown es = records_of listing.Tables es
+
+-- nicknames show nothing
+no_nicknames : (es : Entries) → shown (at 5 es) ≡ []
+no_nicknames [] = refl
+no_nicknames ((k, r) ∷ es) = elim k as (λ k. shown (at 5 ((k, r) ∷ es)) ≡ []) [
+  | key.User i ↦ no_nicknames es
+  | key.Item i ↦ no_nicknames es
+  | key.Bid i ↦ no_nicknames es
+  | key.Purchase i ↦ no_nicknames es
+  | key.Comment i ↦ no_nicknames es
+  | key.Nick n ↦ no_nicknames es
+  | key.Cat c ↦ no_nicknames es
+]
+
+next_table : (n : ℕ) (es : Entries) → Rise es → shown (from n es) ≡ shown (at n es) ++ shown (from (n + 1) es)
+next_table n es h = ap shown (split_at n es h) ∙ records_append listing.Tables (at n es) (from (n + 1) es)
+
+abbrev number_of : Table → ℕ
+number_of table.Users = 0
+number_of table.Items = 1
+number_of table.Bids = 2
+number_of table.Purchases = 3
+number_of table.Comments = 4
+number_of table.Nicks = 5
+number_of table.Cats = 6
+
+held : (t : Table) (k : RowKey) → holds t k ≡ nat_eq (table_of k) (number_of t)
+held table.Users (key.User x) = refl
+held table.Users (key.Item x) = refl
+held table.Users (key.Bid x) = refl
+held table.Users (key.Purchase x) = refl
+held table.Users (key.Comment x) = refl
+held table.Users (key.Nick x) = refl
+held table.Users (key.Cat x) = refl
+held table.Items (key.User x) = refl
+held table.Items (key.Item x) = refl
+held table.Items (key.Bid x) = refl
+held table.Items (key.Purchase x) = refl
+held table.Items (key.Comment x) = refl
+held table.Items (key.Nick x) = refl
+held table.Items (key.Cat x) = refl
+held table.Bids (key.User x) = refl
+held table.Bids (key.Item x) = refl
+held table.Bids (key.Bid x) = refl
+held table.Bids (key.Purchase x) = refl
+held table.Bids (key.Comment x) = refl
+held table.Bids (key.Nick x) = refl
+held table.Bids (key.Cat x) = refl
+held table.Purchases (key.User x) = refl
+held table.Purchases (key.Item x) = refl
+held table.Purchases (key.Bid x) = refl
+held table.Purchases (key.Purchase x) = refl
+held table.Purchases (key.Comment x) = refl
+held table.Purchases (key.Nick x) = refl
+held table.Purchases (key.Cat x) = refl
+held table.Comments (key.User x) = refl
+held table.Comments (key.Item x) = refl
+held table.Comments (key.Bid x) = refl
+held table.Comments (key.Purchase x) = refl
+held table.Comments (key.Comment x) = refl
+held table.Comments (key.Nick x) = refl
+held table.Comments (key.Cat x) = refl
+held table.Nicks (key.User x) = refl
+held table.Nicks (key.Item x) = refl
+held table.Nicks (key.Bid x) = refl
+held table.Nicks (key.Purchase x) = refl
+held table.Nicks (key.Comment x) = refl
+held table.Nicks (key.Nick x) = refl
+held table.Nicks (key.Cat x) = refl
+held table.Cats (key.User x) = refl
+held table.Cats (key.Item x) = refl
+held table.Cats (key.Bid x) = refl
+held table.Cats (key.Purchase x) = refl
+held table.Cats (key.Comment x) = refl
+held table.Cats (key.Nick x) = refl
+held table.Cats (key.Cat x) = refl
+
+rows_at : (t : Table) (m : Tables) → at (number_of t) (map.entries m) ≡ rows_of t m
+rows_at t m = ap (λ (p : RowKey × Row → Bool). filter p (map.entries m)) (sym (λ i e. held t e.0 i))
+
+-- the rows of one table that are shown
+abbrev pub table_shown : Table → Tables → List (List (List ℕ))
+table_shown t m = records_of listing.Tables (rows_of t m)
+
+pub table_by_table : (m : Tables) → table_shown table.Users m ++ (table_shown table.Items m ++ (table_shown table.Bids m
+    ++ (table_shown table.Purchases m ++ (table_shown table.Comments m ++ table_shown table.Cats m)))) ≡ table_rows listing.Tables m
+table_by_table m =
+    let es = map.entries m in
+    let rise = rise_sorted es (map.entries_sorted m) in
+    let part : (t : Table) → shown (at (number_of t) es) ≡ table_shown t m = λ t. ap shown (rows_at t m) in
+    let last : shown (from 6 es) ≡ table_shown table.Cats m =
+    next_table 6 es rise ∙ (λ i. part table.Cats i ++ shown (none_from es i)) ∙ append-nil (table_shown table.Cats m) in
+    let fifth : shown (from 5 es) ≡ table_shown table.Cats m = next_table 5 es rise ∙ (λ i. no_nicknames es i ++ last i) in
+    let fourth = next_table 4 es rise ∙ (λ i. part table.Comments i ++ fifth i) in
+    let third = next_table 3 es rise ∙ (λ i. part table.Purchases i ++ fourth i) in
+    let second = next_table 2 es rise ∙ (λ i. part table.Bids i ++ third i) in
+    let first = next_table 1 es rise ∙ (λ i. part table.Items i ++ second i) in
+    sym (ap shown (sym (all_from es)) ∙ next_table 0 es rise ∙ (λ i. part table.Users i ++ first i))

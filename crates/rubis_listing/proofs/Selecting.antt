@@ -1,0 +1,87 @@
+-- The records of the rows that a listing is of, entry by entry and table by table.
+use Rattle.std.proofs.Common.{◌≡◌, ◌⊎◌, inl, inr, ℕ, Bool, true, false, cond, List, [], ◌∷◌, ◌++◌, refl, sym, ap, subst, ◌∙◌}
+use Rattle.std.specs.Prelude.{filter}
+use Rattle.std.specs.List.{flat_map}
+use Rattle.std.proofs.lemmas.Grind.{flat_map-append}
+use Rattle.std.proofs.lemmas.List.Elements.{filter-append}
+use Rattle.std.specs.FinMap as map
+use Rattle.rubis_schema.specs.Keys.{holds}
+use Rattle.rubis_schema.specs.Tables.{Tables}
+use Rattle.rubis_schema.specs.declared.ids.Id.{Id}
+use Rattle.rubis_schema.specs.declared.listings.Listing.{Listing}
+use Rattle.rubis_schema.specs.declared.listings.Listing.TheVariants as listing
+use Rattle.rubis_schema.specs.declared.row_keys.RowKey.{RowKey}
+use Rattle.rubis_schema.specs.declared.row_keys.RowKey.TheVariants as key
+use Rattle.rubis_schema.specs.declared.row_keys.Table.{Table}
+use Rattle.rubis_schema.specs.declared.row_keys.Table.TheVariants as table
+use Rattle.rubis_schema.specs.declared.rows.Row.{Row}
+use Rattle.rubis_shadow.specs.Tables.{rows_of}
+use Rattle.rubis_model.specs.Listings.{is_of, records_of, row_record, table_rows}
+
+abbrev pub Entries : Type 0
+Entries = List (RowKey × Row)
+
+pub records_append : (l : Listing) (xs ys : Entries) → records_of l (xs ++ ys) ≡ records_of l xs ++ records_of l ys
+records_append l xs ys =
+    ap (flat_map (λ (e : RowKey × Row). row_record e.0 e.1)) (filter-append (λ (e : RowKey × Row). is_of l e.0 e.1) xs ys)
+    ∙ flat_map-append (λ (e : RowKey × Row). row_record e.0 e.1) (filter (λ e. is_of l e.0 e.1) xs) (filter (λ e. is_of l e.0 e.1) ys)
+
+-- the listing is of no row outside the table
+abbrev IsWithin : Listing → Table → Type 0
+IsWithin l t = (k : RowKey) (r : Row) → holds t k ≡ false → is_of l k r ≡ false
+
+-- a filter within a filter
+both_by : (h p : Bool) (e : RowKey × Row) (es : Entries) (q : RowKey × Row → Bool) → q e ≡ p → (h ≡ false → p ≡ false)
+    → filter q (cond h (e ∷ es) es) ≡ cond p (e ∷ filter q es) (filter q es)
+both_by true p e es q same w = ap (λ b. cond b (e ∷ filter q es) (filter q es)) same
+both_by false p e es q same w = ap (λ b. cond b (e ∷ filter q es) (filter q es)) (sym (w refl))
+
+filtered : (l : Listing) (t : Table) → IsWithin l t → (es : Entries)
+    → filter (λ e. is_of l e.0 e.1) (filter (λ e. holds t e.0) es) ≡ filter (λ e. is_of l e.0 e.1) es
+filtered l t w [] = refl
+filtered l t w (e ∷ es) =
+    both_by (holds t e.0) (is_of l e.0 e.1) e (filter (λ e. holds t e.0) es) (λ e. is_of l e.0 e.1) refl (w e.0 e.1)
+    ∙ ap (λ fs. cond (is_of l e.0 e.1) (e ∷ fs) fs) (filtered l t w es)
+
+-- a listing of the rows of one table
+pub one_table : (l : Listing) (t : Table) → IsWithin l t → (m : Tables) → records_of l (rows_of t m) ≡ table_rows l m
+one_table l t w m = ap (flat_map (λ (e : RowKey × Row). row_record e.0 e.1)) (filtered l t w (map.entries m))
+
+pub users_within : IsWithin listing.Users table.Users
+users_within (key.User id) r e = absurd cc
+users_within k r e = refl
+
+pub items_within : (cat : ℕ) → IsWithin (listing.Items cat) table.Items
+items_within cat (key.Item id) r e = absurd cc
+items_within cat k r e = refl
+
+pub bids_within : (item : Id) → IsWithin (listing.Bids item) table.Bids
+bids_within item (key.Bid id) r e = absurd cc
+bids_within item k r e = refl
+
+pub purchases_within : (item : Id) → IsWithin (listing.Purchases item) table.Purchases
+purchases_within item (key.Purchase id) r e = absurd cc
+purchases_within item k r e = refl
+
+pub comments_within : (user : Id) → IsWithin (listing.Comments user) table.Comments
+comments_within user (key.Comment id) r e = absurd cc
+comments_within user k r e = refl
+
+pub categories_within : IsWithin listing.Categories table.Cats
+categories_within (key.Cat k) r e = absurd cc
+categories_within k r e = refl
+
+-- the others show no rows
+none_of : (l : Listing) → ((k : RowKey) (r : Row) → is_of l k r ≡ false) → (es : Entries) → records_of l es ≡ []
+none_of l none [] = refl
+none_of l none (e ∷ es) =
+    ap (λ b. flat_map (λ (e : RowKey × Row). row_record e.0 e.1) (cond b (e ∷ filter (λ e. is_of l e.0 e.1) es) (filter (λ e. is_of l e.0 e.1) es))) (none e.0 e.1)
+    ∙ none_of l none es
+
+pub shows_none : (l : Listing) (m : Tables) → (l ≡ listing.Log) ⊎ (l ≡ listing.Misfits) → table_rows l m ≡ []
+shows_none l m (inl e) = ap (λ x. table_rows x m) e ∙ none_of listing.Log (λ k r. refl) (map.entries m)
+shows_none l m (inr e) = ap (λ x. table_rows x m) e ∙ none_of listing.Misfits (λ k r. refl) (map.entries m)
+
+-- a listing that is known to be of one table
+pub shown_by : (t : Table) (l k : Listing) → l ≡ k → IsWithin k t → (m : Tables) → records_of l (rows_of t m) ≡ table_rows l m
+shown_by t l k e w m = one_table l t (subst (λ x. IsWithin x t) (sym e) w) m

@@ -1,0 +1,92 @@
+// The listings of the log and of what didn't fit.
+
+ghost use Rattle.std.specs.Prelude.{◌≡◌, ◌++◌, ◌≤◌, ◌∷◌, [], IfOk, OnOk, length};
+ghost use Rattle.rubis_model.specs.Listings.{kind_name, log_record, log_rows, misfit_record, misfit_rows as rows_of_misfits};
+
+use crate::row_sinks::RowSink;
+use rubis_message::{Message, append_message};
+use rubis_schema::{Fields, Items, push_number};
+use rubis_shadow::{Misfit, MisfitKind};
+use std::alloc::{AllocError, Global};
+
+// The record of a message that is that entry of the log.
+fn put_entry(fields: &mut Fields, entry: u64, message: &Message) -> Result<(), AllocError>
+    ensures { OnOk result (fields.new ≡ log_record entry message.now) }
+{
+    fields.clear();
+    fields.push(b"row")?;
+    fields.push(b"log")?;
+    push_number(fields, entry)?;
+    append_message(fields, message)
+}
+
+/// Adds the rows of a log, in its order, with entries from 1.
+pub fn list_log<S: RowSink>(alloc: Global, sink: &mut S, log: &[Message]) -> Result<(), AllocError>
+    ensures { OnOk result (S.adds (log_rows log.now) sink.old sink.new) }
+{
+    let mut record = Fields::new(alloc);
+    for place in 0..log.len() {
+        put_entry(&mut record, place as u64 + 1, &log[place])?;
+        sink.put(&record)?;
+    }
+    Ok(())
+}
+
+// The word for why a part didn't fit.
+fn name_of(kind: MisfitKind) -> &'static [u8]
+    ensures { result.now ≡ kind_name kind }
+{
+    match kind {
+        MisfitKind::RowThere => b"RowThere",
+        MisfitKind::NoRow => b"NoRow",
+        MisfitKind::ClosedItem => b"ClosedItem",
+        MisfitKind::StockShort => b"StockShort",
+    }
+}
+
+// The record of a misfit.
+fn put_misfit(fields: &mut Fields, misfit: &Misfit) -> Result<(), AllocError>
+    ensures { OnOk result (fields.new ≡ misfit_record misfit.now) }
+{
+    fields.clear();
+    fields.push(b"row")?;
+    fields.push(b"misfit")?;
+    push_number(fields, u64::from(misfit.entry))?;
+    push_number(fields, u64::from(misfit.part))?;
+    misfit.id.push_to(fields)?;
+    fields.push(name_of(misfit.kind))
+}
+
+/// Adds the rows of misfits, in their order.
+pub fn list_misfits<S: RowSink>(
+    alloc: Global,
+    sink: &mut S,
+    misfits: &[Misfit],
+) -> Result<(), AllocError>
+    ensures { OnOk result (S.adds (rows_of_misfits misfits.now) sink.old sink.new) }
+{
+    let mut record = Fields::new(alloc);
+    for misfit in misfits {
+        put_misfit(&mut record, misfit)?;
+        sink.put(&record)?;
+    }
+    Ok(())
+}
+
+/// The messages of a log, in its order, with entries from 1.
+pub fn log(alloc: Global, log: &[Message]) -> Result<Items<Fields>, AllocError>
+    ensures { IfOk result (λ rows. rows ≡ log_rows log.now) }
+{
+    let mut rows = Items::new(alloc);
+    list_log(alloc, &mut rows, log)?;
+    Ok(rows)
+}
+
+/// Misfits, in their order.
+pub fn misfit_rows(alloc: Global, misfits: &[Misfit]) -> Result<Items<Fields>, AllocError>
+    ensures { IfOk result (λ rows. rows ≡ rows_of_misfits misfits.now) }
+{
+    let mut rows = Items::new(alloc);
+    list_misfits(alloc, &mut rows, misfits)?;
+    Ok(rows)
+}

@@ -1,0 +1,110 @@
+-- Forms: what the first fields of a record are read as.
+use Rattle.std.specs.Prelude.{◌≡◌, ℕ, ℤ, Bool, true, false, cond, nat_lt, bytes_eq, codes, List, [], ◌∷◌, Option, Some, None, option_map, Result, Ok, Err, ⊤}
+use Rattle.rubis_schema.specs.FieldForms.{id_of, name_of, nick_of, number_of, rating_of, text_of}
+use Rattle.rubis_schema.specs.declared.ids.Id.{Id}
+use Rattle.rubis_message.specs.Counts.{deps_of}
+use Rattle.rubis_message.specs.declared.faults.ReadFault.{ReadFault}
+use Rattle.rubis_message.specs.declared.faults.ReadFault.TheVariants.{BadRecord, Memory}
+
+-- a form reads the first fields of a record: a value and the fields behind it, or there is none
+abbrev pub Form : Type 0 → Type 0
+Form A = List (List ℕ) → Option (A × List (List ℕ))
+
+-- what a reader of that form promises
+abbrev pub Takes : {A : Type 0} → Form A → List (List ℕ) → List (List ℕ) → Result A ReadFault → Type 0
+Takes form fields rest (Ok x) = form fields ≡ Some (x, rest)
+Takes form fields rest (Err BadRecord) = form fields ≡ None
+Takes form fields rest (Err Memory) = ⊤
+
+abbrev pub after : {A B : Type 0} → Option (A × List (List ℕ)) → (A → Form B) → Option (B × List (List ℕ))
+after None next = None
+after (Some p) next = next p.0 p.1
+
+-- one form, and then the next
+infixl 10 ◌>>=◌
+abbrev pub ◌>>=◌ : {A B : Type 0} → Form A → (A → Form B) → Form B
+(form >>= next) fields = after (form fields) next
+
+infixl 10 ◌>>◌
+abbrev pub ◌>>◌ : {A B : Type 0} → Form A → Form B → Form B
+(form >> next) fields = after (form fields) (λ _. next)
+
+abbrev pub give : {A : Type 0} → A → Form A
+give x fields = Some (x, fields)
+
+abbrev pub none : {A : Type 0} → Form A
+none fields = None
+
+-- the value, made of what the form reads
+abbrev pub made : {A B : Type 0} → (A → B) → Form A → Form B
+made make form fields = after (form fields) (λ x. give (make x))
+
+-- nothing is read, and the test holds
+abbrev pub check : Bool → Form (Unit {0})
+check true fields = Some (tt, fields)
+check false fields = None
+
+-- what the form reads, if the test holds
+abbrev pub kept : {A : Type 0} → (A → Bool) → Form A → Form A
+kept test form = form >>= (λ x. check (test x) >> give x)
+
+-- no field is left
+abbrev pub at_end : Form (Unit {0})
+at_end [] = Some (tt, [])
+at_end (field ∷ rest) = None
+
+abbrev pub no_more : {A : Type 0} → Option (A × List (List ℕ)) → Option A
+no_more None = None
+no_more (Some p) = option_map (λ _. p.0) (at_end p.1)
+
+-- all fields of a record
+abbrev pub whole : {A : Type 0} → Form A → List (List ℕ) → Option A
+whole form fields = no_more (form fields)
+
+-- ---- single fields
+
+abbrev pub beside : {A : Type 0} → List (List ℕ) → Option A → Option (A × List (List ℕ))
+beside rest o = option_map (λ x. (x, rest)) o
+
+abbrev pub one : {A : Type 0} → (List ℕ → Option A) → Form A
+one read [] = None
+one read (field ∷ rest) = beside rest (read field)
+
+-- a number, up to the greatest
+abbrev pub take_number : ℕ → Form ℕ
+take_number high = one (number_of high)
+
+-- a number from 1 on
+unfoldable pub take_positive : ℕ → Form ℕ
+take_positive high = kept (nat_lt 0) (take_number high)
+
+-- the number of one of so many sites
+unfoldable pub take_site : ℕ → Form ℕ
+take_site sites = kept (λ n. nat_lt n sites) (take_number 255)
+
+-- an id of one of so many sites
+abbrev pub take_id : ℕ → Form Id
+take_id sites = one (id_of sites)
+
+-- an id of one of so many sites, or `none`
+unfoldable pub winner_of : ℕ → List ℕ → Option (Option Id)
+winner_of sites field = cond (bytes_eq field (codes "none")) (Some None) (option_map Some (id_of sites field))
+
+abbrev pub take_winner : ℕ → Form (Option Id)
+take_winner sites = one (winner_of sites)
+
+abbrev pub take_rating : Form ℤ
+take_rating = one rating_of
+
+abbrev pub take_nick : Form (List ℕ)
+take_nick = one nick_of
+
+abbrev pub take_name : Form (List ℕ)
+take_name = one name_of
+
+abbrev pub take_text : Form (List ℕ)
+take_text = one text_of
+
+-- the counts of so many sites
+abbrev pub take_deps : ℕ → Form (List ℕ)
+take_deps sites = one (deps_of sites)

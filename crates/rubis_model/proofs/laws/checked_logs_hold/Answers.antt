@@ -1,5 +1,0 @@
-use Rattle.rubis_model.proofs.Invariants.{checked_holds}
-use Rattle.rubis_model.proofs.laws.checked_logs_hold.Goals as goal
-
-pub returns : goal.returns
-returns c = checked_holds

@@ -1,5 +1,0 @@
-use Rattle.rubis_model.proofs.Runs.{equal_tables}
-use Rattle.rubis_model.proofs.laws.every_run_agrees_on_tables.Goals as goal
-
-pub returns : goal.returns
-returns c = equal_tables

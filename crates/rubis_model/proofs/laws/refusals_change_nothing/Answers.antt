@@ -1,5 +1,0 @@
-use Rattle.rubis_model.proofs.Refusing.{refusals_change_nothing}
-use Rattle.rubis_model.proofs.laws.refusals_change_nothing.Goals as goal
-
-pub returns : goal.returns
-returns c = refusals_change_nothing

@@ -1,0 +1,157 @@
+-- Parts dealt to the shares of their homes, one after the other.
+use Rattle.std.proofs.Common.{ℕ, ◌≡◌, ◌+◌, ◌<◌, List, [], ◌∷◌, ◌++◌, length, take, get_or, set, cond, refl, sym, ap, ◌∙◌, subst}
+use Rattle.std.proofs.Common.{arith, append_assoc, length-set, ⊎_elim}
+use Rattle.std.specs.Prelude.{Some, None, slice_get}
+use Rattle.std.proofs.lemmas.Bool.{cases_eq, cases_lt}
+use Rattle.std.proofs.lemmas.Bool.Decides.{Decides-eqb}
+use Rattle.std.proofs.lemmas.List.{append-nil, take_more, take_all, length-map, length-take-le}
+use Rattle.std.proofs.lemmas.Option.{slice_get-get_or, slice_get_within, get_or_from_slice_get}
+use Rattle.rubis_schema.specs.Keys.{home}
+use Rattle.rubis_schema.specs.declared.ids.Id.{Id}
+use Rattle.rubis_shadow.specs.Parts.{parts}
+use Rattle.rubis_shadow.specs.declared.changes.Effect.{Effect}
+use Rattle.rubis_shadow.specs.declared.numbered.Numbered.{Numbered}
+use Rattle.rubis_shadow.specs.declared.shadows.Shadow.{Shadow}
+use Rattle.rubis_shadow.specs.declared.shadows.Shadow.TheVariants as shadow
+use Rattle.rubis_message.specs.Message.{Message}
+use Rattle.rubis_model.specs.Log.{core, cores, number_parts, numbered_from, parts_of}
+use Rattle.rubis_model.proofs.CoreLists.{cores_push}
+use Rattle.rubis_model.proofs.Shares.{numbered_append}
+use Rattle.rubis_shard.specs.Holdings.{parts_at}
+use Rattle.rubis_shard.specs.declared.shares.Share.{Share}
+use Rattle.rubis_shard.proofs.Folds.{not_equal}
+use Rattle.rubis_shard.proofs.Parts.{parts_at_append}
+use Rattle.rubis_shard.proofs.Places.{written_here, written_elsewhere}
+use Rattle.rubis_pieces.specs.Shares.{AreDealt}
+
+-- ---- one part
+here : (shards k : ℕ) (ns : List Numbered) (n : Numbered) → home shards n.effect.key ≡ k
+    → parts_at shards k (ns ++ n ∷ []) ≡ parts_at shards k ns ++ n ∷ []
+here shards k ns n e =
+    parts_at_append shards k ns (n ∷ [])
+    ∙ ap (λ b. parts_at shards k ns ++ cond b (n ∷ []) []) ((Decides-eqb (home shards n.effect.key) k).1 e)
+
+elsewhere : (shards k : ℕ) (ns : List Numbered) (n : Numbered) → ¬ (home shards n.effect.key ≡ k)
+    → parts_at shards k (ns ++ n ∷ []) ≡ parts_at shards k ns
+elsewhere shards k ns n e =
+    parts_at_append shards k ns (n ∷ [])
+    ∙ ap (λ b. parts_at shards k ns ++ cond b (n ∷ []) []) (not_equal (home shards n.effect.key) k e)
+    ∙ append-nil (parts_at shards k ns)
+
+pub dealt_push : (shards at : ℕ) (ns : List Numbered) (n : Numbered) (shares : List Share) (d : Share) (ps : List Numbered)
+    → home shards n.effect.key ≡ at → at < shards → d ≡ get_or shares at d → ps ≡ d.effects ++ n ∷ []
+    → AreDealt shards ns shares → AreDealt shards (ns ++ n ∷ []) (set shares at (record { number = d.number; effects = ps }))
+dealt_push shards at ns n shares d ps e l g p h = record {
+  many = length-set shares at new ∙ h.many;
+  each = λ k lt.
+      let within : k < length shares = let m = h.many in omega (arith, m, lt) in
+      ⊎_elim
+      (λ same.
+      ap (slice_get (set shares at new)) same ∙ written_here shares at new (let m = h.many in omega (arith, m, l))
+      ∙ (λ i. Some (record { number = (was i).number; effects = added i }))
+      ∙ (λ i. Some (record { number = sym same i; effects = parts_at shards (sym same i) (ns ++ n ∷ []) })))
+      (λ other.
+      written_elsewhere shares at k new other within ∙ h.each k lt
+      ∙ (λ i. Some (record { number = k; effects = sym (elsewhere shards k ns n (λ s. other (sym s ∙ e))) i })))
+      (cases_eq k at);
+}
+  where
+    new : Share
+    new = record { number = d.number; effects = ps }
+
+    was : d ≡ record { number = at; effects = parts_at shards at ns }
+    was = g ∙ get_or_from_slice_get shares at (record { number = at; effects = parts_at shards at ns }) d (h.each at l)
+
+    added : ps ≡ parts_at shards at (ns ++ n ∷ [])
+    added = p ∙ ap (λ (x : Share). x.effects ++ n ∷ []) was ∙ sym (here shards at ns n e)
+
+-- ---- the parts of one message
+number_parts_push : (entry part : ℕ) (id : Id) (es : List Effect) (e : Effect)
+    → number_parts entry part id (es ++ e ∷ []) ≡ number_parts entry part id es ++ record {
+      entry = entry;
+      part = part + length
+          es;
+      id = id;
+      effect = e;
+    } ∷ []
+number_parts_push entry part id [] e = let z : part ≡ part + 0 = omega arith in
+    λ i. record { entry = entry; part = z i; id = id; effect = e } ∷ []
+number_parts_push entry part id (x ∷ es) e =
+    let z : (part + 1) + length es ≡ part + length (x ∷ es) = omega arith in
+    ap (λ ns. record { entry = entry; part = part; id = id; effect = x } ∷ ns)
+    (number_parts_push entry (part + 1) id es e
+    ∙ (λ i. number_parts entry (part + 1) id es ++ record { entry = entry; part = z i; id = id; effect = e } ∷ []))
+
+take_one : {X : Type 0} (xs : List X) (i : ℕ) (x : X) → slice_get xs i ≡ Some x → take (i + 1) xs ≡ take i xs ++ x ∷ []
+take_one xs i x e = take_more xs i x (slice_get_within xs i x e)
+    ∙ ap (λ y. take i xs ++ y ∷ []) (get_or_from_slice_get xs i x x e)
+
+take_none : {X : Type 0} (xs : List X) (i : ℕ) → slice_get xs i ≡ None → take (i + 1) xs ≡ take i xs
+take_none [] i e = take_all (i + 1) [] (omega arith) ∙ sym (take_all i [] (omega arith))
+take_none (x ∷ xs) i e = ⊎_elim
+    (λ l. (let s = slice_get-get_or (x ∷ xs) i x l in absurd cc))
+    (λ l. take_all (i + 1) (x ∷ xs) (omega (arith, l)) ∙ sym (take_all i (x ∷ xs) l)) (cases_lt i (length (x ∷ xs)))
+
+-- the parts before a place are dealt
+abbrev pub IsDealtTo : ℕ → List Numbered → List Share → List Share → Type 0
+IsDealtTo shards ps a b = (ns : List Numbered) → AreDealt shards ns a → AreDealt shards (ns ++ ps) b
+
+pub place_turn : (shards entry i m : ℕ) (id : Id) (es : List Effect) (e f : Effect) (a l b : List Share) → m ≡ shards
+    → Some e ≡ slice_get es i → f ≡ e
+    → IsDealtTo shards (number_parts entry 1 id (take i es)) a l
+    → IsDealtTo m (record { entry = entry; part = i + 1; id = id; effect = f } ∷ []) l b
+    → IsDealtTo shards (number_parts entry 1 id (take (i + 1) es)) a b
+place_turn shards entry i m id es e f a l b same there copied inv turn ns h =
+    let within = slice_get_within es i e (sym there) in
+    let long : length (take i es) ≡ i = length-take-le i es (omega (arith, within)) in
+    let z : 1 + length (take i es) ≡ i + 1 = omega (arith, long) in
+    let more : number_parts entry 1 id (take (i + 1) es) ≡ number_parts entry 1 id (take i es) ++ record {
+      entry = entry;
+      part
+          = i + 1;
+      id = id;
+      effect = f;
+    } ∷ [] =
+    ap (number_parts entry 1 id) (take_one es i e (sym there)) ∙ number_parts_push entry 1 id (take i es) e
+    ∙ (λ j. number_parts entry 1 id (take i es) ++ record { entry = entry; part = z j; id = id; effect = sym copied j } ∷ []) in
+    let done = subst (λ k. IsDealtTo k (record { entry = entry; part = i + 1; id = id; effect = f } ∷ []) l b) same turn _ (inv
+    ns h) in
+    subst (λ ps. AreDealt shards ps b) (append_assoc ns _ _ ∙ ap (λ ps. ns ++ ps) (sym more)) done
+
+pub place_past : (shards entry i : ℕ) (id : Id) (es : List Effect) (a l : List Share) → None ≡ slice_get es i
+    → IsDealtTo shards (number_parts entry 1 id (take i es)) a l
+    → IsDealtTo shards (number_parts entry 1 id (take (i + 1) es)) a l
+place_past shards entry i id es a l there inv = subst (λ fs. IsDealtTo shards (number_parts entry 1 id fs) a l) (sym (take_none
+    es i (sym there))) inv
+
+all_places : (id : Id) (red : ℕ) (s : Shadow) → take 3 (parts id red s) ≡ parts id red s
+all_places id red (shadow.User n) = refl
+all_places id red (shadow.Item n) = refl
+all_places id red (shadow.Bid b) = refl
+all_places id red (shadow.Buy p) = refl
+all_places id red (shadow.Close c) = refl
+all_places id red (shadow.Comment c) = refl
+
+pub message_end : (shards entry red i : ℕ) (id : Id) (s : Shadow) (a l : List Share) → i ≡ 3
+    → IsDealtTo shards (number_parts entry 1 id (take i (parts id red s))) a l
+    → IsDealtTo shards (number_parts entry 1 id (parts id red s)) a l
+message_end shards entry red i id s a l end inv =
+    subst (λ fs. IsDealtTo shards (number_parts entry 1 id fs) a l) (ap (λ n. take n (parts id red s)) end
+    ∙ all_places id red s) inv
+
+-- ---- the messages of a batch
+pub split_turn : (shards first i entry m : ℕ) (batch : List Message) (x : Message) (ps : List Numbered) (l b : List Share)
+    → m ≡ shards → i < length batch
+    → x ≡ get_or batch i x → entry ≡ first + i → ps ≡ number_parts entry 1 (core x).id (parts_of (core x))
+    → AreDealt shards (numbered_from first (cores (take i batch))) l → IsDealtTo m ps l b
+    → AreDealt shards (numbered_from first (cores (take (i + 1) batch))) b
+split_turn shards first i entry m batch x ps l b same lt got counted is h turn =
+    let long : length (cores (take i batch)) ≡ i = length-map (take i batch) core ∙ length-take-le i batch (omega (arith, lt)) in
+    let z : first + length (cores (take i batch)) ≡ entry = omega (arith, long, counted) in
+    let more : numbered_from first (cores (take (i + 1) batch)) ≡ numbered_from first (cores (take i batch)) ++ ps =
+    ap (λ ms. numbered_from first (cores ms)) (take_more batch i x lt ∙ ap (λ y. take i batch ++ y ∷ []) (sym got))
+    ∙ ap (numbered_from first) (cores_push (take i batch) x)
+    ∙ numbered_append first (cores (take i batch)) (core x ∷ [])
+    ∙ (λ j. numbered_from first (cores (take i batch)) ++ (number_parts (z j) 1 (core x).id (parts_of (core x)) ++ []))
+    ∙ ap (λ qs. numbered_from first (cores (take i batch)) ++ qs) (append-nil _ ∙ sym is) in
+    subst (λ qs. AreDealt shards qs b) (sym more) (subst (λ k. IsDealtTo k ps l b) same turn _ h)

@@ -1,0 +1,6 @@
+pub mod Dealt
+pub mod Walk
+pub mod Sorting
+pub mod Folded
+pub mod Order
+pub mod Finishing

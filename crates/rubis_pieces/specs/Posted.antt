@@ -1,0 +1,18 @@
+-- The pieces that are posted and not yet taken, as one moves after the other. What is on the running board, and what the
+-- schedule machine has posted, changes by these moves and no others.
+use Rattle.std.specs.Prelude.{◌≡◌, List, [], ◌∷◌, ◌++◌}
+use Rattle.rubis_pieces.specs.declared.pieces.Piece.{Piece}
+
+-- a piece is posted, or taken
+pub data Move : Type 0 where
+  Posted : Piece → Move
+  Taken : Piece → Move
+
+-- a posted piece stands last, and the first one is taken
+abbrev pub Moves : List Piece → Move → List Piece → Type 0
+Moves before (Posted p) after = after ≡ before ++ p ∷ []
+Moves before (Taken p) after = before ≡ p ∷ after
+
+abbrev pub MovesAll : List Piece → List Move → List Piece → Type 0
+MovesAll before [] after = before ≡ after
+MovesAll before (m ∷ ms) after = (between : List Piece) × Moves before m between × MovesAll between ms after

@@ -1,0 +1,149 @@
+ghost use Rattle.std.specs.Prelude.{◌≡◌, ◌+◌, ◌<◌, ◌≤◌, ◌++◌, ◌∷◌, [], map as each, flat_map, length, IfSome, IfNone, IfOk, IfErr};
+ghost use Rattle.std.specs.Vec.{vec_len, vec_capacity};
+ghost use Rattle.rubis_pieces.specs.Faults.{AllUnseen, IsFault, IsGatherable, numbers_of};
+ghost use Rattle.rubis_pieces.specs.Gathered.{IsGathered, left_of};
+
+use crate::pieces::{Done, Left};
+use rubis_schema::Items;
+use rubis_shard::Shard;
+use std::alloc::{AllocError, Global};
+use std::marker::Model;
+
+/// Why shards that came back aren't one set: the first number, in the order of the list, that isn't one of the set or that
+/// came before, else the smallest that is missing.
+#[derive(Clone, Copy, PartialEq, Eq, Debug)]
+pub enum FaultKind {
+    Stranger(usize),
+    Twice(usize),
+    Missing(usize),
+}
+
+/// Why, and the list as it came.
+#[derive(Drop)]
+pub struct GatherFault {
+    pub kind: FaultKind,
+    pub back: Items<Done>,
+}
+
+/// The shards by number, and the shares that aren't folded whole, in order of number.
+#[derive(Drop)]
+pub struct Gathered {
+    pub shards: Items<Shard>,
+    pub left: Items<Left>,
+}
+
+/// The room for gathering the shards of a set. Contracts see how many there are.
+#[derive(Drop)]
+pub struct Places {
+    seen: Vec<bool>,
+    shards: Vec<Shard>,
+    left: Vec<Left>,
+}
+
+impl Model for Places {
+    ghost use Rattle.std.specs.Prelude.{ℕ, length};
+    ghost use Rattle.std.specs.Vec.{vec_capacity};
+    ghost use Rattle.rubis_pieces.specs.Places.{HasPlaces};
+
+    ghost Value = { ℕ };
+
+    ghost view = { λ p. length p.seen.items };
+
+    ghost invariant = { λ p. HasPlaces p.seen.items p.shards.items (vec_capacity p.shards) p.left.items (vec_capacity p.left) };
+}
+
+impl Places {
+    /// Room for so many shards.
+    pub fn new(alloc: Global, shards: usize) -> Result<Places, AllocError>
+        ensures { IfOk result (λ places. places ≡ shards) }
+    {
+        let mut seen = Vec::with_capacity(alloc, shards)?;
+        for _ in 0..shards {
+            seen.push_reserved(false);
+        }
+        Ok(Places {
+            seen,
+            shards: Vec::with_capacity(alloc, shards)?,
+            left: Vec::with_capacity(alloc, shards)?,
+        })
+    }
+}
+
+// The first fault of a list.
+fn first_fault(list: &[Done], seen: &mut [bool]) -> Option<FaultKind>
+    requires { AllUnseen seen.old }
+    ensures fault { IfSome result (IsFault (length seen.old) (numbers_of list.now)) }
+    ensures none { IfNone result (IsGatherable (length seen.old) (numbers_of list.now)) }
+{
+    for done in list {
+        let number = done.shard.number();
+        if number >= seen.len() {
+            return Some(FaultKind::Stranger(number));
+        }
+        if seen[number] {
+            return Some(FaultKind::Twice(number));
+        }
+        seen[number] = true;
+    }
+    for number in 0..seen.len() {
+        if !seen[number] {
+            return Some(FaultKind::Missing(number));
+        }
+    }
+    None
+}
+
+/// Puts each shard at its number, with the room of `places`, and says which shares aren't folded whole. Where the list
+/// isn't each shard of the set once, all comes back with the first fault.
+pub fn gather(list: Vec<Done>, places: Places) -> Result<Gathered, GatherFault>
+    ensures gathered { IfOk result (IsGathered places list.items) }
+    ensures fault { IfErr result (λ fault. IsFault places (numbers_of list.items) fault.kind) }
+    ensures back { IfErr result (λ fault. fault.back ≡ list.items) }
+{
+    let Places {
+        mut seen,
+        mut shards,
+        mut left,
+    } = places;
+    let mut list = list;
+    if let Some(kind) = first_fault(&list, &mut seen) {
+        return Err(GatherFault {
+            kind,
+            back: list.into(),
+        });
+    }
+    list.sort_unstable_by_key(|done| done.shard.number());
+    put_all(list, &mut shards, &mut left);
+    Ok(Gathered {
+        shards: shards.into(),
+        left: left.into(),
+    })
+}
+
+// Puts a shard last, and its share too where it isn't folded whole.
+fn put_down(done: Done, shards: &mut Vec<Shard>, left: &mut Vec<Left>)
+    requires shards { vec_len shards.old < vec_capacity shards.old }
+    requires left { vec_len left.old < vec_capacity left.old }
+    ensures shards { shards.new.items ≡ shards.old.items ++ done.shard ∷ [] }
+    ensures left { left.new.items ≡ left.old.items ++ left_of done }
+    ensures shard_room { vec_capacity shards.new ≡ vec_capacity shards.old }
+    ensures left_room { vec_capacity left.new ≡ vec_capacity left.old }
+{
+    let Done { shard, share, done } = done;
+    shards.push_reserved(shard);
+    if done < share.effects.len() {
+        left.push_reserved(Left { share, done });
+    }
+}
+
+// Puts all shards down in turn, with what is left of their shares.
+fn put_all(list: Vec<Done>, shards: &mut Vec<Shard>, left: &mut Vec<Left>)
+    requires shards { vec_len shards.old + length list.items ≤ vec_capacity shards.old }
+    requires left { vec_len left.old + length list.items ≤ vec_capacity left.old }
+    ensures shards { shards.new.items ≡ shards.old.items ++ each (λ d. d.shard) list.items }
+    ensures left { left.new.items ≡ left.old.items ++ flat_map left_of list.items }
+{
+    for done in list {
+        put_down(done, shards, left);
+    }
+}

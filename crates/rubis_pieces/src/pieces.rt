@@ -1,0 +1,23 @@
+use rubis_shard::{Shard, Share};
+
+/// A shard with its share of a batch.
+#[derive(Drop)]
+pub struct Piece {
+    pub shard: Shard,
+    pub share: Share,
+}
+
+/// A shard with its share of a batch, of which so many parts are folded on the shard.
+#[derive(Drop)]
+pub struct Done {
+    pub shard: Shard,
+    pub share: Share,
+    pub done: usize,
+}
+
+/// A share of which so many parts, but not all, are folded on its shard.
+#[derive(Drop)]
+pub struct Left {
+    pub share: Share,
+    pub done: usize,
+}

@@ -1,0 +1,9 @@
+use Rattle.std.proofs.Common.{sym, subst, take}
+use Rattle.rubis_pool_core.specs.Schedules.{Accounted}
+use Rattle.rubis_pool_core.proofs.Accounts.{every}
+use Rattle.rubis_pool_core.proofs.schedules.run.Goals as goal
+
+pub returns-clause-once : goal.returns-clause-once
+returns-clause-once c =
+    subst (Accounted c.args.pieces.items) (sym c.loop-event.invariant)
+    (every c.args.workers c.args.pieces.items (take c.loop-event.event-index c.args.events.now))

@@ -1,0 +1,45 @@
+-- A batch, folded by any schedule.
+use Rattle.std.specs.Prelude.{◌≡◌, ℕ, ◌+◌, ◌<◌, List, [], ◌∷◌, ◌++◌, length, slice_get, Some}
+use Rattle.rubis_model.specs.Log.{Core, fold_of}
+use Rattle.rubis_shard.specs.States.{ShardState}
+use Rattle.rubis_shard.specs.Holdings.{HoldsLog, union}
+use Rattle.rubis_shard.specs.declared.shares.Share.{Share}
+use Rattle.rubis_pieces.specs.Shares.{AreShares}
+use Rattle.rubis_pieces.specs.Faults.{IsFault, numbers_of}
+use Rattle.rubis_pieces.specs.Gathered.{IsGathered}
+use Rattle.rubis_pieces.specs.declared.gathers.FaultKind.{FaultKind}
+use Rattle.rubis_pieces.specs.declared.gathers.Gathered.{Gathered}
+use Rattle.rubis_pieces.specs.declared.pieces.Piece.{Piece}
+use Rattle.rubis_pieces.specs.declared.pieces.Done.{Done}
+use Rattle.rubis_pool_core.specs.declared.event.Event.{Event}
+use Rattle.rubis_pool_core.specs.Machine.{PoolState, run_of}
+
+-- each shard with the share in its place
+abbrev pub pieces_of : List ShardState → List Share → List Piece
+pieces_of [] shares = []
+pieces_of (s ∷ ts) [] = []
+pieces_of (s ∷ ts) (share ∷ shares) = record { shard = s; share = share } ∷ pieces_of ts shares
+
+-- nothing is posted, and no worker holds a piece
+pub record IsAtEnd (s : PoolState) : Type 0 where
+  pub none_posted : s.posted ≡ []
+  pub none_held : (w : ℕ) (d : Done) → slice_get s.held w ≡ Some (Some d) → ⊥
+
+-- the gathered shards hold the log with the batch, together they have its tables, and nothing is left of their shares
+pub record HoldsTheBatch (shards : ℕ) (log batch : List Core) (g : Gathered) : Type 0 where
+  pub holds : HoldsLog shards (log ++ batch) g.shards
+  pub tables : 0 < shards → union g.shards ≡ (fold_of (log ++ batch)).tables
+  pub none_left : g.left ≡ []
+
+-- the returned pieces can be gathered, and then hold the batch
+pub record FoldsTheBatch (shards : ℕ) (log batch : List Core) (returned : List Done) : Type 0 where
+  pub no_fault : (kind : FaultKind) → IsFault shards (numbers_of returned) kind → ⊥
+  pub gathered : (g : Gathered) → IsGathered shards returned g → HoldsTheBatch shards log batch g
+
+-- whatever the schedule, at its end
+abbrev pub EveryScheduleFoldsTheBatch : Type 0
+EveryScheduleFoldsTheBatch =
+    (shards workers : ℕ) (log batch : List Core) (ts : List ShardState) (shares : List Share) (events : List Event)
+    → HoldsLog shards log ts → AreShares shards (1 + length log) batch shares
+    → IsAtEnd (run_of workers (pieces_of ts shares) events)
+    → FoldsTheBatch shards log batch (run_of workers (pieces_of ts shares) events).returned

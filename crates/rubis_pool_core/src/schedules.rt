@@ -1,0 +1,28 @@
+ghost use Rattle.std.specs.Prelude.{◌≡◌, IfOk};
+ghost use Rattle.std.specs.List.{All};
+ghost use Rattle.rubis_pool_core.specs.Machine.{run_of};
+ghost use Rattle.rubis_pool_core.specs.Pieces.{IsPiece};
+ghost use Rattle.rubis_pool_core.specs.Schedules.{Accounted};
+
+use crate::event::Event;
+use crate::pool::Pool;
+use rubis_pieces::Piece;
+use std::alloc::{AllocError, Global};
+
+/// The machine of so many workers after a post of each piece, in order, and then the events, whatever they are.
+pub fn run(
+    alloc: Global,
+    pieces: Vec<Piece>,
+    workers: usize,
+    events: &[Event],
+) -> Result<Pool, AllocError>
+    requires { All IsPiece pieces.items }
+    ensures run { IfOk result (λ pool. pool.state ≡ run_of workers pieces.items events.now) }
+    ensures once { IfOk result (λ pool. Accounted pieces.items pool.state) }
+{
+    let mut pool = Pool::with_posted(alloc, workers, pieces)?;
+    for event in events {
+        pool.step(*event)?;
+    }
+    Ok(pool)
+}

@@ -1,0 +1,54 @@
+-- One message more on the tables of a log.
+use Rattle.std.proofs.Common.{◌≡◌, ℕ, ◌+◌, ◌<◌, List, [], ◌∷◌, ◌++◌, length, get_or, take, sym, ap, ◌∙◌, subst, arith}
+use Rattle.std.specs.Prelude.{All, slice_get}
+use Rattle.std.proofs.lemmas.List.{length-take-le}
+use Rattle.std.proofs.lemmas.List.Elements.{All-get_or}
+use Rattle.rubis_schema.specs.Tables.{Tables}
+use Rattle.rubis_shadow.specs.Changes.{after}
+use Rattle.rubis_shadow.specs.Limits.{AllInLimits}
+use Rattle.rubis_shadow.specs.declared.changes.Effect.{Effect}
+use Rattle.rubis_shadow.specs.declared.numbered.Numbered.{Numbered}
+use Rattle.rubis_shadow.proofs.InLimits.{PartsInLimits, after_kept, parts_in_limits}
+use Rattle.rubis_schema.specs.declared.ids.Id.{Id}
+use Rattle.rubis_message.specs.Message.{Message, IsMessage, sites_of}
+use Rattle.rubis_model.specs.Log.{Core, Folded, core, cores, fold_of, fold_on, before_any, number_parts, numbered_from, parts_of, step}
+use Rattle.rubis_model.proofs.Shares.{numbered_append}
+use Rattle.std.proofs.lemmas.List.Sums.{fold-append}
+use Rattle.std.proofs.lemmas.List.{append-nil, length-map}
+use Rattle.rubis_shard.specs.Holdings.{HoldsLog}
+use Rattle.rubis_shard.specs.States.{ShardState}
+use Rattle.rubis_replica.specs.Follow.{AreWithin}
+use Rattle.rubis_replica.proofs.Between.{cores_more}
+
+-- the shards hold one message more
+pub next_held : (log : List Message) (n : ℕ) (m : Message) (old new : List ShardState) → n < length log → m ≡ get_or log n m
+    → ((shards : ℕ) (done : List Core) → n + 1 ≡ length done + 1 → HoldsLog shards done old → HoldsLog shards (done ++ core m ∷ []) new)
+    → length old ≡ length new → HoldsLog (length old) (cores (take n log)) old → HoldsLog (length new) (cores (take (n + 1) log)) new
+next_held log n m old new h e holds same held =
+    let count : n + 1 ≡ length (cores (take n log)) + 1 = omega (arith, h, length-map (take n log) core, length-take-le n log (omega (arith, h))) in
+    subst (λ k. HoldsLog k (cores (take (n + 1) log)) new) same
+    (subst (λ xs. HoldsLog (length old) xs new) (sym (cores_more log n m h e)) (holds (length old) (cores (take n log)) count held))
+
+-- ---- the limits
+
+parts_kept : (sites : ℕ) (entry part : ℕ) (id : Id) (es : List Effect) (f : Folded) → PartsInLimits sites es → AllInLimits sites f.tables
+    → AllInLimits sites (fold_on f (number_parts entry part id es)).tables
+parts_kept sites entry part id [] f p h = h
+parts_kept sites entry part id (e ∷ es) f p h =
+    parts_kept sites entry (part + 1) id es (step f (record { entry = entry; part = part; id = id; effect = e })) p.1 (after_kept sites f.tables e p.0 h)
+
+-- the tables of a log with one message more
+one_more : (log : List Core) (m : Core) → fold_of (log ++ m ∷ []) ≡ fold_on (fold_of log) (number_parts (1 + length log) 1 m.id (parts_of m))
+one_more log m =
+    ap (fold_on before_any) (numbered_append 1 log (m ∷ []))
+    ∙ fold-append step before_any (numbered_from 1 log) (numbered_from (1 + length log) (m ∷ []))
+    ∙ ap (fold_on (fold_of log)) (append-nil (number_parts (1 + length log) 1 m.id (parts_of m)))
+
+pub next_within : (sites : ℕ) (log : List Message) (n : ℕ) (m : Message) → n < length log → m ≡ get_or log n m → IsMessage m
+    → All (λ x. sites_of x ≡ sites) log → AreWithin sites log n → AreWithin sites log (n + 1)
+next_within sites log n m h e conditions all within =
+    let counts : sites_of m ≡ sites = subst (λ (x : Message). sites_of x ≡ sites) (sym e) (All-get_or (λ x. sites_of x ≡ sites) log n m h all) in
+    let limits = parts_in_limits (sites_of m) m.stamp.id m.stamp.red m.shadow conditions.id conditions.shadow in
+    let kept = parts_kept sites (1 + length (cores (take n log))) 1 m.stamp.id (parts_of (core m)) (fold_of (cores (take n log)))
+    (subst (λ k. PartsInLimits k (parts_of (core m))) counts limits) within in
+    subst (λ (f : Folded). AllInLimits sites f.tables) (sym (ap fold_of (cores_more log n m h e) ∙ one_more (cores (take n log)) (core m))) kept

@@ -1,0 +1,10 @@
+use Rattle.std.proofs.Common.{◌≡◌, ◌*◌, ◌≤◌, length, take}
+use Rattle.std.specs.List.{flat_map}
+use Rattle.rubis_model.specs.Log.{cores, parts_of}
+use Rattle.rubis_replica.proofs.applying.count_parts.Given as goal
+
+abbrev pub invariant-loop-message : goal.invariant-loop-message
+invariant-loop-message l = record {
+  counted : l.parts ≡ length (flat_map parts_of (cores (take l.message-index l.messages)));
+  few : l.parts ≤ 3 * l.message-index;
+}

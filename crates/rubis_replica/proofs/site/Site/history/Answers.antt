@@ -1,0 +1,11 @@
+use Rattle.std.proofs.Common.{◌≡◌, sym, ap, subst}
+use Rattle.std.specs.Prelude.{All, List}
+use Rattle.rubis_message.specs.Message.{Message, sites_of}
+use Rattle.rubis_replica.specs.State.{SiteState}
+use Rattle.rubis_replica.proofs.Kept.{log_counts}
+use Rattle.rubis_replica.proofs.site.Site.history.Goals as goal
+
+pub returns-clause-sites : goal.returns-clause-sites
+returns-clause-sites c =
+    subst (λ n. All (λ m. sites_of m ≡ n) c.log.result.now) (ap (λ (s : SiteState). s.place.sites) c.self.view_is)
+    (subst (λ (l : List Message). All (λ m. sites_of m ≡ c.self.inside.intake.place.sites) l) (sym c.log.ensures.value) (log_counts c.self.inside.intake c.log.ensures.conditions))

@@ -1,0 +1,49 @@
+ghost use Rattle.std.specs.Prelude.{◌≡◌, ◌+◌, ◌*◌, ◌<◌, ◌≤◌, length, sum};
+ghost use Rattle.rubis_schema.specs.Keys.{home};
+
+use crate::ids::Id;
+use crate::limits::NICK_MAX;
+use crate::nicks::Nick;
+use crate::row_keys::RowKey;
+
+// The sum of so few bytes.
+fn sum_of(bytes: &[u8]) -> u64
+    requires { length bytes.now ≤ NICK_MAX }
+    ensures { result ≡ sum bytes.now }
+{
+    bytes.iter().map(|byte| u64::from(*byte)).sum()
+}
+
+// The sum of the bytes of a nickname.
+fn byte_sum(nick: &Nick) -> u64
+    ensures { result ≡ sum nick.now }
+{
+    sum_of(nick.as_bytes())
+}
+
+// The place of an id in a table, before it is brought below the number of shards.
+fn id_sum(table: u64, id: Id) -> u64
+    requires { table < 7 }
+    ensures { result ≡ table * 7 + id.site * 31 + id.seq }
+{
+    table * 7 + u64::from(id.site) * 31 + u64::from(id.seq)
+}
+
+/// The home shard of a key, of so many shards.
+#[tactic(auto, unfolding(crate::specs::Keys::home))]
+pub fn shard_of(key: &RowKey, shards: usize) -> usize
+    requires { 0 < shards }
+    ensures home { result ≡ home shards key.now }
+    ensures below { result < shards }
+{
+    let place = match key {
+        RowKey::User(id) => id_sum(0, *id),
+        RowKey::Item(id) => id_sum(1, *id),
+        RowKey::Bid(id) => id_sum(2, *id),
+        RowKey::Purchase(id) => id_sum(3, *id),
+        RowKey::Comment(id) => id_sum(4, *id),
+        RowKey::Nick(nick) => byte_sum(nick),
+        RowKey::Cat(cat) => u64::from(*cat),
+    };
+    (place % shards as u64) as usize
+}

@@ -1,0 +1,61 @@
+// Every limit of the records, of the tables and of a run, once.
+
+/// The most sites.
+pub const SITES_MAX: u8 = 8;
+
+/// The most sites that a message counts.
+pub const COUNTED_MAX: usize = 16;
+
+/// The most shards of the tables.
+pub const SHARDS_MAX: u8 = 64;
+
+/// The most workers of a site.
+pub const WORKERS_MAX: u8 = 16;
+
+/// The most messages that a batch applies together.
+pub const BATCH_MAX: u32 = 65_536;
+
+/// The most messages, released and waiting, that a site keeps.
+pub const KEEP_MAX: u32 = 1_000_000;
+
+/// The most records that a run reads.
+pub const RECORDS_MAX: u64 = 4_000_000;
+
+/// The greatest number of an id; the least is 1.
+pub const SEQ_MAX: u32 = 1_000_000;
+
+/// The greatest count of messages: of a site's, or of red ones, and so the greatest red number.
+pub const COUNT_MAX: u64 = 1_000_000;
+
+/// The greatest turn of a token.
+pub const TURN_MAX: u32 = 1_000_000_000;
+
+/// The greatest number of a site that the token can be passed to, if there is such a site.
+pub const PASS_MAX: u64 = 99;
+
+/// The greatest quantity, and the greatest stock of a new item; the least is 1.
+pub const QUANTITY_MAX: u64 = 1_000_000;
+
+/// The greatest amount of a bid, start price and price at once; the least is 1, but a price at once may be 0.
+pub const AMOUNT_MAX: u64 = 1_000_000_000_000;
+
+/// How many categories there are, from 0 on.
+pub const CATEGORIES: u16 = 1000;
+
+/// The greatest category.
+pub const CAT_MAX: u64 = CATEGORIES as u64 - 1;
+
+/// The greatest rating of a comment; the least is as far below 0.
+pub const RATING_MAX: u8 = 5;
+
+/// The most bytes of a nickname; the least is 1.
+pub const NICK_MAX: usize = 20;
+
+/// The most bytes of an item's name; the least is 1.
+pub const NAME_MAX: usize = 64;
+
+/// The most bytes of a comment's text.
+pub const TEXT_MAX: usize = 200;
+
+/// The most bytes of a short text: the counts of a message have room in one, each with ten digits and a mark.
+pub const SHORT_TEXT_MAX: usize = 11 * COUNTED_MAX;

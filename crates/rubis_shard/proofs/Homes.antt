@@ -1,0 +1,218 @@
+-- One message folded on the shards of a set, home by home.
+use Rattle.std.proofs.Common.{◌≡◌, ℕ, zero, suc, ◌+◌, ◌<◌, ◌≤◌, List, [], ◌∷◌, length, get_or, set, refl, sym, ap, ◌∙◌, subst}
+use Rattle.std.proofs.Common.{arith, length-set, ⊎_elim, true, false, Bool}
+use Rattle.std.specs.Prelude.{Some, slice_get, Result, Ok, Err, OnOk, OnErr}
+use Rattle.std.specs.Result.{is_ok}
+use Rattle.std.proofs.lemmas.Bool.{cases_eq, cases_lt}
+use Rattle.std.proofs.lemmas.List.{append-nil, set-get_or}
+use Rattle.std.proofs.lemmas.Option.{slice_get-get_or, slice_get_past, slice_get_within, get_or_from_slice_get}
+use Rattle.rubis_shadow.specs.declared.numbered.Numbered.{Numbered}
+use Rattle.rubis_model.specs.Log.{Core, Folded, fold_on, number_parts, parts_of, share}
+use Rattle.rubis_model.specs.Shares.{part_of}
+use Rattle.rubis_shard.specs.States.{ShardState, with_parts}
+use Rattle.rubis_shard.specs.Holdings.{shard_of_log, parts_at, AreInOrder, FoldsOn, TakesOn}
+use Rattle.rubis_shard.specs.Messages.{FoldsFrom, emptied}
+use Rattle.rubis_shard.proofs.Logs.{shard_with_share}
+use Rattle.rubis_shard.proofs.Parts.{own_after}
+use Rattle.rubis_shard.proofs.Places.{written_here, written_elsewhere}
+
+set_twice : {X : Type 0} (xs : List X) (i : ℕ) (x y : X) → set (set xs i y) i x ≡ set xs i x
+set_twice [] i x y = refl
+set_twice (z ∷ xs) zero x y = refl
+set_twice (z ∷ xs) (suc i) x y = ap (λ zs. z ∷ zs) (set_twice xs i x y)
+
+-- what was taken out and is put back
+pub put_back : {X : Type 0} (xs : List X) (i : ℕ) (x y : X) → slice_get xs i ≡ Some x → set (set xs i y) i x ≡ xs
+put_back xs i x y e = set_twice xs i x y ∙ ap (set xs i) (sym (get_or_from_slice_get xs i x x e)) ∙ set-get_or xs i x
+
+-- a shard in the place of one of the same number and set
+pub order_set : (ts : List ShardState) (at : ℕ) (x y : ShardState) → AreInOrder ts → slice_get ts at ≡ Some x
+    → y.number ≡ x.number → y.shards ≡ x.shards
+    → AreInOrder (set ts at y)
+order_set ts at x y order there number shards k s e = ⊎_elim
+    (λ here.
+    let w = order at x there in
+    let is : y ≡ s = let a = written_here ts at y (slice_get_within ts at x there) in
+    let b = ap (slice_get (set ts at y)) (sym here) in cc in (
+      ap (λ (z : ShardState). z.number) (sym is) ∙ number ∙ w.0 ∙ sym here,
+      ap (λ (z : ShardState). z.shards) (sym is)
+          ∙ shards ∙ w.1 ∙ sym (length-set ts at y),
+    ))
+    (λ other.
+    let l : k < length ts = let a = slice_get_within (set ts at y) k s e in let b = length-set ts at y in omega arith in
+    let w = order k s (sym (written_elsewhere ts at k y other l) ∙ e) in (w.0, w.1 ∙ sym (length-set ts at y)))
+    (cases_eq k at)
+
+-- with parts folded on
+pub folds_on : (ts : List ShardState) (at : ℕ) (x y : ShardState) (ns : List Numbered) → slice_get ts at ≡ Some x
+    → y ≡ with_parts x ns → FoldsOn at ns ts (set ts at y)
+folds_on ts at x y ns there is = record {
+  many = length-set ts at y;
+  here = λ s e. written_here ts at y (slice_get_within ts at x there) ∙ ap Some is ∙ (let same : x ≡ s = cc in
+      ap (λ z. Some (with_parts z ns)) same);
+  others = λ j other. ⊎_elim
+      (λ l. written_elsewhere ts at j y other l)
+      (λ l. slice_get_past (set ts at y) j (let m = length-set ts at y in omega (arith, l, m))
+      ∙ sym (slice_get_past ts j l)) (cases_lt j (length ts));
+}
+
+module _ (ts : List ShardState) (at : ℕ) (x : ShardState) (there : slice_get ts at ≡ Some x) where
+  abbrev pub hollow : List ShardState
+  hollow = set ts at (emptied x)
+
+  inside : at < length ts
+  inside = slice_get_within ts at x there
+
+  at_hollow : slice_get hollow at ≡ Some (emptied x)
+  at_hollow = written_here ts at (emptied x) inside
+
+  else_hollow : (k : ℕ) → ¬ (k ≡ at) → k < length ts → slice_get hollow k ≡ slice_get ts k
+  else_hollow k other l = written_elsewhere ts at k (emptied x) other l
+
+  pub hollow_length : length hollow ≡ length ts
+  hollow_length = length-set ts at (emptied x)
+
+  -- a shard without its rows is still the one of its number
+  pub hollow_order : AreInOrder ts → AreInOrder hollow
+  hollow_order order = order_set ts at x (emptied x) order there refl refl
+
+  module _ (from : ℕ) (ns : List Numbered) (mid : List ShardState) (after : from ≤ at) where
+    -- the shards behind it are done, so it is as it was left
+    pub mid_at : {E : Type 0} (r : Result (Unit {0}) E) → OnOk r (FoldsFrom (at + 1) hollow ns mid) → OnErr r (mid ≡ hollow)
+        → slice_get mid at ≡ Some (emptied x)
+    mid_at (Ok u) h e = h.before at (omega arith) ∙ at_hollow
+    mid_at (Err u) h e = ap (λ us. slice_get us at) e ∙ at_hollow
+
+    -- and with its own parts folded on, those from `from` on are done
+    pub folds_more : (z : ShardState) → FoldsFrom (at + 1) hollow ns mid → z ≡ with_parts x (parts_at (length ts) at ns)
+        → ((k : ℕ) → from ≤ k → k < at → parts_at (length ts) k ns ≡ []) → FoldsFrom from ts ns (set mid at z)
+    folds_more z h is none = record {
+      many = length-set mid at z ∙ many;
+      before = λ k l. elsewhere_before k (λ e. omega (arith, e)) (omega arith) (omega (arith, l, inside));
+      behind = λ k s l e.
+          let within : k < length ts = slice_get_within ts k s e in
+          ⊎_elim
+          (λ here.
+          let same : x ≡ s = let a = ap (slice_get ts) here in cc in
+          ap (slice_get (set mid at z)) here ∙ written_here mid at z (let m = many in omega arith)
+          ∙ ap Some (is ∙ (λ i. with_parts (same i) (parts_at (length ts) (sym here i) ns))))
+          (λ other. ⊎_elim
+          (λ low.
+          elsewhere_before k other (omega arith) within ∙ e
+          ∙ ap (λ ps. Some (with_parts s ps)) (sym (none k l low)))
+          (λ high.
+          written_elsewhere mid at k z other (let m = many in omega arith)
+          ∙ h.behind k s (beyond k other high) (else_hollow k other within ∙ e)
+          ∙ ap (λ n. Some (with_parts s (parts_at n k ns))) hollow_length)
+          (cases_lt k at))
+          (cases_eq k at);
+    }
+      where
+        many : length mid ≡ length ts
+        many = h.many ∙ hollow_length
+
+        beyond : (k : ℕ) → ¬ (k ≡ at) → at ≤ k → at + 1 ≤ k
+        beyond k other high = ⊎_elim (λ l. absurd (other (omega arith))) (λ l. l) (cases_lt k (at + 1))
+
+        elsewhere_before : (k : ℕ) → ¬ (k ≡ at) → k < at + 1 → k < length ts → slice_get (set mid at z) k ≡ slice_get ts k
+        elsewhere_before k other low within =
+            written_elsewhere mid at k z other (let m = many in omega arith) ∙ h.before k low ∙ else_hollow k other within
+
+-- the rows that are put into a shard are its own
+pub own_put : (shards k : ℕ) (old new : Folded) (own ns : List Numbered) (wanted : Bool)
+    → part_of shards k old.tables ≡ old.tables
+    → own ≡ parts_at shards k ns → (wanted ≡ true → new ≡ fold_on old own) → (wanted ≡ false → new ≡ old)
+    → part_of shards k new.tables ≡ new.tables
+own_put shards k old new own ns true rows is done undone = own_after shards k old new ns rows (done refl ∙ ap (fold_on old) is)
+own_put shards k old new own ns false rows is done undone =
+    subst (λ (f : Folded). part_of shards k f.tables ≡ f.tables) (sym (undone refl)) rows
+
+-- ---- a shard that was taken from `at`, and is put back once the shards behind it are folded on
+module _ {E : Type 0} (ts mid : List ShardState) (shards at from : ℕ) (ns : List Numbered) (x y s : ShardState) (r : Result
+    (Unit {0}) E)
+    (there : slice_get ts at ≡ Some x) (order : AreInOrder ts) (many : shards ≡ length ts) (left : y ≡ emptied x) (behind :
+    from ≤ at)
+    (ok : OnOk r (FoldsFrom (at + 1) (set ts at y) ns mid)) (err : OnErr r (mid ≡ set ts at y)) (back : s ≡ get_or mid at s) where
+  ok_hollow : OnOk r (FoldsFrom (at + 1) (hollow ts at x there) ns mid)
+  ok_hollow = subst (λ z. OnOk r (FoldsFrom (at + 1) (set ts at z) ns mid)) left ok
+
+  err_hollow : OnErr r (mid ≡ hollow ts at x there)
+  err_hollow = subst (λ z. OnErr r (mid ≡ set ts at z)) left err
+
+  -- what is found there
+  pub found_empty : s ≡ emptied x
+  found_empty = back ∙ get_or_from_slice_get mid at (emptied x) s (mid_at ts at x there from ns mid behind r ok_hollow err_hollow)
+
+  own_there : (own : List Numbered) → own ≡ parts_at shards at ns → own ≡ parts_at x.shards x.number ns
+  own_there own is = let w = order at x there in is ∙ (λ i. parts_at ((many ∙ sym w.1) i) (sym w.0 i) ns)
+
+  pub own_back : (old new : Folded) (own : List Numbered) (wanted : Bool)
+      → part_of x.shards x.number x.folded.tables ≡ x.folded.tables → old ≡ x.folded
+      → own ≡ parts_at shards at ns → (wanted ≡ true → new ≡ fold_on old own) → (wanted ≡ false → new ≡ old)
+      → part_of s.shards s.number new.tables ≡ new.tables
+  own_back old new own wanted rows was is done undone = subst (λ z. part_of z.shards z.number new.tables ≡ new.tables) (sym
+      found_empty)
+      (own_put x.shards x.number old new own ns wanted (subst (λ (f : Folded). part_of x.shards x.number f.tables ≡ f.tables)
+      (sym was) rows) (own_there own is) done undone)
+
+  -- the shard that is put back
+  put_is : (z : ShardState) (new f : Folded) → z ≡ record { number = s.number; shards = s.shards; folded = new } → new ≡ f
+      → z ≡ record { number = x.number; shards = x.shards; folded = f }
+  put_is z new f put is = put ∙ (λ i. record { number = (found_empty i).number; shards = (found_empty i).shards; folded = is i })
+
+  pub ended_ok : (z : ShardState) (old new : Folded) (own : List Numbered) (wanted : Bool)
+      → z ≡ record { number = s.number; shards = s.shards; folded = new }
+      → wanted ≡ is_ok r → old ≡ x.folded → own ≡ parts_at shards at ns → (wanted ≡ true → new ≡ fold_on old own)
+      → ((k : ℕ) → from ≤ k → k < at → parts_at shards k ns ≡ []) → OnOk r (FoldsFrom from ts ns (set mid at z))
+  ended_ok z old new own wanted put asked was is done none = at_end r refl ok_hollow
+    where
+      at_end : (q : Result (Unit {0}) E) → r ≡ q → OnOk q (FoldsFrom (at + 1) (hollow ts at x there) ns mid)
+          → OnOk q (FoldsFrom from ts ns (set mid at z))
+      at_end (Ok u) e h = folds_more ts at x there from ns mid behind z h
+          (put_is z new _ put (done (asked ∙ ap is_ok e) ∙ (λ i. fold_on (was i) ((is ∙ ap (λ n. parts_at n at ns) many) i))))
+          (λ k low high. ap (λ n. parts_at n k ns) (sym many) ∙ none k low high)
+      at_end (Err u) e h = tt
+
+  pub ended_err : (z : ShardState) (old new : Folded) (wanted : Bool)
+      → z ≡ record { number = s.number; shards = s.shards; folded = new }
+      → wanted ≡ is_ok r → old ≡ x.folded → (wanted ≡ false → new ≡ old) → OnErr r (set mid at z ≡ ts)
+  ended_err z old new wanted put asked was undone = at_end r refl err_hollow
+    where
+      at_end : (q : Result (Unit {0}) E) → r ≡ q → OnErr q (mid ≡ hollow ts at x there) → OnErr q (set mid at z ≡ ts)
+      at_end (Ok u) e h = tt
+      at_end (Err u) e h =
+          (λ i. set (h i) at (put_is z new x.folded put (undone (asked ∙ ap is_ok e) ∙ was) i))
+          ∙ put_back ts at x (emptied x) there
+
+-- ---- all shards
+pub order_kept : {E : Type 0} (old new : List ShardState) (ns : List Numbered) (r : Result (Unit {0}) E) → AreInOrder old
+    → OnOk r (FoldsFrom 0 old ns new) → OnErr r (new ≡ old) → AreInOrder new
+order_kept old new ns (Ok u) order h e k s is =
+    let many = h.many in
+    let within : k < length old = let a = slice_get_within new k s is in omega arith in
+    let was = slice_get-get_or old k s within in
+    let w = order k (get_or old k s) was in
+    let same : s ≡ with_parts (get_or old k s) (parts_at (length old) k ns) = let a = h.behind k (get_or old k s) (omega arith)
+    was in cc in
+    (ap (λ (z : ShardState). z.number) same ∙ w.0, ap (λ (z : ShardState). z.shards) same ∙ w.1 ∙ sym many)
+order_kept old new ns (Err u) order h e k s is = subst AreInOrder (sym e) order k s is
+
+takes_on : (m : Core) (entry : ℕ) (old new : List ShardState) → FoldsFrom 0 old (number_parts entry 1 m.id (parts_of m)) new
+    → TakesOn m entry old new
+takes_on m entry old new h shards log next holds = record {
+  many = h.many ∙ holds.many;
+  each = λ k l.
+      h.behind k (shard_of_log shards log k) (omega arith) (holds.each k l)
+      ∙ ap Some (ap (with_parts (shard_of_log shards log k)) (own k) ∙ shard_with_share shards log (m ∷ []) k);
+}
+  where
+    first : entry ≡ 1 + length log
+    first = omega arith
+
+    own : (k : ℕ) → parts_at (length old) k (number_parts entry 1 m.id (parts_of m)) ≡ share shards (1 + length log) (m ∷ []) k
+    own k = λ i. parts_at (holds.many i) k (sym (append-nil (number_parts (first i) 1 m.id (parts_of m))) i)
+
+pub takes_on_ok : {E : Type 0} (m : Core) (entry : ℕ) (old new whole : List ShardState) (r : Result (Unit {0}) E)
+    → OnOk r (FoldsFrom 0 old (number_parts entry 1 m.id (parts_of m)) new) → new ≡ whole → OnOk r (TakesOn m entry old whole)
+takes_on_ok m entry old new whole (Ok u) h e = subst (TakesOn m entry old) e (takes_on m entry old new h)
+takes_on_ok m entry old new whole (Err u) h e = tt

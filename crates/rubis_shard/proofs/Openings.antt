@@ -1,0 +1,44 @@
+-- The opening rows of one shard, and that they are at home there.
+use Rattle.std.proofs.Common.{◌≡◌, ℕ, Bool, true, false, cond, refl, sym, ap, ◌∙◌}
+use Rattle.std.specs.Prelude.{Option, Some, None, nat_eq}
+use Rattle.std.specs.FinMap as map
+use Rattle.rubis_schema.specs.Keys.{home, key_order}
+use Rattle.rubis_schema.specs.Tables.{Tables}
+use Rattle.rubis_schema.specs.declared.row_keys.RowKey.{RowKey}
+use Rattle.rubis_schema.specs.declared.rows.Row.{Row}
+use Rattle.rubis_model.specs.Shares.{part_of}
+use Rattle.rubis_model.proofs.Commute.{same_tables}
+use Rattle.rubis_model.proofs.Shares.{get-part_of, part_with_row}
+
+neither : (b : Bool) → ◌≡◌ {A = Option Row} (cond b None None) None
+neither true = refl
+neither false = refl
+
+-- no rows
+pub part_empty : (shards k : ℕ) → part_of shards k map.empty ≡ map.empty
+part_empty shards k = same_tables _ _ (λ q.
+    get-part_of shards k map.empty q ∙ ap (λ (o : Option Row). cond (nat_eq (home shards q) k) o None) (map.get-empty key_order q)
+    ∙ neither (nat_eq (home shards q) k) ∙ sym (map.get-empty key_order q))
+
+-- a row more, whose home is the shard, and one whose home it isn't
+pub part_here : (shards k : ℕ) (t : Tables) (p : RowKey) (row : Row) → nat_eq (home shards p) k ≡ true
+    → part_of shards k (map.insert t p row) ≡ map.insert (part_of shards k t) p row
+part_here shards k t p row h = part_with_row shards k t p (Some row)
+    ∙ ap (λ b. cond b (map.insert (part_of shards k t) p row) (part_of shards k t)) h
+
+pub part_elsewhere : (shards k : ℕ) (t : Tables) (p : RowKey) (row : Row) → nat_eq (home shards p) k ≡ false
+    → part_of shards k (map.insert t p row) ≡ part_of shards k t
+part_elsewhere shards k t p row h = part_with_row shards k t p (Some row)
+    ∙ ap (λ b. cond b (map.insert (part_of shards k t) p row) (part_of shards k t)) h
+
+twice : (b : Bool) (o : Option Row) → cond b (cond b o None) None ≡ cond b o None
+twice true o = refl
+twice false o = refl
+
+-- what a shard has of some tables is at home there
+pub part_twice : (shards k : ℕ) (t : Tables) → part_of shards k (part_of shards k t) ≡ part_of shards k t
+part_twice shards k t = same_tables _ _ (λ q.
+    get-part_of shards k (part_of shards k t) q
+    ∙ ap (λ o. cond (nat_eq (home shards q) k) o None) (get-part_of shards k t q)
+    ∙ twice (nat_eq (home shards q) k) (map.get t q)
+    ∙ sym (get-part_of shards k t q))

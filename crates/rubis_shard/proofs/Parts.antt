@@ -1,0 +1,59 @@
+-- The parts of one message, shard by shard.
+use Rattle.std.proofs.Common.{◌≡◌, ℕ, ◌≤◌, List, [], ◌++◌, refl, sym, ap, ◌∙◌, arith}
+use Rattle.std.specs.Prelude.{nat_eq, slice_get}
+use Rattle.std.proofs.lemmas.List.Elements.{filter-append}
+use Rattle.rubis_schema.specs.Keys.{home}
+use Rattle.rubis_schema.specs.declared.ids.Id.{Id}
+use Rattle.rubis_shadow.specs.Parts.{parts}
+use Rattle.rubis_shadow.specs.declared.numbered.Numbered.{Numbered}
+use Rattle.rubis_shadow.specs.declared.shadows.Shadow.{Shadow}
+use Rattle.rubis_shadow.specs.declared.shadows.Shadow.TheVariants as shadow
+use Rattle.rubis_model.specs.Log.{Folded, fold_on, number_parts}
+use Rattle.rubis_model.specs.Shares.{part_of}
+use Rattle.rubis_model.proofs.Shares.{fold_on_is, share_tables, tables_after}
+use Rattle.rubis_shard.specs.Holdings.{parts_at}
+use Rattle.rubis_shard.specs.Messages.{numbered_of, at_place, list_of}
+use Rattle.rubis_shard.specs.Stores.{HasRoom}
+use Rattle.rubis_shard.specs.declared.message_parts.MessageParts.{MessageParts}
+use Rattle.rubis_shard.specs.declared.stores.Store.{Store}
+use Rattle.rubis_shard.proofs.Openings.{part_twice}
+
+pub less_room : (s : Store) (n m : ℕ) → n ≤ m → HasRoom s m → HasRoom s n
+less_room s n m l h = let r = h.rows in let f = h.misfits in record { rows = omega arith; misfits = omega arith }
+
+-- a shadow has at most three parts
+three : (entry red : ℕ) (id : Id) (s : Shadow) → number_parts entry 1 id (parts id red s)
+    ≡ number_parts entry 1 id (list_of (slice_get (parts id red s) 0))
+    ++ (number_parts entry 2 id (list_of (slice_get (parts id red s) 1)) ++ number_parts entry 3 id (list_of (slice_get (parts
+    id red s) 2)))
+three entry red id (shadow.User n) = refl
+three entry red id (shadow.Item n) = refl
+three entry red id (shadow.Bid b) = refl
+three entry red id (shadow.Buy p) = refl
+three entry red id (shadow.Close c) = refl
+three entry red id (shadow.Comment c) = refl
+
+pub parts_at_append : (shards k : ℕ) (a b : List Numbered)
+    → parts_at shards k (a ++ b) ≡ parts_at shards k a ++ parts_at shards k b
+parts_at_append shards k = filter-append (λ n. nat_eq (home shards n.effect.key) k)
+
+pub none_at_all : (m : MessageParts) (shards k : ℕ) → parts_at shards k (at_place m 0) ≡ []
+    → parts_at shards k (at_place m 1) ≡ []
+    → parts_at shards k (at_place m 2) ≡ [] → parts_at shards k (numbered_of m) ≡ []
+none_at_all m shards k a b c =
+    ap (parts_at shards k) (three m.entry m.red m.id m.shadow.now)
+    ∙ parts_at_append shards k (at_place m 0) (at_place m 1 ++ at_place m 2)
+    ∙ (λ i. a i ++ parts_at shards k (at_place m 1 ++ at_place m 2))
+    ∙ parts_at_append shards k (at_place m 1) (at_place m 2) ∙ (λ i. b i ++ c i)
+
+-- rows at home stay so where only parts are folded on whose home it is
+pub own_after : (shards k : ℕ) (f g : Folded) (ns : List Numbered) → part_of shards k f.tables ≡ f.tables
+    → g ≡ fold_on f (parts_at shards k ns)
+    → part_of shards k g.tables ≡ g.tables
+own_after shards k f g ns own is = ap (part_of shards k) whole ∙ part_twice shards k (tables_after f.tables ns) ∙ sym whole
+  where
+    whole : g.tables ≡ part_of shards k (tables_after f.tables ns)
+    whole =
+        ap (λ (x : Folded). x.tables) (is ∙ fold_on_is f.tables f.misfits (parts_at shards k ns))
+        ∙ ap (λ t. tables_after t (parts_at shards k ns)) (sym own)
+        ∙ share_tables shards k f.tables ns

@@ -1,0 +1,89 @@
+use Rattle.std.proofs.Common.{◌≡◌, ℕ, ◌+◌, ◌<◌, ◌≤◌, List, length, get_or, set, refl, sym, ap, ◌∙◌, subst, arith, rules}
+use Rattle.std.specs.Prelude.{Some, slice_get}
+use Rattle.std.proofs.lemmas.Option.{slice_get_read}
+use Rattle.rubis_shard.specs.States.{ShardState, HoldsOwnRows}
+use Rattle.rubis_shard.specs.Holdings.{AreInOrder}
+use Rattle.rubis_shard.specs.Messages.{emptied, numbered_of, all_own}
+use Rattle.rubis_shard.specs.Stores.{held_by}
+use Rattle.rubis_shard.proofs.Homes.{hollow_length, hollow_order, own_back, ended_ok, ended_err}
+use Rattle.rubis_shard.proofs.messages.+fold_from.Goals as goal
+
+pub fold_from-folded-requires : goal.fold_from-folded-requires
+fold_from-folded-requires t c =
+    let ts : List ShardState = c.args.list.now in
+    let at : ℕ = c.next_home-at.result in
+    let x : ShardState = c.index-list-at.result in
+    let there : slice_get ts at ≡ Some x = slice_get_read ts (length ts) at x refl (search rules) c.index-list-at.is in
+    let left : c.take_store.new.self ≡ emptied x = search rules in
+    let many = hollow_length ts at x there in (
+      search rules,
+      subst (λ y. (c.args.message.now.shards ≡ length (set ts at y)) × ((0 < length (set ts at y))
+          × (AreInOrder (set ts at y) × (at + 1 ≤ length (set ts at y))))) (sym left) (
+            c.requires.shards ∙ sym many,
+            (
+              (let some = c.requires.some in
+                  omega arith),
+              (
+                hollow_order ts at x there c.requires.order,
+                (let within : at < length ts = search rules in
+                    omega arith),
+              ),
+            ),
+          ),
+    )
+
+pub put_store-requires : goal.put_store-requires
+put_store-requires t c =
+    let ts : List ShardState = c.args.list.now in
+    let at : ℕ = c.next_home-at.result in
+    let x : ShardState = c.index-list-at.result in
+    let mid : List ShardState = c.fold_from-folded.new.list in
+    let s : ShardState = get_or mid at c.index-list-at-2.result in
+    let there : slice_get ts at ≡ Some x = slice_get_read ts (length ts) at x refl (search rules) c.index-list-at.is in
+    let left : c.take_store.new.self ≡ emptied x = search rules in
+    let taken : held_by c.in_ok-store.store ≡ x.folded = search rules in
+    let rows : HoldsOwnRows x = search rules in
+    own_back ts mid c.args.message.now.shards at c.args.from (numbered_of c.args.message.now) x c.take_store.new.self s
+    c.fold_from-folded.result
+    there c.requires.order c.requires.shards left c.next_home-at.ensures.from c.fold_from-folded.ensures.ok
+    c.fold_from-folded.ensures.err
+    (ap (get_or mid at) c.index-list-at-2.is)
+    (held_by c.in_ok-store.store) (held_by c.fold_if.new.store) (all_own c.in_ok-own.own) c.is_ok.result rows taken
+    c.in_ok-own.ensures
+    c.fold_if.ensures.wanted c.fold_if.ensures.unwanted
+
+pub returns-clause-ok : goal.returns-clause-ok
+returns-clause-ok t c =
+    let ts : List ShardState = c.args.list.now in
+    let at : ℕ = c.next_home-at.result in
+    let x : ShardState = c.index-list-at.result in
+    let mid : List ShardState = c.fold_from-folded.new.list in
+    let s : ShardState = get_or mid at c.index-list-at-2.result in
+    let there : slice_get ts at ≡ Some x = slice_get_read ts (length ts) at x refl (search rules) c.index-list-at.is in
+    let left : c.take_store.new.self ≡ emptied x = search rules in
+    let taken : held_by c.in_ok-store.store ≡ x.folded = search rules in
+    ended_ok ts mid c.args.message.now.shards at c.args.from (numbered_of c.args.message.now) x c.take_store.new.self s
+    c.fold_from-folded.result
+    there c.requires.order c.requires.shards left c.next_home-at.ensures.from c.fold_from-folded.ensures.ok
+    c.fold_from-folded.ensures.err
+    (ap (get_or mid at) c.index-list-at-2.is)
+    c.put_store.new.self (held_by c.in_ok-store.store) (held_by c.fold_if.new.store) (all_own c.in_ok-own.own) c.is_ok.result
+    c.put_store.ensures c.is_ok.ensures.value taken c.in_ok-own.ensures c.fold_if.ensures.wanted c.next_home-at.ensures.none
+
+pub returns-clause-err : goal.returns-clause-err
+returns-clause-err t c =
+    let ts : List ShardState = c.args.list.now in
+    let at : ℕ = c.next_home-at.result in
+    let x : ShardState = c.index-list-at.result in
+    let mid : List ShardState = c.fold_from-folded.new.list in
+    let s : ShardState = get_or mid at c.index-list-at-2.result in
+    let there : slice_get ts at ≡ Some x = slice_get_read ts (length ts) at x refl (search rules) c.index-list-at.is in
+    let left : c.take_store.new.self ≡ emptied x = search rules in
+    let taken : held_by c.in_ok-store.store ≡ x.folded = search rules in
+    ended_err ts mid c.args.message.now.shards at c.args.from (numbered_of c.args.message.now) x c.take_store.new.self s
+    c.fold_from-folded.result
+    there c.requires.order c.requires.shards left c.next_home-at.ensures.from c.fold_from-folded.ensures.ok
+    c.fold_from-folded.ensures.err
+    (ap (get_or mid at) c.index-list-at-2.is)
+    c.put_store.new.self (held_by c.in_ok-store.store) (held_by c.fold_if.new.store) c.is_ok.result
+    c.put_store.ensures c.is_ok.ensures.value taken c.fold_if.ensures.unwanted

@@ -1,0 +1,45 @@
+use Rattle.std.proofs.Common.{◌≡◌, ◌-◌, ◌<◌, ◌≤◌, ap, sym, ◌∙◌, arith, true, false}
+use Rattle.std.specs.Prelude.{nat_eq}
+use Rattle.std.specs.FinMap as map
+use Rattle.std.proofs.lemmas.Bool.Decides.{Decides-eqb}
+use Rattle.rubis_schema.specs.Keys.{home}
+use Rattle.rubis_schema.specs.Tables.{Tables}
+use Rattle.rubis_schema.specs.declared.row_keys.RowKey.TheVariants as key
+use Rattle.rubis_shadow.specs.Tables.{categories_from, new_category, opening}
+use Rattle.rubis_shadow.proofs.Categories.{categories_more}
+use Rattle.rubis_shadow.proofs.Rows.{tables_of}
+use Rattle.rubis_model.specs.Shares.{part_of}
+use Rattle.rubis_shard.proofs.Folds.{not_equal}
+use Rattle.rubis_shard.proofs.Openings.{part_empty, part_here, part_elsewhere}
+use Rattle.rubis_shard.proofs.shards.opening_rows.Goals as goal
+
+pub loop-cat-init : goal.loop-cat-init
+unfolding categories_from
+loop-cat-init c = ap tables_of c.new-rows.ensures.empty ∙ sym (part_empty c.args.shards c.args.number)
+
+pub loop-cat-preserved : goal.loop-cat-preserved
+loop-cat-preserved c =
+    let low : 0 < c.loop-cat.cat = omega arith in
+    let high : c.loop-cat.cat ≤ 1000 = omega arith in
+    let here : nat_eq (home c.args.shards (key.Cat (c.loop-cat.cat - 1))) c.args.number ≡ true =
+    (Decides-eqb _ _).1 (sym c.shard_of.ensures.home ∙ c.if-shard_of-number.false) in
+    c.in_ok-put_row.ensures.ok
+    ∙ ap (λ (t : Tables). map.insert t (key.Cat (c.loop-cat.cat - 1)) new_category) c.loop-cat.invariant
+    ∙ sym (part_here c.args.shards c.args.number _ _ new_category here)
+    ∙ ap (λ es. part_of c.args.shards c.args.number (map.from_entries es)) (sym (categories_more c.loop-cat.cat low high))
+
+pub loop-cat-preserved-then-shard_of-number : goal.loop-cat-preserved-then-shard_of-number
+loop-cat-preserved-then-shard_of-number c =
+    let low : 0 < c.loop-cat.cat = omega arith in
+    let high : c.loop-cat.cat ≤ 1000 = omega arith in
+    let elsewhere : nat_eq (home c.args.shards (key.Cat (c.loop-cat.cat - 1))) c.args.number ≡ false =
+    not_equal _ _ (λ e. c.if-shard_of-number.true (c.shard_of.ensures.home ∙ e)) in
+    c.loop-cat.invariant
+    ∙ sym (part_elsewhere c.args.shards c.args.number _ _ new_category elsewhere)
+    ∙ ap (λ es. part_of c.args.shards c.args.number (map.from_entries es)) (sym (categories_more c.loop-cat.cat low high))
+
+pub returns : goal.returns
+unfolding opening
+returns c =
+    let none : c.loop-cat.cat ≡ 0 = omega arith in
+    c.loop-cat.invariant ∙ ap (λ k. part_of c.args.shards c.args.number (map.from_entries (categories_from k (1000 - k)))) none

@@ -1,0 +1,6 @@
+pub mod States
+pub mod Stores
+pub mod StateCode
+pub mod Holdings
+pub mod Laws
+pub mod Messages

@@ -1,0 +1,40 @@
+-- One message folded on the shards of a set, each part at its home.
+use Rattle.std.specs.Prelude.{ℕ, ◌≡◌, ◌+◌, ◌<◌, ◌≤◌, List, [], ◌∷◌, ◌++◌, Option, Some, None, length, slice_get}
+use Rattle.std.specs.FinMap as map
+use Rattle.rubis_shadow.specs.Parts.{parts}
+use Rattle.rubis_shadow.specs.declared.numbered.Numbered.{Numbered}
+use Rattle.rubis_model.specs.Log.{Folded, number_parts}
+use Rattle.rubis_shard.specs.States.{ShardState, with_parts}
+use Rattle.rubis_shard.specs.Holdings.{parts_at}
+use Rattle.rubis_shard.specs.declared.message_parts.MessageParts.{MessageParts}
+use Rattle.rubis_shard.specs.declared.message_parts.OwnParts.{OwnParts}
+
+-- no rows and no misfits
+abbrev pub nothing_held : Folded
+nothing_held = record { tables = map.from_entries []; misfits = [] }
+
+-- the shard without its rows and misfits
+abbrev pub emptied : ShardState → ShardState
+emptied s = record { number = s.number; shards = s.shards; folded = nothing_held }
+
+abbrev pub list_of : {X : Type 0} → Option X → List X
+list_of None = []
+list_of (Some x) = x ∷ []
+
+-- all parts of the message
+abbrev pub numbered_of : MessageParts → List Numbered
+numbered_of m = number_parts m.entry 1 m.id (parts m.id m.red m.shadow.now)
+
+-- its part at a place, from 0, if there is one
+abbrev pub at_place : MessageParts → ℕ → List Numbered
+at_place m place = number_parts m.entry (place + 1) m.id (list_of (slice_get (parts m.id m.red m.shadow.now) place))
+
+abbrev pub all_own : OwnParts → List Numbered
+all_own own = list_of own.first ++ list_of own.second ++ list_of own.third
+
+-- each shard from a number on has its parts folded on, and the shards before it are as they were
+pub record FoldsFrom (from : ℕ) (old : List ShardState) (ns : List Numbered) (new : List ShardState) : Type 0 where
+  pub many : length new ≡ length old
+  pub before : (k : ℕ) → k < from → slice_get new k ≡ slice_get old k
+  pub behind : (k : ℕ) (s : ShardState) → from ≤ k → slice_get old k ≡ Some s
+      → slice_get new k ≡ Some (with_parts s (parts_at (length old) k ns))

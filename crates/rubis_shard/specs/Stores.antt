@@ -1,0 +1,16 @@
+-- What a shard's store holds, and for how much more it has room.
+use Rattle.std.specs.Prelude.{ℕ, ◌+◌, ◌≤◌}
+use Rattle.std.specs.FinMap as map
+use Rattle.std.specs.Vec.{vec_len, vec_capacity}
+use Rattle.indexmap.specs.IndexMap.{spare}
+use Rattle.rubis_model.specs.Log.{Folded}
+use Rattle.rubis_shard.specs.declared.stores.Store.{Store}
+
+-- its rows as tables, and its misfits
+abbrev pub held_by : Store → Folded
+held_by s = record { tables = map.from_entries s.rows.entries; misfits = s.misfits.items }
+
+-- there is room for so many parts more, whatever they do
+pub record HasRoom (s : Store) (parts : ℕ) : Type 0 where
+  pub rows : parts ≤ spare s.rows
+  pub misfits : vec_len s.misfits + parts ≤ vec_capacity s.misfits

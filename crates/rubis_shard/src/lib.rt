@@ -1,0 +1,16 @@
+//! The tables of a site in shards: each row at its home shard, and the parts of a batch folded shard by shard.
+#![tactic(auto)]
+
+mod laws;
+mod message_parts;
+mod messages;
+mod rows;
+mod shards;
+mod shares;
+mod stores;
+mod tables;
+
+pub use laws::shards_hold_logs;
+pub use shards::{Applied, Shard};
+pub use shares::Share;
+pub use tables::Tables;

@@ -1,0 +1,177 @@
+ghost use Rattle.std.specs.Prelude.{◌≡◌, ℕ, ◌+◌, ◌<◌, ◌≤◌, [], length, slice_get, true, false, IfOk, OnOk, OnErr};
+ghost use Rattle.rubis_shadow.specs.Parts.{parts};
+ghost use Rattle.rubis_model.specs.Log.{fold_on};
+ghost use Rattle.rubis_shard.specs.Holdings.{home_or, parts_at, AreInOrder};
+ghost use Rattle.rubis_shard.specs.Messages.{numbered_of, at_place, list_of, all_own, FoldsFrom};
+ghost use Rattle.rubis_shard.specs.Stores.{held_by, HasRoom};
+
+use crate::message_parts::{MessageParts, OwnParts};
+use crate::shards::Shard;
+use crate::stores::Store;
+use rubis_schema::{Id, shard_of};
+use rubis_shadow::{Numbered, Shadow};
+use std::alloc::AllocError;
+
+// The home of the shadow's part at this place, or the number of shards where there is none.
+fn home_at(id: Id, red: u32, shadow: &Shadow, shards: usize, place: u8) -> usize
+    requires { 0 < shards }
+    ensures { result ≡ home_or shards (slice_get (parts id red shadow.now) place) }
+{
+    match shadow.effect(id, red, place) {
+        Some(effect) => shard_of(&effect.key(), shards),
+        None => shards,
+    }
+}
+
+impl<'a> MessageParts<'a> {
+    /// The message with this shadow.
+    pub fn new(entry: u32, id: Id, red: u32, shadow: &'a Shadow, shards: usize) -> MessageParts<'a>
+        requires { 0 < shards }
+        ensures entry { result.entry ≡ entry }
+        ensures id { result.id ≡ id }
+        ensures red { result.red ≡ red }
+        ensures shadow { result.shadow.now ≡ shadow.entry.now }
+        ensures shards { result.shards ≡ shards }
+    {
+        MessageParts {
+            entry,
+            id,
+            red,
+            shadow,
+            shards,
+            first: home_at(id, red, shadow, shards, 0),
+            second: home_at(id, red, shadow, shards, 1),
+            third: home_at(id, red, shadow, shards, 2),
+        }
+    }
+
+    // The home of the part at this place, or the number of shards where there is none.
+    fn home(&self, place: u8) -> usize
+        requires { place < 3 }
+        ensures { result ≡ home_or self.now.shards (slice_get (parts self.now.id self.now.red self.now.shadow.now) place) }
+    {
+        match place {
+            0 => self.first,
+            1 => self.second,
+            _ => self.third,
+        }
+    }
+
+    // The home of the part at this place, if it is at least `from` and less than `least`; else `least`.
+    fn home_from(&self, place: u8, from: usize, least: usize) -> usize
+        requires place { place < 3 }
+        requires low { from ≤ least }
+        requires within { least ≤ self.now.shards }
+        ensures from { from ≤ result }
+        ensures least { result ≤ least }
+        ensures none { (k : ℕ) → from ≤ k → k < result → parts_at self.now.shards k (at_place self.now place) ≡ [] }
+    {
+        let home = self.home(place);
+        if from <= home && home < least {
+            home
+        } else {
+            least
+        }
+    }
+
+    // The least home of a part that is at least `from`, or the number of shards.
+    fn next_home(&self, from: usize) -> usize
+        requires { from ≤ self.now.shards }
+        ensures from { from ≤ result }
+        ensures within { result ≤ self.now.shards }
+        ensures none { (k : ℕ) → from ≤ k → k < result → parts_at self.now.shards k (numbered_of self.now) ≡ [] }
+    {
+        let first = self.home_from(0, from, self.shards);
+        let second = self.home_from(1, from, first);
+        self.home_from(2, from, second)
+    }
+
+    // The part at this place, if its home is the shard.
+    fn own_part(&self, place: u8, at: usize) -> Result<Option<Numbered>, AllocError>
+        requires at { at < self.now.shards }
+        requires place { place < 3 }
+        ensures { IfOk result (λ part. list_of part ≡ parts_at self.now.shards at (at_place self.now place)) }
+    {
+        if self.home(place) != at {
+            return Ok(None);
+        }
+        let Some(effect) = self.shadow.effect(self.id, self.red, place) else {
+            return Ok(None);
+        };
+        Ok(Some(Numbered {
+            entry: self.entry,
+            part: place + 1,
+            id: self.id,
+            effect: effect.own()?,
+        }))
+    }
+
+    // The parts whose home is the shard.
+    fn own_parts(&self, at: usize) -> Result<OwnParts, AllocError>
+        requires { at < self.now.shards }
+        ensures { IfOk result (λ own. all_own own ≡ parts_at self.now.shards at (numbered_of self.now)) }
+    {
+        Ok(OwnParts {
+            first: self.own_part(0, at)?,
+            second: self.own_part(1, at)?,
+            third: self.own_part(2, at)?,
+        })
+    }
+}
+
+// Folds a part on, if there is one.
+fn fold_one(store: &mut Store, part: Option<Numbered>)
+    requires { HasRoom store.old 1 }
+    ensures folded { held_by store.new ≡ fold_on (held_by store.old) (list_of part) }
+    ensures room { (n : ℕ) → HasRoom store.old (n + 1) → HasRoom store.new n }
+{
+    if let Some(part) = part {
+        store.fold(part);
+    }
+}
+
+// Folds the parts on.
+fn fold_own(store: &mut Store, own: &mut OwnParts)
+    requires { HasRoom store.old 3 }
+    ensures { held_by store.new ≡ fold_on (held_by store.old) (all_own own.old) }
+{
+    fold_one(store, own.first.take());
+    fold_one(store, own.second.take());
+    fold_one(store, own.third.take());
+}
+
+// Folds the parts on, if they are wanted.
+fn fold_if(store: &mut Store, own: &mut OwnParts, wanted: bool)
+    requires { wanted ≡ true → HasRoom store.old 3 }
+    ensures wanted { wanted ≡ true → held_by store.new ≡ fold_on (held_by store.old) (all_own own.old) }
+    ensures unwanted { wanted ≡ false → held_by store.new ≡ held_by store.old }
+{
+    if wanted {
+        fold_own(store, own);
+    }
+}
+
+/// Folds the parts whose home is the shard `from` or one behind it. No shard changes before each has room.
+pub fn fold_from(
+    list: &mut [Shard],
+    message: &MessageParts<'_>,
+    from: usize,
+) -> Result<(), AllocError>
+    requires shards { message.now.shards ≡ length list.old }
+    requires some { 0 < length list.old }
+    requires order { AreInOrder list.old }
+    requires within { from ≤ length list.old }
+    ensures ok { OnOk result (FoldsFrom from list.old (numbered_of message.now) list.new) }
+    ensures err { OnErr result (list.new ≡ list.old) }
+{
+    let at = message.next_home(from);
+    if at == list.len() {
+        return Ok(());
+    }
+    let mut own = message.own_parts(at)?;
+    let mut store = list[at].take_store(3)?;
+    let folded = fold_from(list, message, at + 1);
+    fold_if(&mut store, &mut own, folded.is_ok());
+    list[at].put_store(store);
+    folded
+}

@@ -1,0 +1,194 @@
+ghost use Rattle.std.specs.Prelude.{◌≡◌, ◌<◌, ◌≤◌, ◌∷◌, [], length, slice_get, slice_range, map as each, IfOk, IfSome, OnOk, OnErr, option_copied};
+ghost use Rattle.std.specs.List.{All};
+ghost use Rattle.std.specs.FinMap as map;
+ghost use Rattle.std.specs.Map.{keys_of};
+ghost use Rattle.std.specs.Map.Iter.{deref_pair};
+ghost use Rattle.rubis_schema.specs.Keys.{key_order};
+ghost use Rattle.rubis_shadow.specs.Tables.{opening, rows_of};
+ghost use Rattle.rubis_model.specs.Shares.{part_of};
+ghost use Rattle.rubis_model.specs.Log.{fold_on, step};
+ghost use Rattle.rubis_shard.specs.States.{opening_shard, with_parts, IsHomeOf, HoldsOwnRows};
+ghost use Rattle.rubis_shard.specs.Messages.{emptied};
+ghost use Rattle.rubis_shard.specs.Stores.{held_by, HasRoom};
+
+use crate::rows::put_row;
+use crate::shares::Share;
+use crate::stores::Store;
+use indexmap::IndexMap;
+use rubis_schema::{CATEGORIES, CatRow, Row, RowKey, Table, shard_of};
+use rubis_shadow::{Misfit, rows_in_order};
+use std::alloc::{AllocError, Global};
+use std::marker::Model;
+use std::mem;
+
+/// One shard of a set: the rows whose home it is, and the misfits that were met there. Contracts see its number, how
+/// many shards its set has, and what is folded on it.
+#[derive(Drop)]
+pub struct Shard {
+    number: usize,
+    shards: usize,
+    store: Store,
+}
+
+impl Model for Shard {
+    ghost use Rattle.std.specs.Prelude.{◌≡◌};
+    ghost use Rattle.rubis_model.specs.Shares.{part_of};
+    ghost use Rattle.rubis_shard.specs.States.{ShardState};
+    ghost use Rattle.rubis_shard.specs.StateCode.{state_code};
+    ghost use Rattle.rubis_shard.specs.Stores.{held_by};
+
+    ghost Value = { ShardState };
+
+    ghost coded = { state_code };
+
+    ghost view = { λ s. record { number = s.number; shards = s.shards; folded = held_by s.store } };
+
+    ghost invariant = { λ s. part_of s.shards s.number (held_by s.store).tables ≡ (held_by s.store).tables };
+}
+
+/// How many of a share's parts are done.
+#[derive(Clone, Copy, PartialEq, Eq, Debug)]
+pub struct Applied {
+    pub done: usize,
+}
+
+impl Shard {
+    /// The shard of this number among so many, with the opening rows whose home it is and no misfit.
+    pub fn new(alloc: Global, number: usize, shards: usize) -> Result<Shard, AllocError>
+        requires { number < shards }
+        ensures { IfOk result (λ shard. shard ≡ opening_shard shards number) }
+    {
+        let rows = opening_rows(alloc, number, shards)?;
+        Ok(Shard {
+            number,
+            shards,
+            store: Store {
+                rows,
+                misfits: Vec::new(alloc),
+            },
+        })
+    }
+
+    /// Its number in its set, from 0.
+    pub fn number(&self) -> usize
+        ensures { result ≡ self.now.number }
+    {
+        self.number
+    }
+
+    /// How many shards its set has.
+    pub fn shards(&self) -> usize
+        ensures { result ≡ self.now.shards }
+    {
+        self.shards
+    }
+
+    /// The row at the key, if it is here.
+    pub fn row(&self, key: &RowKey) -> Option<&Row>
+        ensures row { option_copied result ≡ map.get self.now.folded.tables key.now }
+        ensures own { HoldsOwnRows self.now }
+    {
+        self.store.rows.get(key)
+    }
+
+    /// The parts that didn't fit, in the order in which they were met.
+    pub fn misfits(&self) -> &[Misfit]
+        ensures { result.now ≡ self.now.folded.misfits }
+    {
+        self.store.misfits.as_slice()
+    }
+
+    /// The rows of one table with their keys, in key order.
+    pub fn rows(&self, alloc: Global, table: Table) -> Result<Vec<(&RowKey, &Row)>, AllocError>
+        ensures rows { IfOk result (λ rows. each deref_pair rows.items ≡ rows_of table self.now.folded.tables) }
+        ensures own { HoldsOwnRows self.now }
+    {
+        rows_in_order(alloc, &self.store.rows, table)
+    }
+
+    /// The keys of the rows of one table, in order.
+    pub fn keys(&self, alloc: Global, table: Table) -> Result<Vec<RowKey>, AllocError>
+        ensures { IfOk result (λ keys. keys.items ≡ keys_of (rows_of table self.now.folded.tables)) }
+    {
+        let rows = self.rows(alloc, table)?;
+        let mut keys = Vec::new(alloc);
+        for row in &rows {
+            keys.push(*row.0)?;
+        }
+        Ok(keys)
+    }
+
+    /// Folds the part at `from` on. Where memory is refused, nothing changes.
+    pub fn apply_next(&mut self, share: &Share, from: usize) -> Result<(), AllocError>
+        requires here { self.old.number ≡ share.now.number }
+        requires home { All (IsHomeOf self.old) share.now.effects }
+        requires some { from < length share.now.effects }
+        ensures ok { OnOk result (IfSome (slice_get share.now.effects from) (λ part. self.new ≡ with_parts self.old (part ∷ []))) }
+        ensures err { OnErr result (self.new ≡ self.old) }
+    {
+        self.store.make_room(1)?;
+        let part = share.effects.as_slice()[from].copy()?;
+        self.store.fold(part);
+        Ok(())
+    }
+
+    /// Folds the parts from `from` on, until one finds no room. The answer says how many of the share's parts are done.
+    pub fn apply(&mut self, share: &Share, from: usize) -> Applied
+        requires here { self.old.number ≡ share.now.number }
+        requires home { All (IsHomeOf self.old) share.now.effects }
+        requires begun { from ≤ length share.now.effects }
+        ensures from { from ≤ result.done }
+        ensures to { result.done ≤ length share.now.effects }
+        ensures folded { self.new ≡ with_parts self.old (slice_range share.now.effects from result.done) }
+    {
+        for at in from..share.effects.len() {
+            if self.apply_next(share, at).is_err() {
+                return Applied { done: at };
+            }
+        }
+        Applied {
+            done: share.effects.len(),
+        }
+    }
+
+    // Takes the rows and misfits out, with room for so many parts more, and leaves none.
+    pub(crate) fn take_store(&mut self, parts: usize) -> Result<Store, AllocError>
+        ensures taken { IfOk result (λ store. held_by store ≡ self.old.folded) }
+        ensures room { IfOk result (λ store. HasRoom store parts) }
+        ensures own { HoldsOwnRows self.old }
+        ensures left { OnOk result (self.new ≡ emptied self.old) }
+        ensures err { OnErr result (self.new ≡ self.old) }
+    {
+        self.store.make_room(parts)?;
+        let alloc = *self.store.misfits.allocator();
+        Ok(mem::replace(&mut self.store, Store::new(alloc)))
+    }
+
+    // Puts rows and misfits in the place of what is there.
+    pub(crate) fn put_store(&mut self, store: Store)
+        requires { part_of self.old.shards self.old.number (held_by store).tables ≡ (held_by store).tables }
+        ensures { self.new ≡ record { number = self.old.number; shards = self.old.shards; folded = held_by store } }
+    {
+        self.store = store;
+    }
+}
+
+// The opening rows whose home is the shard.
+fn opening_rows(
+    alloc: Global,
+    number: usize,
+    shards: usize,
+) -> Result<IndexMap<RowKey, Row>, AllocError>
+    requires { number < shards }
+    ensures { IfOk result (λ rows. map.from_entries {R = key_order} rows.entries ≡ part_of shards number opening) }
+{
+    let mut rows = IndexMap::new(alloc);
+    for cat in (0..CATEGORIES).rev() {
+        let key = RowKey::Cat(cat);
+        if shard_of(&key, shards) != number {
+            continue;
+        }
+        put_row(&mut rows, key, Row::Cat(CatRow { items: 0, live: 0 }))?;
+    }
+    Ok(rows)
+}

@@ -1,0 +1,181 @@
+ghost use Rattle.std.specs.Map.Iter.{deref_pair};
+ghost use Rattle.std.specs.Prelude.{◌≡◌, ◌<◌, ◌≤◌, [], map as each, length, slice_range, nat_eq, true, false, IfOk, IfErr, OnOk, OnErr};
+ghost use Rattle.std.specs.List.{All};
+ghost use Rattle.rubis_schema.specs.Keys.{home};
+ghost use Rattle.rubis_shadow.specs.Parts.{parts};
+ghost use Rattle.rubis_shadow.specs.Tables.{rows_of};
+ghost use Rattle.rubis_model.specs.Log.{number_parts};
+ghost use Rattle.rubis_shard.specs.Holdings.{AreInOrder, FoldsAtHome, FoldsOn, HoldsLog, IsSet, TakesOn, union};
+
+use crate::message_parts::MessageParts;
+use crate::messages::fold_from;
+use crate::shards::{Applied, Shard};
+use crate::shares::Share;
+use rubis_schema::{Id, Row, RowKey, Table, View, shard_of};
+use rubis_shadow::{Shadow, put_in_order};
+use std::alloc::{AllocError, Global};
+use std::marker::Model;
+use std::mem;
+
+/// The tables of a site, as all shards of a set in order of number. Contracts see the list of the shards, which may be
+/// empty where the shards were taken out.
+#[derive(Drop)]
+pub struct Tables {
+    shards: Vec<Shard>,
+}
+
+impl Model for Tables {
+    ghost use Rattle.std.specs.Prelude.{List};
+    ghost use Rattle.std.specs.Coded.{coded_list};
+    ghost use Rattle.rubis_shard.specs.States.{ShardState};
+    ghost use Rattle.rubis_shard.specs.StateCode.{state_code};
+    ghost use Rattle.rubis_shard.specs.Holdings.{AreInOrder};
+
+    ghost Value = { List ShardState };
+
+    ghost coded = { coded_list state_code };
+
+    ghost view = { λ t. t.shards.items };
+
+    ghost invariant = { λ t. AreInOrder t.shards.items };
+}
+
+// Whether these are all the shards of one set, in order of number.
+fn is_set(shards: &[Shard]) -> bool
+    ensures yes { result ≡ true → IsSet shards.now }
+    ensures no { result ≡ false → IsSet shards.now → ⊥ }
+{
+    for at in 0..shards.len() {
+        let shard = &shards[at];
+        if shard.number() != at || shard.shards() != shards.len() {
+            return false;
+        }
+    }
+    !shards.is_empty()
+}
+
+impl Tables {
+    /// So many shards, with the opening rows.
+    pub fn new(alloc: Global, shards: usize) -> Result<Tables, AllocError>
+        requires { 0 < shards }
+        ensures { IfOk result (λ tables. HoldsLog shards [] tables) }
+    {
+        let mut list = Vec::new(alloc);
+        for number in 0..shards {
+            list.push(Shard::new(alloc, number, shards)?)?;
+        }
+        Ok(Tables { shards: list })
+    }
+
+    /// How many shards there are: none where they were taken out.
+    pub fn len(&self) -> usize
+        ensures { result ≡ length self.now }
+    {
+        self.shards.len()
+    }
+
+    pub fn is_empty(&self) -> bool
+        ensures { result ≡ nat_eq (length self.now) 0 }
+    {
+        self.shards.is_empty()
+    }
+
+    /// The shards, in order of number.
+    pub fn shards(&self) -> &[Shard]
+        ensures list { result.now ≡ self.now }
+        ensures order { AreInOrder self.now }
+    {
+        self.shards.as_slice()
+    }
+
+    /// Gives the shards away.
+    pub fn into_shards(self) -> Vec<Shard>
+        ensures list { result.items ≡ self }
+        ensures order { AreInOrder self }
+    {
+        self.shards
+    }
+
+    /// Takes the shards out, and leaves none.
+    pub fn take(&mut self) -> Vec<Shard>
+        ensures list { result.items ≡ self.old }
+        ensures order { AreInOrder self.old }
+        ensures left { self.new ≡ [] }
+    {
+        let alloc = *self.shards.allocator();
+        mem::replace(&mut self.shards, Vec::new(alloc))
+    }
+
+    /// Tables of these shards. Refused, with the shards back, just where they aren't all the shards of one set, in order
+    /// of number.
+    pub fn from_shards(shards: Vec<Shard>) -> Result<Tables, Vec<Shard>>
+        ensures ok { IfOk result (λ tables. tables ≡ shards.items) }
+        ensures set { IfOk result (λ tables. IsSet shards.items) }
+        ensures back { IfErr result (λ back. back ≡ shards) }
+        ensures fault { IfErr result (λ back. IsSet shards.items → ⊥) }
+    {
+        if is_set(&shards) {
+            Ok(Tables { shards })
+        } else {
+            Err(shards)
+        }
+    }
+
+    /// The rows of one table of all shards with their keys, in key order.
+    pub fn rows(&self, alloc: Global, table: Table) -> Result<Vec<(&RowKey, &Row)>, AllocError>
+        ensures { IfOk result (λ rows. each deref_pair rows.items ≡ rows_of table (union self.now)) }
+    {
+        let mut all = Vec::new(alloc);
+        for shard in &self.shards {
+            let mut rows = shard.rows(alloc, table)?;
+            all.append(&mut rows)?;
+        }
+        put_in_order(alloc, &mut all)?;
+        Ok(all)
+    }
+
+    /// Folds the parts of a share from `from` on, on the shard of its number, until one finds no room. The answer says how
+    /// many of the share's parts are done.
+    pub fn apply(&mut self, share: &Share, from: usize) -> Applied
+        requires there { share.now.number < length self.old }
+        requires home { All (λ n. home (length self.old) n.effect.key ≡ share.now.number) share.now.effects }
+        requires begun { from ≤ length share.now.effects }
+        ensures from { from ≤ result.done }
+        ensures to { result.done ≤ length share.now.effects }
+        ensures folded { FoldsOn share.now.number (slice_range share.now.effects from result.done) self.old self.new }
+    {
+        self.shards[share.number].apply(share, from)
+    }
+
+    /// Does all parts of the message that is this entry of a log, each at its home shard: done whole, or not at all where
+    /// memory is refused.
+    pub fn apply_message(
+        &mut self,
+        entry: u32,
+        id: Id,
+        red: u32,
+        shadow: &Shadow,
+    ) -> Result<(), AllocError>
+        requires { 0 < length self.old }
+        ensures ok { OnOk result (FoldsAtHome self.old (number_parts entry 1 id (parts id red shadow.now)) self.new) }
+        ensures log { OnOk result (TakesOn (record { id = id; red = red; shadow = shadow.now }) entry self.old self.new) }
+        ensures err { OnErr result (self.new ≡ self.old) }
+    {
+        let message = MessageParts::new(entry, id, red, shadow, self.shards.len());
+        fold_from(&mut self.shards, &message, 0)
+    }
+}
+
+impl View for Tables {
+    ghost use Rattle.rubis_shard.specs.Holdings.{union};
+
+    ghost tables = { λ t. union t };
+
+    fn row(&self, key: &RowKey) -> Option<&Row> {
+        if self.shards.is_empty() {
+            return None;
+        }
+        let at = shard_of(key, self.shards.len());
+        self.shards[at].row(key)
+    }
+}

@@ -1,0 +1,4 @@
+mod Lists
+mod Moved
+mod Numbers
+mod Folded

@@ -1,0 +1,54 @@
+-- What the workers make of the pieces, and what the shards are afterwards.
+use Rattle.std.specs.Prelude.{◌≡◌, ℕ, ◌≤◌, Bool, List, [], ◌∷◌, length}
+use Rattle.std.specs.Global.{Vec}
+use Rattle.std.specs.Vec.{vec_capacity}
+use Rattle.rubis_model.specs.Log.{Core}
+use Rattle.rubis_shard.specs.States.{ShardState}
+use Rattle.rubis_shard.specs.declared.shares.Share.{Share}
+use Rattle.rubis_pieces.specs.Pieces.{IsShareOf}
+use Rattle.rubis_pieces.specs.Shares.{AreShares}
+use Rattle.rubis_pieces.specs.Batches.{IsFolded, AreFoldedTo, IsBegun, TakesBatch, TakesWholeBatch}
+use Rattle.rubis_pieces.specs.declared.pieces.Piece.{Piece}
+use Rattle.rubis_pieces.specs.declared.pieces.Done.{Done}
+use Rattle.rubis_board.specs.Passes.{PassState}
+use Rattle.rubis_workers.specs.declared.batches.Worked.{Worked}
+
+-- the pass, when it has taken these pieces
+abbrev pub having : PassState → List Piece → Bool → PassState
+having p taken seen_none =
+    record { board = p.board; parts = p.parts; posted = p.posted; taken = taken; seen_none = seen_none }
+
+-- the share is the shard's own
+abbrev pub IsPiece : Piece → Type 0
+IsPiece p = IsShareOf p.shard p.share
+
+-- a beginning of the piece's share is folded on its shard, as long as it says
+abbrev pub IsWorked : Piece → Done → Type 0
+IsWorked p d = IsFolded p.shard p.share d
+
+-- each shard with the share in its place
+abbrev pub pieces_of : List ShardState → List Share → List Piece
+pieces_of [] shares = []
+pieces_of (s ∷ ts) [] = []
+pieces_of (s ∷ ts) (share ∷ shares) = record { shard = s; share = share } ∷ pieces_of ts shares
+
+-- an empty list with room for so many
+abbrev pub IsRoom : ℕ → Vec Done → Type 0
+IsRoom many room = (room.items ≡ []) × (many ≤ vec_capacity room)
+
+-- Each shard in its place, a beginning of its share folded on it; and in order those shares that aren't folded whole, with
+-- how much of each is.
+abbrev pub AreWorked : List ShardState → List Share → Worked → Type 0
+AreWorked shards shares worked = AreFoldedTo shards shares (record { shards = worked.shards; left = worked.left })
+
+-- where the shares are those of a batch, whatever batch that is, it is applied as far as memory went
+pub record AppliesBatch (old : List ShardState) (shares : List Share) (worked : Worked) : Type 0 where
+  -- a beginning of each share of the batch is folded on its shard, and `left` has the rest
+  pub begun : (first : ℕ) (batch : List Core) → AreShares (length old) first batch shares
+      → IsBegun first batch old worked.shards worked.left
+  -- shards that hold a log come to hold it with the batch, but for what is left
+  pub log : (first : ℕ) (batch : List Core) → AreShares (length old) first batch shares
+      → TakesBatch first batch old worked.shards worked.left
+  -- and wholly, where nothing is left
+  pub whole : (first : ℕ) (batch : List Core) → AreShares (length old) first batch shares
+      → TakesWholeBatch first batch old worked.shards worked.left

@@ -1,0 +1,102 @@
+ghost use Rattle.std.specs.Prelude.{◌≡◌, ◌<◌, ◌≤◌, [], length, vec_len, IfOk, IfErr};
+ghost use Rattle.std.specs.List.Sorted.{IsPermutation};
+ghost use Rattle.rubis_shard.specs.Holdings.{AreInOrder};
+ghost use Rattle.rubis_pieces.specs.Batches.{Belong};
+ghost use Rattle.rubis_workers.specs.Work.{pieces_of, AreWorked, AppliesBatch};
+
+use crate::gate::Gate;
+use crate::rooms::Rooms;
+use crate::team::fan_out;
+use rubis_board::Poster;
+use rubis_pieces::{Left, Piece, gather};
+use rubis_schema::Items;
+use rubis_shard::{Shard, Share};
+use std::alloc::Global;
+use std::sync::Wait;
+use std::thread::Threads;
+
+/// The shards in order of number, and the shares that aren't folded whole, in order of number.
+#[derive(Drop)]
+pub struct Worked {
+    pub shards: Items<Shard>,
+    pub left: Items<Left>,
+}
+
+/// There was no room to begin. Both lists are as they came.
+#[derive(Drop)]
+pub struct Unstarted {
+    pub shards: Items<Shard>,
+    pub shares: Items<Share>,
+}
+
+// Posts each shard with its share.
+fn post_all<R: Wait>(
+    rt: &R,
+    mut poster: Poster,
+    mut shards: Vec<Shard>,
+    mut shares: Vec<Share>,
+) -> Poster
+    requires many { vec_len shards ≡ vec_len shares }
+    requires poster { (poster.posted ≡ []) × (poster.capacity ≡ vec_len shards) }
+    ensures posted { IsPermutation (pieces_of shards.items shares.items) result.posted }
+    ensures many { length result.posted ≡ vec_len shards }
+{
+    for _ in 0..shards.len() {
+        let Some(shard) = shards.pop() else {
+            unreachable!()
+        };
+        let Some(share) = shares.pop() else {
+            unreachable!()
+        };
+        let Ok(()) = poster.post(rt, Piece { shard, share }) else {
+            unreachable!()
+        };
+    }
+    poster
+}
+
+/// Folds each share on its shard, as far as memory goes, by at most so many workers, from 1 to 16, and no more than there are
+/// shards. The caller's thread is one of them. Each shard goes over the board, one with an empty share too, and the gate is
+/// called for each that is taken. Where there is no room to begin, nothing is posted and both lists come back. A thread that
+/// the system refuses leaves its work to the others. The answer is that of one thread, whoever took what.
+pub fn apply_all<G: Gate, R: Threads + Wait + Sync>(
+    rt: &R,
+    alloc: Global,
+    shards: Vec<Shard>,
+    shares: Vec<Share>,
+    workers: usize,
+    gate: &G,
+) -> Result<Worked, Unstarted>
+    requires some { 0 < length shards.items }
+    requires order { AreInOrder shards.items }
+    requires belong { Belong shards.items shares.items }
+    requires workers { (0 < workers) × (workers ≤ 16) }
+    ensures folded { IfOk result (AreWorked shards.items shares.items) }
+    ensures batch { IfOk result (AppliesBatch shards.items shares.items) }
+    ensures back { IfErr result (λ unstarted. (unstarted.shards ≡ shards.items) × (unstarted.shares ≡ shares.items)) }
+{
+    let pieces = shards.len();
+    let Ok(rooms) = Rooms::new(alloc, pieces, workers.min(pieces)) else {
+        return Err(Unstarted {
+            shards: shards.into(),
+            shares: shares.into(),
+        });
+    };
+    let Rooms {
+        poster,
+        places,
+        mine,
+        others,
+    } = rooms;
+    let poster = post_all(rt, poster, shards, shares);
+    let (board, pass) = poster.open();
+    let (pass, list) = fan_out(rt, &board, pass, mine, others, gate);
+    board.close(pass);
+    match gather(list, places) {
+        Ok(gathered) => Ok(Worked {
+            shards: gathered.shards,
+            left: gathered.left,
+        }),
+        Err(_) => unreachable!(),
+    }
+}

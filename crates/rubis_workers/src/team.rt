@@ -1,0 +1,102 @@
+ghost use Rattle.std.specs.Prelude.{◌≡◌, ◌+◌, ◌-◌, ◌<◌, ◌≤◌, [], length, true, vec_len};
+ghost use Rattle.std.specs.List.{All, AllZip};
+ghost use Rattle.std.specs.Vec.{vec_capacity};
+ghost use Rattle.std.specs.Thread.{IsSync};
+ghost use Rattle.rubis_workers.specs.Work.{having, IsPiece, IsWorked, IsRoom};
+
+use crate::gate::Gate;
+use rubis_board::{Board, Pass};
+use rubis_pieces::{Done, Piece};
+use std::sync::Wait;
+use std::thread;
+use std::thread::Threads;
+
+// Folds the share on its shard, as far as memory goes.
+fn fold_share(piece: Piece) -> Done
+    requires { IsPiece piece }
+    ensures { IsWorked piece result }
+{
+    let Piece { mut shard, share } = piece;
+    let applied = shard.apply(&share, 0);
+    Done {
+        shard,
+        share,
+        done: applied.done,
+    }
+}
+
+/// One worker: takes pieces until none is left, and works on each.
+pub fn work<G: Gate, R: Wait>(
+    rt: &R,
+    board: &Board,
+    mut pass: Pass,
+    mut room: Vec<Done>,
+    gate: &G,
+) -> (Pass, Vec<Done>)
+    requires board { pass.board ≡ board.now }
+    requires pieces { All IsPiece pass.posted }
+    requires room { (pass.taken ≡ []) × (room.items ≡ []) × (length pass.posted ≤ vec_capacity room) }
+    ensures pass { result.0 ≡ having pass result.0.taken true }
+    ensures done { AllZip IsWorked result.0.taken result.1.items }
+    ensures room { length pass.posted ≤ vec_capacity result.1 }
+{
+    for _ in rt.forever() {
+        let Some(piece) = board.take(rt, &mut pass) else {
+            break;
+        };
+        gate.taken(piece.shard.number());
+        room.push_reserved(fold_share(piece));
+    }
+    (pass, room)
+}
+
+/// The caller's thread and one more for each further room: starts a thread for one, goes on with the others, and joins it.
+/// What a thread that can't be started was to do is done by the others.
+pub fn fan_out<G: Gate, R: Threads + Wait + Sync>(
+    rt: &R,
+    board: &Board,
+    pass: Pass,
+    room: Vec<Done>,
+    mut rooms: Vec<Vec<Done>>,
+    gate: &G,
+) -> (Pass, Vec<Done>)
+    requires board { pass.board ≡ board.now }
+    requires pieces { All IsPiece pass.posted }
+    requires room { (pass.taken ≡ []) × (room.items ≡ []) × (length pass.posted ≤ vec_capacity room) }
+    requires rooms { All (IsRoom (length pass.posted)) rooms.items }
+    requires parts { vec_len rooms < pass.parts }
+    ensures pass { result.0 ≡ having pass result.0.taken true }
+    ensures done { AllZip IsWorked result.0.taken result.1.items }
+    ensures room { length pass.posted ≤ vec_capacity result.1 }
+{
+    let Some(theirs) = rooms.pop() else {
+        return work(rt, board, pass, room, gate);
+    };
+    let (mine, new) = board.split(pass);
+    let ((new, mut theirs), (mine, mut ours)) = thread::join(
+        rt,
+        move || -> (Pass, Vec<Done>)
+            requires board { new.board ≡ board.now }
+            requires pieces { All IsPiece new.posted }
+            requires room { (new.taken ≡ []) × (theirs.items ≡ []) × (length new.posted ≤ vec_capacity theirs) }
+            ensures pass { result.0 ≡ having new result.0.taken true }
+            ensures done { AllZip IsWorked result.0.taken result.1.items }
+        { work(rt, board, new, theirs, gate) },
+        move || -> (Pass, Vec<Done>)
+            requires sync { IsSync R.row }
+            requires board { mine.board ≡ board.now }
+            requires pieces { All IsPiece mine.posted }
+            requires room { (mine.taken ≡ []) × (room.items ≡ []) × (length mine.posted ≤ vec_capacity room) }
+            requires rooms { All (IsRoom (length mine.posted)) rooms.items }
+            requires parts { vec_len rooms < mine.parts }
+            ensures pass { result.0 ≡ having mine result.0.taken true }
+            ensures done { AllZip IsWorked result.0.taken result.1.items }
+            ensures room { length mine.posted ≤ vec_capacity result.1 }
+        { fan_out(rt, board, mine, room, rooms, gate) },
+    );
+    let pass = board.join(mine, new);
+    match ours.append(&mut theirs) {
+        Ok(()) => (pass, ours),
+        Err(_) => unreachable!(),
+    }
+}
