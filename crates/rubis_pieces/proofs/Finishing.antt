@@ -153,7 +153,7 @@ fewer_set (y ∷ ls) (suc at) l x e s d =
 abbrev pub is_unfinished : Left → Bool
 is_unfinished l = nat_lt l.done (length l.share.effects)
 
-rest_past : (n shards k : ℕ) (ls : List Left) → AreRests n shards ls → k < n → rest_of ls k ≡ []
+pub rest_past : (n shards k : ℕ) (ls : List Left) → AreRests n shards ls → k < n → rest_of ls k ≡ []
 rest_past n shards k [] h l = refl
 rest_past n shards k (x ∷ ls) h l =
     ap (λ b. cond b (drop x.done x.share.effects) (rest_of ls k)) (not_equal x.share.number k (λ q. let a = h.0 in

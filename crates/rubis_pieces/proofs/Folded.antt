@@ -314,7 +314,7 @@ module _ (first : ℕ) (batch : List Core) (ss : List ShardState) (hs : List Sha
         )));
   }
 
-unfinished_from : (n shards first : ℕ) (batch : List Core) (ls : List Left) → AreLeft n shards first batch ls
+pub unfinished_from : (n shards first : ℕ) (batch : List Core) (ls : List Left) → AreLeft n shards first batch ls
     → AreUnfinished n shards ls
 unfinished_from n shards first batch [] h = tt
 unfinished_from n shards first batch (l ∷ ls) h = (

@@ -4,3 +4,4 @@ pub mod Sorting
 pub mod Folded
 pub mod Order
 pub mod Finishing
+pub mod Counting

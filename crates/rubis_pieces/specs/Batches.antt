@@ -4,7 +4,7 @@ use Rattle.std.specs.Prelude.{length, take, drop, sum_by}
 use Rattle.std.specs.List.{All}
 use Rattle.rubis_schema.specs.Keys.{home}
 use Rattle.rubis_shadow.specs.declared.numbered.Numbered.{Numbered}
-use Rattle.rubis_model.specs.Log.{Core, share}
+use Rattle.rubis_model.specs.Log.{Core, parts_of, share}
 use Rattle.rubis_shard.specs.States.{ShardState, with_parts}
 use Rattle.rubis_shard.specs.Holdings.{shard_of_log, HoldsLog}
 use Rattle.rubis_shard.specs.declared.shares.Share.{Share}
@@ -86,6 +86,11 @@ AreUnfinished n shards (l ∷ ls) =
 -- how many parts are still to be folded
 abbrev pub parts_left : List Left → ℕ
 parts_left ls = sum_by (λ (l : Left). length l.share.effects - l.done) ls
+
+-- no more parts are left than the batch has; where all are, the shards are as they were
+pub record LeavesNoMore (batch : List Core) (old new : List ShardState) (left : List Left) : Type 0 where
+  pub few : parts_left left ≤ length (flat_map parts_of batch)
+  pub none : parts_left left ≡ length (flat_map parts_of batch) → new ≡ old
 
 -- shards that hold a log but for what is left, go on so
 abbrev pub GoesOn : List ShardState → List Left → List ShardState → List Left → Type 0

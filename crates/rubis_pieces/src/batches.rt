@@ -2,7 +2,7 @@ ghost use Rattle.std.specs.Prelude.{◌≡◌, ◌+◌, ◌<◌, ◌≤◌, [], 
 ghost use Rattle.std.specs.Vec.{vec_len, vec_capacity};
 ghost use Rattle.rubis_model.specs.Log.{cores};
 ghost use Rattle.rubis_shard.specs.Holdings.{AreInOrder};
-ghost use Rattle.rubis_pieces.specs.Batches.{AreFolded, AreFoldedTo, AreUnfinished, Belong, IsBegun, IsFolded, TakesBatch, TakesWholeBatch};
+ghost use Rattle.rubis_pieces.specs.Batches.{AreFolded, AreFoldedTo, AreUnfinished, Belong, IsBegun, IsFolded, LeavesNoMore, TakesBatch, TakesWholeBatch};
 ghost use Rattle.rubis_pieces.specs.Pieces.{IsShareOf};
 
 use crate::gathers::{Gathered, Places, gather};
@@ -73,6 +73,7 @@ pub fn apply_batch(
     ensures unfinished { IfOk result (AreUnfinished 0 (length tables.old)) }
     ensures log { IfOk result (TakesBatch first (cores batch.now) tables.old tables.new) }
     ensures whole { IfOk result (TakesWholeBatch first (cores batch.now) tables.old tables.new) }
+    ensures count { IfOk result (LeavesNoMore (cores batch.now) tables.old tables.new) }
     ensures err { OnErr result (tables.new ≡ tables.old) }
 {
     let many = tables.len();

@@ -4,6 +4,7 @@ use Rattle.rubis_shard.specs.States.{ShardState}
 use Rattle.rubis_shard.specs.Holdings.{AreInOrder}
 use Rattle.rubis_pieces.specs.Shares.{AreShares}
 use Rattle.rubis_pieces.proofs.Folded.{belongs, begun_all, begun_unfinished, set_again, takes_batch, takes_whole}
+use Rattle.rubis_pieces.proofs.Counting.{leaves_no_more}
 use Rattle.rubis_pieces.proofs.batches.apply_batch.Goals as goal
 
 pub fold_all-gathered-requires-clause-order : goal.fold_all-gathered-requires-clause-order
@@ -55,6 +56,15 @@ returns-clause-whole c =
     let ss : List ShardState = c.take.result.items in
     let many : c.len-many.result ≡ length ss = search rules in
     takes_whole c.args.first (cores c.args.batch.now) c.args.tables.now c.in-Ok.folded c.fold_all-gathered.result.left
+    (begun_all c.args.first (cores c.args.batch.now) c.len-many.result c.args.tables.now ss c.in-Ok.folded
+    c.in_ok-shares.shares.items c.fold_all-gathered.result
+    c.take.ensures.list many c.in_ok-shares.ensures c.fold_all-gathered.ensures (c.in-Ok.ensures.ok ∙ c.into.ensures))
+
+pub returns-clause-count : goal.returns-clause-count
+returns-clause-count c =
+    let ss : List ShardState = c.take.result.items in
+    let many : c.len-many.result ≡ length ss = search rules in
+    leaves_no_more c.args.first (cores c.args.batch.now) c.args.tables.now c.in-Ok.folded c.fold_all-gathered.result.left c.requires.some
     (begun_all c.args.first (cores c.args.batch.now) c.len-many.result c.args.tables.now ss c.in-Ok.folded
     c.in_ok-shares.shares.items c.fold_all-gathered.result
     c.take.ensures.list many c.in_ok-shares.ensures c.fold_all-gathered.ensures (c.in-Ok.ensures.ok ∙ c.into.ensures))
