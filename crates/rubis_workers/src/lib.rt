@@ -1,6 +1,7 @@
 //! Each shard's share of a batch folded on it by several workers, who take the shards from a board and give them back.
 #![tactic(auto)]
 
+mod applying;
 mod batches;
 mod gate;
 mod rooms;
@@ -8,5 +9,6 @@ mod team;
 #[cfg(test)]
 mod tests;
 
+pub use applying::apply_batch;
 pub use batches::{Unstarted, Worked, apply_all};
 pub use gate::{Free, Gate};
