@@ -1,8 +1,8 @@
 -- The messages of a log between two places, and their parts.
-use Rattle.std.proofs.Common.{◌≡◌, ℕ, zero, suc, ◌+◌, ◌-◌, ◌<◌, ◌≤◌, List, [], ◌∷◌, ◌++◌, length, length-append, length-drop, get_or, take, drop, sym, ap, ◌∙◌, subst, arith, inl, inr}
+use Rattle.std.proofs.Common.{◌≡◌, ℕ, zero, suc, ◌+◌, ◌-◌, ◌*◌, ◌<◌, ◌≤◌, List, [], ◌∷◌, ◌++◌, length, length-append, length-drop, length-take, get_or, take, drop, sym, ap, ◌∙◌, subst, arith, inl, inr}
 use Rattle.std.specs.Prelude.{slice_range, ◌⊎◌}
 use Rattle.std.specs.List.{flat_map}
-use Rattle.std.proofs.Math.Seq.{take-add}
+use Rattle.std.proofs.Math.Seq.{take-add, take-length}
 use Rattle.std.proofs.lemmas.Grind.{flat_map-append}
 use Rattle.std.proofs.lemmas.List.{drop-append-le, drop-drop, drop_more, take-append-le, take_more}
 use Rattle.rubis_schema.specs.declared.ids.Id.{Id}
@@ -66,6 +66,10 @@ first_of (m ∷ xs) (suc n) h g =
 pub some_between : (log : List Message) (a b : ℕ) → a < b → b ≤ length log → 0 < length (parts_between log a b)
 some_between log a b h g = first_of (drop a log) (b - a) (omega (arith, h, g, length-drop a log)) (omega (arith, h))
 
+-- up to the end of the log it is what follows
+pub to_the_end : (log : List Message) (n : ℕ) → slice_range log n (length log) ≡ drop n log
+to_the_end log n = ap (λ k. take k (drop n log)) (sym (length-drop n log)) ∙ take-length (drop n log)
+
 -- ---- a log that grows
 
 slice_inside : (a b : ℕ) (log more : List Message) → a ≤ b → b ≤ length log → slice_range (log ++ more) a b ≡ slice_range log a b
@@ -94,3 +98,22 @@ count_more log n count own m h e c o =
       length-append (flat_map parts_of (cores (take n log))) (flat_map parts_of (core m ∷ [])),
       length-append (parts_of (core m)) [],
     )
+
+three_parts : (id : Id) (red : ℕ) (x : Shadow) → length (parts id red x) ≤ 3
+three_parts id red (User n) = omega arith
+three_parts id red (Item n) = omega arith
+three_parts id red (Bid b) = omega arith
+three_parts id red (Buy p) = omega arith
+three_parts id red (Close c) = omega arith
+three_parts id red (Comment c) = omega arith
+
+few_parts : (xs : List Message) → length (flat_map parts_of (cores xs)) ≤ 3 * length xs
+few_parts [] = omega arith
+few_parts (m ∷ xs) =
+    let rest = flat_map parts_of (cores xs) in
+    omega (arith, three_parts m.stamp.id m.stamp.red m.shadow, few_parts xs, length-append (parts_of (core m)) rest)
+
+-- no more than three for each message of the log
+pub few_between : (log : List Message) (a b : ℕ) → length log ≤ 1000000 → length (parts_between log a b) ≤ 3000000
+few_between log a b few =
+    omega (arith, few, few_parts (take (b - a) (drop a log)), length-take (b - a) (drop a log), length-drop a log)

@@ -26,10 +26,11 @@ use Rattle.rubis_shard.specs.Holdings.{union}
 use Rattle.rubis_shadow.specs.declared.numbered.Misfit.{Misfit}
 use Rattle.rubis_pieces.specs.Misfits.{AreOfTheLog}
 use Rattle.rubis_replica.specs.Follow.{Follower, FollowsAt}
-use Rattle.rubis_replica.specs.Progress.{whole}
+use Rattle.rubis_replica.specs.Progress.{Progress, whole}
 use Rattle.rubis_replica.specs.State.{Answers, Decides, SiteState, decision_at, with_all_applied}
 use Rattle.rubis_replica.specs.declared.faults.Fault.{Fault}
 use Rattle.rubis_replica.specs.declared.faults.Fault.TheVariants.{Refused, Behind, Memory}
+use Rattle.rubis_replica.proofs.Following.{rests_holds}
 use Rattle.rubis_replica.proofs.Growing.{all_at, log_in_limits, tables_of_log}
 use Rattle.rubis_schema.specs.declared.refusals.Refusal.{Refusal}
 use Rattle.rubis_schema.specs.declared.refusals.Refusal.TheVariants.{Full, NoToken, RedBehind}
@@ -139,7 +140,7 @@ module _ (old : SiteState) (place : Place) (state : Replica) (batch : ℕ) (f : 
   pub log_misfits : (ms : List Misfit) → AreOfTheLog f.tables ms → ms ≡ (fold_of (cores old.state.log)).misfits
   log_misfits ms h =
       let whole_log : take f.at state.log ≡ old.state.log = all_at state.log f follows.follows all_applied ∙ ap (λ (r : Replica). r.log) same_state in
-      h (length f.tables) (cores (take f.at state.log)) follows.follows.some follows.follows.holds ∙ ap (λ l. (fold_of (cores l)).misfits) whole_log
+      h (length f.tables) (cores (take f.at state.log)) follows.follows.some (rests_holds state.log f follows.follows (ap (λ (x : Progress). x.left) all_applied)) ∙ ap (λ l. (fold_of (cores l)).misfits) whole_log
 
   -- so it decides by the model
   pub same_decision : (st : Standing) (ask : Ask) → st ≡ standing_of place.keep state → decision_at old ask ≡ decision (rows_of (union f.tables)) st ask

@@ -13,11 +13,11 @@ use Rattle.rubis_model.specs.Log.{cores, fold_of}
 use Rattle.rubis_model.specs.Settle.{first_ready, settle}
 use Rattle.rubis_model.specs.Site.{Place, Replica, after_made, arrived, is_full, is_repeat, made, not_ours, passed, passing}
 use Rattle.rubis_shard.specs.Holdings.{HoldsLog, union}
+use Rattle.rubis_pieces.specs.Batches.{AreUnfinished}
 use Rattle.rubis_shard.proofs.Unions.{union_of_log}
-use Rattle.rubis_replica.specs.Follow.{AreWithin, Follower, Follows, FollowsAt}
+use Rattle.rubis_replica.specs.Follow.{AreWithin, Follower, Follows, FollowsAt, StaysWithin}
 use Rattle.rubis_replica.specs.Progress.{IsProgress, Progress, whole}
-use Rattle.rubis_replica.proofs.Between.{nothing_between}
-use Rattle.rubis_replica.proofs.Following.{follows_more, rests_at}
+use Rattle.rubis_replica.proofs.Following.{all_done, follows_more, holds_none, rests_at, rests_holds}
 
 abbrev pub Extends : List Message → List Message → Type 0
 Extends log new = (more : List Message) × (new ≡ log ++ more)
@@ -91,7 +91,7 @@ follows_passed p q s new to a f same e h = follows_same p q s new f same (ap (λ
 
 -- ---- the opening tables
 
-pub follows_opening : (sites : ℕ) (log : List Message) (f : Follower) → log ≡ [] → (f.progress ≡ whole 0) × (f.at ≡ 0) → 0 < length f.tables
+pub follows_opening : (sites : ℕ) (log : List Message) (f : Follower) → log ≡ [] → (f.progress ≡ whole 0) × (f.at ≡ 0) × (f.rest ≡ []) → 0 < length f.tables
     → HoldsLog (length f.tables) [] f.tables → FollowsAt sites log f
 follows_opening sites log f e p some holds =
     subst (λ (l : List Message). FollowsAt sites l f) (sym e) (record {
@@ -99,9 +99,11 @@ follows_opening sites log f e p some holds =
         progress = subst (IsProgress []) (sym p.0) (record { on = omega arith; inside = omega arith; rests = λ z. refl; begun = λ l. absurd (omega (arith, l)) });
         on = omega (arith, p.1, ap (λ (x : Progress). x.applied) p.0);
         inside = omega (arith, p.1);
-        left = ap (λ (x : Progress). x.left) p.0 ∙ ap length (sym (nothing_between [] f.at f.progress.upto (omega (arith, ap (λ (x : Progress). x.upto) p.0))));
+        left = ap (λ (x : Progress). x.left) p.0 ∙ sym (all_done [] f.rest f.at f.progress.upto p.2 (omega (arith, p.1, ap (λ (x : Progress). x.upto) p.0)));
         some = some;
-        holds = subst (λ (xs : List Message). HoldsLog (length f.tables) (cores xs) f.tables) (sym (none_taken f.at)) holds;
+        unfinished = subst (AreUnfinished 0 (length f.tables)) (sym p.2) tt;
+        holds = holds_none (length f.tables) [] f.at f.rest f.tables p.2
+            (subst (λ (xs : List Message). HoldsLog (length f.tables) (cores xs) f.tables) (sym (none_taken f.at)) holds);
       };
       limits = subst (λ (xs : List Message). AllInLimits sites (fold_of (cores xs)).tables) (sym (none_taken f.at)) (opening_in_limits sites);
     })
@@ -113,8 +115,7 @@ follows_opening sites log f e p some holds =
 -- ---- tables that were brought on
 
 pub follows_on : (sites : ℕ) (log read : List Message) (old new : Follower) → read ≡ log → All (λ m. sites_of m ≡ sites) log
-    → FollowsAt sites log old → Follows read new
-    → ((k : ℕ) → All (λ m. sites_of m ≡ k) read → AreWithin k read old.at → AreWithin k read new.at) → FollowsAt sites log new
+    → FollowsAt sites log old → Follows read new → StaysWithin read old.at new.at → FollowsAt sites log new
 follows_on sites log read old new e all f h k = record {
   follows = subst (λ (l : List Message). Follows l new) e h;
   limits = subst (λ (l : List Message). AreWithin sites l new.at) e
@@ -132,7 +133,7 @@ all_at log f h e =
 pub tables_of_log : (sites : ℕ) (log : List Message) (f : Follower) → FollowsAt sites log f → f.progress ≡ whole (length log)
     → union f.tables ≡ (fold_of (cores log)).tables
 tables_of_log sites log f h e =
-    union_of_log (length f.tables) (cores (take f.at log)) f.tables h.follows.some h.follows.holds
+    union_of_log (length f.tables) (cores (take f.at log)) f.tables h.follows.some (rests_holds log f h.follows (ap (λ (p : Progress). p.left) e))
     ∙ ap (λ xs. (fold_of (cores xs)).tables) (all_at log f h.follows e)
 
 -- and within the limits

@@ -1,6 +1,6 @@
 -- One message more on the tables of a log.
-use Rattle.std.proofs.Common.{◌≡◌, ℕ, ◌+◌, ◌<◌, List, [], ◌∷◌, ◌++◌, length, get_or, take, sym, ap, ◌∙◌, subst, arith}
-use Rattle.std.specs.Prelude.{All, slice_get}
+use Rattle.std.proofs.Common.{◌≡◌, ℕ, ◌+◌, ◌-◌, ◌<◌, ◌≤◌, List, [], ◌∷◌, ◌++◌, length, length-drop, get_or, drop, take, sym, ap, ◌∙◌, subst, arith}
+use Rattle.std.specs.Prelude.{All, slice_range}
 use Rattle.std.proofs.lemmas.List.{length-take-le}
 use Rattle.std.proofs.lemmas.List.Elements.{All-get_or}
 use Rattle.rubis_schema.specs.Tables.{Tables}
@@ -14,11 +14,11 @@ use Rattle.rubis_message.specs.Message.{Message, IsMessage, sites_of}
 use Rattle.rubis_model.specs.Log.{Core, Folded, core, cores, fold_of, fold_on, before_any, number_parts, numbered_from, parts_of, step}
 use Rattle.rubis_model.proofs.Shares.{numbered_append}
 use Rattle.std.proofs.lemmas.List.Sums.{fold-append}
-use Rattle.std.proofs.lemmas.List.{append-nil, length-map}
+use Rattle.std.proofs.lemmas.List.{append-nil, get_or-drop, get_or_default, length-map}
 use Rattle.rubis_shard.specs.Holdings.{HoldsLog}
 use Rattle.rubis_shard.specs.States.{ShardState}
-use Rattle.rubis_replica.specs.Follow.{AreWithin}
-use Rattle.rubis_replica.proofs.Between.{cores_more}
+use Rattle.rubis_replica.specs.Follow.{AreWithin, StaysWithin}
+use Rattle.rubis_replica.proofs.Between.{cores_more, to_the_end}
 
 -- the shards hold one message more
 pub next_held : (log : List Message) (n : ℕ) (m : Message) (old new : List ShardState) → n < length log → m ≡ get_or log n m
@@ -52,3 +52,22 @@ next_within sites log n m h e conditions all within =
     let kept = parts_kept sites (1 + length (cores (take n log))) 1 m.stamp.id (parts_of (core m)) (fold_of (cores (take n log)))
     (subst (λ k. PartsInLimits k (parts_of (core m))) counts limits) within in
     subst (λ (f : Folded). AllInLimits sites f.tables) (sym (ap fold_of (cores_more log n m h e) ∙ one_more (cores (take n log)) (core m))) kept
+
+-- and of all that follow
+rest_within : (sites : ℕ) (log : List Message) (n k : ℕ) (d : Message) → n + k ≤ length log → All IsMessage (drop n log)
+    → All (λ x. sites_of x ≡ sites) log → AreWithin sites log n → AreWithin sites log (n + k)
+rest_within sites log n ℕ.zero d inside formed all within = subst (AreWithin sites log) (let e : n ≡ n + 0 = omega arith in e) within
+rest_within sites log n (ℕ.suc k) d inside formed all within =
+    let lt : n + k < length log = omega (arith, inside) in
+    let m = get_or log (n + k) d in
+    let same : n + k + 1 ≡ n + ℕ.suc k = omega arith in
+    let conditions : IsMessage m =
+    subst IsMessage (get_or-drop n log k d) (All-get_or IsMessage (drop n log) k d (omega (arith, inside, length-drop n log)) formed) in
+    subst (AreWithin sites log) same
+    (next_within sites log (n + k) m lt (get_or_default log (n + k) d m lt) conditions all (rest_within sites log n k d (omega (arith, inside)) formed all within))
+
+pub log_within : (log : List Message) (n : ℕ) → n < length log → All IsMessage (slice_range log n (length log)) → StaysWithin log n (length log)
+log_within [] n l formed = absurd (omega (arith, l))
+log_within (m ∷ log) n l formed = λ sites all within.
+    let all_of_it : n + (length (m ∷ log) - n) ≡ length (m ∷ log) = omega (arith, l) in
+    subst (AreWithin sites (m ∷ log)) all_of_it (rest_within sites (m ∷ log) n (length (m ∷ log) - n) m (omega (arith, l)) (subst (All IsMessage) (to_the_end (m ∷ log) n) formed) all within)

@@ -1,13 +1,15 @@
 // Messages of a log, one after the other on the tables.
 
-ghost use Rattle.std.specs.Prelude.{◌≡◌, ◌≤◌, ◌<◌, ℕ, All, OnOk, OnErr, length, take};
+ghost use Rattle.std.specs.Prelude.{◌≡◌, ◌≤◌, ◌<◌, ◌*◌, All, OnOk, OnErr, length, take};
 ghost use Rattle.std.specs.List.{flat_map};
-ghost use Rattle.rubis_message.specs.Message.{sites_of};
+ghost use Rattle.rubis_message.specs.Message.{IsMessage};
 ghost use Rattle.rubis_model.specs.Log.{cores, parts_of};
 ghost use Rattle.rubis_shard.specs.Holdings.{HoldsLog};
-ghost use Rattle.rubis_replica.specs.Follow.{AreWithin};
+ghost use Rattle.rubis_pieces.specs.Batches.{parts_left};
+ghost use Rattle.rubis_replica.specs.Follow.{StaysWithin};
 
 use rubis_message::Message;
+use rubis_pieces::Left;
 use rubis_shard::Tables;
 use std::alloc::AllocError;
 
@@ -26,7 +28,7 @@ pub fn apply_upto(
     ensures inside { at.new ≤ upto }
     ensures some { 0 < length tables.new }
     ensures holds { HoldsLog (length tables.old) (cores (take at.old log.now)) tables.old → HoldsLog (length tables.new) (cores (take at.new log.now)) tables.new }
-    ensures limits { (sites : ℕ) → All (λ m. sites_of m ≡ sites) log.now → AreWithin sites log.now at.old → AreWithin sites log.now at.new }
+    ensures limits { StaysWithin log.now at.old at.new }
     ensures ok { OnOk result (at.new ≡ upto) }
     ensures err { OnErr result (at.new < upto) }
 {
@@ -42,11 +44,25 @@ pub fn apply_upto(
 // How many parts the messages have.
 pub fn count_parts(messages: &[Message]) -> u32
     requires { length messages.now ≤ 1000000 }
-    ensures { result ≡ length (flat_map parts_of (cores messages.now)) }
+    ensures count { result ≡ length (flat_map parts_of (cores messages.now)) }
+    ensures few { result ≤ 3 * length messages.now }
+    ensures conditions { All IsMessage messages.now }
 {
     let mut parts = 0;
     for message in messages {
         parts += u32::from(message.shadow().count_parts());
+    }
+    parts
+}
+
+// How many parts of the shares are still to be done.
+pub fn count_left(rest: &[Left]) -> u32
+    requires { parts_left rest.now ≤ 3000000 }
+    ensures { result ≡ parts_left rest.now }
+{
+    let mut parts = 0;
+    for left in rest {
+        parts += left.share.effects.len().saturating_sub(left.done) as u32;
     }
     parts
 }

@@ -1,33 +1,44 @@
 // Tables that follow a log, batch by batch.
 
-ghost use Rattle.std.specs.Prelude.{◌≡◌, ◌≤◌, ◌<◌, ◌⊎◌, [], ℕ, All, IfOk, OnOk, OnErr, length};
-ghost use Rattle.rubis_message.specs.Message.{sites_of};
+ghost use Rattle.std.specs.Prelude.{◌≡◌, ◌≤◌, ◌<◌, ◌⊎◌, [], IfOk, OnOk, OnErr, length};
 ghost use Rattle.rubis_shard.specs.Holdings.{HoldsLog};
-ghost use Rattle.rubis_replica.specs.Follow.{AreWithin, Follows, IsNoted};
-ghost use Rattle.rubis_replica.specs.Progress.{GoesOn, HasBegun, is_behind, whole};
+ghost use Rattle.rubis_pieces.specs.Batches.{parts_left};
+ghost use Rattle.rubis_replica.specs.Follow.{Follows, IsNoted, StaysWithin, parts_to_do};
+ghost use Rattle.rubis_replica.specs.Progress.{GoesOn, HasBegun, is_behind, parts_between, whole};
 
-use crate::applying::{apply_upto, count_parts};
+use crate::applying::{apply_upto, count_left, count_parts};
 use rubis_message::Message;
+use rubis_pieces::{Left, finish};
 use rubis_shard::Tables;
+use rubis_workers::{Gate, apply_batch};
 use std::alloc::{AllocError, Global};
 use std::marker::Model;
+use std::sync::Wait;
+use std::thread::Threads;
 
 // The tables, and how much of the log they have. What comes to be pending is applied in batches: one that has begun
 // and isn't whole, for want of memory, is finished before another begins.
 #[derive(Drop)]
-pub struct Follower {
+pub struct Follower<G: Gate> {
     tables: Tables,
+    // How many workers apply a batch, from 1 to 16, and what is called between a worker's take and its work.
+    workers: u8,
+    gate: G,
     // How many messages are applied, those of the begun batch aside.
     applied: usize,
     // How many messages of the log end the begun batch.
     upto: usize,
-    // How many messages stand in the tables, those of the begun batch too.
+    // How many messages stand in the tables, those of the begun batch too, but for what `rest` has of them.
     at: usize,
+    // The shares of the begun batch that the workers left unfinished.
+    rest: Vec<Left>,
     // How many of the begun batch's parts aren't done.
     left: u32,
+    alloc: Global,
 }
 
-impl Model for Follower {
+impl<G: Gate> Model for Follower<G> {
+    ghost use Rattle.std.specs.Prelude.{◌≤◌, ◌<◌};
     ghost use Rattle.std.specs.Coded.{codes};
     ghost use Rattle.rubis_shard.specs.contracts.tables.Tables as shards;
     ghost use Rattle.rubis_replica.specs.Follow as model;
@@ -36,26 +47,35 @@ impl Model for Follower {
 
     ghost coded = { Prim.hlevel (codes, shards.the_row.coded) };
 
-    ghost view = { λ f. record { progress = record { applied = f.applied; upto = f.upto; left = f.left }; at = f.at; tables = f.tables } };
+    ghost view = { λ f. record { progress = record { applied = f.applied; upto = f.upto; left = f.left }; at = f.at; rest = f.rest.items; tables = f.tables } };
+
+    ghost invariant = { λ f. (0 < f.workers) × (f.workers ≤ 16) };
 }
 
-impl Follower {
-    // The tables before any message, in so many shards.
-    pub fn new(alloc: Global, shards: u8) -> Result<Follower, AllocError>
-        requires { 0 < shards }
-        ensures progress { IfOk result (λ follower. (follower.progress ≡ whole 0) × (follower.at ≡ 0)) }
+impl<G: Gate + Drop> Follower<G> {
+    // The tables before any message, in so many shards, which so many workers will bring on.
+    pub fn new(alloc: Global, shards: u8, workers: u8, gate: G) -> Result<Follower<G>, AllocError>
+        requires shards { 0 < shards }
+        requires workers { (0 < workers) × (workers ≤ 16) }
+        ensures progress { IfOk result (λ follower. (follower.progress ≡ whole 0) × (follower.at ≡ 0) × (follower.rest ≡ [])) }
         ensures some { IfOk result (λ follower. 0 < length follower.tables) }
         ensures tables { IfOk result (λ follower. HoldsLog (length follower.tables) [] follower.tables) }
     {
         Ok(Follower {
             tables: Tables::new(alloc, usize::from(shards))?,
+            workers,
+            gate,
             applied: 0,
             upto: 0,
             at: 0,
+            rest: Vec::new(alloc),
             left: 0,
+            alloc,
         })
     }
+}
 
+impl<G: Gate> Follower<G> {
     // Whether a batch has begun and isn't whole.
     pub fn is_behind(&self) -> bool
         ensures { result ≡ is_behind self.now.progress }
@@ -88,28 +108,30 @@ impl Follower {
     fn note(&mut self, log: &[Message], upto: usize)
         requires few { length log.now ≤ 1000000 }
         requires on { self.old.progress.applied ≤ self.old.at }
-        requires some { self.old.at < upto → self.old.progress.applied < self.old.at }
         requires inside { self.old.at ≤ upto }
         requires within { upto ≤ length log.now }
+        requires rest { parts_left self.old.rest ≤ 3000000 }
+        requires some { 0 < parts_to_do log.now self.old.rest self.old.at upto → parts_to_do log.now self.old.rest self.old.at upto < length (parts_between log.now self.old.progress.applied upto) }
         ensures noted { IsNoted log.now self.old.progress.applied self.new }
         ensures upto { self.new.progress.upto ≡ upto }
         ensures at { self.new.at ≡ self.old.at }
+        ensures rest { self.new.rest ≡ self.old.rest }
         ensures tables { self.new.tables ≡ self.old.tables }
     {
         self.upto = upto;
-        self.left = count_parts(&log[self.at..upto]);
+        self.left = count_left(&self.rest) + count_parts(&log[self.at..upto]);
         if self.left == 0 {
             self.applied = upto;
         }
     }
 
-    // Applies as one batch all that is pending. Where memory runs out the batch has begun, or nothing of it is done.
-    pub fn follow(&mut self, log: &[Message]) -> Result<(), AllocError>
+    // Applies as one batch all that is pending, on this thread.
+    fn follow_here(&mut self, log: &[Message]) -> Result<(), AllocError>
         requires few { length log.now ≤ 1000000 }
         requires rests { self.old.progress.left ≡ 0 }
         requires follows { Follows log.now self.old }
         ensures follows { Follows log.now self.new }
-        ensures limits { (sites : ℕ) → All (λ m. sites_of m ≡ sites) log.now → AreWithin sites log.now self.old.at → AreWithin sites log.now self.new.at }
+        ensures limits { StaysWithin log.now self.old.at self.new.at }
         ensures ok { OnOk result (self.new.progress ≡ whole (length log.now)) }
         ensures err { OnErr result ((self.new.progress ≡ self.old.progress) ⊎ HasBegun log.now self.old.progress self.new.progress) }
     {
@@ -120,16 +142,82 @@ impl Follower {
         ended
     }
 
-    // Goes on with the batch that has begun.
+    // Applies as one batch all that is pending, by the workers.
+    fn follow_by_workers<R: Threads + Wait + Sync>(
+        &mut self,
+        rt: &R,
+        log: &[Message],
+    ) -> Result<(), AllocError>
+        requires few { length log.now ≤ 1000000 }
+        requires rests { self.old.progress.left ≡ 0 }
+        requires follows { Follows log.now self.old }
+        requires pending { self.old.at < length log.now }
+        ensures follows { Follows log.now self.new }
+        ensures limits { StaysWithin log.now self.old.at self.new.at }
+        ensures ok { OnOk result (self.new.progress ≡ whole (length log.now)) }
+        ensures err { OnErr result ((self.new.progress ≡ self.old.progress) ⊎ HasBegun log.now self.old.progress self.new.progress) }
+    {
+        let batch = &log[self.at..];
+        let parts = count_parts(batch);
+        let left = apply_batch(
+            rt,
+            self.alloc,
+            &mut self.tables,
+            batch,
+            self.at as u32 + 1,
+            usize::from(self.workers),
+            &self.gate,
+        )?;
+        if count_left(left.as_slice()) == parts {
+            return Err(AllocError);
+        }
+        self.rest = left.into();
+        self.at = log.len();
+        self.note(log, log.len());
+        if self.left > 0 {
+            return Err(AllocError);
+        }
+        Ok(())
+    }
+
+    // Applies as one batch all that is pending. Where memory runs out the batch has begun, or nothing of it is done. The
+    // workers are called where there are several of them and of the messages: starting a thread costs as much as some thirty
+    // messages.
+    pub fn follow<R: Threads + Wait + Sync>(
+        &mut self,
+        rt: &R,
+        log: &[Message],
+    ) -> Result<(), AllocError>
+        requires few { length log.now ≤ 1000000 }
+        requires rests { self.old.progress.left ≡ 0 }
+        requires follows { Follows log.now self.old }
+        ensures follows { Follows log.now self.new }
+        ensures limits { StaysWithin log.now self.old.at self.new.at }
+        ensures ok { OnOk result (self.new.progress ≡ whole (length log.now)) }
+        ensures err { OnErr result ((self.new.progress ≡ self.old.progress) ⊎ HasBegun log.now self.old.progress self.new.progress) }
+    {
+        if self.workers == 1 || log.len() - self.at <= 1 {
+            self.follow_here(log)
+        } else {
+            self.follow_by_workers(rt, log)
+        }
+    }
+
+    // Goes on with the batch that has begun, on this thread.
     pub fn finish(&mut self, log: &[Message]) -> Result<(), AllocError>
         requires few { length log.now ≤ 1000000 }
         requires follows { Follows log.now self.old }
         ensures follows { Follows log.now self.new }
-        ensures limits { (sites : ℕ) → All (λ m. sites_of m ≡ sites) log.now → AreWithin sites log.now self.old.at → AreWithin sites log.now self.new.at }
+        ensures limits { StaysWithin log.now self.old.at self.new.at }
         ensures ok { OnOk result (self.new.progress ≡ whole self.old.progress.upto) }
         ensures err { OnErr result (GoesOn self.old.progress self.new.progress) }
     {
+        finish(&mut self.tables, &mut self.rest);
         let upto = self.upto;
+        if !self.rest.is_empty() {
+            self.note(log, upto);
+            return Err(AllocError);
+        }
         let ended = apply_upto(&mut self.tables, log, &mut self.at, upto);
         self.note(log, upto);
         ended

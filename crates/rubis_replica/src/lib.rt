@@ -9,4 +9,5 @@ mod site;
 
 pub use config::Config;
 pub use faults::Fault;
+pub use rubis_workers::{Free, Gate};
 pub use site::Site;

@@ -19,20 +19,23 @@ use rubis_pieces::misfits;
 use rubis_release::Intake;
 use rubis_schema::{Fields, Items, Listing};
 use rubis_shadow::{Ask, Shadow};
+use rubis_workers::{Free, Gate};
 use std::alloc::{AllocError, Global};
 use std::marker::Model;
+use std::sync::Wait;
+use std::thread::Threads;
 
 /// One site: what it has taken in, and its tables, which follow its log. Released shadows are pending until they are
 /// applied to the tables: as one batch where so many are pending, and before any decision or listing.
 #[derive(Drop)]
-pub struct Site {
+pub struct Site<G: Gate = Free> {
     intake: Intake,
-    follower: Follower,
+    follower: Follower<G>,
     batch: u32,
     alloc: Global,
 }
 
-impl Model for Site {
+impl<G: Gate> Model for Site<G> {
     ghost use Rattle.rubis_replica.specs.State.{SiteState};
     ghost use Rattle.rubis_replica.specs.Follow.{FollowsAt};
 
@@ -43,21 +46,25 @@ impl Model for Site {
     ghost invariant = { λ s. FollowsAt s.intake.place.sites s.intake.state.log s.follower };
 }
 
-impl Site {
-    /// A site with nothing done, set up so.
-    pub fn new(alloc: Global, config: &Config) -> Result<Site, AllocError>
+impl<G: Gate + Drop> Site<G> {
+    /// A site with nothing done, set up so. Each of its batches is applied under the gate: a worker calls it between its take
+    /// of a shard and its work on it. A batch of one message, and every batch where one worker is set up, is applied on the
+    /// caller's thread: there nothing is taken, and the gate isn't called.
+    pub fn new(alloc: Global, config: &Config, gate: G) -> Result<Site<G>, AllocError>
         ensures { IfOk result (λ site. site ≡ record { place = place_of config.now; state = opening_at config.now.site; progress = whole 0; batch = config.now.batch }) }
     {
         Ok(Site {
             intake: Intake::new(alloc, config.site(), config.sites(), config.keep())?,
-            follower: Follower::new(alloc, config.shards())?,
+            follower: Follower::new(alloc, config.shards(), config.workers(), gate)?,
             batch: config.batch(),
             alloc,
         })
     }
+}
 
+impl<G: Gate> Site<G> {
     // Applies all that is pending, as one batch.
-    fn refresh(&mut self) -> Result<(), Fault>
+    fn refresh<R: Threads + Wait + Sync>(&mut self, rt: &R) -> Result<(), Fault>
         ensures place { self.new.place ≡ self.old.place }
         ensures batch { self.new.batch ≡ self.old.batch }
         ensures state { self.new.state ≡ self.old.state }
@@ -68,7 +75,7 @@ impl Site {
         if self.follower.is_behind() {
             return Err(Fault::Behind);
         }
-        if self.follower.follow(self.intake.log()).is_ok() {
+        if self.follower.follow(rt, self.intake.log()).is_ok() {
             return Ok(());
         }
         if self.follower.is_behind() {
@@ -78,7 +85,7 @@ impl Site {
     }
 
     // Applies what is pending where that is a batch.
-    fn apply_batch(&mut self)
+    fn apply_batch<R: Threads + Wait + Sync>(&mut self, rt: &R)
         requires { self.old.progress.left ≡ 0 }
         ensures place { self.new.place ≡ self.old.place }
         ensures batch { self.new.batch ≡ self.old.batch }
@@ -87,12 +94,16 @@ impl Site {
     {
         let pending = self.intake.log().len() - self.follower.applied();
         if pending >= self.batch as usize {
-            let _ = self.follower.follow(self.intake.log());
+            let _ = self.follower.follow(rt, self.intake.log());
         }
     }
 
     // Decides an ask against the tables of the log, all of which is applied first.
-    fn decided(&mut self, ask: Ask) -> Result<Shadow, Fault>
+    fn decided<R: Threads + Wait + Sync>(
+        &mut self,
+        rt: &R,
+        ask: Ask,
+    ) -> Result<Shadow, Fault>
         requires { IsAsk self.old.place.sites ask }
         ensures place { self.new.place ≡ self.old.place }
         ensures batch { self.new.batch ≡ self.old.batch }
@@ -103,13 +114,17 @@ impl Site {
         ensures ok { OnOk result (self.new ≡ with_all_applied self.old) }
         ensures fault { IfErr result (IsReadFault self.old self.new) }
     {
-        self.refresh()?;
+        self.refresh(rt)?;
         let standing = self.intake.standing();
         Ok(decide(ask, self.follower.tables(), &standing)?)
     }
 
     /// Decides an ask against the tables, and makes the message of its shadow.
-    pub fn request(&mut self, ask: Ask) -> Result<Message, Fault>
+    pub fn request<R: Threads + Wait + Sync>(
+        &mut self,
+        rt: &R,
+        ask: Ask,
+    ) -> Result<Message, Fault>
         requires { IsAsk self.old.place.sites ask }
         ensures place { self.new.place ≡ self.old.place }
         ensures batch { self.new.batch ≡ self.old.batch }
@@ -118,14 +133,18 @@ impl Site {
         ensures ok { OnOk result (IsBatched self.old.batch self.new.state.log (whole (length self.old.state.log)) self.new.progress) }
         ensures fault { IfErr result (IsReadFault self.old self.new) }
     {
-        let shadow = self.decided(ask)?;
+        let shadow = self.decided(rt, ask)?;
         let message = self.intake.generated(shadow)?;
-        self.apply_batch();
+        self.apply_batch(rt);
         Ok(message)
     }
 
     /// Takes a message in that arrived from another site; all that is ready then is released.
-    pub fn arrive(&mut self, message: Message) -> Result<Arrival, Fault>
+    pub fn arrive<R: Threads + Wait + Sync>(
+        &mut self,
+        rt: &R,
+        message: Message,
+    ) -> Result<Arrival, Fault>
         requires { sites_of message ≡ self.old.place.sites }
         ensures place { self.new.place ≡ self.old.place }
         ensures batch { self.new.batch ≡ self.old.batch }
@@ -139,7 +158,7 @@ impl Site {
         }
         let arrival = self.intake.arrive(message)?;
         if let Arrival::Released(_) = arrival {
-            self.apply_batch();
+            self.apply_batch(rt);
         }
         Ok(arrival)
     }
@@ -193,7 +212,11 @@ impl Site {
 
     /// The rows of a listing. That of the log reads no tables and applies nothing; before any other all that is pending
     /// is applied. A site that is behind has no rows.
-    pub fn list(&mut self, listing: &Listing) -> Result<Items<Fields>, Fault>
+    pub fn list<R: Threads + Wait + Sync>(
+        &mut self,
+        rt: &R,
+        listing: &Listing,
+    ) -> Result<Items<Fields>, Fault>
         ensures place { self.new.place ≡ self.old.place }
         ensures batch { self.new.batch ≡ self.old.batch }
         ensures waits { WaitsBehind self.old self.new result }
@@ -206,13 +229,13 @@ impl Site {
             }
             return Ok(log(self.alloc, self.intake.log())?);
         }
-        self.refresh()?;
+        self.refresh(rt)?;
         Ok(self.rows(listing)?)
     }
 
     /// Applies all that is pending, and says how many messages that were. Where nothing could be applied for want of
     /// memory, all stays as it was; where some could, the site is behind.
-    pub fn cut(&mut self) -> Result<u32, Fault>
+    pub fn cut<R: Threads + Wait + Sync>(&mut self, rt: &R) -> Result<u32, Fault>
         ensures place { self.new.place ≡ self.old.place }
         ensures batch { self.new.batch ≡ self.old.batch }
         ensures state { self.new.state ≡ self.old.state }
@@ -221,7 +244,7 @@ impl Site {
         ensures fault { IfErr result (IsCutFault self.old self.new) }
     {
         let pending = self.intake.log().len() - self.follower.applied();
-        self.refresh()?;
+        self.refresh(rt)?;
         Ok(pending as u32)
     }
 

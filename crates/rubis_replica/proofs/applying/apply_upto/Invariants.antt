@@ -1,9 +1,7 @@
-use Rattle.std.proofs.Common.{◌≡◌, ℕ, ◌<◌, length, take}
-use Rattle.std.specs.Prelude.{All}
-use Rattle.rubis_message.specs.Message.{sites_of}
+use Rattle.std.proofs.Common.{◌≡◌, ◌<◌, length, take}
 use Rattle.rubis_model.specs.Log.{cores}
 use Rattle.rubis_shard.specs.Holdings.{HoldsLog}
-use Rattle.rubis_replica.specs.Follow.{AreWithin}
+use Rattle.rubis_replica.specs.Follow.{StaysWithin}
 use Rattle.rubis_replica.proofs.applying.apply_upto.Given as goal
 
 abbrev pub invariant-loop-place : goal.invariant-loop-place
@@ -11,5 +9,5 @@ invariant-loop-place l = record {
   here : l.at ≡ l.place;
   some : 0 < length l.tables;
   holds : HoldsLog (length l.initial.tables) (cores (take l.initial.at l.log)) l.initial.tables → HoldsLog (length l.tables) (cores (take l.at l.log)) l.tables;
-  limits : (sites : ℕ) → All (λ m. sites_of m ≡ sites) l.log → AreWithin sites l.log l.initial.at → AreWithin sites l.log l.at;
+  limits : StaysWithin l.log l.initial.at l.at;
 }

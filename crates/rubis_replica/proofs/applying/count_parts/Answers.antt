@@ -1,7 +1,9 @@
-use Rattle.std.proofs.Common.{◌≡◌, length, subst, arith}
+use Rattle.std.proofs.Common.{◌≡◌, ◌∙◌, get_or, length, sym, subst, arith, inl, inr}
+use Rattle.std.proofs.lemmas.List.{get_or_default}
+use Rattle.rubis_message.specs.Message.{IsMessage}
 use Rattle.rubis_shadow.specs.Parts.{parts}
 use Rattle.rubis_shadow.specs.declared.shadows.Shadow.{Shadow}
-use Rattle.rubis_replica.proofs.Between.{count_more}
+use Rattle.rubis_replica.proofs.Between.{below_or, count_more}
 use Rattle.rubis_replica.proofs.applying.count_parts.Goals as goal
 
 pub loop-message-preserved : goal.loop-message-preserved
@@ -17,4 +19,11 @@ loop-message-preserved c =
       counted = count_more c.args.messages.now c.loop-message.message-index c.loop-message.parts c.from-parts.result m c.loop-message-test.true
           c.message-item.is c.loop-message.invariant.counted own;
       few = omega (arith, c.loop-message.invariant.few, c.count_parts.ensures.few);
+      conditions = λ i d l. elim (below_or i c.loop-message.message-index) [
+        | inl less ↦ c.loop-message.invariant.conditions i d less
+        | inr more ↦
+            let same : i ≡ c.loop-message.message-index = omega (arith, l, more) in
+            let is = c.message-item.is ∙ get_or_default c.args.messages.now c.loop-message.message-index m d c.loop-message-test.true in
+            subst (λ n. IsMessage (get_or c.args.messages.now n d)) (sym same) (subst IsMessage is c.shadow.ensures.conditions)
+      ];
     }

@@ -1,5 +1,6 @@
-use Rattle.std.proofs.Common.{◌≡◌, ◌*◌, ◌≤◌, length, take}
+use Rattle.std.proofs.Common.{◌≡◌, ℕ, ◌*◌, ◌<◌, ◌≤◌, get_or, length, take}
 use Rattle.std.specs.List.{flat_map}
+use Rattle.rubis_message.specs.Message.{IsMessage, Message}
 use Rattle.rubis_model.specs.Log.{cores, parts_of}
 use Rattle.rubis_replica.proofs.applying.count_parts.Given as goal
 
@@ -7,4 +8,5 @@ abbrev pub invariant-loop-message : goal.invariant-loop-message
 invariant-loop-message l = record {
   counted : l.parts ≡ length (flat_map parts_of (cores (take l.message-index l.messages)));
   few : l.parts ≤ 3 * l.message-index;
+  conditions : (i : ℕ) (m : Message) → i < l.message-index → IsMessage (get_or l.messages i m);
 }

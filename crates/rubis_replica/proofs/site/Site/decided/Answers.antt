@@ -7,7 +7,7 @@ use Rattle.rubis_replica.proofs.Deciding.{decided_limits, decides_err, same_deci
 use Rattle.rubis_replica.proofs.site.Site.decided.Goals as goal
 
 pub returns-in_err-decide-clause-decides : goal.returns-in_err-decide-clause-decides
-returns-in_err-decide-clause-decides c =
+returns-in_err-decide-clause-decides g c =
     let site = c.self.inside in
     let refusal = c.in_err-decide.field-0.0 in
     let refused : decision (rows_of (union site.follower.tables)) c.standing-standing.result c.args.ask ≡ Err refusal = search rules in
@@ -16,14 +16,14 @@ returns-in_err-decide-clause-decides c =
     c.self.invariant c.standing-standing.result c.args.ask c.standing-standing.ensures ∙ refused)
 
 pub returns-clause-decides : goal.returns-clause-decides
-returns-clause-decides c =
+returns-clause-decides g c =
     let site = c.self.inside in
     let decided : decision (rows_of (union site.follower.tables)) c.standing-standing.result c.args.ask ≡ Ok c.in_ok-decide.field-0 = search rules in
     same_decision c.args.self.now site.intake.place site.intake.state site.batch site.follower (c.self.view_is ∙ c.in_ok-refresh.ensures.ok)
     c.self.invariant c.standing-standing.result c.args.ask c.standing-standing.ensures ∙ decided
 
 pub returns-clause-limits : goal.returns-clause-limits
-returns-clause-limits c =
+returns-clause-limits g c =
     let site = c.self.inside in
     let decided : decision (rows_of (union site.follower.tables)) c.standing-standing.result c.args.ask ≡ Ok c.in_ok-decide.field-0 = search rules in
     decided_limits c.args.self.now site.intake.place site.intake.state site.batch site.follower (c.self.view_is ∙ c.in_ok-refresh.ensures.ok)

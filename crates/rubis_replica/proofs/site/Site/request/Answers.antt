@@ -3,12 +3,12 @@ use Rattle.rubis_replica.proofs.Growing.{follows_made}
 use Rattle.rubis_replica.proofs.site.Site.request.Goals as goal
 
 pub returns-in_err-shadow-clause-step : goal.returns-in_err-shadow-clause-step
-returns-in_err-shadow-clause-step c =
+returns-in_err-shadow-clause-step g c =
     undecided c.args.self.now c.decided.new.self c.args.ask c.from_residual.result c.in_err-shadow.field-0.0 c.from_residual.ensures
     c.decided.ensures.state c.in_err-shadow.ensures.decides
 
 pub invariant_of-self-2 : goal.invariant_of-self-2
-invariant_of-self-2 c =
+invariant_of-self-2 g c =
     let intake = c.self.inside.intake in
     follows_made intake.place c.generated.new.self.place intake.state c.generated.new.self.state c.in_ok-shadow.shadow c.self.inside.follower
     c.generated.ensures.place c.in_ok-message.ensures.state c.self.invariant
