@@ -1,12 +1,15 @@
 -- Worked examples of the auditor's checks, computed on the definitions: for each the smallest logs with its fault.
 use Rattle.std.proofs.Common.{ℕ, ◌≡◌, List, [], ◌∷◌, refl, Option, Some, None}
-use Rattle.std.specs.Prelude.{codes}
+use Rattle.std.specs.Prelude.{codes, decimal, option_and_then}
 use Rattle.rubis_schema.specs.declared.ids.Id.{Id}
 use Rattle.rubis_shadow.specs.declared.shadows.Shadow.{Shadow}
 use Rattle.rubis_shadow.specs.declared.shadows.Shadow.TheVariants as shadow
 use Rattle.rubis_message.specs.Message.{Message}
+use Rattle.rubis_message.specs.Readings.{packet_of, take_packet}
 use Rattle.rubis_message.specs.declared.answers.Kind.TheVariants as kind
 use Rattle.rubis_message.specs.declared.answers.Verdict.TheVariants.{Agree, Found}
+use Rattle.rubis_model.specs.AuditRecords.{audit_of, take_begin, with_line}
+use Rattle.rubis_model.specs.AuditRecords.Line.{Begin, Next, Claim}
 use Rattle.rubis_model.specs.Logs.{Log}
 use Rattle.rubis_model.specs.Verdict.{verdict}
 
@@ -172,3 +175,35 @@ stock_and_winner : verdict (
     log 0 (ann ∷ bob ∷ cups ∷ bid ∷ close 9 (Some (id 0 4)) ∷ message 0 6 5 (5 ∷ 0 ∷ []) (shadow.Buy (record { item = id 0 3; buyer = id 0 2; quantity = 5 })) ∷ []) ∷ []
     ) ≡ Found kind.Stock 1 6
 stock_and_winner = refl
+
+-- ---- records
+
+nothing_said : audit_of 2 [] ≡ codes "audit" ∷ codes "Agree" ∷ []
+nothing_said = refl
+
+abbrev bad_record : ℕ → List (List ℕ)
+bad_record n = codes "audit" ∷ codes "BadRecord" ∷ decimal n ∷ []
+
+row_before_any_site : audit_of 2 ((codes "row" ∷ codes "x" ∷ []) ∷ []) ≡ bad_record 1
+unfolding take_begin
+row_before_any_site = refl
+
+no_record_of_an_audit : audit_of 2 ((codes "list" ∷ []) ∷ []) ≡ bad_record 1
+unfolding take_begin packet_of take_packet
+no_record_of_an_audit = refl
+
+no_message_before_a_site : with_line [] (Next ann) ≡ None
+no_message_before_a_site = refl
+
+messages_and_rows : option_and_then (λ l. with_line l (Claim (codes "row" ∷ [])))
+    (option_and_then (λ l. with_line l (Next bob)) (option_and_then (λ l. with_line l (Next ann)) (with_line [] (Begin 0))))
+    ≡ Some (record { site = 0; messages = ann ∷ bob ∷ []; rows = Some ((codes "row" ∷ []) ∷ []) } ∷ [])
+messages_and_rows = refl
+
+-- no message after a row, but another log
+message_after_a_row : with_line (record { site = 0; messages = ann ∷ []; rows = Some ((codes "row" ∷ []) ∷ []) } ∷ []) (Next bob) ≡ None
+message_after_a_row = refl
+
+log_after_a_row : with_line (record { site = 0; messages = []; rows = Some ((codes "row" ∷ []) ∷ []) } ∷ []) (Begin 1)
+    ≡ Some (log 1 [] ∷ record { site = 0; messages = []; rows = Some ((codes "row" ∷ []) ∷ []) } ∷ [])
+log_after_a_row = refl

@@ -14,47 +14,47 @@ use Rattle.rubis_model.specs.Logs.{Log}
 use Rattle.rubis_model.specs.Verdict.{verdict}
 
 -- what a record says: a log of that site begins; its next message; one of the rows that it claims
-pub data Entry : Type 0 where
-  Begin : ℕ → Entry
-  Next : Message → Entry
-  Claim : List (List ℕ) → Entry
+pub data Line : Type 0 where
+  Begin : ℕ → Line
+  Next : Message → Line
+  Claim : List (List ℕ) → Line
 
 -- `site` and the number of one of so many sites
-unfoldable pub take_begin : ℕ → Form Entry
+unfoldable pub take_begin : ℕ → Form Line
 take_begin sites = do
   word ← one Some
   check (bytes_eq word (codes "site"))
   made Begin (take_site sites)
 
 -- a message, and no token
-abbrev pub next_of : Packet → Option Entry
+abbrev pub next_of : Packet → Option Line
 next_of (packet.Msg m) = Some (Next m)
 next_of (packet.Token t) = None
 
 -- a row is any record whose first field is `row`
-abbrev pub claim_of : List (List ℕ) → Option Entry
+abbrev pub claim_of : List (List ℕ) → Option Line
 claim_of [] = None
 claim_of (word ∷ rest) = only_if (bytes_eq word (codes "row")) (Claim (word ∷ rest))
 
 -- what the fields of a record say, among so many sites
-abbrev pub entry_of : ℕ → List (List ℕ) → Option Entry
-entry_of sites fields = option_or (whole (take_begin sites) fields) (option_or (claim_of fields) (option_and_then next_of (packet_of sites fields)))
+abbrev pub line_of : ℕ → List (List ℕ) → Option Line
+line_of sites fields = option_or (whole (take_begin sites) fields) (option_or (claim_of fields) (option_and_then next_of (packet_of sites fields)))
 
--- the logs with one entry more, the newest log in front. No entry but `site` stands before the first log, and no message
+-- the logs with one record more, the newest log in front. None but `site` stands before the first log, and no message
 -- after a row
-abbrev pub with_entry : List Log → Entry → Option (List Log)
-with_entry logs (Begin site) = Some (record { site = site; messages = []; rows = None } ∷ logs)
-with_entry [] entry = None
-with_entry (log ∷ logs) (Next m) = elim log.rows [
+abbrev pub with_line : List Log → Line → Option (List Log)
+with_line logs (Begin site) = Some (record { site = site; messages = []; rows = None } ∷ logs)
+with_line [] line = None
+with_line (log ∷ logs) (Next m) = elim log.rows [
   | None ↦ Some (record log { messages = log.messages ++ m ∷ [] } ∷ logs)
   | Some rows ↦ None
 ]
-with_entry (log ∷ logs) (Claim row) = Some (record log { rows = Some (unwrap_or log.rows [] ++ row ∷ []) } ∷ logs)
+with_line (log ∷ logs) (Claim row) = Some (record log { rows = Some (unwrap_or log.rows [] ++ row ∷ []) } ∷ logs)
 
 -- the logs after these records, the first of which has that number; or the number of the first that isn't so
 abbrev pub logs_after : ℕ → ℕ → List Log → List (List (List ℕ)) → Result (List Log) ℕ
 logs_after sites n logs [] = Ok logs
-logs_after sites n logs (fields ∷ rest) = elim (option_and_then (with_entry logs) (entry_of sites fields)) [
+logs_after sites n logs (fields ∷ rest) = elim (option_and_then (with_line logs) (line_of sites fields)) [
   | None ↦ Err n
   | Some more ↦ logs_after sites (n + 1) more rest
 ]
