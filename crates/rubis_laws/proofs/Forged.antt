@@ -1,6 +1,6 @@
 -- In every log, forged or not, nicknames stay with their first users and stock is kept.
 use Rattle.std.proofs.Common.{ℕ, ◌≡◌, ◌+◌, ◌-◌, ◌^◌, ◌≤◌, ◌<◌, List, [], ◌∷◌, ◌++◌, length, Bool, true, false, cond, refl, sym, ap, ◌∙◌, subst, arith, Option, Some, None}
-use Rattle.std.specs.Prelude.{fold, option_map, nat_le, bytes_eq, IfSome, min}
+use Rattle.std.specs.Prelude.{fold, option_map, nat_le, bytes_eq, IfSome}
 use Rattle.std.specs.Option.{option_or}
 use Rattle.std.proofs.lemmas.Bool.Decides.{nat_tests}
 use Rattle.std.specs.FinMap as map

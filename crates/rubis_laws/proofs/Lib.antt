@@ -32,3 +32,4 @@ pub mod Refusing
 pub mod ByMeaning
 pub mod Forged
 pub mod Examples
+pub mod AuditExamples

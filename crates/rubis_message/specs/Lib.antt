@@ -1,5 +1,6 @@
 pub mod Message
 pub mod Equal
+pub mod Kinds
 pub mod Grammar
 pub mod Words
 pub mod Counts

@@ -1,3 +1,6 @@
+ghost use Rattle.std.specs.Prelude.{◌≡◌};
+ghost use Rattle.rubis_message.specs.Kinds.{name_of};
+
 /// What became of a message that arrived.
 #[derive(Clone, Copy, PartialEq, Eq, Debug)]
 pub enum Arrival {
@@ -16,4 +19,52 @@ pub enum Taken {
     Holding,
     /// Its turn had come before.
     Repeat,
+}
+
+/// What an auditor can find wrong with a log, in the order of the checks.
+#[derive(Clone, Copy, PartialEq, Eq, Debug)]
+pub enum Kind {
+    /// Another message has its id.
+    Clash,
+    /// It isn't the next one of its origin, counts a message that isn't there, or forgets one.
+    Order,
+    /// It hasn't the next red number, another message has that number, or the red one before it doesn't precede it.
+    RedGap,
+    /// What it names isn't there, or doesn't precede it, or a close has another category than its item.
+    Refers,
+    /// Its nickname has a user.
+    Nick,
+    /// More is bought than is left.
+    Stock,
+    /// The item is closed, or a close names another winner than the highest bid.
+    Winner,
+    /// The claimed rows aren't those of the log.
+    Rows,
+}
+
+impl Kind {
+    /// The name that the record of a verdict shows.
+    pub fn name(&self) -> &'static str
+        ensures { result.now ≡ name_of self.now }
+    {
+        match self {
+            Kind::Clash => "Clash",
+            Kind::Order => "Order",
+            Kind::RedGap => "RedGap",
+            Kind::Refers => "Refers",
+            Kind::Nick => "Nick",
+            Kind::Stock => "Stock",
+            Kind::Winner => "Winner",
+            Kind::Rows => "Rows",
+        }
+    }
+}
+
+/// What an auditor says of logs.
+#[derive(Clone, Copy, PartialEq, Eq, Debug)]
+pub enum Verdict {
+    /// They pass all checks.
+    Agree,
+    /// The first fault: its kind, and the numbers of its log and its entry, both from 1. Rows has entry 0.
+    Found(Kind, usize, usize),
 }

@@ -12,6 +12,9 @@ pub mod Forged
 pub mod Order
 pub mod References
 pub mod Bids
+pub mod Logs
+pub mod Verdict
+pub mod AuditRecords
 pub mod Audit
 pub mod System
 pub mod Sound

@@ -1,15 +1,19 @@
 -- How a run goes on.
-use Rattle.std.proofs.Common.{◌≡◌, ◌≤◌, ◌+◌, ◌-◌, ◌∷◌, [], ◌++◌, ◌∙◌, ℕ, List, length, take, Option, Bool, true, false, sym, refl, ap, subst, arith, append_assoc, length-append}
+use Rattle.std.proofs.Common.{◌≡◌, ◌≤◌, ◌<◌, ◌+◌, ◌-◌, ◌∷◌, [], ◌++◌, ◌∙◌, ℕ, List, length, take, Option, Bool, true, false, sym, refl, ap, subst, arith, append_assoc, length-append}
+use Rattle.std.specs.Prelude.{OnOk, Result, Ok, Err}
 use Rattle.std.proofs.lemmas.List.{append-nil}
 use Rattle.std.proofs.Math.Seq.{take-append_seam}
 use Rattle.std.specs.Io.KnownBytes.{Appends}
 use Rattle.rubis_script.specs.declared.record_list.Records.{Records}
+use Rattle.rubis_script.specs.declared.service.Course.TheVariants.{GoesOn, Ends}
 use Rattle.csv.proofs.WriteFacts.{appends-more, appends-none}
+use Rattle.rubis_script.specs.Accounts.{Account, Answers, Keeps}
+use Rattle.rubis_script.specs.Accounts.Ending.{AtEnd, Cut}
 use Rattle.rubis_script.specs.Reading.{Advances, Gives, fields_now}
 use Rattle.rubis_script.specs.Text.{records_of}
-use Rattle.rubis_script.specs.Progress.{Progress, Wrote, WroteFront}
+use Rattle.rubis_script.specs.Progress.{Drained, IsDone, IsTooLong, Progress, WroteFront}
 
-pub progress-start : {R : Type 0} (rem : R → Option (List ℕ)) (records : Records R) (all : List (List (List ℕ)) → List ℕ) (old : Option (List ℕ)) (input : List ℕ)
+pub progress-start : {R : Type 0} (rem : R → Option (List ℕ)) (records : Records R) (all : Account) (old : Option (List ℕ)) (input : List ℕ)
     → Gives rem records (records_of input) → Progress rem records all all old old [] 1 input
 progress-start rem records all old input gives = record {
   done = [];
@@ -19,70 +23,113 @@ progress-start rem records all old input gives = record {
   count = refl;
   gives = gives;
   appended = appends-none old;
-  told = λ m. refl;
+  told = λ e m. refl;
+  counted = λ m. omega arith;
 }
 
-pub progress-step : {R : Type 0} (rem : R → Option (List ℕ)) (a b : Records R) (all more more2 : List (List (List ℕ)) → List ℕ)
+-- a record was answered, and the run goes on
+pub progress-step : {R : Type 0} (rem : R → Option (List ℕ)) (a b : Records R) (all more more2 : Account)
     (old now : Option (List ℕ)) (sink sink2 : List ℕ) (n : ℕ) (input : List ℕ)
     → Progress rem a all more old now sink n input → Advances rem a b true
-    → ((m : List (List (List ℕ))) → sink ++ more (fields_now b ∷ m) ≡ sink2 ++ more2 m)
+    → Answers GoesOn more more2 sink sink2 (fields_now b)
     → Progress rem b all more2 old now sink2 (n + 1) input
 progress-step rem a b all more more2 old now sink sink2 n input p takes answered =
     let (left, first, gives) = takes p.rest p.gives in
+    let one = length-append p.done (fields_now b ∷ []) in
     record {
       done = p.done ++ (fields_now b ∷ []);
       rest = left;
       front = p.front;
       parts = p.parts ∙ ap (λ t. p.done ++ t) first ∙ sym (append_assoc p.done (fields_now b ∷ []) left);
-      count = ap (λ k. k + 1) (length-append p.done (fields_now b ∷ []) ∙ p.count);
+      count = ap (λ k. k + 1) (one ∙ p.count);
       gives = gives;
       appended = p.appended;
-      told = λ m. ap all (append_assoc p.done (fields_now b ∷ []) m) ∙ p.told (fields_now b ∷ m) ∙ ap (λ t. p.front ++ t) (answered m);
+      told = λ e m. ap (all.text e) (append_assoc p.done (fields_now b ∷ []) m) ∙ p.told e (fields_now b ∷ m) ∙ ap (λ t. p.front ++ t) ((answered m).0 e);
+      counted = λ m.
+          let whole = ap all.read (append_assoc p.done (fields_now b ∷ []) m) ∙ p.counted (fields_now b ∷ m) in
+          let next = (answered m).1 in
+          omega (arith, whole, next, one);
     }
 
-pub progress-drained : {R : Type 0} (rem : R → Option (List ℕ)) (a : Records R) (all more : List (List (List ℕ)) → List ℕ)
+-- what was held is written out
+pub progress-drained : {R : Type 0} (rem : R → Option (List ℕ)) (a : Records R) (all more more2 : Account)
     (old now now2 : Option (List ℕ)) (sink : List ℕ) (n : ℕ) (input : List ℕ)
-    → Progress rem a all more old now sink n input → Appends now now2 sink → Progress rem a all more old now2 [] n input
-progress-drained rem a all more old now now2 sink n input p wrote = record {
+    → Progress rem a all more old now sink n input → Drained more more2 sink now now2 → Progress rem a all more2 old now2 [] n input
+progress-drained rem a all more more2 old now now2 sink n input p d = record {
   done = p.done;
   rest = p.rest;
-  front = p.front ++ sink;
+  front = p.front ++ d.out;
   parts = p.parts;
   count = p.count;
   gives = p.gives;
-  appended = appends-more old now now2 p.front sink p.appended wrote;
-  told = λ m. p.told m ∙ sym (append_assoc p.front sink (more m));
+  appended = appends-more old now now2 p.front d.out p.appended d.appended;
+  told = λ e m. p.told e m ∙ ap (λ t. p.front ++ t) (d.told e m) ∙ sym (append_assoc p.front d.out (more2.text e m));
+  counted = λ m. p.counted m ∙ ap (λ k. length p.done + k) (d.counted m);
 }
 
--- at the end of the input
-pub progress-end : {R : Type 0} (rem : R → Option (List ℕ)) (a b : Records R) (all more : List (List (List ℕ)) → List ℕ)
-    (old now : Option (List ℕ)) (sink : List ℕ) (n : ℕ) (input : List ℕ)
-    → Progress rem a all more old now sink n input → Advances rem a b false → more [] ≡ []
-    → Wrote all old now sink (records_of input) × (length (records_of input) + 1 ≡ n)
-progress-end rem a b all more old now sink n input p takes ends =
+-- the input ends
+pub progress-end : {R : Type 0} (rem : R → Option (List ℕ)) (a b : Records R) (all more : Account)
+    (old now now2 : Option (List ℕ)) (sink : List ℕ) (n k limit : ℕ) (input : List ℕ)
+    → Progress rem a all more old now sink n input → Advances rem a b false
+    → Appends now now2 (sink ++ more.text AtEnd []) → more.read [] ≡ 0 → n ≡ k + 1 → k ≤ limit
+    → IsDone all limit old now2 (records_of input) k
+progress-end rem a b all more old now now2 sink n k limit input p takes out none e within =
     let whole : records_of input ≡ p.done ++ [] = p.parts ∙ ap (λ t. p.done ++ t) (takes p.rest p.gives) in
-    let text : all (records_of input) ≡ p.front ++ sink =
-    ap all whole ∙ p.told [] ∙ ap (λ t. p.front ++ (sink ++ t)) ends ∙ ap (λ t. p.front ++ t) (append-nil sink) in
-    ((p.front, p.appended, sym text), ap (λ t. length t + 1) (whole ∙ append-nil p.done) ∙ p.count)
+    let text : all.text AtEnd (records_of input) ≡ p.front ++ (sink ++ more.text AtEnd []) = ap (all.text AtEnd) whole ∙ p.told AtEnd [] in
+    let read : all.read (records_of input) ≡ length p.done + more.read [] = ap all.read whole ∙ p.counted [] in
+    let count = p.count in
+    (subst (λ (t : List ℕ). Appends old now2 t) (sym text) (appends-more old now now2 p.front _ p.appended out), omega (arith, read, none, count, e), within)
 
-take-front : (xs ys : List (List (List ℕ))) (n : ℕ) → length xs + 1 ≡ n → take (n - 1) (xs ++ ys) ≡ xs
-take-front xs ys n e =
-    let m : length xs ≡ n - 1 = omega arith in
-    subst (λ k. take k (xs ++ ys) ≡ xs) m (take-append_seam xs ys)
+-- a record ends the run
+pub progress-ended : {R : Type 0} (rem : R → Option (List ℕ)) (a b : Records R) (all more more2 : Account)
+    (old now now2 : Option (List ℕ)) (sink sink2 : List ℕ) (n : ℕ) (input : List ℕ)
+    → Progress rem a all more old now sink n input → Advances rem a b true
+    → Answers Ends more more2 sink sink2 (fields_now b) → Appends now now2 sink2
+    → IsDone all n old now2 (records_of input) n
+progress-ended rem a b all more more2 old now now2 sink sink2 n input p takes answered out =
+    let (left, first, gives) = takes p.rest p.gives in
+    let whole : records_of input ≡ p.done ++ (fields_now b ∷ left) = p.parts ∙ ap (λ t. p.done ++ t) first in
+    let text : all.text AtEnd (records_of input) ≡ p.front ++ sink2 =
+    ap (all.text AtEnd) whole ∙ p.told AtEnd (fields_now b ∷ left) ∙ ap (λ t. p.front ++ t) (answered left).0 in
+    let read : all.read (records_of input) ≡ length p.done + more.read (fields_now b ∷ left) = ap all.read whole ∙ p.counted (fields_now b ∷ left) in
+    let one = (answered left).1 in
+    let count = p.count in
+    (subst (λ (t : List ℕ). Appends old now2 t) (sym text) (appends-more old now now2 p.front sink2 p.appended out), omega (arith, read, one, count), omega arith)
+
+take-front : (xs ys : List (List (List ℕ))) (k : ℕ) → length xs ≡ k → take k (xs ++ ys) ≡ xs
+take-front xs ys k e = subst (λ j. take j (xs ++ ys) ≡ xs) e (take-append_seam xs ys)
 
 -- the records before the next
-pub progress-answered : {R : Type 0} (rem : R → Option (List ℕ)) (a : Records R) (all more : List (List (List ℕ)) → List ℕ)
-    (old now : Option (List ℕ)) (sink : List ℕ) (n : ℕ) (input : List ℕ)
-    → Progress rem a all more old now sink n input → more [] ≡ []
-    → Wrote all old now sink (take (n - 1) (records_of input))
-progress-answered rem a all more old now sink n input p ends =
-    let done : take (n - 1) (records_of input) ≡ p.done ++ [] = ap (take (n - 1)) p.parts ∙ take-front p.done p.rest n p.count ∙ sym (append-nil p.done) in
-    let text : all (take (n - 1) (records_of input)) ≡ p.front ++ sink =
-    ap all done ∙ p.told [] ∙ ap (λ t. p.front ++ (sink ++ t)) ends ∙ ap (λ t. p.front ++ t) (append-nil sink) in
-    (p.front, p.appended, sym text)
+before-next : {R : Type 0} (rem : R → Option (List ℕ)) (a : Records R) (all more : Account)
+    (old now : Option (List ℕ)) (sink : List ℕ) (n k : ℕ) (input : List ℕ)
+    → n ≡ k + 1 → (p : Progress rem a all more old now sink n input) → take k (records_of input) ≡ p.done ++ []
+before-next rem a all more old now sink n k input e p =
+    let count = p.count in
+    let length : length p.done ≡ k = omega (arith, count, e) in
+    ap (take k) p.parts ∙ take-front p.done p.rest k length ∙ sym (append-nil p.done)
+
+-- the run is cut short before the next record, and nothing is held
+pub progress-cut : {R : Type 0} (rem : R → Option (List ℕ)) (a : Records R) (all more : Account)
+    (old now : Option (List ℕ)) (n k : ℕ) (input : List ℕ)
+    → Progress rem a all more old now [] n input → more.text Cut [] ≡ [] → n ≡ k + 1
+    → Appends old now (all.text Cut (take k (records_of input)))
+progress-cut rem a all more old now n k input p none e =
+    let text : all.text Cut (take k (records_of input)) ≡ p.front =
+    ap (all.text Cut) (before-next rem a all more old now [] n k input e p) ∙ p.told Cut [] ∙ ap (λ t. p.front ++ t) none ∙ append-nil p.front in
+    subst (λ (t : List ℕ). Appends old now t) (sym text) p.appended
+
+-- there is another record, and no more are taken
+pub progress-too_long : {R : Type 0} (rem : R → Option (List ℕ)) (a b : Records R) (all more : Account)
+    (old now : Option (List ℕ)) (n k : ℕ) (input : List ℕ)
+    → Progress rem a all more old now [] n input → more.text Cut [] ≡ [] → more.read [] ≡ 0 → n ≡ k + 1 → k < length (records_of input)
+    → IsTooLong all k old now (records_of input)
+progress-too_long rem a b all more old now n k input p none zero e next =
+    let read : all.read (take k (records_of input)) ≡ length p.done + more.read [] = ap all.read (before-next rem a all more old now [] n k input e p) ∙ p.counted [] in
+    let count = p.count in
+    (progress-cut rem a all more old now n k input p none e, next, omega (arith, read, zero, count, e))
 
 -- there is another record
-pub progress-more : {R : Type 0} (rem : R → Option (List ℕ)) (a b : Records R) (all more : List (List (List ℕ)) → List ℕ)
+pub progress-more : {R : Type 0} (rem : R → Option (List ℕ)) (a b : Records R) (all more : Account)
     (old now : Option (List ℕ)) (sink : List ℕ) (n : ℕ) (input : List ℕ)
     → Progress rem a all more old now sink n input → Advances rem a b true → n ≤ length (records_of input)
 progress-more rem a b all more old now sink n input p takes =
@@ -91,42 +138,33 @@ progress-more rem a b all more old now sink n input p takes =
     rw (whole, length-append p.done (fields_now b ∷ left)) (omega (arith, p.count))
 
 -- at any moment
-pub progress-front : {R : Type 0} (rem : R → Option (List ℕ)) (a : Records R) (all more : List (List (List ℕ)) → List ℕ)
+pub progress-front : {R : Type 0} (rem : R → Option (List ℕ)) (a : Records R) (all more : Account)
     (old now : Option (List ℕ)) (sink : List ℕ) (n : ℕ) (input : List ℕ)
-    → Progress rem a all more old now sink n input → WroteFront all old now (records_of input)
-progress-front rem a all more old now sink n input p = (p.front, sink ++ more p.rest, p.appended, sym (ap all p.parts ∙ p.told p.rest))
+    → Progress rem a all more old now sink n input → WroteFront (all.text AtEnd) old now (records_of input)
+progress-front rem a all more old now sink n input p =
+    (p.front, sink ++ more.text AtEnd p.rest, p.appended, sym (ap (all.text AtEnd) p.parts ∙ p.told AtEnd p.rest))
 
 -- a read, once it is known whether it found a record
 pub takes-at : {R : Type 0} (rem : R → Option (List ℕ)) (a b : Records R) (found v : Bool) → found ≡ v
     → Advances rem a b found → Advances rem a b v
 takes-at rem a b found v e t = subst (λ (x : Bool). Advances rem a b x) e t
 
--- what was written, once the sink is written out
-pub wrote-drained : (all : List (List (List ℕ)) → List ℕ) (old now now2 : Option (List ℕ)) (sink : List ℕ) (records : List (List (List ℕ)))
-    → Wrote all old now sink records → Appends now now2 sink → Appends old now2 (all records)
-wrote-drained all old now now2 sink records w wrote =
-    subst (λ (t : List ℕ). Appends old now2 t) w.2 (appends-more old now now2 w.0 sink w.1 wrote)
-
-pub wrote-front : (all : List (List (List ℕ)) → List ℕ) (old now now2 : Option (List ℕ)) (sink : List ℕ) (records : List (List (List ℕ)))
-    → Wrote all old now sink records → now2 ≡ now → WroteFront all old now2 records
-wrote-front all old now now2 sink records w same = (w.0, sink, rw same w.1, w.2)
-
 pub front-same : (all : List (List (List ℕ)) → List ℕ) (old now now2 : Option (List ℕ)) (records : List (List (List ℕ)))
     → WroteFront all old now records → now2 ≡ now → WroteFront all old now2 records
 front-same all old now now2 records w same = (w.0, w.1, rw same w.2, w.3)
 
--- what was held is written
-pub progress-settled : {R : Type 0} (rem : R → Option (List ℕ)) (a : Records R) (all more more2 : List (List (List ℕ)) → List ℕ)
-    (old now : Option (List ℕ)) (sink sink2 : List ℕ) (n : ℕ) (input : List ℕ)
-    → Progress rem a all more old now sink n input → ((m : List (List (List ℕ))) → sink ++ more m ≡ sink2 ++ more2 m)
-    → Progress rem a all more2 old now sink2 n input
-progress-settled rem a all more more2 old now sink sink2 n input p settled = record {
-  done = p.done;
-  rest = p.rest;
-  front = p.front;
-  parts = p.parts;
-  count = p.count;
-  gives = p.gives;
-  appended = p.appended;
-  told = λ m. p.told m ∙ ap (λ t. p.front ++ t) (settled m);
-}
+-- what follows from two facts of a call that went well
+pub on_ok_both : {T E : Type 0} {P Q S : Type 0} (r : Result T E) → (P → Q → S) → OnOk r P → OnOk r Q → OnOk r S
+on_ok_both (Ok v) f p q = f p q
+on_ok_both (Err e) f p q = tt
+
+-- what holds always holds of a call that went well
+pub on_ok : {T E : Type 0} {P : Type 0} (r : Result T E) → P → OnOk r P
+on_ok (Ok v) p = p
+on_ok (Err e) p = tt
+
+-- the same front, where nothing more was written
+pub progress-stays : {R : Type 0} (rem : R → Option (List ℕ)) (a : Records R) (all more : Account)
+    (old now now2 : Option (List ℕ)) (sink : List ℕ) (n : ℕ) (input : List ℕ)
+    → Progress rem a all more old now sink n input → now2 ≡ now → WroteFront (all.text AtEnd) old now2 (records_of input)
+progress-stays rem a all more old now now2 sink n input p same = front-same (all.text AtEnd) old now now2 (records_of input) (progress-front rem a all more old now sink n input p) same

@@ -1,13 +1,15 @@
--- How far a run has come.
-use Rattle.std.specs.Prelude.{◌≡◌, ◌+◌, ◌++◌, ℕ, List, length, Option}
+-- How far a run has come, and how it ended.
+use Rattle.std.specs.Prelude.{◌≡◌, ◌≤◌, ◌<◌, ◌+◌, ◌++◌, ℕ, List, length, take, Option}
 use Rattle.std.specs.Io.KnownBytes.{Appends}
 use Rattle.rubis_script.specs.declared.record_list.Records.{Records}
+use Rattle.rubis_script.specs.Accounts.{Account, Ending}
+use Rattle.rubis_script.specs.Accounts.Ending.{AtEnd, Cut}
 use Rattle.rubis_script.specs.Reading.{Gives}
 use Rattle.rubis_script.specs.Text.{records_of}
 
--- the records that were answered, those to come, and what was written: `all` is the text of all records, `more` that of
--- those to come, and `number` is that of the next record
-pub record Progress {R : Type 0} (rem : R → Option (List ℕ)) (records : Records R) (all more : List (List (List ℕ)) → List ℕ)
+-- the records that were answered, those to come, and what was written: `all` is the account of all records, `more` that
+-- of those to come, and `number` is that of the next record
+pub record Progress {R : Type 0} (rem : R → Option (List ℕ)) (records : Records R) (all more : Account)
     (old now : Option (List ℕ)) (sink : List ℕ) (number : ℕ) (input : List ℕ) : Type 0 where
   pub done : List (List (List ℕ))
   pub rest : List (List (List ℕ))
@@ -16,12 +18,31 @@ pub record Progress {R : Type 0} (rem : R → Option (List ℕ)) (records : Reco
   pub count : length done + 1 ≡ number
   pub gives : Gives rem records rest
   pub appended : Appends old now front
-  pub told : (to_come : List (List (List ℕ))) → all (done ++ to_come) ≡ front ++ (sink ++ more to_come)
+  pub told : (ending : Ending) (to_come : List (List (List ℕ))) → all.text ending (done ++ to_come) ≡ front ++ (sink ++ more.text ending to_come)
+  pub counted : (to_come : List (List (List ℕ))) → all.read (done ++ to_come) ≡ length done + more.read to_come
 
--- what was written, and then the sink, is the text of these records
-abbrev pub Wrote : (List (List (List ℕ)) → List ℕ) → Option (List ℕ) → Option (List ℕ) → List ℕ → List (List (List ℕ)) → Type 0
-Wrote all old now sink records = (front : List ℕ) × Appends old now front × (front ++ sink ≡ all records)
+-- what was held is written out, and the text stays what it was
+pub record Drained (old new : Account) (held : List ℕ) (before after : Option (List ℕ)) : Type 0 where
+  pub out : List ℕ
+  pub appended : Appends before after out
+  pub told : (ending : Ending) (more : List (List (List ℕ))) → held ++ old.text ending more ≡ out ++ new.text ending more
+  pub counted : (more : List (List (List ℕ))) → old.read more ≡ new.read more
 
--- what was written is the front of the text of these records
+-- ---- what a run has written and read
+
+-- the run is done: the text of all records was written, and as many were read as there are to read, at most `limit`
+abbrev pub IsDone : Account → ℕ → Option (List ℕ) → Option (List ℕ) → List (List (List ℕ)) → ℕ → Type 0
+IsDone all limit old now records count = Appends old now (all.text AtEnd records) × (count ≡ all.read records) × (count ≤ limit)
+
+-- there are more records than `limit`, and the first `limit` of them don't end the run: their text was written
+abbrev pub IsTooLong : Account → ℕ → Option (List ℕ) → Option (List ℕ) → List (List (List ℕ)) → Type 0
+IsTooLong all limit old now records =
+    Appends old now (all.text Cut (take limit records)) × (limit < length records) × (all.read (take limit records) ≡ limit)
+
+-- the run was cut short: the text of some first records was written
+abbrev pub IsCut : Account → Option (List ℕ) → Option (List ℕ) → List (List (List ℕ)) → Type 0
+IsCut all old now records = (k : ℕ) × Appends old now (all.text Cut (take k records))
+
+-- what was written is the front of the text of all records
 abbrev pub WroteFront : (List (List (List ℕ)) → List ℕ) → Option (List ℕ) → Option (List ℕ) → List (List (List ℕ)) → Type 0
 WroteFront all old now records = (front back : List ℕ) × Appends old now front × (front ++ back ≡ all records)

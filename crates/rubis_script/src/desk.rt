@@ -1,6 +1,6 @@
 // A site as a service: a record in, its answers out.
 
-ghost use Rattle.std.specs.Prelude.{◌≡◌, ◌≤◌, IfOk, OnOk};
+ghost use Rattle.std.specs.Prelude.{◌≡◌, ◌≤◌, IfOk, OnOk, length, refl};
 ghost use Rattle.rubis_shadow.specs.Limits.{IsAsk};
 ghost use Rattle.rubis_message.specs.Grammar.{IsPacket, IsRequest};
 ghost use Rattle.rubis_message.specs.Message.{sites_of};
@@ -17,7 +17,7 @@ use crate::fault::OutOfMemory;
 use crate::replies::{
     write_arrival, write_asked, write_listed, write_passed, write_refusal, write_taken,
 };
-use crate::service::Service;
+use crate::service::{Course, Service};
 use crate::sink::Sink;
 use rubis_message::{Message, Packet, ReadFault, Request, Token, read_packet, read_request};
 use rubis_replica::{Config, Fault, Site};
@@ -221,7 +221,12 @@ impl Desk {
 }
 
 impl<T> Service<T> for Desk {
-    ghost text = { λ s n records. rows_text (answers s.site.place s.site.state n records) };
+    ghost account = { λ s n. record {
+        text = λ ending records. rows_text (answers s.site.place s.site.state n records);
+        read = λ records. length records;
+    } };
+
+    ghost reads_none = { λ s n. refl };
 
     fn answer(
         &mut self,
@@ -229,11 +234,16 @@ impl<T> Service<T> for Desk {
         number: u64,
         fields: &Fields,
         sink: &mut Sink,
-    ) -> Result<(), OutOfMemory> {
-        self.respond(number, fields, sink)
+    ) -> Result<Course, OutOfMemory> {
+        self.respond(number, fields, sink)?;
+        Ok(Course::GoesOn)
     }
 
     fn settle(&mut self, _rt: &T, _sink: &mut Sink) -> Result<(), OutOfMemory> {
+        Ok(())
+    }
+
+    fn finish(&mut self, _rt: &T, _sink: &mut Sink) -> Result<(), OutOfMemory> {
         Ok(())
     }
 }

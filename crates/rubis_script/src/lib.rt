@@ -15,7 +15,7 @@ pub use desk::Desk;
 pub use fault::{Count, OutOfMemory, RunFault};
 pub use record_list::Records;
 pub use run::run_upto;
-pub use service::Service;
+pub use service::{Course, Service};
 pub use sink::Sink;
 pub use site_run::{run_site, run_site_upto};
 

@@ -1,18 +1,51 @@
 // The run from bytes to bytes.
 
-ghost use Rattle.std.specs.Prelude.{◌≡◌, ◌≤◌, ◌<◌, ◌+◌, ◌-◌, ◌⊎◌, [], ℕ, List, Option, length, take, IfErr, IfOk, IfSome, IsErrOf, OnOk};
-ghost use Rattle.std.specs.Bool.{MatchBool};
+ghost use Rattle.std.specs.Prelude.{◌≡◌, ◌<◌, ◌+◌, ◌++◌, ◌^◌, ◌⊎◌, [], ℕ, List, Option, take, IfErr, IfOk, IfSome, IsErrOf, OnOk, MatchOption};
 ghost use Rattle.std.specs.Io.KnownBytes.{Appends};
-ghost use Rattle.rubis_script.specs.Progress.{Progress, Wrote, WroteFront};
+ghost use Rattle.rubis_script.specs.Accounts.{Account};
+ghost use Rattle.rubis_script.specs.Accounts.Ending.{AtEnd, Cut};
+ghost use Rattle.rubis_script.specs.Progress.{Drained, IsCut, IsDone, IsTooLong, Progress, WroteFront};
 ghost use Rattle.rubis_script.specs.Reading.{Gives};
 ghost use Rattle.rubis_script.specs.Text.{records_of};
 
 use super::fault::{Count, RunFault};
 use super::record_list::Records;
-use super::service::Service;
+use super::service::{Course, Service};
 use super::sink::Sink;
 use std::alloc::Global;
 use std::io::{Read, Write};
+
+/// Writes out what is held, and what the service holds back.
+fn settle<T, S: Service<T>, W: Write>(
+    rt: &T,
+    service: &mut S,
+    sink: &mut Sink,
+    writer: &mut W,
+) -> Result<(), RunFault>
+    ensures drains { OnOk result ((number : ℕ) → Drained (S.account service.old number) (S.account service.new number) sink.old (W.contents writer.old) (W.contents writer.new)) }
+    ensures none { OnOk result ((number : ℕ) → (S.account service.new number).text Cut [] ≡ []) }
+    ensures empty { OnOk result (sink.new ≡ []) }
+    ensures memory { IsErrOf result RunFault.Memory → W.contents writer.new ≡ W.contents writer.old }
+    ensures faults { IfErr result (λ e. (e ≡ RunFault.Write) ⊎ (e ≡ RunFault.Memory)) }
+{
+    service.settle(rt, sink)?;
+    sink.close(writer)
+}
+
+/// Writes out what is held, and what is left to be written where the input ends.
+fn finish<T, S: Service<T>, W: Write>(
+    rt: &T,
+    service: &mut S,
+    sink: &mut Sink,
+    writer: &mut W,
+) -> Result<(), RunFault>
+    ensures ok { OnOk result ((number : ℕ) → Appends (W.contents writer.old) (W.contents writer.new) (sink.old ++ (S.account service.old number).text AtEnd [])) }
+    ensures memory { IsErrOf result RunFault.Memory → W.contents writer.new ≡ W.contents writer.old }
+    ensures faults { IfErr result (λ e. (e ≡ RunFault.Write) ⊎ (e ≡ RunFault.Memory)) }
+{
+    service.finish(rt, sink)?;
+    sink.close(writer)
+}
 
 /// Writes out what was answered, where to go on is to wait for the reader or where there is much of it.
 fn write_out<T, S: Service<T>, R: Read, W: Write>(
@@ -22,17 +55,14 @@ fn write_out<T, S: Service<T>, R: Read, W: Write>(
     sink: &mut Sink,
     writer: &mut W,
 ) -> Result<(), RunFault>
-    ensures goes { OnOk result ((all : List (List (List ℕ)) → List ℕ) (old : Option (List ℕ)) (number : ℕ) (input : List ℕ)
-        → Progress R.remaining records.now all (S.text service.old number) old (W.contents writer.old) sink.old number input
-        → Progress R.remaining records.now all (S.text service.new number) old (W.contents writer.new) sink.new number input) }
-    ensures memory { IsErrOf result RunFault.Memory → (all : List (List (List ℕ)) → List ℕ) (old : Option (List ℕ)) (number : ℕ) (input : List ℕ)
-        → Progress R.remaining records.now all (S.text service.old number) old (W.contents writer.old) sink.old number input
-        → WroteFront all old (W.contents writer.new) (records_of input) }
+    ensures goes { OnOk result ((all : Account) (old : Option (List ℕ)) (number : ℕ) (input : List ℕ)
+        → Progress R.remaining records.now all (S.account service.old number) old (W.contents writer.old) sink.old number input
+        → Progress R.remaining records.now all (S.account service.new number) old (W.contents writer.new) sink.new number input) }
+    ensures memory { IsErrOf result RunFault.Memory → W.contents writer.new ≡ W.contents writer.old }
     ensures faults { IfErr result (λ e. (e ≡ RunFault.Write) ⊎ (e ≡ RunFault.Memory)) }
 {
     if records.is_used_up() {
-        service.settle(rt, sink)?;
-        return sink.close(writer);
+        return settle(rt, service, sink, writer);
     }
     if sink.is_full() {
         return sink.drain(writer);
@@ -40,55 +70,65 @@ fn write_out<T, S: Service<T>, R: Read, W: Write>(
     Ok(())
 }
 
-/// Answers the next record, which has this number, and says whether there was one.
+/// Answers the record behind so many, if there is one. `None` where the run goes on, and else how many records were
+/// read.
 fn turn<T, S: Service<T>, R: Read, W: Write>(
     rt: &T,
     records: &mut Records<R>,
     service: &mut S,
     sink: &mut Sink,
     writer: &mut W,
-    number: u64,
-) -> Result<bool, RunFault>
-    ensures goes { IfOk result (λ found. (all : List (List (List ℕ)) → List ℕ) (old : Option (List ℕ)) (input : List ℕ)
-        → Progress R.remaining records.old all (S.text service.old number) old (W.contents writer.old) sink.old number input
-        → MatchBool found
-        (Progress R.remaining records.new all (S.text service.new (number + 1)) old (W.contents writer.new) sink.new (number + 1) input)
-        (Wrote all old (W.contents writer.new) sink.new (records_of input) × (length (records_of input) + 1 ≡ number))) }
-    ensures read { IsErrOf result RunFault.Read → (all : List (List (List ℕ)) → List ℕ) (old : Option (List ℕ)) (input : List ℕ)
-        → Progress R.remaining records.old all (S.text service.old number) old (W.contents writer.old) sink.old number input
-        → Wrote all old (W.contents writer.new) sink.new (take (number - 1) (records_of input))
-        × WroteFront all old (W.contents writer.new) (records_of input) }
-    ensures memory { IsErrOf result RunFault.Memory → (all : List (List (List ℕ)) → List ℕ) (old : Option (List ℕ)) (input : List ℕ)
-        → Progress R.remaining records.old all (S.text service.old number) old (W.contents writer.old) sink.old number input
-        → WroteFront all old (W.contents writer.new) (records_of input) }
+    answered: u64,
+) -> Result<Option<Count>, RunFault>
+    requires { answered + 1 < 2 ^ 64 }
+    ensures goes { IfOk result (λ over. (all : Account) (old : Option (List ℕ)) (input : List ℕ)
+        → Progress R.remaining records.old all (S.account service.old (answered + 1)) old (W.contents writer.old) sink.old (answered + 1) input
+        → MatchOption over
+        (Progress R.remaining records.new all (S.account service.new (answered + 1 + 1)) old (W.contents writer.new) sink.new (answered + 1 + 1) input)
+        (λ count. IsDone all (answered + 1) old (W.contents writer.new) (records_of input) count.records)) }
+    ensures read { IsErrOf result RunFault.Read → (all : Account) (old : Option (List ℕ)) (input : List ℕ)
+        → Progress R.remaining records.old all (S.account service.old (answered + 1)) old (W.contents writer.old) sink.old (answered + 1) input
+        → Appends old (W.contents writer.new) (all.text Cut (take answered (records_of input))) }
+    ensures memory { IsErrOf result RunFault.Memory → (all : Account) (old : Option (List ℕ)) (input : List ℕ)
+        → Progress R.remaining records.old all (S.account service.old (answered + 1)) old (W.contents writer.old) sink.old (answered + 1) input
+        → WroteFront (all.text AtEnd) old (W.contents writer.new) (records_of input) }
     ensures faults { IfErr result (λ e. (e ≡ RunFault.Read) ⊎ (e ≡ RunFault.Write) ⊎ (e ≡ RunFault.Memory)) }
 {
     match records.advance() {
         Ok(true) => {}
         Ok(false) => {
-            if service.settle(rt, sink).is_err() {
-                return Err(RunFault::Memory);
+            if let Err(fault) = finish(rt, service, sink, writer) {
+                return Err(fault);
             }
-            return Ok(false);
+            return Ok(Some(Count { records: answered }));
         }
-        Err(RunFault::Read) => {
-            if service.settle(rt, sink).is_err() {
-                return Err(RunFault::Memory);
+        Err(fault) => {
+            if let Err(worse) = settle(rt, service, sink, writer) {
+                return Err(worse);
             }
-            return Err(RunFault::Read);
+            return Err(fault);
         }
-        Err(fault) => return Err(fault),
     }
-    if service.answer(rt, number, records.fields(), sink).is_err() {
+    let number = answered + 1;
+    let Ok(course) = service.answer(rt, number, records.fields(), sink) else {
         return Err(RunFault::Memory);
+    };
+    match course {
+        Course::Ends => {
+            if let Err(fault) = sink.close(writer) {
+                return Err(fault);
+            }
+            return Ok(Some(Count { records: number }));
+        }
+        Course::GoesOn => {}
     }
     if let Err(fault) = write_out(rt, records, service, sink, writer) {
         return Err(fault);
     }
-    Ok(true)
+    Ok(None)
 }
 
-/// Answers records until there is none, or up to `limit` of them, and writes out what the sink holds.
+/// Answers records until the run ends, or up to `limit` of them, and writes out what the sink holds.
 fn serve<T, S: Service<T>, R: Read, W: Write>(
     rt: &T,
     records: &mut Records<R>,
@@ -98,57 +138,46 @@ fn serve<T, S: Service<T>, R: Read, W: Write>(
     limit: u64,
 ) -> Result<Count, RunFault>
     ensures ok { IfOk result (λ count. (input : List ℕ) → Gives R.remaining records.old (records_of input) → sink.old ≡ []
-        → Appends (W.contents writer.old) (W.contents writer.new) (S.text service.old 1 (records_of input))
-        × (count.records ≡ length (records_of input)) × (count.records ≤ limit)) }
+        → IsDone (S.account service.old 1) limit (W.contents writer.old) (W.contents writer.new) (records_of input) count.records) }
     ensures too_long { IsErrOf result RunFault.TooLong → (input : List ℕ) → Gives R.remaining records.old (records_of input) → sink.old ≡ []
-        → Appends (W.contents writer.old) (W.contents writer.new) (S.text service.old 1 (take limit (records_of input)))
-        × (limit < length (records_of input)) }
+        → IsTooLong (S.account service.old 1) limit (W.contents writer.old) (W.contents writer.new) (records_of input) }
     ensures read { IsErrOf result RunFault.Read → (input : List ℕ) → Gives R.remaining records.old (records_of input) → sink.old ≡ []
-        → (k : ℕ) × Appends (W.contents writer.old) (W.contents writer.new) (S.text service.old 1 (take k (records_of input))) }
+        → IsCut (S.account service.old 1) (W.contents writer.old) (W.contents writer.new) (records_of input) }
     ensures memory { IsErrOf result RunFault.Memory → (input : List ℕ) → Gives R.remaining records.old (records_of input) → sink.old ≡ []
-        → WroteFront (S.text service.old 1) (W.contents writer.old) (W.contents writer.new) (records_of input) }
+        → WroteFront ((S.account service.old 1).text AtEnd) (W.contents writer.old) (W.contents writer.new) (records_of input) }
 {
     'turns: for n in 0..limit {
-        match turn(rt, records, service, sink, writer, n + 1) {
-            Ok(true) => {}
-            Ok(false) => {
-                if let Err(fault) = sink.close(writer) {
-                    return Err(fault);
-                }
-                return Ok(Count { records: n });
-            }
-            Err(RunFault::Read) => {
-                if let Err(fault) = sink.close(writer) {
-                    return Err(fault);
-                }
-                return Err(RunFault::Read);
-            }
+        match turn(rt, records, service, sink, writer, n) {
+            Ok(None) => {}
+            Ok(Some(count)) => return Ok(count),
             Err(fault) => return Err(fault),
         }
     }
-    let next = records.advance();
-    if service.settle(rt, sink).is_err() {
-        return Err(RunFault::Memory);
-    }
-    if let Err(fault) = sink.close(writer) {
-        return Err(fault);
-    }
-    match next {
-        Ok(false) => Ok(Count { records: limit }),
-        Ok(true) => Err(RunFault::TooLong),
-        Err(fault) => Err(fault),
+    match records.advance() {
+        Ok(false) => match finish(rt, service, sink, writer) {
+            Ok(()) => Ok(Count { records: limit }),
+            Err(fault) => Err(fault),
+        },
+        Ok(true) => match settle(rt, service, sink, writer) {
+            Ok(()) => Err(RunFault::TooLong),
+            Err(fault) => Err(fault),
+        },
+        Err(fault) => match settle(rt, service, sink, writer) {
+            Ok(()) => Err(fault),
+            Err(worse) => Err(worse),
+        },
     }
 }
 
-/// Answers the records of `reader` until its end, or up to `limit` of them, and appends the text to `writer`.
-/// Where all that the reader gave so far was used up, the answers are written out before it is asked for more. The service
-/// is lent, so that a program can let it go as it likes.
+/// Answers the records of `reader` until its end, or until the service ends the run, or up to `limit` of them, and
+/// appends the text to `writer`. Where all that the reader gave so far was used up, the answers are written out before it
+/// is asked for more. The service is lent, so that a program can let it go as it likes.
 ///
 /// # Errors
 ///
 /// `Read` where the reader failed: the first records are answered then, as if there were no more. `Write` where the
 /// writer failed. `Memory` where there was not enough: what was written is the front of the whole text. `TooLong`
-/// where the input has more than `limit` records: the first `limit` are answered then.
+/// where the input has more than `limit` records and none of the first `limit` ends the run: these are answered then.
 pub fn run_upto<T, S: Service<T>, R: Read + Drop, W: Write>(
     rt: &T,
     alloc: Global,
@@ -158,15 +187,13 @@ pub fn run_upto<T, S: Service<T>, R: Read + Drop, W: Write>(
     limit: u64,
 ) -> Result<Count, RunFault>
     ensures ok { IfOk result (λ count. IfSome (R.remaining reader) (λ input.
-        Appends (W.contents writer.old) (W.contents writer.new) (S.text service.old 1 (records_of input))
-        × (count.records ≡ length (records_of input)) × (count.records ≤ limit))) }
+        IsDone (S.account service.old 1) limit (W.contents writer.old) (W.contents writer.new) (records_of input) count.records)) }
     ensures too_long { IsErrOf result RunFault.TooLong → IfSome (R.remaining reader) (λ input.
-        Appends (W.contents writer.old) (W.contents writer.new) (S.text service.old 1 (take limit (records_of input)))
-        × (limit < length (records_of input))) }
+        IsTooLong (S.account service.old 1) limit (W.contents writer.old) (W.contents writer.new) (records_of input)) }
     ensures read { IsErrOf result RunFault.Read → IfSome (R.remaining reader) (λ input.
-        (k : ℕ) × Appends (W.contents writer.old) (W.contents writer.new) (S.text service.old 1 (take k (records_of input)))) }
+        IsCut (S.account service.old 1) (W.contents writer.old) (W.contents writer.new) (records_of input)) }
     ensures memory { IsErrOf result RunFault.Memory → IfSome (R.remaining reader) (λ input.
-        WroteFront (S.text service.old 1) (W.contents writer.old) (W.contents writer.new) (records_of input)) }
+        WroteFront ((S.account service.old 1).text AtEnd) (W.contents writer.old) (W.contents writer.new) (records_of input)) }
 {
     let mut records = Records::new(alloc, reader);
     let mut sink = Sink::new(alloc);

@@ -1,29 +1,47 @@
 // What answers records.
 
-ghost use Rattle.std.specs.Prelude.{◌≡◌, ◌++◌, ◌∷◌, ◌+◌, [], ℕ, List, OnOk};
+ghost use Rattle.std.specs.Prelude.{◌≡◌, ◌++◌, ◌+◌, [], ℕ, IfOk, OnOk};
+ghost use Rattle.rubis_script.specs.Accounts.{Account, Answers, Keeps};
+ghost use Rattle.rubis_script.specs.Accounts.Ending.{AtEnd, Cut};
 
 use super::fault::OutOfMemory;
 use super::sink::Sink;
 use rubis_schema::Fields;
 
+/// Whether a run goes on behind a record.
+#[derive(Clone, Copy, PartialEq, Eq, Debug)]
+pub enum Course {
+    /// The next record is answered.
+    GoesOn,
+    /// The run ends here, whatever follows.
+    Ends,
+}
+
 /// A service that answers records, one after the other. `T` is the runtime that it is lent.
 pub trait Service<T> {
-    /// The text that is still to be written where these records follow, the first of which has this number.
-    ghost text: { Self → ℕ → List (List (List ℕ)) → List ℕ };
+    /// What is still to be made of the records that follow, the first of which has this number.
+    ghost account: { Self → ℕ → Account };
 
-    /// Answers the record with this number. What it writes and what it holds back are together the text.
+    /// Answers the record with this number, and says whether the run goes on. What it writes and what is still to be
+    /// written are together the text; where the run ends here, what it writes is all of it.
     fn answer(
         &mut self,
         rt: &T,
         number: u64,
         fields: &Fields,
         sink: &mut Sink,
-    ) -> Result<(), OutOfMemory>
-        ensures { OnOk result ((more : List (List (List ℕ)))
-            → sink.old ++ text self.old number (fields.now ∷ more) ≡ sink.new ++ text self.new (number + 1) more) };
+    ) -> Result<Course, OutOfMemory>
+        ensures { IfOk result (λ course. Answers course (account self.old number) (account self.new (number + 1)) sink.old sink.new fields.now) };
 
-    /// Writes what is held back, so that nothing is left to be written where no record follows.
+    /// Writes what is held back, so that nothing is left to be written where the run is cut short here.
     fn settle(&mut self, rt: &T, sink: &mut Sink) -> Result<(), OutOfMemory>
-        ensures keeps { OnOk result ((n : ℕ) (more : List (List (List ℕ))) → sink.old ++ text self.old n more ≡ sink.new ++ text self.new n more) }
-        ensures none { OnOk result ((n : ℕ) → text self.new n [] ≡ []) };
+        ensures keeps { OnOk result ((number : ℕ) → Keeps (account self.old number) (account self.new number) sink.old sink.new) }
+        ensures none { OnOk result ((number : ℕ) → (account self.new number).text Cut [] ≡ []) };
+
+    /// Writes what is left to be written where the input ends here.
+    fn finish(&mut self, rt: &T, sink: &mut Sink) -> Result<(), OutOfMemory>
+        ensures { OnOk result ((number : ℕ) → sink.old ++ (account self.old number).text AtEnd [] ≡ sink.new) };
+
+    // Of no records none is read.
+    ghost reads_none: { (s : Self) (number : ℕ) → (account s number).read [] ≡ 0 };
 }

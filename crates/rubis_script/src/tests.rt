@@ -1,8 +1,8 @@
-ghost use Rattle.std.specs.Prelude.{◌∷◌, ◌++◌, codes, map};
+ghost use Rattle.std.specs.Prelude.{◌≡◌, ◌∷◌, ◌++◌, None, OnOk, codes, length, map, refl};
 ghost use Rattle.std.specs.Option.{option_to_list};
 ghost use Rattle.rubis_script.specs.Text.{rows_text};
 
-use crate::{Count, OutOfMemory, RunFault, Service, Sink, run_upto};
+use crate::{Count, Course, OutOfMemory, RunFault, Service, Sink, run_upto};
 use rubis_schema::Fields;
 use std::cell::Cell;
 use std::io;
@@ -23,10 +23,25 @@ impl Echo {
     fn new() -> Echo {
         Echo { last: None }
     }
+
+    fn write_last(&mut self, sink: &mut Sink) -> Result<(), OutOfMemory>
+        ensures held { OnOk result (self.new.last ≡ None) }
+        ensures text { OnOk result (sink.new ≡ sink.old ++ rows_text (map (λ fields. codes "got" ∷ fields) (option_to_list self.old.last))) }
+    {
+        if let Some(last) = self.last.take() {
+            sink.write_after(&[b"got".as_slice()], &last)?;
+        }
+        Ok(())
+    }
 }
 
 impl<T> Service<T> for Echo {
-    ghost text = { λ s n records. rows_text (map (λ fields. codes "got" ∷ fields) (option_to_list s.last ++ records)) };
+    ghost account = { λ s n. record {
+        text = λ ending records. rows_text (map (λ fields. codes "got" ∷ fields) (option_to_list s.last ++ records));
+        read = λ records. length records;
+    } };
+
+    ghost reads_none = { λ s n. refl };
 
     fn answer(
         &mut self,
@@ -34,18 +49,19 @@ impl<T> Service<T> for Echo {
         _number: u64,
         fields: &Fields,
         sink: &mut Sink,
-    ) -> Result<(), OutOfMemory> {
-        if let Some(last) = self.last.replace(fields.copy()?) {
-            sink.write_after(&[b"got".as_slice()], &last)?;
-        }
-        Ok(())
+    ) -> Result<Course, OutOfMemory> {
+        let next = fields.copy()?;
+        self.write_last(sink)?;
+        self.last = Some(next);
+        Ok(Course::GoesOn)
     }
 
     fn settle(&mut self, _rt: &T, sink: &mut Sink) -> Result<(), OutOfMemory> {
-        if let Some(last) = self.last.take() {
-            sink.write_after(&[b"got".as_slice()], &last)?;
-        }
-        Ok(())
+        self.write_last(sink)
+    }
+
+    fn finish(&mut self, _rt: &T, sink: &mut Sink) -> Result<(), OutOfMemory> {
+        self.write_last(sink)
     }
 }
 

@@ -1,72 +1,62 @@
-use Rattle.std.proofs.Common.{◌≡◌, ◌+◌, ◌-◌, take, true, false, rules, refl, subst, arith}
-use Rattle.std.specs.Io.KnownBytes.{Appends}
-use Rattle.rubis_script.specs.Text.{records_of}
-use Rattle.rubis_script.specs.declared.fault.RunFault.TheVariants as fault
+use Rattle.std.proofs.Common.{◌≡◌, ◌+◌, ◌≤◌, true, false, rules, refl, arith}
 use Rattle.std.specs.Result.{is_err}
 use Rattle.csv.proofs.ReadFacts.{on-ok}
-use Rattle.rubis_script.proofs.RunFacts.{front-same, progress-answered, progress-drained, progress-end, progress-front, progress-more, progress-settled, progress-start, takes-at, wrote-drained, wrote-front}
+use Rattle.rubis_script.specs.declared.fault.RunFault.TheVariants as fault
+use Rattle.rubis_script.proofs.RunFacts.{progress-cut, progress-drained, progress-end, progress-front, progress-more, progress-start, progress-stays, progress-too_long, takes-at}
 use Rattle.rubis_script.proofs.run.serve.Goals as goal
 
 pub turns-init : goal.turns-init
 turns-init g c input holds empty = rw empty (progress-start _ _ _ _ input holds)
 
-pub returns-in-Err-close-clause-memory : goal.returns-in-Err-close-clause-memory
-returns-in-Err-close-clause-memory g c e input holds empty =
-    let h = c.in-Ok-false.ensures.goes (g.S.Service.text c.args.service.now 1) (g.W.Write.contents c.args.writer.now) input (c.turns.invariant input holds empty) in
+pub returns-in-Ok-clause-too_long : goal.returns-in-Ok-clause-too_long
+returns-in-Ok-clause-too_long g c e input holds empty =
+    let all = g.S.Service.account c.args.service.now 1 in
+    let p = c.turns.invariant input holds empty in
+    let good : is_err c.settle.result ≡ false = search rules in
+    let more = g.S.Service.account c.settle.new.service (c.turns.n + 1) in
+    let found : c.in-Ok-true.field-0 ≡ true = search rules in
+    let next = progress-more _ _ c.advance.new.self _ _ _ _ _ _ input p (takes-at _ c.turns.records c.advance.new.self _ _ found c.in-Ok-true.ensures.takes) in
+    let limit : c.turns.n ≡ c.args.limit = omega arith in
+    progress-too_long _ c.turns.records c.advance.new.self all more _ _ _ c.args.limit input
+    (progress-drained _ _ all _ _ _ _ _ _ _ input p ((on-ok _ good c.settle.ensures.drains) (c.turns.n + 1)))
+    ((on-ok _ good c.settle.ensures.none) (c.turns.n + 1)) (g.met.S.Service.reads_none c.settle.new.service (c.turns.n + 1)) (omega arith) (omega (arith, next))
+
+pub returns-in-Err-settle-clause-memory : goal.returns-in-Err-settle-clause-memory
+returns-in-Err-settle-clause-memory g c e input holds empty =
+    let memory : c.in-Err-settle.fault ≡ fault.Memory = cc e in
+    progress-stays _ _ _ _ _ _ _ _ _ input (c.turns.invariant input holds empty) (c.in-Err-settle.ensures.memory (rw memory refl))
+
+pub returns-in-Ok-finish-clause-ok : goal.returns-in-Ok-finish-clause-ok
+returns-in-Ok-finish-clause-ok g c input holds empty =
+    let p = c.turns.invariant input holds empty in
+    let good : is_err c.finish.result ≡ false = search rules in
     let none : c.in-Ok-false.field-0 ≡ false = search rules in
-    let w = rw none at h in
-    let memory : c.in-Err-close.fault ≡ fault.Memory = cc e in
-    wrote-front (g.S.Service.text c.args.service.now 1) _ _ _ _ (records_of input) w.0 (c.in-Err-close.ensures.memory (rw memory refl))
+    progress-end _ _ c.advance.new.self _ _ _ _ _ _ _ c.args.limit c.args.limit input p (takes-at _ c.turns.records c.advance.new.self _ _ none c.in-Ok-false.ensures.takes)
+    ((on-ok _ good c.finish.ensures.ok) (c.turns.n + 1)) (g.met.S.Service.reads_none c.turns.service (c.turns.n + 1)) (omega arith) (omega arith)
 
-pub returns-in-Err-close-2-clause-memory : goal.returns-in-Err-close-2-clause-memory
-returns-in-Err-close-2-clause-memory g c e input holds empty =
-    let read : c.in-Err-Read.field-0 ≡ fault.Read = search rules in
-    let h = c.in-Err-Read.ensures.read (rw read refl) (g.S.Service.text c.args.service.now 1) (g.W.Write.contents c.args.writer.now) input (c.turns.invariant input holds empty) in
-    let memory : c.in-Err-close-2.fault ≡ fault.Memory = cc e in
-    front-same (g.S.Service.text c.args.service.now 1) _ _ _ (records_of input) h.1 (c.in-Err-close-2.ensures.memory (rw memory refl))
+pub returns-in-Err-finish-clause-memory : goal.returns-in-Err-finish-clause-memory
+returns-in-Err-finish-clause-memory g c e input holds empty =
+    let memory : c.in-Err-finish.fault ≡ fault.Memory = cc e in
+    progress-stays _ _ _ _ _ _ _ _ _ input (c.turns.invariant input holds empty) (c.in-Err-finish.ensures.memory (rw memory refl))
 
-pub returns-in-Ok-true-next-clause-too_long : goal.returns-in-Ok-true-next-clause-too_long
-returns-in-Ok-true-next-clause-too_long g c e input holds empty =
+pub returns-in-Ok-settle-clause-read : goal.returns-in-Ok-settle-clause-read
+returns-in-Ok-settle-clause-read g c e input holds empty =
+    let all = g.S.Service.account c.args.service.now 1 in
     let p = c.turns.invariant input holds empty in
-    let all = g.S.Service.text c.args.service.now 1 in
-    let out : Appends (g.W.Write.contents c.turns.writer) (g.W.Write.contents c.close-2.new.writer) c.settle.new.sink = search rules in
-    let good : is_err c.settle.result ≡ false = search rules in
-    let ends = (on-ok _ good c.settle.ensures.none) (c.turns.n + 1) in
-    let q = progress-settled _ _ (g.S.Service.text c.args.service.now 1) _ (g.S.Service.text c.settle.new.self (c.turns.n + 1)) _ _ _ c.settle.new.sink _ input p (λ m. (on-ok _ good c.settle.ensures.keeps) (c.turns.n + 1) m) in
-    let found : c.in-Ok-true-next.field-0 ≡ true = search rules in
-    let limit : c.turns.n + 1 - 1 ≡ c.args.limit = omega arith in
-    let more = progress-more _ _ c.advance-next.new.self _ _ _ _ _ _ input p (takes-at _ c.turns.records c.advance-next.new.self _ _ found c.in-Ok-true-next.ensures.takes) in
-    let answered = progress-answered _ _ _ _ _ _ _ _ input q ends in
-    let told = wrote-drained all _ _ _ _ (take (c.turns.n + 1 - 1) (records_of input)) answered out in
-    (subst (λ k. Appends (g.W.Write.contents c.args.writer.now) (g.W.Write.contents c.close-2.new.writer) (g.S.Service.text c.args.service.now 1 (take k (records_of input)))) limit told, omega (arith, more))
+    let good : is_err c.settle-in-Err-advance.result ≡ false = search rules in
+    (c.turns.n, progress-cut _ c.turns.records all (g.S.Service.account c.settle-in-Err-advance.new.service (c.turns.n + 1)) _ _ _ c.turns.n input
+    (progress-drained _ _ all _ _ _ _ _ _ _ input p ((on-ok _ good c.settle-in-Err-advance.ensures.drains) (c.turns.n + 1)))
+    ((on-ok _ good c.settle-in-Err-advance.ensures.none) (c.turns.n + 1)) refl)
 
-pub returns-in-Ok-false-next-clause-ok : goal.returns-in-Ok-false-next-clause-ok
-returns-in-Ok-false-next-clause-ok g c input holds empty =
+pub returns-in-Ok-settle-clause-memory : goal.returns-in-Ok-settle-clause-memory
+returns-in-Ok-settle-clause-memory g c e input holds empty =
+    let all = g.S.Service.account c.args.service.now 1 in
     let p = c.turns.invariant input holds empty in
-    let all = g.S.Service.text c.args.service.now 1 in
-    let out : Appends (g.W.Write.contents c.turns.writer) (g.W.Write.contents c.close-2.new.writer) c.settle.new.sink = search rules in
-    let good : is_err c.settle.result ≡ false = search rules in
-    let ends = (on-ok _ good c.settle.ensures.none) (c.turns.n + 1) in
-    let q = progress-settled _ _ (g.S.Service.text c.args.service.now 1) _ (g.S.Service.text c.settle.new.self (c.turns.n + 1)) _ _ _ c.settle.new.sink _ input p (λ m. (on-ok _ good c.settle.ensures.keeps) (c.turns.n + 1) m) in
-    let none : c.in-Ok-false-next.field-0 ≡ false = search rules in
-    let done = progress-end _ _ c.advance-next.new.self _ _ _ _ _ _ input q (takes-at _ c.turns.records c.advance-next.new.self _ _ none c.in-Ok-false-next.ensures.takes) ends in
-    (wrote-drained all _ _ _ _ (records_of input) done.0 out, omega (arith, done.1), omega arith)
+    let good : is_err c.settle-in-Err-advance.result ≡ false = search rules in
+    progress-front _ c.turns.records all (g.S.Service.account c.settle-in-Err-advance.new.service (c.turns.n + 1)) _ _ _ _ input
+    (progress-drained _ _ all _ _ _ _ _ _ _ input p ((on-ok _ good c.settle-in-Err-advance.ensures.drains) (c.turns.n + 1)))
 
-pub returns-in-Err-next-clause-read : goal.returns-in-Err-next-clause-read
-returns-in-Err-next-clause-read g c e input holds empty =
-    let p = c.turns.invariant input holds empty in
-    let all = g.S.Service.text c.args.service.now 1 in
-    let out : Appends (g.W.Write.contents c.turns.writer) (g.W.Write.contents c.close-2.new.writer) c.settle.new.sink = search rules in
-    let good : is_err c.settle.result ≡ false = search rules in
-    let ends = (on-ok _ good c.settle.ensures.none) (c.turns.n + 1) in
-    let q = progress-settled _ _ (g.S.Service.text c.args.service.now 1) _ (g.S.Service.text c.settle.new.self (c.turns.n + 1)) _ _ _ c.settle.new.sink _ input p (λ m. (on-ok _ good c.settle.ensures.keeps) (c.turns.n + 1) m) in
-    (c.turns.n + 1 - 1, wrote-drained all _ _ _ _ (take (c.turns.n + 1 - 1) (records_of input)) (progress-answered _ _ _ _ _ _ _ _ input q ends) out)
-
-pub returns-in-Err-next-clause-memory : goal.returns-in-Err-next-clause-memory
-returns-in-Err-next-clause-memory g c e input holds empty =
-    let p = c.turns.invariant input holds empty in
-    let out : Appends (g.W.Write.contents c.turns.writer) (g.W.Write.contents c.close-2.new.writer) c.settle.new.sink = search rules in
-    let good : is_err c.settle.result ≡ false = search rules in
-    let ends = (on-ok _ good c.settle.ensures.none) (c.turns.n + 1) in
-    let q = progress-settled _ _ (g.S.Service.text c.args.service.now 1) _ (g.S.Service.text c.settle.new.self (c.turns.n + 1)) _ _ _ c.settle.new.sink _ input p (λ m. (on-ok _ good c.settle.ensures.keeps) (c.turns.n + 1) m) in
-    progress-front _ _ _ _ _ _ _ _ input (progress-drained _ _ _ _ _ _ _ _ _ input q out)
+pub returns-in-Err-settle-2-clause-memory : goal.returns-in-Err-settle-2-clause-memory
+returns-in-Err-settle-2-clause-memory g c e input holds empty =
+    let memory : c.in-Err-settle-2.worse ≡ fault.Memory = cc e in
+    progress-stays _ _ _ _ _ _ _ _ _ input (c.turns.invariant input holds empty) (c.in-Err-settle-2.ensures.memory (rw memory refl))

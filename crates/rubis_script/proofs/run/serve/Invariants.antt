@@ -6,5 +6,5 @@ use Rattle.rubis_script.proofs.run.serve.Given as goal
 
 abbrev pub invariant-turns : goal.invariant-turns
 invariant-turns g l = (input : List ℕ) → Gives g.R.Read.remaining l.fn.records (records_of input) → l.fn.sink ≡ []
-    → Progress g.R.Read.remaining l.records (g.S.Service.text l.fn.service 1) (g.S.Service.text l.service (l.n + 1))
+    → Progress g.R.Read.remaining l.records (g.S.Service.account l.fn.service 1) (g.S.Service.account l.service (l.n + 1))
     (g.W.Write.contents l.fn.writer) (g.W.Write.contents l.writer) l.sink (l.n + 1) input

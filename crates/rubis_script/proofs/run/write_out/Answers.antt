@@ -1,21 +1,14 @@
-use Rattle.std.proofs.Common.{◌≡◌, false, rules}
-use Rattle.std.specs.Result.{is_err}
-use Rattle.std.proofs.lemmas.Result.{on_ok_weaker}
-use Rattle.csv.proofs.ReadFacts.{on-ok}
-use Rattle.rubis_script.proofs.RunFacts.{progress-drained, progress-settled}
+use Rattle.std.proofs.Common.{refl}
+use Rattle.rubis_script.proofs.RunFacts.{on_ok, on_ok_both, progress-drained}
 use Rattle.rubis_script.proofs.run.write_out.Goals as goal
 
 pub returns-then-is_used_up-clause-goes : goal.returns-then-is_used_up-clause-goes
 returns-then-is_used_up-clause-goes g c =
-    let good : is_err c.settle.result ≡ false = search rules in
-    let records = c.args.records.now in
-    on_ok_weaker c.close.result (λ out all old number input p.
-    let after = g.S.Service.text c.settle.new.self number in
-    let q = progress-settled g.R.Read.remaining records all (g.S.Service.text c.args.service.now number) after old (g.W.Write.contents c.args.writer.now)
-    c.args.sink.now c.settle.new.sink number input p (λ m. (on-ok _ good c.settle.ensures.keeps) number m) in
-    rw c.close.ensures.empty (progress-drained g.R.Read.remaining records all after old (g.W.Write.contents c.args.writer.now) (g.W.Write.contents c.close.new.writer)
-    c.settle.new.sink number input q out)) c.close.ensures.ok
+    on_ok_both c.settle.result (λ drains empty all old number input p.
+    rw empty (progress-drained _ _ all _ _ old _ _ _ _ input p (drains number))) c.settle.ensures.drains c.settle.ensures.empty
 
 pub returns-then-is_full-clause-goes : goal.returns-then-is_full-clause-goes
 returns-then-is_full-clause-goes g c =
-    on_ok_weaker c.drain.result (λ out all old number input p. rw c.drain.ensures.empty (progress-drained _ _ all _ old _ _ _ _ input p out)) c.drain.ensures.ok
+    on_ok_both c.drain.result (λ out empty all old number input p.
+    rw empty (progress-drained _ _ all _ _ old _ _ _ _ input p (record { out = c.args.sink.now; appended = out; told = λ e m. refl; counted = λ m. refl })))
+    c.drain.ensures.ok (on_ok c.drain.result c.drain.ensures.empty)

@@ -1,0 +1,73 @@
+-- The records that an auditor reads, and the one that it writes.
+use Rattle.std.specs.Prelude.{ℕ, ◌+◌, List, [], ◌∷◌, ◌++◌, reverse, bytes_eq, codes, decimal, Option, Some, None, option_and_then, unwrap_or, Result, Ok, Err}
+use Rattle.std.specs.Option.{option_or}
+use Rattle.rubis_schema.specs.FieldForms.{only_if}
+use Rattle.rubis_message.specs.Forms.{Form, ◌>>=◌, ◌>>◌, check, made, one, take_site, whole}
+use Rattle.rubis_message.specs.Kinds.{name_of}
+use Rattle.rubis_message.specs.Message.{Message}
+use Rattle.rubis_message.specs.Readings.{packet_of}
+use Rattle.rubis_message.specs.declared.answers.Verdict.{Verdict}
+use Rattle.rubis_message.specs.declared.answers.Verdict.TheVariants.{Agree, Found}
+use Rattle.rubis_message.specs.declared.tokens.Packet.{Packet}
+use Rattle.rubis_message.specs.declared.tokens.Packet.TheVariants as packet
+use Rattle.rubis_model.specs.Logs.{Log}
+use Rattle.rubis_model.specs.Verdict.{verdict}
+
+-- what a record says: a log of that site begins; its next message; one of the rows that it claims
+pub data Line : Type 0 where
+  Begin : ℕ → Line
+  Next : Message → Line
+  Claim : List (List ℕ) → Line
+
+-- `site` and the number of one of so many sites
+unfoldable pub take_begin : ℕ → Form Line
+take_begin sites = do
+  word ← one Some
+  check (bytes_eq word (codes "site"))
+  made Begin (take_site sites)
+
+-- a message, and no token
+abbrev pub next_of : Packet → Option Line
+next_of (packet.Msg m) = Some (Next m)
+next_of (packet.Token t) = None
+
+-- a row is any record whose first field is `row`
+abbrev pub claim_of : List (List ℕ) → Option Line
+claim_of [] = None
+claim_of (word ∷ rest) = only_if (bytes_eq word (codes "row")) (Claim (word ∷ rest))
+
+-- what the fields of a record say, among so many sites
+abbrev pub line_of : ℕ → List (List ℕ) → Option Line
+line_of sites fields = option_or (whole (take_begin sites) fields) (option_or (claim_of fields) (option_and_then next_of (packet_of sites fields)))
+
+-- the logs with one record more, the newest log in front. None but `site` stands before the first log, and no message
+-- after a row
+abbrev pub with_line : List Log → Line → Option (List Log)
+with_line logs (Begin site) = Some (record { site = site; messages = []; rows = None } ∷ logs)
+with_line [] line = None
+with_line (log ∷ logs) (Next m) = elim log.rows [
+  | None ↦ Some (record log { messages = log.messages ++ m ∷ [] } ∷ logs)
+  | Some rows ↦ None
+]
+with_line (log ∷ logs) (Claim row) = Some (record log { rows = Some (unwrap_or log.rows [] ++ row ∷ []) } ∷ logs)
+
+-- the logs after these records, the first of which has that number; or the number of the first that isn't so
+abbrev pub logs_after : ℕ → ℕ → List Log → List (List (List ℕ)) → Result (List Log) ℕ
+logs_after sites n logs [] = Ok logs
+logs_after sites n logs (fields ∷ rest) = elim (option_and_then (with_line logs) (line_of sites fields)) [
+  | None ↦ Err n
+  | Some more ↦ logs_after sites (n + 1) more rest
+]
+
+-- the record of a verdict
+abbrev pub verdict_record : Verdict → List (List ℕ)
+verdict_record Agree = codes "audit" ∷ codes "Agree" ∷ []
+verdict_record (Found kind log entry) = codes "audit" ∷ name_of kind ∷ decimal log ∷ decimal entry ∷ []
+
+abbrev pub audit_record : Result (List Log) ℕ → List (List ℕ)
+audit_record (Ok logs) = verdict_record (verdict (reverse logs))
+audit_record (Err n) = codes "audit" ∷ codes "BadRecord" ∷ decimal n ∷ []
+
+-- the record that answers these records: the verdict on their logs, or the first record that isn't so
+abbrev pub audit_of : ℕ → List (List (List ℕ)) → List (List ℕ)
+audit_of sites records = audit_record (logs_after sites 1 [] records)

@@ -1,0 +1,16 @@
+-- Logs as an auditor is given them.
+use Rattle.std.specs.Prelude.{ℕ, List, Option}
+use Rattle.rubis_schema.specs.declared.listings.Listing.TheVariants as listing
+use Rattle.rubis_message.specs.Message.{Message}
+use Rattle.rubis_model.specs.Listings.{table_rows}
+use Rattle.rubis_model.specs.Log.{cores, fold_of}
+
+-- the log of a site: its messages in release order, and its tables as it claims them, if it does
+pub record Log : Type 0 where
+  pub site : ℕ
+  pub messages : List Message
+  pub rows : Option (List (List (List ℕ)))
+
+-- the rows that `list,tables` gives of these messages
+abbrev pub rows_of : List Message → List (List (List ℕ))
+rows_of messages = table_rows listing.Tables (fold_of (cores messages)).tables
