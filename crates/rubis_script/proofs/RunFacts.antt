@@ -1,6 +1,6 @@
 -- How a run goes on.
 use Rattle.std.proofs.Common.{◌≡◌, ◌≤◌, ◌<◌, ◌+◌, ◌-◌, ◌∷◌, [], ◌++◌, ◌∙◌, ℕ, List, length, take, Option, Bool, true, false, sym, refl, ap, subst, arith, append_assoc, length-append}
-use Rattle.std.specs.Prelude.{OnOk, Result, Ok, Err}
+use Rattle.std.specs.Prelude.{IfNone, IfOk, IfSome, OnOk, None, Some, Result, Ok, Err}
 use Rattle.std.proofs.lemmas.List.{append-nil}
 use Rattle.std.proofs.Math.Seq.{take-append_seam}
 use Rattle.std.specs.Io.KnownBytes.{Appends}
@@ -163,8 +163,31 @@ pub on_ok : {T E : Type 0} {P : Type 0} (r : Result T E) → P → OnOk r P
 on_ok (Ok v) p = p
 on_ok (Err e) p = tt
 
+-- what follows from what is so of an answer
+pub if_ok_so : {T E : Type 0} (P Q : T → Type 0) (r : Result T E) → ((x : T) → P x → Q x) → IfOk r P → IfOk r Q
+if_ok_so P Q (Ok v) f p = f v p
+if_ok_so P Q (Err e) f p = tt
+
 -- the same front, where nothing more was written
 pub progress-stays : {R : Type 0} (rem : R → Option (List ℕ)) (a : Records R) (all more : Account)
     (old now now2 : Option (List ℕ)) (sink : List ℕ) (n : ℕ) (input : List ℕ)
     → Progress rem a all more old now sink n input → now2 ≡ now → WroteFront (all.text AtEnd) old now2 (records_of input)
 progress-stays rem a all more old now now2 sink n input p same = front-same (all.text AtEnd) old now now2 (records_of input) (progress-front rem a all more old now sink n input p) same
+
+-- ---- a record that was found
+
+pub if_none : {A P : Type 0} (o : Option A) → IfNone o P → o ≡ None → P
+if_none None h e = h
+if_none (Some x) h e = absurd cc
+
+pub if_some : {A : Type 0} (P : A → Type 0) (o : Option A) (x : A) → IfSome o P → o ≡ Some x → P x
+if_some P None x h e = absurd cc
+if_some P (Some y) x h e = let same : y ≡ x = cc in subst P same h
+
+-- nothing was written and nothing answered
+pub progress-moved : {R : Type 0} (rem : R → Option (List ℕ)) (a : Records R) (all more more2 : Account)
+    (old now now2 : Option (List ℕ)) (sink sink2 : List ℕ) (n : ℕ) (input : List ℕ)
+    → Progress rem a all more old now sink n input → more2 ≡ more → now2 ≡ now → sink2 ≡ sink → Progress rem a all more2 old now2 sink2 n input
+progress-moved rem a all more more2 old now now2 sink sink2 n input p same written held =
+    subst (λ m. Progress rem a all m old now2 sink2 n input) (sym same)
+    (subst (λ w. Progress rem a all more old w sink2 n input) (sym written) (subst (λ t. Progress rem a all more old now t n input) (sym held) p))

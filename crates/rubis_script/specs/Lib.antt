@@ -4,3 +4,4 @@ pub mod Reading
 pub mod Accounts
 pub mod Progress
 pub mod Inputs
+pub mod SiteRuns

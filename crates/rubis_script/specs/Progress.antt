@@ -30,6 +30,12 @@ pub record Drained (old new : Account) (held : List ℕ) (before after : Option 
 
 -- ---- what a run has written and read
 
+-- of every run that has come so far this holds, `all` being the account of its records and `old` what stood in its writer
+abbrev pub InEachRun : {R : Type 0} → (R → Option (List ℕ)) → Records R → Account → Option (List ℕ) → List ℕ → ℕ
+    → (Account → Option (List ℕ) → List ℕ → Type 0) → Type 0
+InEachRun rem records more now sink number holds = (all : Account) (old : Option (List ℕ)) (input : List ℕ)
+    → Progress rem records all more old now sink number input → holds all old input
+
 -- the run is done: the text of all records was written, and as many were read as there are to read, at most `limit`
 abbrev pub IsDone : Account → ℕ → Option (List ℕ) → Option (List ℕ) → List (List (List ℕ)) → ℕ → Type 0
 IsDone all limit old now records count = Appends old now (all.text AtEnd records) × (count ≡ all.read records) × (count ≤ limit)

@@ -1,29 +1,31 @@
 // A site as a service: a record in, its answers out.
 
-ghost use Rattle.std.specs.Prelude.{◌≡◌, ◌≤◌, IfOk, OnOk, length, refl};
+ghost use Rattle.std.specs.Prelude.{◌≡◌, ◌≤◌, IfOk, OnOk, refl};
 ghost use Rattle.rubis_shadow.specs.Limits.{IsAsk};
 ghost use Rattle.rubis_message.specs.Grammar.{IsPacket, IsRequest};
 ghost use Rattle.rubis_message.specs.Message.{sites_of};
 ghost use Rattle.rubis_message.specs.declared.requests.Request.TheVariants as Request;
 ghost use Rattle.rubis_message.specs.declared.tokens.Packet.TheVariants as Packet;
-ghost use Rattle.rubis_model.specs.Runs.{answers, input_of};
+ghost use Rattle.rubis_model.specs.Runs.{input_of};
 ghost use Rattle.rubis_model.specs.Runs.Input.{Asked, Came};
 ghost use Rattle.rubis_model.specs.Site.{opening_at};
 ghost use Rattle.rubis_replica.specs.Setup.{place_of};
 ghost use Rattle.rubis_script.specs.Inputs.{IsAnswered, IsRead, answer_of};
-ghost use Rattle.rubis_script.specs.Text.{rows_text};
+ghost use Rattle.rubis_script.specs.SiteRuns.{told_by};
 
 use crate::fault::OutOfMemory;
 use crate::replies::{
     write_arrival, write_asked, write_listed, write_passed, write_refusal, write_taken,
 };
-use crate::service::{Course, Service};
+use crate::service::Service;
 use crate::sink::Sink;
 use rubis_message::{Message, Packet, ReadFault, Request, Token, read_packet, read_request};
-use rubis_replica::{Config, Fault, Site};
+use rubis_replica::{Config, Fault, Free, Gate, Site};
 use rubis_schema::{Fields, Listing, Refusal};
 use rubis_shadow::Ask;
 use std::alloc::{AllocError, Global};
+use std::sync::Wait;
+use std::thread::Threads;
 
 // The answer of a site's call, or its refusal. A site that has no memory for an answer gives none, nor does one that is
 // behind, which had none for a batch.
@@ -38,8 +40,9 @@ fn answered<A>(answer: Result<A, Fault>) -> Result<Result<A, Refusal>, OutOfMemo
 }
 
 // Answers an ask.
-fn answer_ask(
-    site: &mut Site,
+fn answer_ask<G: Gate, R: Threads + Wait + Sync>(
+    rt: &R,
+    site: &mut Site<G>,
     fields: &mut Fields,
     sink: &mut Sink,
     number: u64,
@@ -49,14 +52,14 @@ fn answer_ask(
     ensures place { site.new.place ≡ site.old.place }
     ensures answered { OnOk result (IsAnswered number (Asked (Request.Ask ask)) site.old site.new sink.old sink.new) }
 {
-    let answer = answered(site.request(ask))?;
+    let answer = answered(site.request(rt, ask))?;
     write_asked(fields, sink, number, &answer)?;
     Ok(())
 }
 
 // Answers a request to hand the token on.
-fn answer_pass(
-    site: &mut Site,
+fn answer_pass<G: Gate>(
+    site: &mut Site<G>,
     fields: &mut Fields,
     sink: &mut Sink,
     number: u64,
@@ -71,8 +74,9 @@ fn answer_pass(
 }
 
 // Answers a request for a listing.
-fn answer_list(
-    site: &mut Site,
+fn answer_list<G: Gate, R: Threads + Wait + Sync>(
+    rt: &R,
+    site: &mut Site<G>,
     fields: &mut Fields,
     sink: &mut Sink,
     number: u64,
@@ -81,14 +85,15 @@ fn answer_list(
     ensures place { site.new.place ≡ site.old.place }
     ensures answered { OnOk result (IsAnswered number (Asked (Request.List listing.now)) site.old site.new sink.old sink.new) }
 {
-    let answer = answered(site.list(listing))?;
+    let answer = answered(site.list(rt, listing))?;
     write_listed(fields, sink, number, &answer)?;
     Ok(())
 }
 
 // Answers a request.
-fn answer_request(
-    site: &mut Site,
+fn answer_request<G: Gate, R: Threads + Wait + Sync>(
+    rt: &R,
+    site: &mut Site<G>,
     fields: &mut Fields,
     sink: &mut Sink,
     number: u64,
@@ -99,15 +104,16 @@ fn answer_request(
     ensures answered { OnOk result (IsAnswered number (Asked request) site.old site.new sink.old sink.new) }
 {
     match request {
-        Request::Ask(ask) => answer_ask(site, fields, sink, number, ask),
+        Request::Ask(ask) => answer_ask(rt, site, fields, sink, number, ask),
         Request::Pass(to) => answer_pass(site, fields, sink, number, to),
-        Request::List(listing) => answer_list(site, fields, sink, number, &listing),
+        Request::List(listing) => answer_list(rt, site, fields, sink, number, &listing),
     }
 }
 
 // Answers a message that arrives.
-fn answer_message(
-    site: &mut Site,
+fn answer_message<G: Gate, R: Threads + Wait + Sync>(
+    rt: &R,
+    site: &mut Site<G>,
     fields: &mut Fields,
     sink: &mut Sink,
     number: u64,
@@ -117,14 +123,14 @@ fn answer_message(
     ensures place { site.new.place ≡ site.old.place }
     ensures answered { OnOk result (IsAnswered number (Came (Packet.Msg message)) site.old site.new sink.old sink.new) }
 {
-    let answer = answered(site.arrive(message))?;
+    let answer = answered(site.arrive(rt, message))?;
     write_arrival(fields, sink, number, &answer)?;
     Ok(())
 }
 
 // Answers a token that arrives.
-fn answer_token(
-    site: &mut Site,
+fn answer_token<G: Gate>(
+    site: &mut Site<G>,
     fields: &mut Fields,
     sink: &mut Sink,
     number: u64,
@@ -139,8 +145,9 @@ fn answer_token(
 }
 
 // Answers a packet.
-fn answer_packet(
-    site: &mut Site,
+fn answer_packet<G: Gate, R: Threads + Wait + Sync>(
+    rt: &R,
+    site: &mut Site<G>,
     fields: &mut Fields,
     sink: &mut Sink,
     number: u64,
@@ -151,7 +158,7 @@ fn answer_packet(
     ensures answered { OnOk result (IsAnswered number (Came packet) site.old site.new sink.old sink.new) }
 {
     match packet {
-        Packet::Msg(message) => answer_message(site, fields, sink, number, message),
+        Packet::Msg(message) => answer_message(rt, site, fields, sink, number, message),
         Packet::Token(token) => answer_token(site, fields, sink, number, token),
     }
 }
@@ -183,8 +190,8 @@ fn read_input(alloc: Global, fields: &Fields, sites: u8) -> Result<Input, AllocE
 
 /// A site with what it needs to read records and to write its answers.
 #[derive(Drop)]
-pub struct Desk {
-    pub site: Site,
+pub struct Desk<G: Gate = Free> {
+    pub site: Site<G>,
     sites: u8,
     reply: Fields,
     alloc: Global,
@@ -192,52 +199,46 @@ pub struct Desk {
     ghost few: { sites ≤ 16 },
 }
 
-impl Desk {
-    /// A site with nothing done, set up so.
-    pub fn new(alloc: Global, config: &Config) -> Result<Desk, AllocError>
+impl<G: Gate + Drop> Desk<G> {
+    /// A site with nothing done, set up so, whose batches are applied under the gate.
+    pub fn new(alloc: Global, config: &Config, gate: G) -> Result<Desk<G>, AllocError>
         ensures { IfOk result (λ desk. (desk.site.place ≡ place_of config.now) × (desk.site.state ≡ opening_at config.now.site)) }
     {
         Ok(Desk {
-            site: Site::new(alloc, config)?,
+            site: Site::new(alloc, config, gate)?,
             sites: config.sites(),
             reply: Fields::new(alloc),
             alloc,
         })
     }
+}
 
-    // Answers a record.
-    fn respond(&mut self, number: u64, fields: &Fields, sink: &mut Sink) -> Result<(), OutOfMemory>
+impl<G: Gate> Desk<G> {
+    /// Answers the record with this number.
+    pub fn respond<R: Threads + Wait + Sync>(
+        &mut self,
+        rt: &R,
+        number: u64,
+        fields: &Fields,
+        sink: &mut Sink,
+    ) -> Result<(), OutOfMemory>
         ensures place { self.new.site.place ≡ self.old.site.place }
         ensures answered { OnOk result (IsAnswered number (input_of self.old.site.place.sites fields.now) self.old.site self.new.site sink.old sink.new) }
     {
         let site = &mut self.site;
         let reply = &mut self.reply;
         match read_input(self.alloc, fields, self.sites)? {
-            Input::Asked(request) => answer_request(site, reply, sink, number, request),
-            Input::Came(packet) => answer_packet(site, reply, sink, number, packet),
+            Input::Asked(request) => answer_request(rt, site, reply, sink, number, request),
+            Input::Came(packet) => answer_packet(rt, site, reply, sink, number, packet),
             Input::Neither => Ok(write_refusal(reply, sink, number, Refusal::BadRecord)?),
         }
     }
 }
 
-impl<T> Service<T> for Desk {
-    ghost account = { λ s n. record {
-        text = λ ending records. rows_text (answers s.site.place s.site.state n records);
-        read = λ records. length records;
-    } };
+impl<G: Gate, T> Service<T> for Desk<G> {
+    ghost account = { λ s n. told_by s.site n };
 
     ghost reads_none = { λ s n. refl };
-
-    fn answer(
-        &mut self,
-        _rt: &T,
-        number: u64,
-        fields: &Fields,
-        sink: &mut Sink,
-    ) -> Result<Course, OutOfMemory> {
-        self.respond(number, fields, sink)?;
-        Ok(Course::GoesOn)
-    }
 
     fn settle(&mut self, _rt: &T, _sink: &mut Sink) -> Result<(), OutOfMemory> {
         Ok(())

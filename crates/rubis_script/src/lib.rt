@@ -14,10 +14,10 @@ mod site_run;
 pub use desk::Desk;
 pub use fault::{Count, OutOfMemory, RunFault};
 pub use record_list::Records;
-pub use run::run_upto;
+pub use run::{next_record, run_upto, stop, write_out};
 pub use service::{Course, Service};
 pub use sink::Sink;
-pub use site_run::{run_site, run_site_upto};
+pub use site_run::{run_desk, run_site, run_site_upto};
 
 #[cfg(test)]
 mod tests;

@@ -1,16 +1,16 @@
 // The run from bytes to bytes.
 
-ghost use Rattle.std.specs.Prelude.{◌≡◌, ◌<◌, ◌+◌, ◌++◌, ◌^◌, ◌⊎◌, [], ℕ, List, Option, take, IfErr, IfOk, IfSome, IsErrOf, OnOk, MatchOption};
+ghost use Rattle.std.specs.Prelude.{◌≡◌, ◌<◌, ◌+◌, ◌++◌, ◌^◌, ◌⊎◌, [], ℕ, List, Option, IfErr, IfNone, IfOk, IfSome, IsErrOf, OnOk, MatchOption, true};
 ghost use Rattle.std.specs.Io.KnownBytes.{Appends};
 ghost use Rattle.rubis_script.specs.Accounts.{Account};
 ghost use Rattle.rubis_script.specs.Accounts.Ending.{AtEnd, Cut};
-ghost use Rattle.rubis_script.specs.Progress.{Drained, IsCut, IsDone, IsTooLong, Progress, WroteFront};
-ghost use Rattle.rubis_script.specs.Reading.{Gives};
+ghost use Rattle.rubis_script.specs.Progress.{Drained, InEachRun, IsCut, IsDone, IsTooLong, Progress, WroteFront};
+ghost use Rattle.rubis_script.specs.Reading.{Advances, Gives};
 ghost use Rattle.rubis_script.specs.Text.{records_of};
 
 use super::fault::{Count, RunFault};
 use super::record_list::Records;
-use super::service::{Course, Service};
+use super::service::{Answering, Course, Service};
 use super::sink::Sink;
 use std::alloc::Global;
 use std::io::{Read, Write};
@@ -48,7 +48,7 @@ fn finish<T, S: Service<T>, W: Write>(
 }
 
 /// Writes out what was answered, where to go on is to wait for the reader or where there is much of it.
-fn write_out<T, S: Service<T>, R: Read, W: Write>(
+pub fn write_out<T, S: Service<T>, R: Read, W: Write>(
     rt: &T,
     records: &Records<R>,
     service: &mut S,
@@ -70,9 +70,70 @@ fn write_out<T, S: Service<T>, R: Read, W: Write>(
     Ok(())
 }
 
+/// Reads the next record, behind so many that were answered. Where there is none the rest of the text is written: the
+/// answer says then how many records were read, and is `None` where one was found.
+pub fn next_record<T, S: Service<T>, R: Read, W: Write>(
+    rt: &T,
+    records: &mut Records<R>,
+    service: &mut S,
+    sink: &mut Sink,
+    writer: &mut W,
+    answered: u64,
+) -> Result<Option<Count>, RunFault>
+    ensures found { IfOk result (λ over. IfNone over (Advances R.remaining records.old records.new true)) }
+    ensures same { IfOk result (λ over. IfNone over ((service.new ≡ service.old) × (sink.new ≡ sink.old) × (writer.new ≡ writer.old))) }
+    ensures done { IfOk result (λ over. IfSome over (λ count. InEachRun R.remaining records.old (S.account service.old (answered + 1)) (W.contents writer.old) sink.old (answered + 1) (λ all old input.
+        IsDone all answered old (W.contents writer.new) (records_of input) count.records))) }
+    ensures read { IsErrOf result RunFault.Read → InEachRun R.remaining records.old (S.account service.old (answered + 1)) (W.contents writer.old) sink.old (answered + 1) (λ all old input.
+        IsCut all old (W.contents writer.new) (records_of input)) }
+    ensures memory { IsErrOf result RunFault.Memory → InEachRun R.remaining records.old (S.account service.old (answered + 1)) (W.contents writer.old) sink.old (answered + 1) (λ all old input.
+        WroteFront (all.text AtEnd) old (W.contents writer.new) (records_of input)) }
+    ensures faults { IfErr result (λ e. (e ≡ RunFault.Read) ⊎ (e ≡ RunFault.Write) ⊎ (e ≡ RunFault.Memory)) }
+{
+    match records.advance() {
+        Ok(true) => Ok(None),
+        Ok(false) => match finish(rt, service, sink, writer) {
+            Ok(()) => Ok(Some(Count { records: answered })),
+            Err(fault) => Err(fault),
+        },
+        Err(fault) => match settle(rt, service, sink, writer) {
+            Ok(()) => Err(fault),
+            Err(worse) => Err(worse),
+        },
+    }
+}
+
+/// Ends a run behind so many records that were answered, which is as many as it takes: well where there are no more.
+pub fn stop<T, S: Service<T>, R: Read, W: Write>(
+    rt: &T,
+    records: &mut Records<R>,
+    service: &mut S,
+    sink: &mut Sink,
+    writer: &mut W,
+    answered: u64,
+) -> Result<Count, RunFault>
+    ensures ok { IfOk result (λ count. InEachRun R.remaining records.old (S.account service.old (answered + 1)) (W.contents writer.old) sink.old (answered + 1) (λ all old input.
+        IsDone all answered old (W.contents writer.new) (records_of input) count.records)) }
+    ensures too_long { IsErrOf result RunFault.TooLong → InEachRun R.remaining records.old (S.account service.old (answered + 1)) (W.contents writer.old) sink.old (answered + 1) (λ all old input.
+        IsTooLong all answered old (W.contents writer.new) (records_of input)) }
+    ensures read { IsErrOf result RunFault.Read → InEachRun R.remaining records.old (S.account service.old (answered + 1)) (W.contents writer.old) sink.old (answered + 1) (λ all old input.
+        IsCut all old (W.contents writer.new) (records_of input)) }
+    ensures memory { IsErrOf result RunFault.Memory → InEachRun R.remaining records.old (S.account service.old (answered + 1)) (W.contents writer.old) sink.old (answered + 1) (λ all old input.
+        WroteFront (all.text AtEnd) old (W.contents writer.new) (records_of input)) }
+{
+    match next_record(rt, records, service, sink, writer, answered) {
+        Ok(None) => match settle(rt, service, sink, writer) {
+            Ok(()) => Err(RunFault::TooLong),
+            Err(fault) => Err(fault),
+        },
+        Ok(Some(count)) => Ok(count),
+        Err(fault) => Err(fault),
+    }
+}
+
 /// Answers the record behind so many, if there is one. `None` where the run goes on, and else how many records were
 /// read.
-fn turn<T, S: Service<T>, R: Read, W: Write>(
+fn turn<T, S: Answering<T>, R: Read, W: Write>(
     rt: &T,
     records: &mut Records<R>,
     service: &mut S,
@@ -81,55 +142,39 @@ fn turn<T, S: Service<T>, R: Read, W: Write>(
     answered: u64,
 ) -> Result<Option<Count>, RunFault>
     requires { answered + 1 < 2 ^ 64 }
-    ensures goes { IfOk result (λ over. (all : Account) (old : Option (List ℕ)) (input : List ℕ)
-        → Progress R.remaining records.old all (S.account service.old (answered + 1)) old (W.contents writer.old) sink.old (answered + 1) input
-        → MatchOption over
+    ensures goes { IfOk result (λ over. InEachRun R.remaining records.old (S.account service.old (answered + 1)) (W.contents writer.old) sink.old (answered + 1) (λ all old input.
+        MatchOption over
         (Progress R.remaining records.new all (S.account service.new (answered + 1 + 1)) old (W.contents writer.new) sink.new (answered + 1 + 1) input)
-        (λ count. IsDone all (answered + 1) old (W.contents writer.new) (records_of input) count.records)) }
-    ensures read { IsErrOf result RunFault.Read → (all : Account) (old : Option (List ℕ)) (input : List ℕ)
-        → Progress R.remaining records.old all (S.account service.old (answered + 1)) old (W.contents writer.old) sink.old (answered + 1) input
-        → Appends old (W.contents writer.new) (all.text Cut (take answered (records_of input))) }
-    ensures memory { IsErrOf result RunFault.Memory → (all : Account) (old : Option (List ℕ)) (input : List ℕ)
-        → Progress R.remaining records.old all (S.account service.old (answered + 1)) old (W.contents writer.old) sink.old (answered + 1) input
-        → WroteFront (all.text AtEnd) old (W.contents writer.new) (records_of input) }
+        (λ count. IsDone all (answered + 1) old (W.contents writer.new) (records_of input) count.records))) }
+    ensures read { IsErrOf result RunFault.Read → InEachRun R.remaining records.old (S.account service.old (answered + 1)) (W.contents writer.old) sink.old (answered + 1) (λ all old input.
+        IsCut all old (W.contents writer.new) (records_of input)) }
+    ensures memory { IsErrOf result RunFault.Memory → InEachRun R.remaining records.old (S.account service.old (answered + 1)) (W.contents writer.old) sink.old (answered + 1) (λ all old input.
+        WroteFront (all.text AtEnd) old (W.contents writer.new) (records_of input)) }
     ensures faults { IfErr result (λ e. (e ≡ RunFault.Read) ⊎ (e ≡ RunFault.Write) ⊎ (e ≡ RunFault.Memory)) }
 {
-    match records.advance() {
-        Ok(true) => {}
-        Ok(false) => {
-            if let Err(fault) = finish(rt, service, sink, writer) {
-                return Err(fault);
-            }
-            return Ok(Some(Count { records: answered }));
-        }
-        Err(fault) => {
-            if let Err(worse) = settle(rt, service, sink, writer) {
-                return Err(worse);
-            }
-            return Err(fault);
-        }
+    match next_record(rt, records, service, sink, writer, answered) {
+        Ok(None) => {}
+        Ok(Some(count)) => return Ok(Some(count)),
+        Err(fault) => return Err(fault),
     }
     let number = answered + 1;
     let Ok(course) = service.answer(rt, number, records.fields(), sink) else {
         return Err(RunFault::Memory);
     };
     match course {
-        Course::Ends => {
-            if let Err(fault) = sink.close(writer) {
-                return Err(fault);
-            }
-            return Ok(Some(Count { records: number }));
-        }
-        Course::GoesOn => {}
+        Course::Ends => match sink.close(writer) {
+            Ok(()) => Ok(Some(Count { records: number })),
+            Err(fault) => Err(fault),
+        },
+        Course::GoesOn => match write_out(rt, records, service, sink, writer) {
+            Ok(()) => Ok(None),
+            Err(fault) => Err(fault),
+        },
     }
-    if let Err(fault) = write_out(rt, records, service, sink, writer) {
-        return Err(fault);
-    }
-    Ok(None)
 }
 
 /// Answers records until the run ends, or up to `limit` of them, and writes out what the sink holds.
-fn serve<T, S: Service<T>, R: Read, W: Write>(
+fn serve<T, S: Answering<T>, R: Read, W: Write>(
     rt: &T,
     records: &mut Records<R>,
     service: &mut S,
@@ -153,20 +198,7 @@ fn serve<T, S: Service<T>, R: Read, W: Write>(
             Err(fault) => return Err(fault),
         }
     }
-    match records.advance() {
-        Ok(false) => match finish(rt, service, sink, writer) {
-            Ok(()) => Ok(Count { records: limit }),
-            Err(fault) => Err(fault),
-        },
-        Ok(true) => match settle(rt, service, sink, writer) {
-            Ok(()) => Err(RunFault::TooLong),
-            Err(fault) => Err(fault),
-        },
-        Err(fault) => match settle(rt, service, sink, writer) {
-            Ok(()) => Err(fault),
-            Err(worse) => Err(worse),
-        },
-    }
+    stop(rt, records, service, sink, writer, limit)
 }
 
 /// Answers the records of `reader` until its end, or until the service ends the run, or up to `limit` of them, and
@@ -178,7 +210,7 @@ fn serve<T, S: Service<T>, R: Read, W: Write>(
 /// `Read` where the reader failed: the first records are answered then, as if there were no more. `Write` where the
 /// writer failed. `Memory` where there was not enough: what was written is the front of the whole text. `TooLong`
 /// where the input has more than `limit` records and none of the first `limit` ends the run: these are answered then.
-pub fn run_upto<T, S: Service<T>, R: Read + Drop, W: Write>(
+pub fn run_upto<T, S: Answering<T>, R: Read + Drop, W: Write>(
     rt: &T,
     alloc: Global,
     reader: R,

@@ -17,21 +17,10 @@ pub enum Course {
     Ends,
 }
 
-/// A service that answers records, one after the other. `T` is the runtime that it is lent.
+/// What answers records, one after the other, with what it holds back. `T` is the runtime that it is lent.
 pub trait Service<T> {
     /// What is still to be made of the records that follow, the first of which has this number.
     ghost account: { Self → ℕ → Account };
-
-    /// Answers the record with this number, and says whether the run goes on. What it writes and what is still to be
-    /// written are together the text; where the run ends here, what it writes is all of it.
-    fn answer(
-        &mut self,
-        rt: &T,
-        number: u64,
-        fields: &Fields,
-        sink: &mut Sink,
-    ) -> Result<Course, OutOfMemory>
-        ensures { IfOk result (λ course. Answers course (account self.old number) (account self.new (number + 1)) sink.old sink.new fields.now) };
 
     /// Writes what is held back, so that nothing is left to be written where the run is cut short here.
     fn settle(&mut self, rt: &T, sink: &mut Sink) -> Result<(), OutOfMemory>
@@ -44,4 +33,20 @@ pub trait Service<T> {
 
     // Of no records none is read.
     ghost reads_none: { (s : Self) (number : ℕ) → (account s number).read [] ≡ 0 };
+}
+
+/// A service that `run_upto` asks for its answers. One whose work goes to other threads isn't one: a bound of a trait's
+/// method is known to the calling thread alone. Its loop goes by the steps of the engine, with a call of its own between
+/// `next_record` and `go_on`.
+pub trait Answering<T>: Service<T> {
+    /// Answers the record with this number, and says whether the run goes on. What it writes and what is still to be
+    /// written are together the text; where the run ends here, what it writes is all of it.
+    fn answer(
+        &mut self,
+        rt: &T,
+        number: u64,
+        fields: &Fields,
+        sink: &mut Sink,
+    ) -> Result<Course, OutOfMemory>
+        ensures { IfOk result (λ course. Answers course (Self.account self.old number) (Self.account self.new (number + 1)) sink.old sink.new fields.now) };
 }

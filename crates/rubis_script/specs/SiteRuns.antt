@@ -1,0 +1,16 @@
+-- What a site makes of its records.
+use Rattle.std.specs.Prelude.{ℕ, length}
+use Rattle.rubis_model.specs.Runs.{answers}
+use Rattle.rubis_model.specs.Site.{Place, Replica}
+use Rattle.rubis_replica.specs.State.{SiteState}
+use Rattle.rubis_script.specs.Accounts.{Account}
+use Rattle.rubis_script.specs.Text.{rows_text}
+
+-- however the run ends behind some records, from record n on, its text is that of the site's answers to them; it reads all of
+-- them
+abbrev pub site_account : Place → Replica → ℕ → Account
+site_account p s n = record { text = λ ending records. rows_text (answers p s n records); read = λ records. length records }
+
+-- what is still to be made at a site
+abbrev pub told_by : SiteState → ℕ → Account
+told_by s n = site_account s.place s.state n
