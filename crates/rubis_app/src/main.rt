@@ -11,11 +11,13 @@ ghost use Rattle.rubis_app.specs.Statuses.{IsStatusOf, status_by};
 
 use clap::Error;
 use rubis_command::{OptionFault, Options, Run, read_options};
-use rubis_replica::Config;
+use rubis_replica::{Config, Free};
 use rubis_schema::RECORDS_MAX;
-use rubis_script::{Count, Desk, RunFault, run_upto};
+use rubis_script::{Count, Desk, RunFault, run_desk};
 use std::io::ErrorKind;
 use std::process::ExitCode;
+use std::sync::Wait;
+use std::thread::Threads;
 use std::{env, io, mem};
 
 /// The status of a run that a fault ended.
@@ -77,19 +79,22 @@ fn config_of(options: &Options) -> Option<Config>
 }
 
 // Runs a site over standard input and output.
-fn run<R: Print + Eprint + Input + AllocGlobal>(rt: &R, options: &Options) -> ExitCode
+fn run<R: Print + Eprint + Input + AllocGlobal + Threads + Wait + Sync>(
+    rt: &R,
+    options: &Options,
+) -> ExitCode
     ensures misuse { ¬ IsSetup (setup_of options.now) → exit_status result ≡ 2 }
     ensures runs { IsSetup (setup_of options.now) → (exit_status result ≡ 0) ⊎ (exit_status result ≡ 1) }
 {
     let Some(config) = config_of(options) else {
         return misuse(rt, "site must be below sites");
     };
-    let Ok(mut desk) = Desk::new(rt.alloc(), &config) else {
+    let Ok(mut desk) = Desk::new(rt.alloc(), &config, Free) else {
         return fail(rt, RunFault::Memory);
     };
     let mut writer = io::writer(rt);
-    let ended = run_upto(
-        &(),
+    let ended = run_desk(
+        rt,
         rt.alloc(),
         rt.reader(),
         &mut writer,
@@ -102,7 +107,10 @@ fn run<R: Print + Eprint + Input + AllocGlobal>(rt: &R, options: &Options) -> Ex
 }
 
 // Does what the words of the command line ask for.
-fn start<R: Print + Eprint + Input + AllocGlobal>(rt: &R, words: &[String]) -> ExitCode
+fn start<R: Print + Eprint + Input + AllocGlobal + Threads + Wait + Sync>(
+    rt: &R,
+    words: &[String],
+) -> ExitCode
     ensures { IsStatusOf (map string_bytes words.now) (exit_status result) }
 {
     match read_options(rt.alloc(), words) {

@@ -3,4 +3,4 @@ pub mod ReadingFacts
 pub mod RowFacts
 pub mod RunFacts
 pub mod TextFacts
-pub mod Answering
+pub mod SiteAnswers

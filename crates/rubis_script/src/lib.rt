@@ -15,7 +15,7 @@ pub use desk::Desk;
 pub use fault::{Count, OutOfMemory, RunFault};
 pub use record_list::Records;
 pub use run::{next_record, run_upto, stop, write_out};
-pub use service::{Course, Service};
+pub use service::{Answering, Course, Service};
 pub use sink::Sink;
 pub use site_run::{run_desk, run_site, run_site_upto};
 

@@ -2,7 +2,7 @@ ghost use Rattle.std.specs.Prelude.{◌≡◌, ◌∷◌, ◌++◌, None, OnOk, 
 ghost use Rattle.std.specs.Option.{option_to_list};
 ghost use Rattle.rubis_script.specs.Text.{rows_text};
 
-use crate::{Count, Course, OutOfMemory, RunFault, Service, Sink, run_upto};
+use crate::{Answering, Count, Course, OutOfMemory, RunFault, Service, Sink, run_upto};
 use rubis_schema::Fields;
 use std::cell::Cell;
 use std::io;
@@ -43,6 +43,16 @@ impl<T> Service<T> for Echo {
 
     ghost reads_none = { λ s n. refl };
 
+    fn settle(&mut self, _rt: &T, sink: &mut Sink) -> Result<(), OutOfMemory> {
+        self.write_last(sink)
+    }
+
+    fn finish(&mut self, _rt: &T, sink: &mut Sink) -> Result<(), OutOfMemory> {
+        self.write_last(sink)
+    }
+}
+
+impl<T> Answering<T> for Echo {
     fn answer(
         &mut self,
         _rt: &T,
@@ -54,14 +64,6 @@ impl<T> Service<T> for Echo {
         self.write_last(sink)?;
         self.last = Some(next);
         Ok(Course::GoesOn)
-    }
-
-    fn settle(&mut self, _rt: &T, sink: &mut Sink) -> Result<(), OutOfMemory> {
-        self.write_last(sink)
-    }
-
-    fn finish(&mut self, _rt: &T, sink: &mut Sink) -> Result<(), OutOfMemory> {
-        self.write_last(sink)
     }
 }
 

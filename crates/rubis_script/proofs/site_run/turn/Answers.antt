@@ -3,7 +3,7 @@ use Rattle.rubis_model.specs.Runs.{input_of}
 use Rattle.rubis_script.specs.Inputs.{IsAnswered}
 use Rattle.rubis_script.specs.SiteRuns.{told_by}
 use Rattle.rubis_script.specs.declared.fault.RunFault.TheVariants as fault
-use Rattle.rubis_script.proofs.Answering.{site_goes}
+use Rattle.rubis_script.proofs.SiteAnswers.{site_goes}
 use Rattle.rubis_script.proofs.RunFacts.{if_none, if_some, progress-moved, progress-stays, progress-step}
 use Rattle.rubis_script.proofs.site_run.turn.Goals as goal
 
