@@ -28,6 +28,10 @@ pub mod Lengths
 pub mod AuditedOrder
 pub mod AuditedMeaning
 pub mod Audited
+pub mod Tests
+pub mod EntryOrder
+pub mod EntryContent
+pub mod Verdicts
 pub mod Refusing
 pub mod ByMeaning
 pub mod Forged

@@ -184,6 +184,10 @@ RunsAreFaultless = EveryRun (λ w. (logs : List Log) → ((log : Log) → Has lo
 abbrev pub AgreesWhereFaultless : Type 0
 AgreesWhereFaultless = (sites : ℕ) (logs : List Log) → AreAmong sites logs → (verdict logs ≡ Agree) ↔ AreFaultless logs
 
--- of logs of a run the verdict is Agree
+-- so logs of which the verdict is Agree are sound
+abbrev pub AgreedLogsAreSound : Type 0
+AgreedLogsAreSound = (sites : ℕ) (logs : List Log) → AreAmong sites logs → verdict logs ≡ Agree → AreSound logs
+
+-- of logs of a run, with their tables or without, the verdict is Agree
 abbrev pub RunsAgree : Type 0
 RunsAgree = EveryRun (λ w. (logs : List Log) → ((log : Log) → Has log logs → IsLogOf w log) → verdict logs ≡ Agree)
