@@ -119,7 +119,7 @@ module _ (sites : ℕ) (logs : List Log) (among : AreAmong sites logs) (f : AreF
     clean = λ log h. (fold_is_meaning (cores log.messages) (each log h) (few log h)).1;
     refers =
         λ v a. refers_more (λ u. Has u (reverse a.0.0.messages)) (Logged logs) v (λ m h p. (a.0, has_reverse m a.0.0.messages h)) v.shadow (refers_in (reverse a.0.0.messages) (f.fitting a.0.0 a.0.1) v (has_back v a.0.0.messages a.1));
-    sold = λ log h. (checked_holds (cores log.messages) (each log h)).stock;
+    holds = λ log h. checked_holds (cores log.messages) (each log h);
     stock = λ log h j n r e g. stock_left (cores log.messages) j n r (checked_holds (cores log.messages) (each log h)) e
         (sym ((is_meaning log h).rows (key.Item j)) ∙ g);
     ended = λ log h j r o e g. row_winner (Logged logs) (ground logs each once) once log.messages j r o (λ m x. ((log, h), x))

@@ -1,6 +1,6 @@
 -- The laws of every run.
 use Rattle.std.proofs.Common.{ℕ, ◌≡◌, ◌^◌, ◌≤◌, List, [], length, arith, sym, ap, ◌∙◌, subst, refl}
-use Rattle.std.specs.Prelude.{IfSome, None, reverse, true}
+use Rattle.std.specs.Prelude.{None, reverse, true}
 use Rattle.rubis_schema.specs.declared.row_keys.RowKey.TheVariants as key
 use Rattle.rubis_shadow.specs.Shadows.{is_red}
 use Rattle.rubis_message.specs.Message.{Message}
@@ -9,11 +9,11 @@ use Rattle.rubis_model.specs.Settle.{Has}
 use Rattle.rubis_model.specs.References.{RefersOf}
 use Rattle.rubis_model.specs.System.{World, Event, AreEvents, site, run, start}
 use Rattle.rubis_model.specs.Sound.{Sound, Room}
-use Rattle.rubis_schema.specs.declared.ids.Id.{Id}
 use Rattle.rubis_model.specs.Checks.{Checked}
 use Rattle.rubis_model.specs.Claims.{KeepInvariants}
+use Rattle.rubis_model.specs.Invariants.{Holds}
 use Rattle.rubis_model.specs.Logs.{Log}
-use Rattle.rubis_model.specs.Meaning.{IsMeaning, item_at, sold_of, total}
+use Rattle.rubis_model.specs.Meaning.{IsMeaning, item_at}
 use Rattle.rubis_model.specs.Site.{rows_at}
 use Rattle.rubis_model.specs.Laws.{Sent, IsLogOf, InRun, RunsAreInOrder, RunsKeepInvariants, RunsAgreeOnTables, RunsMakeMessages}
 use Rattle.rubis_laws.proofs.FoldIsMeaning.{fold_is_meaning}
@@ -76,7 +76,7 @@ in_run keep w few room s = record { in_order = in_order w s; invariants = invari
       meaning = λ log of. subst (λ l. IsMeaning (cores l) (fold_of (cores l)).tables) (sym of.messages) (means log.site).0;
       clean = λ log of. ap (λ l. (fold_of (cores l)).misfits) of.messages ∙ (means log.site).1;
       refers = refers w s;
-      sold = λ log of. subst (λ l. (item : Id) → IfSome (item_at item (cores l)) (λ n. total (sold_of item) (cores l) ≤ n.stock)) (sym of.messages) (checked_holds (cores (site w log.site).log) (at log.site)).stock;
+      holds = λ log of. subst (λ l. Holds (cores l)) (sym of.messages) (checked_holds (cores (site w log.site).log) (at log.site));
       stock = λ log of j n r e f. stock_left (cores (site w log.site).log) j n r (checked_holds (cores (site w log.site).log) (at log.site))
           (ap (λ l. item_at j (cores l)) (sym of.messages) ∙ e)
           (sym ((means log.site).0.rows (key.Item j)) ∙ ap (λ l. rows_at l (key.Item j)) (sym of.messages) ∙ f);
