@@ -35,5 +35,6 @@ pub mod Verdicts
 pub mod Refusing
 pub mod ByMeaning
 pub mod Forged
+pub mod AuditReadings
 pub mod Examples
 pub mod AuditExamples

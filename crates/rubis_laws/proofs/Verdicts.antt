@@ -155,7 +155,7 @@ walk_log sites site others own (v ∷ rest) w t e =
     subst (Walked others site) (append_assoc own (v ∷ []) rest) (walk_log sites site others (own ++ v ∷ []) rest s (λ u h. t u (subst (Has u) (append_assoc own (v ∷ []) rest) h)) n.1)
 
 -- ---- rows
-same_rows_decides : (a b : List (List (List ℕ))) → (same_rows a b ≡ true → a ≡ b) × (a ≡ b → same_rows a b ≡ true)
+pub same_rows_decides : (a b : List (List (List ℕ))) → (same_rows a b ≡ true → a ≡ b) × (a ≡ b → same_rows a b ≡ true)
 same_rows_decides = pointwise_decides (pointwise_decides bytes_decides)
 
 right_rows : (messages : List Message) (o : Option (List (List (List ℕ)))) → option_map_or (λ rows. not (same_rows rows (shown_rows messages))) o false ≡ false

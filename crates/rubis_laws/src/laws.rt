@@ -1,4 +1,5 @@
 // The laws of runs and of logs, each with its statement in rubis_model/specs.
+ghost use Rattle.rubis_model.specs.AuditRecords.{LinesAreReadAsWritten, LogsAreReadAsWritten};
 ghost use Rattle.rubis_model.specs.Forged.{FirstKeepsTheName, StockIsKept};
 ghost use Rattle.rubis_model.specs.Laws.{MeaningIsOne, FoldIsMeaning, CheckedLogsHold, DecidedShadowsFit, EqualSetsEqualTables, RunsAreInOrder, RunsKeepInvariants, RunsAgreeOnTables, RunsMakeMessages, RefusalsChangeNothing, FaultlessLogsAreSound, RunsAreFaultless, AgreesWhereFaultless, AgreedLogsAreSound, RunsAgree};
 
@@ -72,6 +73,12 @@ pub fn agreed_logs_are_sound()
 /// Of the logs of every run, with their tables or without, the verdict is Agree.
 pub fn every_run_is_agreed()
     ensures { RunsAgree }
+{}
+
+/// The records of an audit are those of just the logs that they are read as.
+pub fn audits_are_read_as_written()
+    ensures lines { LinesAreReadAsWritten }
+    ensures logs { LogsAreReadAsWritten }
 {}
 
 /// In every log, forged ones too, no stock is below zero, and a nickname stays with the first user that has it.
