@@ -14,6 +14,7 @@ use Rattle.rubis_generate.specs.declared.standing.Standing.{Standing}
 use Rattle.rubis_shadow.specs.declared.numbered.Misfit.{Misfit}
 use Rattle.rubis_message.specs.declared.answers.Arrival.TheVariants as arrival
 use Rattle.rubis_message.specs.declared.answers.Taken.TheVariants as taken
+use Rattle.rubis_message.specs.declared.answers.Verdict.TheVariants.{Agree}
 use Rattle.rubis_message.specs.declared.tokens.Token.{Token}
 use Rattle.rubis_schema.specs.declared.refusals.Refusal.{Refusal}
 use Rattle.rubis_schema.specs.declared.refusals.Refusal.TheVariants.{NotOurs}
@@ -29,7 +30,6 @@ use Rattle.rubis_model.specs.Audit.{AreAmong, AreFaultless, AreSound}
 use Rattle.rubis_model.specs.Claims.{SerializeOneOrder, KeepInvariants}
 use Rattle.rubis_model.specs.Logs.{Log, shown_rows}
 use Rattle.rubis_model.specs.Verdict.{verdict}
-use Rattle.rubis_message.specs.declared.answers.Verdict.TheVariants.{Agree}
 use Rattle.rubis_model.specs.Order.{Precedes, Foundation}
 use Rattle.rubis_model.specs.System.{World, Event, AreEvents, site, place, happens, run, start}
 use Rattle.rubis_model.specs.System.Packet.{Mail, Right}
