@@ -23,7 +23,7 @@ use Rattle.rubis_model.specs.Laws.{Sent, IsLogOf}
 use Rattle.rubis_model.specs.Listings.{table_rows}
 use Rattle.rubis_model.specs.Logs.{Log, shown_rows}
 use Rattle.rubis_model.specs.Claims.{KeepInvariants}
-use Rattle.rubis_model.specs.Audit.{Logged, AreAmong, IsFormed, AllOrdered, AllFitting, AreFaultless, AreSound}
+use Rattle.rubis_model.specs.Audit.{Logged, AreAmong, AllOrdered, AllFitting, AreFaultless, AreSound}
 use Rattle.rubis_laws.proofs.FoldIsMeaning.{fold_is_meaning, meaning_is_one}
 use Rattle.rubis_laws.proofs.Invariants.{checked_holds}
 use Rattle.rubis_laws.proofs.RunsInOrder.{own, there, seen, unique, foundation}
@@ -33,7 +33,7 @@ use Rattle.rubis_laws.proofs.LogsChecked.{new_here, count_reds, checked_end, num
 use Rattle.rubis_laws.proofs.Winners.{one_nick, one_close, winner_is, row_winner, stock_left}
 use Rattle.rubis_laws.proofs.Runs.{refers, logged}
 use Rattle.rubis_laws.proofs.Lengths.{log_short}
-use Rattle.rubis_laws.proofs.AuditedOrder.{sound_order, sound_log, run_ordered}
+use Rattle.rubis_laws.proofs.AuditedOrder.{IsFormed, sound_order, sound_log, run_ordered}
 use Rattle.rubis_laws.proofs.AuditedMeaning.{ground}
 use Rattle.rubis_model.proofs.Lists.{has_back, has_reverse}
 

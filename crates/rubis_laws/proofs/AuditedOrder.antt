@@ -1,19 +1,28 @@
 -- Logs that pass the checks together causally serialize one RedBlue order; and those of a sound world pass.
 use Rattle.std.proofs.Common.{◌≡◌, ℕ, ◌+◌, ◌<◌, ◌≤◌, zero, suc, List, [], ◌∷◌, refl, sym, ap, ◌∙◌, subst, inl, inr, ⊎_elim, arith}
-use Rattle.std.specs.Prelude.{reverse, ◌-◌}
+use Rattle.std.specs.Prelude.{reverse, ◌-◌, nat_lt}
 use Rattle.std.proofs.lemmas.Bool.{cases_eq, cases_order}
 use Rattle.std.proofs.lemmas.List.{reverse-reverse}
+use Rattle.rubis_shadow.specs.Shadows.{is_red}
 use Rattle.rubis_message.specs.Message.{Message, dep}
+use Rattle.rubis_model.specs.Checks.{IsLimited}
 use Rattle.rubis_model.specs.Order.{IsRedBlueOrder, Serializes, StandsBefore, Precedes, Released, StandsBefore}
 use Rattle.rubis_model.specs.Settle.{counted, reds, Has}
 use Rattle.rubis_model.specs.Sound.{CountedBy, Sound}
 use Rattle.rubis_model.specs.System.{World, site}
 use Rattle.rubis_model.specs.Laws.{Sent}
 use Rattle.rubis_model.specs.Logs.{Log}
-use Rattle.rubis_model.specs.Audit.{IsFormed, IsOrdered, AllOrdered, OneOf, Logged, AreFaultless}
+use Rattle.rubis_model.specs.Audit.{IsOrdered, AllOrdered, OneOf, Logged, AreFaultless}
 use Rattle.rubis_model.proofs.Pasts.{seq_within, found, found_red, red_within, made_at, dep_within}
 use Rattle.rubis_laws.proofs.RunsInOrder.{Behind, before_from, behind_from, own, there, causal_back, distinct_back}
 use Rattle.rubis_model.proofs.Lists.{has_back, has_reverse}
+
+-- what the type of a message keeps: it counts all of its origin before it, it has a red number just where it is red, and
+-- it is within the limits
+pub record IsFormed (v : Message) : Type 0 where
+  pub own : v.stamp.id.seq ≡ dep v v.stamp.id.site + 1
+  pub colour : is_red v.shadow ≡ nat_lt 0 v.stamp.red
+  pub limits : IsLimited v.shadow
 
 -- ---- what the checks are
 checked_released : (i : ℕ) (past : List Message) → AllOrdered i past → Released past

@@ -10,7 +10,7 @@ use Rattle.rubis_message.specs.declared.answers.Kind.{Kind}
 use Rattle.rubis_message.specs.declared.answers.Kind.TheVariants as kind
 use Rattle.rubis_message.specs.declared.answers.Verdict.{Verdict}
 use Rattle.rubis_message.specs.declared.answers.Verdict.TheVariants.{Agree}
-use Rattle.rubis_model.specs.Audit.{Logged, AreAmong, IsFormed, IsOrdered, AllOrdered, AllFitting, AreFaultless}
+use Rattle.rubis_model.specs.Audit.{Logged, AreAmong, IsOrdered, AllOrdered, AllFitting, AreFaultless}
 use Rattle.rubis_model.specs.Checks.{Fits}
 use Rattle.rubis_model.specs.Log.{cores}
 use Rattle.rubis_model.specs.Logs.{Log, shown_rows}
@@ -22,6 +22,7 @@ use Rattle.rubis_model.proofs.Lists.{has_append, has_back, has_left, has_reverse
 use Rattle.rubis_model.proofs.Pasts.{red_within}
 use Rattle.rubis_model.proofs.Settling.{counted_reverse, reds_reverse, reverse_push}
 use Rattle.rubis_laws.proofs.Audited.{message_formed, refers_more, released_all}
+use Rattle.rubis_laws.proofs.AuditedOrder.{IsFormed}
 use Rattle.rubis_laws.proofs.EntryContent.{Passes, fits, passes}
 use Rattle.rubis_laws.proofs.EntryOrder.{Same, carries, made, next, no_clash, no_gap, number, one_content, orderly, red_before, released, untaken}
 use Rattle.rubis_laws.proofs.LogsChecked.{one_each_back}

@@ -1,14 +1,13 @@
 -- What the logs of several sites are checked for together, and what they then are.
-use Rattle.std.specs.Prelude.{◌≡◌, ℕ, ◌+◌, ◌<◌, ◌≤◌, nat_lt, List, [], ◌∷◌, reverse, IfSome, ⊤}
+use Rattle.std.specs.Prelude.{◌≡◌, ℕ, ◌+◌, ◌<◌, ◌≤◌, List, [], ◌∷◌, reverse, IfSome, ⊤}
 use Rattle.rubis_schema.specs.Tables.{Tables}
 use Rattle.rubis_schema.specs.declared.listings.Listing.TheVariants as listing
-use Rattle.rubis_shadow.specs.Shadows.{is_red}
 use Rattle.rubis_message.specs.Message.{Message, IsMessage, dep, sites_of}
 use Rattle.rubis_model.specs.Log.{cores}
 use Rattle.rubis_model.specs.Logs.{Log, shown_rows}
 use Rattle.rubis_model.specs.Listings.{table_rows}
 use Rattle.rubis_model.specs.Meaning.{IsMeaning}
-use Rattle.rubis_model.specs.Checks.{Fits, IsLimited}
+use Rattle.rubis_model.specs.Checks.{Fits}
 use Rattle.rubis_model.specs.Claims.{SerializeOneOrder, KeepInvariants}
 use Rattle.rubis_model.specs.Settle.{Has, Ready, counted}
 use Rattle.rubis_model.specs.Order.{Precedes}
@@ -25,13 +24,6 @@ Logged logs v = (log : OneOf logs) × Has v log.0.messages
 -- each message is one of so many sites, as its type says
 abbrev pub AreAmong : ℕ → List Log → Type 0
 AreAmong sites logs = (v : Message) → Logged logs v → IsMessage v × (sites_of v ≡ sites)
-
--- what the type of a message keeps: it counts all of its origin before it, it has a red number just where it is red, and
--- it is within the limits
-pub record IsFormed (v : Message) : Type 0 where
-  pub own : v.stamp.id.seq ≡ dep v v.stamp.id.site + 1
-  pub colour : is_red v.shadow ≡ nat_lt 0 v.stamp.red
-  pub limits : IsLimited v.shadow
 
 -- v is in order in a log of site i, after these, newest first: it was ready there, it counts just these if it is of that
 -- site, and all that is counted by what it counts last of any site; and the red one before it precedes it
