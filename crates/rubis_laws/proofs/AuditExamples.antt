@@ -1,6 +1,14 @@
 -- Worked examples of the auditor's checks, computed on the definitions: for each the smallest logs with its fault.
-use Rattle.std.proofs.Common.{ℕ, ◌≡◌, List, [], ◌∷◌, refl, Option, Some, None}
-use Rattle.std.specs.Prelude.{codes, decimal, option_and_then}
+use Rattle.std.proofs.Common.{◌<◌, length, sym, ap, subst, inl, inr, ⊎_elim, arith, Bool, true, false, cond, ℕ, ◌≡◌, List, [], ◌∷◌, refl, Option, Some, None}
+use Rattle.std.specs.FinMap as map
+use Rattle.std.specs.List.{flat_map}
+use Rattle.std.specs.Prelude.{codes, decimal, filter, option_and_then}
+use Rattle.std.proofs.lemmas.Bool.{false_from_ne_true, not_from_false}
+use Rattle.rubis_schema.specs.declared.listings.Listing.TheVariants as listing
+use Rattle.rubis_schema.specs.declared.row_keys.RowKey.{RowKey}
+use Rattle.rubis_schema.specs.declared.row_keys.RowKey.TheVariants as key
+use Rattle.rubis_schema.specs.declared.rows.Row.{Row}
+use Rattle.rubis_schema.specs.declared.rows.Row.TheVariants as row
 use Rattle.rubis_schema.specs.declared.ids.Id.{Id}
 use Rattle.rubis_shadow.specs.declared.shadows.Shadow.{Shadow}
 use Rattle.rubis_shadow.specs.declared.shadows.Shadow.TheVariants as shadow
@@ -8,10 +16,16 @@ use Rattle.rubis_message.specs.Message.{Message}
 use Rattle.rubis_message.specs.Readings.{packet_of, take_packet}
 use Rattle.rubis_message.specs.declared.answers.Kind.TheVariants as kind
 use Rattle.rubis_message.specs.declared.answers.Verdict.TheVariants.{Agree, Found}
+use Rattle.rubis_model.specs.Log.{cores, fold_of}
+use Rattle.rubis_model.specs.Listings.{category_record, is_of, row_record, shows_nothing}
+use Rattle.rubis_model.specs.Settle.{Has}
 use Rattle.rubis_model.specs.AuditRecords.{audit_of, take_begin, with_line}
 use Rattle.rubis_model.specs.AuditRecords.Line.{Begin, Next, Claim}
 use Rattle.rubis_model.specs.Logs.{Log}
-use Rattle.rubis_model.specs.Verdict.{verdict}
+use Rattle.rubis_model.specs.Logs.{shown_rows}
+use Rattle.rubis_model.specs.Verdict.{found_or, same_rows, verdict, wrong_rows}
+use Rattle.rubis_model.proofs.Lists.{has_append}
+use Rattle.rubis_laws.proofs.Verdicts.{same_rows_decides}
 
 -- ---- messages and logs
 
@@ -175,6 +189,54 @@ stock_and_winner : verdict (
     log 0 (ann ∷ bob ∷ cups ∷ bid ∷ close 9 (Some (id 0 4)) ∷ message 0 6 5 (5 ∷ 0 ∷ []) (shadow.Buy (record { item = id 0 3; buyer = id 0 2; quantity = 5 })) ∷ []) ∷ []
     ) ≡ Found kind.Stock 1 6
 stock_and_winner = refl
+
+-- ---- Rows
+
+-- each row of a listing has more than two fields
+row_is_long : (k : RowKey) (r : Row) (fields : List (List ℕ)) → Has fields (row_record k r) → 2 < length fields
+row_is_long (key.User id) (row.User u) fields (inl e) = subst (λ f. 2 < length f) (sym e) (omega arith)
+row_is_long (key.Item id) (row.Item u) fields (inl e) = subst (λ f. 2 < length f) (sym e) (omega arith)
+row_is_long (key.Bid id) (row.Bid u) fields (inl e) = subst (λ f. 2 < length f) (sym e) (omega arith)
+row_is_long (key.Purchase id) (row.Purchase u) fields (inl e) = subst (λ f. 2 < length f) (sym e) (omega arith)
+row_is_long (key.Comment id) (row.Comment u) fields (inl e) = subst (λ f. 2 < length f) (sym e) (omega arith)
+row_is_long (key.Cat k) (row.Cat c) fields h = at (shows_nothing c) h
+  where
+    at : (b : Bool) → Has fields (cond b [] (category_record k c ∷ [])) → 2 < length fields
+    at true h = absurd h
+    at false (inl e) = subst (λ f. 2 < length f) (sym e) (omega arith)
+    at false (inr h) = absurd h
+row_is_long (key.User id) (row.User u) fields (inr h) = absurd h
+row_is_long (key.Item id) (row.Item u) fields (inr h) = absurd h
+row_is_long (key.Bid id) (row.Bid u) fields (inr h) = absurd h
+row_is_long (key.Purchase id) (row.Purchase u) fields (inr h) = absurd h
+row_is_long (key.Comment id) (row.Comment u) fields (inr h) = absurd h
+row_is_long k r fields h = absurd h
+
+rows_are_long : (es : List (RowKey × Row)) (fields : List (List ℕ)) → Has fields (flat_map (λ e. row_record e.0 e.1) es) → 2 < length fields
+rows_are_long [] fields h = absurd h
+rows_are_long (e ∷ es) fields h =
+    ⊎_elim (λ k. row_is_long e.0 e.1 fields k) (λ k. rows_are_long es fields k) (has_append fields (row_record e.0 e.1) (flat_map (λ e. row_record e.0 e.1) es) h)
+
+-- a record that is none of the log's rows is claimed
+abbrev claims_a_row : List Message → Log
+claims_a_row messages = record { site = 0; messages = messages; rows = Some ((codes "row" ∷ codes "x" ∷ []) ∷ []) }
+
+no_such_row : (messages : List Message) → wrong_rows (claims_a_row messages) ≡ true
+no_such_row messages = not_from_false (same_rows ((codes "row" ∷ codes "x" ∷ []) ∷ []) (shown_rows messages)) (false_from_ne_true (same_rows ((codes "row" ∷ codes "x" ∷ []) ∷ []) (shown_rows messages)) (λ e.
+    let s = (same_rows_decides ((codes "row" ∷ codes "x" ∷ []) ∷ []) (shown_rows messages)).0 e in
+    let l : 2 < length (codes "row" ∷ codes "x" ∷ []) = rows_are_long (filter (λ e. is_of listing.Tables e.0 e.1) (map.entries (fold_of (cores messages)).tables)) (codes "row" ∷ codes "x" ∷ []) (subst (Has (codes "row" ∷ codes "x" ∷ [])) s (inl refl)) in
+    omega (arith, l)))
+
+row_of_no_message : verdict (claims_a_row (ann ∷ []) ∷ []) ≡ Found kind.Rows 1 0
+row_of_no_message = ap (λ b. found_or 1 (cond b (Some (kind.Rows, 0)) None) Agree) (no_such_row (ann ∷ []))
+
+-- an entry is told before the rows
+entry_and_rows : verdict (claims_a_row (bob ∷ []) ∷ []) ≡ Found kind.Order 1 1
+entry_and_rows = refl
+
+-- and rows before the next log
+rows_and_log : verdict (claims_a_row (ann ∷ []) ∷ log 1 (bob ∷ []) ∷ []) ≡ Found kind.Rows 1 0
+rows_and_log = ap (λ b. found_or 1 (cond b (Some (kind.Rows, 0)) None) (Found kind.Order 2 1)) (no_such_row (ann ∷ []))
 
 -- ---- records
 

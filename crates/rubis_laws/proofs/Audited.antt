@@ -9,17 +9,22 @@ use Rattle.rubis_shadow.specs.Shadows.{is_red}
 use Rattle.rubis_shadow.specs.declared.shadows.Shadow.{Shadow}
 use Rattle.rubis_shadow.specs.declared.shadows.Shadow.TheVariants.{User, Item, Bid, Buy, Close, Comment}
 use Rattle.rubis_message.specs.Message.{Message, IsMessage, sites_of}
-use Rattle.rubis_model.specs.Log.{core, cores}
-use Rattle.rubis_model.specs.Meaning.{count}
+use Rattle.rubis_schema.specs.Tables.{Tables}
+use Rattle.rubis_schema.specs.declared.listings.Listing.TheVariants as listing
+use Rattle.rubis_model.specs.Log.{core, cores, fold_of}
+use Rattle.rubis_model.specs.Meaning.{IsMeaning, count}
 use Rattle.rubis_model.specs.Checks.{Checked}
 use Rattle.rubis_model.specs.Settle.{Has}
 use Rattle.rubis_model.specs.Order.{Precedes, Released}
 use Rattle.rubis_model.specs.References.{Referred, RefersOf}
 use Rattle.rubis_model.specs.System.{World, site}
-use Rattle.rubis_model.specs.Sound.{Sound, Room}
-use Rattle.rubis_model.specs.Laws.{Sent}
-use Rattle.rubis_model.specs.Audit.{Logged, IsFormed, AllOrdered, AllFitting, AreFaultless, AreSound}
-use Rattle.rubis_laws.proofs.FoldIsMeaning.{fold_is_meaning}
+use Rattle.rubis_model.specs.Sound.{Sound}
+use Rattle.rubis_model.specs.Laws.{Sent, IsLogOf}
+use Rattle.rubis_model.specs.Listings.{table_rows}
+use Rattle.rubis_model.specs.Logs.{Log, shown_rows}
+use Rattle.rubis_model.specs.Claims.{KeepInvariants}
+use Rattle.rubis_model.specs.Audit.{Logged, AreAmong, AllOrdered, AllFitting, AreFaultless, AreSound}
+use Rattle.rubis_laws.proofs.FoldIsMeaning.{fold_is_meaning, meaning_is_one}
 use Rattle.rubis_laws.proofs.Invariants.{checked_holds}
 use Rattle.rubis_laws.proofs.RunsInOrder.{own, there, seen, unique, foundation}
 use Rattle.rubis_laws.proofs.Cores.{back_push}
@@ -28,7 +33,7 @@ use Rattle.rubis_laws.proofs.LogsChecked.{new_here, count_reds, checked_end, num
 use Rattle.rubis_laws.proofs.Winners.{one_nick, one_close, winner_is, row_winner, stock_left}
 use Rattle.rubis_laws.proofs.Runs.{refers, logged}
 use Rattle.rubis_laws.proofs.Lengths.{log_short}
-use Rattle.rubis_laws.proofs.AuditedOrder.{sound_order, sound_log, run_ordered}
+use Rattle.rubis_laws.proofs.AuditedOrder.{IsFormed, sound_order, sound_log, run_ordered}
 use Rattle.rubis_laws.proofs.AuditedMeaning.{ground}
 use Rattle.rubis_model.proofs.Lists.{has_back, has_reverse}
 
@@ -55,26 +60,6 @@ checked_from i (v ∷ past) c h f =
       fits = h.0.0;
       limits = here.limits;
     }))
-
--- logs of messages that meet the conditions of their type are short enough to be folded
-pub logs_short : (sites : ℕ → ℕ) (log : ℕ → List Message) → ((k : ℕ) → AllOrdered (sites k) (reverse (log k)))
-    → ((v : Message) → Logged log v → IsMessage v) → (k : ℕ) → length (log k) ≤ 2 ^ 32
-logs_short sites log o h k = log_short (log k) (released_all (sites k) (reverse (log k)) (o k)) (λ v b. h v (k, has_reverse v (log k) b))
-
--- so what is left to check of such messages are clashes, the order of each log, red numbers, and what each refers to
-pub messages_faultless : (sites : ℕ → ℕ) (log : ℕ → List Message) → ((v : Message) → Logged log v → IsMessage v)
-    → ((u v : Message) → Logged log u → Logged log v → u.stamp.id.site ≡ v.stamp.id.site → u.stamp.id.seq ≡ v.stamp.id.seq → u ≡ v)
-    → ((k : ℕ) → AllOrdered (sites k) (reverse (log k)))
-    → ((u v : Message) → Logged log u → Logged log v → 0 < u.stamp.red → u.stamp.red ≡ v.stamp.red → u ≡ v)
-    → ((k : ℕ) → AllFitting (reverse (log k))) → AreFaultless sites log
-messages_faultless sites log h clash ordered once fitting = record {
-  formed = λ v a. message_formed v (h v a);
-  short = logs_short sites log ordered h;
-  clash = clash;
-  ordered = ordered;
-  red_once = once;
-  fitting = fitting;
-}
 
 -- ---- references, among more messages
 refer_more : (all wide : Message → Type 0) (v : Message) (kind : Message → Type 0) (i : Id) → ((m : Message) → all m → Precedes m v → wide m)
@@ -103,37 +88,57 @@ refers_in (x ∷ past) h v (inl e) =
 refers_in (x ∷ past) h v (inr k) = refers_more (λ u. Has u past) (λ u. Has u (x ∷ past)) v (λ m g p. inr g) v.shadow (refers_in past h.1 v k)
 
 -- ---- what passes is sound
-module _ (sites : ℕ → ℕ) (log : ℕ → List Message) (f : AreFaultless sites log) where
-  each : (k : ℕ) → Checked (cores (log k))
-  each k =
-      subst (λ l. Checked (cores l)) (reverse-reverse (log k)) (checked_from (sites k) (reverse (log k)) (f.ordered k) (f.fitting k) (λ v h. f.formed v (k, has_reverse v (log k) h)))
+module _ (sites : ℕ) (logs : List Log) (among : AreAmong sites logs) (f : AreFaultless logs) where
+  formed : (v : Message) → Logged logs v → IsFormed v
+  formed v a = message_formed v (among v a).0
 
-  red_positive : (v : Message) → Logged log v → is_red v.shadow ≡ true → 0 < v.stamp.red
-  red_positive v a e = ltb-true 0 v.stamp.red (sym (f.formed v a).colour ∙ e)
+  each : (log : Log) → Has log logs → Checked (cores log.messages)
+  each log h =
+      subst (λ l. Checked (cores l)) (reverse-reverse log.messages) (checked_from log.site (reverse log.messages) (f.ordered log h) (f.fitting log h) (λ v g. formed v ((log, h), has_reverse v log.messages g)))
 
-  once : (u v : Message) → Logged log u → Logged log v → is_red u.shadow ≡ true → is_red v.shadow ≡ true → u.stamp.red ≡ v.stamp.red → u ≡ v
+  red_positive : (v : Message) → Logged logs v → is_red v.shadow ≡ true → 0 < v.stamp.red
+  red_positive v a e = ltb-true 0 v.stamp.red (sym (formed v a).colour ∙ e)
+
+  once : (u v : Message) → Logged logs u → Logged logs v → is_red u.shadow ≡ true → is_red v.shadow ≡ true → u.stamp.red ≡ v.stamp.red → u ≡ v
   once u v a b c d e = f.red_once u v a b (red_positive u a c) e
 
-  few : (k : ℕ) → length (cores (log k)) ≤ 2 ^ 32
-  few k = let l = f.short k in let c = cores_length (log k) in omega (arith, l, c)
+  -- logs of messages that meet the conditions of their type are short enough to be folded
+  few : (log : Log) → Has log logs → length (cores log.messages) ≤ 2 ^ 32
+  few log h =
+      let l = log_short log.messages (released_all log.site (reverse log.messages) (f.ordered log h)) (λ v b. (among v ((log, h), has_reverse v log.messages b)).0) in
+      let c = cores_length log.messages in
+      omega (arith, l, c)
 
-  pub faultless_sound : AreSound sites log
-  faultless_sound = record {
-    ids = f.clash;
-    order = sound_order sites log f;
-    logs = sound_log sites log f;
+  is_meaning : (log : Log) → Has log logs → IsMeaning (cores log.messages) (fold_of (cores log.messages)).tables
+  is_meaning log h = (fold_is_meaning (cores log.messages) (each log h) (few log h)).0
+
+  invariants : KeepInvariants (Logged logs) (λ log. Has log logs)
+  invariants = record {
+    checked = each;
+    meaning = is_meaning;
+    clean = λ log h. (fold_is_meaning (cores log.messages) (each log h) (few log h)).1;
     refers =
-        λ v a. refers_more (λ u. Has u (reverse (log a.0))) (Logged log) v (λ m h p. (a.0, has_reverse m (log a.0) h)) v.shadow (refers_in (reverse (log a.0)) (f.fitting a.0) v (has_back v (log a.0) a.1));
-    meaning = λ k. (fold_is_meaning (cores (log k)) (each k) (few k)).0;
-    clean = λ k. (fold_is_meaning (cores (log k)) (each k) (few k)).1;
-    sold = λ k. (checked_holds (cores (log k)) (each k)).stock;
-    stock = λ k j n r e g. stock_left (cores (log k)) j n r (checked_holds (cores (log k)) (each k)) e
-        (sym ((fold_is_meaning (cores (log k)) (each k) (few k)).0.rows (key.Item j)) ∙ g);
-    ended = λ k j r o e g. row_winner (Logged log) (ground log each once) once (log k) j r o (λ m h. (k, h))
-        (sym ((fold_is_meaning (cores (log k)) (each k) (few k)).0.rows (key.Item j)) ∙ e) g;
-    nicks = one_nick (Logged log) (ground log each once) once;
-    closed_once = one_close (Logged log) (ground log each once) once;
-    winner = winner_is (Logged log) (ground log each once) once;
+        λ v a. refers_more (λ u. Has u (reverse a.0.0.messages)) (Logged logs) v (λ m h p. (a.0, has_reverse m a.0.0.messages h)) v.shadow (refers_in (reverse a.0.0.messages) (f.fitting a.0.0 a.0.1) v (has_back v a.0.0.messages a.1));
+    holds = λ log h. checked_holds (cores log.messages) (each log h);
+    stock = λ log h j n r e g. stock_left (cores log.messages) j n r (checked_holds (cores log.messages) (each log h)) e
+        (sym ((is_meaning log h).rows (key.Item j)) ∙ g);
+    ended = λ log h j r o e g. row_winner (Logged logs) (ground logs each once) once log.messages j r o (λ m x. ((log, h), x))
+        (sym ((is_meaning log h).rows (key.Item j)) ∙ e) g;
+    nicks = one_nick (Logged logs) (ground logs each once) once;
+    closed_once = one_close (Logged logs) (ground logs each once) once;
+    winner = winner_is (Logged logs) (ground logs each once) once;
+  }
+
+  claimed : (log : Log) → Has log logs → (o : Option (List (List (List ℕ)))) → IfSome o (λ rows. rows ≡ shown_rows log.messages)
+      → IfSome o (λ rows. (t : Tables) → IsMeaning (cores log.messages) t → rows ≡ table_rows listing.Tables t)
+  claimed log h None e = tt
+  claimed log h (Some rows) e = λ t m. e ∙ ap (table_rows listing.Tables) (meaning_is_one (cores log.messages) (fold_of (cores log.messages)).tables t (is_meaning log h) m)
+
+  pub faultless_sound : AreSound logs
+  faultless_sound = record {
+    serial = record { ids = f.clash; order = sound_order logs f formed; logs = sound_log logs f formed };
+    invariants = invariants;
+    rows = λ log h. claimed log h log.rows (f.rows log h);
   }
 
 -- ---- a run passes
@@ -149,12 +154,21 @@ run_fitting w (v ∷ past) s r all =
       run_fitting w past s r.1 older,
     )
 
-pub run_faultless : (keep : ℕ) (w : World) → keep ≤ 1000000 → Room keep w → Sound w → AreFaultless (λ i. i) (λ i. (site w i).log)
-run_faultless keep w few room s = record {
-  short = λ k. let l = room k in omega (arith, l, few);
-  formed = λ v a. let b = logged w s a.0 v a.1 in record { own = own w v s b; colour = colour w v s b; limits = (foundation w v s b).decided.limits };
-  clash = λ u v a b e f. unique w u v s (logged w s a.0 u a.1) (logged w s b.0 v b.1) e f;
-  ordered = λ k. run_ordered w k (reverse (site w k).log) s (s.good k).released (s.good k).made (s.good k).log_sent;
-  red_once = λ u v a b l e. s.reds.single u v (logged w s a.0 u a.1) (logged w s b.0 v b.1) l e;
-  fitting = λ k. run_fitting w (reverse (site w k).log) s (s.good k).released (s.good k).log_sent;
-}
+-- logs of a run, with their tables or without
+module _ (w : World) (s : Sound w) (logs : List Log) (of : (log : Log) → Has log logs → IsLogOf w log) where
+  sent : (v : Message) → Logged logs v → Sent w v
+  sent v a = logged w s a.0.0.site v (subst (Has v) (of a.0.0 a.0.1).messages a.1)
+
+  pub run_faultless : AreFaultless logs
+  run_faultless = record {
+    clash = λ u v a b e f. unique w u v s (sent u a) (sent v b) e f;
+    ordered = λ log h. subst (λ m. AllOrdered log.site (reverse m)) (sym (of log h).messages)
+        (run_ordered w log.site (reverse (site w log.site).log) s (s.good log.site).released (s.good log.site).made (s.good log.site).log_sent);
+    red_once = λ u v a b l e. s.reds.single u v (sent u a) (sent v b) l e;
+    fitting = λ log h. subst (λ m. AllFitting (reverse m)) (sym (of log h).messages)
+        (run_fitting w (reverse (site w log.site).log) s (s.good log.site).released (s.good log.site).log_sent);
+    rows = λ log h. (of log h).rows;
+  }
+
+  pub run_formed : (v : Message) → Logged logs v → IsFormed v
+  run_formed v a = let b = sent v a in record { own = own w v s b; colour = colour w v s b; limits = (foundation w v s b).decided.limits }

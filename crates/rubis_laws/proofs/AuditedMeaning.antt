@@ -7,6 +7,7 @@ use Rattle.rubis_model.specs.Log.{core, cores}
 use Rattle.rubis_model.specs.Meaning.{count}
 use Rattle.rubis_model.specs.Checks.{Follows, CheckedFrom, Checked}
 use Rattle.rubis_model.specs.Settle.{Has}
+use Rattle.rubis_model.specs.Logs.{Log}
 use Rattle.rubis_model.specs.Audit.{Logged}
 use Rattle.rubis_laws.proofs.Pushes.{count_push}
 use Rattle.rubis_laws.proofs.EqualSets.{Apart, apart_push, no_apart}
@@ -47,15 +48,15 @@ place before (x ∷ rest) v n u c (inr h) =
     subst (λ l. Place l v) (append_assoc before (x ∷ []) rest)
     (place (before ++ x ∷ []) rest v (numbered_push before x n c.0) (subst Apart on (apart_push (cores before) (core x) u c.0)) (subst (λ l. CheckedFrom l (cores rest)) on c.1) h)
 
-module _ (log : ℕ → List Message) (each : (k : ℕ) → Checked (cores (log k)))
-    (once : (u v : Message) → Logged log u → Logged log v → is_red u.shadow ≡ true → is_red v.shadow ≡ true → u.stamp.red ≡ v.stamp.red → u ≡ v) where
-  placed : (v : Message) (a : Logged log v) → Place (log a.0) v
-  placed v a = place [] (log a.0) v (λ r l q. absurd (omega (arith, l, q))) no_apart (each a.0) a.1
+module _ (logs : List Log) (each : (log : Log) → Has log logs → Checked (cores log.messages))
+    (once : (u v : Message) → Logged logs u → Logged logs v → is_red u.shadow ≡ true → is_red v.shadow ≡ true → u.stamp.red ≡ v.stamp.red → u ≡ v) where
+  placed : (v : Message) (a : Logged logs v) → Place a.0.0.messages v
+  placed v a = place [] a.0.0.messages v (λ r l q. absurd (omega (arith, l, q))) no_apart (each a.0.0 a.0.1) a.1
 
   red_is : (p : List Message) (v : Message) → Follows (cores p) (core v) → is_red v.shadow ≡ true → v.stamp.red ≡ count is_red (cores p) + 1
   red_is p v f e = f.next_red ∙ ap (λ b. cond b (count is_red (cores p) + 1) 0) e
 
-  pub ground : (v : Message) → Logged log v → Ground (Logged log) v
+  pub ground : (v : Message) → Logged logs v → Ground (Logged logs) v
   ground v b = record {
     past = (placed v b).0;
     members = λ u g. (b.0, (placed v b).1 u g);

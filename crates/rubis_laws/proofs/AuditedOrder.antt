@@ -1,18 +1,28 @@
 -- Logs that pass the checks together causally serialize one RedBlue order; and those of a sound world pass.
 use Rattle.std.proofs.Common.{◌≡◌, ℕ, ◌+◌, ◌<◌, ◌≤◌, zero, suc, List, [], ◌∷◌, refl, sym, ap, ◌∙◌, subst, inl, inr, ⊎_elim, arith}
-use Rattle.std.specs.Prelude.{reverse, ◌-◌}
+use Rattle.std.specs.Prelude.{reverse, ◌-◌, nat_lt}
 use Rattle.std.proofs.lemmas.Bool.{cases_eq, cases_order}
 use Rattle.std.proofs.lemmas.List.{reverse-reverse}
+use Rattle.rubis_shadow.specs.Shadows.{is_red}
 use Rattle.rubis_message.specs.Message.{Message, dep}
+use Rattle.rubis_model.specs.Checks.{IsLimited}
 use Rattle.rubis_model.specs.Order.{IsRedBlueOrder, Serializes, StandsBefore, Precedes, Released, StandsBefore}
 use Rattle.rubis_model.specs.Settle.{counted, reds, Has}
 use Rattle.rubis_model.specs.Sound.{CountedBy, Sound}
 use Rattle.rubis_model.specs.System.{World, site}
 use Rattle.rubis_model.specs.Laws.{Sent}
-use Rattle.rubis_model.specs.Audit.{IsOrdered, AllOrdered, Logged, AreFaultless}
+use Rattle.rubis_model.specs.Logs.{Log}
+use Rattle.rubis_model.specs.Audit.{IsOrdered, AllOrdered, OneOf, Logged, AreFaultless}
 use Rattle.rubis_model.proofs.Pasts.{seq_within, found, found_red, red_within, made_at, dep_within}
 use Rattle.rubis_laws.proofs.RunsInOrder.{Behind, before_from, behind_from, own, there, causal_back, distinct_back}
 use Rattle.rubis_model.proofs.Lists.{has_back, has_reverse}
+
+-- what the type of a message keeps: it counts all of its origin before it, it has a red number just where it is red, and
+-- it is within the limits
+pub record IsFormed (v : Message) : Type 0 where
+  pub own : v.stamp.id.seq ≡ dep v v.stamp.id.site + 1
+  pub colour : is_red v.shadow ≡ nat_lt 0 v.stamp.red
+  pub limits : IsLimited v.shadow
 
 -- ---- what the checks are
 checked_released : (i : ℕ) (past : List Message) → AllOrdered i past → Released past
@@ -31,28 +41,29 @@ entry_of i (x ∷ past) v c (inl e) = (past, subst (IsOrdered i past) (sym e) c.
 entry_of i (x ∷ past) v c (inr h) = let f = entry_of i past v c.1 h in (f.0, f.1, f.2, (λ q k. inr (f.3 q k)))
 
 -- the message stands in one of the logs, newest first
-abbrev pub Back : (ℕ → List Message) → Message → Type 0
-Back log u = (k : ℕ) × Has u (reverse (log k))
+abbrev pub Back : {K : Type 0} → (K → List Message) → Message → Type 0
+Back {K} log u = (k : K) × Has u (reverse (log k))
 
-module _ (sites : ℕ → ℕ) (log : ℕ → List Message) (each : (k : ℕ) → AllOrdered (sites k) (reverse (log k)))
+-- of logs k, each of a site
+module _ {K : Type 0} (sites : K → ℕ) (log : K → List Message) (each : (k : K) → AllOrdered (sites k) (reverse (log k)))
     (clash : (u v : Message) → Back log u → Back log v → u.stamp.id.site ≡ v.stamp.id.site → u.stamp.id.seq ≡ v.stamp.id.seq → u ≡ v)
     (red_once : (u v : Message) → Back log u → Back log v → 0 < u.stamp.red → u.stamp.red ≡ v.stamp.red → u ≡ v)
     (o : (v : Message) → Back log v → v.stamp.id.seq ≡ dep v v.stamp.id.site + 1) where
-  released : (k : ℕ) → Released (reverse (log k))
+  released : (k : K) → Released (reverse (log k))
   released k = checked_released (sites k) (reverse (log k)) (each k)
 
   least : (u : Message) → Back log u → 1 ≤ u.stamp.id.seq
   least u a = (seq_within (reverse (log a.0)) u (released a.0) a.1).0
 
   -- what is within a count of part of a log is there
-  counted_there : (k : ℕ) (past : List Message) (u : Message) → Released past → ((x : Message) → Has x past → Has x (reverse (log k))) → Back log u
+  counted_there : (k : K) (past : List Message) (u : Message) → Released past → ((x : Message) → Has x past → Has x (reverse (log k))) → Back log u
       → u.stamp.id.seq ≤ counted u.stamp.id.site past → Has u past
   counted_there k past u r on a l =
       let f = found past u.stamp.id.site u.stamp.id.seq r (least u a) l in
       subst (λ x. Has x past) (clash f.0 u (k, on f.0 f.1) a f.2 f.3) f.1
 
   -- what precedes v stands before it
-  there_before : (k : ℕ) (past : List Message) (u v : Message) → IsOrdered (sites k) past v → Released past
+  there_before : (k : K) (past : List Message) (u v : Message) → IsOrdered (sites k) past v → Released past
       → ((x : Message) → Has x past → Has x (reverse (log k))) → Back log u → Back log v → Precedes u v → Has u past
   there_before k past u v e r on a b q = counted_there k past u r on a (⊎_elim same (λ n. let d = e.ready.released u.stamp.id.site n in omega arith) (cases_eq u.stamp.id.site v.stamp.id.site))
     where
@@ -60,7 +71,7 @@ module _ (sites : ℕ → ℕ) (log : ℕ → List Message) (each : (k : ℕ) �
       same f = let g = o v b in let h = e.ready.next in let c = ap (λ x. dep v x) f in let d = ap (λ x. counted x past) f in omega arith
 
   -- of one origin, a later one saw what an earlier one saw
-  grows : (n k : ℕ) (v y : Message) → Has v (reverse (log k)) → Has y (reverse (log k)) → v.stamp.id.site ≡ y.stamp.id.site
+  grows : (n : ℕ) (k : K) (v y : Message) → Has v (reverse (log k)) → Has y (reverse (log k)) → v.stamp.id.site ≡ y.stamp.id.site
       → y.stamp.id.seq ≡ v.stamp.id.seq + n → (j : ℕ) → dep v j ≤ dep y j
   grows zero k v y a b e f j = let g = ap (λ (x : Message). dep x j) (clash v y (k, a) (k, b) e (omega arith)) in omega arith
   grows (suc n) k v y a b e f j =
@@ -76,7 +87,7 @@ module _ (sites : ℕ → ℕ) (log : ℕ → List Message) (each : (k : ℕ) �
       let h = t.1.carries z.0 z.1 c j in
       omega arith
 
-  closed : (k : ℕ) (past : List Message) (u v : Message) → AllOrdered (sites k) past → ((x : Message) → Has x past → Has x (reverse (log k)))
+  closed : (k : K) (past : List Message) (u v : Message) → AllOrdered (sites k) past → ((x : Message) → Has x past → Has x (reverse (log k)))
       → Back log u → Has v past → Precedes u v → Behind u v past
   unfolding Behind
   closed k [] u v c on a h q = absurd h
@@ -98,7 +109,7 @@ module _ (sites : ℕ → ℕ) (log : ℕ → List Message) (each : (k : ℕ) �
       omega arith
 
   -- red ones in one log
-  red_last : (m k : ℕ) (v : Message) → Has v (reverse (log k)) → 1 ≤ m → v.stamp.red ≡ m + 1
+  red_last : (m : ℕ) (k : K) (v : Message) → Has v (reverse (log k)) → 1 ≤ m → v.stamp.red ≡ m + 1
       → (z : Message) × (Has z (reverse (log k))) × (z.stamp.red ≡ m) × (Precedes z v)
   red_last m k v b l e =
       let t = entry_of (sites k) (reverse (log k)) v (each k) b in
@@ -106,7 +117,7 @@ module _ (sites : ℕ → ℕ) (log : ℕ → List Message) (each : (k : ℕ) �
       let z = found_red t.0 m (checked_released (sites k) t.0 t.2) l here in
       (z.0, t.3 z.0 z.1, z.2, t.1.red_before z.0 z.1 (omega (arith, z.2)) (e ∙ ap (λ x. x + 1) (sym z.2)))
 
-  red_chain : (n k : ℕ) (u v : Message) → Has u (reverse (log k)) → Has v (reverse (log k)) → 0 < u.stamp.red → v.stamp.red ≡ u.stamp.red + suc n
+  red_chain : (n : ℕ) (k : K) (u v : Message) → Has u (reverse (log k)) → Has v (reverse (log k)) → 0 < u.stamp.red → v.stamp.red ≡ u.stamp.red + suc n
       → Precedes u v
   red_chain zero k u v a b l e =
       let z = red_last u.stamp.red k v b l (omega arith) in
@@ -130,7 +141,7 @@ module _ (sites : ℕ → ℕ) (log : ℕ → List Message) (each : (k : ℕ) �
         λ u v a b l m. ⊎_elim (λ e. inl (red_once u v a b l e)) (λ d. inr (⊎_elim (λ f. inl (red_cross u v a b l f)) (λ f. inr (red_cross v u b a m f)) d)) (cases_order u.stamp.red v.stamp.red);
   }
 
-  pub back_serializes : (k : ℕ) → Serializes (sites k) (Back log) (log k)
+  pub back_serializes : (k : K) → Serializes (sites k) (Back log) (log k)
   back_serializes k = record {
     members = λ u h. (k, has_back u (log k) h);
     distinct = λ u h. distinct_back (reverse (log k)) u (released k) (behind_from u u (log k) h);
@@ -141,34 +152,37 @@ module _ (sites : ℕ → ℕ) (log : ℕ → List Message) (each : (k : ℕ) �
   }
 
 -- ---- as they stand
-to_back : (log : ℕ → List Message) (u : Message) → Logged log u → Back log u
-to_back log u a = (a.0, has_back u (log a.0) a.1)
+module _ (logs : List Log) (f : AreFaultless logs) (formed : (v : Message) → Logged logs v → IsFormed v) where
+  abbrev messages : OneOf logs → List Message
+  messages k = k.0.messages
 
-of_back : (log : ℕ → List Message) (u : Message) → Back log u → Logged log u
-of_back log u a = (a.0, has_reverse u (log a.0) a.1)
+  to_back : (u : Message) → Logged logs u → Back messages u
+  to_back u a = (a.0, has_back u a.0.0.messages a.1)
 
-module _ (sites : ℕ → ℕ) (log : ℕ → List Message) (f : AreFaultless sites log) where
-  back_clash : (u v : Message) → Back log u → Back log v → u.stamp.id.site ≡ v.stamp.id.site → u.stamp.id.seq ≡ v.stamp.id.seq → u ≡ v
-  back_clash u v a b = f.clash u v (of_back log u a) (of_back log v b)
+  of_back : (u : Message) → Back messages u → Logged logs u
+  of_back u a = (a.0, has_reverse u a.0.0.messages a.1)
 
-  back_once : (u v : Message) → Back log u → Back log v → 0 < u.stamp.red → u.stamp.red ≡ v.stamp.red → u ≡ v
-  back_once u v a b = f.red_once u v (of_back log u a) (of_back log v b)
+  back_clash : (u v : Message) → Back messages u → Back messages v → u.stamp.id.site ≡ v.stamp.id.site → u.stamp.id.seq ≡ v.stamp.id.seq → u ≡ v
+  back_clash u v a b = f.clash u v (of_back u a) (of_back v b)
 
-  back_own : (v : Message) → Back log v → v.stamp.id.seq ≡ dep v v.stamp.id.site + 1
-  back_own v a = (f.formed v (of_back log v a)).own
+  back_once : (u v : Message) → Back messages u → Back messages v → 0 < u.stamp.red → u.stamp.red ≡ v.stamp.red → u ≡ v
+  back_once u v a b = f.red_once u v (of_back u a) (of_back v b)
 
-  pub sound_order : IsRedBlueOrder (Logged log)
-  sound_order = let r = back_order sites log f.ordered back_clash back_once back_own in record {
-    irreflexive = λ u a. r.irreflexive u (to_back log u a);
-    transitive = λ u v x a b c. r.transitive u v x (to_back log u a) (to_back log v b) (to_back log x c);
-    reds = λ u v a b. r.reds u v (to_back log u a) (to_back log v b);
+  back_own : (v : Message) → Back messages v → v.stamp.id.seq ≡ dep v v.stamp.id.site + 1
+  back_own v a = (formed v (of_back v a)).own
+
+  pub sound_order : IsRedBlueOrder (Logged logs)
+  sound_order = let r = back_order (λ k. k.0.site) messages (λ k. f.ordered k.0 k.1) back_clash back_once back_own in record {
+    irreflexive = λ u a. r.irreflexive u (to_back u a);
+    transitive = λ u v x a b c. r.transitive u v x (to_back u a) (to_back v b) (to_back x c);
+    reds = λ u v a b. r.reds u v (to_back u a) (to_back v b);
   }
 
-  pub sound_log : (k : ℕ) → Serializes (sites k) (Logged log) (log k)
-  sound_log k = let r = back_serializes sites log f.ordered back_clash back_once back_own k in record {
-    members = λ u h. (k, h);
+  pub sound_log : (log : Log) → Has log logs → Serializes log.site (Logged logs) log.messages
+  sound_log log h = let r = back_serializes (λ k. k.0.site) messages (λ k. f.ordered k.0 k.1) back_clash back_once back_own (log, h) in record {
+    members = λ u g. ((log, h), g);
     distinct = r.distinct;
-    closed = λ u v a. r.closed u v (to_back log u a);
+    closed = λ u v a. r.closed u v (to_back u a);
     causal = r.causal;
   }
 

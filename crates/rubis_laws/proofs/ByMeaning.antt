@@ -18,7 +18,7 @@ use Rattle.rubis_model.specs.Sound.{Sound, Room}
 use Rattle.rubis_model.specs.Laws.{InRun}
 use Rattle.rubis_laws.proofs.Keeps.{event_keeps, event_sites}
 use Rattle.rubis_laws.proofs.Room.{room_event}
-use Rattle.rubis_laws.proofs.Runs.{in_run}
+use Rattle.rubis_laws.proofs.Runs.{in_run, is_log, log_at}
 
 -- what is answered to an event
 pub data Answer : Type 0 where
@@ -67,13 +67,13 @@ answers_by keep (e ∷ es) w = answer_by keep w e ∷ answers_by keep es (happen
 
 same_event : (keep : ℕ) (w : World) (e : Event) → InRun w → happens keep w e ≡ happens_by keep w e
 same_event keep w (Request i ask) h =
-    λ k. answering Mail w i (generating (place keep w i) (site w i) (decision (λ q. (h.meaning i).rows q k) (standing_of keep (site w i)) ask))
+    λ k. answering Mail w i (generating (place keep w i) (site w i) (decision (λ q. (h.invariants.meaning (log_at w i) (is_log w i)).rows q k) (standing_of keep (site w i)) ask))
 same_event keep w (Pass i to) h = refl
 same_event keep w (Deliver i k) h = refl
 
 same_answer : (keep : ℕ) (w : World) (e : Event) → InRun w → answer keep w e ≡ answer_by keep w e
 same_answer keep w (Request i ask) h =
-    λ k. Asked (generating (place keep w i) (site w i) (decision (λ q. (h.meaning i).rows q k) (standing_of keep (site w i)) ask)).1
+    λ k. Asked (generating (place keep w i) (site w i) (decision (λ q. (h.invariants.meaning (log_at w i) (is_log w i)).rows q k) (standing_of keep (site w i)) ask)).1
 same_answer keep w (Pass i to) h = refl
 same_answer keep w (Deliver i k) h = refl
 

@@ -28,8 +28,13 @@ pub mod Lengths
 pub mod AuditedOrder
 pub mod AuditedMeaning
 pub mod Audited
+pub mod Tests
+pub mod EntryOrder
+pub mod EntryContent
+pub mod Verdicts
 pub mod Refusing
 pub mod ByMeaning
 pub mod Forged
+pub mod AuditReadings
 pub mod Examples
 pub mod AuditExamples

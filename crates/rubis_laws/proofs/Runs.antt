@@ -1,15 +1,21 @@
 -- The laws of every run.
-use Rattle.std.proofs.Common.{ℕ, ◌≡◌, ◌^◌, ◌≤◌, List, length, arith, sym, ◌∙◌, subst}
-use Rattle.std.specs.Prelude.{reverse, true}
+use Rattle.std.proofs.Common.{ℕ, ◌≡◌, ◌^◌, ◌≤◌, List, [], length, arith, sym, ap, ◌∙◌, subst, refl}
+use Rattle.std.specs.Prelude.{None, reverse, true}
 use Rattle.rubis_schema.specs.declared.row_keys.RowKey.TheVariants as key
 use Rattle.rubis_shadow.specs.Shadows.{is_red}
 use Rattle.rubis_message.specs.Message.{Message}
-use Rattle.rubis_model.specs.Log.{cores}
+use Rattle.rubis_model.specs.Log.{cores, fold_of}
 use Rattle.rubis_model.specs.Settle.{Has}
 use Rattle.rubis_model.specs.References.{RefersOf}
 use Rattle.rubis_model.specs.System.{World, Event, AreEvents, site, run, start}
 use Rattle.rubis_model.specs.Sound.{Sound, Room}
-use Rattle.rubis_model.specs.Laws.{Sent, InRun, RunsAreInOrder, RunsKeepInvariants, RunsAgreeOnTables, RunsMakeMessages}
+use Rattle.rubis_model.specs.Checks.{Checked}
+use Rattle.rubis_model.specs.Claims.{KeepInvariants}
+use Rattle.rubis_model.specs.Invariants.{Holds}
+use Rattle.rubis_model.specs.Logs.{Log}
+use Rattle.rubis_model.specs.Meaning.{IsMeaning, item_at}
+use Rattle.rubis_model.specs.Site.{rows_at}
+use Rattle.rubis_model.specs.Laws.{Sent, IsLogOf, InRun, RunsAreInOrder, RunsKeepInvariants, RunsAgreeOnTables, RunsMakeMessages}
 use Rattle.rubis_laws.proofs.FoldIsMeaning.{fold_is_meaning}
 use Rattle.rubis_laws.proofs.EqualSets.{equal_sets_equal_tables}
 use Rattle.rubis_laws.proofs.Invariants.{checked_holds}
@@ -48,22 +54,38 @@ module _ (w : World) (s : Sound w) where
   pub logged : (i : ℕ) (m : Message) → Has m (site w i).log → Sent w m
   logged i m h = (s.good i).log_sent m (has_back m (site w i).log h)
 
+-- a site's log, without its tables
+abbrev pub log_at : World → ℕ → Log
+log_at w i = record { site = i; messages = (site w i).log; rows = None }
+
+pub is_log : (w : World) (i : ℕ) → IsLogOf w (log_at w i)
+is_log w i = record { messages = refl; rows = tt }
+
 pub in_run : (keep : ℕ) (w : World) → keep ≤ 1000000 → Room keep w → Sound w → InRun w
-in_run keep w few room s = record {
-  in_order = in_order w s;
-  checked = λ i. log_checked w i s;
-  meaning = λ i. (fold_is_meaning (cores (site w i).log) (log_checked w i s) (short keep w i few room)).0;
-  clean = λ i. (fold_is_meaning (cores (site w i).log) (log_checked w i s) (short keep w i few room)).1;
-  refers = refers w s;
-  sold = λ i. (checked_holds (cores (site w i).log) (log_checked w i s)).stock;
-  stock = λ i j n r e f. stock_left (cores (site w i).log) j n r (checked_holds (cores (site w i).log) (log_checked w i s)) e
-      (sym ((fold_is_meaning (cores (site w i).log) (log_checked w i s) (short keep w i few room)).0.rows (key.Item j)) ∙ f);
-  nicks = one_nick (Sent w) (ground w s) (single w s);
-  closed_once = one_close (Sent w) (ground w s) (single w s);
-  winner = winner_is (Sent w) (ground w s) (single w s);
-  ended = λ i j r o e f. row_winner (Sent w) (ground w s) (single w s) (site w i).log j r o (logged w s i)
-      (sym ((fold_is_meaning (cores (site w i).log) (log_checked w i s) (short keep w i few room)).0.rows (key.Item j)) ∙ e) f;
-}
+in_run keep w few room s = record { in_order = in_order w s; invariants = invariants }
+  where
+    at : (i : ℕ) → Checked (cores (site w i).log)
+    at i = log_checked w i s
+
+    means : (i : ℕ) → IsMeaning (cores (site w i).log) (fold_of (cores (site w i).log)).tables × ((fold_of (cores (site w i).log)).misfits ≡ [])
+    means i = fold_is_meaning (cores (site w i).log) (at i) (short keep w i few room)
+
+    invariants : KeepInvariants (Sent w) (IsLogOf w)
+    invariants = record {
+      checked = λ log of. subst (λ l. Checked (cores l)) (sym of.messages) (at log.site);
+      meaning = λ log of. subst (λ l. IsMeaning (cores l) (fold_of (cores l)).tables) (sym of.messages) (means log.site).0;
+      clean = λ log of. ap (λ l. (fold_of (cores l)).misfits) of.messages ∙ (means log.site).1;
+      refers = refers w s;
+      holds = λ log of. subst (λ l. Holds (cores l)) (sym of.messages) (checked_holds (cores (site w log.site).log) (at log.site));
+      stock = λ log of j n r e f. stock_left (cores (site w log.site).log) j n r (checked_holds (cores (site w log.site).log) (at log.site))
+          (ap (λ l. item_at j (cores l)) (sym of.messages) ∙ e)
+          (sym ((means log.site).0.rows (key.Item j)) ∙ ap (λ l. rows_at l (key.Item j)) (sym of.messages) ∙ f);
+      nicks = one_nick (Sent w) (ground w s) (single w s);
+      closed_once = one_close (Sent w) (ground w s) (single w s);
+      winner = winner_is (Sent w) (ground w s) (single w s);
+      ended = λ log of j r o e f. row_winner (Sent w) (ground w s) (single w s) (site w log.site).log j r o (logged w s log.site)
+          (sym ((means log.site).0.rows (key.Item j)) ∙ ap (λ l. rows_at l (key.Item j)) (sym of.messages) ∙ e) f;
+    }
 
 -- ---- every run is sound
 pub sound_run : (n keep : ℕ) (events : List Event) → 1 ≤ n → keep ≤ 1000000 → AreEvents n events → Sound (run keep events (start n))

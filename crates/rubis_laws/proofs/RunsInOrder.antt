@@ -13,7 +13,8 @@ use Rattle.rubis_model.specs.Settle.{counted, Ready, Has}
 use Rattle.rubis_model.specs.Sound.{CountedBy, Sound}
 use Rattle.rubis_model.specs.System.{World, site, place}
 use Rattle.rubis_model.specs.Site.{Replica, not_ours, is_repeat, is_full, arrived, arrival_of, after_came}
-use Rattle.rubis_model.specs.Laws.{Sent, InOrder}
+use Rattle.rubis_model.specs.Claims.{SerializeOneOrder}
+use Rattle.rubis_model.specs.Laws.{Sent, IsLogOf, InOrder}
 use Rattle.rubis_model.proofs.Pasts.{seq_within, found, once, made_at, dep_within, clash}
 use Rattle.rubis_model.proofs.Settling.{counted_reverse}
 use Rattle.rubis_model.proofs.Lists.{has_left, has_last, has_back}
@@ -176,8 +177,8 @@ foundation w v s b = record {
     counts : (u : Message) → Precedes u v → u.stamp.id.seq ≤ counted u.stamp.id.site m.0
     counts u p = omega (arith, m.2 u.stamp.id.site)
 
-pub in_order : (w : World) → Sound w → InOrder w
-in_order w s = record {
+serial : (w : World) → Sound w → SerializeOneOrder (Sent w) (IsLogOf w)
+serial w s = record {
   ids = λ u v a b. unique w u v s a b;
   order = record {
     irreflexive = λ u a p. let o = own w u s a in omega arith;
@@ -185,10 +186,15 @@ in_order w s = record {
     reds =
         λ u v a b l k. ⊎_elim (λ e. inl (s.reds.single u v a b l e)) (λ o. inr (⊎_elim (λ f. inl (s.reds.ordered u v a b l f)) (λ f. inr (s.reds.ordered v u b a k f)) o)) (cases_order u.stamp.red v.stamp.red);
   };
+  logs = λ log of. subst (Serializes log.site (Sent w)) (sym of.messages) (serializes w log.site s);
+}
+
+pub in_order : (w : World) → Sound w → InOrder w
+in_order w s = record {
+  serial = serial w s;
   smaller_first = s.reds.ordered;
   numbered = s.reds.each;
   numbered_once = s.reds.single;
-  logs = λ i. serializes w i s;
   foundation = λ v b. foundation w v s b;
   token = s.token;
   numbers = s.reds.small;

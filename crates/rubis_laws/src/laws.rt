@@ -1,6 +1,7 @@
 // The laws of runs and of logs, each with its statement in rubis_model/specs.
+ghost use Rattle.rubis_model.specs.AuditRecords.{LinesAreReadAsWritten, LogsAreReadAsWritten};
 ghost use Rattle.rubis_model.specs.Forged.{FirstKeepsTheName, StockIsKept};
-ghost use Rattle.rubis_model.specs.Laws.{MeaningIsOne, FoldIsMeaning, CheckedLogsHold, DecidedShadowsFit, EqualSetsEqualTables, RunsAreInOrder, RunsKeepInvariants, RunsAgreeOnTables, RunsMakeMessages, RefusalsChangeNothing, FaultlessLogsAreSound, RunsAreFaultless};
+ghost use Rattle.rubis_model.specs.Laws.{MeaningIsOne, FoldIsMeaning, CheckedLogsHold, DecidedShadowsFit, EqualSetsEqualTables, RunsAreInOrder, RunsKeepInvariants, RunsAgreeOnTables, RunsMakeMessages, RefusalsChangeNothing, FaultlessLogsAreSound, RunsAreFaultless, AgreesWhereFaultless, AgreedLogsAreSound, RunsAgree};
 
 /// A log that passes the checks folds without misfit to the meaning of its set, and there is only one.
 pub fn fold_is_meaning()
@@ -54,9 +55,30 @@ pub fn faultless_logs_are_sound()
     ensures { FaultlessLogsAreSound }
 {}
 
-/// The logs of every run pass the checks together.
+/// The logs of every run, with their tables or without, pass the checks together.
 pub fn every_run_is_faultless()
     ensures { RunsAreFaultless }
+{}
+
+/// An auditor's verdict is Agree just where the logs pass the checks together.
+pub fn verdict_agrees_where_faultless()
+    ensures { AgreesWhereFaultless }
+{}
+
+/// Logs of which the verdict is Agree are sound.
+pub fn agreed_logs_are_sound()
+    ensures { AgreedLogsAreSound }
+{}
+
+/// Of the logs of every run, with their tables or without, the verdict is Agree.
+pub fn every_run_is_agreed()
+    ensures { RunsAgree }
+{}
+
+/// The records of an audit are those of just the logs that they are read as.
+pub fn audits_are_read_as_written()
+    ensures lines { LinesAreReadAsWritten }
+    ensures logs { LogsAreReadAsWritten }
 {}
 
 /// In every log, forged ones too, no stock is below zero, and a nickname stays with the first user that has it.

@@ -77,7 +77,7 @@ Decides-item a b = Decides-like _
     (Decides-and _ _ (Decides-eqb a.stock b.stock)
     (Decides-and _ _ (Decides-eqb a.start b.start) (Decides-eqb a.price b.price))))))
 
-Decides-winner : (a b : Option Id) → Decides (option_eq same_id a b) (a ≡ b)
+pub Decides-winner : (a b : Option Id) → Decides (option_eq same_id a b) (a ≡ b)
 Decides-winner None None = (λ e. refl, λ e. refl)
 Decides-winner (Some a) (Some b) = Decides-like _ (ap Some) (λ e. cc) (Decides-same_id a b)
 Decides-winner None (Some b) = (λ e. absurd cc, λ e. absurd cc)

@@ -1,32 +1,29 @@
 -- What the logs of several sites are checked for together, and what they then are.
-use Rattle.std.specs.Prelude.{◌≡◌, ℕ, ◌+◌, ◌^◌, ◌<◌, ◌≤◌, nat_lt, true, List, [], ◌∷◌, length, reverse, Option, Some, IfSome, ⊤}
-use Rattle.rubis_schema.specs.declared.ids.Id.{Id}
-use Rattle.rubis_schema.specs.declared.row_keys.RowKey.TheVariants as key
-use Rattle.rubis_schema.specs.declared.rows.ItemRow.{ItemRow}
-use Rattle.rubis_schema.specs.declared.rows.Row.TheVariants as row
-use Rattle.rubis_schema.specs.declared.rows.Sale.TheVariants.{Ended}
-use Rattle.rubis_shadow.specs.Shadows.{is_red}
-use Rattle.rubis_shadow.specs.declared.shadows.NewItem.{NewItem}
-use Rattle.rubis_message.specs.Message.{Message, dep}
-use Rattle.rubis_model.specs.Log.{cores, fold_of}
-use Rattle.rubis_model.specs.Meaning.{IsMeaning, item_at, total, sold_of, as_user, closes, winner_of}
-use Rattle.rubis_model.specs.Checks.{Fits, IsLimited}
+use Rattle.std.specs.Prelude.{◌≡◌, ℕ, ◌+◌, ◌<◌, ◌≤◌, List, [], ◌∷◌, reverse, IfSome, ⊤}
+use Rattle.rubis_schema.specs.Tables.{Tables}
+use Rattle.rubis_schema.specs.declared.listings.Listing.TheVariants as listing
+use Rattle.rubis_message.specs.Message.{Message, IsMessage, dep, sites_of}
+use Rattle.rubis_model.specs.Log.{cores}
+use Rattle.rubis_model.specs.Logs.{Log, shown_rows}
+use Rattle.rubis_model.specs.Listings.{table_rows}
+use Rattle.rubis_model.specs.Meaning.{IsMeaning}
+use Rattle.rubis_model.specs.Checks.{Fits}
+use Rattle.rubis_model.specs.Claims.{SerializeOneOrder, KeepInvariants}
 use Rattle.rubis_model.specs.Settle.{Has, Ready, counted}
-use Rattle.rubis_model.specs.Site.{rows_at}
-use Rattle.rubis_model.specs.Order.{Precedes, IsRedBlueOrder, Serializes}
+use Rattle.rubis_model.specs.Order.{Precedes}
 use Rattle.rubis_model.specs.References.{RefersOf}
-use Rattle.rubis_model.specs.Bids.{IsHighestBid}
+
+-- one of the logs
+abbrev pub OneOf : List Log → Type 0
+OneOf logs = (log : Log) × Has log logs
 
 -- the message stands in one of the logs
-abbrev pub Logged : (ℕ → List Message) → Message → Type 0
-Logged log v = (k : ℕ) × Has v (log k)
+abbrev pub Logged : List Log → Message → Type 0
+Logged logs v = (log : OneOf logs) × Has v log.0.messages
 
--- what the type of a message keeps: it counts all of its origin before it, it has a red number just where it is red, and
--- it is within the limits
-pub record IsFormed (v : Message) : Type 0 where
-  pub own : v.stamp.id.seq ≡ dep v v.stamp.id.site + 1
-  pub colour : is_red v.shadow ≡ nat_lt 0 v.stamp.red
-  pub limits : IsLimited v.shadow
+-- each message is one of so many sites, as its type says
+abbrev pub AreAmong : ℕ → List Log → Type 0
+AreAmong sites logs = (v : Message) → Logged logs v → IsMessage v × (sites_of v ≡ sites)
 
 -- v is in order in a log of site i, after these, newest first: it was ready there, it counts just these if it is of that
 -- site, and all that is counted by what it counts last of any site; and the red one before it precedes it
@@ -45,39 +42,22 @@ abbrev pub AllFitting : List Message → Type 0
 AllFitting [] = ⊤
 AllFitting (v ∷ past) = (Fits (cores (reverse past)) v.shadow × RefersOf (λ u. Has u past) v v.shadow) × AllFitting past
 
--- the logs, log k being one of site `sites k`, pass all checks together
-pub record AreFaultless (sites : ℕ → ℕ) (log : ℕ → List Message) : Type 0 where
-  -- what their types keep: each message is formed, and no log has more entries than there are numbers for them
-  pub formed : (v : Message) → Logged log v → IsFormed v
-  pub short : (k : ℕ) → length (log k) ≤ 2 ^ 32
+-- the logs pass all checks together
+pub record AreFaultless (logs : List Log) : Type 0 where
   -- two messages of one id are one
-  pub clash : (u v : Message) → Logged log u → Logged log v → u.stamp.id.site ≡ v.stamp.id.site → u.stamp.id.seq ≡ v.stamp.id.seq → u ≡ v
+  pub clash : (u v : Message) → Logged logs u → Logged logs v → u.stamp.id.site ≡ v.stamp.id.site → u.stamp.id.seq ≡ v.stamp.id.seq → u ≡ v
   -- each is in order in its log
-  pub ordered : (k : ℕ) → AllOrdered (sites k) (reverse (log k))
+  pub ordered : (log : Log) → Has log logs → AllOrdered log.site (reverse log.messages)
   -- two messages of one red number are one
-  pub red_once : (u v : Message) → Logged log u → Logged log v → 0 < u.stamp.red → u.stamp.red ≡ v.stamp.red → u ≡ v
+  pub red_once : (u v : Message) → Logged logs u → Logged logs v → 0 < u.stamp.red → u.stamp.red ≡ v.stamp.red → u ≡ v
   -- each fits after those before it in its log
-  pub fitting : (k : ℕ) → AllFitting (reverse (log k))
+  pub fitting : (log : Log) → Has log logs → AllFitting (reverse log.messages)
+  -- rows that are claimed are those of the log
+  pub rows : (log : Log) → Has log logs → IfSome log.rows (λ rows. rows ≡ shown_rows log.messages)
 
--- the logs are sound: they causally serialize one RedBlue order, each folds without misfit to the meaning of its set, and
--- the invariants hold over all of them together
-pub record AreSound (sites : ℕ → ℕ) (log : ℕ → List Message) : Type 0 where
-  -- two messages of one id are one
-  pub ids : (u v : Message) → Logged log u → Logged log v → u.stamp.id.site ≡ v.stamp.id.site → u.stamp.id.seq ≡ v.stamp.id.seq → u ≡ v
-  pub order : IsRedBlueOrder (Logged log)
-  pub logs : (k : ℕ) → Serializes (sites k) (Logged log) (log k)
-  -- each refers to messages of the right kind that precede it
-  pub refers : (v : Message) → Logged log v → RefersOf (Logged log) v v.shadow
-  pub meaning : (k : ℕ) → IsMeaning (cores (log k)) (fold_of (cores (log k))).tables
-  pub clean : (k : ℕ) → (fold_of (cores (log k))).misfits ≡ []
-  -- no more of an item is sold than its opening stock, and the rest is what the tables show
-  pub sold : (k : ℕ) (item : Id) → IfSome (item_at item (cores (log k))) (λ n. total (sold_of item) (cores (log k)) ≤ n.stock)
-  pub stock : (k : ℕ) (item : Id) (n : NewItem) (r : ItemRow) → item_at item (cores (log k)) ≡ Some n
-      → rows_at (log k) (key.Item item) ≡ Some (row.Item r) → r.stock + r.sold ≡ n.stock
-  -- in all logs together: a nickname has one user, and an item is closed once
-  pub nicks : (nick : List ℕ) (u v : Message) → Logged log u → Logged log v → as_user u.shadow ≡ Some nick → as_user v.shadow ≡ Some nick → u ≡ v
-  pub closed_once : (item : Id) (u v : Message) → Logged log u → Logged log v → closes item u.shadow ≡ true → closes item v.shadow ≡ true → u ≡ v
-  -- the winner is the highest of all bids in the logs; as the close says it, and as the tables of each log show it
-  pub winner : (item : Id) (c : Message) → Logged log c → closes item c.shadow ≡ true → IsHighestBid (Logged log) item (winner_of c.shadow)
-  pub ended : (k : ℕ) (item : Id) (r : ItemRow) (winner : Option Id) → rows_at (log k) (key.Item item) ≡ Some (row.Item r)
-      → r.sale ≡ Ended winner → IsHighestBid (Logged log) item winner
+-- the logs are sound: they causally serialize one RedBlue order, each folds without misfit to the meaning of its set, the
+-- invariants hold over all of them together, and rows that are claimed are those of the tables that the set means
+pub record AreSound (logs : List Log) : Type 0 where
+  pub serial : SerializeOneOrder (Logged logs) (λ log. Has log logs)
+  pub invariants : KeepInvariants (Logged logs) (λ log. Has log logs)
+  pub rows : (log : Log) → Has log logs → IfSome log.rows (λ rows. (t : Tables) → IsMeaning (cores log.messages) t → rows ≡ table_rows listing.Tables t)

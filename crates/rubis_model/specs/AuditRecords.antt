@@ -1,8 +1,11 @@
 -- The records that an auditor reads, and the one that it writes.
-use Rattle.std.specs.Prelude.{ℕ, ◌+◌, List, [], ◌∷◌, ◌++◌, reverse, bytes_eq, codes, decimal, Option, Some, None, option_and_then, unwrap_or, Result, Ok, Err}
+use Rattle.std.specs.Prelude.{◌≡◌, ◌≢◌, ◌↔◌, ℕ, ◌+◌, ◌<◌, ◌≤◌, List, [], ◌∷◌, ◌++◌, map, reverse, bytes_eq, codes, decimal, Option, Some, None, option_and_then, unwrap_or, Result, Ok, Err}
+use Rattle.std.specs.List.{flat_map}
 use Rattle.std.specs.Option.{option_or}
 use Rattle.rubis_schema.specs.FieldForms.{only_if}
+use Rattle.rubis_schema.specs.declared.limits.TheConstants.{COUNTED_MAX}
 use Rattle.rubis_message.specs.Forms.{Form, ◌>>=◌, ◌>>◌, check, made, one, take_site, whole}
+use Rattle.rubis_message.specs.Grammar.{IsMessageAmong, message_record}
 use Rattle.rubis_message.specs.Kinds.{name_of}
 use Rattle.rubis_message.specs.Message.{Message}
 use Rattle.rubis_message.specs.Readings.{packet_of}
@@ -11,6 +14,7 @@ use Rattle.rubis_message.specs.declared.answers.Verdict.TheVariants.{Agree, Foun
 use Rattle.rubis_message.specs.declared.tokens.Packet.{Packet}
 use Rattle.rubis_message.specs.declared.tokens.Packet.TheVariants as packet
 use Rattle.rubis_model.specs.Logs.{Log}
+use Rattle.rubis_model.specs.Settle.{Has}
 use Rattle.rubis_model.specs.Verdict.{verdict}
 
 -- what a record says: a log of that site begins; its next message; one of the rows that it claims
@@ -71,3 +75,40 @@ audit_record (Err n) = codes "audit" ∷ codes "BadRecord" ∷ decimal n ∷ []
 -- the record that answers these records: the verdict on their logs, or the first record that isn't so
 abbrev pub audit_of : ℕ → List (List (List ℕ)) → List (List ℕ)
 audit_of sites records = audit_record (logs_after sites 1 [] records)
+
+-- ---- what is written is read, and nothing else
+
+-- the record that says so
+abbrev pub line_record : Line → List (List ℕ)
+line_record (Begin site) = codes "site" ∷ decimal site ∷ []
+line_record (Next m) = message_record m
+line_record (Claim row) = row
+
+-- it can be said among so many sites
+abbrev pub IsLine : ℕ → Line → Type 0
+IsLine sites (Begin site) = site < sites
+IsLine sites (Next m) = IsMessageAmong sites m
+IsLine sites (Claim row) = (rest : List (List ℕ)) × (row ≡ codes "row" ∷ rest)
+
+-- the records of a log: its site, its messages, and the rows that it claims
+abbrev pub log_records : Log → List (List (List ℕ))
+log_records log = line_record (Begin log.site) ∷ (map message_record log.messages ++ unwrap_or log.rows [])
+
+-- a log that records can say, among so many sites; if it claims rows, it claims some
+pub record IsLogAmong (sites : ℕ) (log : Log) : Type 0 where
+  pub site : log.site < sites
+  pub messages : (m : Message) → Has m log.messages → IsMessageAmong sites m
+  pub some : log.rows ≢ Some []
+  pub rows : (row : List (List ℕ)) → Has row (unwrap_or log.rows []) → IsLine sites (Claim row)
+
+-- a record says just what can be said and is written so
+abbrev pub LinesAreReadAsWritten : Type 0
+LinesAreReadAsWritten =
+    (sites : ℕ) → sites ≤ COUNTED_MAX → (fields : List (List ℕ)) (line : Line)
+    → (line_of sites fields ≡ Some line) ↔ (IsLine sites line × (fields ≡ line_record line))
+
+-- and so the records of logs are those of just these logs
+abbrev pub LogsAreReadAsWritten : Type 0
+LogsAreReadAsWritten =
+    (sites : ℕ) → sites ≤ COUNTED_MAX → (records : List (List (List ℕ))) (logs : List Log)
+    → (logs_after sites 1 [] records ≡ Ok (reverse logs)) ↔ (((log : Log) → Has log logs → IsLogAmong sites log) × (records ≡ flat_map log_records logs))

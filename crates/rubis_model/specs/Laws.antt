@@ -1,5 +1,5 @@
 -- The laws of every run and of every log, as contracts name them.
-use Rattle.std.specs.Prelude.{◌≡◌, ◌≢◌, ℕ, ◌+◌, ◌^◌, ◌<◌, ◌≤◌, List, [], ◌++◌, length, Option, Some, IfSome, true, Ok, Err, slice_get, ◌↔◌}
+use Rattle.std.specs.Prelude.{◌≡◌, ◌≢◌, ℕ, ◌+◌, ◌^◌, ◌<◌, ◌≤◌, List, [], ◌++◌, length, Some, IfSome, Ok, Err, slice_get, ◌↔◌}
 use Rattle.std.specs.FinMap as map
 use Rattle.rubis_schema.specs.Keys.{home}
 use Rattle.rubis_schema.specs.Tables.{Tables}
@@ -7,7 +7,6 @@ use Rattle.rubis_schema.specs.declared.row_keys.RowKey.{RowKey}
 use Rattle.rubis_shadow.specs.Changes.{after, misfit_of}
 use Rattle.rubis_shadow.specs.declared.asks.Ask.{Ask}
 use Rattle.rubis_shadow.specs.declared.changes.Effect.{Effect}
-use Rattle.rubis_shadow.specs.declared.shadows.NewItem.{NewItem}
 use Rattle.rubis_shadow.specs.declared.shadows.Shadow.{Shadow}
 use Rattle.rubis_generate.specs.Decision.{decision}
 use Rattle.rubis_generate.specs.Lookup.{rows_of}
@@ -15,26 +14,23 @@ use Rattle.rubis_generate.specs.declared.standing.Standing.{Standing}
 use Rattle.rubis_shadow.specs.declared.numbered.Misfit.{Misfit}
 use Rattle.rubis_message.specs.declared.answers.Arrival.TheVariants as arrival
 use Rattle.rubis_message.specs.declared.answers.Taken.TheVariants as taken
+use Rattle.rubis_message.specs.declared.answers.Verdict.TheVariants.{Agree}
 use Rattle.rubis_message.specs.declared.tokens.Token.{Token}
-use Rattle.rubis_schema.specs.declared.ids.Id.{Id}
-use Rattle.rubis_schema.specs.declared.row_keys.RowKey.TheVariants as key
-use Rattle.rubis_schema.specs.declared.rows.ItemRow.{ItemRow}
-use Rattle.rubis_schema.specs.declared.rows.Row.TheVariants as row
-use Rattle.rubis_schema.specs.declared.rows.Sale.TheVariants.{Ended}
 use Rattle.rubis_schema.specs.declared.refusals.Refusal.{Refusal}
 use Rattle.rubis_schema.specs.declared.refusals.Refusal.TheVariants.{NotOurs}
 use Rattle.rubis_message.specs.Message.{Message, IsMessage}
 use Rattle.rubis_model.specs.Settle.{Has, Settles, settle}
-use Rattle.rubis_model.specs.Site.{asked, arrived, took, passed, rows_at}
+use Rattle.rubis_model.specs.Site.{asked, arrived, took, passed}
 use Rattle.rubis_model.specs.Log.{Core, cores, fold_of}
-use Rattle.rubis_model.specs.Meaning.{IsMeaning, item_at, total, sold_of, as_user, closes, winner_of}
+use Rattle.rubis_model.specs.Meaning.{IsMeaning}
 use Rattle.rubis_model.specs.Checks.{Fits, Checked, SameSet}
 use Rattle.rubis_model.specs.Invariants.{Holds}
 use Rattle.rubis_model.specs.Shares.{part_of, batch_folded, share_folded, InPlace}
-use Rattle.rubis_model.specs.Audit.{AreFaultless, AreSound}
-use Rattle.rubis_model.specs.References.{RefersOf}
-use Rattle.rubis_model.specs.Bids.{IsHighestBid}
-use Rattle.rubis_model.specs.Order.{Precedes, IsRedBlueOrder, Serializes, Foundation}
+use Rattle.rubis_model.specs.Audit.{AreAmong, AreFaultless, AreSound}
+use Rattle.rubis_model.specs.Claims.{SerializeOneOrder, KeepInvariants}
+use Rattle.rubis_model.specs.Logs.{Log, shown_rows}
+use Rattle.rubis_model.specs.Verdict.{verdict}
+use Rattle.rubis_model.specs.Order.{Precedes, Foundation}
 use Rattle.rubis_model.specs.System.{World, Event, AreEvents, site, place, happens, run, start}
 use Rattle.rubis_model.specs.System.Packet.{Mail, Right}
 use Rattle.rubis_model.specs.System.Event.{Request, Pass, Deliver}
@@ -104,55 +100,38 @@ SettlingHasOneOutcome = (log waiting : List Message) → Settles log waiting (se
 abbrev pub Sent : World → Message → Type 0
 Sent w m = Has (Mail m) w.sent
 
+-- it is the log of a site, with its tables as `list,tables` gives them, or without
+pub record IsLogOf (w : World) (log : Log) : Type 0 where
+  pub messages : log.messages ≡ (site w log.site).log
+  pub rows : IfSome log.rows (λ rows. rows ≡ shown_rows log.messages)
+
 -- all sites' logs causally serialize one RedBlue order
 pub record InOrder (w : World) : Type 0 where
-  -- two messages of one id are one
-  pub ids : (u v : Message) → Sent w u → Sent w v → u.stamp.id.site ≡ v.stamp.id.site → u.stamp.id.seq ≡ v.stamp.id.seq → u ≡ v
-  pub order : IsRedBlueOrder (Sent w)
+  pub serial : SerializeOneOrder (Sent w) (IsLogOf w)
   -- of two red ones, the one with the smaller number precedes
   pub smaller_first : (u v : Message) → Sent w u → Sent w v → 0 < u.stamp.red → u.stamp.red < v.stamp.red → Precedes u v
   -- the red numbers are 1 to their count, each once
   pub numbers : (m : Message) → Sent w m → m.stamp.red ≤ red_count w.sent
   pub numbered : (r : ℕ) → 1 ≤ r → r ≤ red_count w.sent → (m : Message) × (Sent w m) × (m.stamp.red ≡ r)
   pub numbered_once : (u v : Message) → Sent w u → Sent w v → 0 < u.stamp.red → u.stamp.red ≡ v.stamp.red → u ≡ v
-  pub logs : (i : ℕ) → Serializes i (Sent w) (site w i).log
-  -- each was decided against just what precedes it
+  -- each fits after just what precedes it
   pub foundation : (v : Message) → Sent w v → Foundation (Sent w) v
   -- no site answers NotOurs to a message that was sent
   pub ours : (keep i : ℕ) (m : Message) → Sent w m → (arrived (place keep w i) (site w i) m).1 ≢ Err NotOurs
   -- the right to make red shadows is at one site, or in one packet that wasn't taken, with the greatest red number
   pub token : OneToken (length w.sites) (λ i. (site w i).held) (λ i. (site w i).last) w.sent
 
--- what the tables of a site know of its log, those tables, and the misfits
+-- what the tables of a site know of its log, and those tables
 abbrev pub known_at : World → ℕ → List Core
 known_at w i = cores (site w i).log
 
 abbrev pub tables_at : World → ℕ → Tables
 tables_at w i = (fold_of (known_at w i)).tables
 
-abbrev pub misfits_at : World → ℕ → List Misfit
-misfits_at w i = (fold_of (known_at w i)).misfits
-
 -- in each log and over all sites, the invariants hold
 pub record InRun (w : World) : Type 0 where
   pub in_order : InOrder w
-  -- each log passes the checks, and folds without misfit to the meaning of its set
-  pub checked : (i : ℕ) → Checked (known_at w i)
-  pub meaning : (i : ℕ) → IsMeaning (known_at w i) (tables_at w i)
-  pub clean : (i : ℕ) → misfits_at w i ≡ []
-  -- each refers to messages of the right kind that precede it
-  pub refers : (v : Message) → Sent w v → RefersOf (Sent w) v v.shadow
-  -- no more of an item is sold than its opening stock, and the rest is what the tables show
-  pub sold : (i : ℕ) (item : Id) → IfSome (item_at item (known_at w i)) (λ n. total (sold_of item) (known_at w i) ≤ n.stock)
-  pub stock : (i : ℕ) (item : Id) (n : NewItem) (r : ItemRow) → item_at item (known_at w i) ≡ Some n
-      → rows_at (site w i).log (key.Item item) ≡ Some (row.Item r) → r.stock + r.sold ≡ n.stock
-  -- over all sites: a nickname has one user, and an item is closed once
-  pub nicks : (nick : List ℕ) (u v : Message) → Sent w u → Sent w v → as_user u.shadow ≡ Some nick → as_user v.shadow ≡ Some nick → u ≡ v
-  pub closed_once : (item : Id) (u v : Message) → Sent w u → Sent w v → closes item u.shadow ≡ true → closes item v.shadow ≡ true → u ≡ v
-  -- the winner is the highest of all bids accepted anywhere; as the close says it, and as the tables of each site show it
-  pub winner : (item : Id) (c : Message) → Sent w c → closes item c.shadow ≡ true → IsHighestBid (Sent w) item (winner_of c.shadow)
-  pub ended : (i : ℕ) (item : Id) (r : ItemRow) (winner : Option Id) → rows_at (site w i).log (key.Item item) ≡ Some (row.Item r)
-      → r.sale ≡ Ended winner → IsHighestBid (Sent w) item winner
+  pub invariants : KeepInvariants (Sent w) (IsLogOf w)
 
 -- what any events at n sites lead to, where each site keeps at most so many messages
 abbrev pub EveryRun : (World → Type 0) → Type 0
@@ -195,8 +174,20 @@ RefusalsChangeNothing = (keep : ℕ) (w : World) (i : ℕ) → ChangesNothing ke
 
 -- logs that pass the checks together are sound
 abbrev pub FaultlessLogsAreSound : Type 0
-FaultlessLogsAreSound = (sites : ℕ → ℕ) (log : ℕ → List Message) → AreFaultless sites log → AreSound sites log
+FaultlessLogsAreSound = (sites : ℕ) (logs : List Log) → AreAmong sites logs → AreFaultless logs → AreSound logs
 
--- the logs of a run pass the checks together
+-- logs of a run, with their tables or without, pass the checks together
 abbrev pub RunsAreFaultless : Type 0
-RunsAreFaultless = EveryRun (λ w. AreFaultless (λ i. i) (λ i. (site w i).log))
+RunsAreFaultless = EveryRun (λ w. (logs : List Log) → ((log : Log) → Has log logs → IsLogOf w log) → AreFaultless logs)
+
+-- the verdict is Agree just where the logs pass the checks together
+abbrev pub AgreesWhereFaultless : Type 0
+AgreesWhereFaultless = (sites : ℕ) (logs : List Log) → AreAmong sites logs → (verdict logs ≡ Agree) ↔ AreFaultless logs
+
+-- so logs of which the verdict is Agree are sound
+abbrev pub AgreedLogsAreSound : Type 0
+AgreedLogsAreSound = (sites : ℕ) (logs : List Log) → AreAmong sites logs → verdict logs ≡ Agree → AreSound logs
+
+-- of logs of a run, with their tables or without, the verdict is Agree
+abbrev pub RunsAgree : Type 0
+RunsAgree = EveryRun (λ w. (logs : List Log) → ((log : Log) → Has log logs → IsLogOf w log) → verdict logs ≡ Agree)

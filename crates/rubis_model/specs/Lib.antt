@@ -13,6 +13,7 @@ pub mod Order
 pub mod References
 pub mod Bids
 pub mod Logs
+pub mod Claims
 pub mod Verdict
 pub mod AuditRecords
 pub mod Audit

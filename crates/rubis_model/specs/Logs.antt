@@ -11,6 +11,6 @@ pub record Log : Type 0 where
   pub messages : List Message
   pub rows : Option (List (List (List ℕ)))
 
--- the rows that `list,tables` gives of these messages
-abbrev pub rows_of : List Message → List (List (List ℕ))
-rows_of messages = table_rows listing.Tables (fold_of (cores messages)).tables
+-- the rows that `list,tables` shows of these messages
+abbrev pub shown_rows : List Message → List (List (List ℕ))
+shown_rows messages = table_rows listing.Tables (fold_of (cores messages)).tables

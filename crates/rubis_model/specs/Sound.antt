@@ -24,13 +24,13 @@ abbrev pub CountedBy : ℕ → List Message → Type 0
 CountedBy i [] = ⊤
 CountedBy i (m ∷ past) = (m.stamp.id.site ≡ i → (j : ℕ) → dep m j ≡ counted j past) × CountedBy i past
 
--- each that site i made was decided against what stood before it; newest first
+-- each that site i made fits after what stood before it; newest first
 abbrev pub DecidedBy : ℕ → List Message → Type 0
 DecidedBy i [] = ⊤
 DecidedBy i (m ∷ past) = (m.stamp.id.site ≡ i → Decided past m) × DecidedBy i past
 
--- of site i: each message of its log was ready when it was released, its own count all before them and were decided
--- against that; the log and the waiting messages were sent, and none that waits is its own
+-- of site i: each message of its log was ready when it was released, its own count all before them and fit
+-- after that; the log and the waiting messages were sent, and none that waits is its own
 pub record Good (sent : List Packet) (i : ℕ) (log waiting : List Message) : Type 0 where
   pub released : Released (reverse log)
   pub made : CountedBy i (reverse log)

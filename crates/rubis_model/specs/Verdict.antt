@@ -18,7 +18,7 @@ use Rattle.rubis_message.specs.declared.answers.Kind.TheVariants as kind
 use Rattle.rubis_message.specs.declared.answers.Verdict.{Verdict}
 use Rattle.rubis_message.specs.declared.answers.Verdict.TheVariants.{Agree, Found}
 use Rattle.rubis_model.specs.Log.{Core, cores}
-use Rattle.rubis_model.specs.Logs.{Log, rows_of}
+use Rattle.rubis_model.specs.Logs.{Log, shown_rows}
 use Rattle.rubis_model.specs.Meaning.{as_bid, as_item, as_user, best_bid, close_of, item_at, named, sold_of, supply, total}
 use Rattle.rubis_model.specs.Settle.{counted, reds}
 
@@ -139,7 +139,7 @@ same_rows = pointwise (pointwise bytes_eq)
 
 -- Rows: rows are claimed, and aren't those of the messages
 abbrev pub wrong_rows : Log → Bool
-wrong_rows log = option_map_or (λ rows. not (same_rows rows (rows_of log.messages))) log.rows false
+wrong_rows log = option_map_or (λ rows. not (same_rows rows (shown_rows log.messages))) log.rows false
 
 -- ---- the first fault
 

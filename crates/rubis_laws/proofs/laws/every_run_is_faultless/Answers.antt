@@ -1,7 +1,7 @@
 use Rattle.rubis_model.specs.System.{run, start}
-use Rattle.rubis_laws.proofs.Runs.{sound_run, room_of}
+use Rattle.rubis_laws.proofs.Runs.{sound_run}
 use Rattle.rubis_laws.proofs.Audited.{run_faultless}
 use Rattle.rubis_laws.proofs.laws.every_run_is_faultless.Goals as goal
 
 pub returns : goal.returns
-returns c = λ n keep events some few a. run_faultless keep (run keep events (start n)) few (room_of n keep events) (sound_run n keep events some few a)
+returns c = λ n keep events some few a. run_faultless (run keep events (start n)) (sound_run n keep events some few a)

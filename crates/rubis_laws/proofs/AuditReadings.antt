@@ -1,0 +1,313 @@
+-- The records of an audit are read as the logs that they are written for, and as nothing else.
+use Rattle.std.proofs.Common.{ℕ, ◌≡◌, ◌+◌, ◌≤◌, ◌<◌, ◌^◌, List, [], ◌∷◌, ◌++◌, Bool, true, false, cond, refl, sym, ap, ◌∙◌, subst, Option, Some, None, inl, inr, ⊎_elim, arith, append_assoc, append-nil}
+use Rattle.std.specs.Prelude.{◌⊎◌, ◌≢◌, bytes_eq, codes, map, option_and_then, reverse, unwrap_or, Result, Ok, Err}
+use Rattle.std.specs.Cmp.Lexicographic.{bytes_decides}
+use Rattle.std.specs.List.{flat_map}
+use Rattle.std.specs.Option.{option_or}
+use Rattle.std.proofs.lemmas.List.{map-append, reverse-append, reverse-reverse}
+use Rattle.std.proofs.lemmas.List.Concat.{flat_map-append}
+use Rattle.rubis_schema.specs.declared.limits.TheConstants.{COUNTED_MAX}
+use Rattle.rubis_message.specs.Forms.{after, check, made, no_more, take_site, whole}
+use Rattle.rubis_message.specs.Grammar.{IsMessageAmong, message_record}
+use Rattle.rubis_message.specs.Message.{Message}
+use Rattle.rubis_message.specs.Readings.{packet_of}
+use Rattle.rubis_message.specs.declared.tokens.Packet.{Packet}
+use Rattle.rubis_message.specs.declared.tokens.Packet.TheVariants as packet
+use Rattle.rubis_message.proofs.Forms.{IsForm, check_only, made_back, made_only, site_form, whole_back, whole_only}
+use Rattle.rubis_message.proofs.Records.{packet_is}
+use Rattle.rubis_model.specs.AuditRecords.{Line, IsLine, IsLogAmong, LinesAreReadAsWritten, LogsAreReadAsWritten, claim_of, line_of, line_record, log_records, logs_after, next_of, take_begin, with_line}
+use Rattle.rubis_model.specs.AuditRecords.Line.{Begin, Next, Claim}
+use Rattle.rubis_model.specs.Logs.{Log}
+use Rattle.rubis_model.specs.Settle.{Has}
+use Rattle.rubis_model.proofs.Lists.{has_back, push_cases}
+
+-- ---- one record
+
+-- `site` and its number
+abbrev IsBegin : ℕ → Line → Type 0
+IsBegin sites (Begin site) = site < sites
+IsBegin sites line = ⊥
+
+begin_back : (sites : ℕ) → sites < 2 ^ 8 → (x : Line) (rest : List (List ℕ)) → IsBegin sites x → take_begin sites (line_record x ++ rest) ≡ Some (x, rest)
+unfolding take_begin
+begin_back sites few (Begin site) rest h = made_back (site_form sites few) Begin site rest h
+begin_back sites few (Next m) rest h = absurd h
+begin_back sites few (Claim row) rest h = absurd h
+
+begin_only : (sites : ℕ) → sites < 2 ^ 8 → (fields rest : List (List ℕ)) (x : Line) → take_begin sites fields ≡ Some (x, rest)
+    → IsBegin sites x × (fields ≡ line_record x ++ rest)
+unfolding take_begin
+begin_only sites few [] rest x e = absurd cc
+begin_only sites few (word ∷ more) rest x e =
+    let c = check_only (bytes_eq word (codes "site")) more rest (made Begin (take_site sites)) x e in
+    let w = (bytes_decides word (codes "site")).0 c.0 in
+    made_only (site_form sites few) Begin (λ y behind. IsBegin sites y × (word ∷ more ≡ line_record y ++ behind)) more rest x c.1
+    (λ site behind h is. (h, (λ i. w i ∷ is i)))
+
+begin_form : (sites : ℕ) → sites < 2 ^ 8 → IsForm (IsBegin sites) line_record (take_begin sites)
+begin_form sites few = record { back = begin_back sites few; only = begin_only sites few }
+
+-- any record whose first field is `row`
+claim_only : (fields : List (List ℕ)) (x : Line) → claim_of fields ≡ Some x → (rest : List (List ℕ)) × (fields ≡ codes "row" ∷ rest) × (x ≡ Claim fields)
+claim_only [] x e = absurd cc
+claim_only (word ∷ rest) x e = at (bytes_eq word (codes "row")) refl e
+  where
+    at : (b : Bool) → bytes_eq word (codes "row") ≡ b → cond b (Some (Claim (word ∷ rest))) None ≡ Some x
+        → (behind : List (List ℕ)) × (word ∷ rest ≡ codes "row" ∷ behind) × (x ≡ Claim (word ∷ rest))
+    at false q e = absurd cc
+    at true q e = (rest, (λ i. (bytes_decides word (codes "row")).0 q i ∷ rest), (let s : Claim (word ∷ rest) ≡ x = cc in sym s))
+
+next_only : (o : Option Packet) (x : Line) → option_and_then next_of o ≡ Some x → (m : Message) × (o ≡ Some (packet.Msg m)) × (x ≡ Next m)
+next_only None x e = absurd cc
+next_only (Some (packet.Msg m)) x e = (m, refl, (let s : Next m ≡ x = cc in sym s))
+next_only (Some (packet.Token t)) x e = absurd cc
+
+-- which of three it is
+first_or : {X : Type 0} (o p : Option X) (x : X) → option_or o p ≡ Some x → (o ≡ Some x) ⊎ (p ≡ Some x)
+first_or None p x e = inr e
+first_or (Some y) p x e = inl e
+
+few_sites : (sites : ℕ) → sites ≤ COUNTED_MAX → sites < 2 ^ 8
+few_sites sites top = omega (arith, top)
+
+line_only : (sites : ℕ) → sites ≤ COUNTED_MAX → (fields : List (List ℕ)) (x : Line) → line_of sites fields ≡ Some x
+    → IsLine sites x × (fields ≡ line_record x)
+line_only sites top fields x e = ⊎_elim begins (λ f. ⊎_elim claims says (first_or (claim_of fields) (option_and_then next_of (packet_of sites fields)) x f))
+    (first_or (whole (take_begin sites) fields) _ x e)
+  where
+    is_line : (y : Line) → IsBegin sites y → IsLine sites y
+    is_line (Begin site) h = h
+    is_line (Next m) h = absurd h
+    is_line (Claim row) h = absurd h
+
+    begins : whole (take_begin sites) fields ≡ Some x → IsLine sites x × (fields ≡ line_record x)
+    begins f = let w = whole_only (begin_form sites (few_sites sites top)) fields x f in (is_line x w.0, w.1)
+
+    claims : claim_of fields ≡ Some x → IsLine sites x × (fields ≡ line_record x)
+    claims f = let w = claim_only fields x f in subst (λ (y : Line). IsLine sites y × (fields ≡ line_record y)) (sym w.2) ((w.0, w.1), refl)
+
+    says : option_and_then next_of (packet_of sites fields) ≡ Some x → IsLine sites x × (fields ≡ line_record x)
+    says f =
+        let w = next_only (packet_of sites fields) x f in
+        let p = (packet_is sites (few_sites sites top) top fields (packet.Msg w.0)).0 w.1 in
+        subst (λ (y : Line). IsLine sites y × (fields ≡ line_record y)) (sym w.2) p
+
+-- what doesn't begin with `site` begins no log
+no_begin : (sites : ℕ) (word : List ℕ) (more : List (List ℕ)) → bytes_eq word (codes "site") ≡ false → whole (take_begin sites) (word ∷ more) ≡ None
+unfolding take_begin
+no_begin sites word more e = ap (λ b. no_more (after (check b more) (λ _. made Begin (take_site sites)))) e
+
+line_back : (sites : ℕ) → sites ≤ COUNTED_MAX → (x : Line) → IsLine sites x → line_of sites (line_record x) ≡ Some x
+line_back sites top (Begin site) h =
+    ap (λ o. option_or o (option_or (claim_of (line_record (Begin site))) (option_and_then next_of (packet_of sites (line_record (Begin site)))))) (whole_back (begin_form sites (few_sites sites top)) (line_record (Begin site)) (Begin site) h refl)
+line_back sites top (Next m) h =
+    ap (λ o. option_or o (option_or (claim_of (message_record m)) (option_and_then next_of (packet_of sites (message_record m))))) (no_begin sites (codes "msg") _ refl)
+    ∙ ap (option_and_then next_of) ((packet_is sites (few_sites sites top) top (message_record m) (packet.Msg m)).1 (h, refl))
+line_back sites top (Claim row) h = subst (λ (r : List (List ℕ)). line_of sites r ≡ Some (Claim r)) (sym h.1) (
+    ap (λ o. option_or o (option_or (claim_of (codes "row" ∷ h.0)) (option_and_then next_of (packet_of sites (codes "row" ∷ h.0))))) (no_begin sites (codes "row") h.0 refl)
+    )
+
+pub line_is : LinesAreReadAsWritten
+line_is sites top fields x = (line_only sites top fields x, (λ h. subst (λ f. line_of sites f ≡ Some x) (sym h.1) (line_back sites top x h.0)))
+
+-- ---- all records of an audit
+
+-- the records of logs, the newest log in front
+written : List Log → List (List (List ℕ))
+written [] = []
+written (log ∷ logs) = written logs ++ log_records log
+
+AllAmong : ℕ → List Log → Type 0
+AllAmong sites logs = (log : Log) → Has log logs → IsLogAmong sites log
+
+written_is : (logs : List Log) → written logs ≡ flat_map log_records (reverse logs)
+unfolding written
+written_is [] = refl
+written_is (log ∷ logs) =
+    ap (λ l. l ++ log_records log) (written_is logs)
+    ∙ ap (λ l. flat_map log_records (reverse logs) ++ l) (sym (append-nil (log_records log)))
+    ∙ sym (flat_map-append log_records (reverse logs) (log ∷ [])) ∙ ap (flat_map log_records) (sym (reverse-append (log ∷ []) logs))
+
+-- ---- each record goes on with what is written
+not_nothing : {A : Type 0} (xs : List A) (x : A) → Some (xs ++ x ∷ []) ≢ Some []
+not_nothing [] x e = cc
+not_nothing (y ∷ xs) x e = cc
+
+-- a message, where no row was claimed
+next_records : (log : Log) (m : Message) → log.rows ≡ None
+    → log_records log ++ message_record m ∷ [] ≡ log_records (record log { messages = log.messages ++ m ∷ [] })
+next_records log m q = ap (λ l. line_record (Begin log.site) ∷ l) (
+    ap (λ o. (map message_record log.messages ++ unwrap_or o []) ++ message_record m ∷ []) q
+    ∙ ap (λ l. l ++ message_record m ∷ []) (append-nil (map message_record log.messages))
+    ∙ sym (map-append message_record log.messages (m ∷ []))
+    ∙ sym (append-nil (map message_record (log.messages ++ m ∷ [])))
+    ∙ ap (λ o. map message_record (log.messages ++ m ∷ []) ++ unwrap_or o []) (sym q)
+    )
+
+claim_records : (log : Log) (row : List (List ℕ)) → log_records log ++ row ∷ [] ≡ log_records (record log { rows = Some (unwrap_or log.rows [] ++ row ∷ []) })
+claim_records log row = ap (λ l. line_record (Begin log.site) ∷ l) (append_assoc (map message_record log.messages) (unwrap_or log.rows []) (row ∷ []))
+
+-- the newest log in another state
+newest : (sites : ℕ) (log next : Log) (logs : List Log) (fields : List (List ℕ)) → AllAmong sites (log ∷ logs) → IsLogAmong sites next
+    → log_records log ++ fields ∷ [] ≡ log_records next
+    → AllAmong sites (next ∷ logs) × (written (log ∷ logs) ++ fields ∷ [] ≡ written (next ∷ logs))
+unfolding AllAmong written
+newest sites log next logs fields a n e = (
+  (λ l k. ⊎_elim (λ q. subst (IsLogAmong sites) (sym q) n) (λ r. a l (inr r)) k),
+  append_assoc (written logs) (log_records log) (fields ∷ []) ∙ ap (λ l. written logs ++ l) e,
+)
+
+first_among : (sites : ℕ) (log : Log) (logs : List Log) → AllAmong sites (log ∷ logs) → IsLogAmong sites log
+unfolding AllAmong
+first_among sites log logs a = a log (inl refl)
+
+with_next : (sites : ℕ) (log : Log) (m : Message) → log.rows ≡ None → IsMessageAmong sites m → IsLogAmong sites log
+    → IsLogAmong sites (record log { messages = log.messages ++ m ∷ [] })
+with_next sites log m q h a = record {
+  site = a.site;
+  messages = λ x k. ⊎_elim (a.messages x) (λ s. subst (IsMessageAmong sites) (sym s) h) (push_cases x m log.messages k);
+  some = a.some;
+  rows = a.rows;
+}
+
+with_claim : (sites : ℕ) (log : Log) (row : List (List ℕ)) → IsLine sites (Claim row) → IsLogAmong sites log
+    → IsLogAmong sites (record log { rows = Some (unwrap_or log.rows [] ++ row ∷ []) })
+with_claim sites log row h a = record {
+  site = a.site;
+  messages = a.messages;
+  some = not_nothing (unwrap_or log.rows []) row;
+  rows = λ r k. ⊎_elim (a.rows r) (λ s. subst (λ x. IsLine sites (Claim x)) (sym s) h) (push_cases r row (unwrap_or log.rows []) k);
+}
+
+goes_on : (sites : ℕ) (logs more : List Log) (line : Line) → with_line logs line ≡ Some more → IsLine sites line → AllAmong sites logs
+    → AllAmong sites more × (written logs ++ line_record line ∷ [] ≡ written more)
+unfolding AllAmong written
+goes_on sites logs more (Begin site) e h a =
+    let s : record { site = site; messages = []; rows = None } ∷ logs ≡ more = cc in
+    subst (λ (l : List Log). ((log : Log) → Has log l → IsLogAmong sites log) × (written logs ++ line_record (Begin site) ∷ [] ≡ written l)) s (
+      (λ log k. ⊎_elim (λ q. subst (IsLogAmong sites) (sym q) (record { site = h; messages = λ m x. absurd x; some = λ x. cc; rows = λ r x. absurd x })) (a log) k),
+      refl,
+    )
+goes_on sites [] more (Next m) e h a = absurd cc
+goes_on sites [] more (Claim row) e h a = absurd cc
+goes_on sites (log ∷ logs) more (Next m) e h a = at log.rows refl e
+  where
+    at : (o : Option (List (List (List ℕ)))) → log.rows ≡ o
+        → elim o as (λ _. Option (List Log)) [ None ↦ Some (record log { messages = log.messages ++ m ∷ [] } ∷ logs) | Some rows ↦ None ] ≡ Some more
+        → AllAmong sites more × (written (log ∷ logs) ++ message_record m ∷ [] ≡ written more)
+    at (Some rows) q e = absurd cc
+    at None q e =
+        let s : record log { messages = log.messages ++ m ∷ [] } ∷ logs ≡ more = cc in
+        subst (λ (l : List Log). AllAmong sites l × (written (log ∷ logs) ++ message_record m ∷ [] ≡ written l)) s
+        (newest sites log (record log { messages = log.messages ++ m ∷ [] }) logs (message_record m) a (with_next sites log m q h (first_among sites log logs a)) (next_records log m q))
+goes_on sites (log ∷ logs) more (Claim row) e h a =
+    let s : record log { rows = Some (unwrap_or log.rows [] ++ row ∷ []) } ∷ logs ≡ more = cc in
+    subst (λ (l : List Log). AllAmong sites l × (written (log ∷ logs) ++ row ∷ [] ≡ written l)) s
+    (newest sites log (record log { rows = Some (unwrap_or log.rows [] ++ row ∷ []) }) logs row a (with_claim sites log row h (first_among sites log logs a)) (claim_records log row))
+
+-- what is done with the logs after record n
+abbrev after_line : ℕ → ℕ → List (List (List ℕ)) → Option (List Log) → Result (List Log) ℕ
+after_line sites n rest o = elim o as (λ _. Result (List Log) ℕ) [ None ↦ Err n | Some more ↦ logs_after sites (n + 1) more rest ]
+
+-- what is so of the records behind record n
+Rest : ℕ → ℕ → List (List (List ℕ)) → Type 0
+Rest sites n rest = (l k : List Log) → AllAmong sites l → logs_after sites (n + 1) l rest ≡ Ok k → AllAmong sites k × (written l ++ rest ≡ written k)
+
+logs_only : (sites : ℕ) → sites ≤ COUNTED_MAX → (records : List (List (List ℕ))) (n : ℕ) (logs last : List Log) → AllAmong sites logs
+    → logs_after sites n logs records ≡ Ok last → AllAmong sites last × (written logs ++ records ≡ written last)
+unfolding Rest
+logs_only sites top [] n logs last a e =
+    let s : logs ≡ last = cc in
+    subst (λ (l : List Log). AllAmong sites l × (written logs ++ [] ≡ written l)) s (a, append-nil (written logs))
+logs_only sites top (fields ∷ rest) n logs last a e = line (line_of sites fields) refl e (logs_only sites top rest (n + 1))
+  where
+    step : (x : Line) (o : Option (List Log)) → line_of sites fields ≡ Some x → with_line logs x ≡ o → after_line sites n rest o ≡ Ok last → Rest sites n rest
+        → AllAmong sites last × (written logs ++ fields ∷ rest ≡ written last)
+    step x None p q f ih = absurd cc
+    step x (Some more) p q f ih =
+        let l = line_only sites top fields x p in
+        let g = goes_on sites logs more x q l.0 a in
+        let r = ih more last g.0 f in
+        (r.0, sym (append_assoc (written logs) (fields ∷ []) rest) ∙ ap (λ w. (written logs ++ w ∷ []) ++ rest) l.1 ∙ ap (λ w. w ++ rest) g.1 ∙ r.1)
+
+    line : (o : Option Line) → line_of sites fields ≡ o → after_line sites n rest (option_and_then (with_line logs) o) ≡ Ok last → Rest sites n rest
+        → AllAmong sites last × (written logs ++ fields ∷ rest ≡ written last)
+    line None p f ih = absurd cc
+    line (Some x) p f ih = step x (with_line logs x) p refl f ih
+
+-- ---- and back: what is written for logs is read as these
+-- from some logs to others by these records, whatever stands behind them
+Reaches : ℕ → List Log → List (List (List ℕ)) → List Log → Type 0
+Reaches sites logs records more = (n : ℕ) (rest : List (List (List ℕ))) → (m : ℕ) × (logs_after sites n logs (records ++ rest) ≡ logs_after sites m more rest)
+
+one_more : (sites : ℕ) → sites ≤ COUNTED_MAX → (logs more : List Log) (line : Line) (n : ℕ) (rest : List (List (List ℕ))) → IsLine sites line → with_line logs line ≡ Some more
+    → logs_after sites n logs (line_record line ∷ rest) ≡ logs_after sites (n + 1) more rest
+one_more sites top logs more line n rest h e =
+    ap (λ o. after_line sites n rest (option_and_then (with_line logs) o)) (line_back sites top line h) ∙ ap (after_line sites n rest) e
+
+messages_read : (sites : ℕ) → sites ≤ COUNTED_MAX → (site : ℕ) (own ms : List Message) (logs : List Log) → ((m : Message) → Has m ms → IsMessageAmong sites m)
+    → Reaches sites (record { site = site; messages = own; rows = None } ∷ logs) (map message_record ms) (record { site = site; messages = own ++ ms; rows = None } ∷ logs)
+unfolding Reaches
+messages_read sites top site own [] logs h n rest =
+    (n, ap (λ l. logs_after sites n (record { site = site; messages = l; rows = None } ∷ logs) rest) (sym (append-nil own)))
+messages_read sites top site own (m ∷ ms) logs h n rest =
+    let r = messages_read sites top site (own ++ m ∷ []) ms logs (λ x k. h x (inr k)) (n + 1) rest in (
+      r.0,
+      one_more sites top (record { site = site; messages = own; rows = None } ∷ logs) (record { site = site; messages = own ++ m ∷ []; rows = None } ∷ logs) (Next m) n (map message_record ms ++ rest) (h m (inl refl)) refl
+          ∙ r.1 ∙ ap (λ l. logs_after sites r.0 (record { site = site; messages = l; rows = None } ∷ logs) rest) (append_assoc own (m ∷ []) ms),
+    )
+
+rows_read : (sites : ℕ) → sites ≤ COUNTED_MAX → (site : ℕ) (own : List Message) (rows more : List (List (List ℕ))) (logs : List Log)
+    → ((r : List (List ℕ)) → Has r more → IsLine sites (Claim r))
+    → Reaches sites (record { site = site; messages = own; rows = Some rows } ∷ logs) more (record { site = site; messages = own; rows = Some (rows ++ more) } ∷ logs)
+unfolding Reaches
+rows_read sites top site own rows [] logs h n rest =
+    (n, ap (λ l. logs_after sites n (record { site = site; messages = own; rows = Some l } ∷ logs) rest) (sym (append-nil rows)))
+rows_read sites top site own rows (r ∷ more) logs h n rest =
+    let k = rows_read sites top site own (rows ++ r ∷ []) more logs (λ x j. h x (inr j)) (n + 1) rest in (
+      k.0,
+      one_more sites top (record { site = site; messages = own; rows = Some rows } ∷ logs) (record { site = site; messages = own; rows = Some (rows ++ r ∷ []) } ∷ logs) (Claim r) n (more ++ rest) (h r (inl refl)) refl
+          ∙ k.1 ∙ ap (λ l. logs_after sites k.0 (record { site = site; messages = own; rows = Some l } ∷ logs) rest) (append_assoc rows (r ∷ []) more),
+    )
+
+log_said : (sites : ℕ) → sites ≤ COUNTED_MAX → (site : ℕ) (ms : List Message) (o : Option (List (List (List ℕ)))) (logs : List Log) → site < sites
+    → ((m : Message) → Has m ms → IsMessageAmong sites m) → o ≢ Some [] → ((r : List (List ℕ)) → Has r (unwrap_or o []) → IsLine sites (Claim r))
+    → Reaches sites logs (line_record (Begin site) ∷ (map message_record ms ++ unwrap_or o [])) (record { site = site; messages = ms; rows = o } ∷ logs)
+unfolding Reaches
+log_said sites top site ms o logs l h s k n rest =
+    let b = messages_read sites top site [] ms logs h (n + 1) (unwrap_or o [] ++ rest) in
+    let c = claimed o s k b.0 in (
+      c.0,
+      ap (λ r. logs_after sites n logs (line_record (Begin site) ∷ r)) (append_assoc (map message_record ms) (unwrap_or o []) rest)
+          ∙ one_more sites top logs (record { site = site; messages = []; rows = None } ∷ logs) (Begin site) n (map message_record ms ++ (unwrap_or o [] ++ rest)) l refl
+          ∙ b.1 ∙ c.1,
+    )
+  where
+    claimed : (o : Option (List (List (List ℕ)))) → o ≢ Some [] → ((r : List (List ℕ)) → Has r (unwrap_or o []) → IsLine sites (Claim r)) → (n : ℕ)
+        → (m : ℕ) × (logs_after sites n (record { site = site; messages = ms; rows = None } ∷ logs) (unwrap_or o [] ++ rest) ≡ logs_after sites m (record { site = site; messages = ms; rows = o } ∷ logs) rest)
+    claimed None s k n = (n, refl)
+    claimed (Some []) s k n = absurd (s refl)
+    claimed (Some (r ∷ rs)) s k n =
+        let c = rows_read sites top site ms (r ∷ []) rs logs (λ x j. k x (inr j)) (n + 1) rest in (
+          c.0,
+          one_more sites top (record { site = site; messages = ms; rows = None } ∷ logs) (record { site = site; messages = ms; rows = Some (r ∷ []) } ∷ logs) (Claim r) n (rs ++ rest) (k r (inl refl)) refl ∙ c.1,
+        )
+
+logs_back : (sites : ℕ) → sites ≤ COUNTED_MAX → (logs older : List Log) (n : ℕ) → AllAmong sites logs
+    → logs_after sites n older (flat_map log_records logs) ≡ Ok (reverse logs ++ older)
+unfolding AllAmong Reaches
+logs_back sites top [] older n a = refl
+logs_back sites top (log ∷ logs) older n a =
+    let f = a log (inl refl) in
+    let r = log_said sites top log.site log.messages log.rows older f.site f.messages f.some f.rows n (flat_map log_records logs) in
+    r.1 ∙ logs_back sites top logs (log ∷ older) r.0 (λ l h. a l (inr h))
+    ∙ ap Ok (sym (append_assoc (reverse logs) (log ∷ []) older) ∙ ap (λ l. l ++ older) (sym (reverse-append (log ∷ []) logs)))
+
+pub logs_are : LogsAreReadAsWritten
+unfolding AllAmong written
+logs_are sites top records logs = (
+  (λ e.
+      let w = logs_only sites top records 1 [] (reverse logs) (λ log h. absurd h) e in
+      ((λ log h. w.0 log (has_back log logs h)), w.1 ∙ written_is (reverse logs) ∙ ap (flat_map log_records) (reverse-reverse logs))),
+  (λ h. ap (logs_after sites 1 []) h.1 ∙ logs_back sites top logs [] 1 h.0 ∙ ap Ok (append-nil (reverse logs))),
+)
