@@ -1,10 +1,13 @@
 // Readers and writers that fail.
 
 use crate::transcripts::{take_apart, usual};
+use rubis_replica::Free;
 use rubis_script::{RunFault, run_site, run_site_upto};
 use std::io;
 use std::io::{Read, Write};
 use std::process::Abort;
+use std::sync::Wait;
+use std::thread::Threads;
 
 // A bit of everything.
 const EVERYTHING: &str = "\
@@ -107,7 +110,7 @@ fn a_reader_that_fails_after_any_byte(rt: HostRuntime) {
         let mut out = Vec::new(rt.alloc());
         let text = &said[..cut];
         let reader = BrokenReader { text, at: 0 };
-        let end = run_site(rt.alloc(), reader, &mut out, &config);
+        let end = run_site(&rt, rt.alloc(), reader, &mut out, &config);
         assert_eq!(rt; end.err(), Some(RunFault::Read), "after {cut} bytes");
         assert!(rt;
             talk.heard.as_bytes().starts_with(out.as_slice()),
@@ -118,7 +121,7 @@ fn a_reader_that_fails_after_any_byte(rt: HostRuntime) {
 }
 
 // The writer that fails at one of its calls, and how the run ended.
-fn write_until<R: Abort + AllocGlobal>(
+fn write_until<R: Abort + AllocGlobal + Threads + Wait + Sync>(
     rt: &R,
     said: &[u8],
     bad: usize,
@@ -129,7 +132,7 @@ fn write_until<R: Abort + AllocGlobal>(
         calls: 0,
         bad,
     };
-    let end = run_site(rt.alloc(), said, &mut writer, &config);
+    let end = run_site(rt, rt.alloc(), said, &mut writer, &config);
     (writer, end.err())
 }
 
@@ -157,7 +160,7 @@ fn a_record_after_any_limit(rt: HostRuntime) {
     for limit in 0..10 {
         let mut out = Vec::new(rt.alloc());
         let said = talk.said.as_bytes();
-        let end = run_site_upto(rt.alloc(), said, &mut out, &config, limit);
+        let end = run_site_upto(&rt, rt.alloc(), said, &mut out, &config, limit, Free);
         assert_eq!(rt; end.err(), Some(RunFault::TooLong), "at {limit}");
         assert!(rt; talk.heard.as_bytes().starts_with(out.as_slice()));
         assert!(rt; limit == 0 || out.as_slice().ends_with(b"\n"));

@@ -1,6 +1,7 @@
 // Inputs that no conversation of text lines can write down, and limits.
 
 use crate::transcripts::{run_whole, usual};
+use rubis_replica::Free;
 use rubis_script::{RunFault, run_site_upto};
 
 const ONE_USER_ANSWERED: &str = "\
@@ -27,7 +28,7 @@ fn a_limit_of_one_record(rt: HostRuntime) {
     let config = usual(&rt, 0, 1);
     let mut out = Vec::new(rt.alloc());
     let input = b"user,ann\nuser,ann\n".as_slice();
-    let end = run_site_upto(rt.alloc(), input, &mut out, &config, 1);
+    let end = run_site_upto(&rt, rt.alloc(), input, &mut out, &config, 1, Free);
     assert_eq!(rt; end.err(), Some(RunFault::TooLong));
     assert!(rt; out.as_slice() == ONE_USER_ANSWERED.as_bytes());
 }

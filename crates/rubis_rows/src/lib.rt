@@ -10,6 +10,8 @@ mod failing;
 #[cfg(test)]
 mod inputs;
 #[cfg(test)]
+mod meeting;
+#[cfg(test)]
 mod packets;
 #[cfg(test)]
 mod records;

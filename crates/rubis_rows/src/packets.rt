@@ -4,11 +4,13 @@ ghost use Rattle.std.specs.Prelude.{◌≡◌, IfOk};
 
 use crate::records::{message, token};
 use rubis_message::{Arrival, Taken};
-use rubis_replica::{Config, Fault, Site};
+use rubis_replica::{Config, Fault, Free, Site};
 use rubis_schema::{Nick, Refusal};
 use rubis_shadow::Ask;
 use std::alloc::{AllocError, Global};
 use std::test::Fail;
+use std::sync::Wait;
+use std::thread::Threads;
 
 const ANN: &str = "msg,1,0,1,1,0:0,user,ann";
 
@@ -23,26 +25,31 @@ fn second_of_two(alloc: Global, keep: u32) -> Result<Site, Fail>
     ensures { IfOk result (λ site. site.place.sites ≡ 2) }
 {
     let config = Config::new(1, 2, 4, 2, 64, keep).ok_or("a configuration")?;
-    Ok(Site::new(alloc, &config)?)
+    Ok(Site::new(alloc, &config, Free)?)
 }
 
 // Takes in the message that is written so.
-fn arrive(site: &mut Site, alloc: Global, text: &str) -> Result<Arrival, Fail>
+fn arrive<R: Threads + Wait + Sync>(
+    rt: &R,
+    site: &mut Site,
+    alloc: Global,
+    text: &str,
+) -> Result<Arrival, Fail>
     requires { site.old.place.sites ≡ 2 }
     ensures { site.new.place ≡ site.old.place }
 {
     let message = message(alloc, text, 2)?;
-    Ok(site.arrive(message)?)
+    Ok(site.arrive(rt, message)?)
 }
 
 #[test]
 fn three_messages_are_cut_at_once(rt: HostRuntime) -> Result<(), Fail> {
     let mut site = second_of_two(rt.alloc(), 1_000_000)?;
-    assert_eq!(rt; arrive(&mut site, rt.alloc(), ANN)?, Arrival::Released(1));
-    assert_eq!(rt; arrive(&mut site, rt.alloc(), BOB)?, Arrival::Released(1));
-    assert_eq!(rt; arrive(&mut site, rt.alloc(), CUP)?, Arrival::Released(1));
-    assert_eq!(rt; site.cut()?, 3);
-    assert_eq!(rt; site.cut()?, 0);
+    assert_eq!(rt; arrive(&rt, &mut site, rt.alloc(), ANN)?, Arrival::Released(1));
+    assert_eq!(rt; arrive(&rt, &mut site, rt.alloc(), BOB)?, Arrival::Released(1));
+    assert_eq!(rt; arrive(&rt, &mut site, rt.alloc(), CUP)?, Arrival::Released(1));
+    assert_eq!(rt; site.cut(&rt)?, 3);
+    assert_eq!(rt; site.cut(&rt)?, 0);
     assert_eq!(rt; site.catch_up()?, 0);
     Ok(())
 }
@@ -52,16 +59,16 @@ fn site_with_batches_of_three(alloc: Global, site: u8) -> Result<Site, Fail>
     ensures { IfOk result (λ made. made.place.sites ≡ 2) }
 {
     let config = Config::new(site, 2, 4, 2, 3, 1_000_000).ok_or("a configuration")?;
-    Ok(Site::new(alloc, &config)?)
+    Ok(Site::new(alloc, &config, Free)?)
 }
 
 #[test]
 fn a_batch_is_applied_at_the_third_arrival(rt: HostRuntime) -> Result<(), Fail> {
     let mut site = site_with_batches_of_three(rt.alloc(), 1)?;
-    assert_eq!(rt; arrive(&mut site, rt.alloc(), ANN)?, Arrival::Released(1));
-    assert_eq!(rt; arrive(&mut site, rt.alloc(), BOB)?, Arrival::Released(1));
-    assert_eq!(rt; arrive(&mut site, rt.alloc(), CUP)?, Arrival::Released(1));
-    assert_eq!(rt; site.cut()?, 0);
+    assert_eq!(rt; arrive(&rt, &mut site, rt.alloc(), ANN)?, Arrival::Released(1));
+    assert_eq!(rt; arrive(&rt, &mut site, rt.alloc(), BOB)?, Arrival::Released(1));
+    assert_eq!(rt; arrive(&rt, &mut site, rt.alloc(), CUP)?, Arrival::Released(1));
+    assert_eq!(rt; site.cut(&rt)?, 0);
     Ok(())
 }
 
@@ -73,28 +80,28 @@ const SECOND_OF_THE_OTHER: &str = "msg,1,1,2,0,1:1,comment,0.1,0.1,0.1,1,y";
 fn a_batch_is_applied_at_a_request_that_releases_three(rt: HostRuntime) -> Result<(), Fail> {
     let mut site = site_with_batches_of_three(rt.alloc(), 0)?;
     assert_eq!(rt;
-        arrive(&mut site, rt.alloc(), FIRST_OF_THE_OTHER)?,
+        arrive(&rt, &mut site, rt.alloc(), FIRST_OF_THE_OTHER)?,
         Arrival::Held
     );
     assert_eq!(rt;
-        arrive(&mut site, rt.alloc(), SECOND_OF_THE_OTHER)?,
+        arrive(&rt, &mut site, rt.alloc(), SECOND_OF_THE_OTHER)?,
         Arrival::Held
     );
     let nick = Nick::read(b"ann").ok_or("a nickname")?;
-    assert_eq!(rt; site.request(Ask::User(nick))?.stamp().id.seq, 1);
+    assert_eq!(rt; site.request(&rt, Ask::User(nick))?.stamp().id.seq, 1);
     assert_eq!(rt; site.history().len(), 3);
-    assert_eq!(rt; site.cut()?, 0);
+    assert_eq!(rt; site.cut(&rt)?, 0);
     Ok(())
 }
 
 #[test]
 fn messages_wait_for_those_before(rt: HostRuntime) -> Result<(), Fail> {
     let mut site = second_of_two(rt.alloc(), 1_000_000)?;
-    assert_eq!(rt; arrive(&mut site, rt.alloc(), BOB)?, Arrival::Held);
-    assert_eq!(rt; arrive(&mut site, rt.alloc(), BOB)?, Arrival::Repeat);
-    assert_eq!(rt; arrive(&mut site, rt.alloc(), ANN)?, Arrival::Released(2));
-    assert_eq!(rt; arrive(&mut site, rt.alloc(), BOB)?, Arrival::Repeat);
-    assert_eq!(rt; arrive(&mut site, rt.alloc(), ANN)?, Arrival::Repeat);
+    assert_eq!(rt; arrive(&rt, &mut site, rt.alloc(), BOB)?, Arrival::Held);
+    assert_eq!(rt; arrive(&rt, &mut site, rt.alloc(), BOB)?, Arrival::Repeat);
+    assert_eq!(rt; arrive(&rt, &mut site, rt.alloc(), ANN)?, Arrival::Released(2));
+    assert_eq!(rt; arrive(&rt, &mut site, rt.alloc(), BOB)?, Arrival::Repeat);
+    assert_eq!(rt; arrive(&rt, &mut site, rt.alloc(), ANN)?, Arrival::Repeat);
     assert_eq!(rt; site.history().len(), 2);
     Ok(())
 }
@@ -102,12 +109,12 @@ fn messages_wait_for_those_before(rt: HostRuntime) -> Result<(), Fail> {
 #[test]
 fn a_full_site_refuses_what_is_new(rt: HostRuntime) -> Result<(), Fail> {
     let mut site = second_of_two(rt.alloc(), 2)?;
-    assert_eq!(rt; arrive(&mut site, rt.alloc(), ANN)?, Arrival::Released(1));
-    assert_eq!(rt; arrive(&mut site, rt.alloc(), BOB)?, Arrival::Released(1));
+    assert_eq!(rt; arrive(&rt, &mut site, rt.alloc(), ANN)?, Arrival::Released(1));
+    assert_eq!(rt; arrive(&rt, &mut site, rt.alloc(), BOB)?, Arrival::Released(1));
     let cat = message(rt.alloc(), CAT, 2)?;
-    let refused = site.arrive(cat).err();
+    let refused = site.arrive(&rt, cat).err();
     assert_eq!(rt; refused, Some(Fault::Refused(Refusal::Full)));
-    assert_eq!(rt; arrive(&mut site, rt.alloc(), ANN)?, Arrival::Repeat);
+    assert_eq!(rt; arrive(&rt, &mut site, rt.alloc(), ANN)?, Arrival::Repeat);
     Ok(())
 }
 
@@ -115,7 +122,7 @@ fn a_full_site_refuses_what_is_new(rt: HostRuntime) -> Result<(), Fail> {
 fn a_site_refuses_its_own_unmade_message(rt: HostRuntime) -> Result<(), Fail> {
     let mut site = second_of_two(rt.alloc(), 2)?;
     let forged = message(rt.alloc(), "msg,1,1,1,1,0:0,user,ann", 2)?;
-    let refused = site.arrive(forged).err();
+    let refused = site.arrive(&rt, forged).err();
     assert_eq!(rt; refused, Some(Fault::Refused(Refusal::NotOurs)));
     Ok(())
 }
@@ -145,16 +152,21 @@ fn third_of_three(alloc: Global) -> Result<Site, Fail>
     ensures { IfOk result (λ site. site.place.sites ≡ 3) }
 {
     let config = Config::new(2, 3, 4, 2, 64, 1_000_000).ok_or("a configuration")?;
-    Ok(Site::new(alloc, &config)?)
+    Ok(Site::new(alloc, &config, Free)?)
 }
 
 // Takes in, at a site of three, the message that is written so.
-fn arrive_of_three(site: &mut Site, alloc: Global, text: &str) -> Result<Arrival, Fail>
+fn arrive_of_three<R: Threads + Wait + Sync>(
+    rt: &R,
+    site: &mut Site,
+    alloc: Global,
+    text: &str,
+) -> Result<Arrival, Fail>
     requires { site.old.place.sites ≡ 3 }
     ensures { site.new.place ≡ site.old.place }
 {
     let message = message(alloc, text, 3)?;
-    Ok(site.arrive(message)?)
+    Ok(site.arrive(rt, message)?)
 }
 
 // The ids of a site's log.
@@ -170,13 +182,13 @@ fn ids_of(alloc: Global, site: &Site) -> Result<Vec<(u8, u32)>, AllocError> {
 #[test]
 fn the_earliest_that_is_ready_is_released(rt: HostRuntime) -> Result<(), Fail> {
     let mut site = third_of_three(rt.alloc())?;
-    assert_eq!(rt; arrive_of_three(&mut site, rt.alloc(), JUG)?, Arrival::Held);
-    assert_eq!(rt; arrive_of_three(&mut site, rt.alloc(), POT)?, Arrival::Held);
+    assert_eq!(rt; arrive_of_three(&rt, &mut site, rt.alloc(), JUG)?, Arrival::Held);
+    assert_eq!(rt; arrive_of_three(&rt, &mut site, rt.alloc(), POT)?, Arrival::Held);
     assert_eq!(rt;
-        arrive_of_three(&mut site, rt.alloc(), SECOND)?,
+        arrive_of_three(&rt, &mut site, rt.alloc(), SECOND)?,
         Arrival::Held
     );
-    let last = arrive_of_three(&mut site, rt.alloc(), "msg,1,0,1,1,0:0:0,user,ann")?;
+    let last = arrive_of_three(&rt, &mut site, rt.alloc(), "msg,1,0,1,1,0:0:0,user,ann")?;
     assert_eq!(rt; last, Arrival::Released(4));
     let ids = ids_of(rt.alloc(), &site)?;
     assert!(rt; ids.as_slice() == [(0, 1), (1, 1), (1, 2), (0, 2)].as_slice());

@@ -1,26 +1,32 @@
 // A site's calls, without records.
 
 use crate::transcripts::usual;
-use rubis_replica::{Config, Fault, Site};
+use rubis_replica::{Config, Fault, Free, Site};
 use rubis_schema::{Listing, Nick, Refusal};
 use rubis_shadow::Ask;
 use std::test::Fail;
+use std::sync::Wait;
+use std::thread::Threads;
 
 // Asks for a user.
-fn ask_user(site: &mut Site, nick: &[u8]) -> Result<u32, Fail> {
+fn ask_user<R: Threads + Wait + Sync>(
+    rt: &R,
+    site: &mut Site,
+    nick: &[u8],
+) -> Result<u32, Fail> {
     let nick = Nick::read(nick).ok_or("a nickname")?;
-    let message = site.request(Ask::User(nick))?;
+    let message = site.request(rt, Ask::User(nick))?;
     Ok(message.stamp().id.seq)
 }
 
 #[test]
 fn a_cut_applies_what_is_pending(rt: HostRuntime) -> Result<(), Fail> {
-    let mut site = Site::new(rt.alloc(), &usual(&rt, 0, 1))?;
-    assert_eq!(rt; site.cut()?, 0);
-    assert_eq!(rt; ask_user(&mut site, b"ann")?, 1);
-    assert_eq!(rt; ask_user(&mut site, b"bob")?, 2);
-    assert_eq!(rt; site.cut()?, 1);
-    assert_eq!(rt; site.cut()?, 0);
+    let mut site = Site::new(rt.alloc(), &usual(&rt, 0, 1), Free)?;
+    assert_eq!(rt; site.cut(&rt)?, 0);
+    assert_eq!(rt; ask_user(&rt, &mut site, b"ann")?, 1);
+    assert_eq!(rt; ask_user(&rt, &mut site, b"bob")?, 2);
+    assert_eq!(rt; site.cut(&rt)?, 1);
+    assert_eq!(rt; site.cut(&rt)?, 0);
     assert_eq!(rt; site.catch_up()?, 0);
     assert!(rt; !site.is_behind());
     assert_eq!(rt; site.history().len(), 2);
@@ -30,26 +36,26 @@ fn a_cut_applies_what_is_pending(rt: HostRuntime) -> Result<(), Fail> {
 #[test]
 fn a_batch_is_applied_at_once(rt: HostRuntime) -> Result<(), Fail> {
     let config = Config::new(0, 1, 4, 2, 1, 10).ok_or("a configuration")?;
-    let mut site = Site::new(rt.alloc(), &config)?;
-    assert_eq!(rt; ask_user(&mut site, b"ann")?, 1);
-    assert_eq!(rt; site.cut()?, 0);
+    let mut site = Site::new(rt.alloc(), &config, Free)?;
+    assert_eq!(rt; ask_user(&rt, &mut site, b"ann")?, 1);
+    assert_eq!(rt; site.cut(&rt)?, 0);
     Ok(())
 }
 
 #[test]
 fn a_listing_has_a_row_for_each_user(rt: HostRuntime) -> Result<(), Fail> {
-    let mut site = Site::new(rt.alloc(), &usual(&rt, 0, 1))?;
-    assert_eq!(rt; ask_user(&mut site, b"ann")?, 1);
-    assert_eq!(rt; site.list(&Listing::Users)?.len(), 1);
-    assert_eq!(rt; site.cut()?, 0);
-    assert_eq!(rt; site.list(&Listing::Log)?.len(), 1);
-    assert_eq!(rt; site.list(&Listing::Misfits)?.len(), 0);
+    let mut site = Site::new(rt.alloc(), &usual(&rt, 0, 1), Free)?;
+    assert_eq!(rt; ask_user(&rt, &mut site, b"ann")?, 1);
+    assert_eq!(rt; site.list(&rt, &Listing::Users)?.len(), 1);
+    assert_eq!(rt; site.cut(&rt)?, 0);
+    assert_eq!(rt; site.list(&rt, &Listing::Log)?.len(), 1);
+    assert_eq!(rt; site.list(&rt, &Listing::Misfits)?.len(), 0);
     Ok(())
 }
 
 #[test]
 fn the_last_token_goes_to_another_site(rt: HostRuntime) -> Result<(), Fail> {
-    let mut site = Site::new(rt.alloc(), &usual(&rt, 0, 2))?;
+    let mut site = Site::new(rt.alloc(), &usual(&rt, 0, 2), Free)?;
     assert_eq!(rt;
         site.pass(0).err(),
         Some(Fault::Refused(Refusal::BadTarget))

@@ -5,6 +5,8 @@ use rubis_replica::Config;
 use rubis_script::{Count, run_site};
 use std::alloc::{AllocError, Global};
 use std::process::Abort;
+use std::sync::Wait;
+use std::thread::Threads;
 
 /// Both sides of a conversation, each line with its end.
 #[derive(Drop)]
@@ -38,7 +40,7 @@ pub(crate) fn usual<R: Abort>(rt: &R, site: u8, sites: u8) -> Config {
 }
 
 /// Runs a site on an input, which must end well, after so many records, with this output.
-pub(crate) fn run_whole<R: Abort + AllocGlobal>(
+pub(crate) fn run_whole<R: Abort + AllocGlobal + Threads + Wait + Sync>(
     rt: &R,
     config: &Config,
     input: &[u8],
@@ -46,7 +48,7 @@ pub(crate) fn run_whole<R: Abort + AllocGlobal>(
     records: u64,
 ) {
     let mut out = Vec::new(rt.alloc());
-    let end = run_site(rt.alloc(), input, &mut out, config);
+    let end = run_site(rt, rt.alloc(), input, &mut out, config);
     assert_eq!(rt; end, Ok(Count { records }));
     assert!(rt; out.as_slice() == want.as_bytes(), "expected {want}");
 }

@@ -1,0 +1,175 @@
+// Two workers that really work at once, in each call that applies a batch.
+
+ghost use Rattle.std.specs.Prelude.{◌≡◌, ◌≤◌, IfOk};
+ghost use Rattle.rubis_shadow.specs.Limits.{IsAsk};
+
+use crate::records::{message, record};
+use rubis_message::{Arrival, Request, read_request};
+use rubis_replica::{Config, Gate, Site};
+use rubis_schema::Listing;
+use rubis_script::{Count, run_site_upto};
+use rubis_shadow::Ask;
+use std::alloc::Global;
+use std::sync::Wait;
+use std::sync::atomic::{AtomicBool, AtomicU64, Ordering};
+use std::test::Fail;
+use std::thread;
+use std::thread::Threads;
+
+/// For how many loads of a flag the first worker waits for a second one.
+const TURNS: u64 = 50_000_000;
+
+/// Whether the first piece that was taken was held until another was taken.
+#[derive(Drop)]
+struct Meeting {
+    taken: AtomicU64,
+    second: AtomicBool,
+    met: AtomicBool,
+}
+
+impl Meeting {
+    fn new() -> Meeting {
+        Meeting {
+            taken: AtomicU64::new(0),
+            second: AtomicBool::new(false),
+            met: AtomicBool::new(false),
+        }
+    }
+
+    fn met(&self) -> bool {
+        self.met.load(Ordering::SeqCst)
+    }
+}
+
+/// Holds the first piece that is taken until another is taken.
+#[derive(Drop)]
+struct Holding<'a> {
+    meeting: &'a Meeting,
+}
+
+impl<'a> Gate for Holding<'a> {
+    fn taken(&self, _piece: usize) {
+        if self.meeting.taken.fetch_add(1, Ordering::SeqCst) > 0 {
+            self.meeting.second.store(true, Ordering::SeqCst);
+            return;
+        }
+        for _ in 0..TURNS {
+            if self.meeting.second.load(Ordering::SeqCst) {
+                self.meeting.met.store(true, Ordering::SeqCst);
+                return;
+            }
+            thread::yield_now();
+        }
+    }
+}
+
+// Site 1 of 2, with two shards, two workers and batches of that size.
+fn site_that_meets<'a>(
+    alloc: Global,
+    batch: u32,
+    meeting: &'a Meeting,
+) -> Result<Site<Holding<'a>>, Fail>
+    ensures { IfOk result (λ site. site.place.sites ≡ 2) }
+{
+    let config = Config::new(1, 2, 2, 2, batch, 100).ok_or("a configuration")?;
+    Ok(Site::new(alloc, &config, Holding { meeting })?)
+}
+
+// Takes in the message that is written so.
+fn arrive<'a, R: Threads + Wait + Sync>(
+    rt: &R,
+    site: &mut Site<Holding<'a>>,
+    alloc: Global,
+    text: &str,
+) -> Result<Arrival, Fail>
+    requires { site.old.place.sites ≡ 2 }
+    ensures { site.new.place ≡ site.old.place }
+{
+    let message = message(alloc, text, 2)?;
+    Ok(site.arrive(rt, message)?)
+}
+
+// Takes in two users and an item.
+fn arrive_three<'a, R: Threads + Wait + Sync>(
+    rt: &R,
+    site: &mut Site<Holding<'a>>,
+    alloc: Global,
+) -> Result<Arrival, Fail>
+    requires { site.old.place.sites ≡ 2 }
+    ensures { site.new.place ≡ site.old.place }
+{
+    arrive(rt, site, alloc, "msg,1,0,1,1,0:0,user,ann")?;
+    arrive(rt, site, alloc, "msg,1,0,2,2,1:0,user,bob")?;
+    arrive(rt, site, alloc, "msg,1,0,3,0,2:0,item,0.1,cup,9,3,50,80")
+}
+
+// The ask that is written so, among two sites.
+fn ask(alloc: Global, text: &str) -> Result<Ask, Fail>
+    ensures { IfOk result (IsAsk 2) }
+{
+    match read_request(alloc, &record(alloc, text)?, 2)? {
+        Request::Ask(ask) => Ok(ask),
+        _ => Err(Fail::from("no ask")),
+    }
+}
+
+#[test]
+fn two_workers_meet_in_a_cut(rt: HostRuntime) -> Result<(), Fail> {
+    let meeting = Meeting::new();
+    let mut site = site_that_meets(rt.alloc(), 64, &meeting)?;
+    arrive_three(&rt, &mut site, rt.alloc())?;
+    assert_eq!(rt; site.cut(&rt)?, 3);
+    assert!(rt; meeting.met());
+    Ok(())
+}
+
+#[test]
+fn two_workers_meet_in_a_listing(rt: HostRuntime) -> Result<(), Fail> {
+    let meeting = Meeting::new();
+    let mut site = site_that_meets(rt.alloc(), 64, &meeting)?;
+    arrive_three(&rt, &mut site, rt.alloc())?;
+    assert_eq!(rt; site.list(&rt, &Listing::Users)?.len(), 2);
+    assert!(rt; meeting.met());
+    Ok(())
+}
+
+#[test]
+fn two_workers_meet_in_a_request(rt: HostRuntime) -> Result<(), Fail> {
+    let meeting = Meeting::new();
+    let mut site = site_that_meets(rt.alloc(), 64, &meeting)?;
+    arrive_three(&rt, &mut site, rt.alloc())?;
+    let comment = ask(rt.alloc(), "comment,0.3,0.2,0.1,5,x")?;
+    let made = site.request(&rt, comment)?.stamp().id;
+    assert_eq!(rt; (made.site, made.seq), (1, 1));
+    assert!(rt; meeting.met());
+    Ok(())
+}
+
+#[test]
+fn two_workers_meet_in_the_third_arrival(rt: HostRuntime) -> Result<(), Fail> {
+    let meeting = Meeting::new();
+    let mut site = site_that_meets(rt.alloc(), 3, &meeting)?;
+    let third = arrive_three(&rt, &mut site, rt.alloc())?;
+    assert_eq!(rt; third, Arrival::Released(1));
+    assert!(rt; meeting.met());
+    Ok(())
+}
+
+const SAID: &str = "msg,1,0,2,2,1:0,user,bob\nmsg,1,0,1,1,0:0,user,ann\nlist,users\n";
+
+const HEARD: &str = "reply,1,held\nreply,2,released,2\nreply,3,rows,2\n\
+row,user,0.1,ann,0,0,0,0\nrow,user,0.2,bob,0,0,0,0\n";
+
+#[test]
+fn two_workers_meet_in_a_run(rt: HostRuntime) -> Result<(), Fail> {
+    let meeting = Meeting::new();
+    let config = Config::new(1, 2, 2, 2, 64, 100).ok_or("a configuration")?;
+    let gate = Holding { meeting: &meeting };
+    let mut out = Vec::new(rt.alloc());
+    let said = SAID.as_bytes();
+    let end = run_site_upto(&rt, rt.alloc(), said, &mut out, &config, 100, gate);
+    assert_eq!(rt; end, Ok(Count { records: 3 }));
+    assert!(rt; out.as_slice() == HEARD.as_bytes());
+    assert!(rt; meeting.met());
+    Ok(())
+}
