@@ -174,7 +174,7 @@ impl<G: Gate> Follower<G> {
         self.rest = left.into();
         self.at = log.len();
         self.note(log, log.len());
-        if self.left > 0 {
+        if self.is_behind() {
             return Err(AllocError);
         }
         Ok(())
