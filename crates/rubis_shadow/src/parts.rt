@@ -4,7 +4,7 @@ ghost use Rattle.std.specs.Iterator.{item_count, YieldsFirst};
 ghost use Rattle.rubis_shadow.specs.declared.shadows.Shadow.TheVariants as Shadow;
 ghost use Rattle.rubis_shadow.specs.Parts.{new_item, parts};
 ghost use Rattle.rubis_shadow.specs.Borrowed.{change_of};
-ghost use Rattle.rubis_shadow.specs.OwnTexts.{text_in};
+ghost use Rattle.rubis_shadow.specs.OwnTexts.{HasText, text_in};
 ghost use Rattle.rubis_shadow.specs.declared.parts.OwnText.TheVariants as texts;
 ghost use Rattle.rubis_schema.specs.declared.rows.Row.TheVariants as rows;
 
@@ -109,6 +109,17 @@ impl Shadow {
         match self {
             Shadow::User(_) | Shadow::Bid(_) | Shadow::Close(_) | Shadow::Comment(_) => 2,
             Shadow::Item(_) | Shadow::Buy(_) => 3,
+        }
+    }
+
+    /// A text of its own for the row that the first part inserts, where that has one.
+    pub fn own_text(&self) -> Result<OwnText, AllocError>
+        ensures { IfOk result (λ text. (id : Id) (red : ℕ) → HasText (slice_get (parts id red self.now) 0) text) }
+    {
+        match self {
+            Shadow::Item(item) => Ok(OwnText::Name(item.name.copy()?)),
+            Shadow::Comment(comment) => Ok(OwnText::Text(comment.text.copy()?)),
+            _ => Ok(OwnText::None),
         }
     }
 
@@ -372,13 +383,6 @@ impl<'a> EffectRef<'a> {
             key: self.key,
             change: change_with(&self.change, text),
         })
-    }
-
-    /// A text of its own for the row that the part inserts, where that has one.
-    pub fn own_text(&self) -> Result<OwnText, AllocError>
-        ensures { IfOk result (λ text. text ≡ text_in self.now.change) }
-    {
-        own_text(&self.change)
     }
 
     /// An equal effect that borrows nothing, with that text as its own. It takes no memory.

@@ -1,11 +1,8 @@
 -- One message folded on the shards of a set, each part at its home.
-use Rattle.std.specs.Prelude.{ℕ, ◌≡◌, ◌+◌, ◌<◌, ◌≤◌, List, [], ◌∷◌, ◌++◌, Option, Some, None, IfSome, length, slice_get}
+use Rattle.std.specs.Prelude.{ℕ, ◌≡◌, ◌+◌, ◌<◌, ◌≤◌, List, [], ◌∷◌, ◌++◌, Option, Some, None, length, slice_get}
 use Rattle.std.specs.FinMap as map
 use Rattle.rubis_shadow.specs.Parts.{parts}
-use Rattle.rubis_shadow.specs.OwnTexts.{text_in}
-use Rattle.rubis_shadow.specs.declared.changes.Effect.{Effect}
 use Rattle.rubis_shadow.specs.declared.numbered.Numbered.{Numbered}
-use Rattle.rubis_shadow.specs.declared.parts.OwnText.{OwnText}
 use Rattle.rubis_model.specs.Log.{Folded, number_parts}
 use Rattle.rubis_shard.specs.States.{ShardState, with_parts}
 use Rattle.rubis_shard.specs.Holdings.{parts_at}
@@ -30,10 +27,6 @@ numbered_of m = number_parts m.entry 1 m.id (parts m.id m.red m.shadow.now)
 -- its part at a place, from 0, if there is one
 abbrev pub at_place : MessageParts → ℕ → List Numbered
 at_place m place = number_parts m.entry (place + 1) m.id (list_of (slice_get (parts m.id m.red m.shadow.now) place))
-
--- the part's row has that text, if there is a part
-abbrev pub HasText : Option Effect → OwnText → Type 0
-HasText part text = IfSome part (λ e. text ≡ text_in e.change)
 
 -- each shard from a number on has its parts folded on, and the shards before it are as they were
 pub record FoldsFrom (from : ℕ) (old : List ShardState) (ns : List Numbered) (new : List ShardState) : Type 0 where

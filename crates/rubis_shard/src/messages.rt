@@ -1,8 +1,9 @@
 ghost use Rattle.std.specs.Prelude.{◌≡◌, ℕ, ◌+◌, ◌<◌, ◌≤◌, [], length, slice_get, true, false, IfOk, OnOk, OnErr};
+ghost use Rattle.rubis_shadow.specs.OwnTexts.{HasText};
 ghost use Rattle.rubis_shadow.specs.Parts.{parts};
 ghost use Rattle.rubis_model.specs.Log.{fold_on};
 ghost use Rattle.rubis_shard.specs.Holdings.{home_or, parts_at, AreInOrder};
-ghost use Rattle.rubis_shard.specs.Messages.{numbered_of, at_place, FoldsFrom, HasText};
+ghost use Rattle.rubis_shard.specs.Messages.{numbered_of, at_place, FoldsFrom};
 ghost use Rattle.rubis_shard.specs.Stores.{held_by, HasRoom};
 
 use crate::message_parts::MessageParts;
@@ -13,12 +14,12 @@ use rubis_shadow::{Numbered, OwnText, Shadow};
 use std::alloc::AllocError;
 
 // The home of the shadow's part at this place, or the number of shards where there is none.
-fn home_at(id: Id, red: u32, shadow: &Shadow, shards: usize, place: u8) -> usize
+fn home_at(id: Id, shadow: &Shadow, shards: usize, place: u8) -> usize
     requires { 0 < shards }
-    ensures { result ≡ home_or shards (slice_get (parts id red shadow.now) place) }
+    ensures { (red : ℕ) → result ≡ home_or shards (slice_get (parts id red shadow.now) place) }
 {
-    match shadow.effect(id, red, place) {
-        Some(effect) => shard_of(&effect.key(), shards),
+    match shadow.key(id, place) {
+        Some(key) => shard_of(&key, shards),
         None => shards,
     }
 }
@@ -39,9 +40,9 @@ impl<'a> MessageParts<'a> {
             red,
             shadow,
             shards,
-            first: home_at(id, red, shadow, shards, 0),
-            second: home_at(id, red, shadow, shards, 1),
-            third: home_at(id, red, shadow, shards, 2),
+            first: home_at(id, shadow, shards, 0),
+            second: home_at(id, shadow, shards, 1),
+            third: home_at(id, shadow, shards, 2),
         }
     }
 
@@ -94,10 +95,7 @@ impl<'a> MessageParts<'a> {
         if self.first != at {
             return Ok(OwnText::None);
         }
-        let Some(effect) = self.shadow.effect(self.id, self.red, 0) else {
-            return Ok(OwnText::None);
-        };
-        effect.own_text()
+        self.shadow.own_text()
     }
 
     // Folds the part at this place on, if its home is the shard.
