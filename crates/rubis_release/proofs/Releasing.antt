@@ -50,7 +50,7 @@ pub comes_first : (n : ℕ) (log waiting log_after left : List Message) (m : Mes
 comes_first n log waiting log_after left m all among none ready s =
     Release log waiting [] log_after left m
     (λ x k r. let f = place_of waiting x k in
-        none f.0 x f.1 (ready_by_clock n log (get_or waiting f.0 x) (all (get_or waiting f.0 x) (has_there waiting f.0 x f.1)) (subst (Ready log) (sym (f.2 x)) r)))
+    none f.0 x f.1 (ready_by_clock n log (get_or waiting f.0 x) (all (get_or waiting f.0 x) (has_there waiting f.0 x f.1)) (subst (Ready log) (sym (f.2 x)) r)))
     (ready_after n log m among ready)
     (subst (λ q. Settles (log ++ m ∷ []) q log_after left) (sym (append-nil waiting)) s)
 

@@ -1,5 +1,5 @@
 -- One message folded on the shards of a set, each part at its home.
-use Rattle.std.specs.Prelude.{ℕ, ◌≡◌, ◌+◌, ◌<◌, ◌≤◌, List, [], ◌∷◌, ◌++◌, Option, Some, None, length, slice_get}
+use Rattle.std.specs.Prelude.{ℕ, ◌≡◌, ◌+◌, ◌<◌, ◌≤◌, List, [], ◌∷◌, Option, Some, None, length, slice_get}
 use Rattle.std.specs.FinMap as map
 use Rattle.rubis_shadow.specs.Parts.{parts}
 use Rattle.rubis_shadow.specs.declared.numbered.Numbered.{Numbered}

@@ -1,7 +1,4 @@
-use Rattle.std.proofs.Common.{◌≡◌, ◌++◌, ap, sym, subst, cond, ◌∙◌}
-use Rattle.std.specs.Prelude.{OnOk, true, false}
-use Rattle.csv.specs.Writing.{field_text, needs_quotes, quoted}
-use Rattle.rubis_script.specs.Text.{plain_writer}
+use Rattle.std.proofs.Common.{sym, ◌∙◌}
 use Rattle.rubis_script.proofs.RowFacts.{field_marked, field_plain, on_ok_more}
 use Rattle.rubis_script.proofs.sink.put_field.Goals as goal
 

@@ -1,4 +1,4 @@
-use Rattle.std.proofs.Common.{◌≡◌, ◌++◌, ◌∷◌, [], Vec, Global, ℕ, ap, ◌∙◌, arith}
+use Rattle.std.proofs.Common.{◌≡◌, ◌++◌, Vec, Global, ℕ, ap, ◌∙◌}
 use Rattle.csv.specs.Writing.{next_sep}
 use Rattle.rubis_script.specs.Text.{plain_writer}
 use Rattle.rubis_script.proofs.RowFacts.{begun-more, on_ok_more, sep_none, sep_some}

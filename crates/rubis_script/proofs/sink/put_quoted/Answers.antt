@@ -1,4 +1,4 @@
-use Rattle.std.proofs.Common.{◌≡◌, ◌++◌, ◌∷◌, [], Vec, Global, ℕ, get_or, ap, ◌∙◌, arith}
+use Rattle.std.proofs.Common.{◌++◌, ◌∷◌, [], Vec, Global, ℕ, get_or, ap, ◌∙◌, arith}
 use Rattle.rubis_script.proofs.RowFacts.{escaped_mark, escaped_plain, quoted_end}
 use Rattle.rubis_script.proofs.sink.put_quoted.Goals.{then-byte-eq34+in_ok-push-2, else-byte-eq34}
 use Rattle.rubis_script.proofs.sink.put_quoted.Goals as goal

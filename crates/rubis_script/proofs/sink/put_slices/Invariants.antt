@@ -1,4 +1,4 @@
-use Rattle.std.proofs.Common.{◌++◌, ℕ, List, [], map, take}
+use Rattle.std.proofs.Common.{ℕ, List, [], map, take}
 use Rattle.rubis_script.specs.Rows.{Begun}
 use Rattle.rubis_script.proofs.sink.put_slices.Given as goal
 

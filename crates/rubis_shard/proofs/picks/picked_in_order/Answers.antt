@@ -4,8 +4,6 @@ use Rattle.std.specs.List.Sorted.{IsPermutation}
 use Rattle.std.specs.Map.Iter.{deref_pair}
 use Rattle.std.proofs.lemmas.List.{append-nil, take_at}
 use Rattle.rubis_schema.specs.Keys.{holds}
-use Rattle.rubis_schema.specs.declared.row_keys.RowKey.{RowKey}
-use Rattle.rubis_schema.specs.declared.rows.Row.{Row}
 use Rattle.rubis_shard.specs.Listed.{picked_by}
 use Rattle.rubis_shard.proofs.Picked.{picked_listed, Entries}
 use Rattle.rubis_shard.proofs.picks.picked_in_order.Goals as goal
