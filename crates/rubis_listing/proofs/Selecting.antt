@@ -17,6 +17,7 @@ use Rattle.rubis_schema.specs.declared.row_keys.Table.TheVariants as table
 use Rattle.rubis_schema.specs.declared.rows.Row.{Row}
 use Rattle.rubis_shadow.specs.Tables.{rows_of}
 use Rattle.rubis_model.specs.Listings.{is_of, records_of, row_record, table_rows}
+use Rattle.rubis_shard.specs.Listed.{listed_of}
 
 abbrev pub Entries : Type 0
 Entries = List (RowKey × Row)
@@ -85,3 +86,32 @@ shows_none l m (inr e) = ap (λ x. table_rows x m) e ∙ none_of listing.Misfits
 -- a listing that is known to be of one table
 pub shown_by : (t : Table) (l k : Listing) → l ≡ k → IsWithin k t → (m : Tables) → records_of l (rows_of t m) ≡ table_rows l m
 shown_by t l k e w m = one_table l t (subst (λ x. IsWithin x t) (sym e) w) m
+
+-- a test that was passed passes again
+again : (h p : RowKey × Row → Bool) (es : Entries) → filter p (filter h (filter p es)) ≡ filter p (filter h es)
+again h p [] = refl
+again h p (e ∷ es) = by (p e) refl (again h p es)
+  where
+    by : (b : Bool) → p e ≡ b → filter p (filter h (filter p es)) ≡ filter p (filter h es)
+        → filter p (filter h (cond (p e) (e ∷ filter p es) (filter p es))) ≡ filter p (cond (h e) (e ∷ filter h es) (filter h es))
+    by true pass rest =
+        ap (λ b. filter p (filter h (cond b (e ∷ filter p es) (filter p es)))) pass
+        ∙ within (h e) rest
+      where
+        within : (c : Bool) → filter p (filter h (filter p es)) ≡ filter p (filter h es)
+            → filter p (cond c (e ∷ filter h (filter p es)) (filter h (filter p es))) ≡ filter p (cond c (e ∷ filter h es) (filter h es))
+        within true same = ap (λ fs. cond (p e) (e ∷ fs) fs) same
+        within false same = same
+    by false fail rest =
+        ap (λ b. filter p (filter h (cond b (e ∷ filter p es) (filter p es)))) fail
+        ∙ rest
+        ∙ without (h e)
+      where
+        without : (c : Bool) → filter p (filter h es) ≡ filter p (cond c (e ∷ filter h es) (filter h es))
+        without true = ap (λ b. cond b (e ∷ filter p (filter h es)) (filter p (filter h es))) (sym fail)
+        without false = refl
+
+-- the rows that a listing is of have the records of all rows of the table
+pub listed_records : (l : Listing) (t : Table) (m : Tables) → records_of l (listed_of l t m) ≡ records_of l (rows_of t m)
+listed_records l t m = ap (flat_map (λ (e : RowKey × Row). row_record e.0 e.1))
+    (again (λ e. holds t e.0) (λ e. is_of l e.0 e.1) (map.entries m))

@@ -5,7 +5,6 @@ mod listings;
 mod logs;
 mod records;
 mod row_sinks;
-mod selects;
 
 pub use listings::{bids, categories, comments, items, list_tables, purchases, tables, users};
 pub use logs::{list_log, list_misfits, log, misfit_rows};

@@ -8,9 +8,8 @@ ghost use Rattle.rubis_shard.specs.Holdings.{union};
 
 use crate::records::put_record;
 use crate::row_sinks::RowSink;
-use crate::selects::selects;
 use rubis_schema::{Fields, Id, Items, Listing, Row, RowKey, Table};
-use rubis_shard::Tables;
+use rubis_shard::{Tables, selects};
 use std::alloc::{AllocError, Global};
 
 // Adds the row at a key, where the listing is of it and it has a record.
@@ -40,7 +39,7 @@ fn list_table<S: RowSink>(
     ensures { OnOk result (S.adds (records_of listing.now (rows_of table (union tables.now))) sink.old sink.new) }
 {
     let mut record = Fields::new(alloc);
-    for (key, row) in tables.rows(alloc, table)? {
+    for (key, row) in tables.listed(alloc, table, listing)? {
         put_row(sink, &mut record, listing, key, row)?;
     }
     Ok(())

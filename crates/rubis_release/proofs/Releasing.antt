@@ -1,7 +1,8 @@
 -- What is released by its place among the waiting ones.
 use Rattle.std.proofs.Common.{◌≡◌, ℕ, ◌+◌, ◌<◌, zero, suc, List, [], ◌∷◌, ◌++◌, length, get_or, take, drop, Some, slice_get, sym, ap, ◌∙◌, subst, inl, inr, add-one, arith}
 use Rattle.std.specs.List.{remove}
-use Rattle.std.proofs.lemmas.List.{drop_more, take-append-drop, length-take, get_or-take}
+use Rattle.std.specs.Prelude.{Result, Ok, Err, OnOk}
+use Rattle.std.proofs.lemmas.List.{append-nil, drop_more, take-append-drop, length-take, get_or-take}
 use Rattle.std.proofs.lemmas.List.Edits.{length-remove}
 use Rattle.std.proofs.lemmas.Option.{get_or_from_slice_get}
 use Rattle.rubis_clock.specs.Clocks.{Counted, IsReady, advanced}
@@ -42,6 +43,23 @@ goes_over n log waiting log_after left i m all f e s =
         let k : h.0 < length waiting = omega (arith, l, f.within) in
         let q : x ≡ get_or waiting h.0 x = sym (sym (get_or-take i waiting h.0 x l) ∙ h.2 x) in
         f.first h.0 x l (ready_by_clock n log (get_or waiting h.0 x) (all (get_or waiting h.0 x) (has_there waiting h.0 x k)) (subst (Ready log) q r))
+
+-- a message that comes is released where it is ready and none that waits is
+pub comes_first : (n : ℕ) (log waiting log_after left : List Message) (m : Message) → AllAmong n waiting → IsAmong n m → NoneReady (clock_of n log) waiting
+    → IsReady (clock_of n log) m.stamp → Settles (log ++ m ∷ []) waiting log_after left → Settles log (waiting ++ m ∷ []) log_after left
+comes_first n log waiting log_after left m all among none ready s =
+    Release log waiting [] log_after left m
+    (λ x k r. let f = place_of waiting x k in
+    none f.0 x f.1 (ready_by_clock n log (get_or waiting f.0 x) (all (get_or waiting f.0 x) (has_there waiting f.0 x f.1)) (subst (Ready log) (sym (f.2 x)) r)))
+    (ready_after n log m among ready)
+    (subst (λ q. Settles (log ++ m ∷ []) q log_after left) (sym (append-nil waiting)) s)
+
+pub comes_first_ok : {E : Type 0} (r : Result (Unit {0}) E) (n : ℕ) (clock : Counted) (log waiting log_after left : List Message) (m : Message) → clock ≡ clock_of n log
+    → AllAmong n waiting → IsAmong n m → NoneReady clock waiting → IsReady clock m.stamp
+    → OnOk r (Settles (log ++ m ∷ []) waiting log_after left) → OnOk r (Settles log (waiting ++ m ∷ []) log_after left)
+comes_first_ok (Ok u) n clock log waiting log_after left m e all among none ready s = comes_first n log waiting log_after left m all among
+    (subst (λ k. NoneReady k waiting) e none) (subst (λ k. IsReady k m.stamp) e ready) s
+comes_first_ok (Err u) n clock log waiting log_after left m e all among none ready s = tt
 
 -- what is left was there
 pub has_left_over : (xs : List Message) (i : ℕ) (x : Message) → Has x (remove xs i) → Has x xs

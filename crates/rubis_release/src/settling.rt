@@ -1,9 +1,9 @@
-ghost use Rattle.std.specs.Prelude.{◌≡◌, ◌+◌, ◌≤◌, ◌++◌, [], ◌∷◌, false, length, vec_len, vec_capacity, OnOk, OnErr};
+ghost use Rattle.std.specs.Prelude.{◌≡◌, ◌+◌, ◌≤◌, ◌++◌, [], ◌∷◌, false, true, length, vec_len, vec_capacity, OnOk, OnErr};
 ghost use Rattle.std.specs.List.{list_any};
 ghost use Rattle.rubis_schema.specs.Keys.{same_id};
 ghost use Rattle.rubis_clock.specs.Clocks.{IsReady};
 ghost use Rattle.rubis_model.specs.Settle.{Settles};
-ghost use Rattle.rubis_release.specs.Release.{IsAmong, AllAmong, clock_of};
+ghost use Rattle.rubis_release.specs.Release.{IsAmong, AllAmong, NoneReady, clock_of};
 
 use crate::waiting::Waiting;
 use rubis_clock::Clock;
@@ -26,7 +26,18 @@ fn settle(log: &mut Vec<Message>, waiting: &mut Waiting, clock: &mut Clock)
     }
 }
 
-// Puts a message last among those that wait, and releases what is ready. Without memory nothing has changed.
+// Whether the message is ready, and none of those that wait is.
+fn is_first_ready(waiting: &Waiting, clock: &Clock, message: &Message) -> bool
+    requires sites { AllAmong (length clock.now.counts) waiting.now }
+    requires site { IsAmong (length clock.now.counts) message.now }
+    ensures ready { result ≡ true → IsReady clock.now message.now.stamp }
+    ensures none { result ≡ true → NoneReady clock.now waiting.now }
+{
+    clock.ready(message.stamp()) && waiting.first_ready(clock).is_none()
+}
+
+// Puts a message last among those that wait, and releases what is ready. Without memory nothing has changed. One that is
+// ready where none that waits is goes to the log at once.
 pub fn take_in(
     log: &mut Vec<Message>,
     waiting: &mut Waiting,
@@ -43,6 +54,9 @@ pub fn take_in(
     ensures counts { clock.new ≡ clock_of (length clock.old.counts) log.new.items }
     ensures room { vec_len log.new + length waiting.new ≤ vec_capacity log.new }
 {
+    if is_first_ready(waiting, clock, &message) {
+        return release(log, waiting, clock, message);
+    }
     log.reserve(waiting.len() + 1)?;
     waiting.push(message)?;
     settle(log, waiting, clock);

@@ -1,6 +1,6 @@
-ghost use Rattle.std.specs.Prelude.{◌≡◌, [], ◌∷◌};
+ghost use Rattle.std.specs.Prelude.{◌≡◌, ℕ, [], ◌∷◌, option_map, slice_get};
 ghost use Rattle.std.specs.Iterator.{item_count, YieldsFirst};
-ghost use Rattle.rubis_shadow.specs.Parts.{footprint_of, refers_of, winner_key};
+ghost use Rattle.rubis_shadow.specs.Parts.{footprint_of, key_of, parts, refers_of, winner_key};
 
 use crate::shadows::{NewClose, Shadow};
 use rubis_schema::{Id, RowKey};
@@ -94,6 +94,29 @@ impl Shadow {
             ),
             Shadow::Close(close) => two_keys(RowKey::Item(close.item), RowKey::Cat(close.cat)),
             Shadow::Comment(comment) => two_keys(RowKey::Comment(id), RowKey::User(comment.to)),
+        }
+    }
+
+    /// The key of the part at this place, from 0; `id` is the shadow's own.
+    pub fn key(&self, id: Id, place: u8) -> Option<RowKey>
+        ensures { (red : ℕ) → result ≡ option_map key_of (slice_get (parts id red self.now) place) }
+    {
+        match (self, place) {
+            (Shadow::User(_), 0) => Some(RowKey::User(id)),
+            (Shadow::User(nick), 1) => Some(RowKey::Nick(*nick)),
+            (Shadow::Item(_), 0) => Some(RowKey::Item(id)),
+            (Shadow::Item(item), 1) => Some(RowKey::User(item.seller)),
+            (Shadow::Item(item), 2) => Some(RowKey::Cat(item.cat)),
+            (Shadow::Bid(_), 0) => Some(RowKey::Bid(id)),
+            (Shadow::Bid(bid), 1) => Some(RowKey::Item(bid.item)),
+            (Shadow::Buy(_), 0) => Some(RowKey::Purchase(id)),
+            (Shadow::Buy(purchase), 1) => Some(RowKey::Item(purchase.item)),
+            (Shadow::Buy(purchase), 2) => Some(RowKey::User(purchase.buyer)),
+            (Shadow::Close(close), 0) => Some(RowKey::Item(close.item)),
+            (Shadow::Close(close), 1) => Some(RowKey::Cat(close.cat)),
+            (Shadow::Comment(_), 0) => Some(RowKey::Comment(id)),
+            (Shadow::Comment(comment), 1) => Some(RowKey::User(comment.to)),
+            _ => None,
         }
     }
 

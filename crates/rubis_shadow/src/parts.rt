@@ -4,11 +4,15 @@ ghost use Rattle.std.specs.Iterator.{item_count, YieldsFirst};
 ghost use Rattle.rubis_shadow.specs.declared.shadows.Shadow.TheVariants as Shadow;
 ghost use Rattle.rubis_shadow.specs.Parts.{new_item, parts};
 ghost use Rattle.rubis_shadow.specs.Borrowed.{change_of};
+ghost use Rattle.rubis_shadow.specs.OwnTexts.{HasText, text_in};
+ghost use Rattle.rubis_shadow.specs.declared.parts.OwnText.TheVariants as texts;
+ghost use Rattle.rubis_schema.specs.declared.rows.Row.TheVariants as rows;
 
 use crate::changes::{Change, Effect};
 use crate::shadows::{NewBid, NewClose, NewItem, Shadow};
 use rubis_schema::{
-    Best, BidRow, CommentRow, Id, ItemRow, Nick, PurchaseRow, Row, RowKey, Sale, UserRow,
+    Best, BidRow, CommentRow, Id, ItemRow, Name, Nick, PurchaseRow, Row, RowKey, Sale, Text,
+    UserRow,
 };
 use std::alloc::AllocError;
 use std::marker::Model;
@@ -33,6 +37,16 @@ enum ChangeRef<'a> {
     BidTaken(Best),
     Sold(u64),
     End(Option<Id>),
+}
+
+/// The text of a row that a part inserts, apart from the row.
+#[derive(Drop, Debug)]
+pub enum OwnText {
+    None,
+    /// That of a new item.
+    Name(Name),
+    /// That of a new comment.
+    Text(Text),
 }
 
 /// A part of a shadow that borrows its texts. Contracts see the effect.
@@ -95,6 +109,17 @@ impl Shadow {
         match self {
             Shadow::User(_) | Shadow::Bid(_) | Shadow::Close(_) | Shadow::Comment(_) => 2,
             Shadow::Item(_) | Shadow::Buy(_) => 3,
+        }
+    }
+
+    /// A text of its own for the row that the first part inserts, where that has one.
+    pub fn own_text(&self) -> Result<OwnText, AllocError>
+        ensures { IfOk result (λ text. (id : Id) (red : ℕ) → HasText (slice_get (parts id red self.now) 0) text) }
+    {
+        match self {
+            Shadow::Item(item) => Ok(OwnText::Name(item.name.copy()?)),
+            Shadow::Comment(comment) => Ok(OwnText::Text(comment.text.copy()?)),
+            _ => Ok(OwnText::None),
         }
     }
 
@@ -246,12 +271,12 @@ impl<'a> Iterator for Effects<'a> {
     }
 }
 
-// The row of an item that is offered.
-fn item_row(item: &NewItem) -> Result<ItemRow, AllocError>
-    ensures { IfOk result (λ row. row ≡ new_item item.now) }
+// The row of an item that is offered, with that name.
+fn item_row(item: &NewItem, name: Name) -> ItemRow
+    requires { name ≡ item.now.name }
+    ensures { result ≡ new_item item.now }
 {
-    let name = item.name.copy()?;
-    Ok(ItemRow {
+    ItemRow {
         seller: item.seller,
         name,
         cat: item.cat,
@@ -262,14 +287,62 @@ fn item_row(item: &NewItem) -> Result<ItemRow, AllocError>
         bids: 0,
         best: None,
         sale: Sale::Open,
-    })
+    }
 }
 
-// The change with texts of its own.
-fn own_change(change: &ChangeRef<'_>) -> Result<Change, AllocError>
-    ensures { IfOk result (λ owned. owned ≡ change_of change.now) }
+// The row of a comment, with that text.
+fn comment_row(comment: &CommentRow, text: Text) -> CommentRow
+    requires { text ≡ comment.now.text }
+    ensures { result ≡ comment.now }
 {
-    Ok(match change {
+    CommentRow {
+        item: comment.item,
+        from: comment.from,
+        to: comment.to,
+        rating: comment.rating,
+        text,
+    }
+}
+
+// A text of its own for the row that the change inserts, where that has one.
+fn own_text(change: &ChangeRef<'_>) -> Result<OwnText, AllocError>
+    ensures { IfOk result (λ text. text ≡ text_in (change_of change.now)) }
+{
+    match change {
+        ChangeRef::NewItem(item) => Ok(OwnText::Name(item.name.copy()?)),
+        ChangeRef::NewComment(comment) => Ok(OwnText::Text(comment.text.copy()?)),
+        _ => Ok(OwnText::None),
+    }
+}
+
+// The row of the item that the change inserts.
+fn new_item_row(item: &NewItem, text: OwnText) -> Row
+    requires { text ≡ texts.Name item.now.name }
+    ensures { result ≡ rows.Item (new_item item.now) }
+{
+    match text {
+        OwnText::Name(name) => Row::Item(item_row(item, name)),
+        _ => unreachable!(),
+    }
+}
+
+// The row of the comment that the change inserts.
+fn new_comment_row(comment: &CommentRow, text: OwnText) -> Row
+    requires { text ≡ texts.Text comment.now.text }
+    ensures { result ≡ rows.Comment comment.now }
+{
+    match text {
+        OwnText::Text(text) => Row::Comment(comment_row(comment, text)),
+        _ => unreachable!(),
+    }
+}
+
+// The change with that text as its own.
+fn change_with(change: &ChangeRef<'_>, text: OwnText) -> Change
+    requires { text ≡ text_in (change_of change.now) }
+    ensures { result ≡ change_of change.now }
+{
+    match change {
         ChangeRef::NewUser(nick) => Change::Insert(Row::User(UserRow {
             nick: *nick,
             items: 0,
@@ -278,10 +351,10 @@ fn own_change(change: &ChangeRef<'_>) -> Result<Change, AllocError>
             comments: 0,
         })),
         ChangeRef::NewNick(id) => Change::Insert(Row::Nick(*id)),
-        ChangeRef::NewItem(item) => Change::Insert(Row::Item(item_row(item)?)),
+        ChangeRef::NewItem(item) => Change::Insert(new_item_row(item, text)),
         ChangeRef::NewBid(bid) => Change::Insert(Row::Bid(*bid)),
         ChangeRef::NewPurchase(purchase) => Change::Insert(Row::Purchase(*purchase)),
-        ChangeRef::NewComment(comment) => Change::Insert(Row::Comment(comment.copy()?)),
+        ChangeRef::NewComment(comment) => Change::Insert(new_comment_row(comment, text)),
         ChangeRef::ItemListed => Change::ItemListed,
         ChangeRef::Bought(quantity) => Change::Bought(*quantity),
         ChangeRef::Rated(rating) => Change::Rated(*rating),
@@ -290,7 +363,7 @@ fn own_change(change: &ChangeRef<'_>) -> Result<Change, AllocError>
         ChangeRef::BidTaken(best) => Change::BidTaken(*best),
         ChangeRef::Sold(quantity) => Change::Sold(*quantity),
         ChangeRef::End(winner) => Change::End(*winner),
-    })
+    }
 }
 
 impl<'a> EffectRef<'a> {
@@ -305,10 +378,21 @@ impl<'a> EffectRef<'a> {
     pub fn own(&self) -> Result<Effect, AllocError>
         ensures { IfOk result (λ effect. effect ≡ self.now) }
     {
-        let change = own_change(&self.change)?;
+        let text = own_text(&self.change)?;
         Ok(Effect {
             key: self.key,
-            change,
+            change: change_with(&self.change, text),
         })
+    }
+
+    /// An equal effect that borrows nothing, with that text as its own. It takes no memory.
+    pub fn own_with(&self, text: OwnText) -> Effect
+        requires { text ≡ text_in self.now.change }
+        ensures { result ≡ self.now }
+    {
+        Effect {
+            key: self.key,
+            change: change_with(&self.change, text),
+        }
     }
 }

@@ -6,3 +6,4 @@ pub mod Unions
 pub mod Parts
 pub mod Homes
 pub mod Listing
+pub mod Picked

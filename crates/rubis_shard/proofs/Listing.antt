@@ -32,7 +32,7 @@ abbrev Entries : Type 0
 Entries = List (RowKey × Row)
 
 -- ---- keys that differ
-both : (a b : Bool) → T (a && b) → T a × T b
+pub both : (a b : Bool) → T (a && b) → T a × T b
 both true b h = (tt, h)
 both false b h = absurd h
 
@@ -49,7 +49,7 @@ below_apart x (e ∷ es) h = let w = both (is_lt (key_order x e.0)) (below_all k
   below_apart x es w.1,
 )
 
-sorted_distinct : (es : Entries) → T (is_sorted key_order es) → IsDistinct key_eq (keys_of es)
+pub sorted_distinct : (es : Entries) → T (is_sorted key_order es) → IsDistinct key_eq (keys_of es)
 unfolding IsDistinct
 sorted_distinct [] h = tt
 sorted_distinct (e ∷ es) h = let w = both (below_all key_order e.0 es) (is_sorted key_order es) h in
@@ -132,7 +132,7 @@ homes_from shards n (t ∷ ts) h =
     (all_weaker _ _ (λ q e. omega (arith, e)) _ (home_of_entries shards n t numbered g.1))
     (all_weaker _ _ (λ q l. omega (arith, l)) _ (homes_from shards (n + 1) ts (from_rest shards n t ts h))))
 
-all_distinct : (shards n : ℕ) (ts : List ShardState) → AreFrom shards n ts → IsDistinct key_eq (keys_of (flat_map entries_of ts))
+pub all_distinct : (shards n : ℕ) (ts : List ShardState) → AreFrom shards n ts → IsDistinct key_eq (keys_of (flat_map entries_of ts))
 unfolding IsDistinct
 all_distinct shards n [] h = tt
 all_distinct shards n (t ∷ ts) h =

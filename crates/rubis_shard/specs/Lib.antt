@@ -4,3 +4,4 @@ pub mod StateCode
 pub mod Holdings
 pub mod Laws
 pub mod Messages
+pub mod Listed

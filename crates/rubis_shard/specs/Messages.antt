@@ -1,5 +1,5 @@
 -- One message folded on the shards of a set, each part at its home.
-use Rattle.std.specs.Prelude.{ℕ, ◌≡◌, ◌+◌, ◌<◌, ◌≤◌, List, [], ◌∷◌, ◌++◌, Option, Some, None, length, slice_get}
+use Rattle.std.specs.Prelude.{ℕ, ◌≡◌, ◌+◌, ◌<◌, ◌≤◌, List, [], ◌∷◌, Option, Some, None, length, slice_get}
 use Rattle.std.specs.FinMap as map
 use Rattle.rubis_shadow.specs.Parts.{parts}
 use Rattle.rubis_shadow.specs.declared.numbered.Numbered.{Numbered}
@@ -7,7 +7,6 @@ use Rattle.rubis_model.specs.Log.{Folded, number_parts}
 use Rattle.rubis_shard.specs.States.{ShardState, with_parts}
 use Rattle.rubis_shard.specs.Holdings.{parts_at}
 use Rattle.rubis_shard.specs.declared.message_parts.MessageParts.{MessageParts}
-use Rattle.rubis_shard.specs.declared.message_parts.OwnParts.{OwnParts}
 
 -- no rows and no misfits
 abbrev pub nothing_held : Folded
@@ -28,9 +27,6 @@ numbered_of m = number_parts m.entry 1 m.id (parts m.id m.red m.shadow.now)
 -- its part at a place, from 0, if there is one
 abbrev pub at_place : MessageParts → ℕ → List Numbered
 at_place m place = number_parts m.entry (place + 1) m.id (list_of (slice_get (parts m.id m.red m.shadow.now) place))
-
-abbrev pub all_own : OwnParts → List Numbered
-all_own own = list_of own.first ++ list_of own.second ++ list_of own.third
 
 -- each shard from a number on has its parts folded on, and the shards before it are as they were
 pub record FoldsFrom (from : ℕ) (old : List ShardState) (ns : List Numbered) (new : List ShardState) : Type 0 where

@@ -4,13 +4,16 @@
 mod laws;
 mod message_parts;
 mod messages;
+mod picks;
 mod rows;
+mod selections;
 mod shards;
 mod shares;
 mod stores;
 mod tables;
 
 pub use laws::shards_hold_logs;
+pub use selections::selects;
 pub use shards::{Applied, Shard};
 pub use shares::Share;
 pub use tables::Tables;

@@ -1,11 +1,11 @@
-// A message on its way to the shards, and those of its parts that one shard takes.
+// A message on its way to the shards.
 
 ghost use Rattle.std.specs.Prelude.{◌≡◌, slice_get};
 ghost use Rattle.rubis_shadow.specs.Parts.{parts};
 ghost use Rattle.rubis_shard.specs.Holdings.{home_or};
 
 use rubis_schema::Id;
-use rubis_shadow::{Numbered, Shadow};
+use rubis_shadow::Shadow;
 
 /// A message at its entry of the log, to be folded on so many shards, with the home of each of its parts, which is the
 /// number of shards where there is no part.
@@ -22,12 +22,4 @@ pub struct MessageParts<'a> {
     ghost first_home: { first ≡ home_or shards (slice_get (parts id red shadow.now) 0) },
     ghost second_home: { second ≡ home_or shards (slice_get (parts id red shadow.now) 1) },
     ghost third_home: { third ≡ home_or shards (slice_get (parts id red shadow.now) 2) },
-}
-
-/// The parts of a message whose home is one shard, with rows of their own.
-#[derive(Drop)]
-pub struct OwnParts {
-    pub first: Option<Numbered>,
-    pub second: Option<Numbered>,
-    pub third: Option<Numbered>,
 }

@@ -1,24 +1,25 @@
 ghost use Rattle.std.specs.Prelude.{◌≡◌, ℕ, ◌+◌, ◌<◌, ◌≤◌, [], length, slice_get, true, false, IfOk, OnOk, OnErr};
+ghost use Rattle.rubis_shadow.specs.OwnTexts.{HasText};
 ghost use Rattle.rubis_shadow.specs.Parts.{parts};
 ghost use Rattle.rubis_model.specs.Log.{fold_on};
 ghost use Rattle.rubis_shard.specs.Holdings.{home_or, parts_at, AreInOrder};
-ghost use Rattle.rubis_shard.specs.Messages.{numbered_of, at_place, list_of, all_own, FoldsFrom};
+ghost use Rattle.rubis_shard.specs.Messages.{numbered_of, at_place, FoldsFrom};
 ghost use Rattle.rubis_shard.specs.Stores.{held_by, HasRoom};
 
-use crate::message_parts::{MessageParts, OwnParts};
+use crate::message_parts::MessageParts;
 use crate::shards::Shard;
 use crate::stores::Store;
 use rubis_schema::{Id, shard_of};
-use rubis_shadow::{Numbered, Shadow};
+use rubis_shadow::{Numbered, OwnText, Shadow};
 use std::alloc::AllocError;
 
 // The home of the shadow's part at this place, or the number of shards where there is none.
-fn home_at(id: Id, red: u32, shadow: &Shadow, shards: usize, place: u8) -> usize
+fn home_at(id: Id, shadow: &Shadow, shards: usize, place: u8) -> usize
     requires { 0 < shards }
-    ensures { result ≡ home_or shards (slice_get (parts id red shadow.now) place) }
+    ensures { (red : ℕ) → result ≡ home_or shards (slice_get (parts id red shadow.now) place) }
 {
-    match shadow.effect(id, red, place) {
-        Some(effect) => shard_of(&effect.key(), shards),
+    match shadow.key(id, place) {
+        Some(key) => shard_of(&key, shards),
         None => shards,
     }
 }
@@ -39,9 +40,9 @@ impl<'a> MessageParts<'a> {
             red,
             shadow,
             shards,
-            first: home_at(id, red, shadow, shards, 0),
-            second: home_at(id, red, shadow, shards, 1),
-            third: home_at(id, red, shadow, shards, 2),
+            first: home_at(id, shadow, shards, 0),
+            second: home_at(id, shadow, shards, 1),
+            third: home_at(id, shadow, shards, 2),
         }
     }
 
@@ -86,68 +87,63 @@ impl<'a> MessageParts<'a> {
         self.home_from(2, from, second)
     }
 
-    // The part at this place, if its home is the shard.
-    fn own_part(&self, place: u8, at: usize) -> Result<Option<Numbered>, AllocError>
+    // A text of its own for the row of the first part, if its home is the shard.
+    fn own_text(&self, at: usize) -> Result<OwnText, AllocError>
+        requires { at < self.now.shards }
+        ensures { IfOk result (λ text. self.now.first ≡ at → HasText (slice_get (parts self.now.id self.now.red self.now.shadow.now) 0) text) }
+    {
+        if self.first != at {
+            return Ok(OwnText::None);
+        }
+        self.shadow.own_text()
+    }
+
+    // Folds the part at this place on, if its home is the shard.
+    fn fold_place(&self, store: &mut Store, at: usize, place: u8, text: OwnText)
         requires at { at < self.now.shards }
         requires place { place < 3 }
-        ensures { IfOk result (λ part. list_of part ≡ parts_at self.now.shards at (at_place self.now place)) }
+        requires room { HasRoom store.old 1 }
+        requires text { home_or self.now.shards (slice_get (parts self.now.id self.now.red self.now.shadow.now) place) ≡ at → HasText (slice_get (parts self.now.id self.now.red self.now.shadow.now) place) text }
+        ensures folded { held_by store.new ≡ fold_on (held_by store.old) (parts_at self.now.shards at (at_place self.now place)) }
+        ensures room { (n : ℕ) → HasRoom store.old (n + 1) → HasRoom store.new n }
     {
         if self.home(place) != at {
-            return Ok(None);
+            return;
         }
         let Some(effect) = self.shadow.effect(self.id, self.red, place) else {
-            return Ok(None);
+            return;
         };
-        Ok(Some(Numbered {
+        store.fold(Numbered {
             entry: self.entry,
             part: place + 1,
             id: self.id,
-            effect: effect.own()?,
-        }))
+            effect: effect.own_with(text),
+        });
     }
 
-    // The parts whose home is the shard.
-    fn own_parts(&self, at: usize) -> Result<OwnParts, AllocError>
-        requires { at < self.now.shards }
-        ensures { IfOk result (λ own. all_own own ≡ parts_at self.now.shards at (numbered_of self.now)) }
+    // Folds the parts on whose home is the shard, with that text for the row of the first.
+    fn fold_at(&self, store: &mut Store, at: usize, text: OwnText)
+        requires at { at < self.now.shards }
+        requires room { HasRoom store.old 3 }
+        requires text { self.now.first ≡ at → HasText (slice_get (parts self.now.id self.now.red self.now.shadow.now) 0) text }
+        ensures { held_by store.new ≡ fold_on (held_by store.old) (parts_at self.now.shards at (numbered_of self.now)) }
     {
-        Ok(OwnParts {
-            first: self.own_part(0, at)?,
-            second: self.own_part(1, at)?,
-            third: self.own_part(2, at)?,
-        })
+        self.fold_place(store, at, 0, text);
+        self.fold_place(store, at, 1, OwnText::None);
+        self.fold_place(store, at, 2, OwnText::None);
     }
-}
 
-// Folds a part on, if there is one.
-fn fold_one(store: &mut Store, part: Option<Numbered>)
-    requires { HasRoom store.old 1 }
-    ensures folded { held_by store.new ≡ fold_on (held_by store.old) (list_of part) }
-    ensures room { (n : ℕ) → HasRoom store.old (n + 1) → HasRoom store.new n }
-{
-    if let Some(part) = part {
-        store.fold(part);
-    }
-}
-
-// Folds the parts on.
-fn fold_own(store: &mut Store, own: &mut OwnParts)
-    requires { HasRoom store.old 3 }
-    ensures { held_by store.new ≡ fold_on (held_by store.old) (all_own own.old) }
-{
-    fold_one(store, own.first.take());
-    fold_one(store, own.second.take());
-    fold_one(store, own.third.take());
-}
-
-// Folds the parts on, if they are wanted.
-fn fold_if(store: &mut Store, own: &mut OwnParts, wanted: bool)
-    requires { wanted ≡ true → HasRoom store.old 3 }
-    ensures wanted { wanted ≡ true → held_by store.new ≡ fold_on (held_by store.old) (all_own own.old) }
-    ensures unwanted { wanted ≡ false → held_by store.new ≡ held_by store.old }
-{
-    if wanted {
-        fold_own(store, own);
+    // Folds the parts on whose home is the shard, if they are wanted.
+    fn fold_if(&self, store: &mut Store, at: usize, text: OwnText, wanted: bool)
+        requires at { at < self.now.shards }
+        requires room { HasRoom store.old 3 }
+        requires text { self.now.first ≡ at → HasText (slice_get (parts self.now.id self.now.red self.now.shadow.now) 0) text }
+        ensures wanted { wanted ≡ true → held_by store.new ≡ fold_on (held_by store.old) (parts_at self.now.shards at (numbered_of self.now)) }
+        ensures unwanted { wanted ≡ false → held_by store.new ≡ held_by store.old }
+    {
+        if wanted {
+            self.fold_at(store, at, text);
+        }
     }
 }
 
@@ -168,10 +164,10 @@ pub fn fold_from(
     if at == list.len() {
         return Ok(());
     }
-    let mut own = message.own_parts(at)?;
+    let text = message.own_text(at)?;
     let mut store = list[at].take_store(3)?;
     let folded = fold_from(list, message, at + 1);
-    fold_if(&mut store, &mut own, folded.is_ok());
+    message.fold_if(&mut store, at, text, folded.is_ok());
     list[at].put_store(store);
     folded
 }

@@ -6,6 +6,7 @@ ghost use Rattle.rubis_schema.specs.Keys.{key_order};
 ghost use Rattle.rubis_shadow.specs.Changes.{after, misfit_of};
 
 use indexmap::IndexMap;
+use indexmap::map::Entry;
 use rubis_schema::{Row, RowKey};
 use rubis_shadow::{Change, Effect, MisfitKind};
 use std::alloc::AllocError;
@@ -21,19 +22,23 @@ pub fn put_row(rows: &mut IndexMap<RowKey, Row>, key: RowKey, row: Row) -> Resul
 }
 
 // Puts the row at the key where none is there, and says whether it did.
+#[tactic(auto, using(rubis_shadow::proofs::Rows::tables_of_update))]
 fn put_new(rows: &mut IndexMap<RowKey, Row>, key: RowKey, row: Row) -> bool
     requires { 0 < spare rows.old }
     ensures free { result ≡ is_none (map.get (map.from_entries {R = key_order} rows.old.entries) key) }
     ensures put { MatchBool result (map.from_entries {R = key_order} rows.new.entries ≡ map.insert (map.from_entries rows.old.entries) key row) (rows.new.entries ≡ rows.old.entries) }
     ensures room { spare rows.old ≤ spare rows.new + 1 }
 {
-    if rows.contains_key(&key) {
-        return false;
-    }
-    if put_row(rows, key, row).is_err() {
+    let Ok(entry) = rows.entry(key) else {
         unreachable!()
+    };
+    match entry {
+        Entry::Occupied(_) => false,
+        Entry::Vacant(vacant) => {
+            vacant.insert(row);
+            true
+        }
     }
-    true
 }
 
 // Does one part on rows that have room for it.

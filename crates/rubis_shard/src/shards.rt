@@ -7,15 +7,17 @@ ghost use Rattle.rubis_schema.specs.Keys.{key_order};
 ghost use Rattle.rubis_shadow.specs.Tables.{opening, rows_of};
 ghost use Rattle.rubis_model.specs.Shares.{part_of};
 ghost use Rattle.rubis_model.specs.Log.{fold_on, step};
+ghost use Rattle.rubis_shard.specs.Listed.{listed_of};
 ghost use Rattle.rubis_shard.specs.States.{opening_shard, with_parts, IsHomeOf, HoldsOwnRows};
 ghost use Rattle.rubis_shard.specs.Messages.{emptied};
 ghost use Rattle.rubis_shard.specs.Stores.{held_by, HasRoom};
 
+use crate::picks::picked_in_order;
 use crate::rows::put_row;
 use crate::shares::Share;
 use crate::stores::Store;
 use indexmap::IndexMap;
-use rubis_schema::{CATEGORIES, CatRow, Row, RowKey, Table, shard_of};
+use rubis_schema::{CATEGORIES, CatRow, Listing, Row, RowKey, Table, shard_of};
 use rubis_shadow::{Misfit, rows_in_order};
 use std::alloc::{AllocError, Global};
 use std::marker::Model;
@@ -104,6 +106,19 @@ impl Shard {
         ensures own { HoldsOwnRows self.now }
     {
         rows_in_order(alloc, &self.store.rows, table)
+    }
+
+    /// Those rows of one table that a listing is of, with their keys, in key order.
+    pub fn listed(
+        &self,
+        alloc: Global,
+        table: Table,
+        listing: &Listing,
+    ) -> Result<Vec<(&RowKey, &Row)>, AllocError>
+        ensures rows { IfOk result (λ rows. each deref_pair rows.items ≡ listed_of listing.now table self.now.folded.tables) }
+        ensures own { HoldsOwnRows self.now }
+    {
+        picked_in_order(alloc, &self.store.rows, table, listing)
     }
 
     /// The keys of the rows of one table, in order.

@@ -6,12 +6,13 @@ ghost use Rattle.rubis_shadow.specs.Parts.{parts};
 ghost use Rattle.rubis_shadow.specs.Tables.{rows_of};
 ghost use Rattle.rubis_model.specs.Log.{number_parts};
 ghost use Rattle.rubis_shard.specs.Holdings.{AreInOrder, FoldsAtHome, FoldsOn, HoldsLog, IsSet, TakesOn, union};
+ghost use Rattle.rubis_shard.specs.Listed.{listed_of};
 
 use crate::message_parts::MessageParts;
 use crate::messages::fold_from;
 use crate::shards::{Applied, Shard};
 use crate::shares::Share;
-use rubis_schema::{Id, Row, RowKey, Table, View, shard_of};
+use rubis_schema::{Id, Listing, Row, RowKey, Table, View, shard_of};
 use rubis_shadow::{Shadow, put_in_order};
 use std::alloc::{AllocError, Global};
 use std::marker::Model;
@@ -132,6 +133,24 @@ impl Tables {
         }
         put_in_order(alloc, &mut all)?;
         Ok(all)
+    }
+
+    /// Those rows of one table of all shards that a listing is of, with their keys, in key order.
+    pub fn listed(
+        &self,
+        alloc: Global,
+        table: Table,
+        listing: &Listing,
+    ) -> Result<Vec<(&RowKey, &Row)>, AllocError>
+        ensures { IfOk result (λ rows. each deref_pair rows.items ≡ listed_of listing.now table (union self.now)) }
+    {
+        let mut picked = Vec::new(alloc);
+        for shard in &self.shards {
+            let mut rows = shard.listed(alloc, table, listing)?;
+            picked.append(&mut rows)?;
+        }
+        put_in_order(alloc, &mut picked)?;
+        Ok(picked)
     }
 
     /// Folds the parts of a share from `from` on, on the shard of its number, until one finds no room. The answer says how

@@ -2,8 +2,8 @@ use Rattle.std.proofs.Common.{◌≡◌, ℕ, ◌+◌, ◌<◌, ◌≤◌, List,
 use Rattle.std.specs.Prelude.{Some, slice_get}
 use Rattle.std.proofs.lemmas.Option.{slice_get_read}
 use Rattle.rubis_shard.specs.States.{ShardState, HoldsOwnRows}
-use Rattle.rubis_shard.specs.Holdings.{AreInOrder}
-use Rattle.rubis_shard.specs.Messages.{emptied, numbered_of, all_own}
+use Rattle.rubis_shard.specs.Holdings.{AreInOrder, parts_at}
+use Rattle.rubis_shard.specs.Messages.{emptied, numbered_of}
 use Rattle.rubis_shard.specs.Stores.{held_by}
 use Rattle.rubis_shard.proofs.Homes.{hollow_length, hollow_order, own_back, ended_ok, ended_err}
 use Rattle.rubis_shard.proofs.messages.+fold_from.Goals as goal
@@ -48,8 +48,8 @@ put_store-requires t c =
     there c.requires.order c.requires.shards left c.next_home-at.ensures.from c.fold_from-folded.ensures.ok
     c.fold_from-folded.ensures.err
     (ap (get_or mid at) c.index-list-at-2.is)
-    (held_by c.in_ok-store.store) (held_by c.fold_if.new.store) (all_own c.in_ok-own.own) c.is_ok.result rows taken
-    c.in_ok-own.ensures
+    (held_by c.in_ok-store.store) (held_by c.fold_if.new.store) (parts_at c.args.message.now.shards at (numbered_of c.args.message.now)) c.is_ok.result rows taken
+    refl
     c.fold_if.ensures.wanted c.fold_if.ensures.unwanted
 
 pub returns-clause-ok : goal.returns-clause-ok
@@ -67,8 +67,8 @@ returns-clause-ok t c =
     there c.requires.order c.requires.shards left c.next_home-at.ensures.from c.fold_from-folded.ensures.ok
     c.fold_from-folded.ensures.err
     (ap (get_or mid at) c.index-list-at-2.is)
-    c.put_store.new.self (held_by c.in_ok-store.store) (held_by c.fold_if.new.store) (all_own c.in_ok-own.own) c.is_ok.result
-    c.put_store.ensures c.is_ok.ensures.value taken c.in_ok-own.ensures c.fold_if.ensures.wanted c.next_home-at.ensures.none
+    c.put_store.new.self (held_by c.in_ok-store.store) (held_by c.fold_if.new.store) (parts_at c.args.message.now.shards at (numbered_of c.args.message.now)) c.is_ok.result
+    c.put_store.ensures c.is_ok.ensures.value taken refl c.fold_if.ensures.wanted c.next_home-at.ensures.none
 
 pub returns-clause-err : goal.returns-clause-err
 returns-clause-err t c =

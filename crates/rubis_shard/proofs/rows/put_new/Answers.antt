@@ -2,8 +2,16 @@ use Rattle.std.proofs.Common.{rules}
 use Rattle.rubis_shadow.proofs.Rows.{get_tables_of}
 use Rattle.rubis_shard.proofs.rows.put_new.Goals as goal
 
-pub returns-then-contains_key-clause-free : goal.returns-then-contains_key-clause-free
-returns-then-contains_key-clause-free c = let g = get_tables_of c.args.rows.now.entries c.args.key in search rules
+pub returns-in-Occupied-clause-free : goal.returns-in-Occupied-clause-free
+returns-in-Occupied-clause-free c =
+    let g = get_tables_of c.args.rows.now.entries c.args.key in
+    let f = c.in-Ok.ensures.found in
+    let i = c.in-Occupied.is in
+    search rules
 
-pub returns-clause-free : goal.returns-clause-free
-returns-clause-free c = let g = get_tables_of c.args.rows.now.entries c.args.key in search rules
+pub returns-in-Vacant-clause-free : goal.returns-in-Vacant-clause-free
+returns-in-Vacant-clause-free c =
+    let g = get_tables_of c.args.rows.now.entries c.args.key in
+    let f = c.in-Ok.ensures.found in
+    let i = c.in-Vacant.is in
+    search rules

@@ -5,7 +5,7 @@ ghost use Rattle.rubis_model.specs.Listings.{is_of};
 
 use rubis_schema::{Listing, Row, RowKey};
 
-// Whether the listing is of the row at a key.
+/// Whether the listing is of the row at a key.
 pub fn selects(listing: &Listing, key: &RowKey, row: &Row) -> bool
     ensures { result ≡ is_of listing.now key.now row.now }
 {

@@ -1,0 +1,143 @@
+-- The rows that a listing is of, put in key order.
+use Rattle.std.proofs.Common.{◌≡◌, Bool, true, false, cond, T, ◌&&◌, refl, sym, ap, ◌∙◌, subst, List, [], ◌∷◌, ◌++◌, length}
+use Rattle.std.specs.Prelude.{None, Some, Option, filter, flat_map}
+use Rattle.std.specs.List.{AllByRecursion, IsDistinct}
+use Rattle.std.specs.List.Sorted.{IsPermutation, IsSortedByKey}
+use Rattle.std.specs.Map.{keys_of, lookup}
+use Rattle.std.specs.Ordering.{is_lt}
+use Rattle.std.specs.FinMap as map
+use Rattle.std.specs.FinMap.Entries.{below_all, is_sorted}
+use Rattle.std.proofs.lemmas.List.Elements.{filter-append}
+use Rattle.std.proofs.lemmas.Map.Made.{IsDistinct-keys_filter}
+use Rattle.rubis_schema.specs.Keys.{holds, key_eq, key_order}
+use Rattle.rubis_schema.specs.KeyLaws.{Decides-key_eq}
+use Rattle.rubis_schema.specs.declared.listings.Listing.{Listing}
+use Rattle.rubis_schema.specs.declared.row_keys.RowKey.{RowKey}
+use Rattle.rubis_schema.specs.declared.row_keys.Table.{Table}
+use Rattle.rubis_schema.specs.declared.rows.Row.{Row}
+use Rattle.rubis_shadow.proofs.Entries.{first_of}
+use Rattle.rubis_shadow.proofs.Listed.{rows_listed}
+use Rattle.rubis_shadow.proofs.Rows.{tables_of, get_tables_of, lookup_find}
+use Rattle.rubis_model.specs.Listings.{is_of}
+use Rattle.rubis_model.specs.Shares.{part_of}
+use Rattle.rubis_model.proofs.Commute.{same_tables}
+use Rattle.rubis_shard.specs.Holdings.{AreInOrder, union}
+use Rattle.rubis_shard.specs.Listed.{listed_of, picked_by}
+use Rattle.rubis_shard.specs.States.{ShardState}
+use Rattle.rubis_shard.proofs.Listing.{all_distinct, both, sorted_distinct}
+use Rattle.rubis_shard.proofs.Unions.{entries_of, from_first}
+
+abbrev pub Entries : Type 0
+Entries = List (RowKey × Row)
+
+-- ---- what is found among the entries that pass a test
+missing : (q : RowKey) (es : Entries) → AllByRecursion (λ y. key_eq q y ≡ false) (keys_of es) → lookup (key_eq q) es ≡ None
+missing q [] h = refl
+missing q (e ∷ es) h = ap (λ b. cond b (Some e.1) (lookup (key_eq q) es)) h.0 ∙ missing q es h.1
+
+-- what is found, if it passes
+passing : (RowKey × Row → Bool) → RowKey → Option Row → Option Row
+passing p q None = None
+passing p q (Some v) = cond (p (q, v)) (Some v) None
+
+join_tests : (a b : Bool) → T a → T b → T (a && b)
+join_tests true b h g = g
+join_tests false b h g = absurd h
+
+module _ (p : RowKey × Row → Bool) where
+  found : (q : RowKey) (es : Entries) → IsDistinct key_eq (keys_of es)
+      → lookup (key_eq q) (filter p es) ≡ passing p q (lookup (key_eq q) es)
+  unfolding IsDistinct passing
+  found q [] d = refl
+  found q (e ∷ es) d = at (key_eq q e.0) (p e) refl refl (found q es d.1)
+    where
+      at : (t b : Bool) → key_eq q e.0 ≡ t → p e ≡ b
+          → lookup (key_eq q) (filter p es) ≡ passing p q (lookup (key_eq q) es)
+          → lookup (key_eq q) (cond (p e) (e ∷ filter p es) (filter p es))
+          ≡ passing p q (cond (key_eq q e.0) (Some e.1) (lookup (key_eq q) es))
+      at true true is pass rest =
+          ap (λ b. lookup (key_eq q) (cond b (e ∷ filter p es) (filter p es))) pass
+          ∙ ap (λ b. cond b (Some e.1) (lookup (key_eq q) (filter p es))) is
+          ∙ ap (λ b. cond b (Some e.1) None) (sym pass ∙ ap (λ k. p (k, e.1)) (sym ((Decides-key_eq q e.0).0 is)))
+          ∙ ap (λ b. passing p q (cond b (Some e.1) (lookup (key_eq q) es))) (sym is)
+      at true false is fail rest =
+          ap (λ b. lookup (key_eq q) (cond b (e ∷ filter p es) (filter p es))) fail
+          ∙ rest
+          ∙ ap (passing p q) (ap (λ k. lookup (key_eq k) es) ((Decides-key_eq q e.0).0 is) ∙ missing e.0 es d.0)
+          ∙ ap (λ b. cond b (Some e.1) None) (sym fail ∙ ap (λ k. p (k, e.1)) (sym ((Decides-key_eq q e.0).0 is)))
+          ∙ ap (λ b. passing p q (cond b (Some e.1) (lookup (key_eq q) es))) (sym is)
+      at false true not pass rest =
+          ap (λ b. lookup (key_eq q) (cond b (e ∷ filter p es) (filter p es))) pass
+          ∙ ap (λ b. cond b (Some e.1) (lookup (key_eq q) (filter p es))) not
+          ∙ rest
+          ∙ ap (λ b. passing p q (cond b (Some e.1) (lookup (key_eq q) es))) (sym not)
+      at false false not fail rest =
+          ap (λ b. lookup (key_eq q) (cond b (e ∷ filter p es) (filter p es))) fail
+          ∙ rest
+          ∙ ap (λ b. passing p q (cond b (Some e.1) (lookup (key_eq q) es))) (sym not)
+
+  below_passing : (x : RowKey) (es : Entries) → T (below_all key_order x es) → T (below_all key_order x (filter p es))
+  below_passing x [] h = tt
+  below_passing x (e ∷ es) h =
+      let w = both (is_lt (key_order x e.0)) (below_all key_order x es) h in
+      let rest = below_passing x es w.1 in
+      elim (p e) as (λ b. T (below_all key_order x (cond b (e ∷ filter p es) (filter p es)))) [
+        | true ↦ join_tests _ _ w.0 rest
+        | false ↦ rest
+      ]
+
+  sorted_passing : (es : Entries) → T (is_sorted key_order es) → T (is_sorted key_order (filter p es))
+  sorted_passing [] h = tt
+  sorted_passing (e ∷ es) h =
+      let w = both (below_all key_order e.0 es) (is_sorted key_order es) h in
+      let rest = sorted_passing es w.1 in
+      elim (p e) as (λ b. T (is_sorted key_order (cond b (e ∷ filter p es) (filter p es)))) [
+        | true ↦ join_tests _ _ (below_passing e.0 es w.0) rest
+        | false ↦ rest
+      ]
+
+  -- the tables of the entries that pass
+  entries_passing : (es : Entries) → IsDistinct key_eq (keys_of es)
+      → map.entries (tables_of (filter p es)) ≡ filter p (map.entries (tables_of es))
+  entries_passing es d =
+      let m = tables_of es in
+      let rows = map.entries m in
+      let in_order = sorted_passing rows (map.entries_sorted m) in
+      let same : tables_of (filter p es) ≡ map.from_sorted {R = key_order} (filter p rows) = same_tables _ _ (λ q.
+      get_tables_of (filter p es) q
+      ∙ found q es d
+      ∙ ap (passing p q) (sym (get_tables_of es q) ∙ map.get-entries m q ∙ lookup_find rows q)
+      ∙ sym (found q rows (sorted_distinct rows (map.entries_sorted m)))
+      ∙ sym (lookup_find (filter p rows) q)
+      ∙ sym (map.get-from_sorted key_order (filter p rows) q in_order)) in
+      ap map.entries same ∙ map.entries-from_sorted key_order _ in_order
+
+-- the entries of one table that a listing is of, put in key order
+pub picked_listed : (l : Listing) (t : Table) (es gs : Entries) → IsDistinct key_eq (keys_of es)
+    → IsPermutation (filter (λ e. holds t e.0) (picked_by l es)) gs
+    → IsSortedByKey first_of key_order gs → gs ≡ listed_of l t (tables_of es)
+picked_listed l t es gs distinct moved sorted =
+    let p = λ (e : RowKey × Row). is_of l e.0 e.1 in
+    rows_listed t (filter p es) gs (IsDistinct-keys_filter key_eq p es distinct) moved sorted
+    ∙ ap (filter (λ (e : RowKey × Row). holds t e.0)) (entries_passing p es distinct)
+
+-- ---- shard by shard
+abbrev pub listed_by_shard : Listing → Table → List ShardState → Entries
+listed_by_shard l t ts = flat_map (λ (s : ShardState). listed_of l t (part_of s.shards s.number s.folded.tables)) ts
+
+picks_flat : (l : Listing) (t : Table) (ts : List ShardState)
+    → filter (λ e. holds t e.0) (picked_by l (flat_map entries_of ts)) ≡ listed_by_shard l t ts
+picks_flat l t [] = refl
+picks_flat l t (s ∷ ts) =
+    let h = λ (e : RowKey × Row). holds t e.0 in
+    let p = λ (e : RowKey × Row). is_of l e.0 e.1 in
+    ap (filter h) (filter-append p (entries_of s) (flat_map entries_of ts))
+    ∙ filter-append h (filter p (entries_of s)) (filter p (flat_map entries_of ts))
+    ∙ ap (λ es. filter h (filter p (entries_of s)) ++ es) (picks_flat l t ts)
+
+pub union_picked : (l : Listing) (t : Table) (ts : List ShardState) (gs : Entries) → AreInOrder ts
+    → IsPermutation (listed_by_shard l t ts) gs
+    → IsSortedByKey first_of key_order gs → gs ≡ listed_of l t (union ts)
+union_picked l t ts gs order moved sorted =
+    picked_listed l t (flat_map entries_of ts) gs (all_distinct (length ts) 0 ts (from_first ts order))
+    (subst (λ es. IsPermutation es gs) (sym (picks_flat l t ts)) moved) sorted

@@ -1,0 +1,31 @@
+use Rattle.std.proofs.Common.{◌≡◌, ℕ, refl, sym, ap, ◌∙◌}
+use Rattle.std.specs.Prelude.{Option, Some, None, option_map, slice_get}
+use Rattle.rubis_schema.specs.Keys.{home}
+use Rattle.rubis_schema.specs.declared.row_keys.RowKey.{RowKey}
+use Rattle.rubis_shadow.specs.Parts.{key_of, parts}
+use Rattle.rubis_shadow.specs.declared.changes.Effect.{Effect}
+use Rattle.rubis_shard.specs.Holdings.{home_or}
+use Rattle.rubis_shard.proofs.messages.home_at.Goals as goal
+
+-- the home of a key, or the number of shards
+home_of : ℕ → Option RowKey → ℕ
+home_of shards None = shards
+home_of shards (Some k) = home shards k
+
+by_key : (shards : ℕ) (part : Option Effect) → home_of shards (option_map key_of part) ≡ home_or shards part
+unfolding home_of
+by_key shards None = refl
+by_key shards (Some e) = refl
+
+pub returns-in-Some : goal.returns-in-Some
+unfolding home_of
+returns-in-Some c red =
+    c.shard_of.ensures.home
+    ∙ ap (home_of c.args.shards) (sym c.in-Some.is ∙ c.key.ensures red)
+    ∙ by_key c.args.shards (slice_get (parts c.args.id red c.args.shadow.now) c.args.place)
+
+pub returns-in-None : goal.returns-in-None
+unfolding home_of
+returns-in-None c red =
+    ap (home_of c.args.shards) (sym c.in-None.is ∙ c.key.ensures red)
+    ∙ by_key c.args.shards (slice_get (parts c.args.id red c.args.shadow.now) c.args.place)
