@@ -1,0 +1,2 @@
+pub mod SiteTests
+pub mod Finding
