@@ -1,2 +1,3 @@
 pub mod SiteTests
 pub mod Finding
+pub mod Showing

@@ -1,2 +1,4 @@
 pub mod Lookups
 pub mod Seen
+pub mod Contents
+pub mod Past

@@ -1,11 +1,9 @@
 //! The auditor: whether the logs of several sites agree, and if not, what the first fault is.
 #![tactic(auto)]
 
-
+mod contents;
 mod logs;
 mod seen;
 mod stamps;
 
-
 pub use logs::Log;
-
