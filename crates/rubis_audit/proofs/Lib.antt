@@ -1,3 +1,6 @@
 pub mod SiteTests
 pub mod Finding
 pub mod Showing
+pub mod Knowing
+pub mod Fitting
+pub mod Judging

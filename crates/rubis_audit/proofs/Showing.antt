@@ -5,6 +5,7 @@ use Rattle.std.specs.Option.{option_eq, option_map_or, option_or}
 use Rattle.std.specs.List.{list_any}
 use Rattle.std.specs.FinMap as map
 use mathlib.Core.Bool.{true≢false}
+use Rattle.std.proofs.lemmas.Bool.{and_parts}
 use Rattle.std.proofs.lemmas.Bool.Decides.{nat_tests}
 use Rattle.rubis_schema.specs.KeyLaws.{Decides-same_id}
 use Rattle.rubis_schema.specs.Keys.{same_id}
@@ -22,7 +23,7 @@ use Rattle.rubis_shadow.specs.declared.shadows.Shadow.TheVariants.{User, Item, B
 use Rattle.rubis_generate.specs.Lookup.{as_item_row, is_ended, item_in, rows_of}
 use Rattle.rubis_message.specs.Message.{Message, dep}
 use Rattle.rubis_model.specs.Log.{Core, core, cores}
-use Rattle.rubis_model.specs.Meaning.{as_bid, as_item, as_user, at_id, best_bid, close_of, item_at, item_row, meaning_row, named, nick_at, sold_of, supply, total, user_at, when}
+use Rattle.rubis_model.specs.Meaning.{as_bid, as_item, as_user, at_id, best_bid, best_of, close_of, item_at, item_row, meaning_row, named, nick_at, sale_after, sold_of, supply, total, user_at, when}
 use Rattle.rubis_model.specs.Verdict.{is_known, makes_row, nick_taken, precedes, stock_short, wrong_category, wrong_reference, wrong_winner}
 use Rattle.rubis_audit.specs.Contents.{closed_in, known_in, nick_taken_in, outbid_in, stock_short_in, wrong_category_in, wrong_reference_in, wrong_winner_in}
 use Rattle.rubis_audit.specs.Past.{Shows}
@@ -44,7 +45,7 @@ known_head i j v (Some x) rest more true e h =
     ap (λ (k : Id). nat_le k.seq (dep v k.site) || more) (sym ((Decides-same_id i j).0 e)) ∙ ap (λ b. nat_le i.seq (dep v i.site) || b) h
     ∙ absorbed (nat_le i.seq (dep v i.site)) (is_some rest)
 
-known_by : {X : Type 0} (f : Core → Option X) (i : Id) (own : List Message) (v : Message)
+pub known_by : {X : Type 0} (f : Core → Option X) (i : Id) (own : List Message) (v : Message)
     → list_any (λ u. (same_id i u.stamp.id && is_some (f (core u))) && precedes u v) own ≡ (is_some (at_id f i (cores own)) && nat_le i.seq (dep v i.site))
 known_by f i [] v = refl
 known_by f i (u ∷ own) v =
@@ -125,3 +126,55 @@ stock_is t before (Item n) s = refl
 stock_is t before (Bid n) s = refl
 stock_is t before (Close n) s = refl
 stock_is t before (Comment n) s = refl
+
+-- ---- the winner, where the item is there
+over_is : (before : List Core) (i : Id) (n : NewItem) → is_ended (sale_after (close_of i before)) ≡ is_some (close_of i before)
+over_is before i n = at (close_of i before)
+  where
+    at : (o : Option Core) → is_ended (sale_after o) ≡ is_some o
+    at None = refl
+    at (Some m) = refl
+
+best_is : (o : Option Core) → option_map (λ (b : Best). b.bid) (option_map best_of o) ≡ option_map (λ (m : Core). m.id) o
+best_is None = refl
+best_is (Some m) = refl
+
+closed_is : (t : Tables) (before : List Core) (i : Id) → Shows t before → IsSome (item_at i before) → closed_in (rows_of t) i ≡ is_some (close_of i before)
+closed_is t before i s h = ap (λ o. option_map_or (λ (r : ItemRow). is_ended r.sale) o false) (item_is t before i s) ∙ at (item_at i before) h
+  where
+    at : (o : Option NewItem) → IsSome o → option_map_or (λ (r : ItemRow). is_ended r.sale) (option_and_then as_item_row (option_map (item_row before i) o)) false ≡ is_some (close_of i before)
+    at None h = absurd (true≢false (sym h))
+    at (Some n) h = over_is before i n
+
+outbid_is : (t : Tables) (before : List Core) (i : Id) (w : Option Id) → Shows t before → IsSome (item_at i before)
+    → outbid_in (rows_of t) i w ≡ not (option_eq same_id w (option_map (λ (m : Core). m.id) (best_bid i before)))
+outbid_is t before i w s h =
+    ap (λ o. option_map_or (λ (r : ItemRow). not (option_eq same_id w (option_map (λ (b : Best). b.bid) r.best))) o false) (item_is t before i s) ∙ at (item_at i before) h
+  where
+    at : (o : Option NewItem) → IsSome o → option_map_or (λ (r : ItemRow). not (option_eq same_id w (option_map (λ (b : Best). b.bid) r.best))) (option_and_then as_item_row (option_map (item_row before i) o)) false
+        ≡ not (option_eq same_id w (option_map (λ (m : Core). m.id) (best_bid i before)))
+    at None h = absurd (true≢false (sym h))
+    at (Some n) h = ap (λ o. not (option_eq same_id w o)) (best_is (best_bid i before))
+
+item_named : (own : List Message) (v : Message) (i : Id) (rest more : Bool) → ((not (is_known own v (key.Item i)) || rest) || more) ≡ false → IsSome (item_at i (cores own))
+item_named own v i rest more e =
+    (and_parts (is_some (item_at i (cores own))) _ (sym (known_by (λ m. as_item m.shadow) i own v) ∙ first (is_known own v (key.Item i)) rest more e)).0
+  where
+    first : (a b c : Bool) → ((not a || b) || c) ≡ false → a ≡ true
+    first true b c e = refl
+    first false b c e = sym e
+
+winner_by : (t : Tables) (own : List Message) (v : Message) (x : Shadow) → Shows t (cores own) → (list_any (λ k. not (is_known own v k)) (refers_of x) || wrong_category (cores own) x) ≡ false
+    → wrong_winner_in (rows_of t) x ≡ wrong_winner (cores own) x
+winner_by t own v (User n) s e = refl
+winner_by t own v (Item n) s e = refl
+winner_by t own v (Bid b) s e = closed_is t (cores own) b.item s (item_named own v b.item _ _ e)
+winner_by t own v (Buy p) s e = closed_is t (cores own) p.item s (item_named own v p.item _ _ e)
+winner_by t own v (Close c) s e =
+    let there = item_named own v c.item _ _ e in
+    λ i. closed_is t (cores own) c.item s there i || outbid_is t (cores own) c.item c.winner s there i
+winner_by t own v (Comment c) s e = refl
+
+pub winner_is : (t : Tables) (own : List Message) (v : Message) → Shows t (cores own) → wrong_reference own v ≡ false
+    → wrong_winner_in (rows_of t) v.shadow ≡ wrong_winner (cores own) v.shadow
+winner_is t own v s e = winner_by t own v v.shadow s e

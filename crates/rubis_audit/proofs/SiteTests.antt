@@ -38,12 +38,14 @@ pub site_of : (v : Message) (p : ℕ → Bool) → at_some_site v p ≡ true →
 site_of v p e = let w = any_from p 0 (sites_of v) e in (w.0, (let k = w.1 in omega (arith, k)), w.2)
 
 -- tests that agree at each of them
-pub same_sites : (v : Message) (p q : ℕ → Bool) → ((j : ℕ) → p j ≡ q j) → at_some_site v p ≡ at_some_site v q
-same_sites v p q e = from 0 (sites_of v)
+pub same_sites : (v : Message) (p q : ℕ → Bool) → ((j : ℕ) → j < sites_of v → p j ≡ q j) → at_some_site v p ≡ at_some_site v q
+same_sites v p q e = from 0 (sites_of v) (λ j l m. e j (omega (arith, m)))
   where
-    from : (a n : ℕ) → list_any p (range_with_len a n) ≡ list_any q (range_with_len a n)
-    from a zero = refl
-    from a (suc n) = λ i. e a i || from (a + 1) n i
+    from : (a n : ℕ) → ((j : ℕ) → a ≤ j → j < a + n → p j ≡ q j) → list_any p (range_with_len a n) ≡ list_any q (range_with_len a n)
+    from a zero h = refl
+    from a (suc n) h =
+        let rest = from (a + 1) n (λ j l m. h j (omega (arith, l)) (omega (arith, m))) in
+        λ i. h a (omega arith) (omega arith) i || rest i
 
 off : (b : Bool) → (b ≡ true → ⊥) → b ≡ false
 off true n = absurd (n refl)

@@ -5,5 +5,6 @@ mod contents;
 mod logs;
 mod seen;
 mod stamps;
+mod walks;
 
 pub use logs::Log;
