@@ -2,3 +2,4 @@ pub mod Lookups
 pub mod Seen
 pub mod Contents
 pub mod Past
+pub mod Walks

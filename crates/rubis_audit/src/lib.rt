@@ -3,8 +3,10 @@
 
 mod contents;
 mod logs;
+mod rows;
 mod seen;
 mod stamps;
 mod walks;
 
 pub use logs::Log;
+pub use walks::audit;
