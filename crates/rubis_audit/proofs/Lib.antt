@@ -6,3 +6,5 @@ pub mod Knowing
 pub mod Fitting
 pub mod Judging
 pub mod Walking
+pub mod LineFacts
+pub mod Collecting

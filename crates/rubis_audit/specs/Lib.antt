@@ -3,3 +3,5 @@ pub mod Seen
 pub mod Contents
 pub mod Past
 pub mod Walks
+pub mod Lines
+pub mod Running
