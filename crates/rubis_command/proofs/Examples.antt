@@ -47,3 +47,11 @@ help_is_asked = refl
 pub the_version_is_asked : fault_of command_line (codes "rubis" ∷ codes "--version" ∷ []) ≡ DisplayVersion ∷ []
 unfolding clap_on_literals
 the_version_is_asked = refl
+
+pub an_audit_has_its_sites : text_of (codes "sites") (codes "rubis" ∷ codes "audit" ∷ codes "--sites" ∷ codes "3" ∷ []) ≡ Some (Some (codes "3"))
+unfolding clap_on_literals
+an_audit_has_its_sites = refl
+
+pub an_audit_has_no_shards : fault_of command_line (codes "rubis" ∷ codes "audit" ∷ codes "--shards" ∷ codes "2" ∷ []) ≡ UnknownArgument ∷ []
+unfolding clap_on_literals
+an_audit_has_no_shards = refl

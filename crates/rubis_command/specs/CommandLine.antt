@@ -1,6 +1,5 @@
--- The command line: `rubis site`, with six options that take a number.
-use Rattle.std.specs.Prelude.{◌≡◌, ℕ, ◌-◌, ◌<◌, ◌^◌, List, [], ◌∷◌, Option, Some, ⊤, true, codes}
-use Rattle.std.specs.Option.{option_map}
+-- The command line: `rubis site`, with six options that take a number, and `rubis audit`, with one.
+use Rattle.std.specs.Prelude.{◌≡◌, ◌≢◌, ℕ, ◌-◌, ◌<◌, ◌^◌, List, [], ◌∷◌, Option, Some, ⊤, true, codes}
 use Rattle.std.specs.Str.Parse.{IsNumeral, digits_value, without_leading_plus}
 use Rattle.clap.specs.Words.{App, IsAmong, Kinds, Row, Rule, Text, kind_of, new_app, new_rule, one_of, subcommand_of, with_rule, with_subcommand}
 use Rattle.clap.specs.declared.builder.value_parser.ValueParser.TheVariants.{Unsigned}
@@ -12,16 +11,19 @@ use Rattle.rubis_command.specs.declared.options.OptionFault.{OptionFault}
 use Rattle.rubis_command.specs.declared.options.OptionFault.TheVariants.{Memory, Words}
 use Rattle.rubis_command.specs.declared.options.Options.{Options}
 use Rattle.rubis_command.specs.declared.options.Run.{Run}
-use Rattle.rubis_command.specs.declared.options.Run.TheVariants.{Site}
+use Rattle.rubis_command.specs.declared.options.Run.TheVariants.{Audit, Site}
 
 -- an option that takes a number from `low` to `high`, and that has the value `default` where it isn't given
 abbrev pub number_option : Text → ℕ → ℕ → Text → Rule
 number_option name low high default = record (new_rule name) { long = Some name; value_names = 1; parser = Some (Unsigned low high); defaults = default ∷ [] }
 
+abbrev pub sites_option : Rule
+sites_option = number_option (codes "sites") 1 SITES_MAX (codes "1")
+
 -- the options that say how sites are set up
 abbrev pub with_setup : App → App
 with_setup a = with_rule (with_rule (with_rule (with_rule (with_rule a
-    (number_option (codes "sites") 1 SITES_MAX (codes "1")))
+    sites_option)
     (number_option (codes "shards") 1 SHARDS_MAX (codes "4")))
     (number_option (codes "workers") 1 WORKERS_MAX (codes "2")))
     (number_option (codes "batch") 1 BATCH_MAX (codes "64")))
@@ -30,12 +32,15 @@ with_setup a = with_rule (with_rule (with_rule (with_rule (with_rule a
 abbrev pub site_command : App
 site_command = with_setup (with_rule (new_app (codes "site")) (number_option (codes "site") 0 (SITES_MAX - 1) (codes "0")))
 
+abbrev pub audit_command : App
+audit_command = with_rule (new_app (codes "audit")) sites_option
+
 -- the program has a version, and wants a command
 abbrev pub program_alone : App
 program_alone = let a = new_app (codes "rubis") in record a { top = record a.top { has_version = true; subcommand_required = true } }
 
 abbrev pub command_line : App
-command_line = with_subcommand program_alone site_command.top
+command_line = with_subcommand (with_subcommand program_alone site_command.top) audit_command.top
 
 -- n is the number that a text of so many bits writes: decimal digits, before which a plus may stand
 abbrev pub IsNumberOf : ℕ → Option Text → ℕ → Type 0
@@ -50,9 +55,11 @@ pub record AreOptionsIn (rows : List Row) (o : Options) : Type 0 where
   pub batch : IsNumberOf 32 (one_of (codes "batch") rows) o.batch
   pub keep : IsNumberOf 32 (one_of (codes "keep") rows) o.keep
 
--- what the words of a command line ask for: a site, with the options that stand after its command
+-- what the words of a command line ask for: an audit where that is the command, or else a site, with the options that
+-- stand after the command
 abbrev pub IsAsked : List Text → Run → Type 0
-IsAsked words (Site options) = (rows : List Row) × (option_map (λ p. p.1) (subcommand_of command_line words) ≡ Some rows) × AreOptionsIn rows options
+IsAsked words (Audit sites) = (rows : List Row) × (subcommand_of command_line words ≡ Some (codes "audit", rows)) × IsNumberOf 8 (one_of (codes "sites") rows) sites
+IsAsked words (Site options) = (name : Text) × (rows : List Row) × (subcommand_of command_line words ≡ Some (name, rows)) × (name ≢ codes "audit") × AreOptionsIn rows options
 
 -- what an error of `clap` is called here
 abbrev pub fault_by : ErrorKind → Error → OptionFault

@@ -1,6 +1,7 @@
 //! The command line.
 
-ghost use Rattle.std.specs.Prelude.{◌≡◌, false, [], Some, map, string_bytes, IfErr, IfOk};
+ghost use Rattle.std.specs.Prelude.{◌≡◌, false, [], Some, codes, map, string_bytes, IfErr, IfOk};
+ghost use Rattle.rubis_schema.specs.declared.limits.TheConstants.{SITES_MAX};
 ghost use Rattle.clap.specs.Words.{app_of, fault_of, found_of, one_of, rows_of, rule_of};
 ghost use Rattle.rubis_command.specs.CommandLine.{AreOptionsIn, IsAsked, IsFaultAmong, IsNumberOf, command_line, number_option, with_setup};
 
@@ -14,6 +15,8 @@ use std::alloc::{AllocError, Global};
 #[derive(Drop)]
 pub enum Run {
     Site(Options),
+    /// An audit of the logs of so many sites.
+    Audit(u8),
 }
 
 /// Why nothing is run.
@@ -83,19 +86,27 @@ fn number<'a>(
         .help(help)
 }
 
+// The option that says how many sites there are.
+fn sites<'a>(alloc: Global) -> Arg<'a>
+    ensures rule { rule_of result ≡ number_option (codes "sites") 1 SITES_MAX (codes "1") }
+    ensures local { result.global ≡ false }
+{
+    number(
+        alloc,
+        "sites",
+        1,
+        SITES_MAX as u64,
+        "1",
+        "How many sites there are",
+    )
+}
+
 // The options that say how sites are set up.
 fn with_setup<'a>(alloc: Global, command: Command<'a>) -> Result<Command<'a>, AllocError>
     ensures { IfOk result (λ made. app_of made ≡ with_setup (app_of command.entry)) }
 {
     command
-        .arg(number(
-            alloc,
-            "sites",
-            1,
-            SITES_MAX as u64,
-            "1",
-            "How many sites there are",
-        ))?
+        .arg(sites(alloc))?
         .arg(number(
             alloc,
             "shards",
@@ -145,12 +156,16 @@ fn program<'a>(alloc: Global) -> Result<Command<'a>, AllocError>
             "Which site it is, from 0",
         ))?;
     let site = with_setup(alloc, site)?;
+    let audit = Command::new(alloc, "audit")
+        .about("Audits logs: their records on standard input, the first fault on standard output")
+        .arg(sites(alloc))?;
     Command::new(alloc, "rubis")
         .bin_name("rubis")?
         .version("0.1.0")
         .about("A replicated auction house whose answers are proved")
         .subcommand_required(true)
-        .subcommand(site)
+        .subcommand(site)?
+        .subcommand(audit)
 }
 
 // A number that `clap` has read and found in its range.
@@ -188,7 +203,13 @@ pub fn read_options(alloc: Global, words: &[String]) -> Result<Run, OptionFault>
 {
     let matches = program(alloc)?.try_get_matches_from(words)?;
     match matches.subcommand() {
-        Some((_, inner)) => Ok(Run::Site(site_options(inner))),
+        Some((name, inner)) => {
+            if name == "audit" {
+                Ok(Run::Audit(byte(inner, "sites")))
+            } else {
+                Ok(Run::Site(site_options(inner)))
+            }
+        }
         None => unreachable!(),
     }
 }

@@ -50,9 +50,12 @@ all_of_them n (m ∷ past) h =
     within s n l = grind (arith, nat_tests)
 
 -- a log of messages that meet the conditions of their type
-pub log_short : (log : List Message) → Released (reverse log) → ((v : Message) → Has v (reverse log) → IsMessage v) → length log ≤ 2 ^ 32
-log_short log r h =
+pub log_small : (log : List Message) → Released (reverse log) → ((v : Message) → Has v (reverse log) → IsMessage v) → length log ≤ 16 * 1000000
+log_small log r h =
     let a = all_of_them 16 (reverse log) (λ v k. let s = (h v k).id.site in let t = (h v k).sites in omega (arith, s, t)) in
     let b = all_small 16 1000000 (reverse log) (λ j. counted_small (reverse log) 1000000 j r (λ v k. (h v k).id.small)) in
     let c = length-reverse log in
     omega (arith, a, b, c)
+
+pub log_short : (log : List Message) → Released (reverse log) → ((v : Message) → Has v (reverse log) → IsMessage v) → length log ≤ 2 ^ 32
+log_short log r h = let l = log_small log r h in omega (arith, l)

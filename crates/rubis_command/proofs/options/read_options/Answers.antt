@@ -1,9 +1,9 @@
 use Rattle.std.proofs.Common.{rules, ◌∙◌, ap, sym, subst}
-use Rattle.std.specs.Prelude.{IfErr, map, string_bytes}
+use Rattle.std.specs.Prelude.{IfErr, Some, codes, map, string_bytes, ◌≡◌, ◌≢◌}
 use Rattle.std.proofs.lemmas.Result.{err_from_is_err_and}
-use Rattle.clap.specs.Words.{HasKind, fault_of, is_simple_and_free}
+use Rattle.clap.specs.Words.{HasKind, fault_of, found_of, is_simple_and_free, rows_of}
 use Rattle.rubis_command.specs.CommandLine.{IsFaultAmong, command_line}
-use Rattle.rubis_command.proofs.Words.{fault_among, line_is_free}
+use Rattle.rubis_command.proofs.Words.{entered_by, entered_line, fault_among, fits_line, line_is_free}
 use Rattle.rubis_command.proofs.options.read_options.Goals as goal
 
 pub returns-in_err-program-clause-fault : goal.returns-in_err-program-clause-fault
@@ -20,3 +20,25 @@ returns-in_err-matches-clause-fault c =
     let fault = err_from_is_err_and _ c.from_residual-in_err-matches.ensures.1 in
     let among = subst (IsFaultAmong kinds) (sym fault.2) (fault_among kinds error ours) in
     subst (λ r. IfErr r (IsFaultAmong kinds)) (sym fault.1) among
+
+pub returns-then-eq-clause-fits : goal.returns-then-eq-clause-fits
+returns-then-eq-clause-fits c =
+    let line = c.in_ok-program.ensures in
+    fits_line _ _ line (c.in_ok-matches.ensures.kinds (ap is_simple_and_free line ∙ line_is_free))
+
+pub returns-in-Some-clause-fits : goal.returns-in-Some-clause-fits
+returns-in-Some-clause-fits c =
+    let line = c.in_ok-program.ensures in
+    fits_line _ _ line (c.in_ok-matches.ensures.kinds (ap is_simple_and_free line ∙ line_is_free))
+
+pub returns-then-eq-clause-ok : goal.returns-then-eq-clause-ok
+returns-then-eq-clause-ok c =
+    let entered = entered_by _ _ _ c.in-Some.name.now _ c.in-Some.ensures.name c.in-Some.ensures.rows in
+    let audit : c.in-Some.name.now ≡ codes "audit" = search rules in
+    (rows_of (found_of c.in-Some.inner.now), entered_line _ _ c.in_ok-matches.matches _ c.in_ok-program.ensures c.in_ok-matches.ensures.matches (entered ∙ ap (λ n. Some (n, rows_of (found_of c.in-Some.inner.now))) audit), c.byte.ensures)
+
+pub returns-in-Some-clause-ok : goal.returns-in-Some-clause-ok
+returns-in-Some-clause-ok c =
+    let entered = entered_by _ _ _ c.in-Some.name.now _ c.in-Some.ensures.name c.in-Some.ensures.rows in
+    let other : c.in-Some.name.now ≢ codes "audit" = search rules in
+    (c.in-Some.name.now, rows_of (found_of c.in-Some.inner.now), entered_line _ _ c.in_ok-matches.matches _ c.in_ok-program.ensures c.in_ok-matches.ensures.matches entered, other, c.site_options.ensures)

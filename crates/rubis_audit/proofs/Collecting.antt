@@ -1,0 +1,97 @@
+-- How an auditor goes on with the records that it reads.
+use Rattle.std.proofs.Common.{ℕ, ◌≡◌, ◌∙◌, ◌+◌, ◌-◌, ◌≤◌, List, [], ◌∷◌, ◌++◌, length, Option, Some, None, true, false, refl, sym, ap, subst, inl, inr, ⊎_elim, arith}
+use Rattle.std.specs.Prelude.{OnErr, OnOk, Result, Ok, Err, option_and_then, reverse}
+use Rattle.std.proofs.lemmas.List.{reverse-append, reverse-reverse}
+use Rattle.rubis_message.specs.Message.{Message, sites_of}
+use Rattle.rubis_model.specs.AuditRecords.{Line, audit_record, line_of, logs_after, with_line}
+use Rattle.rubis_model.specs.AuditRecords.Line.{Begin}
+use Rattle.rubis_model.specs.Logs.{Log}
+use Rattle.rubis_model.specs.Settle.{Has}
+use Rattle.rubis_model.proofs.Lists.{has_reverse, push_cases}
+use Rattle.rubis_script.specs.Accounts.{Answers, Ending}
+use Rattle.rubis_script.specs.Accounts.Ending.{AtEnd, Cut}
+use Rattle.rubis_script.specs.Text.{rows_text}
+use Rattle.rubis_script.specs.declared.service.Course.TheVariants.{GoesOn, Ends}
+use Rattle.rubis_audit.specs.Running.{AreRead, IsCurrentAmong, IsLogAmong, account_from, logs_of, read_of, text_of}
+use Rattle.rubis_audit.specs.Walks.{AreAmong}
+
+some_same : {X : Type 0} (a b : X) → Some a ≡ Some b → a ≡ b
+some_same a b e = cc
+
+pub pushed_among : (sites : ℕ) (current : Option Log) (log log2 : Log) (m : Message) → current ≡ Some log → log2 ≡ record log { messages = log.messages ++ m ∷ [] }
+    → sites_of m ≡ sites → IsCurrentAmong sites current → IsCurrentAmong sites (Some log2)
+pushed_among sites current log log2 m c e s among other f u h =
+    ⊎_elim (λ l. among log c u l) (λ r. ap sites_of r ∙ s)
+    (push_cases u m log.messages (subst (Has u) (ap (λ (x : Log). x.messages) (sym (some_same log2 other f) ∙ e)) h))
+
+all_among : (sites : ℕ) (ended : List Log) (current : Option Log) → AreRead sites ended current → (log : Log) → Has log (reverse (logs_of ended current)) → IsLogAmong sites log
+all_among sites ended None a log h = absurd (has_reverse log [] h)
+all_among sites ended (Some x) a log h =
+    ⊎_elim (λ e. a.current_among log (ap Some (sym e))) (λ r. a.ended_among log (has_reverse log ended r)) (has_reverse log (x ∷ reverse ended) h)
+
+-- the log that was read is put behind those that ended, or all stay
+ended_all : {E : Type 0} (r : Result (Unit {0}) E) (sites : ℕ) (ended ended2 : List Log) (current : Option Log) → AreRead sites ended current
+    → OnOk r (ended2 ≡ reverse (logs_of ended current)) → OnErr r (ended2 ≡ ended) → (log : Log) → Has log ended2 → IsLogAmong sites log
+ended_all (Ok u) sites ended ended2 current a ok err log h = all_among sites ended current a log (subst (Has log) ok h)
+ended_all (Err e) sites ended ended2 current a ok err log h = a.ended_among log (subst (Has log) err h)
+
+-- a log begins
+pub begun : {E : Type 0} (r : Result (Unit {0}) E) (sites : ℕ) (ended ended2 : List Log) (current current2 : Option Log) (log2 : Log) → AreRead sites ended current
+    → OnOk r (ended2 ≡ reverse (logs_of ended current)) → OnErr r (ended2 ≡ ended) → current2 ≡ Some log2 → log2.messages ≡ []
+    → AreRead sites ended2 current2
+begun r sites ended ended2 current current2 log2 a ok err c none = record {
+  few = a.few;
+  ended_among = ended_all r sites ended ended2 current a ok err;
+  current_among = λ log e m h. absurd (subst (Has m) (ap (λ (x : Log). x.messages) (some_same log log2 (sym e ∙ c)) ∙ none) h);
+}
+
+-- no log is read any more
+pub all_ended : {E : Type 0} (r : Result (Unit {0}) E) (sites : ℕ) (ended ended2 : List Log) (current current2 : Option Log) → AreRead sites ended current
+    → OnOk r (ended2 ≡ reverse (logs_of ended current)) → OnErr r (ended2 ≡ ended) → current2 ≡ None
+    → AreRead sites ended2 current2
+all_ended r sites ended ended2 current current2 a ok err c = record {
+  few = a.few;
+  ended_among = ended_all r sites ended ended2 current a ok err;
+  current_among = λ log e. absurd (let q : None ≡ Some log = sym c ∙ e in cc);
+}
+
+-- the logs that ended are all that were read
+pub read_among : (sites : ℕ) (ended logs : List Log) (current : Option Log) → AreRead sites ended current → logs ≡ reverse (logs_of ended current) → AreAmong sites logs
+read_among sites ended logs current a e log h = all_among sites ended current a log (subst (Has log) e h)
+
+-- ---- what is made of the records
+late : (sites n : ℕ) (logs : List Log) (records : List (List (List ℕ))) (bad : ℕ) → logs_after sites n logs records ≡ Err bad → n ≤ bad
+late sites n logs [] bad e = absurd cc
+late sites n logs (fields ∷ rest) bad e = at (option_and_then (with_line logs) (line_of sites fields)) (λ more. late sites (n + 1) more rest bad) e
+  where
+    at : (o : Option (List Log)) → ((more : List Log) → logs_after sites (n + 1) more rest ≡ Err bad → n + 1 ≤ bad)
+        → ◌≡◌ {A = Result (List Log) ℕ} (elim o [ None ↦ Err n | Some more ↦ logs_after sites (n + 1) more rest ]) (Err bad) → n ≤ bad
+    at None h e = let same : n ≡ bad = cc in omega arith
+    at (Some more) h e = let l = h more e in omega (arith, l)
+
+after_goes : (sites n : ℕ) (logs more : List Log) (line : Line) (fields : List (List ℕ)) (rest : List (List (List ℕ))) → line_of sites fields ≡ Some line → with_line logs line ≡ Some more
+    → logs_after sites n logs (fields ∷ rest) ≡ logs_after sites (n + 1) more rest
+after_goes sites n logs more line fields rest l w =
+    ap (λ o. elim o as (λ _. Result (List Log) ℕ) [ None ↦ Err n | Some x ↦ logs_after sites (n + 1) x rest ]) (ap (option_and_then (with_line logs)) l ∙ w)
+
+after_ends : (sites n : ℕ) (logs : List Log) (fields : List (List ℕ)) (rest : List (List (List ℕ))) → option_and_then (with_line logs) (line_of sites fields) ≡ None
+    → logs_after sites n logs (fields ∷ rest) ≡ Err n
+after_ends sites n logs fields rest e = ap (λ o. elim o as (λ _. Result (List Log) ℕ) [ None ↦ Err n | Some x ↦ logs_after sites (n + 1) x rest ]) e
+
+pub goes : (sites n : ℕ) (logs more : List Log) (line : Line) (fields : List (List ℕ)) (sink sink2 : List ℕ) → line_of sites fields ≡ Some line → with_line logs line ≡ Some more
+    → sink2 ≡ sink → Answers GoesOn (account_from sites n logs) (account_from sites (n + 1) more) sink sink2 fields
+goes sites n logs more line fields sink sink2 l w s rest = (
+  λ ending i. sym s i ++ text_of ending (after_goes sites n logs more line fields rest l w i),
+  ap (read_of n (length (fields ∷ rest))) (after_goes sites n logs more line fields rest l w) ∙ at (logs_after sites (n + 1) more rest) (late sites (n + 1) more rest),
+)
+  where
+    at : (r : Result (List Log) ℕ) → ((bad : ℕ) → r ≡ Err bad → n + 1 ≤ bad) → read_of n (length (fields ∷ rest)) r ≡ read_of (n + 1) (length rest) r + 1
+    at (Ok all) h = omega arith
+    at (Err bad) h = let l = h bad refl in omega (arith, l)
+
+pub ends : (sites n : ℕ) (logs more : List Log) (fields : List (List ℕ)) (sink sink2 : List ℕ) → option_and_then (with_line logs) (line_of sites fields) ≡ None
+    → sink2 ≡ sink ++ rows_text (audit_record (Err n) ∷ []) → Answers Ends (account_from sites n logs) (account_from sites (n + 1) more) sink sink2 fields
+ends sites n logs more fields sink sink2 e s rest = (
+  ap (λ r. sink ++ text_of AtEnd r) (after_ends sites n logs fields rest e) ∙ sym s,
+  ap (read_of n (length (fields ∷ rest))) (after_ends sites n logs fields rest e) ∙ (let z : n + 1 - n ≡ 1 = omega arith in z),
+)

@@ -1,0 +1,10 @@
+pub mod SiteTests
+pub mod Comparing
+pub mod Finding
+pub mod Showing
+pub mod Knowing
+pub mod Fitting
+pub mod Judging
+pub mod Walking
+pub mod LineFacts
+pub mod Collecting

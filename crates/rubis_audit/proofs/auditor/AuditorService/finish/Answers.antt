@@ -1,0 +1,28 @@
+use Rattle.std.proofs.Common.{◌∙◌}
+use Rattle.rubis_audit.proofs.Collecting.{all_ended, read_among}
+use Rattle.rubis_audit.proofs.auditor.AuditorService.finish.Goals as goal
+
+pub invariant_of-self : goal.invariant_of-self
+invariant_of-self g c =
+    all_ended c.end_log.result c.self.inside.sites c.self.inside.ended.items c.end_log.new.ended.items c.self.inside.current c.take-current.new.self
+    c.self.invariant (rw c.take-current.ensures.value at c.end_log.ensures.ok) c.end_log.ensures.err c.take-current.ensures.after
+
+pub audit-requires-clause-among : goal.audit-requires-clause-among
+audit-requires-clause-among g c =
+    read_among c.self.inside.sites c.self.inside.ended.items c.deref.result.now c.self.inside.current c.self.invariant
+    (c.deref.ensures.value ∙ rw c.take-current.ensures.value at c.in_ok-end_log.ensures.ok)
+
+pub invariant_of-self-in_err-verdict : goal.invariant_of-self-in_err-verdict
+invariant_of-self-in_err-verdict g c =
+    all_ended c.end_log.result c.self.inside.sites c.self.inside.ended.items c.end_log.new.ended.items c.self.inside.current c.take-current.new.self
+    c.self.invariant (rw c.take-current.ensures.value at c.end_log.ensures.ok) c.end_log.ensures.err c.take-current.ensures.after
+
+pub invariant_of-self-in_err-write_verdict : goal.invariant_of-self-in_err-write_verdict
+invariant_of-self-in_err-write_verdict g c =
+    all_ended c.end_log.result c.self.inside.sites c.self.inside.ended.items c.end_log.new.ended.items c.self.inside.current c.take-current.new.self
+    c.self.invariant (rw c.take-current.ensures.value at c.end_log.ensures.ok) c.end_log.ensures.err c.take-current.ensures.after
+
+pub invariant_of-self-2 : goal.invariant_of-self-2
+invariant_of-self-2 g c =
+    all_ended c.end_log.result c.self.inside.sites c.self.inside.ended.items c.end_log.new.ended.items c.self.inside.current c.take-current.new.self
+    c.self.invariant (rw c.take-current.ensures.value at c.end_log.ensures.ok) c.end_log.ensures.err c.take-current.ensures.after

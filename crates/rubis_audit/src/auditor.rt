@@ -1,0 +1,171 @@
+// The auditor as a service: many records in, one out.
+
+ghost use Rattle.std.specs.Prelude.{◌≡◌, ◌≤◌, ℕ, List, [], IfOk, None, OnErr, OnOk, Some, refl, reverse};
+ghost use Rattle.rubis_message.specs.Message.{sites_of};
+ghost use Rattle.rubis_model.specs.Logs as logs;
+ghost use Rattle.std.specs.Bool.{MatchBool};
+ghost use Rattle.rubis_schema.specs.declared.limits.TheConstants.{COUNTED_MAX};
+ghost use Rattle.rubis_model.specs.AuditRecords.{with_line};
+ghost use Rattle.rubis_model.specs.AuditRecords.Line.{Begin, Claim, Next};
+ghost use Rattle.rubis_audit.specs.Lines.{IsAmongLine, line_as};
+ghost use Rattle.rubis_audit.specs.Running.{IsCurrentAmong, account_from, logs_of};
+
+use crate::lines::{Line, read_line};
+use crate::logs::Log;
+use crate::verdicts::{write_bad_record, write_verdict};
+use crate::walks::audit;
+use rubis_message::Message;
+use rubis_schema::{Fields, Items};
+use rubis_script::{Course, OutOfMemory, Service, Sink};
+use std::alloc::{AllocError, Global};
+use std::marker::Model;
+
+/// An auditor of the logs of so many sites, as far as it has read them. Contracts see the logs, newest first.
+#[derive(Drop)]
+pub struct Auditor {
+    // The logs before the one that is read, in order.
+    ended: Vec<Log>,
+    current: Option<Log>,
+    sites: u8,
+    record: Fields,
+    alloc: Global,
+}
+
+impl Model for Auditor {
+    ghost use Rattle.rubis_audit.specs.Running.{AreRead, AuditorState, logs_of};
+
+    ghost Value = { AuditorState };
+
+    ghost view = { λ a. record { sites = a.sites; logs = logs_of a.ended.items a.current } };
+
+    ghost invariant = { λ a. AreRead a.sites a.ended.items a.current };
+}
+
+// Puts the log that was read behind those that ended. Before the first log there is none.
+fn end_log(ended: &mut Vec<Log>, current: Option<Log>) -> Result<(), AllocError>
+    ensures ok { OnOk result (ended.new.items ≡ reverse (logs_of ended.old.items current)) }
+    ensures err { OnErr result (ended.new.items ≡ ended.old.items) }
+{
+    match current {
+        Some(log) => {
+            if ended.push(log).is_err() {
+                return Err(AllocError);
+            }
+        }
+        None => ended.clear(),
+    }
+    Ok(())
+}
+
+// Puts a message behind the log that is read, if there is one that claims no row so far, and says whether there is.
+fn push_message(current: &mut Option<Log>, message: Message) -> Result<bool, AllocError>
+    ensures ok { IfOk result (λ pushed. (ended : List logs.Log) → MatchBool pushed
+        (with_line (logs_of ended current.old) (Next message) ≡ Some (logs_of ended current.new))
+        (with_line (logs_of ended current.old) (Next message) ≡ None)) }
+    ensures among { (sites : ℕ) → sites_of message ≡ sites → IsCurrentAmong sites current.old → IsCurrentAmong sites current.new }
+{
+    match current {
+        Some(log) => {
+            if log.rows().is_some() {
+                return Ok(false);
+            }
+            log.push(message)?;
+            Ok(true)
+        }
+        None => Ok(false),
+    }
+}
+
+// Claims a row of the log that is read, if there is one, and says whether there is.
+fn claim_row(alloc: Global, current: &mut Option<Log>, row: &Fields) -> Result<bool, AllocError>
+    ensures ok { IfOk result (λ claimed. (ended : List logs.Log) → MatchBool claimed
+        (with_line (logs_of ended current.old) (Claim row.now) ≡ Some (logs_of ended current.new))
+        (with_line (logs_of ended current.old) (Claim row.now) ≡ None)) }
+    ensures among { (sites : ℕ) → IsCurrentAmong sites current.old → IsCurrentAmong sites current.new }
+{
+    match current {
+        Some(log) => {
+            log.claim(alloc, row.copy()?)?;
+            Ok(true)
+        }
+        None => Ok(false),
+    }
+}
+
+impl Auditor {
+    /// An auditor among so many sites that has read no log.
+    pub fn new(alloc: Global, sites: u8) -> Auditor
+        requires { sites ≤ COUNTED_MAX }
+        ensures { result ≡ record { sites = sites; logs = [] } }
+    {
+        Auditor {
+            ended: Vec::new(alloc),
+            current: None,
+            sites,
+            record: Fields::new(alloc),
+            alloc,
+        }
+    }
+
+    // Begins a log of that site.
+    fn begin(&mut self, site: u8) -> Result<(), AllocError>
+        ensures sites { self.new.sites ≡ self.old.sites }
+        ensures log { OnOk result (with_line self.old.logs (Begin site) ≡ Some self.new.logs) }
+    {
+        let log = Log::new(site, Items::new(self.alloc), None);
+        let current = self.current.replace(log);
+        end_log(&mut self.ended, current)
+    }
+
+    // Takes what a record says, if it may stand here, and says whether it does.
+    fn take(&mut self, fields: &Fields, line: Line) -> Result<bool, AllocError>
+        requires { IsAmongLine self.old.sites (Some line) }
+        ensures sites { self.new.sites ≡ self.old.sites }
+        ensures logs { IfOk result (λ taken. MatchBool taken
+            (with_line self.old.logs (line_as fields.now line) ≡ Some self.new.logs)
+            (with_line self.old.logs (line_as fields.now line) ≡ None)) }
+    {
+        match line {
+            Line::Begin(site) => {
+                self.begin(site)?;
+                Ok(true)
+            }
+            Line::Next(message) => push_message(&mut self.current, message),
+            Line::Claim => claim_row(self.alloc, &mut self.current, fields),
+        }
+    }
+}
+
+impl<T> Service<T> for Auditor {
+    ghost account = { λ s n. account_from s.sites n s.logs };
+
+    ghost reads_none = { λ s n. refl };
+
+    fn answer(
+        &mut self,
+        _rt: &T,
+        number: u64,
+        fields: &Fields,
+        sink: &mut Sink,
+    ) -> Result<Course, OutOfMemory> {
+        if let Some(line) = read_line(self.alloc, fields, self.sites)?
+            && self.take(fields, line)?
+        {
+            return Ok(Course::GoesOn);
+        }
+        write_bad_record(&mut self.record, sink, number)?;
+        Ok(Course::Ends)
+    }
+
+    fn settle(&mut self, _rt: &T, _sink: &mut Sink) -> Result<(), OutOfMemory> {
+        Ok(())
+    }
+
+    fn finish(&mut self, _rt: &T, sink: &mut Sink) -> Result<(), OutOfMemory> {
+        let current = self.current.take();
+        end_log(&mut self.ended, current)?;
+        let verdict = audit(self.alloc, &self.ended, self.sites)?;
+        write_verdict(&mut self.record, sink, verdict)?;
+        Ok(())
+    }
+}

@@ -1,0 +1,42 @@
+// The auditor over a reader and a writer.
+
+ghost use Rattle.std.specs.Prelude.{◌≤◌, IfOk, IfSome, IsErrOf};
+ghost use Rattle.rubis_script.specs.Accounts.Ending.{AtEnd};
+ghost use Rattle.rubis_script.specs.Progress.{IsCut, IsDone, IsTooLong, WroteFront};
+ghost use Rattle.rubis_script.specs.Text.{records_of};
+ghost use Rattle.rubis_schema.specs.declared.limits.TheConstants.{COUNTED_MAX};
+ghost use Rattle.rubis_audit.specs.Running.{audit_account};
+
+use crate::auditor::Auditor;
+use rubis_schema::RECORDS_MAX;
+use rubis_script::{Count, RunFault, run_upto};
+use std::alloc::Global;
+use std::io::{Read, Write};
+
+/// Audits the logs of so many sites: reads at most 4,000,000 records of `reader`, until its end or the first that isn't
+/// so, and appends the one record of the audit to `writer`.
+///
+/// # Errors
+///
+/// `Read` where the reader failed, and `TooLong` where the input has more records and all of these are so: nothing is
+/// written then. `Write` where the writer failed. `Memory` where there was not enough: what was written is the front of
+/// the record.
+pub fn run_audit<R: Read + Drop, W: Write>(
+    alloc: Global,
+    reader: R,
+    writer: &mut W,
+    sites: u8,
+) -> Result<Count, RunFault>
+    requires { sites ≤ COUNTED_MAX }
+    ensures ok { IfOk result (λ count. IfSome (R.remaining reader) (λ input.
+        IsDone (audit_account sites) 4000000 (W.contents writer.old) (W.contents writer.new) (records_of input) count.records)) }
+    ensures too_long { IsErrOf result RunFault.TooLong → IfSome (R.remaining reader) (λ input.
+        IsTooLong (audit_account sites) 4000000 (W.contents writer.old) (W.contents writer.new) (records_of input)) }
+    ensures read { IsErrOf result RunFault.Read → IfSome (R.remaining reader) (λ input.
+        IsCut (audit_account sites) (W.contents writer.old) (W.contents writer.new) (records_of input)) }
+    ensures memory { IsErrOf result RunFault.Memory → IfSome (R.remaining reader) (λ input.
+        WroteFront ((audit_account sites).text AtEnd) (W.contents writer.old) (W.contents writer.new) (records_of input)) }
+{
+    let mut auditor = Auditor::new(alloc, sites);
+    run_upto(&(), alloc, reader, writer, &mut auditor, RECORDS_MAX)
+}
