@@ -16,7 +16,7 @@ use crate::verdicts::{write_bad_record, write_verdict};
 use crate::walks::audit;
 use rubis_message::Message;
 use rubis_schema::{Fields, Items};
-use rubis_script::{Course, OutOfMemory, Service, Sink};
+use rubis_script::{Answering, Course, OutOfMemory, Service, Sink};
 use std::alloc::{AllocError, Global};
 use std::marker::Model;
 
@@ -141,6 +141,20 @@ impl<T> Service<T> for Auditor {
 
     ghost reads_none = { λ s n. refl };
 
+    fn settle(&mut self, _rt: &T, _sink: &mut Sink) -> Result<(), OutOfMemory> {
+        Ok(())
+    }
+
+    fn finish(&mut self, _rt: &T, sink: &mut Sink) -> Result<(), OutOfMemory> {
+        let current = self.current.take();
+        end_log(&mut self.ended, current)?;
+        let verdict = audit(self.alloc, &self.ended, self.sites)?;
+        write_verdict(&mut self.record, sink, verdict)?;
+        Ok(())
+    }
+}
+
+impl<T> Answering<T> for Auditor {
     fn answer(
         &mut self,
         _rt: &T,
@@ -155,17 +169,5 @@ impl<T> Service<T> for Auditor {
         }
         write_bad_record(&mut self.record, sink, number)?;
         Ok(Course::Ends)
-    }
-
-    fn settle(&mut self, _rt: &T, _sink: &mut Sink) -> Result<(), OutOfMemory> {
-        Ok(())
-    }
-
-    fn finish(&mut self, _rt: &T, sink: &mut Sink) -> Result<(), OutOfMemory> {
-        let current = self.current.take();
-        end_log(&mut self.ended, current)?;
-        let verdict = audit(self.alloc, &self.ended, self.sites)?;
-        write_verdict(&mut self.record, sink, verdict)?;
-        Ok(())
     }
 }

@@ -5,7 +5,7 @@ use Rattle.rubis_script.specs.declared.service.Course.TheVariants.{GoesOn}
 use Rattle.rubis_audit.specs.Lines.{line_as}
 use Rattle.rubis_audit.specs.Running.{account_from}
 use Rattle.rubis_audit.proofs.Collecting.{goes}
-use Rattle.rubis_audit.proofs.auditor.AuditorService.answer.Goals as goal
+use Rattle.rubis_audit.proofs.auditor.AuditorAnswering.answer.Goals as goal
 
 pub returns : goal.returns
 returns g c =
