@@ -1,7 +1,8 @@
-//! `rubis`: an auction site over standard input and output.
+//! `rubis`: an auction site, or an auditor of its logs, over standard input and output.
 #![tactic(auto)]
 
-ghost use Rattle.std.specs.Prelude.{◌≡◌, ◌⊎◌, cond, is_ok, map, string_bytes};
+ghost use Rattle.std.specs.Prelude.{◌≡◌, ◌⊎◌, ◌<◌, ◌≤◌, cond, is_ok, map, string_bytes};
+ghost use Rattle.rubis_schema.specs.declared.limits.TheConstants.{SITES_MAX};
 ghost use Rattle.std.specs.Option.{SomeIff};
 ghost use Rattle.std.specs.Process.{exit_status};
 ghost use Rattle.clap.specs.Words.{kind_of};
@@ -10,10 +11,11 @@ ghost use Rattle.rubis_app.specs.Setups.{setup_of};
 ghost use Rattle.rubis_app.specs.Statuses.{IsStatusOf, status_by};
 
 use clap::Error;
+use rubis_audit::Auditor;
 use rubis_command::{OptionFault, Options, Run, read_options};
 use rubis_replica::{Config, Free};
-use rubis_schema::RECORDS_MAX;
-use rubis_script::{Count, Desk, RunFault, run_desk};
+use rubis_schema::{RECORDS_MAX, SITES_MAX};
+use rubis_script::{Count, Desk, RunFault, run_desk, run_upto};
 use std::io::ErrorKind;
 use std::process::ExitCode;
 use std::sync::Wait;
@@ -106,6 +108,29 @@ fn run<R: Print + Eprint + Input + AllocGlobal + Threads + Wait + Sync>(
     end(rt, ended)
 }
 
+// Audits the logs of so many sites, from standard input to standard output.
+fn run_auditor<R: Print + Eprint + Input + AllocGlobal>(rt: &R, sites: u8) -> ExitCode
+    ensures misuse { SITES_MAX < sites → exit_status result ≡ 2 }
+    ensures runs { sites ≤ SITES_MAX → (exit_status result ≡ 0) ⊎ (exit_status result ≡ 1) }
+{
+    if sites > SITES_MAX {
+        return misuse(rt, "there are too many sites");
+    }
+    let mut auditor = Auditor::new(rt.alloc(), sites);
+    let mut writer = io::writer(rt);
+    let ended = run_upto(
+        &(),
+        rt.alloc(),
+        rt.reader(),
+        &mut writer,
+        &mut auditor,
+        RECORDS_MAX,
+    );
+    // The process ends now, so the logs needn't be taken apart.
+    mem::forget(auditor);
+    end(rt, ended)
+}
+
 // Does what the words of the command line ask for.
 fn start<R: Print + Eprint + Input + AllocGlobal + Threads + Wait + Sync>(
     rt: &R,
@@ -115,6 +140,7 @@ fn start<R: Print + Eprint + Input + AllocGlobal + Threads + Wait + Sync>(
 {
     match read_options(rt.alloc(), words) {
         Ok(Run::Site(options)) => run(rt, &options),
+        Ok(Run::Audit(sites)) => run_auditor(rt, sites),
         Err(OptionFault::Memory) => fail(rt, RunFault::Memory),
         Err(OptionFault::Words(error)) => tell(rt, &error),
     }
