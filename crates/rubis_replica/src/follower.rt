@@ -80,7 +80,7 @@ impl<G: Gate> Follower<G> {
     pub fn is_behind(&self) -> bool
         ensures { result ≡ is_behind self.now.progress }
     {
-        self.left > 0
+        self.left != 0
     }
 
     // How many messages are applied, those of the begun batch aside.
@@ -174,7 +174,7 @@ impl<G: Gate> Follower<G> {
         self.rest = left.into();
         self.at = log.len();
         self.note(log, log.len());
-        if self.is_behind() {
+        if self.left > 0 {
             return Err(AllocError);
         }
         Ok(())
