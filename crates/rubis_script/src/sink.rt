@@ -1,16 +1,18 @@
 // The text of rows, on its way to a writer.
 
-ghost use Rattle.std.specs.Prelude.{◌≡◌, ◌==◌, ◌&&◌, ◌≤◌, ◌++◌, ◌∷◌, ◌⊎◌, [], IfErr, IsErrOf, ℕ, List, OnErr, OnOk, length, map, nat_le, true};
+ghost use Rattle.std.specs.Prelude.{◌≡◌, ◌≤◌, ◌++◌, ◌∷◌, ◌⊎◌, [], IfErr, IfOk, IsErrOf, ℕ, List, OnErr, OnOk, false, length, map, true};
 ghost use Rattle.std.specs.Io.KnownBytes.{Appends};
-ghost use Rattle.csv.specs.Writing.{field_text, needs_byte, needs_quotes, quoted, row_text};
-ghost use Rattle.rubis_script.specs.Rows.{Begun, capped};
+ghost use Rattle.csv.specs.Writing.{fields_written, has_written, row_text, writer_setup};
+ghost use Rattle.rubis_script.specs.Rows.{Begun, held};
 ghost use Rattle.rubis_script.specs.Text.{plain_writer};
 
 use super::fault::RunFault;
+use csv::{Writer, WriterBuilder};
 use rubis_schema::Fields;
 use std::alloc::{AllocError, Global};
 use std::io::Write;
 use std::marker::Model;
+use std::mem;
 
 // So many bytes of text are written out at once.
 const CHUNK: usize = 65_536;
@@ -18,118 +20,90 @@ const CHUNK: usize = 65_536;
 /// The text of rows that waits to be written.
 #[derive(Drop)]
 pub struct Sink {
-    text: Vec<u8>,
+    rows: Writer<Vec<u8>>,
+    alloc: Global,
 }
 
 impl Model for Sink {
-    ghost use Rattle.std.specs.Prelude.{ℕ, List};
+    ghost use Rattle.std.specs.Prelude.{ℕ, List, ◌≡◌, false};
+    ghost use Rattle.csv.specs.Writing.{fields_written, has_written, writer_setup};
+    ghost use Rattle.rubis_script.specs.Rows.{held};
+    ghost use Rattle.rubis_script.specs.Text.{plain_writer};
 
     ghost Value = { List ℕ };
 
-    ghost view = { λ s. s.text.items };
+    ghost view = { λ s. held s.rows };
+
+    ghost invariant = { λ s. (writer_setup s.rows ≡ plain_writer) × (fields_written s.rows ≡ 0) × (has_written s.rows ≡ false) };
 }
 
-// Whether a byte calls for quotes round its field. Most bytes are above a comma, so that is tested first.
-fn is_mark(byte: u8) -> bool
-    ensures { result ≡ needs_byte plain_writer byte }
+// Takes all text away.
+#[cold]
+#[inline(never)]
+fn reset(rows: &mut Writer<Vec<u8>>, alloc: Global)
+    ensures text { held rows.new ≡ [] }
+    ensures setup { writer_setup rows.new ≡ plain_writer }
+    ensures fields { fields_written rows.new ≡ 0 }
+    ensures wrote { has_written rows.new ≡ false }
 {
-    byte <= b',' && (byte == b',' || byte == b'"' || byte == b'\r' || byte == b'\n')
+    *rows = WriterBuilder::new()
+        .flexible(true)
+        .from_writer(Vec::new(alloc));
 }
 
-// Adds a field between quotes, each quote in it twice.
-fn put_quoted(text: &mut Vec<u8>, field: &[u8]) -> Result<(), AllocError>
-    ensures { OnOk result (text.new.items ≡ text.old.items ++ quoted plain_writer field.now) }
+// Goes on with a row by one field.
+fn put_field(rows: &mut Writer<Vec<u8>>, field: &[u8]) -> Result<(), AllocError>
+    ensures { OnOk result ((start : List ℕ) (done : List (List ℕ)) → Begun start rows.old done → Begun start rows.new (done ++ field.now ∷ [])) }
 {
-    text.push(b'"')?;
-    for byte in field {
-        if *byte == b'"' {
-            text.push(b'"')?;
-        }
-        text.push(*byte)?;
-    }
-    text.push(b'"')?;
-    Ok(())
-}
-
-// Whether a field needs quotes.
-fn needs_quotes(field: &[u8]) -> bool
-    ensures { result ≡ needs_quotes plain_writer field.now }
-{
-    field.iter().any(|byte| is_mark(*byte))
-}
-
-// Adds a field, between quotes where it needs them.
-fn put_field(text: &mut Vec<u8>, field: &[u8]) -> Result<(), AllocError>
-    ensures { OnOk result (text.new.items ≡ text.old.items ++ field_text plain_writer field.now) }
-{
-    if needs_quotes(field) {
-        return put_quoted(text, field);
-    }
-    text.extend_from_slice(field)
-}
-
-// Goes on by one field with a row that has so many.
-fn put_next(text: &mut Vec<u8>, before: usize, field: &[u8]) -> Result<(), AllocError>
-    ensures { OnOk result ((start : List ℕ) (done : List (List ℕ)) → before ≡ capped (length done)
-        → Begun start text.old.items done → Begun start text.new.items (done ++ field.now ∷ [])) }
-{
-    if before > 0 {
-        text.push(b',')?;
-    }
-    put_field(text, field)
-}
-
-// Begins a row with these fields.
-fn put_slices(text: &mut Vec<u8>, fields: &[&[u8]]) -> Result<(), AllocError>
-    ensures { OnOk result ((start : List ℕ) → Begun start text.old.items [] → Begun start text.new.items (map (λ f. f.now) fields.now)) }
-{
-    for (place, field) in fields.iter().enumerate() {
-        put_next(text, place, field)?;
+    if rows.write_field(field).is_err() {
+        return Err(AllocError);
     }
     Ok(())
 }
 
-// Goes on by the fields of a record with a row that has so many.
-fn put_fields(text: &mut Vec<u8>, before: usize, fields: &Fields) -> Result<(), AllocError>
-    ensures { OnOk result ((start : List ℕ) (done : List (List ℕ)) → before ≡ capped (length done)
-        → Begun start text.old.items done → Begun start text.new.items (done ++ fields.now)) }
+// Goes on with a row by these fields.
+fn put_slices(rows: &mut Writer<Vec<u8>>, fields: &[&[u8]]) -> Result<(), AllocError>
+    ensures { OnOk result ((start : List ℕ) (done : List (List ℕ)) → Begun start rows.old done → Begun start rows.new (done ++ map (λ f. f.now) fields.now)) }
+{
+    for field in fields {
+        put_field(rows, field)?;
+    }
+    Ok(())
+}
+
+// Goes on with a row by the fields of a record.
+fn put_fields(rows: &mut Writer<Vec<u8>>, fields: &Fields) -> Result<(), AllocError>
+    ensures { OnOk result ((start : List ℕ) (done : List (List ℕ)) → Begun start rows.old done → Begun start rows.new (done ++ fields.now)) }
 {
     for place in 0..fields.len() {
         if let Some(field) = fields.field(place) {
-            put_next(text, before.saturating_add(place), field)?;
+            put_field(rows, field)?;
         }
     }
     Ok(())
 }
 
-// Whether a row of so many fields that began at `start` shows no byte and has one field at most.
-fn is_blank(len: usize, start: usize, fields: usize) -> bool
-    ensures { result ≡ ((len == start) && nat_le fields 1) }
+// Ends a row.
+fn end_row(rows: &mut Writer<Vec<u8>>) -> Result<(), AllocError>
+    ensures text { OnOk result ((start : List ℕ) (done : List (List ℕ)) → Begun start rows.old done → held rows.new ≡ start ++ row_text plain_writer done) }
+    ensures setup { OnOk result (writer_setup rows.new ≡ writer_setup rows.old) }
+    ensures fields { OnOk result (fields_written rows.new ≡ 0) }
+    ensures wrote { OnOk result (has_written rows.new ≡ false) }
 {
-    len == start && fields <= 1
-}
-
-// Ends a row of so many fields that began behind so much text. A row that shows no byte gets two quotes, which stand for
-// its one empty field.
-fn end_row(text: &mut Vec<u8>, start: usize, fields: usize) -> Result<(), AllocError>
-    ensures { OnOk result ((before : List ℕ) (done : List (List ℕ)) → length before ≡ start → fields ≡ capped (length done)
-        → Begun before text.old.items done → text.new.items ≡ before ++ row_text plain_writer done) }
-{
-    if is_blank(text.len(), start, fields) {
-        text.extend_from_slice(b"\"\"")?;
+    match rows.end_record() {
+        Ok(()) => Ok(()),
+        Err(_) => Err(AllocError),
     }
-    text.push(b'\n')?;
-    Ok(())
 }
 
-// Adds a row that begins with `first` and goes on with the fields of a record.
-fn put_row(text: &mut Vec<u8>, first: &[&[u8]], fields: &Fields) -> Result<(), AllocError>
-    ensures { OnOk result (text.new.items ≡ text.old.items ++ row_text plain_writer (map (λ f. f.now) first.now ++ fields.now)) }
+// Writes a row that begins with `first` and goes on with the fields of a record.
+fn put_row(rows: &mut Writer<Vec<u8>>, first: &[&[u8]], fields: &Fields) -> Result<(), AllocError>
+    ensures { OnOk result ((start : List ℕ) → Begun start rows.old [] → (held rows.new ≡ start ++ row_text plain_writer (map (λ f. f.now) first.now ++ fields.now))
+        × (writer_setup rows.new ≡ plain_writer) × (fields_written rows.new ≡ 0) × (has_written rows.new ≡ false)) }
 {
-    let start = text.len();
-    put_slices(text, first)?;
-    put_fields(text, first.len(), fields)?;
-    end_row(text, start, first.len().saturating_add(fields.len()))
+    put_slices(rows, first)?;
+    put_fields(rows, fields)?;
+    end_row(rows)
 }
 
 impl Sink {
@@ -138,7 +112,10 @@ impl Sink {
         ensures { result ≡ [] }
     {
         Sink {
-            text: Vec::new(alloc),
+            rows: WriterBuilder::new()
+                .flexible(true)
+                .from_writer(Vec::new(alloc)),
+            alloc,
         }
     }
 
@@ -147,8 +124,11 @@ impl Sink {
         ensures ok { OnOk result (self.new ≡ self.old ++ row_text plain_writer (map (λ f. f.now) fields.now)) }
         ensures err { OnErr result (self.new ≡ []) }
     {
-        let none = Fields::new(*self.text.allocator());
-        self.write_after(fields, &none)
+        if self.rows.write_fields(fields).is_err() {
+            reset(&mut self.rows, self.alloc);
+            return Err(AllocError);
+        }
+        Ok(())
     }
 
     /// Adds a record as a row. Without memory for it no text is left.
@@ -165,8 +145,8 @@ impl Sink {
         ensures ok { OnOk result (self.new ≡ self.old ++ row_text plain_writer (map (λ f. f.now) first.now ++ fields.now)) }
         ensures err { OnErr result (self.new ≡ []) }
     {
-        if put_row(&mut self.text, first, fields).is_err() {
-            self.text.clear();
+        if put_row(&mut self.rows, first, fields).is_err() {
+            reset(&mut self.rows, self.alloc);
             return Err(AllocError);
         }
         Ok(())
@@ -176,23 +156,25 @@ impl Sink {
     pub fn is_full(&self) -> bool
         ensures { result ≡ true → 65536 ≤ length self.now }
     {
-        self.text.len() >= CHUNK
+        self.rows.get_ref().len() >= CHUNK
     }
 
     /// Writes all text out, and is empty then.
     ///
     /// # Errors
     ///
-    /// `Write` where the writer failed.
+    /// `Write` where the writer failed, and `Memory` where there was not enough; then nothing was written.
     pub fn drain<W: Write>(&mut self, writer: &mut W) -> Result<(), RunFault>
         ensures ok { OnOk result (Appends (W.contents writer.old) (W.contents writer.new) self.old) }
         ensures empty { self.new ≡ [] }
         ensures memory { IsErrOf result RunFault.Memory → W.contents writer.new ≡ W.contents writer.old }
         ensures faults { IfErr result (λ e. (e ≡ RunFault.Write) ⊎ (e ≡ RunFault.Memory)) }
     {
-        let written = writer.write_all(self.text.as_slice());
-        self.text.clear();
-        match written {
+        let full = mem::replace(self, Sink::new(self.alloc));
+        let Ok(text) = full.into_text() else {
+            return Err(RunFault::Memory);
+        };
+        match writer.write_all(text.as_slice()) {
             Ok(()) => Ok(()),
             Err(_) => Err(RunFault::Write),
         }
@@ -202,7 +184,7 @@ impl Sink {
     ///
     /// # Errors
     ///
-    /// `Write` where the writer failed.
+    /// `Write` where the writer failed, and `Memory` where there was not enough; then nothing was written.
     pub fn close<W: Write>(&mut self, writer: &mut W) -> Result<(), RunFault>
         ensures ok { OnOk result (Appends (W.contents writer.old) (W.contents writer.new) self.old) }
         ensures empty { self.new ≡ [] }
@@ -215,6 +197,15 @@ impl Sink {
         match writer.flush() {
             Ok(()) => Ok(()),
             Err(_) => Err(RunFault::Write),
+        }
+    }
+
+    fn into_text(self) -> Result<Vec<u8>, AllocError>
+        ensures { IfOk result (λ text. text.items ≡ self) }
+    {
+        match self.rows.into_inner() {
+            Ok(text) => Ok(text),
+            Err(_) => Err(AllocError),
         }
     }
 }

@@ -1,12 +1,19 @@
-use Rattle.std.proofs.Common.{sym, ◌∙◌}
-use Rattle.rubis_script.proofs.RowFacts.{field_marked, field_plain, on_ok_more}
+use Rattle.std.proofs.Common.{◌≡◌, ◌≢◌, false, rules}
+use Rattle.std.specs.Result.{is_err}
+use Rattle.csv.proofs.ReadFacts.{on-ok}
+use Rattle.csv.specs.Writing.{writer_setup}
+use Rattle.csv.specs.declared.writer.QuoteStyle.TheVariants as style
+use Rattle.rubis_script.proofs.RowFacts.{begun-more}
 use Rattle.rubis_script.proofs.sink.put_field.Goals as goal
 
-pub returns-then-needs_quotes : goal.returns-then-needs_quotes
-returns-then-needs_quotes c = on_ok_more c.put_quoted.result
-    (λ text. field_marked c.args.text.now.items c.put_quoted.new.text.items c.args.field.now (sym c.needs_quotes.ensures ∙ c.if-needs_quotes.true) text)
-    c.put_quoted.ensures
-
 pub returns : goal.returns
-returns c = field_plain c.extend_from_slice.result c.args.text.now.items c.extend_from_slice.new.self.items c.args.field.now
-    (sym c.needs_quotes.ensures ∙ c.if-needs_quotes.false) c.extend_from_slice.ensures.items
+returns c start done h =
+    let good : is_err c.write_field.result ≡ false = search rules in
+    let quotes : (writer_setup c.args.rows.now).style ≢ style.NonNumeric = rw h.setup (λ e. cc e) in
+    let wrote = on-ok _ good c.write_field.ensures.wrote in
+    begun-more start c.args.rows.now c.write_field.new.self done c.args.field.now h
+    (on-ok _ good c.write_field.ensures.text quotes)
+    (on-ok _ good c.write_field.ensures.same)
+    (on-ok _ good c.write_field.ensures.count)
+    (λ none. wrote none quotes)
+    (on-ok _ good c.write_field.ensures.stays)

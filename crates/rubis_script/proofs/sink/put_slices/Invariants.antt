@@ -1,6 +1,7 @@
-use Rattle.std.proofs.Common.{ℕ, List, [], map, take}
+use Rattle.std.proofs.Common.{◌++◌, ℕ, List, map, take}
 use Rattle.rubis_script.specs.Rows.{Begun}
 use Rattle.rubis_script.proofs.sink.put_slices.Given as goal
 
-abbrev pub invariant-loop-place : goal.invariant-loop-place
-invariant-loop-place l = (start : List ℕ) → Begun start l.fn.text.items [] → Begun start l.text.items (map (λ f. f.now) (take l.place l.fields))
+abbrev pub invariant-loop-field : goal.invariant-loop-field
+invariant-loop-field l = (start : List ℕ) (done : List (List ℕ)) → Begun start l.fn.rows done
+    → Begun start l.rows (done ++ map (λ f. f.now) (take l.field-index l.fields))
