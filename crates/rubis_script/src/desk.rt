@@ -222,8 +222,8 @@ impl Desk {
 
 impl<T> Service<T> for Desk {
     ghost account = { λ s n. record {
-        text = λ ending records. rows_text (answers s.site.place s.site.state n records);
-        read = λ records. length records;
+      text = λ ending records. rows_text (answers s.site.place s.site.state n records);
+      read = λ records. length records;
     } };
 
     ghost reads_none = { λ s n. refl };

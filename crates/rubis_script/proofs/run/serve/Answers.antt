@@ -43,10 +43,12 @@ pub returns-in-Ok-settle-clause-read : goal.returns-in-Ok-settle-clause-read
 returns-in-Ok-settle-clause-read g c e input holds empty =
     let all = g.S.Service.account c.args.service.now 1 in
     let p = c.turns.invariant input holds empty in
-    let good : is_err c.settle-in-Err-advance.result ≡ false = search rules in
-    (c.turns.n, progress-cut _ c.turns.records all (g.S.Service.account c.settle-in-Err-advance.new.service (c.turns.n + 1)) _ _ _ c.turns.n input
-    (progress-drained _ _ all _ _ _ _ _ _ _ input p ((on-ok _ good c.settle-in-Err-advance.ensures.drains) (c.turns.n + 1)))
-    ((on-ok _ good c.settle-in-Err-advance.ensures.none) (c.turns.n + 1)) refl)
+    let good : is_err c.settle-in-Err-advance.result ≡ false = search rules in (
+      c.turns.n,
+      progress-cut _ c.turns.records all (g.S.Service.account c.settle-in-Err-advance.new.service (c.turns.n + 1)) _ _ _ c.turns.n input
+          (progress-drained _ _ all _ _ _ _ _ _ _ input p ((on-ok _ good c.settle-in-Err-advance.ensures.drains) (c.turns.n + 1)))
+          ((on-ok _ good c.settle-in-Err-advance.ensures.none) (c.turns.n + 1)) refl,
+    )
 
 pub returns-in-Ok-settle-clause-memory : goal.returns-in-Ok-settle-clause-memory
 returns-in-Ok-settle-clause-memory g c e input holds empty =
