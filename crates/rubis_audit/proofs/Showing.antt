@@ -30,7 +30,6 @@ use Rattle.rubis_audit.specs.Past.{Shows}
 
 -- ---- who makes a row, and precedes
 
-
 absorbed : (a b : Bool) → (a || (b && a)) ≡ a
 absorbed true b = refl
 absorbed false true = refl

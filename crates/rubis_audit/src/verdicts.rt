@@ -29,7 +29,11 @@ fn fill_found(record: &mut Fields, kind: Kind, log: usize, entry: usize) -> Resu
 }
 
 /// Writes the record of a verdict.
-pub fn write_verdict(record: &mut Fields, sink: &mut Sink, verdict: Verdict) -> Result<(), AllocError>
+pub fn write_verdict(
+    record: &mut Fields,
+    sink: &mut Sink,
+    verdict: Verdict,
+) -> Result<(), AllocError>
     ensures { OnOk result (sink.new ≡ sink.old ++ rows_text (verdict_record verdict ∷ [])) }
 {
     match verdict {

@@ -37,7 +37,6 @@ by_kind kinds e k is (inr h) = subst (λ x. IsAmong x kinds) (sym is) h
 pub fault_among : (kinds : Kinds) (e : Error) → HasKind kinds e → IsFaultAmong kinds (fault_by (kind_of e) e)
 fault_among kinds e h = by_kind kinds e (kind_of e) refl h
 
-
 -- the name and the rows of what was entered, together
 pub entered_by : {B : Type 0} (name : B → Text) (rows : B → List Row) (o : Option B) (n : Text) (r : List Row) → Some n ≡ option_map name o
     → Some r ≡ option_map (λ (p : Text × List Row). p.1) (option_map {U = Text × List Row} (λ b. (name b, rows b)) o) → option_map {U = Text × List Row} (λ b. (name b, rows b)) o ≡ Some (n, r)

@@ -37,8 +37,8 @@ impl Echo {
 
 impl<T> Service<T> for Echo {
     ghost account = { λ s n. record {
-        text = λ ending records. rows_text (map (λ fields. codes "got" ∷ fields) (option_to_list s.last ++ records));
-        read = λ records. length records;
+      text = λ ending records. rows_text (map (λ fields. codes "got" ∷ fields) (option_to_list s.last ++ records));
+      read = λ records. length records;
     } };
 
     ghost reads_none = { λ s n. refl };
