@@ -17,7 +17,7 @@ use Rattle.rubis_message.specs.declared.answers.Kind.TheVariants as kind
 use Rattle.rubis_message.specs.declared.answers.Verdict.{Verdict}
 use Rattle.rubis_message.specs.declared.answers.Verdict.TheVariants.{Agree, Found}
 use Rattle.rubis_model.specs.Log.{core, cores, fold_of}
-use Rattle.rubis_model.specs.Logs.{Log, rows_of}
+use Rattle.rubis_model.specs.Logs.{Log, shown_rows}
 use Rattle.rubis_model.specs.Listings.{table_rows}
 use Rattle.rubis_model.specs.Settle.{Has, Ready, counted, reds}
 use Rattle.rubis_model.specs.Site.{counts}
@@ -195,7 +195,7 @@ walked_found sites seen after clock last shards logs at log n v k l e w m i f ot
   λ q. absurd cc,
 )
 
-rows_are : (others own : List Message) (shards : List ShardState) → HoldsLog 1 (cores own) shards → table_rows listing.Tables (union shards) ≡ rows_of own
+rows_are : (others own : List Message) (shards : List ShardState) → HoldsLog 1 (cores own) shards → table_rows listing.Tables (union shards) ≡ shown_rows own
 rows_are others own shards h = ap (table_rows listing.Tables) (union_of_log 1 (cores own) shards (omega arith) h)
 
 pub walked_end : (sites : ℕ) (after : Seen) (clock : Counted) (last : Option Message) (shards : List ShardState) (logs : List Log) (at : ℕ) (log : Log) (n : ℕ) (wrong : Bool)
