@@ -1,5 +1,5 @@
 -- What a site answers to a record, and then to those after it.
-use Rattle.std.proofs.Common.{◌≡◌, ◌+◌, ◌++◌, ◌∷◌, ℕ, List, length, refl, ap, ◌∙◌, sym}
+use Rattle.std.proofs.Common.{◌≡◌, ◌+◌, ◌++◌, ◌∷◌, ℕ, List, refl, ap, ◌∙◌, sym}
 use Rattle.rubis_model.specs.Runs.{answers, input_of, input_step}
 use Rattle.rubis_model.specs.Site.{Place, Replica}
 use Rattle.rubis_replica.specs.State.{SiteState}

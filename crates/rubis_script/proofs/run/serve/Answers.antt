@@ -1,4 +1,4 @@
-use Rattle.std.proofs.Common.{◌≡◌, ◌+◌, ◌≤◌, true, false, rules, refl, arith}
+use Rattle.std.proofs.Common.{◌≡◌, ◌+◌, true, false, rules, refl, arith}
 use Rattle.std.specs.Result.{is_err}
 use Rattle.csv.proofs.ReadFacts.{on-ok}
 use Rattle.rubis_script.specs.declared.fault.RunFault.TheVariants as fault
