@@ -1,15 +1,13 @@
 -- How an auditor goes on with the records that it reads.
-use Rattle.std.proofs.Common.{ℕ, ◌≡◌, ◌∙◌, ◌+◌, ◌-◌, ◌≤◌, List, [], ◌∷◌, ◌++◌, length, Option, Some, None, true, false, refl, sym, ap, subst, inl, inr, ⊎_elim, arith}
+use Rattle.std.proofs.Common.{ℕ, ◌≡◌, ◌∙◌, ◌+◌, ◌-◌, ◌≤◌, List, [], ◌∷◌, ◌++◌, length, Option, Some, None, refl, sym, ap, subst, ⊎_elim, arith}
 use Rattle.std.specs.Prelude.{OnErr, OnOk, Result, Ok, Err, option_and_then, reverse}
-use Rattle.std.proofs.lemmas.List.{reverse-append, reverse-reverse}
 use Rattle.rubis_message.specs.Message.{Message, sites_of}
 use Rattle.rubis_model.specs.AuditRecords.{Line, audit_record, line_of, logs_after, with_line}
-use Rattle.rubis_model.specs.AuditRecords.Line.{Begin}
 use Rattle.rubis_model.specs.Logs.{Log}
 use Rattle.rubis_model.specs.Settle.{Has}
 use Rattle.rubis_model.proofs.Lists.{has_reverse, push_cases}
-use Rattle.rubis_script.specs.Accounts.{Answers, Ending}
-use Rattle.rubis_script.specs.Accounts.Ending.{AtEnd, Cut}
+use Rattle.rubis_script.specs.Accounts.{Answers}
+use Rattle.rubis_script.specs.Accounts.Ending.{AtEnd}
 use Rattle.rubis_script.specs.Text.{rows_text}
 use Rattle.rubis_script.specs.declared.service.Course.TheVariants.{GoesOn, Ends}
 use Rattle.rubis_audit.specs.Running.{AreRead, IsCurrentAmong, IsLogAmong, account_from, logs_of, read_of, text_of}

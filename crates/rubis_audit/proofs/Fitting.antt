@@ -1,7 +1,7 @@
 -- Where the checks of its content find no fault, a message fits what stands before it.
-use Rattle.std.proofs.Common.{ℕ, ◌≡◌, ◌+◌, ◌≤◌, ◌<◌, List, [], ◌∷◌, ◌++◌, Bool, true, false, cond, refl, sym, ap, ◌∙◌, subst, arith, Option, Some, None}
-use Rattle.std.specs.Prelude.{◌&&◌, ◌||◌, ◌==◌, not, nat_lt, nat_le, IsSome, IfSome, is_some, option_map}
-use Rattle.std.specs.Option.{option_eq, option_map_or, option_or}
+use Rattle.std.proofs.Common.{ℕ, ◌≡◌, ◌+◌, ◌≤◌, List, true, false, refl, sym, ap, ◌∙◌, arith, Option, Some, None}
+use Rattle.std.specs.Prelude.{◌||◌, ◌==◌, not, nat_lt, IsSome, IfSome, is_some, option_map}
+use Rattle.std.specs.Option.{option_eq, option_map_or}
 use Rattle.std.specs.List.{list_any}
 use mathlib.Core.Bool.{true≢false}
 use Rattle.std.proofs.lemmas.Bool.{and_parts}
@@ -9,16 +9,15 @@ use Rattle.std.proofs.lemmas.Bool.Decides.{Decides-eqb, nat_tests}
 use Rattle.rubis_schema.specs.KeyLaws.{Decides-same_id}
 use Rattle.rubis_schema.specs.Keys.{same_id}
 use Rattle.rubis_schema.specs.declared.ids.Id.{Id}
-use Rattle.rubis_schema.specs.declared.row_keys.RowKey.{RowKey}
 use Rattle.rubis_schema.specs.declared.row_keys.RowKey.TheVariants as key
 use Rattle.rubis_shadow.specs.Parts.{refers_of}
 use Rattle.rubis_shadow.specs.declared.shadows.NewItem.{NewItem}
 use Rattle.rubis_shadow.specs.declared.shadows.Shadow.{Shadow}
 use Rattle.rubis_shadow.specs.declared.shadows.Shadow.TheVariants.{User, Item, Bid, Buy, Close, Comment}
-use Rattle.rubis_message.specs.Message.{Message, dep}
+use Rattle.rubis_message.specs.Message.{Message}
 use Rattle.rubis_model.specs.Checks.{Fits}
-use Rattle.rubis_model.specs.Log.{Core, cores}
-use Rattle.rubis_model.specs.Meaning.{as_item, as_user, best_bid, close_of, item_at, named, sold_of, supply, total, user_at}
+use Rattle.rubis_model.specs.Log.{cores}
+use Rattle.rubis_model.specs.Meaning.{as_item, as_user, close_of, item_at, sold_of, total, user_at}
 use Rattle.rubis_model.specs.Verdict.{is_known, nick_taken, stock_short, wrong_category, wrong_reference, wrong_winner}
 use Rattle.rubis_audit.proofs.Knowing.{not_false, or_parts}
 use Rattle.rubis_audit.proofs.Showing.{known_by}

@@ -1,9 +1,8 @@
 -- An entry without fault goes on with what is known.
-use Rattle.std.proofs.Common.{ℕ, ◌≡◌, ◌+◌, ◌≤◌, ◌<◌, List, [], ◌∷◌, ◌++◌, length, Bool, true, false, cond, refl, sym, ap, ◌∙◌, subst, arith, Option, Some, None, inl, inr, ⊎_elim, append_assoc}
-use Rattle.std.specs.Prelude.{◌&&◌, ◌||◌, ◌⊎◌, ◌==◌, ◌≢◌, not, nat_lt, reverse}
+use Rattle.std.proofs.Common.{ℕ, ◌≡◌, ◌+◌, ◌<◌, List, [], ◌∷◌, ◌++◌, Bool, true, false, cond, refl, sym, ap, ◌∙◌, subst, arith, Option, Some, None, ⊎_elim, append_assoc}
+use Rattle.std.specs.Prelude.{◌&&◌, ◌||◌, ◌⊎◌, ◌==◌, not, nat_lt, reverse}
 use Rattle.std.specs.Option.{option_or, option_map_or}
 use mathlib.Core.Bool.{true≢false}
-use Rattle.std.proofs.lemmas.Bool.{ltb-true}
 use Rattle.std.proofs.lemmas.Bool.Decides.{Decides-eqb, nat_tests}
 use Rattle.std.proofs.lemmas.List.{append-nil, reverse-reverse}
 use Rattle.rubis_schema.specs.KeyLaws.{Decides-same_id}
@@ -11,14 +10,13 @@ use Rattle.rubis_schema.specs.Keys.{same_id}
 use Rattle.rubis_schema.specs.Tables.{Tables}
 use Rattle.rubis_schema.specs.declared.ids.Id.{Id}
 use Rattle.rubis_shadow.specs.Shadows.{is_red}
-use Rattle.rubis_clock.specs.Clocks.{Counted}
 use Rattle.rubis_message.specs.Equal.{Decides-same_message, same_message}
-use Rattle.rubis_message.specs.Message.{IsMessage, Message, dep, sites_of}
+use Rattle.rubis_message.specs.Message.{IsMessage, Message, sites_of}
 use Rattle.rubis_message.specs.declared.answers.Kind.{Kind}
 use Rattle.rubis_message.specs.declared.answers.Kind.TheVariants as kind
 use Rattle.rubis_generate.specs.Lookup.{rows_of}
 use Rattle.rubis_model.specs.Checks.{Checked, Follows, has_id}
-use Rattle.rubis_model.specs.Log.{Core, core, cores}
+use Rattle.rubis_model.specs.Log.{core, cores}
 use Rattle.rubis_model.specs.Meaning.{count}
 use Rattle.rubis_model.specs.Order.{Released}
 use Rattle.rubis_model.specs.Settle.{Has, Ready, counted, reds}
@@ -33,7 +31,7 @@ use Rattle.rubis_audit.specs.Lookups.{by_id, by_red, clash_by_id, taken_by_red}
 use Rattle.rubis_audit.specs.Past.{Known, Shows, checks_by}
 use Rattle.rubis_audit.proofs.Finding.{by_id_push, by_red_push}
 use Rattle.rubis_audit.proofs.Fitting.{fits}
-use Rattle.rubis_audit.proofs.Knowing.{clash_is, found_id, found_number, gap_is, not_false, or_parts, order_is, taken_is, within}
+use Rattle.rubis_audit.proofs.Knowing.{clash_is, found_number, gap_is, not_false, or_parts, order_is, within}
 use Rattle.rubis_audit.proofs.Showing.{nick_is, reference_is, stock_is, winner_is}
 
 -- ---- the checks one after the other

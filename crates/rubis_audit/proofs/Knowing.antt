@@ -1,7 +1,7 @@
 -- While no fault was found, the checks of an entry by look-ups are those of the definition.
-use Rattle.std.proofs.Common.{ℕ, ◌≡◌, ◌+◌, ◌≤◌, ◌<◌, zero, suc, List, [], ◌∷◌, ◌++◌, length, get_or, Bool, true, false, cond, refl, sym, ap, ◌∙◌, subst, arith, Option, Some, None, inl, inr, ⊎_elim, append_assoc}
-use Rattle.std.specs.Prelude.{◌&&◌, ◌||◌, ◌⊎◌, ◌==◌, not, nat_lt, reverse, slice_index, IsSome}
-use Rattle.std.specs.Option.{option_or, option_map_or}
+use Rattle.std.proofs.Common.{ℕ, ◌≡◌, ◌+◌, ◌≤◌, ◌<◌, List, [], ◌∷◌, ◌++◌, length, get_or, Bool, true, false, cond, refl, sym, ap, ◌∙◌, subst, arith, Option, Some, None, inl, inr, ⊎_elim}
+use Rattle.std.specs.Prelude.{◌&&◌, ◌||◌, ◌==◌, not, nat_lt, reverse, slice_index}
+use Rattle.std.specs.Option.{option_map_or}
 use Rattle.std.specs.List.{list_any}
 use mathlib.Core.Bool.{true≢false}
 use Rattle.std.proofs.lemmas.Bool.{and_from, and_parts, cases_eq, cases_lt, or_cases}
@@ -11,12 +11,12 @@ use Rattle.rubis_schema.specs.KeyLaws.{Decides-same_id}
 use Rattle.rubis_schema.specs.Keys.{same_id}
 use Rattle.rubis_schema.specs.declared.ids.Id.{Id}
 use Rattle.rubis_shadow.specs.Shadows.{is_red}
-use Rattle.rubis_message.specs.Equal.{Decides-same_message, same_message}
+use Rattle.rubis_message.specs.Equal.{same_message}
 use Rattle.rubis_message.specs.Message.{IsMessage, Message, dep, sites_of}
 use Rattle.rubis_model.specs.Order.{Released}
-use Rattle.rubis_model.specs.Settle.{Has, Ready, counted, reds}
+use Rattle.rubis_model.specs.Settle.{Has, counted, reds}
 use Rattle.rubis_model.specs.Site.{counts}
-use Rattle.rubis_model.specs.Verdict.{at_some_site, clash, clashes, forgets, is_early, is_not_next, last_red, miscounts, out_of_order, precedes, red_gap, takes_number}
+use Rattle.rubis_model.specs.Verdict.{at_some_site, clash, clashes, forgets, is_early, is_not_next, last_red, out_of_order, precedes, red_gap, takes_number}
 use Rattle.rubis_model.proofs.Lists.{has_append, has_back, has_left, has_reverse, has_right}
 use Rattle.rubis_model.proofs.Pasts.{found, red_within}
 use Rattle.rubis_model.proofs.Settling.{counted_reverse, reds_reverse}

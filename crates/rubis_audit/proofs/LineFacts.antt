@@ -1,5 +1,5 @@
 -- What a record says, by its first fields.
-use Rattle.std.proofs.Common.{ℕ, ◌≡◌, ◌∙◌, List, [], ◌∷◌, Bool, true, false, cond, refl, sym, ap, Option, Some, None}
+use Rattle.std.proofs.Common.{ℕ, ◌≡◌, ◌∙◌, List, [], ◌∷◌, Bool, true, false, cond, refl, ap, Option, Some, None}
 use Rattle.std.specs.Prelude.{bytes_eq, codes, nat_lt, option_and_then, option_map}
 use Rattle.std.specs.Option.{option_or}
 use Rattle.rubis_schema.specs.FieldForms.{number_of}

@@ -1,9 +1,8 @@
 -- What the tables of the messages before an entry say of its content.
-use Rattle.std.proofs.Common.{ℕ, ◌≡◌, ◌+◌, ◌-◌, ◌≤◌, ◌<◌, List, [], ◌∷◌, ◌++◌, Bool, true, false, cond, refl, sym, ap, ◌∙◌, subst, arith, Option, Some, None}
-use Rattle.std.specs.Prelude.{◌&&◌, ◌||◌, ◌==◌, not, nat_lt, nat_le, IsSome, IfSome, is_some, option_map, option_and_then, option_copied}
+use Rattle.std.proofs.Common.{ℕ, ◌≡◌, ◌+◌, ◌-◌, ◌≤◌, List, [], ◌∷◌, Bool, true, false, refl, sym, ap, ◌∙◌, arith, Option, Some, None}
+use Rattle.std.specs.Prelude.{◌&&◌, ◌||◌, ◌==◌, not, nat_lt, nat_le, IsSome, IfSome, is_some, option_map, option_and_then}
 use Rattle.std.specs.Option.{option_eq, option_map_or, option_or}
 use Rattle.std.specs.List.{list_any}
-use Rattle.std.specs.FinMap as map
 use mathlib.Core.Bool.{true≢false}
 use Rattle.std.proofs.lemmas.Bool.{and_parts}
 use Rattle.std.proofs.lemmas.Bool.Decides.{nat_tests}
@@ -13,7 +12,6 @@ use Rattle.rubis_schema.specs.Tables.{Tables}
 use Rattle.rubis_schema.specs.declared.ids.Id.{Id}
 use Rattle.rubis_schema.specs.declared.row_keys.RowKey.{RowKey}
 use Rattle.rubis_schema.specs.declared.row_keys.RowKey.TheVariants as key
-use Rattle.rubis_schema.specs.declared.rows.Row.{Row}
 use Rattle.rubis_schema.specs.declared.rows.Best.{Best}
 use Rattle.rubis_schema.specs.declared.rows.ItemRow.{ItemRow}
 use Rattle.rubis_shadow.specs.Parts.{refers_of}
@@ -23,8 +21,8 @@ use Rattle.rubis_shadow.specs.declared.shadows.Shadow.TheVariants.{User, Item, B
 use Rattle.rubis_generate.specs.Lookup.{as_item_row, is_ended, item_in, rows_of}
 use Rattle.rubis_message.specs.Message.{Message, dep}
 use Rattle.rubis_model.specs.Log.{Core, core, cores}
-use Rattle.rubis_model.specs.Meaning.{as_bid, as_item, as_user, at_id, best_bid, best_of, close_of, item_at, item_row, meaning_row, named, nick_at, sale_after, sold_of, supply, total, user_at, when}
-use Rattle.rubis_model.specs.Verdict.{is_known, makes_row, nick_taken, precedes, stock_short, wrong_category, wrong_reference, wrong_winner}
+use Rattle.rubis_model.specs.Meaning.{as_bid, as_item, as_user, at_id, best_bid, best_of, close_of, item_at, item_row, meaning_row, named, nick_at, sale_after, sold_of, supply, total, when}
+use Rattle.rubis_model.specs.Verdict.{is_known, nick_taken, precedes, stock_short, wrong_category, wrong_reference, wrong_winner}
 use Rattle.rubis_audit.specs.Contents.{closed_in, known_in, nick_taken_in, outbid_in, stock_short_in, wrong_category_in, wrong_reference_in, wrong_winner_in}
 use Rattle.rubis_audit.specs.Past.{Shows}
 

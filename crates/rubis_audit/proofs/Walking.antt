@@ -1,7 +1,6 @@
 -- How a walk goes on: over a log, and from log to log.
-use Rattle.std.proofs.Common.{ℕ, ◌≡◌, ◌+◌, ◌*◌, ◌^◌, ◌≤◌, ◌<◌, zero, suc, List, [], ◌∷◌, ◌++◌, length, get_or, take, drop, Bool, true, false, cond, replicate, refl, sym, ap, ◌∙◌, subst, arith, Option, Some, None, inl, inr, drop-cons, add-one, append_assoc}
+use Rattle.std.proofs.Common.{ℕ, ◌≡◌, ◌+◌, ◌*◌, ◌^◌, ◌≤◌, ◌<◌, zero, suc, List, [], ◌∷◌, ◌++◌, length, get_or, take, drop, Bool, false, cond, replicate, refl, sym, ap, ◌∙◌, subst, arith, Option, Some, None, drop-cons, add-one, append_assoc}
 use Rattle.std.specs.Prelude.{option_map, reverse, not, slice_get, find}
-use Rattle.std.specs.List.{flat_map}
 use Rattle.std.specs.FinMap as map
 use Rattle.std.specs.Option.{option_or, option_map_or}
 use Rattle.std.proofs.lemmas.List.{append-nil, drop_all, get_or-replicate, length-replicate, length-take-le, take_all, take_more}
@@ -14,12 +13,11 @@ use Rattle.rubis_clock.specs.Clocks.{Counted, IsReady, advanced, opening_clock}
 use Rattle.rubis_message.specs.Message.{IsMessage, Message, sites_of}
 use Rattle.rubis_message.specs.declared.answers.Kind.{Kind}
 use Rattle.rubis_message.specs.declared.answers.Kind.TheVariants as kind
-use Rattle.rubis_message.specs.declared.answers.Verdict.{Verdict}
 use Rattle.rubis_message.specs.declared.answers.Verdict.TheVariants.{Agree, Found}
-use Rattle.rubis_model.specs.Log.{core, cores, fold_of}
+use Rattle.rubis_model.specs.Log.{core, cores}
 use Rattle.rubis_model.specs.Logs.{Log, shown_rows}
 use Rattle.rubis_model.specs.Listings.{table_rows}
-use Rattle.rubis_model.specs.Settle.{Has, Ready, counted, reds}
+use Rattle.rubis_model.specs.Settle.{Ready}
 use Rattle.rubis_model.specs.Site.{counts}
 use Rattle.rubis_model.specs.Verdict.{checks, first_fault, first_of, found_or, last_red, log_fault, verdict, same_rows, verdict_from, wrong_rows}
 use Rattle.rubis_model.proofs.CoreLists.{cores_length, cores_push}

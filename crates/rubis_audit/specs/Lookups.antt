@@ -1,11 +1,8 @@
 -- The checks of an entry by look-ups. `all` has the messages of the earlier logs and those of this log before it.
-use Rattle.std.specs.Prelude.{ℕ, ◌+◌, ◌==◌, List, find, Bool, false, ◌&&◌, ◌||◌, not, nat_lt, nat_le, slice_index, Option, Some, None, is_some, option_map}
-use Rattle.std.specs.List.{list_any}
-use Rattle.std.specs.Option.{option_eq, option_map_or}
+use Rattle.std.specs.Prelude.{ℕ, ◌+◌, ◌==◌, List, find, Bool, false, ◌&&◌, ◌||◌, not, nat_lt, slice_index, Option}
+use Rattle.std.specs.Option.{option_map_or}
 use Rattle.rubis_schema.specs.Keys.{same_id}
 use Rattle.rubis_schema.specs.declared.ids.Id.{Id}
-use Rattle.rubis_schema.specs.declared.row_keys.RowKey.{RowKey}
-use Rattle.rubis_schema.specs.declared.row_keys.RowKey.TheVariants as key
 use Rattle.rubis_shadow.specs.Shadows.{is_red}
 use Rattle.rubis_message.specs.Equal.{same_message}
 use Rattle.rubis_message.specs.Message.{Message, dep}

@@ -1,21 +1,20 @@
 -- What is so of the messages that were walked over, while no fault was found.
-use Rattle.std.specs.Prelude.{ℕ, ◌≡◌, ◌+◌, ◌<◌, ◌≤◌, List, [], ◌∷◌, ◌++◌, reverse, take, Bool, Option, Some, None, Contains}
+use Rattle.std.specs.Prelude.{ℕ, ◌≡◌, ◌<◌, List, [], ◌∷◌, ◌++◌, reverse, Bool, Option, Some}
 use Rattle.std.specs.FinMap as map
 use Rattle.rubis_schema.specs.Tables.{Tables}
 use Rattle.rubis_schema.specs.declared.row_keys.RowKey.{RowKey}
 use Rattle.rubis_clock.specs.Clocks.{Counted}
-use Rattle.rubis_message.specs.Message.{IsMessage, Message, sites_of}
+use Rattle.rubis_message.specs.Message.{IsMessage, Message}
 use Rattle.rubis_message.specs.declared.answers.Kind.{Kind}
 use Rattle.rubis_message.specs.declared.answers.Kind.TheVariants as kind
 use Rattle.rubis_generate.specs.Lookup.{rows_of}
 use Rattle.rubis_model.specs.Checks.{Checked}
 use Rattle.rubis_model.specs.Invariants.{Holds}
 use Rattle.rubis_model.specs.Log.{Core, cores}
-use Rattle.rubis_model.specs.Logs.{Log}
 use Rattle.rubis_model.specs.Meaning.{meaning_row}
 use Rattle.rubis_model.specs.Order.{Released}
 use Rattle.rubis_model.specs.Settle.{Has}
-use Rattle.rubis_model.specs.Verdict.{last_red, log_fault}
+use Rattle.rubis_model.specs.Verdict.{last_red}
 use Rattle.rubis_shard.specs.Holdings.{HoldsLog}
 use Rattle.rubis_shard.specs.States.{ShardState}
 use Rattle.rubis_release.specs.Release.{clock_of}

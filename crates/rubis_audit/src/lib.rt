@@ -16,3 +16,6 @@ pub use auditor::Auditor;
 pub use logs::Log;
 pub use run::run_audit;
 pub use walks::audit;
+
+#[cfg(test)]
+mod tests;

@@ -6,7 +6,7 @@ use Rattle.rubis_model.specs.Runs.{Input as Meant, input_of, input_step}
 use Rattle.rubis_model.specs.Runs.Input.{Asked, Came, Neither}
 use Rattle.rubis_replica.specs.State.{SiteState}
 use Rattle.rubis_replica.specs.declared.faults.Fault.{Fault}
-use Rattle.rubis_replica.specs.declared.faults.Fault.TheVariants.{Refused, Behind, Memory}
+use Rattle.rubis_replica.specs.declared.faults.Fault.TheVariants.{Refused}
 use Rattle.rubis_script.specs.Text.{rows_text}
 use Rattle.rubis_script.specs.declared.desk.Input.{Input}
 use Rattle.rubis_script.specs.declared.desk.Input.TheVariants as read

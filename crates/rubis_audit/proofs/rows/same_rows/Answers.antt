@@ -1,4 +1,4 @@
-use Rattle.std.proofs.Common.{◌≡◌, ◌∙◌, arith, refl, sym}
+use Rattle.std.proofs.Common.{arith, refl}
 use Rattle.rubis_audit.proofs.Comparing.{same_list}
 use Rattle.rubis_audit.proofs.rows.same_rows.Goals as goal
 

@@ -1,6 +1,5 @@
-use Rattle.std.proofs.Common.{◌≡◌, ◌∙◌, ap, List, ℕ, Some, subst, sym}
-use Rattle.std.specs.Prelude.{not, option_map}
-use Rattle.std.specs.Option.{option_map_or}
+use Rattle.std.proofs.Common.{◌∙◌, ap, sym}
+use Rattle.std.specs.Prelude.{option_map}
 use Rattle.rubis_audit.proofs.Comparing.{rows_by}
 use Rattle.rubis_audit.proofs.rows.wrong_rows.Goals as goal
 

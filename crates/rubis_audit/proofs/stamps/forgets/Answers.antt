@@ -1,4 +1,4 @@
-use Rattle.std.proofs.Common.{◌≡◌, ◌∙◌, ◌<◌, arith, ap, length, get_or, subst, sym, false}
+use Rattle.std.proofs.Common.{◌∙◌, ◌<◌, arith, ap, length, get_or, subst, sym, false}
 use Rattle.std.specs.Prelude.{option_copied}
 use Rattle.std.specs.Option.{option_map_or}
 use Rattle.rubis_audit.specs.Lookups.{by_id, exceeds, last_of}

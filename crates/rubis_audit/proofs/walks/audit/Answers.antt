@@ -1,7 +1,3 @@
-use Rattle.std.proofs.Common.{◌≡◌, ℕ, None, Option, Some, ap, subst, take}
-use Rattle.std.specs.Prelude.{option_map}
-use Rattle.rubis_message.specs.declared.answers.Kind.{Kind}
-use Rattle.rubis_audit.specs.Walks.{IsWalked}
 use Rattle.rubis_audit.proofs.Walking.{over_found, over_more}
 use Rattle.rubis_audit.proofs.walks.audit.Goals as goal
 

@@ -1,7 +1,6 @@
-use Rattle.std.proofs.Common.{◌≡◌, ◌<◌, ◌∙◌, None, Option, Some, ap, arith, cond, false, get_or, length, rules, subst, sym, take, true}
+use Rattle.std.proofs.Common.{◌≡◌, ◌<◌, ◌∙◌, ap, arith, false, get_or, length, rules, subst, sym, take, true}
 use Rattle.std.specs.Prelude.{option_copied}
-use Rattle.rubis_message.specs.declared.answers.Kind.TheVariants as kind
-use Rattle.rubis_audit.specs.Walks.{IsWalked, said}
+use Rattle.rubis_audit.specs.Walks.{said}
 use Rattle.rubis_audit.proofs.Walking.{among_at, counts_of, few_entries, found_is, ready_at, sites_at, walked_end, walked_found, walks_more, walks_none}
 use Rattle.rubis_audit.proofs.walks.walk.Goals as goal
 

@@ -1,4 +1,4 @@
-use Rattle.std.proofs.Common.{◌≡◌, length, take}
+use Rattle.std.proofs.Common.{◌≡◌, take}
 use Rattle.std.specs.Prelude.{option_copied}
 use Rattle.rubis_audit.specs.Walks.{said}
 use Rattle.rubis_audit.proofs.Walking.{Walks}

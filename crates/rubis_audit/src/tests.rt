@@ -1,0 +1,156 @@
+use crate::run_audit;
+use rubis_script::{Count, RunFault};
+use std::alloc::Global;
+use std::io;
+use std::io::{Read, Write};
+use std::process::Abort;
+
+// The smallest log with a fault of each kind, and its verdict; and one that agrees.
+const LOGS: [(&[u8], &[u8]); 10] = [
+    (
+        b"site,0\nmsg,1,0,1,1,0:0,user,ann\nsite,1\nmsg,1,0,1,1,0:0,user,bob\n",
+        b"audit,Clash,2,1\n",
+    ),
+    (b"site,0\nmsg,1,0,2,2,1:0,user,bob\n", b"audit,Order,1,1\n"),
+    (
+        b"site,0\nmsg,1,0,1,1,0:0,user,ann\nsite,1\nmsg,1,1,1,1,0:0,user,bob\n",
+        b"audit,RedGap,2,1\n",
+    ),
+    (
+        b"site,0\nmsg,1,0,1,0,0:0,item,0.9,lamp,7,1,100,0\n",
+        b"audit,Refers,1,1\n",
+    ),
+    (
+        b"site,0\nmsg,1,0,1,1,0:0,user,ann\nmsg,1,0,2,2,1:0,user,ann\n",
+        b"audit,Nick,1,2\n",
+    ),
+    (
+        b"site,0\nmsg,1,0,1,1,0:0,user,ann\nmsg,1,0,2,0,1:0,item,0.1,cup,9,3,50,80\nmsg,1,0,3,2,2:0,buy,0.2,0.1,5\n",
+        b"audit,Stock,1,3\n",
+    ),
+    (
+        b"site,0\nmsg,1,0,1,1,0:0,user,ann\nmsg,1,0,2,0,1:0,item,0.1,cup,9,3,50,80\nmsg,1,0,3,2,2:0,bid,0.2,0.1,60\nmsg,1,0,4,3,3:0,close,0.2,9,none\n",
+        b"audit,Winner,1,4\n",
+    ),
+    (
+        b"site,0\nmsg,1,0,1,1,0:0,user,ann\nrow,user,0.1,ann,0,0,1,0\n",
+        b"audit,Rows,1,0\n",
+    ),
+    (
+        b"site,0\nmsg,1,0,1,1,0:0,user,ann\nrow,user,0.1,ann,0,0,0,0\n",
+        b"audit,Agree\n",
+    ),
+    (b"site,2\nsite,0\n", b"audit,BadRecord,1\n"),
+];
+
+fn broken() -> io::Error {
+    io::Error::from(io::ErrorKind::BrokenPipe)
+}
+
+// Gives its text a byte at a time, and an error in place of its end.
+#[derive(Drop)]
+struct BrokenReader<'a> {
+    text: &'a [u8],
+    at: usize,
+}
+
+impl<'a> Read for BrokenReader<'a> {
+    fn read(&mut self, buf: &mut [u8]) -> io::Result<usize> {
+        match (self.text.get(self.at), buf.first_mut()) {
+            (Some(byte), Some(place)) => {
+                *place = *byte;
+                self.at = self.at.saturating_add(1);
+                Ok(1)
+            }
+            _ => Err(broken()),
+        }
+    }
+}
+
+// Takes at most three bytes a call, and fails at one call, a flush among them.
+#[derive(Drop)]
+struct BrokenWriter {
+    got: Vec<u8>,
+    calls: usize,
+    bad: usize,
+}
+
+impl BrokenWriter {
+    fn call(&mut self) -> io::Result<()> {
+        self.calls = self.calls.saturating_add(1);
+        if self.calls == self.bad {
+            return Err(broken());
+        }
+        Ok(())
+    }
+}
+
+impl Write for BrokenWriter {
+    fn write(&mut self, buf: &[u8]) -> io::Result<usize> {
+        self.call()?;
+        let most = buf.len().min(3);
+        self.got.extend_from_slice(&buf[..most])?;
+        Ok(most)
+    }
+
+    fn flush(&mut self) -> io::Result<()> {
+        self.call()
+    }
+}
+
+#[test]
+fn each_check_finds_its_fault(rt: HostRuntime) {
+    for (text, want) in LOGS {
+        let mut out = Vec::new(rt.alloc());
+        let end = run_audit(rt.alloc(), text, &mut out, 2);
+        assert!(rt; end.is_ok());
+        assert!(rt; out.as_slice() == want);
+    }
+}
+
+#[test]
+fn counts_the_records_that_it_reads(rt: HostRuntime) {
+    let mut out = Vec::new(rt.alloc());
+    let text = b"site,0\nsite,1\nrow\nmsg\nsite,0\n".as_slice();
+    let end = run_audit(rt.alloc(), text, &mut out, 2);
+    assert!(rt; end == Ok(Count { records: 4 }));
+    assert!(rt; out.as_slice() == b"audit,BadRecord,4\n".as_slice());
+}
+
+#[test]
+fn a_failing_reader(rt: HostRuntime) {
+    let text = b"site,0\nmsg,1,0,1,1,0:0,user,ann\nrow,user\n".as_slice();
+    for cut in 0..text.len() {
+        let mut out = Vec::new(rt.alloc());
+        let reader = BrokenReader {
+            text: &text[..cut],
+            at: 0,
+        };
+        let end = run_audit(rt.alloc(), reader, &mut out, 2);
+        assert!(rt; end == Err(RunFault::Read), "after {cut} bytes");
+        assert!(rt; out.is_empty(), "after {cut} bytes");
+    }
+}
+
+// The writer that fails at one of its calls, and whether the run ended well.
+fn write_until<R: Abort>(rt: &R, alloc: Global, bad: usize) -> (BrokenWriter, bool) {
+    let mut writer = BrokenWriter {
+        got: Vec::new(alloc),
+        calls: 0,
+        bad,
+    };
+    let text = b"site,0\nmsg,1,0,1,1,0:0,user,ann\n".as_slice();
+    let end = run_audit(alloc, text, &mut writer, 2);
+    assert!(rt; end.is_ok() || end == Err(RunFault::Write));
+    (writer, end.is_ok())
+}
+
+#[test]
+fn a_failing_writer(rt: HostRuntime) {
+    let want = b"audit,Agree\n".as_slice();
+    for bad in 1..20 {
+        let (writer, ended) = write_until(&rt, rt.alloc(), bad);
+        assert!(rt; want.starts_with(writer.got.as_slice()), "at call {bad}");
+        assert!(rt; !ended || writer.got.as_slice() == want, "at call {bad}");
+    }
+}
