@@ -1,7 +1,7 @@
 -- How many parts of a batch are left, on all shards together.
-use Rattle.std.proofs.Common.{◌≡◌, ℕ, zero, suc, ◌+◌, ◌-◌, ◌<◌, ◌≤◌, List, [], ◌∷◌, ◌++◌, length, length-append, length-drop, take, drop, get_or, Bool, true, false, cond, refl, sym, ap, ◌∙◌, subst, arith, inl, inr}
-use Rattle.std.specs.Prelude.{◌⊎◌, Some, nat_eq, slice_get, flat_map}
-use Rattle.std.proofs.lemmas.Bool.Decides.{Decides-eqb, nat_tests}
+use Rattle.std.proofs.Common.{◌≡◌, ℕ, zero, suc, ◌+◌, ◌-◌, ◌<◌, ◌≤◌, List, [], ◌∷◌, length, length-append, length-drop, take, drop, get_or, Bool, true, false, cond, refl, sym, ap, ◌∙◌, subst, arith, inl, inr}
+use Rattle.std.specs.Prelude.{◌⊎◌, nat_eq, flat_map}
+use Rattle.std.proofs.lemmas.Bool.Decides.{Decides-eqb}
 use Rattle.std.proofs.lemmas.List.{same_lists}
 use Rattle.std.proofs.lemmas.List.Sums.{sum_by-cons}
 use Rattle.std.proofs.lemmas.Option.{slice_get-get_or, get_or_from_slice_get}
@@ -14,7 +14,7 @@ use Rattle.rubis_model.proofs.InPlace.{home_within}
 use Rattle.rubis_shard.specs.States.{ShardState, with_parts}
 use Rattle.rubis_shard.specs.Holdings.{parts_at}
 use Rattle.rubis_shard.proofs.Folds.{not_equal}
-use Rattle.rubis_pieces.specs.Batches.{rest_of, parts_left, AreLeft, AreUnfinished, IsBegun, LeavesNoMore}
+use Rattle.rubis_pieces.specs.Batches.{rest_of, parts_left, AreUnfinished, IsBegun, LeavesNoMore}
 use Rattle.rubis_pieces.specs.declared.pieces.Left.{Left}
 use Rattle.rubis_pieces.proofs.Finishing.{are_rests, rest_past}
 use Rattle.rubis_pieces.proofs.Folded.{unfinished_from}
@@ -86,7 +86,7 @@ dealt_length shards [] l = none shards
 dealt_length shards (n ∷ ns) l =
     let h = home shards n.effect.key in
     sum_same (λ k. length (parts_at shards k (n ∷ ns))) (λ k. only_at h 1 k + length (parts_at shards k ns)) shards
-        (λ k m. at_home (nat_eq h k) n (parts_at shards k ns))
+    (λ k m. at_home (nat_eq h k) n (parts_at shards k ns))
     ∙ sum_plus (only_at h 1) (λ k. length (parts_at shards k ns)) shards
     ∙ omega (arith, once_below h 1 shards (home_within shards n.effect.key l), dealt_length shards ns l)
 
@@ -120,9 +120,9 @@ left_length n shards [] h = none shards
 left_length n shards (l ∷ ls) h =
     let own = length l.share.effects - l.done in
     sum_same (λ k. length (rest_of (l ∷ ls) k)) (λ k. only_at l.share.number (length (drop l.done l.share.effects)) k + length (rest_of ls k)) shards
-        (λ k m. left_at (nat_eq l.share.number k) (drop l.done l.share.effects) (rest_of ls k)
-            (λ e. rest_past (l.share.number + 1) shards k ls (are_rests (l.share.number + 1) shards ls h.4)
-            (let same : l.share.number ≡ k = (Decides-eqb _ _).0 e in omega (arith, same))))
+    (λ k m. left_at (nat_eq l.share.number k) (drop l.done l.share.effects) (rest_of ls k)
+    (λ e. rest_past (l.share.number + 1) shards k ls (are_rests (l.share.number + 1) shards ls h.4)
+    (let same : l.share.number ≡ k = (Decides-eqb _ _).0 e in omega (arith, same))))
     ∙ sum_plus (only_at l.share.number (length (drop l.done l.share.effects))) (λ k. length (rest_of ls k)) shards
     ∙ omega (
       arith,
@@ -160,7 +160,7 @@ module _ (first : ℕ) (batch : List Core) (old new : List ShardState) (left : L
   nothing_done e k s l =
       let w = begun.each k (get_or old k s) (slice_get-get_or old k s l) in
       let same = sum_each (λ j. length (rest_of left j)) (λ j. length (share (length old) first batch j)) (length old) no_more
-          (left_sum ∙ e ∙ sym share_sum) k l in
+      (left_sum ∙ e ∙ sym share_sum) k l in
       let none = nothing_taken w.0 (share (length old) first batch k) (ap length (sym w.2) ∙ same) in
       get_or_from_slice_get new k _ s w.1 ∙ ap (with_parts (get_or old k s)) none
 

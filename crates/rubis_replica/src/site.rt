@@ -99,11 +99,7 @@ impl<G: Gate> Site<G> {
     }
 
     // Decides an ask against the tables of the log, all of which is applied first.
-    fn decided<R: Threads + Wait + Sync>(
-        &mut self,
-        rt: &R,
-        ask: Ask,
-    ) -> Result<Shadow, Fault>
+    fn decided<R: Threads + Wait + Sync>(&mut self, rt: &R, ask: Ask) -> Result<Shadow, Fault>
         requires { IsAsk self.old.place.sites ask }
         ensures place { self.new.place ≡ self.old.place }
         ensures batch { self.new.batch ≡ self.old.batch }
@@ -120,11 +116,7 @@ impl<G: Gate> Site<G> {
     }
 
     /// Decides an ask against the tables, and makes the message of its shadow.
-    pub fn request<R: Threads + Wait + Sync>(
-        &mut self,
-        rt: &R,
-        ask: Ask,
-    ) -> Result<Message, Fault>
+    pub fn request<R: Threads + Wait + Sync>(&mut self, rt: &R, ask: Ask) -> Result<Message, Fault>
         requires { IsAsk self.old.place.sites ask }
         ensures place { self.new.place ≡ self.old.place }
         ensures batch { self.new.batch ≡ self.old.batch }

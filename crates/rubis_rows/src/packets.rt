@@ -8,8 +8,8 @@ use rubis_replica::{Config, Fault, Free, Site};
 use rubis_schema::{Nick, Refusal};
 use rubis_shadow::Ask;
 use std::alloc::{AllocError, Global};
-use std::test::Fail;
 use std::sync::Wait;
+use std::test::Fail;
 use std::thread::Threads;
 
 const ANN: &str = "msg,1,0,1,1,0:0,user,ann";
@@ -45,9 +45,18 @@ fn arrive<R: Threads + Wait + Sync>(
 #[test]
 fn three_messages_are_cut_at_once(rt: HostRuntime) -> Result<(), Fail> {
     let mut site = second_of_two(rt.alloc(), 1_000_000)?;
-    assert_eq!(rt; arrive(&rt, &mut site, rt.alloc(), ANN)?, Arrival::Released(1));
-    assert_eq!(rt; arrive(&rt, &mut site, rt.alloc(), BOB)?, Arrival::Released(1));
-    assert_eq!(rt; arrive(&rt, &mut site, rt.alloc(), CUP)?, Arrival::Released(1));
+    assert_eq!(rt;
+        arrive(&rt, &mut site, rt.alloc(), ANN)?,
+        Arrival::Released(1)
+    );
+    assert_eq!(rt;
+        arrive(&rt, &mut site, rt.alloc(), BOB)?,
+        Arrival::Released(1)
+    );
+    assert_eq!(rt;
+        arrive(&rt, &mut site, rt.alloc(), CUP)?,
+        Arrival::Released(1)
+    );
     assert_eq!(rt; site.cut(&rt)?, 3);
     assert_eq!(rt; site.cut(&rt)?, 0);
     assert_eq!(rt; site.catch_up()?, 0);
@@ -65,9 +74,18 @@ fn site_with_batches_of_three(alloc: Global, site: u8) -> Result<Site, Fail>
 #[test]
 fn a_batch_is_applied_at_the_third_arrival(rt: HostRuntime) -> Result<(), Fail> {
     let mut site = site_with_batches_of_three(rt.alloc(), 1)?;
-    assert_eq!(rt; arrive(&rt, &mut site, rt.alloc(), ANN)?, Arrival::Released(1));
-    assert_eq!(rt; arrive(&rt, &mut site, rt.alloc(), BOB)?, Arrival::Released(1));
-    assert_eq!(rt; arrive(&rt, &mut site, rt.alloc(), CUP)?, Arrival::Released(1));
+    assert_eq!(rt;
+        arrive(&rt, &mut site, rt.alloc(), ANN)?,
+        Arrival::Released(1)
+    );
+    assert_eq!(rt;
+        arrive(&rt, &mut site, rt.alloc(), BOB)?,
+        Arrival::Released(1)
+    );
+    assert_eq!(rt;
+        arrive(&rt, &mut site, rt.alloc(), CUP)?,
+        Arrival::Released(1)
+    );
     assert_eq!(rt; site.cut(&rt)?, 0);
     Ok(())
 }
@@ -99,7 +117,10 @@ fn messages_wait_for_those_before(rt: HostRuntime) -> Result<(), Fail> {
     let mut site = second_of_two(rt.alloc(), 1_000_000)?;
     assert_eq!(rt; arrive(&rt, &mut site, rt.alloc(), BOB)?, Arrival::Held);
     assert_eq!(rt; arrive(&rt, &mut site, rt.alloc(), BOB)?, Arrival::Repeat);
-    assert_eq!(rt; arrive(&rt, &mut site, rt.alloc(), ANN)?, Arrival::Released(2));
+    assert_eq!(rt;
+        arrive(&rt, &mut site, rt.alloc(), ANN)?,
+        Arrival::Released(2)
+    );
     assert_eq!(rt; arrive(&rt, &mut site, rt.alloc(), BOB)?, Arrival::Repeat);
     assert_eq!(rt; arrive(&rt, &mut site, rt.alloc(), ANN)?, Arrival::Repeat);
     assert_eq!(rt; site.history().len(), 2);
@@ -109,8 +130,14 @@ fn messages_wait_for_those_before(rt: HostRuntime) -> Result<(), Fail> {
 #[test]
 fn a_full_site_refuses_what_is_new(rt: HostRuntime) -> Result<(), Fail> {
     let mut site = second_of_two(rt.alloc(), 2)?;
-    assert_eq!(rt; arrive(&rt, &mut site, rt.alloc(), ANN)?, Arrival::Released(1));
-    assert_eq!(rt; arrive(&rt, &mut site, rt.alloc(), BOB)?, Arrival::Released(1));
+    assert_eq!(rt;
+        arrive(&rt, &mut site, rt.alloc(), ANN)?,
+        Arrival::Released(1)
+    );
+    assert_eq!(rt;
+        arrive(&rt, &mut site, rt.alloc(), BOB)?,
+        Arrival::Released(1)
+    );
     let cat = message(rt.alloc(), CAT, 2)?;
     let refused = site.arrive(&rt, cat).err();
     assert_eq!(rt; refused, Some(Fault::Refused(Refusal::Full)));
@@ -182,8 +209,14 @@ fn ids_of(alloc: Global, site: &Site) -> Result<Vec<(u8, u32)>, AllocError> {
 #[test]
 fn the_earliest_that_is_ready_is_released(rt: HostRuntime) -> Result<(), Fail> {
     let mut site = third_of_three(rt.alloc())?;
-    assert_eq!(rt; arrive_of_three(&rt, &mut site, rt.alloc(), JUG)?, Arrival::Held);
-    assert_eq!(rt; arrive_of_three(&rt, &mut site, rt.alloc(), POT)?, Arrival::Held);
+    assert_eq!(rt;
+        arrive_of_three(&rt, &mut site, rt.alloc(), JUG)?,
+        Arrival::Held
+    );
+    assert_eq!(rt;
+        arrive_of_three(&rt, &mut site, rt.alloc(), POT)?,
+        Arrival::Held
+    );
     assert_eq!(rt;
         arrive_of_three(&rt, &mut site, rt.alloc(), SECOND)?,
         Arrival::Held

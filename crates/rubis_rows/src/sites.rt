@@ -4,16 +4,12 @@ use crate::transcripts::usual;
 use rubis_replica::{Config, Fault, Free, Site};
 use rubis_schema::{Listing, Nick, Refusal};
 use rubis_shadow::Ask;
-use std::test::Fail;
 use std::sync::Wait;
+use std::test::Fail;
 use std::thread::Threads;
 
 // Asks for a user.
-fn ask_user<R: Threads + Wait + Sync>(
-    rt: &R,
-    site: &mut Site,
-    nick: &[u8],
-) -> Result<u32, Fail> {
+fn ask_user<R: Threads + Wait + Sync>(rt: &R, site: &mut Site, nick: &[u8]) -> Result<u32, Fail> {
     let nick = Nick::read(nick).ok_or("a nickname")?;
     let message = site.request(rt, Ask::User(nick))?;
     Ok(message.stamp().id.seq)

@@ -1,5 +1,5 @@
 -- How a run goes on.
-use Rattle.std.proofs.Common.{◌≡◌, ◌≤◌, ◌<◌, ◌+◌, ◌-◌, ◌∷◌, [], ◌++◌, ◌∙◌, ℕ, List, length, take, Option, Bool, true, false, sym, refl, ap, subst, arith, append_assoc, length-append}
+use Rattle.std.proofs.Common.{◌≡◌, ◌≤◌, ◌<◌, ◌+◌, ◌∷◌, [], ◌++◌, ◌∙◌, ℕ, List, length, take, Option, Bool, true, false, sym, refl, ap, subst, arith, append_assoc, length-append}
 use Rattle.std.specs.Prelude.{IfNone, IfOk, IfSome, OnOk, None, Some, Result, Ok, Err}
 use Rattle.std.proofs.lemmas.List.{append-nil}
 use Rattle.std.proofs.Math.Seq.{take-append_seam}
@@ -7,7 +7,7 @@ use Rattle.std.specs.Io.KnownBytes.{Appends}
 use Rattle.rubis_script.specs.declared.record_list.Records.{Records}
 use Rattle.rubis_script.specs.declared.service.Course.TheVariants.{GoesOn, Ends}
 use Rattle.csv.proofs.WriteFacts.{appends-more, appends-none}
-use Rattle.rubis_script.specs.Accounts.{Account, Answers, Keeps}
+use Rattle.rubis_script.specs.Accounts.{Account, Answers}
 use Rattle.rubis_script.specs.Accounts.Ending.{AtEnd, Cut}
 use Rattle.rubis_script.specs.Reading.{Advances, Gives, fields_now}
 use Rattle.rubis_script.specs.Text.{records_of}

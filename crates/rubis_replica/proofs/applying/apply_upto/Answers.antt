@@ -1,4 +1,4 @@
-use Rattle.std.proofs.Common.{◌≡◌, ℕ, ◌+◌, List, ◌∷◌, [], ◌++◌, length, sym, subst, refl, take, ◌<◌, arith}
+use Rattle.std.proofs.Common.{◌≡◌, ◌∷◌, [], ◌++◌, length, sym, subst, refl, take, ◌<◌, arith}
 use Rattle.rubis_model.specs.Log.{Core, core, cores}
 use Rattle.rubis_shard.specs.Holdings.{HoldsLog}
 use Rattle.rubis_replica.specs.Follow.{AreWithin}

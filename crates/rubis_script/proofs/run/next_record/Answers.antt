@@ -24,10 +24,12 @@ returns-in-Err-finish-clause-memory g c e all old input p =
 
 pub returns-in-Ok-settle-clause-read : goal.returns-in-Ok-settle-clause-read
 returns-in-Ok-settle-clause-read g c e all old input p =
-    let good : is_err c.settle.result ≡ false = search rules in
-    (c.args.answered, progress-cut _ _ all (g.S.Service.account c.settle.new.service (c.args.answered + 1)) old _ _ c.args.answered input
-    (progress-drained _ _ all _ _ old _ _ _ _ input p ((on-ok _ good c.settle.ensures.drains) (c.args.answered + 1)))
-    ((on-ok _ good c.settle.ensures.none) (c.args.answered + 1)) refl)
+    let good : is_err c.settle.result ≡ false = search rules in (
+      c.args.answered,
+      progress-cut _ _ all (g.S.Service.account c.settle.new.service (c.args.answered + 1)) old _ _ c.args.answered input
+          (progress-drained _ _ all _ _ old _ _ _ _ input p ((on-ok _ good c.settle.ensures.drains) (c.args.answered + 1)))
+          ((on-ok _ good c.settle.ensures.none) (c.args.answered + 1)) refl,
+    )
 
 pub returns-in-Ok-settle-clause-memory : goal.returns-in-Ok-settle-clause-memory
 returns-in-Ok-settle-clause-memory g c e all old input p =

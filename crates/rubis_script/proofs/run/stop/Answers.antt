@@ -1,4 +1,4 @@
-use Rattle.std.proofs.Common.{◌≡◌, ◌+◌, ap, refl, sym, arith}
+use Rattle.std.proofs.Common.{◌≡◌, ◌+◌, ap, refl, arith}
 use Rattle.rubis_script.specs.declared.fault.RunFault.TheVariants as fault
 use Rattle.rubis_script.proofs.RunFacts.{if_none, progress-drained, progress-more, progress-moved, progress-stays, progress-too_long}
 use Rattle.rubis_script.proofs.run.stop.Goals as goal

@@ -1,7 +1,7 @@
-use Rattle.std.proofs.Common.{◌≡◌, ◌+◌, ap, refl, sym, arith}
+use Rattle.std.proofs.Common.{◌≡◌, ◌+◌, ap, refl, arith}
 use Rattle.rubis_script.specs.declared.fault.RunFault.TheVariants as fault
 use Rattle.rubis_script.specs.declared.service.Course.TheVariants as course
-use Rattle.rubis_script.proofs.RunFacts.{if_none, if_some, progress-ended, progress-front, progress-moved, progress-stays, progress-step}
+use Rattle.rubis_script.proofs.RunFacts.{if_none, if_some, progress-ended, progress-moved, progress-stays, progress-step}
 use Rattle.rubis_script.proofs.run.turn.Goals as goal
 
 pub returns-in-Ok-Some-clause-goes : goal.returns-in-Ok-Some-clause-goes

@@ -1,4 +1,4 @@
-use Rattle.std.proofs.Common.{rules, ◌≡◌, ◌<◌, ◌∙◌, List, length, refl, subst, sym}
+use Rattle.std.proofs.Common.{rules, ◌≡◌, ◌<◌, List, length, refl, subst, sym}
 use Rattle.rubis_model.specs.Log.{cores}
 use Rattle.rubis_shard.specs.States.{ShardState}
 use Rattle.rubis_shard.specs.Holdings.{AreInOrder}

@@ -1,5 +1,4 @@
-use Rattle.std.proofs.Common.{◌≡◌, ◌+◌, ◌∙◌, ap, sym, subst, arith}
-use Rattle.std.specs.Prelude.{length}
+use Rattle.std.proofs.Common.{◌+◌, ◌∙◌, ap, sym, subst, arith}
 use Rattle.rubis_replica.specs.Follow.{Follower, Follows, StaysWithin}
 use Rattle.rubis_replica.proofs.Following.{workers_follow}
 use Rattle.rubis_replica.proofs.NextMessage.{log_within}
