@@ -1,5 +1,5 @@
 -- Sites with nothing done.
-use Rattle.std.proofs.Common.{◌≡◌, ℕ, ◌+◌, ◌≤◌, zero, suc, List, [], ◌∷◌, ◌++◌, length, arith, refl, sym, ap, ◌∙◌, subst, ⊎_elim}
+use Rattle.std.proofs.Common.{◌≡◌, ℕ, ◌+◌, zero, suc, List, [], ◌∷◌, ◌++◌, arith, refl, sym, ap, ◌∙◌, subst, ⊎_elim}
 use Rattle.std.specs.Prelude.{map, slice_get, IfSome}
 use Rattle.std.specs.List.{range_with_len}
 use Rattle.std.proofs.lemmas.Bool.{cases_lt}
@@ -11,7 +11,7 @@ use Rattle.rubis_replica.specs.Progress.{whole}
 use Rattle.rubis_replica.specs.Setup.{place_of}
 use Rattle.rubis_replica.specs.State.{SiteState}
 use Rattle.rubis_world.specs.Setup.{WorldSetup, setup_at}
-use Rattle.rubis_world.specs.Worlds.{AreAtPlaces, WorldState}
+use Rattle.rubis_world.specs.Worlds.{AreAtPlaces}
 use Rattle.rubis_world.proofs.Moves.{state_of}
 
 -- a site with nothing done
@@ -41,12 +41,12 @@ fresh_at_places setup i =
     let long = length-map-range_with_len (fresh setup) 0 setup.sites in
     subst (λ n. IfSome (slice_get (fresh_sites setup setup.sites) i) (λ (s : SiteState). s.place ≡ record { site = i; sites = n; keep = setup.keep })) (sym long)
     (⊎_elim
-      (λ l. subst (λ o. IfSome o (λ (s : SiteState). s.place ≡ record { site = i; sites = setup.sites; keep = setup.keep }))
-        (sym (slice_get-get_or (fresh_sites setup setup.sites) i (fresh setup i) (omega (arith, l, long))))
-        (ap (λ (s : SiteState). s.place) (get_or-map-range_with_len (fresh setup) 0 setup.sites i i (fresh setup i) l (omega arith))))
-      (λ l. subst (λ o. IfSome o (λ (s : SiteState). s.place ≡ record { site = i; sites = setup.sites; keep = setup.keep }))
-        (sym (slice_get_past (fresh_sites setup setup.sites) i (omega (arith, l, long)))) tt)
-      (cases_lt i setup.sites))
+    (λ l. subst (λ o. IfSome o (λ (s : SiteState). s.place ≡ record { site = i; sites = setup.sites; keep = setup.keep }))
+    (sym (slice_get-get_or (fresh_sites setup setup.sites) i (fresh setup i) (omega (arith, l, long))))
+    (ap (λ (s : SiteState). s.place) (get_or-map-range_with_len (fresh setup) 0 setup.sites i i (fresh setup i) l (omega arith))))
+    (λ l. subst (λ o. IfSome o (λ (s : SiteState). s.place ≡ record { site = i; sites = setup.sites; keep = setup.keep }))
+    (sym (slice_get_past (fresh_sites setup setup.sites) i (omega (arith, l, long)))) tt)
+    (cases_lt i setup.sites))
 
 pub at_places : (setup : WorldSetup) (keep : ℕ) (sites : List SiteState) → sites ≡ fresh_sites setup setup.sites → keep ≡ setup.keep → AreAtPlaces keep sites
 at_places setup keep sites e k = subst (AreAtPlaces keep) (sym e) (subst (λ q. AreAtPlaces q (fresh_sites setup setup.sites)) (sym k) (fresh_at_places setup))

@@ -1,11 +1,10 @@
 -- Every event keeps a world.
-use Rattle.std.proofs.Common.{◌≡◌, ℕ, ◌≤◌, length, arith, refl, sym, ap, ◌∙◌, subst}
+use Rattle.std.proofs.Common.{◌≡◌, ℕ, ◌≤◌, length, arith, sym, subst}
 use Rattle.std.specs.Prelude.{Result, Ok, Err}
-use Rattle.rubis_schema.specs.declared.refusals.Refusal.{Refusal}
 use Rattle.rubis_message.specs.declared.answers.Happened.{Happened}
 use Rattle.rubis_model.specs.Laws.{InRun}
-use Rattle.rubis_model.specs.Sound.{AllDeliverable, Room}
-use Rattle.rubis_model.specs.System.{World, Event, IsEvent, happens, start}
+use Rattle.rubis_model.specs.Sound.{AllDeliverable}
+use Rattle.rubis_model.specs.System.{Event, IsEvent, happens, start}
 use Rattle.rubis_laws.proofs.Formed.{event_deliverable}
 use Rattle.rubis_laws.proofs.Keeps.{event_keeps, event_sites, start_sites, start_sound}
 use Rattle.rubis_laws.proofs.Room.{room_event, room_start}

@@ -1,9 +1,9 @@
 -- One site of several changes: what its step is in the world.
-use Rattle.std.proofs.Common.{◌≡◌, ℕ, ◌<◌, ◌≤◌, List, [], ◌∷◌, ◌++◌, length, length-append, get_or, set, refl, sym, ap, ◌∙◌, subst, ⊎_elim, arith}
-use Rattle.std.specs.Prelude.{map, slice_get, slice_set, slice_index_or, IfSome, IsErr, Some, nat_lt, Result, Ok, Err}
+use Rattle.std.proofs.Common.{◌≡◌, ℕ, ◌<◌, ◌≤◌, List, [], ◌∷◌, ◌++◌, length, length-append, get_or, set, sym, ap, ◌∙◌, subst, ⊎_elim, arith}
+use Rattle.std.specs.Prelude.{map, slice_get, slice_set, IfSome, IsErr, Some, nat_lt, Result, Ok, Err}
 use Rattle.std.specs.Result.{IsErrAnd}
 use Rattle.std.proofs.lemmas.Bool.{cases_eq, cases_lt, cond-true, lt-ltb}
-use Rattle.std.proofs.lemmas.List.{get_or-map, get_or-set_other, get_or-set_same, get_or_read, length-map, length-set, map-set}
+use Rattle.std.proofs.lemmas.List.{get_or-map, get_or-set_other, get_or-set_same, length-map, length-set, map-set}
 use Rattle.std.proofs.lemmas.Option.{slice_get-get_or, slice_get_past}
 use Rattle.rubis_schema.specs.declared.listings.Listing.{Listing}
 use Rattle.rubis_schema.specs.declared.refusals.Refusal.{Refusal}
@@ -24,7 +24,6 @@ use Rattle.rubis_replica.specs.declared.faults.Fault.TheVariants as fault
 use Rattle.rubis_world.specs.Faults.{fault_at_site}
 use Rattle.rubis_world.specs.Worlds.{AreAtPlaces, Steps, WorldState}
 use Rattle.rubis_world.specs.declared.faults.WorldFault.{WorldFault}
-use Rattle.rubis_world.specs.declared.faults.WorldFault.TheVariants as world
 
 -- what the fields stand for
 abbrev pub world_of : List SiteState → List Packet → World

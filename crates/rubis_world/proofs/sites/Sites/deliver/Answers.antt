@@ -9,7 +9,7 @@ arrive-requires-clause-sites g c κs h =
 
 pub returns-in-Msg : goal.returns-in-Msg
 returns-in-Msg g c =
-    by_packet c.args.self.now c.arrive.new.self c.args.site c.from-site.result c.args.number c.in_ok-message.field-0 (packet.Msg c.in-Msg.message) c.arrive.result 
+    by_packet c.args.self.now c.arrive.new.self c.args.site c.from-site.result c.args.number c.in_ok-message.field-0 (packet.Msg c.in-Msg.message) c.arrive.result
     (is_below c.self.inside.keep c.self.inside.sites.items c.self.inside.packets.items c.args.self.now c.self.view_is c.args.site c.from-site.result c.len.result
     (let l : c.from-site.result < c.len.result = search rules in l) c.from-site.ensures (let e : c.len.result ≡ length c.self.inside.sites.items = search rules in e))
     c.from-site.ensures c.in_ok-message.ensures.ok c.in-Msg.is c.arrive.ensures

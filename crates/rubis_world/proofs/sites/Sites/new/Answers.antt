@@ -3,7 +3,6 @@ use Rattle.rubis_model.specs.Site.{opening_at}
 use Rattle.rubis_replica.specs.Progress.{whole}
 use Rattle.rubis_replica.specs.Setup.{Setup, place_of}
 use Rattle.rubis_replica.specs.State.{SiteState}
-use Rattle.rubis_world.specs.Worlds.{WorldState}
 use Rattle.rubis_world.proofs.Beginning.{at_places, fresh_sites, one_more, starts}
 use Rattle.rubis_world.proofs.Moves.{state_of}
 use Rattle.rubis_world.proofs.sites.Sites.new.Goals as goal
