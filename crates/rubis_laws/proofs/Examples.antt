@@ -5,7 +5,7 @@ use Rattle.std.proofs.lemmas.Bool.{and_parts, ltb-true, leb-true}
 use Rattle.rubis_schema.specs.Ids.{IsId}
 use Rattle.rubis_schema.specs.declared.ids.Id.{Id}
 use Rattle.rubis_schema.specs.declared.refusals.Refusal.{Refusal}
-use Rattle.rubis_schema.specs.declared.refusals.Refusal.TheVariants.{NoToken, RedBehind, Closed, NotForMe}
+use Rattle.rubis_schema.specs.declared.refusals.Refusal.TheVariants.{NoToken, RedBehind, Closed, NotForMe, BadEvent, NoSuchPacket}
 use Rattle.rubis_schema.specs.declared.row_keys.RowKey.TheVariants as key
 use Rattle.rubis_schema.specs.declared.rows.Row.TheVariants as row
 use Rattle.rubis_schema.specs.declared.row_keys.RowKey.{RowKey}
@@ -16,7 +16,17 @@ use Rattle.rubis_shadow.specs.declared.shadows.NewItem.{NewItem}
 use Rattle.rubis_shadow.specs.declared.shadows.Shadow.{Shadow}
 use Rattle.rubis_shadow.specs.declared.shadows.Shadow.TheVariants as shadow
 use Rattle.rubis_shadow.specs.Changes.{better}
+use Rattle.rubis_schema.specs.FieldForms.{number_of}
+use Rattle.rubis_message.specs.Forms.{take_site}
 use Rattle.rubis_message.specs.Message.{Message}
+use Rattle.rubis_message.specs.Readings.{request_of, take_kind, take_request}
+use Rattle.rubis_message.specs.Words.{kind_of}
+use Rattle.std.specs.Fmt.{digits}
+use Rattle.rubis_message.specs.declared.answers.Happened.{Happened}
+use Rattle.rubis_message.specs.declared.answers.Happened.TheVariants as happened
+use Rattle.rubis_message.specs.declared.requests.Request.TheVariants as request
+use Rattle.rubis_message.specs.declared.tokens.Packet.{Packet}
+use Rattle.rubis_message.specs.declared.tokens.Packet.TheVariants as packet
 use Rattle.rubis_message.specs.declared.answers.Arrival.{Arrival}
 use Rattle.rubis_message.specs.declared.answers.Arrival.TheVariants.{Released, Held, Repeat}
 use Rattle.rubis_message.specs.declared.answers.Taken.TheVariants as taken
@@ -24,11 +34,11 @@ use Rattle.rubis_model.specs.Log.{cores}
 use Rattle.rubis_model.specs.Meaning.{meaning_row}
 use Rattle.rubis_model.specs.Site.{Place, Replica, opening_at, arrived}
 use Rattle.rubis_model.specs.System.{World, Event, AreEvents, site, run, start}
-use Rattle.rubis_model.specs.System.Event.{Request, Pass, Deliver}
+use Rattle.rubis_model.specs.System.Event.{At, Deliver}
+use Rattle.rubis_model.specs.WorldRecords.{world_answers, world_output_of, request_at, take_audit, take_delivery}
 use Rattle.rubis_laws.proofs.Keeps.{start_sound}
 use Rattle.rubis_laws.proofs.Room.{room_start}
-use Rattle.rubis_laws.proofs.ByMeaning.{Answer, answers, answers_by, run_by, same_run, same_answers}
-use Rattle.rubis_laws.proofs.ByMeaning.Answer.{Asked, Passed, Came, Took}
+use Rattle.rubis_laws.proofs.ByMeaning.{answers, answers_by, run_by, same_run, same_answers}
 
 -- ---- messages
 
@@ -92,21 +102,73 @@ earliest_first_log = refl
 -- ---- the token, handed on and back
 
 token_to_and_fro : List Event
-token_to_and_fro = Pass 0 1 ∷ Deliver 1 0 ∷ Pass 1 0 ∷ Deliver 1 0 ∷ Deliver 0 0 ∷ Deliver 0 1 ∷ []
+token_to_and_fro = At 0 (request.Pass 1) ∷ Deliver 1 1 ∷ At 1 (request.Pass 0) ∷ Deliver 1 1 ∷ Deliver 0 1 ∷ Deliver 0 2 ∷ []
 
 token_answers : answers 1000000 token_to_and_fro (start 2) ≡
-    Passed (Ok (record { turn = 1; to = 1; issued = 0 }))
-    ∷ Took (Ok taken.Holding)
-    ∷ Passed (Ok (record { turn = 2; to = 0; issued = 0 }))
-    ∷ Took (Ok taken.Repeat)
-    ∷ Took (Err NotForMe)
-    ∷ Took (Ok taken.Holding) ∷ []
+    Ok (happened.Sent 1)
+    ∷ Ok (happened.Token taken.Holding)
+    ∷ Ok (happened.Sent 2)
+    ∷ Ok (happened.Token taken.Repeat)
+    ∷ Err NotForMe
+    ∷ Ok (happened.Token taken.Holding) ∷ []
 unfolding token_to_and_fro
 token_answers = refl
 
+-- the same, as records
+token_records : List (List (List ℕ))
+token_records =
+    (codes "at" ∷ codes "0" ∷ codes "pass" ∷ codes "1" ∷ [])
+    ∷ (codes "deliver" ∷ codes "1" ∷ codes "1" ∷ [])
+    ∷ (codes "at" ∷ codes "1" ∷ codes "pass" ∷ codes "0" ∷ [])
+    ∷ (codes "deliver" ∷ codes "1" ∷ codes "1" ∷ [])
+    ∷ (codes "deliver" ∷ codes "0" ∷ codes "1" ∷ [])
+    ∷ (codes "deliver" ∷ codes "0" ∷ codes "2" ∷ [])
+    ∷ []
+
+token_output : world_output_of 2 1000000 token_records ≡
+    (codes "at" ∷ codes "0" ∷ codes "reply" ∷ codes "1" ∷ codes "passed" ∷ [])
+    ∷ (codes "at" ∷ codes "0" ∷ codes "send" ∷ codes "token" ∷ codes "1" ∷ codes "1" ∷ codes "1" ∷ codes "0" ∷ [])
+    ∷ (codes "at" ∷ codes "1" ∷ codes "reply" ∷ codes "2" ∷ codes "holding" ∷ [])
+    ∷ (codes "at" ∷ codes "1" ∷ codes "reply" ∷ codes "3" ∷ codes "passed" ∷ [])
+    ∷ (codes "at" ∷ codes "1" ∷ codes "send" ∷ codes "token" ∷ codes "1" ∷ codes "2" ∷ codes "0" ∷ codes "0" ∷ [])
+    ∷ (codes "at" ∷ codes "1" ∷ codes "reply" ∷ codes "4" ∷ codes "repeat" ∷ [])
+    ∷ (codes "at" ∷ codes "0" ∷ codes "reply" ∷ codes "5" ∷ codes "refused" ∷ codes "21" ∷ codes "NotForMe" ∷ [])
+    ∷ (codes "at" ∷ codes "0" ∷ codes "reply" ∷ codes "6" ∷ codes "holding" ∷ [])
+    ∷ []
+unfolding token_records world_answers request_at take_delivery take_audit take_site request_of take_request take_kind kind_of number_of digits
+token_output = refl
+
 -- who passed it doesn't hold it any more
-token_twice : answers 1000000 (Pass 0 1 ∷ Pass 0 1 ∷ []) (start 2) ≡ Passed (Ok (record { turn = 1; to = 1; issued = 0 })) ∷ Passed (Err NoToken) ∷ []
+token_twice : answers 1000000 (At 0 (request.Pass 1) ∷ At 0 (request.Pass 1) ∷ []) (start 2) ≡ Ok (happened.Sent 1) ∷ Err NoToken ∷ []
 token_twice = refl
+
+-- ---- what is no event, and no request
+
+no_events : world_output_of 2 1000000 (
+    (codes "deliver" ∷ codes "0" ∷ codes "9" ∷ [])
+    ∷ (codes "deliver" ∷ codes "7" ∷ codes "1" ∷ [])
+    ∷ (codes "at" ∷ codes "0" ∷ codes "zzz" ∷ [])
+    ∷ (codes "deliver" ∷ codes "0" ∷ codes "0" ∷ [])
+    ∷ (codes "at" ∷ codes "0" ∷ [])
+    ∷ (codes "audit" ∷ codes "0" ∷ [])
+    ∷ (codes "" ∷ [])
+    ∷ []
+    ) ≡
+    (codes "world" ∷ codes "1" ∷ codes "refused" ∷ codes "31" ∷ codes "NoSuchPacket" ∷ [])
+    ∷ (codes "world" ∷ codes "2" ∷ codes "refused" ∷ codes "30" ∷ codes "BadEvent" ∷ [])
+    ∷ (codes "at" ∷ codes "0" ∷ codes "reply" ∷ codes "3" ∷ codes "refused" ∷ codes "1" ∷ codes "BadRecord" ∷ [])
+    ∷ (codes "world" ∷ codes "4" ∷ codes "refused" ∷ codes "31" ∷ codes "NoSuchPacket" ∷ [])
+    ∷ (codes "world" ∷ codes "5" ∷ codes "refused" ∷ codes "30" ∷ codes "BadEvent" ∷ [])
+    ∷ (codes "world" ∷ codes "6" ∷ codes "refused" ∷ codes "30" ∷ codes "BadEvent" ∷ [])
+    ∷ (codes "world" ∷ codes "7" ∷ codes "refused" ∷ codes "30" ∷ codes "BadEvent" ∷ [])
+    ∷ []
+unfolding world_answers request_at take_delivery take_audit take_site request_of take_request take_kind kind_of number_of digits
+no_events = refl
+
+-- no site, and no packet
+nothing_there : answers 1000000 (At 2 (request.Pass 1) ∷ Deliver 2 1 ∷ Deliver 0 0 ∷ Deliver 0 1 ∷ []) (start 2)
+    ≡ Err BadEvent ∷ Err BadEvent ∷ Err NoSuchPacket ∷ Err NoSuchPacket ∷ []
+nothing_there = refl
 
 -- ---- asks, which are decided by the meaning of the log
 
@@ -130,53 +192,41 @@ item_in_limits name = record {
 -- then as the item is closed
 bid_after_close : List Event
 bid_after_close =
-    Request 0 (ask.User ann) ∷ Request 0 (ask.User bob) ∷ Request 0 (ask.Item (item_of (codes "lamp")))
-    ∷ Request 0 (ask.Close (record { item = id 0 3; seller = id 0 1 }))
-    ∷ Pass 0 1
-    ∷ Deliver 1 0 ∷ Deliver 1 1 ∷ Deliver 1 2 ∷ Deliver 1 4
-    ∷ Request 1 (ask.Bid (record { item = id 0 3; bidder = id 0 2; amount = 500 }))
-    ∷ Deliver 1 3
-    ∷ Request 1 (ask.Bid (record { item = id 0 3; bidder = id 0 2; amount = 500 }))
+    At 0 (request.Ask (ask.User ann)) ∷ At 0 (request.Ask (ask.User bob)) ∷ At 0 (request.Ask (ask.Item (item_of (codes "lamp"))))
+    ∷ At 0 (request.Ask (ask.Close (record { item = id 0 3; seller = id 0 1 })))
+    ∷ At 0 (request.Pass 1)
+    ∷ Deliver 1 1 ∷ Deliver 1 2 ∷ Deliver 1 3 ∷ Deliver 1 5
+    ∷ At 1 (request.Ask (ask.Bid (record { item = id 0 3; bidder = id 0 2; amount = 500 })))
+    ∷ Deliver 1 4
+    ∷ At 1 (request.Ask (ask.Bid (record { item = id 0 3; bidder = id 0 2; amount = 500 })))
     ∷ []
 
 bid_in_limits : IsNewBid 2 (record { item = id 0 3; bidder = id 0 2; amount = 500 })
 bid_in_limits =
     record { item = small_id (id 0 3) refl; bidder = small_id (id 0 2) refl; amount = record { positive = omega arith; small = omega arith } }
 
-first : 0 < 2
-first = omega arith
-
-second : 1 < 2
-second = omega arith
-
 bids_are_events : AreEvents 2 bid_after_close
 unfolding bid_after_close
-bids_are_events = (
-  (first, tt),
-  (
-    (first, tt),
-    (
-      (first, item_in_limits (codes "lamp")),
-      (
-        (first, (small_id (id 0 3) refl, small_id (id 0 1) refl)),
-        (first, (second, (second, (second, (second, ((second, bid_in_limits), (second, ((second, bid_in_limits), tt)))))))),
-      ),
-    ),
-  ),
-)
+bids_are_events =
+    (tt, (tt, (item_in_limits (codes "lamp"), ((small_id (id 0 3) refl, small_id (id 0 1) refl), (tt, (tt, (tt, (tt, (tt, (bid_in_limits, (tt, (bid_in_limits, tt))))))))))))
 
-bid_answers : List Answer
+bid_answers : List (Result Happened Refusal)
 bid_answers =
-    Asked (Ok (ann_of (0 ∷ 0 ∷ [])))
-    ∷ Asked (Ok (bob_of (1 ∷ 0 ∷ [])))
-    ∷ Asked (Ok (message 0 3 0 (2 ∷ 0 ∷ []) (shadow.Item (item_of (codes "lamp")))))
-    ∷ Asked (Ok (message 0 4 3 (3 ∷ 0 ∷ []) (shadow.Close (record { item = id 0 3; cat = 7; winner = None }))))
-    ∷ Passed (Ok (record { turn = 1; to = 1; issued = 3 }))
-    ∷ Came (Ok (Released 1)) ∷ Came (Ok (Released 1)) ∷ Came (Ok (Released 1))
-    ∷ Took (Ok taken.Holding)
-    ∷ Asked (Err RedBehind)
-    ∷ Came (Ok (Released 1))
-    ∷ Asked (Err Closed) ∷ []
+    Ok (happened.Sent 1) ∷ Ok (happened.Sent 2) ∷ Ok (happened.Sent 3) ∷ Ok (happened.Sent 4) ∷ Ok (happened.Sent 5)
+    ∷ Ok (happened.Came (Released 1)) ∷ Ok (happened.Came (Released 1)) ∷ Ok (happened.Came (Released 1))
+    ∷ Ok (happened.Token taken.Holding)
+    ∷ Err RedBehind
+    ∷ Ok (happened.Came (Released 1))
+    ∷ Err Closed ∷ []
+
+-- the packets of that run
+bid_packets : List Packet
+bid_packets =
+    packet.Msg (ann_of (0 ∷ 0 ∷ []))
+    ∷ packet.Msg (bob_of (1 ∷ 0 ∷ []))
+    ∷ packet.Msg (message 0 3 0 (2 ∷ 0 ∷ []) (shadow.Item (item_of (codes "lamp"))))
+    ∷ packet.Msg (message 0 4 3 (3 ∷ 0 ∷ []) (shadow.Close (record { item = id 0 3; cat = 7; winner = None })))
+    ∷ packet.Token (record { turn = 1; to = 1; issued = 3 }) ∷ []
 
 bids_by_meaning : answers_by 1000000 bid_after_close (start 2) ≡ bid_answers
 unfolding bid_after_close bid_answers meaning_row
@@ -187,19 +237,28 @@ bids_answered =
     same_answers 1000000 (omega arith) bid_after_close (start 2) bids_are_events (start_sound 2 (omega arith)) (room_start 1000000 2)
     ∙ bids_by_meaning
 
+sent_by_meaning : (run_by 1000000 bid_after_close (start 2)).sent ≡ bid_packets
+unfolding bid_after_close bid_packets meaning_row
+sent_by_meaning = refl
+
+bids_sent : (run 1000000 bid_after_close (start 2)).sent ≡ bid_packets
+bids_sent =
+    ap (λ (w : World). w.sent) (same_run 1000000 (omega arith) bid_after_close (start 2) bids_are_events (start_sound 2 (omega arith)) (room_start 1000000 2))
+    ∙ sent_by_meaning
+
 -- of two equal bids the earlier one wins
 equal_bids : List Event
 equal_bids =
-    Request 0 (ask.User ann) ∷ Request 0 (ask.User bob) ∷ Request 0 (ask.Item (item_of (codes "lamp")))
-    ∷ Request 0 (ask.Bid (record { item = id 0 3; bidder = id 0 2; amount = 500 }))
-    ∷ Request 0 (ask.Bid (record { item = id 0 3; bidder = id 0 2; amount = 500 }))
-    ∷ Request 0 (ask.Close (record { item = id 0 3; seller = id 0 1 }))
+    At 0 (request.Ask (ask.User ann)) ∷ At 0 (request.Ask (ask.User bob)) ∷ At 0 (request.Ask (ask.Item (item_of (codes "lamp"))))
+    ∷ At 0 (request.Ask (ask.Bid (record { item = id 0 3; bidder = id 0 2; amount = 500 })))
+    ∷ At 0 (request.Ask (ask.Bid (record { item = id 0 3; bidder = id 0 2; amount = 500 })))
+    ∷ At 0 (request.Ask (ask.Close (record { item = id 0 3; seller = id 0 1 })))
     ∷ []
 
 equal_are_events : AreEvents 2 equal_bids
 unfolding equal_bids
 equal_are_events =
-    ((first, tt), ((first, tt), ((first, item_in_limits (codes "lamp")), ((first, bid_in_limits), ((first, bid_in_limits), ((first, (small_id (id 0 3) refl, small_id (id 0 1) refl)), tt))))))
+    (tt, (tt, (item_in_limits (codes "lamp"), (bid_in_limits, (bid_in_limits, ((small_id (id 0 3) refl, small_id (id 0 1) refl), tt))))))
 
 last_shadow : World → Option Shadow
 last_shadow w = option_map (λ (m : Message). m.shadow) (slice_get (site w 0).log 5)
@@ -219,11 +278,11 @@ earlier_wins =
 -- a comment is made at each site before the other one has come; then both sites show both
 comments_cross : List Event
 comments_cross =
-    Request 0 (ask.User ann) ∷ Request 0 (ask.User bob) ∷ Request 0 (ask.Item (item_of (codes "lamp")))
-    ∷ Deliver 1 0 ∷ Deliver 1 1 ∷ Deliver 1 2
-    ∷ Request 0 (ask.Comment (record { item = id 0 3; from = id 0 2; to = id 0 1; rating = pos 5; text = codes "good" }))
-    ∷ Request 1 (ask.Comment (record { item = id 0 3; from = id 0 2; to = id 0 1; rating = negsuc 1; text = codes "late" }))
-    ∷ Deliver 0 4 ∷ Deliver 1 3
+    At 0 (request.Ask (ask.User ann)) ∷ At 0 (request.Ask (ask.User bob)) ∷ At 0 (request.Ask (ask.Item (item_of (codes "lamp"))))
+    ∷ Deliver 1 1 ∷ Deliver 1 2 ∷ Deliver 1 3
+    ∷ At 0 (request.Ask (ask.Comment (record { item = id 0 3; from = id 0 2; to = id 0 1; rating = pos 5; text = codes "good" })))
+    ∷ At 1 (request.Ask (ask.Comment (record { item = id 0 3; from = id 0 2; to = id 0 1; rating = negsuc 1; text = codes "late" })))
+    ∷ Deliver 0 5 ∷ Deliver 1 4
     ∷ []
 
 comment_in_limits : (rating : ℤ) (text : List ℕ) → unsigned_abs rating ≤ 5
@@ -232,25 +291,8 @@ comment_in_limits rating text l = record { item = small_id (id 0 3) refl; from =
 
 comments_are_events : AreEvents 2 comments_cross
 unfolding comments_cross
-comments_are_events = (
-  (first, tt),
-  (
-    (first, tt),
-    (
-      (first, item_in_limits (codes "lamp")),
-      (
-        second,
-        (
-          second,
-          (
-            second,
-            ((first, comment_in_limits (pos 5) (codes "good") (omega arith)), ((second, comment_in_limits (negsuc 1) (codes "late") (omega arith)), (first, (second, tt)))),
-          ),
-        ),
-      ),
-    ),
-  ),
-)
+comments_are_events =
+    (tt, (tt, (item_in_limits (codes "lamp"), (tt, (tt, (tt, (comment_in_limits (pos 5) (codes "good") (omega arith), (comment_in_limits (negsuc 1) (codes "late") (omega arith), (tt, (tt, tt))))))))))
 
 -- what the sites hold of a key, by meaning
 rows_of_two : RowKey → World → Option Row × Option Row

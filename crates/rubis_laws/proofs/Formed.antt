@@ -1,8 +1,8 @@
--- Each message of a run meets the conditions of its type.
+-- Each packet of a run can be taken in by each of its sites.
 use Rattle.std.proofs.Common.{ℕ, ◌≡◌, ◌+◌, ◌≤◌, ◌<◌, List, [], ◌∷◌, ◌++◌, length, Bool, true, false, cond, refl, sym, ap, ◌∙◌, subst, arith, Option, Some, None, ⊎_elim}
 use Rattle.std.specs.Prelude.{All, slice_get, nat_le, nat_lt, unwrap_or, is_some, ◌||◌, ◌==◌, Result, Ok, Err}
 use Rattle.std.specs.Option.{option_map_or}
-use Rattle.std.proofs.lemmas.Bool.{cond_both, eqb-true}
+use Rattle.std.proofs.lemmas.Bool.{cond_both, eqb-true, or_parts}
 use Rattle.std.proofs.lemmas.Bool.Decides.{nat_tests}
 use Rattle.std.proofs.lemmas.List.FromFn.{get_or-map-range_with_len, length-map-range_with_len}
 use mathlib.Core.Bool.{true≢false}
@@ -17,15 +17,17 @@ use Rattle.rubis_message.specs.declared.tokens.Token.{Token}
 use Rattle.rubis_generate.specs.Decision.{decision}
 use Rattle.rubis_model.specs.Settle.{Has, counted, reds}
 use Rattle.rubis_model.specs.Site.{Replica, made, generating, passing, token_for, red_for, rows_at, standing_of}
-use Rattle.rubis_model.specs.System.{Packet, World, Event, IsEvent, AreEvents, site, place, answering, coming, happens, run}
-use Rattle.rubis_model.specs.System.Packet.{Mail, Right}
-use Rattle.rubis_model.specs.System.Event.{Request, Pass, Deliver}
-use Rattle.rubis_model.specs.Sound.{Sound}
-use Rattle.rubis_model.specs.Laws.{Sent}
-use Rattle.rubis_laws.proofs.Making.{made_dep, shadow_cases, not_shadow}
+use Rattle.rubis_message.specs.declared.requests.Request.{Request}
+use Rattle.rubis_message.specs.declared.requests.Request.TheVariants as request
+use Rattle.rubis_message.specs.declared.tokens.Packet.{Packet}
+use Rattle.rubis_model.specs.System.{World, Event, IsEvent, AreEvents, site, place, packet_at, answering, requested, coming, happens, run}
+use Rattle.rubis_message.specs.declared.tokens.Packet.TheVariants as packet
+use Rattle.rubis_model.specs.System.Event.{At, Deliver}
+use Rattle.rubis_model.specs.Sound.{AllDeliverable, IsDeliverable, Sound}
+use Rattle.rubis_laws.proofs.Making.{made_dep}
 use Rattle.rubis_laws.proofs.Deciding.{not_full, red_allowed, counted_short, reds_short, in_limits}
-use Rattle.rubis_laws.proofs.Keeps.{event_keeps, event_sites}
-use Rattle.rubis_model.proofs.Lists.{has_append}
+use Rattle.rubis_laws.proofs.Keeps.{at_one, event_keeps, event_sites}
+use Rattle.rubis_model.proofs.Lists.{has_append, push_cases}
 
 module _ (keep : ℕ) (few : keep ≤ 1000000) (w : World) (i : ℕ) (s : Sound w) (l : i < length w.sites) (small : length w.sites ≤ 16) (ask : Ask) (limits : IsAsk (length w.sites) ask) where
   counts_small : (x : Shadow) → length (site w i).log < 1000000 → All (λ n. n ≤ 1000000) (made (place keep w i) (site w i) x).stamp.deps
@@ -59,60 +61,75 @@ module _ (keep : ℕ) (few : keep ≤ 1000000) (w : World) (i : ℕ) (s : Sound 
       positive : (n : ℕ) → nat_lt 0 (n + 1) ≡ true
       positive n = grind (arith, nat_tests)
 
-  pub made_formed : (x : Shadow) → decision (rows_at (site w i).log) (standing_of keep (site w i)) ask ≡ Ok x
-      → IsMessage (made (place keep w i) (site w i) x)
-  made_formed x e =
+  pub made_deliverable : (x : Shadow) → decision (rows_at (site w i).log) (standing_of keep (site w i)) ask ≡ Ok x
+      → IsDeliverable (length w.sites) (packet.Msg (made (place keep w i) (site w i) x))
+  made_deliverable x e =
       let n : length (made (place keep w i) (site w i) x).stamp.deps ≡ length w.sites = length-map-range_with_len (λ j. counted j (site w i).log) 0 (length w.sites) in
       let room = room_left x e in
       let c = counted_short i (site w i).log in
       let d = made_dep (place keep w i) (site w i) x (λ m h. s.home.origin m ((s.good i).log_sent m h)) i in
-      let r = red_small x e (is_red x) refl (site w i).held refl in
-      record {
-        sites = omega (arith, n, small);
-        id = record { site = omega (arith, n, l); positive = omega arith; small = omega (arith, c, room) };
-        own = ap (λ k. k + 1) (sym d);
-        counts = counts_small x room;
-        red = r.0;
-        colour = r.1;
-        shadow = subst (λ k. InLimits k x) (sym n) (in_limits keep few w i s ask x limits e);
-      }
+      let r = red_small x e (is_red x) refl (site w i).held refl in (
+        record {
+          sites = omega (arith, n, small);
+          id = record { site = omega (arith, n, l); positive = omega arith; small = omega (arith, c, room) };
+          own = ap (λ k. k + 1) (sym d);
+          counts = counts_small x room;
+          red = r.0;
+          colour = r.1;
+          shadow = subst (λ k. InLimits k x) (sym n) (in_limits keep few w i s ask x limits e);
+        },
+        n,
+      )
 
 -- ---- each event
-abbrev pub AllFormed : World → Type 0
-AllFormed w = (m : Message) → Sent w m → IsMessage m
+module _ (keep : ℕ) (w : World) (i : ℕ) (f : AllDeliverable (length w.sites) w.sent) where
+  none_more : AllDeliverable (length w.sites) (w.sent ++ [])
+  none_more p h = f p (⊎_elim (λ k. k) (λ z. absurd z) (has_append p w.sent [] h))
 
-module _ (keep : ℕ) (w : World) (i : ℕ) (f : AllFormed w) where
-  none_more : (m : Message) → Has (Mail m) (w.sent ++ []) → IsMessage m
-  none_more m h = f m (⊎_elim (λ k. k) (λ z. absurd z) (has_append (Mail m) w.sent [] h))
+  one_more : (q : Packet) → IsDeliverable (length w.sites) q → AllDeliverable (length w.sites) (w.sent ++ q ∷ [])
+  one_more q d p h = ⊎_elim (λ k. f p k) (λ e. subst (IsDeliverable (length w.sites)) (sym e) d) (push_cases p q w.sent h)
 
-  passing_formed : (to : ℕ) (o : Option ℕ) → AllFormed (answering Right w i (passing (place keep w i) (site w i) to o))
-  passing_formed to None = none_more
-  passing_formed to (Some issued) =
-      cond_both (nat_le (length w.sites) to || (to == i)) (site w i, Err BadTarget) _ (λ (p : Replica × Result Token Refusal). AllFormed (answering Right w i p)) (λ _. none_more)
-      (λ _. cond_both (nat_le 1000000000 (site w i).last) (site w i, Err LastTurn) _ (λ (p : Replica × Result Token Refusal). AllFormed (answering Right w i p)) (λ _. none_more)
-      (λ _ m h. f m (not_shadow (token_for (site w i) to issued) m w.sent h)))
+  passing_deliverable : (to : ℕ) (o : Option ℕ)
+      → AllDeliverable (length w.sites) (answering packet.Token w i (passing (place keep w i) (site w i) to o)).sent
+  passing_deliverable to None = none_more
+  passing_deliverable to (Some issued) =
+      cond_both (nat_le (length w.sites) to || (to == i)) (site w i, Err BadTarget) _ (λ (p : Replica × Result Token Refusal). AllDeliverable (length w.sites) (answering packet.Token w i p).sent) (λ _. none_more)
+      (λ there. cond_both (nat_le 1000000000 (site w i).last) (site w i, Err LastTurn) _ (λ (p : Replica × Result Token Refusal). AllDeliverable (length w.sites) (answering packet.Token w i p).sent) (λ _. none_more)
+      (λ _. one_more (packet.Token (token_for (site w i) to issued)) (is_there (length w.sites) to (or_parts (nat_le (length w.sites) to) (to == i) there).0)))
+    where
+      is_there : (n to : ℕ) → nat_le n to ≡ false → to < n
+      is_there n to e = grind (arith, nat_tests)
 
-  coming_formed : (o : Option Packet) → AllFormed (coming keep w i o)
-  coming_formed None = f
-  coming_formed (Some (Mail m)) = f
-  coming_formed (Some (Right t)) = f
+  coming_deliverable : (o : Option Packet) → AllDeliverable (length w.sites) (coming keep w i o).0.sent
+  coming_deliverable None = f
+  coming_deliverable (Some (packet.Msg m)) = f
+  coming_deliverable (Some (packet.Token t)) = f
 
-  asking_formed : (ask : Ask) (a : Result Shadow Refusal) → ((x : Shadow) → a ≡ Ok x → IsMessage (made (place keep w i) (site w i) x))
-      → AllFormed (answering Mail w i (generating (place keep w i) (site w i) a))
-  asking_formed ask (Err r) h m k = none_more m k
-  asking_formed ask (Ok x) h m k =
-      ⊎_elim (λ a. f m a) (λ e. subst IsMessage (sym e) (h x refl)) (shadow_cases m (made (place keep w i) (site w i) x) w.sent k)
+  asking_deliverable : (a : Result Shadow Refusal)
+      → ((x : Shadow) → a ≡ Ok x → IsDeliverable (length w.sites) (packet.Msg (made (place keep w i) (site w i) x)))
+      → AllDeliverable (length w.sites) (answering packet.Msg w i (generating (place keep w i) (site w i) a)).sent
+  asking_deliverable (Err r) h = none_more
+  asking_deliverable (Ok x) h = one_more (packet.Msg (made (place keep w i) (site w i) x)) (h x refl)
 
-pub event_formed : (keep : ℕ) → keep ≤ 1000000 → (w : World) (e : Event) → length w.sites ≤ 16 → IsEvent (length w.sites) e → Sound w → AllFormed w
-    → AllFormed (happens keep w e)
-event_formed keep few w (Request i ask) n a s f =
-    asking_formed keep w i f ask (decision (rows_at (site w i).log) (standing_of keep (site w i)) ask) (made_formed keep few w i s a.0 n ask a.1)
-event_formed keep few w (Pass i to) n a s f = passing_formed keep w i f to (site w i).held
-event_formed keep few w (Deliver i k) n a s f = coming_formed keep w i f (slice_get w.sent k)
+requested_deliverable : (keep : ℕ) → keep ≤ 1000000 → (w : World) (i : ℕ) (r : Request) → length w.sites ≤ 16 → IsEvent (length w.sites) (At i r)
+    → i < length w.sites → Sound w → AllDeliverable (length w.sites) w.sent → AllDeliverable (length w.sites) (requested keep w i r).0.sent
+requested_deliverable keep few w i (request.Ask ask) n a l s f =
+    asking_deliverable keep w i f (decision (rows_at (site w i).log) (standing_of keep (site w i)) ask) (made_deliverable keep few w i s l n ask a)
+requested_deliverable keep few w i (request.Pass to) n a l s f = passing_deliverable keep w i f to (site w i).held
+requested_deliverable keep few w i (request.List listing) n a l s f = f
 
-pub run_formed : (keep : ℕ) → keep ≤ 1000000 → (es : List Event) (w : World) → length w.sites ≤ 16 → AreEvents (length w.sites) es → Sound w
-    → AllFormed w → AllFormed (run keep es w)
-run_formed keep few [] w n a s f = f
-run_formed keep few (e ∷ es) w n a s f =
+pub event_deliverable : (keep : ℕ) → keep ≤ 1000000 → (w : World) (e : Event) → length w.sites ≤ 16 → IsEvent (length w.sites) e → Sound w
+    → AllDeliverable (length w.sites) w.sent → AllDeliverable (length w.sites) (happens keep w e).0.sent
+event_deliverable keep few w (At i r) n a s f =
+    at_one (λ v. AllDeliverable (length w.sites) v.sent) w i (requested keep w i r) f (λ l. requested_deliverable keep few w i r n a l s f)
+event_deliverable keep few w (Deliver i k) n a s f =
+    at_one (λ v. AllDeliverable (length w.sites) v.sent) w i (coming keep w i (packet_at w.sent k)) f (λ l. coming_deliverable keep w i f (packet_at w.sent k))
+
+pub run_deliverable : (keep : ℕ) → keep ≤ 1000000 → (es : List Event) (w : World) → length w.sites ≤ 16 → AreEvents (length w.sites) es → Sound w
+    → AllDeliverable (length w.sites) w.sent → AllDeliverable (length w.sites) (run keep es w).sent
+run_deliverable keep few [] w n a s f = f
+run_deliverable keep few (e ∷ es) w n a s f =
     let same = event_sites keep w e in
-    run_formed keep few es (happens keep w e) (omega (arith, same, n)) (subst (λ n. AreEvents n es) (sym same) a.1) (event_keeps keep few w e a.0 s) (event_formed keep few w e n a.0 s f)
+    subst (λ k. AllDeliverable k (run keep es (happens keep w e).0).sent) same
+    (run_deliverable keep few es (happens keep w e).0 (omega (arith, same, n)) (subst (λ k. AreEvents k es) (sym same) a.1) (event_keeps keep few w e a.0 s)
+    (subst (λ k. AllDeliverable k (happens keep w e).0.sent) (sym same) (event_deliverable keep few w e n a.0 s f)))

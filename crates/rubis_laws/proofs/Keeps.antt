@@ -3,7 +3,7 @@ use Rattle.std.proofs.Common.{◌≡◌, ℕ, ◌+◌, ◌<◌, ◌≤◌, zero,
 use Rattle.std.specs.Prelude.{reverse, slice_set, slice_get, not, ◌||◌, ◌==◌, nat_lt, nat_le, Result, Ok, Err, option_map, is_some, unwrap_or}
 use Rattle.std.specs.List.{list_any}
 use Rattle.std.specs.Option.{option_map_or}
-use Rattle.std.proofs.lemmas.Bool.{cases_eq, cases_lt, cond_both, or_parts, eqb-true, true≢false}
+use Rattle.std.proofs.lemmas.Bool.{cases_eq, cases_lt, cond_both, ltb-true, or_parts, eqb-true, true≢false}
 use Rattle.std.proofs.lemmas.Bool.Decides.{nat_tests}
 use Rattle.std.proofs.lemmas.List.{length-set, set-get_or, get_or-set_same, get_or-set_other, get_or_past}
 use Rattle.std.proofs.lemmas.List.FromFn.{get_or-map-range_with_len, length-map-range_with_len}
@@ -25,9 +25,13 @@ use Rattle.rubis_message.specs.declared.answers.Taken.TheVariants as taken
 use Rattle.rubis_generate.specs.Decision.{decision}
 use Rattle.rubis_model.specs.Settle.{reds, Has}
 use Rattle.rubis_model.specs.Site.{Replica, opening_at, settled, made, after_made, red_for, issued_after, generating, rows_at, standing_of, not_ours, is_repeat, is_full, after_came, arrived, took, passing}
-use Rattle.rubis_model.specs.System.{Packet, World, Event, IsEvent, AreEvents, site, place, with_site, answering, coming, happens, run, start}
-use Rattle.rubis_model.specs.System.Packet.{Mail, Right}
-use Rattle.rubis_model.specs.System.Event.{Request, Pass, Deliver}
+use Rattle.rubis_message.specs.declared.answers.Happened.{Happened}
+use Rattle.rubis_message.specs.declared.requests.Request.{Request}
+use Rattle.rubis_message.specs.declared.requests.Request.TheVariants as request
+use Rattle.rubis_message.specs.declared.tokens.Packet.{Packet}
+use Rattle.rubis_model.specs.System.{World, Event, IsEvent, AreEvents, site, place, with_site, packet_at, answering, requested, coming, at_site, happens, run, start}
+use Rattle.rubis_message.specs.declared.tokens.Packet.TheVariants as packet
+use Rattle.rubis_model.specs.System.Event.{At, Deliver}
 use Rattle.rubis_model.specs.Sound.{Good, Home, Reds, OneToken, Sound}
 use Rattle.rubis_model.proofs.Settling.{good_settle, settle_grows, reverse_push}
 use Rattle.rubis_laws.proofs.Making.{set_at, good_more, good_make, IsMade, is_made, reds_blue, reds_red, reds_token, shadow_cases, not_shadow, not_right, red_count_blue, turns_shadow}
@@ -57,11 +61,11 @@ after : World → ℕ → Message → Option ℕ → Replica
 after w i m held = settled (record (site w i) { log = (site w i).log ++ m ∷ []; held = held })
 
 good_after : (w : World) (i : ℕ) (m : Message) (held : Option ℕ) → i < length w.sites → Sound w → IsMade i (site w i).log m
-    → (j : ℕ) → Good (w.sent ++ Mail m ∷ []) j (get_or (set w.sites i (after w i m held)) j (opening_at 1)).log (get_or (set w.sites i (after w i m held)) j (opening_at 1)).waiting
+    → (j : ℕ) → Good (w.sent ++ packet.Msg m ∷ []) j (get_or (set w.sites i (after w i m held)) j (opening_at 1)).log (get_or (set w.sites i (after w i m held)) j (opening_at 1)).waiting
 unfolding after
-good_after w i m held l s k j = set_at (λ q x. Good (w.sent ++ Mail m ∷ []) q x.log x.waiting) w.sites i (after w i m held) (opening_at 1) l
-    (good_settle (w.sent ++ Mail m ∷ []) i (length (site w i).waiting) ((site w i).log ++ m ∷ []) (site w i).waiting (good_make w.sent i (site w i).log (site w i).waiting m k (s.good i)))
-    (λ q _. good_more w.sent (Mail m) q (site w q).log (site w q).waiting (s.good q)) j
+good_after w i m held l s k j = set_at (λ q x. Good (w.sent ++ packet.Msg m ∷ []) q x.log x.waiting) w.sites i (after w i m held) (opening_at 1) l
+    (good_settle (w.sent ++ packet.Msg m ∷ []) i (length (site w i).waiting) ((site w i).log ++ m ∷ []) (site w i).waiting (good_make w.sent i (site w i).log (site w i).waiting m k (s.good i)))
+    (λ q _. good_more w.sent (packet.Msg m) q (site w q).log (site w q).waiting (s.good q)) j
 
 -- what is in a log stays there
 stays : (w : World) (i : ℕ) (m u : Message) (held : Option ℕ) → i < length w.sites → (j : ℕ) → Has u (reverse (site w j).log)
@@ -78,7 +82,7 @@ arrives w i m held l = subst (λ (x : Replica). Has m (reverse x.log)) (sym (get
     (settle_grows m (length (site w i).waiting) ((site w i).log ++ m ∷ []) (site w i).waiting (subst (Has m) (sym (reverse_push (site w i).log m)) (inl refl)))
 
 home_after : (w : World) (i : ℕ) (m : Message) (held : Option ℕ) → i < length w.sites → Sound w → IsMade i (site w i).log m
-    → Home (length w.sites) (λ j. (get_or (set w.sites i (after w i m held)) j (opening_at 1)).log) (w.sent ++ Mail m ∷ [])
+    → Home (length w.sites) (λ j. (get_or (set w.sites i (after w i m held)) j (opening_at 1)).log) (w.sent ++ packet.Msg m ∷ [])
 home_after w i m held l s k = record {
   origin =
       λ u h. ⊎_elim (λ a. s.home.origin u a) (λ e. let o = ap (λ (x : Message). x.stamp.id.site) e in omega (arith, k.origin)) (shadow_cases u m w.sent h);
@@ -103,34 +107,34 @@ unfolding after
 held_after_same w i m held l = ap (λ (x : Replica). x.held) (get_or-set_same w.sites i (after w i m held) (opening_at 1) l)
 
 sound_after : (w : World) (i : ℕ) (m : Message) (held : Option ℕ) → i < length w.sites → Sound w → IsMade i (site w i).log m
-    → Reds (w.sent ++ Mail m ∷ [])
-    → OneToken (length w.sites) (λ j. (get_or (set w.sites i (after w i m held)) j (opening_at 1)).held) (λ j. (get_or (set w.sites i (after w i m held)) j (opening_at 1)).last) (w.sent ++ Mail m ∷ [])
-    → Sound (record { sites = set w.sites i (after w i m held); sent = w.sent ++ Mail m ∷ [] })
+    → Reds (w.sent ++ packet.Msg m ∷ [])
+    → OneToken (length w.sites) (λ j. (get_or (set w.sites i (after w i m held)) j (opening_at 1)).held) (λ j. (get_or (set w.sites i (after w i m held)) j (opening_at 1)).last) (w.sent ++ packet.Msg m ∷ [])
+    → Sound (record { sites = set w.sites i (after w i m held); sent = w.sent ++ packet.Msg m ∷ [] })
 sound_after w i m held l s k r t = record {
   good = good_after w i m held l s k;
   home =
-      subst (λ n. Home n (λ j. (get_or (set w.sites i (after w i m held)) j (opening_at 1)).log) (w.sent ++ Mail m ∷ [])) (sym (length-set w.sites i (after w i m held))) (home_after w i m held l s k);
+      subst (λ n. Home n (λ j. (get_or (set w.sites i (after w i m held)) j (opening_at 1)).log) (w.sent ++ packet.Msg m ∷ [])) (sym (length-set w.sites i (after w i m held))) (home_after w i m held l s k);
   reds = r;
   token =
-      subst (λ n. OneToken n (λ j. (get_or (set w.sites i (after w i m held)) j (opening_at 1)).held) (λ j. (get_or (set w.sites i (after w i m held)) j (opening_at 1)).last) (w.sent ++ Mail m ∷ [])) (sym (length-set w.sites i (after w i m held))) t;
+      subst (λ n. OneToken n (λ j. (get_or (set w.sites i (after w i m held)) j (opening_at 1)).held) (λ j. (get_or (set w.sites i (after w i m held)) j (opening_at 1)).last) (w.sent ++ packet.Msg m ∷ [])) (sym (length-set w.sites i (after w i m held))) t;
 }
 
 sound_blue : (keep : ℕ) (w : World) (i : ℕ) (x : Shadow) → i < length w.sites → red_for x (site w i).held ≡ 0
     → issued_after x (site w i).held ≡ (site w i).held
-    → IsMade i (site w i).log (made (place keep w i) (site w i) x) → Sound w → Sound (record { sites = set w.sites i (after_made (place keep w i) (site w i) x); sent = w.sent ++ Mail (made (place keep w i) (site w i) x) ∷ [] })
+    → IsMade i (site w i).log (made (place keep w i) (site w i) x) → Sound w → Sound (record { sites = set w.sites i (after_made (place keep w i) (site w i) x); sent = w.sent ++ packet.Msg (made (place keep w i) (site w i) x) ∷ [] })
 unfolding after
 sound_blue keep w i x l none same k s =
     let m = made (place keep w i) (site w i) x in
     let held = issued_after x (site w i).held in
     sound_after w i m held l s k (reds_blue w.sent m none s.reds)
-    (token_same (length w.sites) (λ j. (site w j).held) (λ j. (get_or (set w.sites i (after w i m held)) j (opening_at 1)).held) (λ j. (site w j).last) (λ j. (get_or (set w.sites i (after w i m held)) j (opening_at 1)).last) w.sent (w.sent ++ Mail m ∷ [])
+    (token_same (length w.sites) (λ j. (site w j).held) (λ j. (get_or (set w.sites i (after w i m held)) j (opening_at 1)).held) (λ j. (site w j).last) (λ j. (get_or (set w.sites i (after w i m held)) j (opening_at 1)).last) w.sent (w.sent ++ packet.Msg m ∷ [])
     (λ j. ⊎_elim (λ e. subst (λ q. (get_or (set w.sites i (after w i m held)) q (opening_at 1)).held ≡ (site w q).held) (sym e) (held_after_same w i m held l ∙ same)) (λ e. held_after_other w i m held j e) (cases_eq j i))
     (last_after w i m held l)
-    (red_count_blue w.sent m none) (turns_shadow w.sent m) (λ t h. not_right t m w.sent h) (λ t h. has_left (Right t) w.sent (Mail m ∷ []) h) s.token)
+    (red_count_blue w.sent m none) (turns_shadow w.sent m) (λ t h. not_right t m w.sent h) (λ t h. has_left (packet.Token t) w.sent (packet.Msg m ∷ []) h) s.token)
 
 sound_red : (keep : ℕ) (w : World) (i issued : ℕ) (x : Shadow) → (site w i).held ≡ Some issued → i < length w.sites → reds (site w i).log ≡ issued
     → red_for x (site w i).held ≡ issued + 1 → issued_after x (site w i).held ≡ Some (issued + 1)
-    → IsMade i (site w i).log (made (place keep w i) (site w i) x) → Sound w → Sound (record { sites = set w.sites i (after_made (place keep w i) (site w i) x); sent = w.sent ++ Mail (made (place keep w i) (site w i) x) ∷ [] })
+    → IsMade i (site w i).log (made (place keep w i) (site w i) x) → Sound w → Sound (record { sites = set w.sites i (after_made (place keep w i) (site w i) x); sent = w.sent ++ packet.Msg (made (place keep w i) (site w i) x) ∷ [] })
 unfolding after
 sound_red keep w i issued x e l f number next k s =
     let h = held_is (length w.sites) (λ j. (site w j).held) (λ j. (site w j).last) w.sent i issued s.token e in
@@ -168,7 +172,7 @@ quiet_other : (w : World) (i : ℕ) (x : Replica) (j : ℕ) → (j ≡ i → ⊥
     → ((get_or (set w.sites i x) j (opening_at 1)).held ≡ (site w j).held) × ((get_or (set w.sites i x) j (opening_at 1)).last ≡ (site w j).last)
 quiet_other w i x j n = let e = get_or-set_other w.sites i j x (opening_at 1) n in (ap (λ (q : Replica). q.held) e, ap (λ (q : Replica). q.last) e)
 
-home_more : (n : ℕ) (log : ℕ → List Message) (sent : List Packet) (t : Token) → Home n log sent → Home n log (sent ++ Right t ∷ [])
+home_more : (n : ℕ) (log : ℕ → List Message) (sent : List Packet) (t : Token) → Home n log sent → Home n log (sent ++ packet.Token t ∷ [])
 home_more n log sent t h = record {
   origin = λ u k. h.origin u (not_shadow t u sent k);
   home = λ u k. h.home u (not_shadow t u sent k);
@@ -201,12 +205,12 @@ sound_quiet w i held last sent l g h r t = record {
 
 -- ---- the token is passed
 sound_passed : (w : World) (i to issued : ℕ) → (site w i).held ≡ Some issued → i < length w.sites → to < length w.sites → Sound w
-    → Sound (record { sites = set w.sites i (quiet w i None (site w i).last); sent = w.sent ++ Right (record { turn = (site w i).last + 1; to = to; issued = issued }) ∷ [] })
+    → Sound (record { sites = set w.sites i (quiet w i None (site w i).last); sent = w.sent ++ packet.Token (record { turn = (site w i).last + 1; to = to; issued = issued }) ∷ [] })
 sound_passed w i to issued e l there s =
     let h = held_is (length w.sites) (λ j. (site w j).held) (λ j. (site w j).last) w.sent i issued s.token e in
     let t : Token = record { turn = (site w i).last + 1; to = to; issued = issued } in
-    sound_quiet w i None (site w i).last (w.sent ++ Right t ∷ []) l
-    (λ j. good_more w.sent (Right t) j (site w j).log (site w j).waiting (s.good j))
+    sound_quiet w i None (site w i).last (w.sent ++ packet.Token t ∷ []) l
+    (λ j. good_more w.sent (packet.Token t) j (site w j).log (site w j).waiting (s.good j))
     (home_more (length w.sites) (λ j. (site w j).log) w.sent t s.home)
     (reds_token w.sent t s.reds)
     (inr (
@@ -219,7 +223,7 @@ sound_passed w i to issued e l there s =
     ))
 
 -- ---- the token comes
-sound_taken : (w : World) (i : ℕ) (t : Token) → Has (Right t) w.sent → i < length w.sites → t.to ≡ i → (site w i).last < t.turn → Sound w
+sound_taken : (w : World) (i : ℕ) (t : Token) → Has (packet.Token t) w.sent → i < length w.sites → t.to ≡ i → (site w i).last < t.turn → Sound w
     → Sound (record { sites = set w.sites i (quiet w i (Some t.issued) t.turn); sent = w.sent })
 sound_taken w i t has l e late s =
     let late_to : (site w t.to).last < t.turn = subst (λ x. (site w x).last < t.turn) (sym e) late in
@@ -250,7 +254,7 @@ known m (x ∷ log) (inl e) =
 known m (x ∷ log) (inr h) = or_second (same_id m.stamp.id x.stamp.id) (list_any (λ u. same_id m.stamp.id u.stamp.id) log) (known m log h)
 
 -- what isn't released or waiting is another site's
-foreign : (w : World) (i : ℕ) (m : Message) → Has (Mail m) w.sent → is_repeat (site w i) m ≡ false → Sound w → m.stamp.id.site ≡ i → ⊥
+foreign : (w : World) (i : ℕ) (m : Message) → Has (packet.Msg m) w.sent → is_repeat (site w i) m ≡ false → Sound w → m.stamp.id.site ≡ i → ⊥
 foreign w i m h b s e =
     let q = or_parts (list_any (λ u. same_id m.stamp.id u.stamp.id) (site w i).log) (list_any (λ u. same_id m.stamp.id u.stamp.id) (site w i).waiting) b in
     let k = known m (site w i).log (has_reverse m (site w i).log (subst (λ x. Has m (reverse (site w x).log)) e (s.home.home m h))) in
@@ -259,19 +263,19 @@ foreign w i m h b s e =
 came : World → ℕ → Message → Replica
 came w i m = after_came (site w i) m
 
-good_waiting : (sent : List Packet) (i : ℕ) (log waiting : List Message) (m : Message) → Has (Mail m) sent → (m.stamp.id.site ≡ i → ⊥)
+good_waiting : (sent : List Packet) (i : ℕ) (log waiting : List Message) (m : Message) → Has (packet.Msg m) sent → (m.stamp.id.site ≡ i → ⊥)
     → Good sent i log waiting → Good sent i log (waiting ++ m ∷ [])
 good_waiting sent i log waiting m h n g = record {
   released = g.released;
   made = g.made;
   decided = g.decided;
   log_sent = g.log_sent;
-  waiting_sent = λ u k. ⊎_elim (λ a. g.waiting_sent u a) (λ e. subst (λ x. Has (Mail x) sent) (sym e) h) (push_cases u m waiting k);
+  waiting_sent = λ u k. ⊎_elim (λ a. g.waiting_sent u a) (λ e. subst (λ x. Has (packet.Msg x) sent) (sym e) h) (push_cases u m waiting k);
   waiting_others =
       λ u k o. ⊎_elim (λ a. g.waiting_others u a o) (λ e. n (ap (λ (x : Message). x.stamp.id.site) (sym e) ∙ o)) (push_cases u m waiting k);
 }
 
-sound_came : (w : World) (i : ℕ) (m : Message) → i < length w.sites → Has (Mail m) w.sent → (m.stamp.id.site ≡ i → ⊥) → Sound w
+sound_came : (w : World) (i : ℕ) (m : Message) → i < length w.sites → Has (packet.Msg m) w.sent → (m.stamp.id.site ≡ i → ⊥) → Sound w
     → Sound (record { sites = set w.sites i (came w i m); sent = w.sent })
 unfolding came
 sound_came w i m l h n s = record {
@@ -303,7 +307,7 @@ module _ (keep : ℕ) (w : World) (i : ℕ) (l : i < length w.sites) (s : Sound 
   back : Sound (with_site w i (site w i))
   back = subst Sound (sym (same_world w i)) s
 
-  mail_keeps : (m : Message) → Has (Mail m) w.sent → Sound (with_site w i (arrived (place keep w i) (site w i) m).0)
+  mail_keeps : (m : Message) → Has (packet.Msg m) w.sent → Sound (with_site w i (arrived (place keep w i) (site w i) m).0)
   unfolding came
   mail_keeps m h =
       cond_both (not_ours (place keep w i) (site w i) m) (site w i, Err NotOurs) _ (λ (p : Replica × Result Arrival Refusal). Sound (with_site w i p.0)) (λ _. back)
@@ -311,7 +315,7 @@ module _ (keep : ℕ) (w : World) (i : ℕ) (l : i < length w.sites) (s : Sound 
       (λ new. cond_both (is_full keep (site w i)) (site w i, Err Full) _ (λ (p : Replica × Result Arrival Refusal). Sound (with_site w i p.0)) (λ _. back)
       (λ _. sound_came w i m l h (foreign w i m h new s) s)))
 
-  token_keeps : (t : Token) → Has (Right t) w.sent → Sound (with_site w i (took (place keep w i) (site w i) t).0)
+  token_keeps : (t : Token) → Has (packet.Token t) w.sent → Sound (with_site w i (took (place keep w i) (site w i) t).0)
   unfolding quiet
   token_keeps t h =
       cond_both (not (t.to == i)) (site w i, Err NotForMe) _ (λ (p : Replica × Result Taken Refusal). Sound (with_site w i p.0)) (λ _. back)
@@ -324,20 +328,20 @@ module _ (keep : ℕ) (w : World) (i : ℕ) (l : i < length w.sites) (s : Sound 
       is_late : (a b : ℕ) → nat_le a b ≡ false → b < a
       is_late a b e = grind (arith, nat_tests)
 
-  coming_keeps : (o : Option Packet) → ((p : Packet) → o ≡ Some p → Has p w.sent) → Sound (coming keep w i o)
+  coming_keeps : (o : Option Packet) → ((p : Packet) → o ≡ Some p → Has p w.sent) → Sound (coming keep w i o).0
   coming_keeps None h = s
-  coming_keeps (Some (Mail m)) h = mail_keeps m (h (Mail m) refl)
-  coming_keeps (Some (Right t)) h = token_keeps t (h (Right t) refl)
+  coming_keeps (Some (packet.Msg m)) h = mail_keeps m (h (packet.Msg m) refl)
+  coming_keeps (Some (packet.Token t)) h = token_keeps t (h (packet.Token t) refl)
 
   refused : Sound (record { sites = slice_set w.sites i (site w i); sent = w.sent ++ [] })
   refused = subst Sound (sym (nothing_sent w i)) s
 
-  passing_keeps : (to : ℕ) (o : Option ℕ) → (site w i).held ≡ o → Sound (answering Right w i (passing (place keep w i) (site w i) to o))
+  passing_keeps : (to : ℕ) (o : Option ℕ) → (site w i).held ≡ o → Sound (answering packet.Token w i (passing (place keep w i) (site w i) to o))
   unfolding quiet
   passing_keeps to None e = refused
   passing_keeps to (Some issued) e =
-      cond_both (nat_le (length w.sites) to || (to == i)) (site w i, Err BadTarget) _ (λ (p : Replica × Result Token Refusal). Sound (answering Right w i p)) (λ _. refused)
-      (λ there. cond_both (nat_le 1000000000 (site w i).last) (site w i, Err LastTurn) _ (λ (p : Replica × Result Token Refusal). Sound (answering Right w i p)) (λ _. refused)
+      cond_both (nat_le (length w.sites) to || (to == i)) (site w i, Err BadTarget) _ (λ (p : Replica × Result Token Refusal). Sound (answering packet.Token w i p)) (λ _. refused)
+      (λ there. cond_both (nat_le 1000000000 (site w i).last) (site w i, Err LastTurn) _ (λ (p : Replica × Result Token Refusal). Sound (answering packet.Token w i p)) (λ _. refused)
       (λ _. sound_passed w i to issued e l (is_there (length w.sites) to (or_parts (nat_le (length w.sites) to) (to == i) there).0) s))
     where
       is_there : (n to : ℕ) → nat_le n to ≡ false → to < n
@@ -352,7 +356,7 @@ module _ (keep : ℕ) (w : World) (i : ℕ) (l : i < length w.sites) (s : Sound 
 
     made_keeps : (x : Shadow) → decision (rows_at (site w i).log) (standing_of keep (site w i)) ask ≡ Ok x → (b : Bool) → is_red x ≡ b
         → (o : Option ℕ) → (site w i).held ≡ o
-        → Sound (record { sites = set w.sites i (after_made (place keep w i) (site w i) x); sent = w.sent ++ Mail (made (place keep w i) (site w i) x) ∷ [] })
+        → Sound (record { sites = set w.sites i (after_made (place keep w i) (site w i) x); sent = w.sent ++ packet.Msg (made (place keep w i) (site w i) x) ∷ [] })
     made_keeps x e false r o h =
         let none : red_for x (site w i).held ≡ 0 = ap (λ b. cond b (unwrap_or (site w i).held 0 + 1) 0) r in
         sound_blue keep w i x l none (ap (λ b. cond b (option_map (λ issued. issued + 1) (site w i).held) (site w i).held) r)
@@ -369,31 +373,52 @@ module _ (keep : ℕ) (w : World) (i : ℕ) (l : i < length w.sites) (s : Sound 
         positive n = grind (arith, nat_tests)
 
     asking_keeps : (a : Result Shadow Refusal) → decision (rows_at (site w i).log) (standing_of keep (site w i)) ask ≡ a
-        → Sound (answering Mail w i (generating (place keep w i) (site w i) a))
+        → Sound (answering packet.Msg w i (generating (place keep w i) (site w i) a))
     asking_keeps (Err r) e = refused
     asking_keeps (Ok x) e = made_keeps x e (is_red x) refl (site w i).held refl
 
-pub event_keeps : (keep : ℕ) → keep ≤ 1000000 → (w : World) (e : Event) → IsEvent (length w.sites) e → Sound w → Sound (happens keep w e)
-event_keeps keep few w (Request i ask) a s =
-    asking_keeps keep w i a.0 s few ask a.1 (decision (rows_at (site w i).log) (standing_of keep (site w i)) ask) refl
-event_keeps keep few w (Pass i to) a s = passing_keeps keep w i a s to (site w i).held refl
-event_keeps keep few w (Deliver i k) a s = coming_keeps keep w i a s (slice_get w.sent k) (has_get w.sent k)
+-- where there is no such site, nothing happens
+pub at_one : (P : World → Type 0) (w : World) (i : ℕ) (step : World × Result Happened Refusal) → P w → (i < length w.sites → P step.0)
+    → P (at_site w i step).0
+at_one P w i step old new = cond_both (nat_lt i (length w.sites)) step _ (λ (p : World × Result Happened Refusal). P p.0) (λ l. new (ltb-true i (length w.sites) l)) (λ _. old)
+
+pub has_packet : (sent : List Packet) (k : ℕ) (p : Packet) → packet_at sent k ≡ Some p → Has p sent
+has_packet sent zero p e = absurd (cc)
+has_packet sent (suc k) p e = has_get sent k p e
+
+requested_keeps : (keep : ℕ) → keep ≤ 1000000 → (w : World) (i : ℕ) (r : Request) → IsEvent (length w.sites) (At i r) → i < length w.sites → Sound w
+    → Sound (requested keep w i r).0
+requested_keeps keep few w i (request.Ask ask) a l s =
+    asking_keeps keep w i l s few ask a (decision (rows_at (site w i).log) (standing_of keep (site w i)) ask) refl
+requested_keeps keep few w i (request.Pass to) a l s = passing_keeps keep w i l s to (site w i).held refl
+requested_keeps keep few w i (request.List listing) a l s = s
+
+pub event_keeps : (keep : ℕ) → keep ≤ 1000000 → (w : World) (e : Event) → IsEvent (length w.sites) e → Sound w → Sound (happens keep w e).0
+event_keeps keep few w (At i r) a s = at_one Sound w i (requested keep w i r) s (λ l. requested_keeps keep few w i r a l s)
+event_keeps keep few w (Deliver i k) a s =
+    at_one Sound w i (coming keep w i (packet_at w.sent k)) s (λ l. coming_keeps keep w i l s (packet_at w.sent k) (has_packet w.sent k))
 
 -- ---- as many sites as before
-coming_sites : (keep : ℕ) (w : World) (i : ℕ) (o : Option Packet) → length (coming keep w i o).sites ≡ length w.sites
+coming_sites : (keep : ℕ) (w : World) (i : ℕ) (o : Option Packet) → length (coming keep w i o).0.sites ≡ length w.sites
 coming_sites keep w i None = refl
-coming_sites keep w i (Some (Mail m)) = length-set w.sites i _
-coming_sites keep w i (Some (Right t)) = length-set w.sites i _
+coming_sites keep w i (Some (packet.Msg m)) = length-set w.sites i _
+coming_sites keep w i (Some (packet.Token t)) = length-set w.sites i _
 
-pub event_sites : (keep : ℕ) (w : World) (e : Event) → length (happens keep w e).sites ≡ length w.sites
-event_sites keep w (Request i ask) = length-set w.sites i _
-event_sites keep w (Pass i to) = length-set w.sites i _
-event_sites keep w (Deliver i k) = coming_sites keep w i (slice_get w.sent k)
+requested_sites : (keep : ℕ) (w : World) (i : ℕ) (r : Request) → length (requested keep w i r).0.sites ≡ length w.sites
+requested_sites keep w i (request.Ask ask) = length-set w.sites i _
+requested_sites keep w i (request.Pass to) = length-set w.sites i _
+requested_sites keep w i (request.List l) = refl
+
+pub event_sites : (keep : ℕ) (w : World) (e : Event) → length (happens keep w e).0.sites ≡ length w.sites
+event_sites keep w (At i r) =
+    at_one (λ v. length v.sites ≡ length w.sites) w i (requested keep w i r) refl (λ _. requested_sites keep w i r)
+event_sites keep w (Deliver i k) =
+    at_one (λ v. length v.sites ≡ length w.sites) w i (coming keep w i (packet_at w.sent k)) refl (λ _. coming_sites keep w i (packet_at w.sent k))
 
 pub run_keeps : (keep : ℕ) → keep ≤ 1000000 → (es : List Event) (w : World) → AreEvents (length w.sites) es → Sound w → Sound (run keep es w)
 run_keeps keep few [] w a s = s
 run_keeps keep few (e ∷ es) w a s =
-    run_keeps keep few es (happens keep w e) (subst (λ n. AreEvents n es) (sym (event_sites keep w e)) a.1) (event_keeps keep few w e a.0 s)
+    run_keeps keep few es (happens keep w e).0 (subst (λ n. AreEvents n es) (sym (event_sites keep w e)) a.1) (event_keeps keep few w e a.0 s)
 
 -- ---- the start
 pub start_sites : (n : ℕ) → length (start n).sites ≡ n

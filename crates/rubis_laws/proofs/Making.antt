@@ -12,9 +12,9 @@ use Rattle.rubis_model.specs.Order.{Decided, Precedes, Released}
 use Rattle.rubis_model.specs.Settle.{counted, reds, Ready, Has}
 use Rattle.rubis_model.specs.Sound.{DecidedBy, CountedBy, red_count, turns, Good, Reds}
 use Rattle.rubis_message.specs.declared.tokens.Token.{Token}
-use Rattle.rubis_model.specs.System.{Packet}
+use Rattle.rubis_message.specs.declared.tokens.Packet.{Packet}
 use Rattle.rubis_model.specs.Site.{Place, Replica, made, red_for}
-use Rattle.rubis_model.specs.System.Packet.{Mail, Right}
+use Rattle.rubis_message.specs.declared.tokens.Packet.TheVariants as packet
 use Rattle.rubis_model.proofs.Pasts.{counted_no, seq_within, found_red}
 use Rattle.rubis_model.proofs.Settling.{counted_reverse, reds_reverse, reverse_push}
 use Rattle.rubis_model.proofs.Lists.{has_left, has_last, push_cases}
@@ -33,42 +33,42 @@ good_more sent p i log waiting g = record {
   released = g.released;
   made = g.made;
   decided = g.decided;
-  log_sent = λ m h. has_left (Mail m) sent (p ∷ []) (g.log_sent m h);
-  waiting_sent = λ m h. has_left (Mail m) sent (p ∷ []) (g.waiting_sent m h);
+  log_sent = λ m h. has_left (packet.Msg m) sent (p ∷ []) (g.log_sent m h);
+  waiting_sent = λ m h. has_left (packet.Msg m) sent (p ∷ []) (g.waiting_sent m h);
   waiting_others = g.waiting_others;
 }
 
-pub shadow_cases : (u m : Message) (sent : List Packet) → Has (Mail u) (sent ++ Mail m ∷ []) → Has (Mail u) sent ⊎ (u ≡ m)
-shadow_cases u m sent h = ⊎_elim (λ k. inl k) (λ e. inr (cc)) (push_cases (Mail u) (Mail m) sent h)
+pub shadow_cases : (u m : Message) (sent : List Packet) → Has (packet.Msg u) (sent ++ packet.Msg m ∷ []) → Has (packet.Msg u) sent ⊎ (u ≡ m)
+shadow_cases u m sent h = ⊎_elim (λ k. inl k) (λ e. inr (cc)) (push_cases (packet.Msg u) (packet.Msg m) sent h)
 
-pub not_right : (t : Token) (m : Message) (sent : List Packet) → Has (Right t) (sent ++ Mail m ∷ []) → Has (Right t) sent
-not_right t m sent h = ⊎_elim (λ k. k) (λ e. absurd (cc)) (push_cases (Right t) (Mail m) sent h)
+pub not_right : (t : Token) (m : Message) (sent : List Packet) → Has (packet.Token t) (sent ++ packet.Msg m ∷ []) → Has (packet.Token t) sent
+not_right t m sent h = ⊎_elim (λ k. k) (λ e. absurd (cc)) (push_cases (packet.Token t) (packet.Msg m) sent h)
 
-pub not_shadow : (t : Token) (m : Message) (sent : List Packet) → Has (Mail m) (sent ++ Right t ∷ []) → Has (Mail m) sent
-not_shadow t m sent h = ⊎_elim (λ k. k) (λ e. absurd (cc)) (push_cases (Mail m) (Right t) sent h)
+pub not_shadow : (t : Token) (m : Message) (sent : List Packet) → Has (packet.Msg m) (sent ++ packet.Token t ∷ []) → Has (packet.Msg m) sent
+not_shadow t m sent h = ⊎_elim (λ k. k) (λ e. absurd (cc)) (push_cases (packet.Msg m) (packet.Token t) sent h)
 
-pub right_cases : (u t : Token) (sent : List Packet) → Has (Right u) (sent ++ Right t ∷ []) → Has (Right u) sent ⊎ (u ≡ t)
-right_cases u t sent h = ⊎_elim (λ k. inl k) (λ e. inr (cc)) (push_cases (Right u) (Right t) sent h)
+pub right_cases : (u t : Token) (sent : List Packet) → Has (packet.Token u) (sent ++ packet.Token t ∷ []) → Has (packet.Token u) sent ⊎ (u ≡ t)
+right_cases u t sent h = ⊎_elim (λ k. inl k) (λ e. inr (cc)) (push_cases (packet.Token u) (packet.Token t) sent h)
 
-pub red_count_shadow : (sent : List Packet) (m : Message) → red_count (sent ++ Mail m ∷ []) ≡ red_count sent + cond (nat_lt 0 m.stamp.red) 1 0
+pub red_count_shadow : (sent : List Packet) (m : Message) → red_count (sent ++ packet.Msg m ∷ []) ≡ red_count sent + cond (nat_lt 0 m.stamp.red) 1 0
 red_count_shadow [] m = refl
-red_count_shadow (Mail u ∷ ps) m = let e = red_count_shadow ps m in omega arith
-red_count_shadow (Right t ∷ ps) m = red_count_shadow ps m
+red_count_shadow (packet.Msg u ∷ ps) m = let e = red_count_shadow ps m in omega arith
+red_count_shadow (packet.Token t ∷ ps) m = red_count_shadow ps m
 
-pub red_count_right : (sent : List Packet) (t : Token) → red_count (sent ++ Right t ∷ []) ≡ red_count sent
+pub red_count_right : (sent : List Packet) (t : Token) → red_count (sent ++ packet.Token t ∷ []) ≡ red_count sent
 red_count_right [] t = refl
-red_count_right (Mail u ∷ ps) t = let e = red_count_right ps t in omega arith
-red_count_right (Right v ∷ ps) t = red_count_right ps t
+red_count_right (packet.Msg u ∷ ps) t = let e = red_count_right ps t in omega arith
+red_count_right (packet.Token v ∷ ps) t = red_count_right ps t
 
-pub turns_shadow : (sent : List Packet) (m : Message) → turns (sent ++ Mail m ∷ []) ≡ turns sent
+pub turns_shadow : (sent : List Packet) (m : Message) → turns (sent ++ packet.Msg m ∷ []) ≡ turns sent
 turns_shadow [] m = refl
-turns_shadow (Mail u ∷ ps) m = turns_shadow ps m
-turns_shadow (Right t ∷ ps) m = let e = turns_shadow ps m in omega arith
+turns_shadow (packet.Msg u ∷ ps) m = turns_shadow ps m
+turns_shadow (packet.Token t ∷ ps) m = let e = turns_shadow ps m in omega arith
 
-pub turns_right : (sent : List Packet) (t : Token) → turns (sent ++ Right t ∷ []) ≡ turns sent + 1
+pub turns_right : (sent : List Packet) (t : Token) → turns (sent ++ packet.Token t ∷ []) ≡ turns sent + 1
 turns_right [] t = refl
-turns_right (Mail u ∷ ps) t = turns_right ps t
-turns_right (Right v ∷ ps) t = let e = turns_right ps t in omega arith
+turns_right (packet.Msg u ∷ ps) t = turns_right ps t
+turns_right (packet.Token v ∷ ps) t = let e = turns_right ps t in omega arith
 
 -- ---- what a site makes
 counted_zero : (j : ℕ) (log : List Message) → ((m : Message) → Has m log → m.stamp.id.site ≡ j → ⊥) → counted j log ≡ 0
@@ -105,14 +105,14 @@ made_ready i log m k = record {
 
 -- a good site makes a message
 pub good_make : (sent : List Packet) (i : ℕ) (log waiting : List Message) (m : Message) → IsMade i log m → Good sent i log waiting
-    → Good (sent ++ Mail m ∷ []) i (log ++ m ∷ []) waiting
+    → Good (sent ++ packet.Msg m ∷ []) i (log ++ m ∷ []) waiting
 good_make sent i log waiting m k g = record {
   released = subst Released (sym (reverse_push log m)) (made_ready i log m k, g.released);
   made = subst (CountedBy i) (sym (reverse_push log m)) ((λ e j. k.deps j ∙ sym (counted_reverse j log)), g.made);
   decided = subst (DecidedBy i) (sym (reverse_push log m)) ((λ e. k.decided), g.decided);
   log_sent =
-      λ u h. ⊎_elim (λ e. subst (λ x. Has (Mail x) (sent ++ Mail m ∷ [])) (sym e) (has_last (Mail m) sent)) (λ q. has_left (Mail u) sent (Mail m ∷ []) (g.log_sent u q)) (subst (Has u) (reverse_push log m) h);
-  waiting_sent = λ u h. has_left (Mail u) sent (Mail m ∷ []) (g.waiting_sent u h);
+      λ u h. ⊎_elim (λ e. subst (λ x. Has (packet.Msg x) (sent ++ packet.Msg m ∷ [])) (sym e) (has_last (packet.Msg m) sent)) (λ q. has_left (packet.Msg u) sent (packet.Msg m ∷ []) (g.log_sent u q)) (subst (Has u) (reverse_push log m) h);
+  waiting_sent = λ u h. has_left (packet.Msg u) sent (packet.Msg m ∷ []) (g.waiting_sent u h);
   waiting_others = g.waiting_others;
 }
 
@@ -123,16 +123,16 @@ one_if_red m l = grind (arith, nat_tests)
 none_if_blue : (m : Message) → m.stamp.red ≡ 0 → cond {A = ℕ} (nat_lt 0 m.stamp.red) 1 0 ≡ 0
 none_if_blue m l = grind (arith, nat_tests)
 
-pub red_count_blue : (sent : List Packet) (m : Message) → m.stamp.red ≡ 0 → red_count (sent ++ Mail m ∷ []) ≡ red_count sent
+pub red_count_blue : (sent : List Packet) (m : Message) → m.stamp.red ≡ 0 → red_count (sent ++ packet.Msg m ∷ []) ≡ red_count sent
 red_count_blue sent m e = omega (arith, red_count_shadow sent m, none_if_blue m e)
 
-pub red_count_red : (sent : List Packet) (m : Message) → 0 < m.stamp.red → red_count (sent ++ Mail m ∷ []) ≡ red_count sent + 1
+pub red_count_red : (sent : List Packet) (m : Message) → 0 < m.stamp.red → red_count (sent ++ packet.Msg m ∷ []) ≡ red_count sent + 1
 red_count_red sent m e = omega (arith, red_count_shadow sent m, one_if_red m e)
 
 red_same : (u v : Message) → u ≡ v → u.stamp.red ≡ v.stamp.red
 red_same u v e = ap (λ (x : Message). x.stamp.red) e
 
-pub reds_blue : (sent : List Packet) (m : Message) → m.stamp.red ≡ 0 → Reds sent → Reds (sent ++ Mail m ∷ [])
+pub reds_blue : (sent : List Packet) (m : Message) → m.stamp.red ≡ 0 → Reds sent → Reds (sent ++ packet.Msg m ∷ [])
 reds_blue sent m blue r = record {
   small = λ u h. ⊎_elim (λ k. omega (arith, r.small u k, same)) (λ e. omega (arith, red_same u m e)) (shadow_cases u m sent h);
   single = λ u v hu hv l e. ⊎_elim
@@ -141,15 +141,15 @@ reds_blue sent m blue r = record {
   ordered = λ u v hu hv l e. ⊎_elim
       (λ a. ⊎_elim (λ b. r.ordered u v a b l e) (λ f. absurd (omega (arith, red_same v m f))) (shadow_cases v m sent hv))
       (λ f. absurd (omega (arith, red_same u m f))) (shadow_cases u m sent hu);
-  each = λ q l h. let f = r.each q l (subst (λ x. q ≤ x) same h) in (f.0, has_left (Mail f.0) sent (Mail m ∷ []) f.1, f.2);
+  each = λ q l h. let f = r.each q l (subst (λ x. q ≤ x) same h) in (f.0, has_left (packet.Msg f.0) sent (packet.Msg m ∷ []) f.1, f.2);
 }
   where
-    same : red_count (sent ++ Mail m ∷ []) ≡ red_count sent
+    same : red_count (sent ++ packet.Msg m ∷ []) ≡ red_count sent
     same = red_count_blue sent m blue
 
 -- all red ones so far are in a log that has as many
 red_there : (sent : List Packet) (i : ℕ) (log waiting : List Message) (u : Message) → Good sent i log waiting → Reds sent → reds log ≡ red_count sent
-    → Has (Mail u) sent → 0 < u.stamp.red → u.stamp.id.seq ≤ counted u.stamp.id.site log
+    → Has (packet.Msg u) sent → 0 < u.stamp.red → u.stamp.id.seq ≤ counted u.stamp.id.site log
 red_there sent i log waiting u g r full h l =
     let few : u.stamp.red ≤ reds (reverse log) = omega (arith, r.small u h, reds_reverse log) in
     let f = found_red (reverse log) u.stamp.red g.released l few in
@@ -158,7 +158,7 @@ red_there sent i log waiting u g r full h l =
     omega (arith, within.1, counted_reverse u.stamp.id.site log)
 
 pub reds_red : (sent : List Packet) (i : ℕ) (log waiting : List Message) (m : Message) → Good sent i log waiting → reds log ≡ red_count sent
-    → IsMade i log m → m.stamp.red ≡ red_count sent + 1 → Reds sent → Reds (sent ++ Mail m ∷ [])
+    → IsMade i log m → m.stamp.red ≡ red_count sent + 1 → Reds sent → Reds (sent ++ packet.Msg m ∷ [])
 reds_red sent i log waiting m g full k number r = record {
   small = λ u h. ⊎_elim (λ a. omega (arith, r.small u a, more)) (λ e. omega (arith, red_same u m e, more)) (shadow_cases u m sent h);
   single = λ u v hu hv l e. ⊎_elim
@@ -168,25 +168,25 @@ reds_red sent i log waiting m g full k number r = record {
       (λ a. ⊎_elim (λ b. r.ordered u v a b l e) (λ f. before u v a l f) (shadow_cases v m sent hv))
       (λ f. ⊎_elim (λ b. absurd (omega (arith, red_same u m f, r.small v b))) (λ q. absurd (omega (arith, red_same u m f, red_same v m q))) (shadow_cases v m sent hv)) (shadow_cases u m sent hu);
   each = λ q l h. ⊎_elim
-      (λ b. let f = r.each q l b in (f.0, has_left (Mail f.0) sent (Mail m ∷ []) f.1, f.2))
-      (λ b. (m, has_last (Mail m) sent, omega (arith, more)))
+      (λ b. let f = r.each q l b in (f.0, has_left (packet.Msg f.0) sent (packet.Msg m ∷ []) f.1, f.2))
+      (λ b. (m, has_last (packet.Msg m) sent, omega (arith, more)))
       (le_cases q (red_count sent));
 }
   where
-    more : red_count (sent ++ Mail m ∷ []) ≡ red_count sent + 1
+    more : red_count (sent ++ packet.Msg m ∷ []) ≡ red_count sent + 1
     more = red_count_red sent m (omega arith)
 
-    before : (u v : Message) → Has (Mail u) sent → 0 < u.stamp.red → v ≡ m → Precedes u v
+    before : (u v : Message) → Has (packet.Msg u) sent → 0 < u.stamp.red → v ≡ m → Precedes u v
     before u v h l e = subst (λ x. Precedes u x) (sym e) (omega (arith, red_there sent i log waiting u g r full h l, k.deps u.stamp.id.site))
 
     le_cases : (a b : ℕ) → (a ≤ b) ⊎ (b < a)
     le_cases a b = ⊎_elim (λ x. inr x) (λ x. inl x) (cases_lt b a)
 
 -- no shadow more
-pub reds_token : (sent : List Packet) (t : Token) → Reds sent → Reds (sent ++ Right t ∷ [])
+pub reds_token : (sent : List Packet) (t : Token) → Reds sent → Reds (sent ++ packet.Token t ∷ [])
 reds_token sent t r = record {
   small = λ u h. omega (arith, r.small u (not_shadow t u sent h), red_count_right sent t);
   single = λ u v hu hv. r.single u v (not_shadow t u sent hu) (not_shadow t v sent hv);
   ordered = λ u v hu hv. r.ordered u v (not_shadow t u sent hu) (not_shadow t v sent hv);
-  each = λ q l h. let f = r.each q l (subst (λ x. q ≤ x) (red_count_right sent t) h) in (f.0, has_left (Mail f.0) sent (Right t ∷ []) f.1, f.2);
+  each = λ q l h. let f = r.each q l (subst (λ x. q ≤ x) (red_count_right sent t) h) in (f.0, has_left (packet.Msg f.0) sent (packet.Token t ∷ []) f.1, f.2);
 }

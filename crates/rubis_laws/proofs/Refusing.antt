@@ -1,6 +1,7 @@
 -- What a site refuses, or has had before, changes nothing.
-use Rattle.std.proofs.Common.{ℕ, ◌≡◌, ◌-◌, ◌++◌, length, Bool, true, false, cond, refl, ap, ◌∙◌, Option, Some, None}
-use Rattle.std.specs.Prelude.{slice_set, nat_le, not, ◌||◌, ◌==◌, Result, Ok, Err}
+use Rattle.std.proofs.Common.{ℕ, ◌≡◌, ◌-◌, List, ◌++◌, length, Bool, true, false, cond, refl, ap, ◌∙◌, Option, Some, None}
+use Rattle.std.specs.Prelude.{slice_set, nat_le, nat_lt, not, ◌||◌, ◌==◌, Result, Ok, Err}
+use Rattle.std.proofs.lemmas.Bool.{cond_both}
 use Rattle.rubis_schema.specs.declared.refusals.Refusal.{Refusal}
 use Rattle.rubis_schema.specs.declared.refusals.Refusal.TheVariants.{Full, BadTarget, LastTurn, NotOurs, NotForMe}
 use Rattle.rubis_shadow.specs.declared.shadows.Shadow.{Shadow}
@@ -12,8 +13,14 @@ use Rattle.rubis_message.specs.declared.answers.Taken.{Taken}
 use Rattle.rubis_message.specs.declared.answers.Taken.TheVariants as taken
 use Rattle.rubis_generate.specs.Decision.{decision}
 use Rattle.rubis_model.specs.Site.{Place, Replica, generating, asked, arrived, took, passing, passed, rows_at, standing_of, not_ours, is_repeat, is_full, after_came, arrival_of, token_for}
-use Rattle.rubis_model.specs.System.{Packet, World, site, place, with_site, answering, sending, coming}
-use Rattle.rubis_model.specs.System.Packet.{Mail, Right}
+use Rattle.rubis_message.specs.declared.answers.Happened.{Happened}
+use Rattle.rubis_message.specs.declared.answers.Happened.TheVariants as happened
+use Rattle.rubis_message.specs.declared.requests.Request.{Request}
+use Rattle.rubis_message.specs.declared.requests.Request.TheVariants as request
+use Rattle.rubis_message.specs.declared.tokens.Packet.{Packet}
+use Rattle.rubis_model.specs.System.{World, Event, site, place, with_site, packet_at, next_number, answering, saying, sending, sends, takes, requested, coming, at_site, happens}
+use Rattle.rubis_model.specs.System.Event.{At, Deliver}
+use Rattle.rubis_message.specs.declared.tokens.Packet.TheVariants as packet
 use Rattle.rubis_model.specs.Laws.{RefusalsChangeNothing}
 use Rattle.rubis_laws.proofs.Keeps.{same_world, nothing_sent}
 
@@ -83,6 +90,17 @@ pub take_repeated : (p : Place) (s : Replica) (t : Token) → (took p s t).1 ≡
 take_repeated p s t e = token_repeated (not (t.to == p.site)) (nat_le t.turn s.last) s (record s { held = Some t.issued; last = t.turn }) e
 
 -- ---- in the world
+said : {A : Type 0} (word : A → Happened) (x : Result A Refusal) (r : Refusal) → saying word x ≡ Err r → x ≡ Err r
+said word (Ok a) r e = absurd (cc)
+said word (Err k) r e = cc
+
+-- an event that changes nothing where its answer is one of these
+abbrev pub Quiet : World → World × Result Happened Refusal → Type 0
+Quiet w p = ((r : Refusal) → p.1 ≡ Err r → p.0 ≡ w)
+    × (p.1 ≡ Ok (happened.Came arrival.Repeat) → p.0 ≡ w)
+    × (p.1 ≡ Ok (happened.Token taken.Repeat) → p.0 ≡ w)
+    × ((rows : List (List (List ℕ))) → p.1 ≡ Ok (happened.Rows rows) → p.0 ≡ w)
+
 no_answer : {A : Type 0} (pack : A → Packet) (w : World) (i : ℕ) (p : Replica × Result A Refusal) (r : Refusal) → p.0 ≡ site w i → p.1 ≡ Err r
     → answering pack w i p ≡ w
 no_answer pack w i p r e f = (λ j. record { sites = slice_set w.sites i (e j); sent = w.sent ++ sending pack (f j) }) ∙ nothing_sent w i
@@ -90,15 +108,64 @@ no_answer pack w i p r e f = (λ j. record { sites = slice_set w.sites i (e j); 
 same_state : (w : World) (i : ℕ) (s : Replica) → s ≡ site w i → with_site w i s ≡ w
 same_state w i s e = ap (with_site w i) e ∙ same_world w i
 
-pub refusals_change_nothing : RefusalsChangeNothing
-refusals_change_nothing keep w i =
+-- what is sent is nothing else
+sent_only : {A : Type 0} (n : ℕ) (x : Result A Refusal) (h : Happened) → saying (λ _. happened.Sent n) x ≡ Ok h → h ≡ happened.Sent n
+sent_only n (Ok a) h e = cc
+sent_only n (Err r) h e = absurd (cc)
+
+sends_quiet : {A : Type 0} (pack : A → Packet) (w : World) (i : ℕ) (p : Replica × Result A Refusal)
+    → ((r : Refusal) → p.1 ≡ Err r → p.0 ≡ site w i) → Quiet w (sends pack w i p)
+sends_quiet pack w i p same = (
+  λ r e. let f = said (λ _. happened.Sent (next_number w)) p.1 r e in no_answer pack w i p r (same r f) f,
+  λ e. absurd (let f = sent_only (next_number w) p.1 (happened.Came arrival.Repeat) e in cc),
+  λ e. absurd (let f = sent_only (next_number w) p.1 (happened.Token taken.Repeat) e in cc),
+  λ rows e. absurd (let f = sent_only (next_number w) p.1 (happened.Rows rows) e in cc),
+)
+
+came_only : (x : Result Arrival Refusal) (h : Happened) → saying happened.Came x ≡ Ok h → (a : Arrival) × (x ≡ Ok a) × (h ≡ happened.Came a)
+came_only (Ok a) h e = (a, refl, cc)
+came_only (Err r) h e = absurd (cc)
+
+token_only : (x : Result Taken Refusal) (h : Happened) → saying happened.Token x ≡ Ok h → (a : Taken) × (x ≡ Ok a) × (h ≡ happened.Token a)
+token_only (Ok a) h e = (a, refl, cc)
+token_only (Err r) h e = absurd (cc)
+
+mail_quiet : (keep : ℕ) (w : World) (i : ℕ) (m : Message) → Quiet w (takes happened.Came w i (arrived (place keep w i) (site w i) m))
+mail_quiet keep w i m = let p = place keep w i in let s = site w i in let x = (arrived p s m).1 in (
+  λ r e. same_state w i (arrived p s m).0 (arrival_refused p s m r (said happened.Came x r e)),
+  λ e. let f = came_only x (happened.Came arrival.Repeat) e in same_state w i (arrived p s m).0 (arrival_repeated p s m (cc)),
+  λ e. absurd (let f = came_only x (happened.Token taken.Repeat) e in let g = f.2 in cc),
+  λ rows e. absurd (let f = came_only x (happened.Rows rows) e in let g = f.2 in cc),
+)
+
+token_quiet : (keep : ℕ) (w : World) (i : ℕ) (t : Token) → Quiet w (takes happened.Token w i (took (place keep w i) (site w i) t))
+token_quiet keep w i t = let p = place keep w i in let s = site w i in let x = (took p s t).1 in (
+  λ r e. same_state w i (took p s t).0 (take_refused p s t r (said happened.Token x r e)),
+  λ e. absurd (let f = token_only x (happened.Came arrival.Repeat) e in let g = f.2 in cc),
+  λ e. let f = token_only x (happened.Token taken.Repeat) e in same_state w i (took p s t).0 (take_repeated p s t (cc)),
+  λ rows e. absurd (let f = token_only x (happened.Rows rows) e in let g = f.2 in cc),
+)
+
+coming_quiet : (keep : ℕ) (w : World) (i : ℕ) (o : Option Packet) → Quiet w (coming keep w i o)
+coming_quiet keep w i None = (λ r e. refl, λ e. refl, λ e. refl, λ rows e. refl)
+coming_quiet keep w i (Some (packet.Msg m)) = mail_quiet keep w i m
+coming_quiet keep w i (Some (packet.Token t)) = token_quiet keep w i t
+
+requested_quiet : (keep : ℕ) (w : World) (i : ℕ) (r : Request) → Quiet w (requested keep w i r)
+requested_quiet keep w i (request.Ask ask) =
     let p = place keep w i in
     let s = site w i in
-    record {
-      ask = λ ask r e. no_answer Mail w i (asked p s ask) r (ask_refused p s (decision (rows_at s.log) (standing_of keep s) ask) r e) e;
-      pass = λ to r e. no_answer Right w i (passed p s to) r (pass_refused p s to s.held r e) e;
-      mail = λ k m r g e. ap (coming keep w i) g ∙ same_state w i (arrived p s m).0 (arrival_refused p s m r e);
-      mail_again = λ k m g e. ap (coming keep w i) g ∙ same_state w i (arrived p s m).0 (arrival_repeated p s m e);
-      token = λ k t r g e. ap (coming keep w i) g ∙ same_state w i (took p s t).0 (take_refused p s t r e);
-      token_again = λ k t g e. ap (coming keep w i) g ∙ same_state w i (took p s t).0 (take_repeated p s t e);
-    }
+    sends_quiet packet.Msg w i (asked p s ask) (ask_refused p s (decision (rows_at s.log) (standing_of keep s) ask))
+requested_quiet keep w i (request.Pass to) =
+    sends_quiet packet.Token w i (passed (place keep w i) (site w i) to) (pass_refused (place keep w i) (site w i) to (site w i).held)
+requested_quiet keep w i (request.List l) = (λ r e. refl, λ e. refl, λ e. refl, λ rows e. refl)
+
+quiet_at : (w : World) (i : ℕ) (step : World × Result Happened Refusal) → Quiet w step → Quiet w (at_site w i step)
+quiet_at w i step q = cond_both (nat_lt i (length w.sites)) step _ (Quiet w) (λ _. q) (λ _. (λ r e. refl, λ e. refl, λ e. refl, λ rows e. refl))
+
+event_quiet : (keep : ℕ) (w : World) (e : Event) → Quiet w (happens keep w e)
+event_quiet keep w (At i r) = quiet_at w i (requested keep w i r) (requested_quiet keep w i r)
+event_quiet keep w (Deliver i k) = quiet_at w i (coming keep w i (packet_at w.sent k)) (coming_quiet keep w i (packet_at w.sent k))
+
+pub refusals_change_nothing : RefusalsChangeNothing
+refusals_change_nothing keep w e = let q = event_quiet keep w e in record { refused = q.0; came_again = q.1; token_again = q.2; listed = q.3 }

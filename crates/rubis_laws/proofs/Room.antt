@@ -16,14 +16,17 @@ use Rattle.rubis_message.specs.declared.answers.Taken.{Taken}
 use Rattle.rubis_message.specs.declared.answers.Taken.TheVariants as taken
 use Rattle.rubis_generate.specs.Decision.{decision}
 use Rattle.rubis_model.specs.Site.{Replica, opening_at, settled, made, after_made, issued_after, token_for, generating, rows_at, standing_of, not_ours, is_repeat, is_full, after_came, arrived, took, passing}
-use Rattle.rubis_model.specs.System.{Packet, World, Event, site, place, with_site, answering, coming, happens, run, start}
-use Rattle.rubis_model.specs.System.Packet.{Mail, Right}
-use Rattle.rubis_model.specs.System.Event.{Request, Pass, Deliver}
+use Rattle.rubis_message.specs.declared.requests.Request.{Request}
+use Rattle.rubis_message.specs.declared.requests.Request.TheVariants as request
+use Rattle.rubis_message.specs.declared.tokens.Packet.{Packet}
+use Rattle.rubis_model.specs.System.{World, Event, site, place, with_site, packet_at, answering, requested, coming, happens, run, start}
+use Rattle.rubis_message.specs.declared.tokens.Packet.TheVariants as packet
+use Rattle.rubis_model.specs.System.Event.{At, Deliver}
 use Rattle.rubis_model.specs.Sound.{Room}
 use Rattle.rubis_model.proofs.Settling.{settle_keeps}
 use Rattle.rubis_laws.proofs.Making.{set_at}
 use Rattle.rubis_laws.proofs.Deciding.{not_full}
-use Rattle.rubis_laws.proofs.Keeps.{start_at}
+use Rattle.rubis_laws.proofs.Keeps.{at_one, start_at}
 
 -- the site has at most so many
 abbrev Holds : ℕ → Replica → Type 0
@@ -45,18 +48,18 @@ under keep a b e = grind (arith, nat_tests)
 
 module _ (keep : ℕ) (w : World) (i : ℕ) (r : Room keep w) where
   room_asking : (ask : Ask) (a : Result Shadow Refusal) → decision (rows_at (site w i).log) (standing_of keep (site w i)) ask ≡ a
-      → Room keep (answering Mail w i (generating (place keep w i) (site w i) a))
+      → Room keep (answering packet.Msg w i (generating (place keep w i) (site w i) a))
   room_asking ask (Err k) e = room_set keep w i (site w i) (w.sent ++ []) r (r i)
   room_asking ask (Ok x) e =
-      room_set keep w i (after_made (place keep w i) (site w i) x) (w.sent ++ Mail (made (place keep w i) (site w i) x) ∷ []) r
+      room_set keep w i (after_made (place keep w i) (site w i) x) (w.sent ++ packet.Msg (made (place keep w i) (site w i) x) ∷ []) r
       (holds_settled keep (record (site w i) { log = (site w i).log ++ made (place keep w i) (site w i) x ∷ []; held = issued_after x (site w i).held }) (let l = under keep (length (site w i).log) (length (site w i).waiting) (not_full (rows_at (site w i).log) (standing_of keep (site w i)) ask x e) in omega (arith, l, length-append (site w i).log (made (place keep w i) (site w i) x ∷ []))))
 
-  room_passing : (to : ℕ) (o : Option ℕ) → Room keep (answering Right w i (passing (place keep w i) (site w i) to o))
+  room_passing : (to : ℕ) (o : Option ℕ) → Room keep (answering packet.Token w i (passing (place keep w i) (site w i) to o))
   room_passing to None = room_set keep w i (site w i) (w.sent ++ []) r (r i)
   room_passing to (Some issued) =
-      cond_both (nat_le (length w.sites) to || (to == i)) (site w i, Err BadTarget) _ (λ (p : Replica × Result Token Refusal). Room keep (answering Right w i p)) (λ _. room_set keep w i (site w i) (w.sent ++ []) r (r i))
-      (λ _. cond_both (nat_le 1000000000 (site w i).last) (site w i, Err LastTurn) _ (λ (p : Replica × Result Token Refusal). Room keep (answering Right w i p)) (λ _. room_set keep w i (site w i) (w.sent ++ []) r (r i))
-      (λ _. room_set keep w i (record (site w i) { held = None }) (w.sent ++ Right (token_for (site w i) to issued) ∷ []) r (r i)))
+      cond_both (nat_le (length w.sites) to || (to == i)) (site w i, Err BadTarget) _ (λ (p : Replica × Result Token Refusal). Room keep (answering packet.Token w i p)) (λ _. room_set keep w i (site w i) (w.sent ++ []) r (r i))
+      (λ _. cond_both (nat_le 1000000000 (site w i).last) (site w i, Err LastTurn) _ (λ (p : Replica × Result Token Refusal). Room keep (answering packet.Token w i p)) (λ _. room_set keep w i (site w i) (w.sent ++ []) r (r i))
+      (λ _. room_set keep w i (record (site w i) { held = None }) (w.sent ++ packet.Token (token_for (site w i) to issued) ∷ []) r (r i)))
 
   room_mail : (m : Message) → Room keep (with_site w i (arrived (place keep w i) (site w i) m).0)
   room_mail m =
@@ -72,19 +75,24 @@ module _ (keep : ℕ) (w : World) (i : ℕ) (r : Room keep w) where
       (λ _. cond_both (nat_le t.turn (site w i).last) (site w i, Ok taken.Repeat) _ (λ (p : Replica × Result Taken Refusal). Room keep (with_site w i p.0)) (λ _. room_set keep w i (site w i) w.sent r (r i))
       (λ _. room_set keep w i (record (site w i) { held = Some t.issued; last = t.turn }) w.sent r (r i)))
 
-  room_coming : (o : Option Packet) → Room keep (coming keep w i o)
+  room_coming : (o : Option Packet) → Room keep (coming keep w i o).0
   room_coming None = r
-  room_coming (Some (Mail m)) = room_mail m
-  room_coming (Some (Right t)) = room_token t
+  room_coming (Some (packet.Msg m)) = room_mail m
+  room_coming (Some (packet.Token t)) = room_token t
 
-pub room_event : (keep : ℕ) (w : World) (e : Event) → Room keep w → Room keep (happens keep w e)
-room_event keep w (Request i ask) r = room_asking keep w i r ask (decision (rows_at (site w i).log) (standing_of keep (site w i)) ask) refl
-room_event keep w (Pass i to) r = room_passing keep w i r to (site w i).held
-room_event keep w (Deliver i k) r = room_coming keep w i r (slice_get w.sent k)
+  room_requested : (q : Request) → Room keep (requested keep w i q).0
+  room_requested (request.Ask ask) = room_asking ask (decision (rows_at (site w i).log) (standing_of keep (site w i)) ask) refl
+  room_requested (request.Pass to) = room_passing to (site w i).held
+  room_requested (request.List l) = r
+
+pub room_event : (keep : ℕ) (w : World) (e : Event) → Room keep w → Room keep (happens keep w e).0
+room_event keep w (At i q) r = at_one (Room keep) w i (requested keep w i q) r (λ _. room_requested keep w i r q)
+room_event keep w (Deliver i k) r =
+    at_one (Room keep) w i (coming keep w i (packet_at w.sent k)) r (λ _. room_coming keep w i r (packet_at w.sent k))
 
 pub room_run : (keep : ℕ) (es : List Event) (w : World) → Room keep w → Room keep (run keep es w)
 room_run keep [] w r = r
-room_run keep (e ∷ es) w r = room_run keep es (happens keep w e) (room_event keep w e r)
+room_run keep (e ∷ es) w r = room_run keep es (happens keep w e).0 (room_event keep w e r)
 
 pub room_start : (keep n : ℕ) → Room keep (start n)
 room_start keep n = start_at (λ i x. length x.log + length x.waiting ≤ keep) (λ i. omega arith) (λ i. omega arith) n

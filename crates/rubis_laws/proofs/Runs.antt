@@ -8,14 +8,14 @@ use Rattle.rubis_model.specs.Log.{cores, fold_of}
 use Rattle.rubis_model.specs.Settle.{Has}
 use Rattle.rubis_model.specs.References.{RefersOf}
 use Rattle.rubis_model.specs.System.{World, Event, AreEvents, site, run, start}
-use Rattle.rubis_model.specs.Sound.{Sound, Room}
+use Rattle.rubis_model.specs.Sound.{AllDeliverable, Sound, Room}
 use Rattle.rubis_model.specs.Checks.{Checked}
 use Rattle.rubis_model.specs.Claims.{KeepInvariants}
 use Rattle.rubis_model.specs.Invariants.{Holds}
 use Rattle.rubis_model.specs.Logs.{Log}
 use Rattle.rubis_model.specs.Meaning.{IsMeaning, item_at}
 use Rattle.rubis_model.specs.Site.{rows_at}
-use Rattle.rubis_model.specs.Laws.{Sent, IsLogOf, InRun, RunsAreInOrder, RunsKeepInvariants, RunsAgreeOnTables, RunsMakeMessages}
+use Rattle.rubis_model.specs.Laws.{Sent, IsLogOf, InRun, RunsAreInOrder, RunsKeepInvariants, RunsAgreeOnTables, RunsSendDeliverables}
 use Rattle.rubis_laws.proofs.FoldIsMeaning.{fold_is_meaning}
 use Rattle.rubis_laws.proofs.EqualSets.{equal_sets_equal_tables}
 use Rattle.rubis_laws.proofs.Invariants.{checked_holds}
@@ -25,7 +25,7 @@ use Rattle.rubis_model.proofs.CoreLists.{cores_length}
 use Rattle.rubis_laws.proofs.LogsChecked.{log_checked, red_positive, one_each_back}
 use Rattle.rubis_laws.proofs.Keeps.{run_keeps, start_sound, start_sites}
 use Rattle.rubis_laws.proofs.Room.{room_run, room_start}
-use Rattle.rubis_laws.proofs.Formed.{run_formed}
+use Rattle.rubis_laws.proofs.Formed.{run_deliverable}
 use Rattle.rubis_laws.proofs.Winners.{Ground, one_nick, one_close, winner_is, row_winner, stock_left}
 use Rattle.rubis_laws.proofs.Referring.{refers_of}
 use Rattle.rubis_model.proofs.Lists.{has_back, has_reverse}
@@ -109,7 +109,8 @@ equal_tables n keep events some few a m kept later more less b i j same =
     (log_checked w i (sound_run n keep events some few a)) (log_checked v j (sound_run m kept later more less b))
     (short keep w i few (room_of n keep events)) (short kept v j less (room_of m kept later)) (same_cores (site w i).log (site v j).log same)
 
-pub every_message : RunsMakeMessages
-every_message n keep events some small few a =
+pub every_packet : RunsSendDeliverables
+every_packet n keep events some small few a =
     let same = start_sites n in
-    run_formed keep few events (start n) (omega (arith, same, small)) (subst (λ k. AreEvents k events) (sym same) a) (start_sound n some) (λ m h. absurd h)
+    subst (λ k. AllDeliverable k (run keep events (start n)).sent) same
+    (run_deliverable keep few events (start n) (omega (arith, same, small)) (subst (λ k. AreEvents k events) (sym same) a) (start_sound n some) (λ p h. absurd h))

@@ -5,9 +5,9 @@ use Rattle.std.proofs.lemmas.Option.{same_Some}
 use Rattle.rubis_message.specs.Message.{Message}
 use Rattle.rubis_model.specs.Settle.{Has}
 use Rattle.rubis_message.specs.declared.tokens.Token.{Token}
-use Rattle.rubis_model.specs.System.{Packet}
+use Rattle.rubis_message.specs.declared.tokens.Packet.{Packet}
 use Rattle.rubis_model.specs.Sound.{red_count, turns, Stands, Travels, OneToken}
-use Rattle.rubis_model.specs.System.Packet.{Mail, Right}
+use Rattle.rubis_message.specs.declared.tokens.Packet.TheVariants as packet
 use Rattle.rubis_laws.proofs.Making.{not_right, right_cases, red_count_right, turns_right, turns_shadow, red_count_red}
 use Rattle.rubis_model.proofs.Lists.{has_last}
 
@@ -23,7 +23,7 @@ held_is n held last sent i issued (inl t) e = ⊎_elim (here) (λ k. let a = t.1
 -- the same token, told of other functions and packets
 pub token_same : (n : ℕ) (held held' : ℕ → Option ℕ) (last last' : ℕ → ℕ) (sent sent' : List Packet)
     → ((i : ℕ) → held' i ≡ held i) → ((i : ℕ) → last' i ≡ last i) → red_count sent' ≡ red_count sent → turns sent' ≡ turns sent
-    → ((t : Token) → Has (Right t) sent' → Has (Right t) sent) → ((t : Token) → Has (Right t) sent → Has (Right t) sent')
+    → ((t : Token) → Has (packet.Token t) sent' → Has (packet.Token t) sent) → ((t : Token) → Has (packet.Token t) sent → Has (packet.Token t) sent')
     → OneToken n held last sent → OneToken n held' last' sent'
 token_same n held held' last last' sent sent' eh el ec et back on (inl t) = inl (
   t.0,
@@ -53,7 +53,7 @@ token_same n held held' last last' sent sent' eh el ec et back on (inr t) = inr 
 -- a red message more
 pub token_red : (n : ℕ) (held held' : ℕ → Option ℕ) (last last' : ℕ → ℕ) (sent : List Packet) (m : Message) (i : ℕ)
     → held' i ≡ Some (red_count sent + 1) → ((j : ℕ) → (j ≡ i → ⊥) → held' j ≡ held j) → ((j : ℕ) → last' j ≡ last j) → 0 < m.stamp.red
-    → Stands n held last sent i → Stands n held' last' (sent ++ Mail m ∷ []) i
+    → Stands n held last sent i → Stands n held' last' (sent ++ packet.Msg m ∷ []) i
 token_red n held held' last last' sent m i e eh el l s = record {
   within = s.within;
   here = e ∙ ap (λ k. Some k) (sym (red_count_red sent m l));
@@ -67,10 +67,10 @@ token_red n held held' last last' sent m i e eh el l s = record {
 pub token_passed : (n : ℕ) (held held' : ℕ → Option ℕ) (last last' : ℕ → ℕ) (sent : List Packet) (t : Token) (i : ℕ)
     → held' i ≡ None → ((j : ℕ) → (j ≡ i → ⊥) → held' j ≡ held j) → ((j : ℕ) → last' j ≡ last j)
     → t.turn ≡ last i + 1 → t.to < n → t.issued ≡ red_count sent
-    → Stands n held last sent i → Travels n held' last' (sent ++ Right t ∷ []) t
+    → Stands n held last sent i → Travels n held' last' (sent ++ packet.Token t ∷ []) t
 token_passed n held held' last last' sent t i e eh el turn to issued s = record {
   within = to;
-  there = has_last (Right t) sent;
+  there = has_last (packet.Token t) sent;
   issued = issued ∙ sym (red_count_right sent t);
   turn = omega (arith, turn, s.now, turns_right sent t);
   untaken = omega (arith, turn, s.now, s.earlier t.to, el t.to);
@@ -81,7 +81,7 @@ token_passed n held held' last last' sent t i e eh el turn to issued s = record 
 
 -- only the one untaken packet is taken
 pub token_taken : (n : ℕ) (held held' : ℕ → Option ℕ) (last last' : ℕ → ℕ) (sent : List Packet) (u : Token)
-    → Has (Right u) sent → last u.to < u.turn → held' u.to ≡ Some u.issued → last' u.to ≡ u.turn
+    → Has (packet.Token u) sent → last u.to < u.turn → held' u.to ≡ Some u.issued → last' u.to ≡ u.turn
     → ((j : ℕ) → (j ≡ u.to → ⊥) → held' j ≡ held j) → ((j : ℕ) → (j ≡ u.to → ⊥) → last' j ≡ last j)
     → OneToken n held last sent → Stands n held' last' sent u.to
 token_taken n held held' last last' sent u h l e f eh el (inl t) = absurd (omega (arith, t.1.taken u h))

@@ -1,7 +1,7 @@
 // The laws of runs and of logs, each with its statement in rubis_model/specs.
 ghost use Rattle.rubis_model.specs.AuditRecords.{LinesAreReadAsWritten, LogsAreReadAsWritten};
 ghost use Rattle.rubis_model.specs.Forged.{FirstKeepsTheName, StockIsKept};
-ghost use Rattle.rubis_model.specs.Laws.{MeaningIsOne, FoldIsMeaning, CheckedLogsHold, DecidedShadowsFit, EqualSetsEqualTables, RunsAreInOrder, RunsKeepInvariants, RunsAgreeOnTables, RunsMakeMessages, RefusalsChangeNothing, FaultlessLogsAreSound, RunsAreFaultless, AgreesWhereFaultless, AgreedLogsAreSound, RunsAgree};
+ghost use Rattle.rubis_model.specs.Laws.{MeaningIsOne, FoldIsMeaning, CheckedLogsHold, DecidedShadowsFit, EqualSetsEqualTables, RunsAreInOrder, RunsKeepInvariants, RunsAgreeOnTables, RunsSendDeliverables, RefusalsChangeNothing, FaultlessLogsAreSound, RunsAreFaultless, AgreesWhereFaultless, AgreedLogsAreSound, RunsAgree};
 
 /// A log that passes the checks folds without misfit to the meaning of its set, and there is only one.
 pub fn fold_is_meaning()
@@ -40,12 +40,12 @@ pub fn every_run_agrees_on_tables()
     ensures { RunsAgreeOnTables }
 {}
 
-/// Among at most 16 sites, each message of a run meets the conditions of its type.
-pub fn every_run_makes_messages()
-    ensures { RunsMakeMessages }
+/// Among at most 16 sites, each packet of a run can be taken in by each of them.
+pub fn every_run_sends_deliverables()
+    ensures { RunsSendDeliverables }
 {}
 
-/// What a site refuses, or has had before, changes nothing.
+/// An event that is refused changes nothing, nor does a packet that came again, nor a listing.
 pub fn refusals_change_nothing()
     ensures { RefusalsChangeNothing }
 {}

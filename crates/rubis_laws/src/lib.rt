@@ -8,6 +8,6 @@ pub use laws::{
     agreed_logs_are_sound, audits_are_read_as_written, checked_logs_hold, decided_shadows_fit,
     equal_sets_equal_tables, every_log_holds, every_run_agrees_on_tables, every_run_is_agreed,
     every_run_is_faultless, every_run_is_in_order, every_run_keeps_invariants,
-    every_run_makes_messages, faultless_logs_are_sound, fold_is_meaning, refusals_change_nothing,
-    verdict_agrees_where_faultless,
+    every_run_sends_deliverables, faultless_logs_are_sound, fold_is_meaning,
+    refusals_change_nothing, verdict_agrees_where_faultless,
 };

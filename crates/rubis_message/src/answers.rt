@@ -1,6 +1,8 @@
 ghost use Rattle.std.specs.Prelude.{◌≡◌};
 ghost use Rattle.rubis_message.specs.Kinds.{name_of};
 
+use rubis_schema::{Fields, Items};
+
 /// What became of a message that arrived.
 #[derive(Clone, Copy, PartialEq, Eq, Debug)]
 pub enum Arrival {
@@ -19,6 +21,19 @@ pub enum Taken {
     Holding,
     /// Its turn had come before.
     Repeat,
+}
+
+/// What became of an event at a site among several.
+#[derive(Drop, Debug)]
+pub enum Happened {
+    /// The site sent the packet with this number, counted from 1 over all sites.
+    Sent(u64),
+    /// A message came.
+    Came(Arrival),
+    /// A token came.
+    Token(Taken),
+    /// The rows of a listing.
+    Rows(Items<Fields>),
 }
 
 /// What an auditor can find wrong with a log, in the order of the checks.

@@ -15,7 +15,7 @@ mod stamps;
 mod tokens;
 mod writers;
 
-pub use answers::{Arrival, Kind, Taken, Verdict};
+pub use answers::{Arrival, Happened, Kind, Taken, Verdict};
 pub use faults::ReadFault;
 pub use laws::{records_are_read_as_written, records_have_one_reading};
 pub use messages::Message;

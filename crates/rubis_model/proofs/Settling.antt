@@ -10,8 +10,8 @@ use Rattle.rubis_message.specs.Message.{Message, dep}
 use Rattle.rubis_model.specs.Settle.{counted, reds, Ready, Has, is_ready, first_ready, behind, settle}
 use Rattle.rubis_model.specs.Order.{Released}
 use Rattle.rubis_model.specs.Sound.{DecidedBy, CountedBy, Good}
-use Rattle.rubis_model.specs.System.{Packet}
-use Rattle.rubis_model.specs.System.Packet.{Mail}
+use Rattle.rubis_message.specs.declared.tokens.Packet.{Packet}
+use Rattle.rubis_message.specs.declared.tokens.Packet.TheVariants as packet
 
 -- ---- counts and the order of the list
 pub counted_push : (j : ℕ) (xs : List Message) (m : Message) → counted j (xs ++ m ∷ []) ≡ counted j (m ∷ xs)
@@ -120,7 +120,7 @@ good_release sent i log waiting p t g = record {
   made = subst (CountedBy i) (sym (reverse_push log p.0)) ((λ e. absurd (g.waiting_others p.0 t.1 e)), g.made);
   decided = subst (DecidedBy i) (sym (reverse_push log p.0)) ((λ e. absurd (g.waiting_others p.0 t.1 e)), g.decided);
   log_sent =
-      λ m h. ⊎_elim (λ e. subst (λ x. Has (Mail x) sent) (sym e) (g.waiting_sent p.0 t.1)) (λ k. g.log_sent m k) (subst (Has m) (reverse_push log p.0) h);
+      λ m h. ⊎_elim (λ e. subst (λ x. Has (packet.Msg x) sent) (sym e) (g.waiting_sent p.0 t.1)) (λ k. g.log_sent m k) (subst (Has m) (reverse_push log p.0) h);
   waiting_sent = λ m h. g.waiting_sent m (t.2 m h);
   waiting_others = λ m h. g.waiting_others m (t.2 m h);
 }

@@ -1,5 +1,5 @@
 -- The laws of every run and of every log, as contracts name them.
-use Rattle.std.specs.Prelude.{◌≡◌, ◌≢◌, ℕ, ◌+◌, ◌^◌, ◌<◌, ◌≤◌, List, [], ◌++◌, length, Some, IfSome, Ok, Err, slice_get, ◌↔◌}
+use Rattle.std.specs.Prelude.{◌≡◌, ◌≢◌, ℕ, ◌+◌, ◌^◌, ◌<◌, ◌≤◌, List, [], ◌++◌, length, Some, IfSome, Ok, Err, ◌↔◌}
 use Rattle.std.specs.FinMap as map
 use Rattle.rubis_schema.specs.Keys.{home}
 use Rattle.rubis_schema.specs.Tables.{Tables}
@@ -13,14 +13,14 @@ use Rattle.rubis_generate.specs.Lookup.{rows_of}
 use Rattle.rubis_generate.specs.declared.standing.Standing.{Standing}
 use Rattle.rubis_shadow.specs.declared.numbered.Misfit.{Misfit}
 use Rattle.rubis_message.specs.declared.answers.Arrival.TheVariants as arrival
+use Rattle.rubis_message.specs.declared.answers.Happened.TheVariants as happened
 use Rattle.rubis_message.specs.declared.answers.Taken.TheVariants as taken
 use Rattle.rubis_message.specs.declared.answers.Verdict.TheVariants.{Agree}
-use Rattle.rubis_message.specs.declared.tokens.Token.{Token}
 use Rattle.rubis_schema.specs.declared.refusals.Refusal.{Refusal}
 use Rattle.rubis_schema.specs.declared.refusals.Refusal.TheVariants.{NotOurs}
-use Rattle.rubis_message.specs.Message.{Message, IsMessage}
+use Rattle.rubis_message.specs.Message.{Message}
 use Rattle.rubis_model.specs.Settle.{Has, Settles, settle}
-use Rattle.rubis_model.specs.Site.{asked, arrived, took, passed}
+use Rattle.rubis_model.specs.Site.{arrived}
 use Rattle.rubis_model.specs.Log.{Core, cores, fold_of}
 use Rattle.rubis_model.specs.Meaning.{IsMeaning}
 use Rattle.rubis_model.specs.Checks.{Fits, Checked, SameSet}
@@ -32,9 +32,8 @@ use Rattle.rubis_model.specs.Logs.{Log, shown_rows}
 use Rattle.rubis_model.specs.Verdict.{verdict}
 use Rattle.rubis_model.specs.Order.{Precedes, Foundation}
 use Rattle.rubis_model.specs.System.{World, Event, AreEvents, site, place, happens, run, start}
-use Rattle.rubis_model.specs.System.Packet.{Mail, Right}
-use Rattle.rubis_model.specs.System.Event.{Request, Pass, Deliver}
-use Rattle.rubis_model.specs.Sound.{red_count, OneToken}
+use Rattle.rubis_message.specs.declared.tokens.Packet.TheVariants as packet
+use Rattle.rubis_model.specs.Sound.{AllDeliverable, red_count, OneToken}
 
 -- ---- parts and logs
 
@@ -98,7 +97,7 @@ SettlingHasOneOutcome = (log waiting : List Message) → Settles log waiting (se
 
 -- the message was made at one of the sites
 abbrev pub Sent : World → Message → Type 0
-Sent w m = Has (Mail m) w.sent
+Sent w m = Has (packet.Msg m) w.sent
 
 -- it is the log of a site, with its tables as `list,tables` gives them, or without
 pub record IsLogOf (w : World) (log : Log) : Type 0 where
@@ -145,30 +144,24 @@ RunsAreInOrder = EveryRun InOrder
 abbrev pub RunsKeepInvariants : Type 0
 RunsKeepInvariants = EveryRun InRun
 
--- among at most 16 sites, each message that is made meets the conditions of its type
-abbrev pub RunsMakeMessages : Type 0
-RunsMakeMessages =
-    (n keep : ℕ) (events : List Event) → 1 ≤ n → n ≤ 16 → keep ≤ 1000000 → AreEvents n events → (m : Message) → Sent (run keep events (start n)) m → IsMessage m
+-- among at most 16 sites, each packet that is sent can be taken in by each of them
+abbrev pub RunsSendDeliverables : Type 0
+RunsSendDeliverables =
+    (n keep : ℕ) (events : List Event) → 1 ≤ n → n ≤ 16 → keep ≤ 1000000 → AreEvents n events → AllDeliverable n (run keep events (start n)).sent
 
 -- equal sets of messages have equal tables, at any two sites and moments, even of two runs
 abbrev pub RunsAgreeOnTables : Type 0
 RunsAgreeOnTables = EveryRun (λ w. EveryRun (λ v. (i j : ℕ) → SameSet (site w i).log (site v j).log → tables_at w i ≡ tables_at v j))
 
--- what site i refuses changes nothing, nor does what it has had before
-pub record ChangesNothing (keep : ℕ) (w : World) (i : ℕ) : Type 0 where
-  pub ask : (ask : Ask) (r : Refusal) → (asked (place keep w i) (site w i) ask).1 ≡ Err r → happens keep w (Request i ask) ≡ w
-  pub pass : (to : ℕ) (r : Refusal) → (passed (place keep w i) (site w i) to).1 ≡ Err r → happens keep w (Pass i to) ≡ w
-  pub mail : (k : ℕ) (m : Message) (r : Refusal) → slice_get w.sent k ≡ Some (Mail m) → (arrived (place keep w i) (site w i) m).1 ≡ Err r
-      → happens keep w (Deliver i k) ≡ w
-  pub mail_again : (k : ℕ) (m : Message) → slice_get w.sent k ≡ Some (Mail m) → (arrived (place keep w i) (site w i) m).1 ≡ Ok arrival.Repeat
-      → happens keep w (Deliver i k) ≡ w
-  pub token : (k : ℕ) (t : Token) (r : Refusal) → slice_get w.sent k ≡ Some (Right t) → (took (place keep w i) (site w i) t).1 ≡ Err r
-      → happens keep w (Deliver i k) ≡ w
-  pub token_again : (k : ℕ) (t : Token) → slice_get w.sent k ≡ Some (Right t) → (took (place keep w i) (site w i) t).1 ≡ Ok taken.Repeat
-      → happens keep w (Deliver i k) ≡ w
+-- an event that is refused changes nothing, nor does a packet that came again, nor a listing
+pub record ChangesNothing (keep : ℕ) (w : World) (e : Event) : Type 0 where
+  pub refused : (r : Refusal) → (happens keep w e).1 ≡ Err r → (happens keep w e).0 ≡ w
+  pub came_again : (happens keep w e).1 ≡ Ok (happened.Came arrival.Repeat) → (happens keep w e).0 ≡ w
+  pub token_again : (happens keep w e).1 ≡ Ok (happened.Token taken.Repeat) → (happens keep w e).0 ≡ w
+  pub listed : (rows : List (List (List ℕ))) → (happens keep w e).1 ≡ Ok (happened.Rows rows) → (happens keep w e).0 ≡ w
 
 abbrev pub RefusalsChangeNothing : Type 0
-RefusalsChangeNothing = (keep : ℕ) (w : World) (i : ℕ) → ChangesNothing keep w i
+RefusalsChangeNothing = (keep : ℕ) (w : World) (e : Event) → ChangesNothing keep w e
 
 -- ---- logs together
 

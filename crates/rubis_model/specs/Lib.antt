@@ -19,4 +19,5 @@ pub mod AuditRecords
 pub mod Audit
 pub mod System
 pub mod Sound
+pub mod WorldRecords
 pub mod Laws

@@ -1,35 +1,37 @@
 -- Any number of sites, all packets that they ever sent, and what happens there.
-use Rattle.std.specs.Prelude.{ℕ, ◌<◌, Option, Some, None, Result, Ok, Err, List, [], ◌∷◌, ◌++◌, length, map, slice_get, slice_set, slice_index_or, ⊤}
+use Rattle.std.specs.Prelude.{ℕ, ◌+◌, zero, suc, nat_lt, cond, Option, Some, None, Result, Ok, Err, List, [], ◌∷◌, ◌++◌, length, map, slice_get, slice_set, slice_index_or, ⊤}
 use Rattle.std.specs.List.{range_with_len}
+use Rattle.rubis_schema.specs.declared.listings.Listing.{Listing}
 use Rattle.rubis_schema.specs.declared.refusals.Refusal.{Refusal}
+use Rattle.rubis_schema.specs.declared.refusals.Refusal.TheVariants.{BadEvent, NoSuchPacket}
 use Rattle.rubis_shadow.specs.Limits.{IsAsk}
-use Rattle.rubis_shadow.specs.declared.asks.Ask.{Ask}
-use Rattle.rubis_message.specs.Message.{Message}
-use Rattle.rubis_message.specs.declared.tokens.Token.{Token}
+use Rattle.rubis_message.specs.declared.answers.Happened.{Happened}
+use Rattle.rubis_message.specs.declared.answers.Happened.TheVariants as happened
+use Rattle.rubis_message.specs.declared.requests.Request.{Request}
+use Rattle.rubis_message.specs.declared.requests.Request.TheVariants as request
+use Rattle.rubis_message.specs.declared.tokens.Packet.{Packet}
+use Rattle.rubis_message.specs.declared.tokens.Packet.TheVariants as packet
+use Rattle.rubis_model.specs.Log.{cores, fold_of}
+use Rattle.rubis_model.specs.Runs.{listing_rows}
 use Rattle.rubis_model.specs.Site.{Place, Replica, opening_at, asked, arrived, took, passed}
-
--- what a site sends: a message, or the right to make red shadows
-pub data Packet : Type 0 where
-  Mail : Message → Packet
-  Right : Token → Packet
 
 -- the sites' states, and all packets that were ever sent, in the order in which they were sent
 pub record World : Type 0 where
   pub sites : List Replica
   pub sent : List Packet
 
--- an ask at a site, the token passed on there, or the delivery of a packet: none is ever lost or used up, so it may be
--- delivered never, once or again, and in any order
+-- a request at a site, or the delivery of a packet: none is ever lost or used up, so it may be delivered never, once or
+-- again, and in any order
 pub data Event : Type 0 where
-  Request : (at : ℕ) (ask : Ask) → Event
-  Pass : (at to : ℕ) → Event
-  Deliver : (at which : ℕ) → Event
+  At : (site : ℕ) (request : Request) → Event
+  Deliver : (site which : ℕ) → Event
 
--- an event at one of so many sites, an ask within the limits
+-- an ask is within the limits, among so many sites
 abbrev pub IsEvent : ℕ → Event → Type 0
-IsEvent sites (Request i ask) = (i < sites) × IsAsk sites ask
-IsEvent sites (Pass i to) = i < sites
-IsEvent sites (Deliver i k) = i < sites
+IsEvent sites (At i (request.Ask ask)) = IsAsk sites ask
+IsEvent sites (At i (request.Pass to)) = ⊤
+IsEvent sites (At i (request.List l)) = ⊤
+IsEvent sites (Deliver i k) = ⊤
 
 abbrev pub AreEvents : ℕ → List Event → Type 0
 AreEvents sites [] = ⊤
@@ -41,6 +43,11 @@ site w i = slice_index_or w.sites i (opening_at 1)
 
 abbrev pub place : ℕ → World → ℕ → Place
 place keep w i = record { site = i; sites = length w.sites; keep = keep }
+
+-- packet k, counted from 1
+abbrev pub packet_at : List Packet → ℕ → Option Packet
+packet_at sent zero = None
+packet_at sent (suc k) = slice_get sent k
 
 -- a site comes to another state
 abbrev pub with_site : World → ℕ → Replica → World
@@ -54,22 +61,52 @@ sending pack (Err r) = []
 abbrev pub answering : {A : Type 0} → (A → Packet) → World → ℕ → Replica × Result A Refusal → World
 answering pack w i p = record { sites = slice_set w.sites i p.0; sent = w.sent ++ sending pack p.1 }
 
--- the packet is taken in
-abbrev pub coming : ℕ → World → ℕ → Option Packet → World
-coming keep w i None = w
-coming keep w i (Some (Mail m)) = with_site w i (arrived (place keep w i) (site w i) m).0
-coming keep w i (Some (Right t)) = with_site w i (took (place keep w i) (site w i) t).0
+-- what is answered, or the refusal
+abbrev pub saying : {A : Type 0} → (A → Happened) → Result A Refusal → Result Happened Refusal
+saying word (Ok x) = Ok (word x)
+saying word (Err r) = Err r
 
--- the site's step, with each refusal; a packet that isn't there changes nothing
-abbrev pub happens : ℕ → World → Event → World
-happens keep w (Request i ask) = answering Mail w i (asked (place keep w i) (site w i) ask)
-happens keep w (Pass i to) = answering Right w i (passed (place keep w i) (site w i) to)
-happens keep w (Deliver i k) = coming keep w i (slice_get w.sent k)
+-- the number of the next packet
+abbrev pub next_number : World → ℕ
+next_number w = length w.sent + 1
+
+-- the site sends what it answers, and the world says by which number
+abbrev pub sends : {A : Type 0} → (A → Packet) → World → ℕ → Replica × Result A Refusal → World × Result Happened Refusal
+sends pack w i p = (answering pack w i p, saying (λ _. happened.Sent (next_number w)) p.1)
+
+-- the site takes something in
+abbrev pub takes : {A : Type 0} → (A → Happened) → World → ℕ → Replica × Result A Refusal → World × Result Happened Refusal
+takes word w i p = (with_site w i p.0, saying word p.1)
+
+-- the rows of a listing; it changes nothing
+abbrev pub shown : World → ℕ → Listing → World × Result Happened Refusal
+shown w i l = (w, Ok (happened.Rows (listing_rows (site w i).log (fold_of (cores (site w i).log)) l)))
+
+-- the site's whole step, with each refusal
+abbrev pub requested : ℕ → World → ℕ → Request → World × Result Happened Refusal
+requested keep w i (request.Ask ask) = sends packet.Msg w i (asked (place keep w i) (site w i) ask)
+requested keep w i (request.Pass to) = sends packet.Token w i (passed (place keep w i) (site w i) to)
+requested keep w i (request.List l) = shown w i l
+
+-- the packet is taken in
+abbrev pub coming : ℕ → World → ℕ → Option Packet → World × Result Happened Refusal
+coming keep w i None = (w, Err NoSuchPacket)
+coming keep w i (Some (packet.Msg m)) = takes happened.Came w i (arrived (place keep w i) (site w i) m)
+coming keep w i (Some (packet.Token t)) = takes happened.Token w i (took (place keep w i) (site w i) t)
+
+-- where there is no such site nothing happens
+abbrev pub at_site : World → ℕ → World × Result Happened Refusal → World × Result Happened Refusal
+at_site w i step = cond (nat_lt i (length w.sites)) step (w, Err BadEvent)
+
+-- what an event leads to, and what is answered
+abbrev pub happens : ℕ → World → Event → World × Result Happened Refusal
+happens keep w (At i r) = at_site w i (requested keep w i r)
+happens keep w (Deliver i k) = at_site w i (coming keep w i (packet_at w.sent k))
 
 -- one event after the other
 abbrev pub run : ℕ → List Event → World → World
 run keep [] w = w
-run keep (e ∷ es) w = run keep es (happens keep w e)
+run keep (e ∷ es) w = run keep es (happens keep w e).0
 
 -- so many sites with nothing done and nothing sent
 abbrev pub start : ℕ → World

@@ -1,0 +1,119 @@
+-- The records of several sites in one run, and what answers them.
+use Rattle.std.specs.Prelude.{ℕ, ◌+◌, bytes_eq, codes, decimal, List, [], ◌∷◌, ◌++◌, length, map, Option, Some, None, option_and_then, unwrap_or, Result, Ok, Err}
+use Rattle.std.specs.List.{range_with_len}
+use Rattle.std.specs.Option.{option_or}
+use Rattle.rubis_schema.specs.Refusals.{code_of, name_of}
+use Rattle.rubis_schema.specs.declared.limits.TheConstants.{RECORDS_MAX}
+use Rattle.rubis_schema.specs.declared.refusals.Refusal.{Refusal}
+use Rattle.rubis_schema.specs.declared.refusals.Refusal.TheVariants.{BadEvent, BadRecord, NoSuchPacket}
+use Rattle.rubis_message.specs.Forms.{Form, ◌>>=◌, ◌>>◌, check, give, one, take_number, take_site, whole}
+use Rattle.rubis_message.specs.Readings.{request_of}
+use Rattle.rubis_message.specs.declared.answers.Happened.{Happened}
+use Rattle.rubis_message.specs.declared.answers.Happened.TheVariants as happened
+use Rattle.rubis_message.specs.declared.requests.Request.{Request}
+use Rattle.rubis_message.specs.declared.tokens.Packet.{Packet}
+use Rattle.rubis_message.specs.declared.tokens.Packet.TheVariants as packet
+use Rattle.rubis_model.specs.Answers.{arrived_rows, asked_rows, listed_rows, passed_rows, refused_row, took_rows}
+use Rattle.rubis_model.specs.AuditRecords.{verdict_record}
+use Rattle.rubis_model.specs.Logs.{Log, shown_rows}
+use Rattle.rubis_model.specs.System.{Event, World, happens, packet_at, site, start}
+use Rattle.rubis_model.specs.System.Event.{At, Deliver}
+use Rattle.rubis_model.specs.Verdict.{verdict}
+
+-- what a record is: the fields of a request at a site, the delivery of a packet, an audit of all logs, or none of these
+pub data WorldInput : Type 0 where
+  Asked : (site : ℕ) (fields : List (List ℕ)) → WorldInput
+  Delivered : (site which : ℕ) → WorldInput
+  Audit : WorldInput
+  Neither : WorldInput
+
+-- a field with just that word
+abbrev pub word : List ℕ → Form (Unit {0})
+word w = one Some >>= (λ field. check (bytes_eq field w))
+
+-- at least one field is left behind the number of a site
+abbrev pub with_fields : ℕ → List (List ℕ) → Option WorldInput
+with_fields i [] = None
+with_fields i (field ∷ rest) = Some (Asked i (field ∷ rest))
+
+-- `at`, one of so many sites, and the fields of a request, at least one
+unfoldable pub request_at : ℕ → List (List ℕ) → Option WorldInput
+request_at sites fields = option_and_then (λ p. with_fields p.0 p.1) ((word (codes "at") >> take_site sites) fields)
+
+-- `deliver`, one of so many sites, and the number of a packet
+unfoldable pub take_delivery : ℕ → Form WorldInput
+take_delivery sites = do
+  word (codes "deliver")
+  site ← take_site sites
+  which ← take_number RECORDS_MAX
+  give (Delivered site which)
+
+unfoldable pub take_audit : Form WorldInput
+take_audit = word (codes "audit") >> give Audit
+
+abbrev pub world_input : ℕ → List (List ℕ) → WorldInput
+world_input sites fields =
+    unwrap_or (option_or (request_at sites fields) (option_or (whole (take_delivery sites) fields) (whole take_audit fields))) Neither
+
+-- ---- answers
+
+-- a record that a site gives
+abbrev pub site_row : ℕ → List (List ℕ) → List (List ℕ)
+site_row site row = codes "at" ∷ decimal site ∷ row
+
+-- record n is no event
+abbrev pub world_row : ℕ → Refusal → List (List ℕ)
+world_row n r = codes "world" ∷ decimal n ∷ codes "refused" ∷ decimal (code_of r) ∷ name_of r ∷ []
+
+-- the packet that answers a request
+abbrev pub sent_rows : ℕ → Option Packet → List (List (List ℕ))
+sent_rows n None = []
+sent_rows n (Some (packet.Msg m)) = asked_rows n (Ok m)
+sent_rows n (Some (packet.Token t)) = passed_rows n (Ok t)
+
+abbrev pub happened_rows : ℕ → World → Happened → List (List (List ℕ))
+happened_rows n w (happened.Sent k) = sent_rows n (packet_at w.sent k)
+happened_rows n w (happened.Came a) = arrived_rows n (Ok a)
+happened_rows n w (happened.Token t) = took_rows n (Ok t)
+happened_rows n w (happened.Rows rows) = listed_rows n (Ok rows)
+
+-- what is no event is refused by the world, and all else by the site
+abbrev pub refusal_row : ℕ → ℕ → Refusal → List (List ℕ)
+refusal_row n site BadEvent = world_row n BadEvent
+refusal_row n site NoSuchPacket = world_row n NoSuchPacket
+refusal_row n site r = site_row site (refused_row n r)
+
+abbrev pub event_rows : ℕ → ℕ → World → Result Happened Refusal → List (List (List ℕ))
+event_rows n site w (Ok h) = map (site_row site) (happened_rows n w h)
+event_rows n site w (Err r) = refusal_row n site r ∷ []
+
+-- an event at a site, with the records that answer it
+abbrev pub told_at : ℕ → ℕ → World × Result Happened Refusal → World × List (List (List ℕ))
+told_at n site step = (step.0, event_rows n site step.0 step.1)
+
+-- a site's request, if the fields are one
+abbrev pub asked_at : ℕ → World → ℕ → ℕ → Option Request → World × List (List (List ℕ))
+asked_at keep w n i (Some r) = told_at n i (happens keep w (At i r))
+asked_at keep w n i None = (w, site_row i (refused_row n BadRecord) ∷ [])
+
+-- the logs of all sites, each with its tables
+abbrev pub logs_of : World → List Log
+logs_of w =
+    map (λ i. record { site = i; messages = (site w i).log; rows = Some (shown_rows (site w i).log) }) (range_with_len 0 (length w.sites))
+
+-- the world after record n, and the records that answer it
+abbrev pub world_step : ℕ → World → ℕ → WorldInput → World × List (List (List ℕ))
+world_step keep w n (Asked i fields) = asked_at keep w n i (request_of (length w.sites) fields)
+world_step keep w n (Delivered i k) = told_at n i (happens keep w (Deliver i k))
+world_step keep w n Audit = (w, verdict_record (verdict (logs_of w)) ∷ [])
+world_step keep w n Neither = (w, world_row n BadEvent ∷ [])
+
+-- the records that answer these records, the first of which has that number
+unfoldable pub world_answers : ℕ → World → ℕ → List (List (List ℕ)) → List (List (List ℕ))
+world_answers keep w n [] = []
+world_answers keep w n (fields ∷ rest) =
+    (world_step keep w n (world_input (length w.sites) fields)).1 ++ world_answers keep (world_step keep w n (world_input (length w.sites) fields)).0 (n + 1) rest
+
+-- all that so many sites answer to a run of records, where each keeps at most so many messages
+abbrev pub world_output_of : ℕ → ℕ → List (List (List ℕ)) → List (List (List ℕ))
+world_output_of sites keep records = world_answers keep (start sites) 1 records

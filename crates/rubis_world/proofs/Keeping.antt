@@ -1,0 +1,50 @@
+-- Every event keeps a world.
+use Rattle.std.proofs.Common.{◌≡◌, ℕ, ◌≤◌, length, arith, sym, subst}
+use Rattle.std.specs.Prelude.{Result, Ok, Err}
+use Rattle.rubis_message.specs.declared.answers.Happened.{Happened}
+use Rattle.rubis_model.specs.Laws.{InRun}
+use Rattle.rubis_model.specs.Sound.{AllDeliverable}
+use Rattle.rubis_model.specs.System.{Event, IsEvent, happens, start}
+use Rattle.rubis_laws.proofs.Formed.{event_deliverable}
+use Rattle.rubis_laws.proofs.Keeps.{event_keeps, event_sites, start_sites, start_sound}
+use Rattle.rubis_laws.proofs.Room.{room_event, room_start}
+use Rattle.rubis_laws.proofs.Runs.{in_run}
+use Rattle.rubis_replica.specs.declared.faults.Fault.TheVariants as fault
+use Rattle.rubis_replica.specs.Setup.{IsCount}
+use Rattle.rubis_world.specs.Worlds.{IsWorld, Steps, WorldState}
+use Rattle.rubis_world.specs.declared.faults.WorldFault.{WorldFault}
+use Rattle.rubis_world.specs.declared.faults.WorldFault.TheVariants.{BadEvent, NoSuchPacket, Site, Memory}
+
+-- a world is one that the laws speak of
+pub told : (s : WorldState) → IsWorld s → InRun s.world
+told s h = in_run s.keep s.world h.keep h.room h.sound
+
+kept : (s : WorldState) (e : Event) → IsEvent (length s.world.sites) e → IsWorld s → IsWorld (record s { world = (happens s.keep s.world e).0 })
+kept s e a h = let same = event_sites s.keep s.world e in record {
+  sites = subst (λ n. n ≤ 8) (sym same) h.sites;
+  keep = h.keep;
+  sound = event_keeps s.keep h.keep s.world e a h.sound;
+  room = room_event s.keep s.world e h.room;
+  deliverable = subst (λ n. AllDeliverable n (happens s.keep s.world e).0.sent) (sym same) (event_deliverable s.keep h.keep s.world e (omega (arith, h.sites)) a h.sound h.deliverable);
+}
+
+-- what answers an event is a world again
+pub answered : (old new : WorldState) (e : Event) (result : Result Happened WorldFault) → IsEvent (length old.world.sites) e
+    → Steps old new (happens old.keep old.world e) result → IsWorld old → IsWorld new
+answered old new e (Ok x) a t h = subst IsWorld (sym t.0) (kept old e a h)
+answered old new e (Err BadEvent) a t h = subst IsWorld (sym t.0) h
+answered old new e (Err NoSuchPacket) a t h = subst IsWorld (sym t.0) h
+answered old new e (Err (Site (fault.Refused r))) a t h = subst IsWorld (sym t.0) h
+answered old new e (Err (Site fault.Behind)) a t h = subst IsWorld (sym t) h
+answered old new e (Err (Site fault.Memory)) a t h = absurd t
+answered old new e (Err Memory) a t h = subst IsWorld (sym t) h
+
+-- the start
+pub begun : (s : WorldState) (sites keep : ℕ) → IsCount sites 8 × IsCount keep 1000000 → s ≡ record { keep = keep; world = start sites } → IsWorld s
+begun s sites keep limits e = subst IsWorld (sym e) (record {
+  sites = subst (λ n. n ≤ 8) (sym (start_sites sites)) limits.0.small;
+  keep = limits.1.small;
+  sound = start_sound sites limits.0.positive;
+  room = room_start keep sites;
+  deliverable = λ p h. absurd h;
+})

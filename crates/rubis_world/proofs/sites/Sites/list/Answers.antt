@@ -1,0 +1,16 @@
+use Rattle.rubis_world.proofs.Moves.{are_at_places, shows_fault, shows_on}
+use Rattle.rubis_world.proofs.sites.Sites.list.Goals as goal
+
+pub returns-in_err-rows : goal.returns-in_err-rows
+returns-in_err-rows g c =
+    shows_fault c.self.inside.keep c.self.inside.sites.items c.self.inside.packets.items c.args.site c.index_mut.result.now c.list.new.self c.args.self.now c.self.view_is c.requires.site c.index_mut.ensures.value c.self.invariant
+    c.args.listing.now c.in_err-rows.field-0.0 c.from_residual.result c.from_residual.ensures c.in_err-rows.ensures.step
+
+pub invariant_of-self-2 : goal.invariant_of-self-2
+invariant_of-self-2 g c =
+    are_at_places c.self.inside.keep c.self.inside.sites.items c.self.inside.packets.items c.args.site c.index_mut.result.now c.list.new.self c.args.self.now c.self.view_is c.requires.site c.index_mut.ensures.value c.self.invariant c.list.ensures.place
+
+pub returns : goal.returns
+returns g c =
+    shows_on c.self.inside.keep c.self.inside.sites.items c.self.inside.packets.items c.args.site c.index_mut.result.now c.list.new.self c.args.self.now c.self.view_is c.requires.site c.index_mut.ensures.value c.self.invariant
+    c.args.listing.now c.in_ok-rows.rows c.in_ok-rows.ensures.step

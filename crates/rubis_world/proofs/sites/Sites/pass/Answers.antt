@@ -1,0 +1,19 @@
+use Rattle.std.proofs.Common.{rules}
+use Rattle.rubis_message.specs.declared.tokens.Packet.TheVariants as packet
+use Rattle.rubis_model.specs.Site.{passed}
+use Rattle.rubis_world.proofs.Moves.{are_at_places, sends_fault, sends_on}
+use Rattle.rubis_world.proofs.sites.Sites.pass.Goals as goal
+
+pub returns-in_err-token : goal.returns-in_err-token
+returns-in_err-token c =
+    sends_fault c.self.inside.keep c.self.inside.sites.items c.self.inside.packets.items c.args.site c.index_mut.result.now c.pass.new.self c.args.self.now c.self.view_is c.requires.site c.index_mut.ensures.value c.self.invariant
+    packet.Token (λ p s. passed p s c.args.to) c.reserve.new.self.items c.in_err-token.field-0.0 c.from_residual-in_err-token.result c.from_residual-in_err-token.ensures c.in_err-token.ensures.step c.reserve.ensures.items
+
+pub invariant_of-self-2 : goal.invariant_of-self-2
+invariant_of-self-2 c =
+    are_at_places c.self.inside.keep c.self.inside.sites.items c.self.inside.packets.items c.args.site c.index_mut.result.now c.pass.new.self c.args.self.now c.self.view_is c.requires.site c.index_mut.ensures.value c.self.invariant c.pass.ensures.place
+
+pub returns : goal.returns
+returns c =
+    sends_on c.self.inside.keep c.self.inside.sites.items c.self.inside.packets.items c.args.site c.index_mut.result.now c.pass.new.self c.args.self.now c.self.view_is c.requires.site c.index_mut.ensures.value c.self.invariant
+    packet.Token (λ p s. passed p s c.args.to) c.push_reserved.new.self.items c.in_ok-token.token c.len.result c.in_ok-token.ensures.step (cc) (search rules)

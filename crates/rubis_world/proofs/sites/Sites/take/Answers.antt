@@ -1,0 +1,18 @@
+use Rattle.rubis_message.specs.declared.answers.Happened.TheVariants as happened
+use Rattle.rubis_model.specs.Site.{took}
+use Rattle.rubis_world.proofs.Moves.{are_at_places, takes_fault, takes_on}
+use Rattle.rubis_world.proofs.sites.Sites.take.Goals as goal
+
+pub returns-in_err-taken : goal.returns-in_err-taken
+returns-in_err-taken c =
+    takes_fault c.self.inside.keep c.self.inside.sites.items c.self.inside.packets.items c.args.site c.index_mut.result.now c.token.new.self c.args.self.now c.self.view_is c.requires.site c.index_mut.ensures.value c.self.invariant
+    happened.Token (λ p s. took p s c.args.token) c.in_err-taken.field-0.0 c.from_residual.result c.from_residual.ensures c.in_err-taken.ensures.step
+
+pub invariant_of-self-2 : goal.invariant_of-self-2
+invariant_of-self-2 c =
+    are_at_places c.self.inside.keep c.self.inside.sites.items c.self.inside.packets.items c.args.site c.index_mut.result.now c.token.new.self c.args.self.now c.self.view_is c.requires.site c.index_mut.ensures.value c.self.invariant c.token.ensures.place
+
+pub returns : goal.returns
+returns c =
+    takes_on c.self.inside.keep c.self.inside.sites.items c.self.inside.packets.items c.args.site c.index_mut.result.now c.token.new.self c.args.self.now c.self.view_is c.requires.site c.index_mut.ensures.value c.self.invariant
+    happened.Token (λ p s. took p s c.args.token) c.in_ok-taken.taken c.in_ok-taken.ensures.step

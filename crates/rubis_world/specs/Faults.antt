@@ -1,0 +1,11 @@
+-- Why a call of a world gives no answer.
+use Rattle.rubis_replica.specs.declared.faults.Fault.{Fault}
+use Rattle.rubis_replica.specs.declared.faults.Fault.TheVariants as site
+use Rattle.rubis_world.specs.declared.faults.WorldFault.{WorldFault}
+use Rattle.rubis_world.specs.declared.faults.WorldFault.TheVariants.{Site, Memory}
+
+-- a site's want of memory is the world's
+abbrev pub fault_at_site : Fault → WorldFault
+fault_at_site (site.Refused r) = Site (site.Refused r)
+fault_at_site site.Behind = Site site.Behind
+fault_at_site site.Memory = Memory

@@ -1,0 +1,190 @@
+ghost use Rattle.std.specs.Prelude.{◌≡◌, ◌<◌, ◌⊎◌, IfErr, IfOk, IsErrOf, None, Some, length};
+ghost use Rattle.rubis_schema.specs.declared.limits.TheConstants.{KEEP_MAX, SITES_MAX};
+ghost use Rattle.rubis_shadow.specs.Limits.{IsAsk};
+ghost use Rattle.rubis_message.specs.Message.{sites_of};
+ghost use Rattle.rubis_message.specs.declared.requests.Request.TheVariants as Request;
+ghost use Rattle.rubis_message.specs.declared.tokens.Packet.TheVariants as Packet;
+ghost use Rattle.rubis_model.specs.Sound.{AllDeliverable};
+ghost use Rattle.rubis_model.specs.System.{IsEvent, coming, happens, packet_at, requested, start};
+ghost use Rattle.rubis_model.specs.System.Event.{At, Deliver};
+ghost use Rattle.rubis_replica.specs.Setup.{IsCount};
+ghost use Rattle.rubis_world.specs.Worlds.{Steps};
+
+use crate::config::WorldConfig;
+use crate::faults::WorldFault;
+use rubis_message::{Happened, Message, Packet, Request, Token};
+use rubis_replica::{Free, Site};
+use rubis_schema::Listing;
+use rubis_shadow::Ask;
+use std::alloc::{AllocError, Global};
+use std::marker::Model;
+use std::sync::Wait;
+use std::thread::Threads;
+
+/// Sites, and all packets that they ever sent.
+#[derive(Drop)]
+pub struct Sites {
+    sites: Vec<Site>,
+    packets: Vec<Packet>,
+    keep: u32,
+}
+
+impl Model for Sites {
+    ghost use Rattle.std.specs.Prelude.{map};
+    ghost use Rattle.rubis_replica.specs.State.{SiteState};
+    ghost use Rattle.rubis_world.specs.Worlds.{AreAtPlaces, WorldState};
+
+    ghost Value = { WorldState };
+
+    ghost view = { λ s. record { keep = s.keep; world = record { sites = map (λ (x : SiteState). x.state) s.sites.items; sent = s.packets.items } } };
+
+    ghost invariant = { λ s. AreAtPlaces s.keep s.sites.items };
+}
+
+impl Sites {
+    /// Sites with nothing done, set up so.
+    pub fn new(alloc: Global, config: &WorldConfig) -> Result<Sites, AllocError>
+        ensures start { IfOk result (λ sites. sites ≡ record { keep = config.now.keep; world = start config.now.sites }) }
+        ensures limits { IfOk result (λ sites. IsCount config.now.sites SITES_MAX × IsCount config.now.keep KEEP_MAX) }
+    {
+        let mut sites = Vec::new(alloc);
+        'sites: for site in 0..config.sites() {
+            sites.push(Site::new(alloc, &config.site(site), Free)?)?;
+        }
+        Ok(Sites {
+            sites,
+            packets: Vec::new(alloc),
+            keep: config.keep(),
+        })
+    }
+
+    /// All packets that were sent, in the order in which they were sent.
+    pub fn packets(&self) -> &[Packet]
+        ensures { result.now ≡ self.now.world.sent }
+    {
+        self.packets.as_slice()
+    }
+
+    // A site decides an ask.
+    fn ask<R: Threads + Wait + Sync>(
+        &mut self,
+        rt: &R,
+        site: usize,
+        ask: Ask,
+    ) -> Result<Happened, WorldFault>
+        requires site { site < length self.old.world.sites }
+        requires ask { IsAsk (length self.old.world.sites) ask }
+        ensures { Steps self.old self.new (requested self.old.keep self.old.world site (Request.Ask ask)) result }
+    {
+        self.packets.reserve(1)?;
+        let message = self.sites[site].request(rt, ask)?;
+        self.packets.push_reserved(Packet::Msg(message));
+        Ok(Happened::Sent(self.packets.len() as u64))
+    }
+
+    // A site hands the token on.
+    fn pass(&mut self, site: usize, to: u8) -> Result<Happened, WorldFault>
+        requires site { site < length self.old.world.sites }
+        ensures { Steps self.old self.new (requested self.old.keep self.old.world site (Request.Pass to)) result }
+    {
+        self.packets.reserve(1)?;
+        let token = self.sites[site].pass(to)?;
+        self.packets.push_reserved(Packet::Token(token));
+        Ok(Happened::Sent(self.packets.len() as u64))
+    }
+
+    // A site shows rows.
+    fn list<R: Threads + Wait + Sync>(
+        &mut self,
+        rt: &R,
+        site: usize,
+        listing: &Listing,
+    ) -> Result<Happened, WorldFault>
+        requires site { site < length self.old.world.sites }
+        ensures { Steps self.old self.new (requested self.old.keep self.old.world site (Request.List listing.now)) result }
+    {
+        let rows = self.sites[site].list(rt, listing)?;
+        Ok(Happened::Rows(rows))
+    }
+
+    /// A request at a site.
+    pub fn at<R: Threads + Wait + Sync>(
+        &mut self,
+        rt: &R,
+        site: u8,
+        request: Request,
+    ) -> Result<Happened, WorldFault>
+        requires { IsEvent (length self.old.world.sites) (At site request) }
+        ensures { Steps self.old self.new (happens self.old.keep self.old.world (At site request)) result }
+    {
+        let site = usize::from(site);
+        if site >= self.sites.len() {
+            return Err(WorldFault::BadEvent);
+        }
+        match request {
+            Request::Ask(ask) => self.ask(rt, site, ask),
+            Request::Pass(to) => self.pass(site, to),
+            Request::List(listing) => self.list(rt, site, &listing),
+        }
+    }
+
+    // A copy of the packet with that number.
+    fn packet(&self, number: u64) -> Result<Packet, WorldFault>
+        ensures ok { IfOk result (λ packet. packet_at self.now.world.sent number ≡ Some packet) }
+        ensures none { IsErrOf result WorldFault.NoSuchPacket → packet_at self.now.world.sent number ≡ None }
+        ensures faults { IfErr result (λ fault. (fault ≡ WorldFault.NoSuchPacket) ⊎ (fault ≡ WorldFault.Memory)) }
+    {
+        if number == 0 {
+            return Err(WorldFault::NoSuchPacket);
+        }
+        match self.packets.get(number as usize - 1) {
+            Some(Packet::Msg(message)) => Ok(Packet::Msg(message.copy()?)),
+            Some(Packet::Token(token)) => Ok(Packet::Token(*token)),
+            None => Err(WorldFault::NoSuchPacket),
+        }
+    }
+
+    // A message comes to a site.
+    fn arrive<R: Threads + Wait + Sync>(
+        &mut self,
+        rt: &R,
+        site: usize,
+        message: Message,
+    ) -> Result<Happened, WorldFault>
+        requires site { site < length self.old.world.sites }
+        requires sites { sites_of message ≡ length self.old.world.sites }
+        ensures { Steps self.old self.new (coming self.old.keep self.old.world site (Some (Packet.Msg message))) result }
+    {
+        let arrival = self.sites[site].arrive(rt, message)?;
+        Ok(Happened::Came(arrival))
+    }
+
+    // A token comes to a site.
+    fn take(&mut self, site: usize, token: Token) -> Result<Happened, WorldFault>
+        requires site { site < length self.old.world.sites }
+        ensures { Steps self.old self.new (coming self.old.keep self.old.world site (Some (Packet.Token token))) result }
+    {
+        let taken = self.sites[site].token(token)?;
+        Ok(Happened::Token(taken))
+    }
+
+    /// The delivery of packet `number`, counted from 1, to a site.
+    pub fn deliver<R: Threads + Wait + Sync>(
+        &mut self,
+        rt: &R,
+        site: u8,
+        number: u64,
+    ) -> Result<Happened, WorldFault>
+        requires { AllDeliverable (length self.old.world.sites) self.old.world.sent }
+        ensures { Steps self.old self.new (happens self.old.keep self.old.world (Deliver site number)) result }
+    {
+        let site = usize::from(site);
+        if site >= self.sites.len() {
+            return Err(WorldFault::BadEvent);
+        }
+        match self.packet(number)? {
+            Packet::Msg(message) => self.arrive(rt, site, message),
+            Packet::Token(token) => self.take(site, token),
+        }
+    }
+}

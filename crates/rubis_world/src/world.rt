@@ -1,0 +1,80 @@
+ghost use Rattle.std.specs.Prelude.{◌≡◌, IfOk, length};
+ghost use Rattle.rubis_model.specs.Laws.{InRun};
+ghost use Rattle.rubis_model.specs.System.{IsEvent, happens, start};
+ghost use Rattle.rubis_model.specs.System.Event.{At, Deliver};
+ghost use Rattle.rubis_world.specs.Worlds.{Steps};
+
+use crate::config::WorldConfig;
+use crate::faults::WorldFault;
+use crate::sites::Sites;
+use rubis_message::{Happened, Packet, Request};
+use std::alloc::{AllocError, Global};
+use std::marker::Model;
+use std::sync::Wait;
+use std::thread::Threads;
+
+/// Several sites in one run, with all packets that they ever sent. After every call their logs causally serialize one
+/// RedBlue order, and the invariants hold over all of them.
+#[derive(Drop)]
+pub struct World {
+    sites: Sites,
+}
+
+impl Model for World {
+    ghost use Rattle.rubis_world.specs.Worlds.{IsWorld, WorldState};
+
+    ghost Value = { WorldState };
+
+    ghost view = { λ w. w.sites };
+
+    ghost invariant = { λ w. IsWorld w.sites };
+}
+
+impl World {
+    /// Sites with nothing done, set up so.
+    pub fn new(alloc: Global, config: &WorldConfig) -> Result<World, AllocError>
+        ensures start { IfOk result (λ world. world ≡ record { keep = config.now.keep; world = start config.now.sites }) }
+        ensures run { IfOk result (λ world. InRun world.world) }
+    {
+        Ok(World {
+            sites: Sites::new(alloc, config)?,
+        })
+    }
+
+    /// A request at a site. What the site sends is the last packet then, and the answer has its number. After a fault, want
+    /// of memory too, the logs, the waiting messages, the token and the packets are as they were.
+    pub fn at<R: Threads + Wait + Sync>(
+        &mut self,
+        rt: &R,
+        site: u8,
+        request: Request,
+    ) -> Result<Happened, WorldFault>
+        requires { IsEvent (length self.old.world.sites) (At site request) }
+        ensures step { Steps self.old self.new (happens self.old.keep self.old.world (At site request)) result }
+        ensures run { InRun self.new.world }
+    {
+        self.sites.at(rt, site, request)
+    }
+
+    /// The delivery of packet `number`, counted from 1 over all sites, to a site. A packet is never used up: it may be
+    /// delivered again, to that site and to any other. A fault changes nothing, as with `at`.
+    pub fn deliver<R: Threads + Wait + Sync>(
+        &mut self,
+        rt: &R,
+        site: u8,
+        number: u64,
+    ) -> Result<Happened, WorldFault>
+        ensures step { Steps self.old self.new (happens self.old.keep self.old.world (Deliver site number)) result }
+        ensures run { InRun self.new.world }
+    {
+        self.sites.deliver(rt, site, number)
+    }
+
+    /// All packets that were sent, in the order in which they were sent.
+    pub fn packets(&self) -> &[Packet]
+        ensures value { result.now ≡ self.now.world.sent }
+        ensures run { InRun self.now.world }
+    {
+        self.sites.packets()
+    }
+}
