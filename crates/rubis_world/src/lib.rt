@@ -10,3 +10,6 @@ pub use config::WorldConfig;
 pub use faults::WorldFault;
 pub use rubis_message::Happened;
 pub use world::World;
+
+#[cfg(test)]
+mod tests;
