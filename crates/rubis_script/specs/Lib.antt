@@ -5,3 +5,4 @@ pub mod Accounts
 pub mod Progress
 pub mod Inputs
 pub mod SiteRuns
+pub mod Adding
