@@ -1,7 +1,13 @@
--- The configuration that a command line asks for.
+-- The configurations that a command line asks for.
 use Rattle.rubis_replica.specs.Setup.{Setup}
 use Rattle.rubis_command.specs.declared.options.Options.{Options}
+use Rattle.rubis_command.specs.declared.options.Setup.{Setup as Numbers}
+use Rattle.rubis_world.specs.Setup.{WorldSetup}
 
--- the configuration with these numbers
+-- the configuration of one site
 abbrev pub setup_of : Options → Setup
-setup_of o = record { site = o.site; sites = o.sites; shards = o.shards; workers = o.workers; batch = o.batch; keep = o.keep }
+setup_of o = record { site = o.site; sites = o.setup.sites; shards = o.setup.shards; workers = o.setup.workers; batch = o.setup.batch; keep = o.setup.keep }
+
+-- the configuration of several sites
+abbrev pub world_setup_of : Numbers → WorldSetup
+world_setup_of s = record { sites = s.sites; shards = s.shards; workers = s.workers; batch = s.batch; keep = s.keep }

@@ -1,4 +1,4 @@
-//! `rubis`: an auction site, or an auditor of its logs, over standard input and output.
+//! `rubis`: an auction site, several in one run, or an auditor of their logs, over standard input and output.
 #![tactic(auto)]
 
 ghost use Rattle.std.specs.Prelude.{◌≡◌, ◌⊎◌, ◌<◌, ◌≤◌, cond, is_ok, map, string_bytes};
@@ -7,15 +7,17 @@ ghost use Rattle.std.specs.Option.{SomeIff};
 ghost use Rattle.std.specs.Process.{exit_status};
 ghost use Rattle.clap.specs.Words.{kind_of};
 ghost use Rattle.rubis_replica.specs.Setup.{IsSetup};
-ghost use Rattle.rubis_app.specs.Setups.{setup_of};
+ghost use Rattle.rubis_app.specs.Setups.{setup_of, world_setup_of};
+ghost use Rattle.rubis_world.specs.Setup.{IsWorldSetup};
 ghost use Rattle.rubis_app.specs.Statuses.{IsStatusOf, status_by};
 
 use clap::Error;
 use rubis_audit::Auditor;
-use rubis_command::{OptionFault, Options, Run, read_options};
+use rubis_command::{OptionFault, Options, Run, Setup, read_options};
 use rubis_replica::{Config, Free};
 use rubis_schema::{RECORDS_MAX, SITES_MAX};
 use rubis_script::{Count, Desk, RunFault, run_desk, run_upto};
+use rubis_world::{WorldConfig, WorldDesk, run_world_desk};
 use std::io::ErrorKind;
 use std::process::ExitCode;
 use std::sync::Wait;
@@ -72,11 +74,11 @@ fn config_of(options: &Options) -> Option<Config>
 {
     Config::new(
         options.site,
-        options.sites,
-        options.shards,
-        options.workers,
-        options.batch,
-        options.keep,
+        options.setup.sites,
+        options.setup.shards,
+        options.setup.workers,
+        options.setup.batch,
+        options.setup.keep,
     )
 }
 
@@ -104,6 +106,47 @@ fn run<R: Print + Eprint + Input + AllocGlobal + Threads + Wait + Sync>(
         RECORDS_MAX,
     );
     // The process ends now, so its site needn't be taken apart.
+    mem::forget(desk);
+    end(rt, ended)
+}
+
+// The configuration of several sites, if each number is within its limits.
+fn world_config_of(setup: &Setup) -> Option<WorldConfig>
+    ensures { SomeIff result (IsWorldSetup (world_setup_of setup.now)) (world_setup_of setup.now) }
+{
+    WorldConfig::new(
+        setup.sites,
+        setup.shards,
+        setup.workers,
+        setup.batch,
+        setup.keep,
+    )
+}
+
+// Runs several sites over standard input and output.
+fn run_sites<R: Print + Eprint + Input + AllocGlobal + Threads + Wait + Sync>(
+    rt: &R,
+    setup: &Setup,
+) -> ExitCode
+    ensures misuse { ¬ IsWorldSetup (world_setup_of setup.now) → exit_status result ≡ 2 }
+    ensures runs { IsWorldSetup (world_setup_of setup.now) → (exit_status result ≡ 0) ⊎ (exit_status result ≡ 1) }
+{
+    let Some(config) = world_config_of(setup) else {
+        return misuse(rt, "a number isn't within its limits");
+    };
+    let Ok(mut desk) = WorldDesk::new(rt.alloc(), &config) else {
+        return fail(rt, RunFault::Memory);
+    };
+    let mut writer = io::writer(rt);
+    let ended = run_world_desk(
+        rt,
+        rt.alloc(),
+        rt.reader(),
+        &mut writer,
+        &mut desk,
+        RECORDS_MAX,
+    );
+    // The process ends now, so its sites needn't be taken apart.
     mem::forget(desk);
     end(rt, ended)
 }
@@ -140,6 +183,7 @@ fn start<R: Print + Eprint + Input + AllocGlobal + Threads + Wait + Sync>(
 {
     match read_options(rt.alloc(), words) {
         Ok(Run::Site(options)) => run(rt, &options),
+        Ok(Run::World(setup)) => run_sites(rt, &setup),
         Ok(Run::Audit(sites)) => run_auditor(rt, sites),
         Err(OptionFault::Memory) => fail(rt, RunFault::Memory),
         Err(OptionFault::Words(error)) => tell(rt, &error),

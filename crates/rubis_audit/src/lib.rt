@@ -15,6 +15,7 @@ mod walks;
 pub use auditor::Auditor;
 pub use logs::Log;
 pub use run::run_audit;
+pub use verdicts::write_verdict;
 pub use walks::audit;
 
 #[cfg(test)]

@@ -1,4 +1,5 @@
--- The command line: `rubis site`, with six options that take a number, and `rubis audit`, with one.
+-- The command line: `rubis site`, with six options that take a number, `rubis world`, with five, and `rubis audit`, with
+-- one.
 use Rattle.std.specs.Prelude.{◌≡◌, ◌≢◌, ℕ, ◌-◌, ◌<◌, ◌^◌, List, [], ◌∷◌, Option, Some, ⊤, true, codes}
 use Rattle.std.specs.Str.Parse.{IsNumeral, digits_value, without_leading_plus}
 use Rattle.clap.specs.Words.{App, IsAmong, Kinds, Row, Rule, Text, kind_of, new_app, new_rule, one_of, subcommand_of, with_rule, with_subcommand}
@@ -11,7 +12,8 @@ use Rattle.rubis_command.specs.declared.options.OptionFault.{OptionFault}
 use Rattle.rubis_command.specs.declared.options.OptionFault.TheVariants.{Memory, Words}
 use Rattle.rubis_command.specs.declared.options.Options.{Options}
 use Rattle.rubis_command.specs.declared.options.Run.{Run}
-use Rattle.rubis_command.specs.declared.options.Run.TheVariants.{Audit, Site}
+use Rattle.rubis_command.specs.declared.options.Run.TheVariants.{Audit, Site, World}
+use Rattle.rubis_command.specs.declared.options.Setup.{Setup}
 
 -- an option that takes a number from `low` to `high`, and that has the value `default` where it isn't given
 abbrev pub number_option : Text → ℕ → ℕ → Text → Rule
@@ -32,6 +34,9 @@ with_setup a = with_rule (with_rule (with_rule (with_rule (with_rule a
 abbrev pub site_command : App
 site_command = with_setup (with_rule (new_app (codes "site")) (number_option (codes "site") 0 (SITES_MAX - 1) (codes "0")))
 
+abbrev pub world_command : App
+world_command = with_setup (new_app (codes "world"))
+
 abbrev pub audit_command : App
 audit_command = with_rule (new_app (codes "audit")) sites_option
 
@@ -40,26 +45,31 @@ abbrev pub program_alone : App
 program_alone = let a = new_app (codes "rubis") in record a { top = record a.top { has_version = true; subcommand_required = true } }
 
 abbrev pub command_line : App
-command_line = with_subcommand (with_subcommand program_alone site_command.top) audit_command.top
+command_line = with_subcommand (with_subcommand (with_subcommand program_alone site_command.top) world_command.top) audit_command.top
 
 -- n is the number that a text of so many bits writes: decimal digits, before which a plus may stand
 abbrev pub IsNumberOf : ℕ → Option Text → ℕ → Type 0
 IsNumberOf bits text n = (t : Text) → text ≡ Some t → IsNumeral 10 (without_leading_plus t) → digits_value 10 (without_leading_plus t) < 2 ^ bits → n ≡ digits_value 10 (without_leading_plus t)
 
--- the options are what stands in these rows
+-- the numbers are what stands in these rows
+pub record IsSetupIn (rows : List Row) (s : Setup) : Type 0 where
+  pub sites : IsNumberOf 8 (one_of (codes "sites") rows) s.sites
+  pub shards : IsNumberOf 8 (one_of (codes "shards") rows) s.shards
+  pub workers : IsNumberOf 8 (one_of (codes "workers") rows) s.workers
+  pub batch : IsNumberOf 32 (one_of (codes "batch") rows) s.batch
+  pub keep : IsNumberOf 32 (one_of (codes "keep") rows) s.keep
+
 pub record AreOptionsIn (rows : List Row) (o : Options) : Type 0 where
   pub site : IsNumberOf 8 (one_of (codes "site") rows) o.site
-  pub sites : IsNumberOf 8 (one_of (codes "sites") rows) o.sites
-  pub shards : IsNumberOf 8 (one_of (codes "shards") rows) o.shards
-  pub workers : IsNumberOf 8 (one_of (codes "workers") rows) o.workers
-  pub batch : IsNumberOf 32 (one_of (codes "batch") rows) o.batch
-  pub keep : IsNumberOf 32 (one_of (codes "keep") rows) o.keep
+  pub setup : IsSetupIn rows o.setup
 
--- what the words of a command line ask for: an audit where that is the command, or else a site, with the options that
--- stand after the command
+-- what the words of a command line ask for: an audit or several sites where that is the command, or else a site, with the
+-- options that stand after the command
 abbrev pub IsAsked : List Text → Run → Type 0
 IsAsked words (Audit sites) = (rows : List Row) × (subcommand_of command_line words ≡ Some (codes "audit", rows)) × IsNumberOf 8 (one_of (codes "sites") rows) sites
-IsAsked words (Site options) = (name : Text) × (rows : List Row) × (subcommand_of command_line words ≡ Some (name, rows)) × (name ≢ codes "audit") × AreOptionsIn rows options
+IsAsked words (World setup) = (rows : List Row) × (subcommand_of command_line words ≡ Some (codes "world", rows)) × IsSetupIn rows setup
+IsAsked words (Site options) =
+    (name : Text) × (rows : List Row) × (subcommand_of command_line words ≡ Some (name, rows)) × (name ≢ codes "audit") × (name ≢ codes "world") × AreOptionsIn rows options
 
 -- what an error of `clap` is called here
 abbrev pub fault_by : ErrorKind → Error → OptionFault

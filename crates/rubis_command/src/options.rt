@@ -3,7 +3,7 @@
 ghost use Rattle.std.specs.Prelude.{◌≡◌, false, [], Some, codes, map, string_bytes, IfErr, IfOk};
 ghost use Rattle.rubis_schema.specs.declared.limits.TheConstants.{SITES_MAX};
 ghost use Rattle.clap.specs.Words.{app_of, fault_of, found_of, one_of, rows_of, rule_of};
-ghost use Rattle.rubis_command.specs.CommandLine.{AreOptionsIn, IsAsked, IsFaultAmong, IsNumberOf, command_line, number_option, with_setup};
+ghost use Rattle.rubis_command.specs.CommandLine.{AreOptionsIn, IsAsked, IsFaultAmong, IsNumberOf, IsSetupIn, command_line, number_option, with_setup};
 
 use clap::builder::ValueParser;
 use clap::error::ErrorKind;
@@ -14,7 +14,10 @@ use std::alloc::{AllocError, Global};
 /// What the command line asks for.
 #[derive(Drop)]
 pub enum Run {
+    /// One site.
     Site(Options),
+    /// Several sites in one run.
+    World(Setup),
     /// An audit of the logs of so many sites.
     Audit(u8),
 }
@@ -54,15 +57,21 @@ impl From<AllocError> for OptionFault {
     }
 }
 
-/// The numbers of a site.
+/// The numbers that say how sites are set up.
 #[derive(Clone, Copy)]
-pub struct Options {
-    pub site: u8,
+pub struct Setup {
     pub sites: u8,
     pub shards: u8,
     pub workers: u8,
     pub batch: u32,
     pub keep: u32,
+}
+
+/// The numbers of one site.
+#[derive(Clone, Copy)]
+pub struct Options {
+    pub site: u8,
+    pub setup: Setup,
 }
 
 // An option that takes a number of this range.
@@ -156,6 +165,9 @@ fn program<'a>(alloc: Global) -> Result<Command<'a>, AllocError>
             "Which site it is, from 0",
         ))?;
     let site = with_setup(alloc, site)?;
+    let world = Command::new(alloc, "world")
+        .about("Runs several sites: records on standard input, answers on standard output");
+    let world = with_setup(alloc, world)?;
     let audit = Command::new(alloc, "audit")
         .about("Audits logs: their records on standard input, the first fault on standard output")
         .arg(sites(alloc))?;
@@ -165,6 +177,7 @@ fn program<'a>(alloc: Global) -> Result<Command<'a>, AllocError>
         .about("A replicated auction house whose answers are proved")
         .subcommand_required(true)
         .subcommand(site)?
+        .subcommand(world)?
         .subcommand(audit)
 }
 
@@ -181,16 +194,24 @@ fn word(matches: &ArgMatches<'_>, name: &str) -> u32
     matches.get_one::<u32>(name).unwrap_or(0)
 }
 
-fn site_options(matches: &ArgMatches<'_>) -> Options
-    ensures { AreOptionsIn (rows_of (found_of matches.now)) result }
+fn setup(matches: &ArgMatches<'_>) -> Setup
+    ensures { IsSetupIn (rows_of (found_of matches.now)) result }
 {
-    Options {
-        site: byte(matches, "site"),
+    Setup {
         sites: byte(matches, "sites"),
         shards: byte(matches, "shards"),
         workers: byte(matches, "workers"),
         batch: word(matches, "batch"),
         keep: word(matches, "keep"),
+    }
+}
+
+fn site_options(matches: &ArgMatches<'_>) -> Options
+    ensures { AreOptionsIn (rows_of (found_of matches.now)) result }
+{
+    Options {
+        site: byte(matches, "site"),
+        setup: setup(matches),
     }
 }
 
@@ -206,6 +227,8 @@ pub fn read_options(alloc: Global, words: &[String]) -> Result<Run, OptionFault>
         Some((name, inner)) => {
             if name == "audit" {
                 Ok(Run::Audit(byte(inner, "sites")))
+            } else if name == "world" {
+                Ok(Run::World(setup(inner)))
             } else {
                 Ok(Run::Site(site_options(inner)))
             }

@@ -35,11 +35,11 @@ sent_rows n None = []
 sent_rows n (Some (packet.Msg m)) = asked_rows n (Ok m)
 sent_rows n (Some (packet.Token t)) = passed_rows n (Ok t)
 
-abbrev pub happened_rows : ℕ → World → Happened → List (List (List ℕ))
-happened_rows n w (happened.Sent k) = sent_rows n (packet_at w.sent k)
-happened_rows n w (happened.Came a) = arrived_rows n (Ok a)
-happened_rows n w (happened.Token t) = took_rows n (Ok t)
-happened_rows n w (happened.Rows rows) = listed_rows n (Ok rows)
+abbrev pub happened_rows : ℕ → List Packet → Happened → List (List (List ℕ))
+happened_rows n sent (happened.Sent k) = sent_rows n (packet_at sent k)
+happened_rows n sent (happened.Came a) = arrived_rows n (Ok a)
+happened_rows n sent (happened.Token t) = took_rows n (Ok t)
+happened_rows n sent (happened.Rows rows) = listed_rows n (Ok rows)
 
 -- what is no event is refused by the world, and all else by the site
 abbrev pub refusal_row : ℕ → ℕ → Refusal → List (List ℕ)
@@ -47,23 +47,27 @@ refusal_row n site BadEvent = world_row n BadEvent
 refusal_row n site NoSuchPacket = world_row n NoSuchPacket
 refusal_row n site r = site_row site (refused_row n r)
 
-abbrev pub event_rows : ℕ → ℕ → World → Result Happened Refusal → List (List (List ℕ))
-event_rows n site w (Ok h) = map (site_row site) (happened_rows n w h)
-event_rows n site w (Err r) = refusal_row n site r ∷ []
+-- all packets that were sent are at hand
+abbrev pub event_rows : ℕ → ℕ → List Packet → Result Happened Refusal → List (List (List ℕ))
+event_rows n site sent (Ok h) = map (site_row site) (happened_rows n sent h)
+event_rows n site sent (Err r) = refusal_row n site r ∷ []
 
 -- an event at a site, with the records that answer it
 abbrev pub told_at : ℕ → ℕ → World × Result Happened Refusal → World × List (List (List ℕ))
-told_at n site step = (step.0, event_rows n site step.0 step.1)
+told_at n site step = (step.0, event_rows n site step.0.sent step.1)
 
 -- a site's request, if the fields are one
 abbrev pub asked_at : ℕ → World → ℕ → ℕ → Option Request → World × List (List (List ℕ))
 asked_at keep w n i (Some r) = told_at n i (happens keep w (At i r))
 asked_at keep w n i None = (w, site_row i (refused_row n BadRecord) ∷ [])
 
--- the logs of all sites, each with its tables
+-- the log of a site, with its tables
+abbrev pub log_of : World → ℕ → Log
+log_of w i = record { site = i; messages = (site w i).log; rows = Some (shown_rows (site w i).log) }
+
+-- the logs of all sites
 abbrev pub logs_of : World → List Log
-logs_of w =
-    map (λ i. record { site = i; messages = (site w i).log; rows = Some (shown_rows (site w i).log) }) (range_with_len 0 (length w.sites))
+logs_of w = map (log_of w) (range_with_len 0 (length w.sites))
 
 -- the world after record n, and the records that answer it
 abbrev pub world_step : ℕ → World → ℕ → WorldInput → World × List (List (List ℕ))

@@ -1,3 +1,5 @@
 pub mod Moves
 pub mod Keeping
 pub mod Beginning
+pub mod Answering
+pub mod Checking

@@ -1,3 +1,5 @@
 pub mod Faults
 pub mod Setup
 pub mod Worlds
+pub mod Telling
+pub mod Running

@@ -1,5 +1,5 @@
 -- A world, and what its calls answer.
-use Rattle.std.specs.Prelude.{◌≡◌, ℕ, ◌≤◌, List, length, Result, Ok, Err, IfSome, slice_get}
+use Rattle.std.specs.Prelude.{◌≡◌, ℕ, ◌≤◌, List, length, Result, Ok, Err, IfSome, slice_get, ◌⊎◌}
 use Rattle.rubis_schema.specs.declared.limits.TheConstants.{KEEP_MAX, SITES_MAX}
 use Rattle.rubis_schema.specs.declared.refusals.Refusal.{Refusal}
 use Rattle.rubis_schema.specs.declared.refusals.Refusal.TheVariants as refusal
@@ -37,3 +37,7 @@ Steps old new step (Err (Site (fault.Refused r))) = (new ≡ old) × (step.1 ≡
 Steps old new step (Err (Site fault.Behind)) = new ≡ old
 Steps old new step (Err (Site fault.Memory)) = ⊥
 Steps old new step (Err Memory) = new ≡ old
+
+-- why there is no verdict: a site is behind, or memory ran out
+abbrev pub IsCheckFault : WorldFault → Type 0
+IsCheckFault f = (f ≡ Site fault.Behind) ⊎ (f ≡ Memory)

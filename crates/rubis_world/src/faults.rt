@@ -3,7 +3,7 @@ ghost use Rattle.rubis_world.specs.Faults.{fault_at_site};
 ghost use Rattle.rubis_world.specs.declared.faults.WorldFault.TheVariants as WorldFault;
 
 use rubis_replica::Fault;
-use std::alloc::AllocError;
+use std::alloc::{AllocError, AllocFailed};
 use thiserror::Error;
 
 /// Why a call of a world gives no answer.
@@ -27,6 +27,14 @@ impl From<AllocError> for WorldFault {
     ghost from_gives = { λ _ fault. fault ≡ WorldFault.Memory };
 
     fn from(_error: AllocError) -> WorldFault {
+        WorldFault::Memory
+    }
+}
+
+impl<T: Drop> From<AllocFailed<T>> for WorldFault {
+    ghost from_gives = { λ _ fault. fault ≡ WorldFault.Memory };
+
+    fn from(_error: AllocFailed<T>) -> WorldFault {
         WorldFault::Memory
     }
 }

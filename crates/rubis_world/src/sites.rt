@@ -1,4 +1,4 @@
-ghost use Rattle.std.specs.Prelude.{◌≡◌, ◌<◌, ◌⊎◌, IfErr, IfOk, IsErrOf, None, Some, length};
+ghost use Rattle.std.specs.Prelude.{◌≡◌, ◌<◌, ◌≤◌, ◌⊎◌, IfErr, IfOk, IsErrOf, None, Some, length};
 ghost use Rattle.rubis_schema.specs.declared.limits.TheConstants.{KEEP_MAX, SITES_MAX};
 ghost use Rattle.rubis_shadow.specs.Limits.{IsAsk};
 ghost use Rattle.rubis_message.specs.Message.{sites_of};
@@ -8,18 +8,36 @@ ghost use Rattle.rubis_model.specs.Sound.{AllDeliverable};
 ghost use Rattle.rubis_model.specs.System.{IsEvent, coming, happens, packet_at, requested, start};
 ghost use Rattle.rubis_model.specs.System.Event.{At, Deliver};
 ghost use Rattle.rubis_replica.specs.Setup.{IsCount};
-ghost use Rattle.rubis_world.specs.Worlds.{Steps};
+ghost use Rattle.rubis_model.specs.System.{site as site_of};
+ghost use Rattle.rubis_model.specs.Verdict.{verdict};
+ghost use Rattle.rubis_model.specs.WorldRecords.{log_of, logs_of};
+ghost use Rattle.rubis_audit.specs.Walks.{AreAmong};
+ghost use Rattle.rubis_replica.specs.declared.faults.Fault.TheVariants as Fault;
+ghost use Rattle.rubis_world.specs.Worlds.{IsCheckFault, Steps};
+ghost use Rattle.rubis_world.specs.declared.faults.WorldFault.TheVariants as WorldFault;
 
 use crate::config::WorldConfig;
 use crate::faults::WorldFault;
-use rubis_message::{Happened, Message, Packet, Request, Token};
+use rubis_audit::{Log, audit};
+use rubis_message::{Happened, Message, Packet, Request, Token, Verdict};
 use rubis_replica::{Free, Site};
-use rubis_schema::Listing;
+use rubis_schema::{Fields, Items, Listing};
 use rubis_shadow::Ask;
 use std::alloc::{AllocError, Global};
 use std::marker::Model;
 use std::sync::Wait;
 use std::thread::Threads;
+
+// A copy of the messages, in their order.
+fn copied(alloc: Global, messages: &[Message]) -> Result<Items<Message>, AllocError>
+    ensures { IfOk result (λ copy. copy ≡ messages.now) }
+{
+    let mut copy = Items::new(alloc);
+    for message in messages {
+        copy.push(message.copy()?)?;
+    }
+    Ok(copy)
+}
 
 /// Sites, and all packets that they ever sent.
 #[derive(Drop)]
@@ -56,6 +74,13 @@ impl Sites {
             packets: Vec::new(alloc),
             keep: config.keep(),
         })
+    }
+
+    /// How many sites there are.
+    pub fn len(&self) -> usize
+        ensures { result ≡ length self.now.world.sites }
+    {
+        self.sites.len()
     }
 
     /// All packets that were sent, in the order in which they were sent.
@@ -105,6 +130,80 @@ impl Sites {
     {
         let rows = self.sites[site].list(rt, listing)?;
         Ok(Happened::Rows(rows))
+    }
+
+    // The rows of a site's tables.
+    fn tables<R: Threads + Wait + Sync>(
+        &mut self,
+        rt: &R,
+        site: usize,
+    ) -> Result<Items<Fields>, WorldFault>
+        requires { site < length self.old.world.sites }
+        ensures same { self.new ≡ self.old }
+        ensures rows { IfOk result (λ rows. Some rows ≡ (log_of self.old.world site).rows) }
+        ensures faults { IfErr result IsCheckFault }
+    {
+        match self.list(rt, site, &Listing::Tables)? {
+            Happened::Rows(rows) => Ok(rows),
+            _ => unreachable!(),
+        }
+    }
+
+    // The log of a site, in release order.
+    fn history(&self, site: usize) -> &[Message]
+        requires { site < length self.now.world.sites }
+        ensures { result.now ≡ (site_of self.now.world site).log }
+    {
+        self.sites[site].history()
+    }
+
+    // The log of a site, with its tables.
+    fn log<R: Threads + Wait + Sync>(
+        &mut self,
+        rt: &R,
+        alloc: Global,
+        site: usize,
+    ) -> Result<Log, WorldFault>
+        requires site { site < length self.old.world.sites }
+        requires few { length self.old.world.sites ≤ SITES_MAX }
+        ensures same { self.new ≡ self.old }
+        ensures log { IfOk result (λ log. log ≡ log_of self.old.world site) }
+        ensures faults { IfErr result IsCheckFault }
+    {
+        let rows = self.tables(rt, site)?;
+        let messages = copied(alloc, self.history(site))?;
+        Ok(Log::new(site as u8, messages, Some(rows)))
+    }
+
+    /// The logs of all sites, each with its tables.
+    fn logs<R: Threads + Wait + Sync>(
+        &mut self,
+        rt: &R,
+        alloc: Global,
+    ) -> Result<Vec<Log>, WorldFault>
+        requires { length self.old.world.sites ≤ SITES_MAX }
+        ensures same { self.new ≡ self.old }
+        ensures logs { IfOk result (λ logs. logs.items ≡ logs_of self.old.world) }
+        ensures faults { IfErr result IsCheckFault }
+    {
+        let mut logs = Vec::new(alloc);
+        'sites: for site in 0..self.len() {
+            logs.push(self.log(rt, alloc, site)?)?;
+        }
+        Ok(logs)
+    }
+
+    /// The auditor's verdict on the logs of all sites, each with its tables.
+    pub fn check<R: Threads + Wait + Sync>(&mut self, rt: &R) -> Result<Verdict, WorldFault>
+        requires few { length self.old.world.sites ≤ SITES_MAX }
+        requires among { AreAmong (length self.old.world.sites) (logs_of self.old.world) }
+        ensures same { self.new ≡ self.old }
+        ensures verdict { IfOk result (λ found. found ≡ verdict (logs_of self.old.world)) }
+        ensures faults { IfErr result IsCheckFault }
+    {
+        let alloc = *self.packets.allocator();
+        let logs = self.logs(rt, alloc)?;
+        Ok(audit(alloc, &logs, self.len() as u8)?)
     }
 
     /// A request at a site.

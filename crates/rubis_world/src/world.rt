@@ -1,13 +1,17 @@
-ghost use Rattle.std.specs.Prelude.{◌≡◌, IfOk, length};
+ghost use Rattle.std.specs.Prelude.{◌≡◌, ◌≤◌, IfErr, IfOk, length};
 ghost use Rattle.rubis_model.specs.Laws.{InRun};
 ghost use Rattle.rubis_model.specs.System.{IsEvent, happens, start};
 ghost use Rattle.rubis_model.specs.System.Event.{At, Deliver};
-ghost use Rattle.rubis_world.specs.Worlds.{Steps};
+ghost use Rattle.rubis_schema.specs.declared.limits.TheConstants.{SITES_MAX};
+ghost use Rattle.rubis_message.specs.declared.answers.Verdict.TheVariants.{Agree};
+ghost use Rattle.rubis_model.specs.Verdict.{verdict};
+ghost use Rattle.rubis_model.specs.WorldRecords.{logs_of};
+ghost use Rattle.rubis_world.specs.Worlds.{IsCheckFault, Steps};
 
 use crate::config::WorldConfig;
 use crate::faults::WorldFault;
 use crate::sites::Sites;
-use rubis_message::{Happened, Packet, Request};
+use rubis_message::{Happened, Packet, Request, Verdict};
 use std::alloc::{AllocError, Global};
 use std::marker::Model;
 use std::sync::Wait;
@@ -41,6 +45,14 @@ impl World {
         })
     }
 
+    /// How many sites there are, 1 to 8.
+    pub fn sites(&self) -> u8
+        ensures value { result ≡ length self.now.world.sites }
+        ensures few { result ≤ SITES_MAX }
+    {
+        self.sites.len() as u8
+    }
+
     /// A request at a site. What the site sends is the last packet then, and the answer has its number. After a fault, want
     /// of memory too, the logs, the waiting messages, the token and the packets are as they were.
     pub fn at<R: Threads + Wait + Sync>(
@@ -68,6 +80,18 @@ impl World {
         ensures run { InRun self.new.world }
     {
         self.sites.deliver(rt, site, number)
+    }
+
+    /// The auditor's verdict on the logs of all sites, each with its tables: in a run it is always Agree. All that is
+    /// pending at a site is applied first. A site that is behind has no tables to show, and its world no verdict.
+    pub fn check<R: Threads + Wait + Sync>(&mut self, rt: &R) -> Result<Verdict, WorldFault>
+        ensures same { self.new ≡ self.old }
+        ensures verdict { IfOk result (λ found. found ≡ verdict (logs_of self.old.world)) }
+        ensures agrees { IfOk result (λ found. found ≡ Agree) }
+        ensures faults { IfErr result IsCheckFault }
+        ensures run { InRun self.new.world }
+    {
+        self.sites.check(rt)
     }
 
     /// All packets that were sent, in the order in which they were sent.

@@ -1,0 +1,7 @@
+use Rattle.std.proofs.lemmas.List.{append-nil}
+use Rattle.rubis_model.specs.WorldRecords.{world_answers}
+use Rattle.rubis_world.proofs.desk.WorldDeskService.finish.Goals as goal
+
+pub returns : goal.returns
+unfolding world_answers
+returns g c = λ n. append-nil c.args._sink.now

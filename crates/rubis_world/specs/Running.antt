@@ -1,0 +1,35 @@
+-- What several sites make of their records.
+use Rattle.std.specs.Prelude.{◌≡◌, ◌++◌, ℕ, List, length, Result, Ok, Err}
+use Rattle.rubis_schema.specs.declared.refusals.Refusal.{Refusal}
+use Rattle.rubis_schema.specs.declared.refusals.Refusal.TheVariants as refusal
+use Rattle.rubis_model.specs.System.{World}
+use Rattle.rubis_model.specs.WorldRecords.{world_answers}
+use Rattle.rubis_replica.specs.declared.faults.Fault.TheVariants as fault
+use Rattle.rubis_script.specs.Accounts.{Account}
+use Rattle.rubis_script.specs.Text.{rows_text}
+use Rattle.rubis_script.specs.declared.fault.OutOfMemory.{OutOfMemory}
+use Rattle.rubis_world.specs.Worlds.{WorldState}
+use Rattle.rubis_world.specs.declared.faults.WorldFault.{WorldFault}
+use Rattle.rubis_world.specs.declared.faults.WorldFault.TheVariants.{BadEvent, NoSuchPacket, Site, Memory}
+
+-- an answer, or a refusal; where a site is behind or memory runs out there is none
+abbrev pub answer_of : {A : Type 0} → Result A WorldFault → Result (Result A Refusal) OutOfMemory
+answer_of (Ok a) = Ok (Ok a)
+answer_of (Err BadEvent) = Ok (Err refusal.BadEvent)
+answer_of (Err NoSuchPacket) = Ok (Err refusal.NoSuchPacket)
+answer_of (Err (Site (fault.Refused r))) = Ok (Err r)
+answer_of (Err (Site fault.Behind)) = Err (record {})
+answer_of (Err (Site fault.Memory)) = Err (record {})
+answer_of (Err Memory) = Err (record {})
+
+-- the world has come to what a step makes of it, and the text of the step's records stands behind what stood before
+abbrev pub IsTold : WorldState → WorldState → World × List (List (List ℕ)) → List ℕ → List ℕ → Type 0
+IsTold old new step before after = (new ≡ record old { world = step.0 }) × (after ≡ before ++ rows_text step.1)
+
+-- however the run ends behind some records, from record n on, its text is that of the answers to them; it reads all of them
+abbrev pub world_account : ℕ → World → ℕ → Account
+world_account keep w n = record { text = λ ending records. rows_text (world_answers keep w n records); read = λ records. length records }
+
+-- what is still to be made of a world
+abbrev pub told_by : WorldState → ℕ → Account
+told_by s n = world_account s.keep s.world n

@@ -1,0 +1,153 @@
+// Several sites as a service: a record in, its answers out.
+
+ghost use Rattle.std.specs.Prelude.{◌≡◌, ◌≤◌, ◌∷◌, [], IfOk, OnOk, length, refl};
+ghost use Rattle.rubis_message.specs.WorldReadings.{world_input};
+ghost use Rattle.rubis_model.specs.AuditRecords.{verdict_record};
+ghost use Rattle.rubis_model.specs.System.{IsEvent, happens, start};
+ghost use Rattle.rubis_model.specs.System.Event.{At, Deliver};
+ghost use Rattle.rubis_model.specs.Verdict.{verdict};
+ghost use Rattle.rubis_model.specs.WorldRecords.{logs_of, told_at, world_step};
+ghost use Rattle.rubis_world.specs.Running.{IsTold, answer_of, told_by};
+
+use crate::answers::{write_answer, write_no_event, write_refused};
+use crate::config::WorldConfig;
+use crate::faults::WorldFault;
+use crate::world::World;
+use rubis_audit::write_verdict;
+use rubis_message::{Request, WorldInput, read_world_input};
+use rubis_replica::Fault;
+use rubis_schema::{Fields, Refusal};
+use rubis_script::{OutOfMemory, Service, Sink};
+use std::alloc::{AllocError, Global};
+use std::sync::Wait;
+use std::thread::Threads;
+
+// The answer to an event, or its refusal. Where a site has no memory for an answer there is none, nor where it is behind.
+fn answered<A>(answer: Result<A, WorldFault>) -> Result<Result<A, Refusal>, OutOfMemory>
+    ensures { result ≡ answer_of answer }
+{
+    match answer {
+        Ok(answer) => Ok(Ok(answer)),
+        Err(WorldFault::BadEvent) => Ok(Err(Refusal::BadEvent)),
+        Err(WorldFault::NoSuchPacket) => Ok(Err(Refusal::NoSuchPacket)),
+        Err(WorldFault::Site(Fault::Refused(refusal))) => Ok(Err(refusal)),
+        Err(WorldFault::Site(_)) | Err(WorldFault::Memory) => Err(OutOfMemory),
+    }
+}
+
+// Answers a request at a site.
+fn answer_request<R: Threads + Wait + Sync>(
+    rt: &R,
+    world: &mut World,
+    reply: &mut Fields,
+    sink: &mut Sink,
+    number: u64,
+    site: u8,
+    request: Request,
+) -> Result<(), OutOfMemory>
+    requires { IsEvent (length world.old.world.sites) (At site request) }
+    ensures { OnOk result (IsTold world.old world.new (told_at number site (happens world.old.keep world.old.world (At site request))) sink.old sink.new) }
+{
+    let answer = answered(world.at(rt, site, request))?;
+    write_answer(reply, sink, number, site, world.packets(), answer)?;
+    Ok(())
+}
+
+// Answers the delivery of a packet to a site.
+fn answer_delivery<R: Threads + Wait + Sync>(
+    rt: &R,
+    world: &mut World,
+    reply: &mut Fields,
+    sink: &mut Sink,
+    number: u64,
+    site: u8,
+    which: u64,
+) -> Result<(), OutOfMemory>
+    ensures { OnOk result (IsTold world.old world.new (told_at number site (happens world.old.keep world.old.world (Deliver site which))) sink.old sink.new) }
+{
+    let answer = answered(world.deliver(rt, site, which))?;
+    write_answer(reply, sink, number, site, world.packets(), answer)?;
+    Ok(())
+}
+
+// Answers an audit.
+fn answer_audit<R: Threads + Wait + Sync>(
+    rt: &R,
+    world: &mut World,
+    reply: &mut Fields,
+    sink: &mut Sink,
+) -> Result<(), OutOfMemory>
+    ensures { OnOk result (IsTold world.old world.new (world.old.world, verdict_record (verdict (logs_of world.old.world)) ∷ []) sink.old sink.new) }
+{
+    let Ok(verdict) = world.check(rt) else {
+        return Err(OutOfMemory);
+    };
+    write_verdict(reply, sink, verdict)?;
+    Ok(())
+}
+
+/// Several sites with what they need to read records and to write their answers.
+#[derive(Drop)]
+pub struct WorldDesk {
+    pub world: World,
+    reply: Fields,
+    alloc: Global,
+}
+
+impl WorldDesk {
+    /// Sites with nothing done, set up so.
+    pub fn new(alloc: Global, config: &WorldConfig) -> Result<WorldDesk, AllocError>
+        ensures { IfOk result (λ desk. desk.world ≡ record { keep = config.now.keep; world = start config.now.sites }) }
+    {
+        Ok(WorldDesk {
+            world: World::new(alloc, config)?,
+            reply: Fields::new(alloc),
+            alloc,
+        })
+    }
+
+    /// Answers the record with this number.
+    pub fn respond<R: Threads + Wait + Sync>(
+        &mut self,
+        rt: &R,
+        number: u64,
+        fields: &Fields,
+        sink: &mut Sink,
+    ) -> Result<(), OutOfMemory>
+        ensures { OnOk result (IsTold self.old.world self.new.world
+            (world_step self.old.world.keep self.old.world.world number (world_input (length self.old.world.world.sites) fields.now)) sink.old sink.new) }
+    {
+        let input = read_world_input(self.alloc, fields, self.world.sites())?;
+        let world = &mut self.world;
+        let reply = &mut self.reply;
+        match input {
+            WorldInput::Asked(site, Some(request)) => {
+                answer_request(rt, world, reply, sink, number, site, request)
+            }
+            WorldInput::Asked(site, None) => {
+                Ok(write_refused(reply, sink, number, site, Refusal::BadRecord)?)
+            }
+            WorldInput::Delivered(site, which) => {
+                answer_delivery(rt, world, reply, sink, number, site, which)
+            }
+            WorldInput::Audit => answer_audit(rt, world, reply, sink),
+            WorldInput::Neither => {
+                Ok(write_no_event(reply, sink, number, Refusal::BadEvent)?)
+            }
+        }
+    }
+}
+
+impl<T> Service<T> for WorldDesk {
+    ghost account = { λ s n. told_by s.world n };
+
+    ghost reads_none = { λ s n. refl };
+
+    fn settle(&mut self, _rt: &T, _sink: &mut Sink) -> Result<(), OutOfMemory> {
+        Ok(())
+    }
+
+    fn finish(&mut self, _rt: &T, _sink: &mut Sink) -> Result<(), OutOfMemory> {
+        Ok(())
+    }
+}

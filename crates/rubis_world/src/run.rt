@@ -1,0 +1,142 @@
+// Several sites over a reader and a writer.
+
+ghost use Rattle.std.specs.Prelude.{◌≡◌, ◌≤◌, ◌<◌, ◌+◌, ◌^◌, ◌⊎◌, [], ℕ, List, IfErr, IfOk, IfSome, IsErrOf, MatchOption, length, take};
+ghost use Rattle.std.specs.Io.KnownBytes.{Appends};
+ghost use Rattle.rubis_model.specs.WorldRecords.{world_output_of};
+ghost use Rattle.rubis_script.specs.Accounts.Ending.{AtEnd};
+ghost use Rattle.rubis_script.specs.Progress.{InEachRun, IsCut, IsDone, IsTooLong, Progress, WroteFront};
+ghost use Rattle.rubis_script.specs.Reading.{Gives};
+ghost use Rattle.rubis_script.specs.Text.{records_of, rows_text};
+ghost use Rattle.rubis_world.specs.Running.{told_by};
+
+use crate::config::WorldConfig;
+use crate::desk::WorldDesk;
+use rubis_schema::RECORDS_MAX;
+use rubis_script::{Count, Records, RunFault, Sink, next_record, stop, write_out};
+use std::alloc::Global;
+use std::io::{Read, Write};
+use std::sync::Wait;
+use std::thread::Threads;
+
+// Answers the record behind so many, if there is one. `None` where the run goes on, and else how many records were read.
+fn turn<T: Threads + Wait + Sync, R: Read, W: Write>(
+    rt: &T,
+    records: &mut Records<R>,
+    desk: &mut WorldDesk,
+    sink: &mut Sink,
+    writer: &mut W,
+    answered: u64,
+) -> Result<Option<Count>, RunFault>
+    requires { answered + 1 < 2 ^ 64 }
+    ensures goes { IfOk result (λ over. InEachRun R.remaining records.old (told_by desk.old.world (answered + 1)) (W.contents writer.old) sink.old (answered + 1) (λ all old input.
+        MatchOption over
+        (Progress R.remaining records.new all (told_by desk.new.world (answered + 1 + 1)) old (W.contents writer.new) sink.new (answered + 1 + 1) input)
+        (λ count. IsDone all (answered + 1) old (W.contents writer.new) (records_of input) count.records))) }
+    ensures read { IsErrOf result RunFault.Read → InEachRun R.remaining records.old (told_by desk.old.world (answered + 1)) (W.contents writer.old) sink.old (answered + 1) (λ all old input.
+        IsCut all old (W.contents writer.new) (records_of input)) }
+    ensures memory { IsErrOf result RunFault.Memory → InEachRun R.remaining records.old (told_by desk.old.world (answered + 1)) (W.contents writer.old) sink.old (answered + 1) (λ all old input.
+        WroteFront (all.text AtEnd) old (W.contents writer.new) (records_of input)) }
+    ensures faults { IfErr result (λ e. (e ≡ RunFault.Read) ⊎ (e ≡ RunFault.Write) ⊎ (e ≡ RunFault.Memory)) }
+{
+    match next_record(rt, records, desk, sink, writer, answered) {
+        Ok(None) => {}
+        Ok(Some(count)) => return Ok(Some(count)),
+        Err(fault) => return Err(fault),
+    }
+    let Ok(()) = desk.respond(rt, answered + 1, records.fields(), sink) else {
+        return Err(RunFault::Memory);
+    };
+    match write_out(rt, records, desk, sink, writer) {
+        Ok(()) => Ok(None),
+        Err(fault) => Err(fault),
+    }
+}
+
+// Answers records until there are no more, or up to `limit` of them.
+fn serve<T: Threads + Wait + Sync, R: Read, W: Write>(
+    rt: &T,
+    records: &mut Records<R>,
+    desk: &mut WorldDesk,
+    sink: &mut Sink,
+    writer: &mut W,
+    limit: u64,
+) -> Result<Count, RunFault>
+    ensures ok { IfOk result (λ count. (input : List ℕ) → Gives R.remaining records.old (records_of input) → sink.old ≡ []
+        → IsDone (told_by desk.old.world 1) limit (W.contents writer.old) (W.contents writer.new) (records_of input) count.records) }
+    ensures too_long { IsErrOf result RunFault.TooLong → (input : List ℕ) → Gives R.remaining records.old (records_of input) → sink.old ≡ []
+        → IsTooLong (told_by desk.old.world 1) limit (W.contents writer.old) (W.contents writer.new) (records_of input) }
+    ensures read { IsErrOf result RunFault.Read → (input : List ℕ) → Gives R.remaining records.old (records_of input) → sink.old ≡ []
+        → IsCut (told_by desk.old.world 1) (W.contents writer.old) (W.contents writer.new) (records_of input) }
+    ensures memory { IsErrOf result RunFault.Memory → (input : List ℕ) → Gives R.remaining records.old (records_of input) → sink.old ≡ []
+        → WroteFront ((told_by desk.old.world 1).text AtEnd) (W.contents writer.old) (W.contents writer.new) (records_of input) }
+{
+    'turns: for n in 0..limit {
+        match turn(rt, records, desk, sink, writer, n) {
+            Ok(None) => {}
+            Ok(Some(count)) => return Ok(count),
+            Err(fault) => return Err(fault),
+        }
+    }
+    stop(rt, records, desk, sink, writer, limit)
+}
+
+/// Runs the desk of several sites over the records of `reader` until its end, or up to `limit` of them: appends the text of its
+/// answers to `writer`. The desk is lent, so that a program can let it go as it likes.
+///
+/// # Errors
+///
+/// Those of `run_world`.
+pub fn run_world_desk<T: Threads + Wait + Sync, R: Read + Drop, W: Write>(
+    rt: &T,
+    alloc: Global,
+    reader: R,
+    writer: &mut W,
+    desk: &mut WorldDesk,
+    limit: u64,
+) -> Result<Count, RunFault>
+    ensures ok { IfOk result (λ count. IfSome (R.remaining reader) (λ input.
+        IsDone (told_by desk.old.world 1) limit (W.contents writer.old) (W.contents writer.new) (records_of input) count.records)) }
+    ensures too_long { IsErrOf result RunFault.TooLong → IfSome (R.remaining reader) (λ input.
+        IsTooLong (told_by desk.old.world 1) limit (W.contents writer.old) (W.contents writer.new) (records_of input)) }
+    ensures read { IsErrOf result RunFault.Read → IfSome (R.remaining reader) (λ input.
+        IsCut (told_by desk.old.world 1) (W.contents writer.old) (W.contents writer.new) (records_of input)) }
+    ensures memory { IsErrOf result RunFault.Memory → IfSome (R.remaining reader) (λ input.
+        WroteFront ((told_by desk.old.world 1).text AtEnd) (W.contents writer.old) (W.contents writer.new) (records_of input)) }
+{
+    let mut records = Records::new(alloc, reader);
+    let mut sink = Sink::new(alloc);
+    serve(rt, &mut records, desk, &mut sink, writer, limit)
+}
+
+/// Runs several sites over at most 4,000,000 records of `reader`: appends the text of their answers to `writer`. The answers
+/// depend on the records, and on how many sites there are and how many messages each keeps; not on shards, workers or
+/// batches.
+///
+/// # Errors
+///
+/// `Read` where the reader failed: the first records are answered then, as if there were no more. `Write` where the
+/// writer failed. `Memory` where there was not enough, or a site came to be behind: what was written is the front of the
+/// whole text. `TooLong` where the input has more records: the first 4,000,000 are answered then.
+pub fn run_world<T: Threads + Wait + Sync, R: Read + Drop, W: Write>(
+    rt: &T,
+    alloc: Global,
+    reader: R,
+    writer: &mut W,
+    config: &WorldConfig,
+) -> Result<Count, RunFault>
+    ensures ok { IfOk result (λ count. IfSome (R.remaining reader) (λ input.
+        Appends (W.contents writer.old) (W.contents writer.new) (rows_text (world_output_of config.now.sites config.now.keep (records_of input)))
+        × (count.records ≡ length (records_of input)) × (count.records ≤ 4000000))) }
+    ensures too_long { IsErrOf result RunFault.TooLong → IfSome (R.remaining reader) (λ input.
+        Appends (W.contents writer.old) (W.contents writer.new) (rows_text (world_output_of config.now.sites config.now.keep (take 4000000 (records_of input))))
+        × (4000000 < length (records_of input))) }
+    ensures read { IsErrOf result RunFault.Read → IfSome (R.remaining reader) (λ input.
+        (k : ℕ) × Appends (W.contents writer.old) (W.contents writer.new) (rows_text (world_output_of config.now.sites config.now.keep (take k (records_of input))))) }
+    ensures memory { IsErrOf result RunFault.Memory → IfSome (R.remaining reader) (λ input.
+        WroteFront (λ records. rows_text (world_output_of config.now.sites config.now.keep records)) (W.contents writer.old) (W.contents writer.new) (records_of input)) }
+{
+    let Ok(mut desk) = WorldDesk::new(alloc, config) else {
+        return Err(RunFault::Memory);
+    };
+    run_world_desk(rt, alloc, reader, writer, &mut desk, RECORDS_MAX)
+}
