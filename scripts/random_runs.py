@@ -3,8 +3,10 @@
 
 Each conversation is played with batches of one message, one shard and one worker, and then under random batches, shards and
 workers: the answers have to be the same, byte for byte. Half of the sites take packets of another site, out of order, some
-of them forged, lost or repeated; a listing may come at any record. The seed is fixed, so each run of this script plays the
-same conversations."""
+of them forged, lost or repeated; a listing may come at any record. A quarter as many conversations are those of a world of
+up to 8 sites: packets come in any order, again, or not at all, the token goes round, and after each hundred records an
+audit has to agree. At the end all packets are delivered to all sites, whose tables then have to be the same. The seed is
+fixed, so each run of this script plays the same conversations."""
 
 import random
 import subprocess
@@ -66,24 +68,115 @@ def conversation(dice: random.Random) -> tuple[list[str], list[str]]:
     return command, records + ["list,tables", "list,log", "list,misfits"]
 
 
-def answers(program: str, command: list[str], settings: list[str], text: bytes) -> bytes:
-    return subprocess.run([program, "site", *command, *settings], input=text, capture_output=True, check=True).stdout
+def world_records(dice: random.Random, sites: int, many: int) -> list[str]:
+    """Requests at the sites of a world, and deliveries of packets, some of which aren't there yet."""
+    made = [0] * sites
+
+    def row() -> str:
+        site = dice.randrange(sites)
+        return f"{site}.{dice.randint(1, made[site] + 1)}"
+
+    def ask() -> str:
+        kind = dice.choice(["user", "user", "item", "bid", "bid", "buy", "close", "comment"])
+        if kind == "user":
+            return f"user,{dice.choice(NICKS)}{dice.randint(0, 9)}"
+        if kind == "item":
+            return f"item,{row()},lamp,{dice.choice([7, 8])},{dice.randint(1, 9)},100,{dice.choice([0, 300])}"
+        if kind == "bid":
+            return f"bid,{row()},{row()},{dice.randint(90, 400)}"
+        if kind == "buy":
+            return f"buy,{row()},{row()},{dice.randint(1, 3)}"
+        if kind == "close":
+            return f"close,{row()},{row()}"
+        return f"comment,{row()},{row()},{row()},{dice.randint(-5, 5)},good"
+
+    records = []
+    for _ in range(many):
+        site = dice.randrange(sites)
+        sent = sum(made) + 1
+        deed = dice.choice(["ask", "ask", "pass", "deliver", "deliver", "deliver", "late", "list"])
+        if deed == "ask":
+            records.append(f"at,{site},{ask()}")
+            made[site] += 1
+        elif deed == "pass":
+            records += [f"at,{site},pass,{dice.randrange(sites)}", f"deliver,{dice.randrange(sites)},{sent}"]
+            made[site] += 1
+        elif deed == "deliver":
+            records.append(f"deliver,{site},{dice.randint(max(1, sent - 9), sent)}")
+        elif deed == "late":
+            records.append(f"deliver,{site},{dice.randint(1, sent)}")
+        else:
+            records.append(f"at,{site},list,{dice.choice(LISTINGS).format(id=row())}")
+        if len(records) % 100 < 2:
+            records.append("audit")
+    return records
+
+
+def tables_at_the_end(text: bytes, sites: int, last: int) -> list[list[bytes]]:
+    """What each site lists in answer to the last records but one, without the site's number and the record's."""
+    tables = []
+    for site in range(sites):
+        front = f"at,{site},".encode()
+        reply = f"at,{site},reply,{last - sites + site},rows,".encode()
+        lines = text.splitlines()
+        start = next(place for place, line in enumerate(lines) if line.startswith(reply))
+        rows = int(lines[start].rsplit(b",", 1)[1])
+        tables.append([line.removeprefix(front) for line in lines[start + 1 : start + 1 + rows]])
+    return tables
+
+
+def fault_in_world(program: str, dice: random.Random) -> str | None:
+    """Plays a random world, and says what is wrong with its answers, if anything."""
+    sites = dice.randint(2, 8)
+    records = world_records(dice, sites, dice.choice([60, 250, 600]))
+    command = ["world", "--sites", str(sites)]
+    plain = command + ["--batch", "1", "--shards", "1", "--workers", "1"]
+    sent = sum(line.split(b",")[2] == b"send" for line in answers(program, plain, records).splitlines() if line.startswith(b"at,"))
+    records += [f"deliver,{site},{packet}" for packet in range(1, sent + 1) for site in range(sites)]
+    records += [f"at,{site},list,tables" for site in range(sites)] + ["audit"]
+    alone = answers(program, plain, records)
+    if answers(program, command + settings(dice), records) != alone:
+        return "the answers differ"
+    if any(line.startswith(b"audit,") and line != b"audit,Agree" for line in alone.splitlines()):
+        return "an audit doesn't agree"
+    tables = tables_at_the_end(alone, sites, len(records))
+    if any(rows != tables[0] for rows in tables):
+        return "the sites' tables differ at the end"
+    return None
+
+
+def fault_in_site(program: str, dice: random.Random) -> str | None:
+    """Plays a random conversation with one site, and says what is wrong with its answers, if anything."""
+    command, records = conversation(dice)
+    alone = answers(program, ["site", *command, "--batch", "1", "--shards", "1", "--workers", "1"], records)
+    if answers(program, ["site", *command, *settings(dice)], records) != alone:
+        return "the answers differ"
+    return None
+
+
+def settings(dice: random.Random) -> list[str]:
+    """Random batches, shards and workers."""
+    batch = dice.choice([1, 2, 3, 7, 64, 65536])
+    return ["--batch", str(batch), "--shards", str(dice.randint(1, 64)), "--workers", str(dice.randint(2, 16))]
+
+
+def answers(program: str, command: list[str], records: list[str]) -> bytes:
+    text = "".join(f"{record}\n" for record in records).encode()
+    return subprocess.run([program, *command], input=text, capture_output=True, check=True).stdout
 
 
 def main() -> int:
     program = sys.argv[1]
     many = int(sys.argv[2]) if len(sys.argv) > 2 else 200
-    dice = random.Random(int(sys.argv[3]) if len(sys.argv) > 3 else 1)
-    for number in range(1, many + 1):
-        command, records = conversation(dice)
-        text = ("\n".join(records) + "\n").encode()
-        settings = ["--batch", str(dice.choice([1, 2, 3, 7, 64, 65536])), "--shards", str(dice.randint(1, 64)), "--workers", str(dice.randint(2, 16))]
-        alone = answers(program, command, ["--batch", "1", "--shards", "1", "--workers", "1"], text)
-        if answers(program, command, settings, text) != alone:
-            print(f"random run {number} differs: site {' '.join(command + settings)}")
-            sys.stdout.write(text.decode())
+    seed = int(sys.argv[3]) if len(sys.argv) > 3 else 1
+    worlds = many // 4
+    for number in range(many + worlds):
+        play = fault_in_site if number < many else fault_in_world
+        fault = play(program, random.Random(f"{seed} {number}"))
+        if fault:
+            print(f"random run {number} of seed {seed}: {fault}")
             return 1
-    print(f"random runs: {many} passed, 0 failed")
+    print(f"random runs: {many + worlds} passed, 0 failed, {worlds} of them worlds")
     return 0
 
 

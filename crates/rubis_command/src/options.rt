@@ -194,7 +194,7 @@ fn word(matches: &ArgMatches<'_>, name: &str) -> u32
     matches.get_one::<u32>(name).unwrap_or(0)
 }
 
-fn setup(matches: &ArgMatches<'_>) -> Setup
+fn read_setup(matches: &ArgMatches<'_>) -> Setup
     ensures { IsSetupIn (rows_of (found_of matches.now)) result }
 {
     Setup {
@@ -211,7 +211,7 @@ fn site_options(matches: &ArgMatches<'_>) -> Options
 {
     Options {
         site: byte(matches, "site"),
-        setup: setup(matches),
+        setup: read_setup(matches),
     }
 }
 
@@ -228,7 +228,7 @@ pub fn read_options(alloc: Global, words: &[String]) -> Result<Run, OptionFault>
             if name == "audit" {
                 Ok(Run::Audit(byte(inner, "sites")))
             } else if name == "world" {
-                Ok(Run::World(setup(inner)))
+                Ok(Run::World(read_setup(inner)))
             } else {
                 Ok(Run::Site(site_options(inner)))
             }

@@ -41,7 +41,7 @@ pub returns-then-eq-2-clause-ok : goal.returns-then-eq-2-clause-ok
 returns-then-eq-2-clause-ok c =
     let entered = entered_by _ _ _ c.in-Some.name.now _ c.in-Some.ensures.name c.in-Some.ensures.rows in
     let world : c.in-Some.name.now ≡ codes "world" = search rules in
-    (rows_of (found_of c.in-Some.inner.now), entered_line _ _ c.in_ok-matches.matches _ c.in_ok-program.ensures c.in_ok-matches.ensures.matches (entered ∙ ap (λ n. Some (n, rows_of (found_of c.in-Some.inner.now))) world), c.setup.ensures)
+    (rows_of (found_of c.in-Some.inner.now), entered_line _ _ c.in_ok-matches.matches _ c.in_ok-program.ensures c.in_ok-matches.ensures.matches (entered ∙ ap (λ n. Some (n, rows_of (found_of c.in-Some.inner.now))) world), c.read_setup.ensures)
 
 pub returns-then-eq-2-clause-fits : goal.returns-then-eq-2-clause-fits
 returns-then-eq-2-clause-fits c =
