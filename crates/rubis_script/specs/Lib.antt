@@ -1,7 +1,9 @@
 pub mod Text
+pub mod RowTexts
 pub mod Rows
 pub mod Reading
 pub mod Accounts
 pub mod Progress
 pub mod Inputs
+pub mod Replies
 pub mod SiteRuns

@@ -9,6 +9,7 @@ mod replies;
 mod run;
 mod service;
 mod sink;
+mod sink_rows;
 mod site_run;
 
 pub use desk::Desk;

@@ -1,14 +1,16 @@
 // The records that answer a record.
 
-ghost use Rattle.std.specs.Prelude.{◌≡◌, ◌++◌, ◌∷◌, [], Ok, OnOk, codes};
+ghost use Rattle.std.specs.Prelude.{◌≡◌, ◌++◌, ◌∷◌, [], ℕ, List, Ok, OnOk, codes};
 ghost use Rattle.rubis_message.specs.declared.answers.Arrival.TheVariants.{Released};
 ghost use Rattle.rubis_schema.specs.Ids.{id_text};
 ghost use Rattle.rubis_model.specs.Answers.{arrived_rows, asked_rows, listed_rows, passed_rows, refused_row, reply, took_rows};
+ghost use Rattle.rubis_script.specs.Replies.{HasRows};
 ghost use Rattle.rubis_script.specs.Text.{rows_text};
 
 use crate::sink::Sink;
+use rubis_listing::Counted;
 use rubis_message::{Arrival, Message, Taken, Token, append_message, append_token};
-use rubis_schema::{Fields, Items, Refusal, push_number};
+use rubis_schema::{Fields, Refusal, push_number};
 use std::alloc::AllocError;
 
 // Begins the reply to the record with that number.
@@ -171,42 +173,17 @@ pub fn write_taken(
     }
 }
 
-// Writes rows as they are.
-fn write_rows(sink: &mut Sink, rows: &[Fields]) -> Result<(), AllocError>
-    ensures { OnOk result (sink.new ≡ sink.old ++ rows_text rows.now) }
-{
-    for row in rows {
-        sink.write_fields(row)?;
-    }
-    Ok(())
-}
-
-// How many rows a listing has, and the rows.
-fn write_listing(
+/// Says how many rows a listing has, and gives them.
+pub fn write_listing(
     fields: &mut Fields,
     sink: &mut Sink,
     number: u64,
-    rows: &Items<Fields>,
+    listing: Counted<Sink>,
 ) -> Result<(), AllocError>
-    ensures { OnOk result (sink.new ≡ sink.old ++ rows_text (listed_rows number (Ok rows.now))) }
+    ensures { OnOk result ((rows : List (List (List ℕ))) → HasRows rows listing → sink.new ≡ sink.old ++ rows_text (listed_rows number (Ok rows))) }
 {
     begin(fields, number, b"rows")?;
-    push_number(fields, rows.len() as u64)?;
+    push_number(fields, listing.count)?;
     sink.write_fields(fields)?;
-    write_rows(sink, rows.as_slice())
-}
-
-/// Says how many rows a listing has, and gives them; or says why it is refused.
-pub fn write_listed(
-    fields: &mut Fields,
-    sink: &mut Sink,
-    number: u64,
-    answer: &Result<Items<Fields>, Refusal>,
-) -> Result<(), AllocError>
-    ensures { OnOk result (sink.new ≡ sink.old ++ rows_text (listed_rows number answer.now)) }
-{
-    match answer {
-        Ok(rows) => write_listing(fields, sink, number, rows),
-        Err(refusal) => write_refusal(fields, sink, number, *refusal),
-    }
+    sink.append(listing.rows)
 }

@@ -1,0 +1,13 @@
+-- The text of rows that are added one after the other.
+use Rattle.std.proofs.Common.{◌≡◌, ◌∙◌, ℕ, List, [], ◌++◌, ap, append_assoc, sym}
+use Rattle.std.proofs.lemmas.Grind.{flat_map-append}
+use Rattle.std.proofs.lemmas.List.{append-nil}
+use Rattle.rubis_script.specs.Text.{plain_writer, row_text, rows_text}
+
+pub text_none : (s : List ℕ) → s ≡ s ++ rows_text []
+text_none s = sym (append-nil s)
+
+pub text_more : (xs ys : List (List (List ℕ))) (a b c : List ℕ) → b ≡ a ++ rows_text xs → c ≡ b ++ rows_text ys → c ≡ a ++ rows_text (xs ++ ys)
+text_more xs ys a b c e f =
+    f ∙ ap (λ t. t ++ rows_text ys) e ∙ append_assoc a (rows_text xs) (rows_text ys)
+    ∙ ap (λ t. a ++ t) (sym (flat_map-append (row_text plain_writer) xs ys))
