@@ -20,6 +20,7 @@ use Rattle.rubis_schema.specs.FieldForms.{number_of}
 use Rattle.rubis_message.specs.Forms.{take_site}
 use Rattle.rubis_message.specs.Message.{Message}
 use Rattle.rubis_message.specs.Readings.{request_of, take_kind, take_request}
+use Rattle.rubis_message.specs.WorldReadings.{request_at, take_at, take_audit, take_delivery}
 use Rattle.rubis_message.specs.Words.{kind_of}
 use Rattle.std.specs.Fmt.{digits}
 use Rattle.rubis_message.specs.declared.answers.Happened.{Happened}
@@ -35,7 +36,7 @@ use Rattle.rubis_model.specs.Meaning.{meaning_row}
 use Rattle.rubis_model.specs.Site.{Place, Replica, opening_at, arrived}
 use Rattle.rubis_model.specs.System.{World, Event, AreEvents, site, run, start}
 use Rattle.rubis_model.specs.System.Event.{At, Deliver}
-use Rattle.rubis_model.specs.WorldRecords.{world_answers, world_output_of, request_at, take_audit, take_delivery}
+use Rattle.rubis_model.specs.WorldRecords.{world_answers, world_output_of}
 use Rattle.rubis_laws.proofs.Keeps.{start_sound}
 use Rattle.rubis_laws.proofs.Room.{room_start}
 use Rattle.rubis_laws.proofs.ByMeaning.{answers, answers_by, run_by, same_run, same_answers}
@@ -135,7 +136,7 @@ token_output : world_output_of 2 1000000 token_records ≡
     ∷ (codes "at" ∷ codes "0" ∷ codes "reply" ∷ codes "5" ∷ codes "refused" ∷ codes "21" ∷ codes "NotForMe" ∷ [])
     ∷ (codes "at" ∷ codes "0" ∷ codes "reply" ∷ codes "6" ∷ codes "holding" ∷ [])
     ∷ []
-unfolding token_records world_answers request_at take_delivery take_audit take_site request_of take_request take_kind kind_of number_of digits
+unfolding token_records world_answers request_at take_at take_delivery take_audit take_site request_of take_request take_kind kind_of number_of digits
 token_output = refl
 
 -- who passed it doesn't hold it any more
@@ -162,7 +163,7 @@ no_events : world_output_of 2 1000000 (
     ∷ (codes "world" ∷ codes "6" ∷ codes "refused" ∷ codes "30" ∷ codes "BadEvent" ∷ [])
     ∷ (codes "world" ∷ codes "7" ∷ codes "refused" ∷ codes "30" ∷ codes "BadEvent" ∷ [])
     ∷ []
-unfolding world_answers request_at take_delivery take_audit take_site request_of take_request take_kind kind_of number_of digits
+unfolding world_answers request_at take_at take_delivery take_audit take_site request_of take_request take_kind kind_of number_of digits
 no_events = refl
 
 -- no site, and no packet

@@ -1,6 +1,6 @@
 -- The forms of requests and packets: each reads back what is written so, and takes nothing else.
 use Rattle.std.proofs.Common.{◌≡◌, ℕ, ◌<◌, ◌≤◌, ◌^◌, Bool, true, false, cond, List, [], ◌∷◌, ◌++◌, refl, sym, ap, subst, ◌∙◌, arith, decimal}
-use Rattle.std.specs.Prelude.{◌↔◌, ⊤, ◌==◌, nat_lt, Some, None, bytes_eq, codes, Decides}
+use Rattle.std.specs.Prelude.{◌↔◌, ⊤, ◌==◌, nat_lt, Some, None, bytes_eq, codes, Decides, IfOk, IsErrOf, Result, Ok, Err}
 use Rattle.std.specs.Cmp.Lexicographic.{bytes_decides}
 use Rattle.std.proofs.lemmas.Bool.Decides.{Decides-eqb, nat_tests}
 use Rattle.rubis_schema.specs.Ids.{IsId, id_text}
@@ -19,6 +19,8 @@ use Rattle.rubis_message.specs.Grammar.{token_version, version_of, HasShadowText
 use Rattle.rubis_message.specs.Forms.{after, give, none, made, one, take_id, take_number, take_positive}
 use Rattle.rubis_message.specs.Readings.{agrees, listing_by, packet_of, request_by, request_of, shadow_by, take_asked_close, take_bid, take_close, take_comment, take_item, take_kind, take_listing, take_message, take_packet, take_purchase, take_request, take_shadow, take_shown, take_stamp, take_token}
 use Rattle.rubis_message.specs.Words.{all_shown, kind_of, kind_text, kinds, shown_of, shown_text}
+use Rattle.rubis_message.specs.declared.faults.ReadFault.{ReadFault}
+use Rattle.rubis_message.specs.declared.faults.ReadFault.TheVariants.{BadRecord}
 use Rattle.rubis_message.specs.declared.kinds.Kind.{Kind}
 use Rattle.rubis_message.specs.declared.kinds.Kind.TheVariants as kind
 use Rattle.rubis_message.specs.declared.kinds.Shown.{Shown}
@@ -431,6 +433,16 @@ module _ (sites : ℕ) (few : sites < 2 ^ 8) where
   pub no_request : (fields : List (List ℕ)) → request_of sites fields ≡ None → (r : Request) → IsRequest sites r
       → fields ≡ request_record r → ⊥
   no_request fields none r h is = let back = (request_is fields r).1 (h, is) in absurd cc
+
+  -- what was read of these fields, or why nothing was
+  pub request_read : (fields left : List (List ℕ)) (result : Result Request ReadFault) → left ≡ fields
+      → IfOk result (λ r. request_of sites left ≡ Some r) → IfOk result (λ r. IsRequest sites r × (fields ≡ request_record r))
+  request_read fields left (Ok r) same some = (request_is fields r).0 (subst (λ f. request_of sites f ≡ Some r) same some)
+  request_read fields left (Err e) same some = tt
+
+  pub none_read : (fields left : List (List ℕ)) (result : Result Request ReadFault) → left ≡ fields
+      → (IsErrOf result BadRecord → request_of sites left ≡ None) → IsErrOf result BadRecord → (r : Request) → IsRequest sites r → fields ≡ request_record r → ⊥
+  none_read fields left result same none bad = no_request fields (subst (λ f. request_of sites f ≡ None) same (none bad))
 
   pub packet_is : sites ≤ COUNTED_MAX → (fields : List (List ℕ)) (p : Packet)
       → (packet_of sites fields ≡ Some p) ↔ (IsPacket sites p × (fields ≡ packet_record p))

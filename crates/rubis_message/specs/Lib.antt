@@ -6,3 +6,4 @@ pub mod Words
 pub mod Counts
 pub mod Forms
 pub mod Readings
+pub mod WorldReadings

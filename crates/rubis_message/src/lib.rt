@@ -13,6 +13,7 @@ mod requests;
 mod shadows;
 mod stamps;
 mod tokens;
+mod world_inputs;
 mod writers;
 
 pub use answers::{Arrival, Happened, Kind, Taken, Verdict};
@@ -22,4 +23,5 @@ pub use messages::Message;
 pub use packets::read_packet;
 pub use requests::{Request, read_request};
 pub use tokens::{Packet, Token};
+pub use world_inputs::{WorldInput, read_world_input};
 pub use writers::{append_message, append_token, write_message, write_token};

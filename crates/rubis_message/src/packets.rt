@@ -30,7 +30,7 @@ fn agree(shadow: &Shadow, red: u32) -> bool
 impl<'a> Reader<'a> {
     /// The number of one of so many sites.
     #[tactic(auto, unfolding(crate::specs::Forms::take_site))]
-    fn site(&mut self, sites: u8) -> Result<u8, ReadFault>
+    pub fn site(&mut self, sites: u8) -> Result<u8, ReadFault>
         ensures form { Takes (take_site sites) self.old self.new result }
         ensures below { IfOk result (λ n. n < sites) }
     {

@@ -1,6 +1,6 @@
 // A record that is read field by field.
 
-ghost use Rattle.std.specs.Prelude.{◌≡◌, ◌≤◌, ℕ, List, [], ◌∷◌, IfOk, MatchResult};
+ghost use Rattle.std.specs.Prelude.{◌≡◌, ◌≤◌, ◌==◌, ℕ, List, [], ◌∷◌, IfOk, MatchResult, length};
 ghost use Rattle.rubis_message.specs.Forms.{Takes, at_end, take_id, take_name, take_nick, take_number, take_positive, take_rating, take_text, take_winner};
 ghost use Rattle.rubis_message.specs.Readings.{take_kind, take_shown};
 
@@ -45,6 +45,13 @@ impl<'a> Reader<'a> {
         let field = self.fields.field(self.next);
         self.next += 1;
         field.ok_or(ReadFault::BadRecord)
+    }
+
+    /// Whether nothing is left to read.
+    pub fn is_empty(&self) -> bool
+        ensures { result ≡ (length self.now == 0) }
+    {
+        self.next == self.fields.len()
     }
 
     /// Nothing is left to read.

@@ -66,9 +66,22 @@ impl<'a> Reader<'a> {
     }
 }
 
+impl<'a> Reader<'a> {
+    /// All that is left, as a request to a site among so many.
+    #[tactic(auto, unfolding(crate::specs::Readings::request_of))]
+    pub fn request_left(&mut self, alloc: Global, sites: u8) -> Result<Request, ReadFault>
+        ensures limits { IfOk result (IsRequest sites) }
+        ensures some { IfOk result (λ r. request_of sites self.old ≡ Some r) }
+        ensures none { IsErrOf result ReadFault.BadRecord → request_of sites self.old ≡ None }
+    {
+        let request = self.request(alloc, sites)?;
+        self.end()?;
+        Ok(request)
+    }
+}
+
 /// Reads a request to a site among so many. `BadRecord` only where no request is written so; `Memory` where there is
 /// none for a name or a text.
-#[tactic(auto, unfolding(crate::specs::Readings::request_of))]
 pub fn read_request(alloc: Global, fields: &Fields, sites: u8) -> Result<Request, ReadFault>
     ensures ok { IfOk result (λ r. IsRequest sites r × (fields.now ≡ request_record r)) }
     ensures bad { IsErrOf result ReadFault.BadRecord → (r : Request) → IsRequest sites r → fields.now ≢ request_record r }
@@ -77,8 +90,5 @@ pub fn read_request(alloc: Global, fields: &Fields, sites: u8) -> Result<Request
     ensures some { IfOk result (λ r. request_of sites fields.now ≡ Some r) }
     ensures none { IsErrOf result ReadFault.BadRecord → request_of sites fields.now ≡ None }
 {
-    let mut reader = Reader::new(fields);
-    let request = reader.request(alloc, sites)?;
-    reader.end()?;
-    Ok(request)
+    Reader::new(fields).request_left(alloc, sites)
 }

@@ -1,59 +1,23 @@
 -- The records of several sites in one run, and what answers them.
-use Rattle.std.specs.Prelude.{ℕ, ◌+◌, bytes_eq, codes, decimal, List, [], ◌∷◌, ◌++◌, length, map, Option, Some, None, option_and_then, unwrap_or, Result, Ok, Err}
+use Rattle.std.specs.Prelude.{ℕ, ◌+◌, codes, decimal, List, [], ◌∷◌, ◌++◌, length, map, Option, Some, None, Result, Ok, Err}
 use Rattle.std.specs.List.{range_with_len}
-use Rattle.std.specs.Option.{option_or}
 use Rattle.rubis_schema.specs.Refusals.{code_of, name_of}
-use Rattle.rubis_schema.specs.declared.limits.TheConstants.{RECORDS_MAX}
 use Rattle.rubis_schema.specs.declared.refusals.Refusal.{Refusal}
 use Rattle.rubis_schema.specs.declared.refusals.Refusal.TheVariants.{BadEvent, BadRecord, NoSuchPacket}
-use Rattle.rubis_message.specs.Forms.{Form, ◌>>=◌, ◌>>◌, check, give, one, take_number, take_site, whole}
-use Rattle.rubis_message.specs.Readings.{request_of}
+use Rattle.rubis_message.specs.WorldReadings.{world_input}
 use Rattle.rubis_message.specs.declared.answers.Happened.{Happened}
 use Rattle.rubis_message.specs.declared.answers.Happened.TheVariants as happened
 use Rattle.rubis_message.specs.declared.requests.Request.{Request}
 use Rattle.rubis_message.specs.declared.tokens.Packet.{Packet}
 use Rattle.rubis_message.specs.declared.tokens.Packet.TheVariants as packet
+use Rattle.rubis_message.specs.declared.world_inputs.WorldInput.{WorldInput}
+use Rattle.rubis_message.specs.declared.world_inputs.WorldInput.TheVariants.{Asked, Delivered, Audit, Neither}
 use Rattle.rubis_model.specs.Answers.{arrived_rows, asked_rows, listed_rows, passed_rows, refused_row, took_rows}
 use Rattle.rubis_model.specs.AuditRecords.{verdict_record}
 use Rattle.rubis_model.specs.Logs.{Log, shown_rows}
 use Rattle.rubis_model.specs.System.{Event, World, happens, packet_at, site, start}
 use Rattle.rubis_model.specs.System.Event.{At, Deliver}
 use Rattle.rubis_model.specs.Verdict.{verdict}
-
--- what a record is: the fields of a request at a site, the delivery of a packet, an audit of all logs, or none of these
-pub data WorldInput : Type 0 where
-  Asked : (site : ℕ) (fields : List (List ℕ)) → WorldInput
-  Delivered : (site which : ℕ) → WorldInput
-  Audit : WorldInput
-  Neither : WorldInput
-
--- a field with just that word
-abbrev pub word : List ℕ → Form (Unit {0})
-word w = one Some >>= (λ field. check (bytes_eq field w))
-
--- at least one field is left behind the number of a site
-abbrev pub with_fields : ℕ → List (List ℕ) → Option WorldInput
-with_fields i [] = None
-with_fields i (field ∷ rest) = Some (Asked i (field ∷ rest))
-
--- `at`, one of so many sites, and the fields of a request, at least one
-unfoldable pub request_at : ℕ → List (List ℕ) → Option WorldInput
-request_at sites fields = option_and_then (λ p. with_fields p.0 p.1) ((word (codes "at") >> take_site sites) fields)
-
--- `deliver`, one of so many sites, and the number of a packet
-unfoldable pub take_delivery : ℕ → Form WorldInput
-take_delivery sites = do
-  word (codes "deliver")
-  site ← take_site sites
-  which ← take_number RECORDS_MAX
-  give (Delivered site which)
-
-unfoldable pub take_audit : Form WorldInput
-take_audit = word (codes "audit") >> give Audit
-
-abbrev pub world_input : ℕ → List (List ℕ) → WorldInput
-world_input sites fields =
-    unwrap_or (option_or (request_at sites fields) (option_or (whole (take_delivery sites) fields) (whole take_audit fields))) Neither
 
 -- ---- answers
 
@@ -103,7 +67,7 @@ logs_of w =
 
 -- the world after record n, and the records that answer it
 abbrev pub world_step : ℕ → World → ℕ → WorldInput → World × List (List (List ℕ))
-world_step keep w n (Asked i fields) = asked_at keep w n i (request_of (length w.sites) fields)
+world_step keep w n (Asked i r) = asked_at keep w n i r
 world_step keep w n (Delivered i k) = told_at n i (happens keep w (Deliver i k))
 world_step keep w n Audit = (w, verdict_record (verdict (logs_of w)) ∷ [])
 world_step keep w n Neither = (w, world_row n BadEvent ∷ [])

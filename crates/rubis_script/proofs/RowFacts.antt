@@ -1,6 +1,7 @@
 -- How a row goes on.
-use Rattle.std.proofs.Common.{◌≡◌, ◌==◌, ◌∙◌, ◌+◌, ◌-◌, ◌^◌, ◌∷◌, [], ◌++◌, ℕ, zero, suc, List, length, Vec, Global, refl, sym, ap, true, false, append_assoc, arith, length-append}
-use Rattle.std.specs.Prelude.{Err, Ok, OnOk, Result, min, not}
+use Rattle.std.proofs.Common.{drop, ◌<◌, ◌≡◌, ◌==◌, ◌∙◌, ◌+◌, ◌-◌, ◌^◌, ◌∷◌, [], ◌++◌, ℕ, zero, suc, List, length, Vec, Global, refl, sym, ap, true, false, append_assoc, arith, length-append}
+use Rattle.std.specs.Prelude.{Err, Ok, OnOk, Result, min, not, slice_index_or}
+use Rattle.std.proofs.Math.Seq.{drop-cons}
 use Rattle.std.proofs.lemmas.Bool.{ne_eqb}
 use Rattle.std.proofs.lemmas.List.{append-nil}
 use Rattle.csv.proofs.WriteFacts.{blank-more, row-more}
@@ -67,3 +68,15 @@ begun-end start a b done h text =
 pub on_ok_four : {T E : Type 0} {P Q S U V : Type 0} (r : Result T E) → (P → Q → S → U → V) → OnOk r P → OnOk r Q → OnOk r S → OnOk r U → OnOk r V
 on_ok_four (Ok v) f p q s u = f p q s u
 on_ok_four (Err e) f p q s u = tt
+
+-- what follows from a call that went well
+pub on_ok : {T E : Type 0} {P Q : Type 0} (r : Result T E) → (P → Q) → OnOk r P → OnOk r Q
+on_ok (Ok v) f p = f p
+on_ok (Err e) f p = tt
+
+-- the row at a place, and those behind it
+pub row_first : (at : ℕ) (rows : List (List (List ℕ))) (row : List (List ℕ)) → at < length rows → slice_index_or rows at row ≡ row
+    → drop at rows ≡ (row ∷ []) ++ drop (at + 1) rows
+row_first at rows row l is =
+    let next : suc at ≡ at + 1 = omega arith in
+    drop-cons rows at row l ∙ (λ i. is i ∷ drop (next i) rows)

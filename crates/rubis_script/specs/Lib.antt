@@ -1,5 +1,4 @@
 pub mod Text
-pub mod RowTexts
 pub mod Rows
 pub mod Reading
 pub mod Accounts
@@ -7,3 +6,4 @@ pub mod Progress
 pub mod Inputs
 pub mod Replies
 pub mod SiteRuns
+pub mod Adding

@@ -15,7 +15,7 @@ ghost use Rattle.rubis_script.specs.SiteRuns.{told_by};
 
 use crate::fault::OutOfMemory;
 use crate::replies::{
-    write_arrival, write_asked, write_listing, write_passed, write_refusal, write_taken,
+    write_arrival, write_asked, write_listed_text, write_passed, write_refusal, write_taken,
 };
 use crate::service::Service;
 use crate::sink::Sink;
@@ -89,7 +89,7 @@ fn answer_list<G: Gate, R: Threads + Wait + Sync>(
 {
     let mut rows = Counted::new(sink.another());
     match answered(site.list_into(rt, listing, &mut rows))? {
-        Ok(()) => write_listing(fields, sink, number, rows)?,
+        Ok(()) => write_listed_text(fields, sink, number, rows)?,
         Err(refusal) => write_refusal(fields, sink, number, refusal)?,
     }
     Ok(())

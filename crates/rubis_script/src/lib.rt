@@ -9,12 +9,14 @@ mod replies;
 mod run;
 mod service;
 mod sink;
-mod sink_rows;
 mod site_run;
 
 pub use desk::Desk;
 pub use fault::{Count, OutOfMemory, RunFault};
 pub use record_list::Records;
+pub use replies::{
+    write_arrival, write_handed_on, write_listed, write_refusal, write_sent, write_taken,
+};
 pub use run::{next_record, run_upto, stop, write_out};
 pub use service::{Answering, Course, Service};
 pub use sink::Sink;

@@ -1,6 +1,6 @@
 // The records that answer a record.
 
-ghost use Rattle.std.specs.Prelude.{◌≡◌, ◌++◌, ◌∷◌, [], ℕ, List, Ok, OnOk, codes};
+ghost use Rattle.std.specs.Prelude.{◌≡◌, ◌∷◌, ◌++◌, [], ℕ, List, Ok, OnOk, codes, decimal};
 ghost use Rattle.rubis_message.specs.declared.answers.Arrival.TheVariants.{Released};
 ghost use Rattle.rubis_schema.specs.Ids.{id_text};
 ghost use Rattle.rubis_model.specs.Answers.{arrived_rows, asked_rows, listed_rows, passed_rows, refused_row, reply, took_rows};
@@ -8,9 +8,9 @@ ghost use Rattle.rubis_script.specs.Replies.{HasRows};
 ghost use Rattle.rubis_script.specs.Text.{rows_text};
 
 use crate::sink::Sink;
-use rubis_listing::Counted;
+use rubis_listing::{Counted, RowSink};
 use rubis_message::{Arrival, Message, Taken, Token, append_message, append_token};
-use rubis_schema::{Fields, Refusal, push_number};
+use rubis_schema::{Fields, Items, Refusal, push_number};
 use std::alloc::AllocError;
 
 // Begins the reply to the record with that number.
@@ -24,57 +24,58 @@ fn begin(fields: &mut Fields, number: u64, word: &[u8]) -> Result<(), AllocError
 }
 
 /// Says why a record is refused.
-pub fn write_refusal(
+pub fn write_refusal<S: RowSink>(
     fields: &mut Fields,
-    sink: &mut Sink,
+    sink: &mut S,
     number: u64,
     refusal: Refusal,
 ) -> Result<(), AllocError>
-    ensures { OnOk result (sink.new ≡ sink.old ++ rows_text (refused_row number refusal ∷ [])) }
+    ensures { OnOk result (S.adds (refused_row number refusal ∷ []) sink.old sink.new) }
 {
     begin(fields, number, b"refused")?;
     push_number(fields, u64::from(refusal.code()))?;
     fields.push(refusal.name().as_bytes())?;
-    sink.write_fields(fields)
+    sink.put(fields)
 }
 
 // The first record of an accepted ask.
-fn write_accepted(
+fn write_accepted<S: RowSink>(
     fields: &mut Fields,
-    sink: &mut Sink,
+    sink: &mut S,
     number: u64,
     message: &Message,
 ) -> Result<(), AllocError>
-    ensures { OnOk result (sink.new ≡ sink.old ++ rows_text (reply number (codes "ok" ∷ id_text message.now.stamp.id ∷ []) ∷ [])) }
+    ensures { OnOk result (S.adds (reply number (codes "ok" ∷ id_text message.now.stamp.id ∷ []) ∷ []) sink.old sink.new) }
 {
     begin(fields, number, b"ok")?;
     message.stamp().id.push_to(fields)?;
-    sink.write_fields(fields)
+    sink.put(fields)
 }
 
-// The message of an accepted ask, with its id in front.
-fn write_sent(
+/// Gives the id of an accepted ask, and sends its message.
+pub fn write_sent<S: RowSink>(
     fields: &mut Fields,
-    sink: &mut Sink,
+    sink: &mut S,
     number: u64,
     message: &Message,
 ) -> Result<(), AllocError>
-    ensures { OnOk result (sink.new ≡ sink.old ++ rows_text (asked_rows number (Ok message.now))) }
+    ensures { OnOk result (S.adds (asked_rows number (Ok message.now)) sink.old sink.new) }
 {
     write_accepted(fields, sink, number, message)?;
     fields.clear();
+    fields.push(b"send")?;
     append_message(fields, message)?;
-    sink.write_after(&[b"send".as_slice()], fields)
+    sink.put(fields)
 }
 
 /// Gives the id of an accepted ask, and sends its message; or says why the ask is refused.
-pub fn write_asked(
+pub fn write_asked<S: RowSink>(
     fields: &mut Fields,
-    sink: &mut Sink,
+    sink: &mut S,
     number: u64,
     answer: &Result<Message, Refusal>,
 ) -> Result<(), AllocError>
-    ensures { OnOk result (sink.new ≡ sink.old ++ rows_text (asked_rows number answer.now)) }
+    ensures { OnOk result (S.adds (asked_rows number answer.now) sink.old sink.new) }
 {
     match answer {
         Ok(message) => write_sent(fields, sink, number, message),
@@ -82,30 +83,31 @@ pub fn write_asked(
     }
 }
 
-// The token that is handed on.
-fn write_handed_on(
+/// Says that the token is handed on, and sends it.
+pub fn write_handed_on<S: RowSink>(
     fields: &mut Fields,
-    sink: &mut Sink,
+    sink: &mut S,
     number: u64,
     token: &Token,
 ) -> Result<(), AllocError>
-    ensures { OnOk result (sink.new ≡ sink.old ++ rows_text (passed_rows number (Ok token.now))) }
+    ensures { OnOk result (S.adds (passed_rows number (Ok token.now)) sink.old sink.new) }
 {
     begin(fields, number, b"passed")?;
-    sink.write_fields(fields)?;
+    sink.put(fields)?;
     fields.clear();
+    fields.push(b"send")?;
     append_token(fields, token)?;
-    sink.write_after(&[b"send".as_slice()], fields)
+    sink.put(fields)
 }
 
 /// Says that the token is handed on, and sends it; or why it isn't.
-pub fn write_passed(
+pub fn write_passed<S: RowSink>(
     fields: &mut Fields,
-    sink: &mut Sink,
+    sink: &mut S,
     number: u64,
     answer: &Result<Token, Refusal>,
 ) -> Result<(), AllocError>
-    ensures { OnOk result (sink.new ≡ sink.old ++ rows_text (passed_rows number answer.now)) }
+    ensures { OnOk result (S.adds (passed_rows number answer.now) sink.old sink.new) }
 {
     match answer {
         Ok(token) => write_handed_on(fields, sink, number, token),
@@ -114,40 +116,40 @@ pub fn write_passed(
 }
 
 // Says how many messages were released.
-fn write_released(
+fn write_released<S: RowSink>(
     fields: &mut Fields,
-    sink: &mut Sink,
+    sink: &mut S,
     number: u64,
     count: u32,
 ) -> Result<(), AllocError>
-    ensures { OnOk result (sink.new ≡ sink.old ++ rows_text (arrived_rows number (Ok (Released count)))) }
+    ensures { OnOk result (S.adds (arrived_rows number (Ok (Released count))) sink.old sink.new) }
 {
     begin(fields, number, b"released")?;
     push_number(fields, u64::from(count))?;
-    sink.write_fields(fields)
+    sink.put(fields)
 }
 
 // Answers with one word.
-fn write_word(
+fn write_word<S: RowSink>(
     fields: &mut Fields,
-    sink: &mut Sink,
+    sink: &mut S,
     number: u64,
     word: &[u8],
 ) -> Result<(), AllocError>
-    ensures { OnOk result (sink.new ≡ sink.old ++ rows_text (reply number (word.now ∷ []) ∷ [])) }
+    ensures { OnOk result (S.adds (reply number (word.now ∷ []) ∷ []) sink.old sink.new) }
 {
     begin(fields, number, word)?;
-    sink.write_fields(fields)
+    sink.put(fields)
 }
 
 /// Says what became of a message that arrived, or why it is refused.
-pub fn write_arrival(
+pub fn write_arrival<S: RowSink>(
     fields: &mut Fields,
-    sink: &mut Sink,
+    sink: &mut S,
     number: u64,
     answer: &Result<Arrival, Refusal>,
 ) -> Result<(), AllocError>
-    ensures { OnOk result (sink.new ≡ sink.old ++ rows_text (arrived_rows number answer.now)) }
+    ensures { OnOk result (S.adds (arrived_rows number answer.now) sink.old sink.new) }
 {
     match answer {
         Ok(Arrival::Released(count)) => write_released(fields, sink, number, *count),
@@ -158,13 +160,13 @@ pub fn write_arrival(
 }
 
 /// Says what became of a token that arrived, or why it is refused.
-pub fn write_taken(
+pub fn write_taken<S: RowSink>(
     fields: &mut Fields,
-    sink: &mut Sink,
+    sink: &mut S,
     number: u64,
     answer: &Result<Taken, Refusal>,
 ) -> Result<(), AllocError>
-    ensures { OnOk result (sink.new ≡ sink.old ++ rows_text (took_rows number answer.now)) }
+    ensures { OnOk result (S.adds (took_rows number answer.now) sink.old sink.new) }
 {
     match answer {
         Ok(Taken::Holding) => write_word(fields, sink, number, b"holding"),
@@ -173,8 +175,60 @@ pub fn write_taken(
     }
 }
 
-/// Says how many rows a listing has, and gives them.
-pub fn write_listing(
+// Writes rows as they are.
+fn write_rows<S: RowSink>(sink: &mut S, rows: &[Fields]) -> Result<(), AllocError>
+    ensures { OnOk result (S.adds rows.now sink.old sink.new) }
+{
+    for row in rows {
+        sink.put(row)?;
+    }
+    Ok(())
+}
+
+// How many rows a listing has.
+fn write_count<S: RowSink>(
+    fields: &mut Fields,
+    sink: &mut S,
+    number: u64,
+    count: u64,
+) -> Result<(), AllocError>
+    ensures { OnOk result (S.adds (reply number (codes "rows" ∷ decimal count ∷ []) ∷ []) sink.old sink.new) }
+{
+    begin(fields, number, b"rows")?;
+    push_number(fields, count)?;
+    sink.put(fields)
+}
+
+// How many rows a listing has, and the rows.
+fn write_listing<S: RowSink>(
+    fields: &mut Fields,
+    sink: &mut S,
+    number: u64,
+    rows: &Items<Fields>,
+) -> Result<(), AllocError>
+    ensures { OnOk result (S.adds (listed_rows number (Ok rows.now)) sink.old sink.new) }
+{
+    write_count(fields, sink, number, rows.len() as u64)?;
+    write_rows(sink, rows.as_slice())
+}
+
+/// Says how many rows a listing has, and gives them; or says why it is refused.
+pub fn write_listed<S: RowSink>(
+    fields: &mut Fields,
+    sink: &mut S,
+    number: u64,
+    answer: &Result<Items<Fields>, Refusal>,
+) -> Result<(), AllocError>
+    ensures { OnOk result (S.adds (listed_rows number answer.now) sink.old sink.new) }
+{
+    match answer {
+        Ok(rows) => write_listing(fields, sink, number, rows),
+        Err(refusal) => write_refusal(fields, sink, number, *refusal),
+    }
+}
+
+/// Says how many rows a listing has, and gives their text.
+pub fn write_listed_text(
     fields: &mut Fields,
     sink: &mut Sink,
     number: u64,
@@ -182,8 +236,6 @@ pub fn write_listing(
 ) -> Result<(), AllocError>
     ensures { OnOk result ((rows : List (List (List ℕ))) → HasRows rows listing → sink.new ≡ sink.old ++ rows_text (listed_rows number (Ok rows))) }
 {
-    begin(fields, number, b"rows")?;
-    push_number(fields, listing.count)?;
-    sink.write_fields(fields)?;
+    write_count(fields, sink, number, listing.count)?;
     sink.append(listing.rows)
 }

@@ -8,6 +8,7 @@ ghost use Rattle.rubis_script.specs.Text.{plain_writer};
 
 use super::fault::RunFault;
 use csv::{Writer, WriterBuilder};
+use rubis_listing::RowSink;
 use rubis_schema::Fields;
 use std::alloc::{AllocError, Global};
 use std::io::Write;
@@ -227,4 +228,20 @@ impl Sink {
             Err(_) => Err(AllocError),
         }
     }
+}
+
+impl RowSink for Sink {
+    ghost use Rattle.std.specs.Prelude.{◌≡◌, ◌++◌};
+    ghost use Rattle.rubis_script.specs.Adding.{added_more, added_none};
+    ghost use Rattle.rubis_script.specs.Text.{rows_text};
+
+    ghost adds = { λ rows old new. new ≡ old ++ rows_text rows };
+
+    fn put(&mut self, row: &Fields) -> Result<(), AllocError> {
+        self.write_fields(row)
+    }
+
+    ghost adds_none = { added_none };
+
+    ghost adds_more = { added_more };
 }
