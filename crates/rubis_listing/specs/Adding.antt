@@ -1,5 +1,5 @@
 -- Rows that are added to a list.
-use Rattle.std.proofs.Common.{◌≡◌, ℕ, List, [], ◌++◌, sym, ap, ◌∙◌, append_assoc}
+use Rattle.std.proofs.Common.{◌≡◌, ℕ, ◌+◌, List, [], ◌++◌, length, sym, ap, ◌∙◌, add-zero, add_assoc, append_assoc, length-append}
 use Rattle.std.proofs.lemmas.List.{append-nil}
 
 pub added_none : (s : List (List (List ℕ))) → s ≡ s ++ []
@@ -7,3 +7,9 @@ added_none s = sym (append-nil s)
 
 pub added_more : (xs ys a b c : List (List (List ℕ))) → b ≡ a ++ xs → c ≡ b ++ ys → c ≡ a ++ (xs ++ ys)
 added_more xs ys a b c e f = f ∙ ap (λ s. s ++ ys) e ∙ append_assoc a xs ys
+
+pub counted_none : (n : ℕ) → n ≡ n + length {A = List (List ℕ)} []
+counted_none n = sym (add-zero n)
+
+pub counted_more : (xs ys : List (List (List ℕ))) (a b c : ℕ) → b ≡ a + length xs → c ≡ b + length ys → c ≡ a + length (xs ++ ys)
+counted_more xs ys a b c e f = f ∙ ap (λ n. n + length ys) e ∙ add_assoc a (length xs) (length ys) ∙ ap (λ n. a + n) (sym (length-append xs ys))

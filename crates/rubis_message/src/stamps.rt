@@ -5,7 +5,7 @@ ghost use Rattle.rubis_message.specs.Counts.{deps_of};
 ghost use Rattle.rubis_message.specs.Grammar.{deps_text};
 
 use rubis_clock::Deps;
-use rubis_schema::{COUNT_MAX, COUNTED_MAX, Fields, ShortText, read_number, split_once};
+use rubis_schema::{COUNT_MAX, COUNTED_MAX, COUNTS_TEXT_MAX, Fields, ShortText, read_number, split_once};
 use std::alloc::AllocError;
 
 /// The counts of so many sites that are written so.
@@ -29,7 +29,7 @@ pub fn read_deps(text: &[u8], sites: u8) -> Option<Deps>
 }
 
 // The counts as they are written.
-fn text_of(deps: &Deps) -> ShortText
+fn text_of(deps: &Deps) -> ShortText<COUNTS_TEXT_MAX>
     ensures { result ≡ deps_text deps.now }
 {
     let counts = deps.as_slice();

@@ -1,5 +1,5 @@
 -- A site's state, and what its calls answer.
-use Rattle.std.specs.Prelude.{◌≡◌, ◌-◌, ◌<◌, ◌⊎◌, ℕ, length, Result, Ok, Err, MatchResult, ⊤}
+use Rattle.std.specs.Prelude.{◌≡◌, ◌-◌, ◌<◌, ◌⊎◌, ℕ, List, length, Result, Ok, Err, MatchResult, ⊤}
 use Rattle.rubis_schema.specs.declared.listings.Listing.{Listing}
 use Rattle.rubis_schema.specs.declared.listings.Listing.TheVariants.{Log}
 use Rattle.rubis_schema.specs.declared.refusals.Refusal.{Refusal}
@@ -33,6 +33,13 @@ abbrev pub Answers : {A : Type 0} → SiteState → SiteState → Replica × Res
 Answers old new step (Ok a) = (new.state ≡ step.0) × (step.1 ≡ Ok a)
 Answers old new step (Err (Refused r)) = (new.state ≡ old.state) × (step.1 ≡ Err r)
 Answers old new step (Err fault) = new.state ≡ old.state
+
+-- the call adds the rows that the step answers with; where it doesn't, the site's state is as it was
+abbrev pub AddsRows : (List (List (List ℕ)) → Type 0) → SiteState → SiteState → Replica × Result (List (List (List ℕ))) Refusal
+    → Result (Unit {0}) Fault → Type 0
+AddsRows adds old new step (Ok u) = (new.state ≡ step.0) × MatchResult step.1 adds (λ r. ⊥)
+AddsRows adds old new step (Err (Refused r)) = (new.state ≡ old.state) × (step.1 ≡ Err r)
+AddsRows adds old new step (Err fault) = new.state ≡ old.state
 
 -- what the site decides of an ask, against the tables of its whole log
 abbrev pub decision_at : SiteState → Ask → Result Shadow Refusal

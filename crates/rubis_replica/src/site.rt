@@ -7,13 +7,13 @@ ghost use Rattle.rubis_model.specs.Site.{arrived, asked, opening_at, passed, too
 ghost use Rattle.rubis_replica.specs.Progress.{GoesOn, IsBatched, IsProgress, is_behind, whole};
 ghost use Rattle.rubis_release.specs.Answers.{IsAdmitted};
 ghost use Rattle.rubis_replica.specs.Setup.{place_of};
-ghost use Rattle.rubis_replica.specs.State.{Answers, Decides, IsCutFault, IsReadFault, Lists, NeedsNoTables, TakesIn, WaitsBehind, pending, with_all_applied};
+ghost use Rattle.rubis_replica.specs.State.{AddsRows, Answers, Decides, IsCutFault, IsReadFault, Lists, NeedsNoTables, TakesIn, WaitsBehind, pending, with_all_applied};
 
 use crate::config::Config;
 use crate::faults::Fault;
 use crate::follower::Follower;
 use rubis_generate::decide;
-use rubis_listing::{bids, categories, comments, items, log, misfit_rows, purchases, users};
+use rubis_listing::{RowSink, list_log, list_misfits, list_tables};
 use rubis_message::{Arrival, Message, Taken, Token};
 use rubis_pieces::misfits;
 use rubis_release::Intake;
@@ -183,27 +183,48 @@ impl<G: Gate> Site<G> {
         Ok(self.intake.pass_token(to)?)
     }
 
-    // The rows of a listing, of the log and of the tables as far as they are.
-    fn rows(&self, listing: &Listing) -> Result<Items<Fields>, AllocError>
+    // Adds the rows of a listing, of the log and of the tables as far as they are.
+    fn add_rows<S: RowSink>(&self, listing: &Listing, sink: &mut S) -> Result<(), AllocError>
         requires { self.now.progress ≡ whole (length self.now.state.log) }
-        ensures { IfOk result (λ rows. rows ≡ listing_rows self.now.state.log (fold_of (cores self.now.state.log)) listing.now) }
+        ensures { OnOk result (S.adds (listing_rows self.now.state.log (fold_of (cores self.now.state.log)) listing.now) sink.old sink.new) }
     {
-        let tables = self.follower.tables();
         match listing {
-            Listing::Users => users(self.alloc, tables),
-            Listing::Items(cat) => items(self.alloc, tables, *cat),
-            Listing::Bids(item) => bids(self.alloc, tables, *item),
-            Listing::Purchases(item) => purchases(self.alloc, tables, *item),
-            Listing::Comments(user) => comments(self.alloc, tables, *user),
-            Listing::Categories => categories(self.alloc, tables),
-            Listing::Tables => rubis_listing::tables(self.alloc, tables),
-            Listing::Log => log(self.alloc, self.intake.log()),
-            Listing::Misfits => misfit_rows(self.alloc, misfits(self.alloc, tables)?.as_slice()),
+            Listing::Log => list_log(self.alloc, sink, self.intake.log()),
+            Listing::Misfits => {
+                let misfits = misfits(self.alloc, self.follower.tables())?;
+                list_misfits(self.alloc, sink, misfits.as_slice())
+            }
+            _ => list_tables(self.alloc, sink, listing, self.follower.tables()),
         }
     }
 
-    /// The rows of a listing. That of the log reads no tables and applies nothing; before any other all that is pending
-    /// is applied. A site that is behind has no rows.
+    /// Adds the rows of a listing to what takes them, one after the other. The listing of the log reads no tables and applies
+    /// nothing; before any other all that is pending is applied. A site that is behind has no rows. Where memory runs out,
+    /// some of the rows may have been added.
+    pub fn list_into<S: RowSink, R: Threads + Wait + Sync>(
+        &mut self,
+        rt: &R,
+        listing: &Listing,
+        sink: &mut S,
+    ) -> Result<(), Fault>
+        ensures place { self.new.place ≡ self.old.place }
+        ensures batch { self.new.batch ≡ self.old.batch }
+        ensures waits { WaitsBehind self.old self.new result }
+        ensures none { IsErrOf result Fault.Behind → sink.new ≡ sink.old }
+        ensures step { AddsRows (λ rows. S.adds rows sink.old sink.new) self.old self.new (listed self.old.state listing.now) result }
+        ensures progress { Lists listing.now self.old self.new result }
+    {
+        if let Listing::Log = listing {
+            if self.follower.is_behind() {
+                return Err(Fault::Behind);
+            }
+            return Ok(list_log(self.alloc, sink, self.intake.log())?);
+        }
+        self.refresh(rt)?;
+        Ok(self.add_rows(listing, sink)?)
+    }
+
+    /// The rows of a listing, as `list_into` adds them.
     pub fn list<R: Threads + Wait + Sync>(
         &mut self,
         rt: &R,
@@ -215,14 +236,9 @@ impl<G: Gate> Site<G> {
         ensures step { Answers self.old self.new (listed self.old.state listing.now) result }
         ensures progress { Lists listing.now self.old self.new result }
     {
-        if let Listing::Log = listing {
-            if self.follower.is_behind() {
-                return Err(Fault::Behind);
-            }
-            return Ok(log(self.alloc, self.intake.log())?);
-        }
-        self.refresh(rt)?;
-        Ok(self.rows(listing)?)
+        let mut rows = Items::new(self.alloc);
+        self.list_into(rt, listing, &mut rows)?;
+        Ok(rows)
     }
 
     /// Applies all that is pending, and says how many messages that were. Where nothing could be applied for want of

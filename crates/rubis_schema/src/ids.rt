@@ -3,7 +3,7 @@ ghost use Rattle.rubis_schema.specs.FieldForms.{id_of};
 ghost use Rattle.rubis_schema.specs.Ids.{id_text};
 
 use crate::field_list::Fields;
-use crate::limits::SEQ_MAX;
+use crate::limits::{ID_TEXT_MAX, SEQ_MAX};
 use crate::numbers::read_number;
 use crate::short_texts::ShortText;
 use crate::splits::split_once;
@@ -34,7 +34,7 @@ impl Id {
         })
     }
 
-    fn text(&self) -> ShortText
+    fn text(&self) -> ShortText<ID_TEXT_MAX>
         ensures { result ≡ id_text self.now }
     {
         let mut text = ShortText::new();

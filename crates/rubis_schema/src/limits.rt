@@ -57,5 +57,8 @@ pub const NAME_MAX: usize = 64;
 /// The most bytes of a comment's text.
 pub const TEXT_MAX: usize = 200;
 
-/// The most bytes of a short text: the counts of a message have room in one, each with ten digits and a mark.
-pub const SHORT_TEXT_MAX: usize = 11 * COUNTED_MAX;
+/// The most bytes of an id as it is written: ten digits, a mark and ten digits.
+pub const ID_TEXT_MAX: usize = 21;
+
+/// The most bytes of the counts of a message as they are written, each with ten digits and a mark.
+pub const COUNTS_TEXT_MAX: usize = 11 * COUNTED_MAX;

@@ -1,43 +1,41 @@
 ghost use Rattle.std.specs.Prelude.{◌≡◌, ◌≤◌, ◌<◌, ◌+◌, [], ◌∷◌, ◌++◌, decimal, length};
 
-use crate::limits::SHORT_TEXT_MAX;
 use itoa::write_digits;
 use std::marker::Model;
 
-/// A text of at most `SHORT_TEXT_MAX` bytes that is written from its last byte to its first, without memory. Contracts see its
+/// A text of at most `N` bytes that is written from its last byte to its first, without memory. Contracts see its
 /// bytes.
 #[derive(Drop)]
-pub struct ShortText {
+pub struct ShortText<const N: usize> {
     // The text is what stands from `start` on.
-    bytes: [u8; SHORT_TEXT_MAX],
+    bytes: [u8; N],
     start: usize,
 }
 
-impl Model for ShortText {
+impl<const N: usize> Model for ShortText<N> {
     ghost use Rattle.std.specs.Prelude.{List, ℕ, ◌≤◌, drop};
-    ghost use Rattle.rubis_schema.specs.declared.limits.TheConstants.{SHORT_TEXT_MAX};
 
     ghost Value = { List ℕ };
 
     ghost view = { λ t. drop t.start t.bytes };
 
-    ghost invariant = { λ t. t.start ≤ SHORT_TEXT_MAX };
+    ghost invariant = { λ t. t.start ≤ N };
 }
 
-impl ShortText {
+impl<const N: usize> ShortText<N> {
     /// No bytes.
-    pub fn new() -> ShortText
+    pub fn new() -> ShortText<N>
         ensures { result ≡ [] }
     {
         ShortText {
-            bytes: [0; SHORT_TEXT_MAX],
-            start: SHORT_TEXT_MAX,
+            bytes: [0; N],
+            start: N,
         }
     }
 
     /// Puts a byte first.
     pub fn put_byte(&mut self, byte: u8)
-        requires { length self.old < SHORT_TEXT_MAX }
+        requires { length self.old < N }
         ensures { self.new ≡ byte ∷ self.old }
     {
         self.start -= 1;
@@ -46,7 +44,7 @@ impl ShortText {
 
     /// Puts the digits of a number first.
     pub fn put_number(&mut self, number: u32)
-        requires { length self.old + 10 ≤ SHORT_TEXT_MAX }
+        requires { length self.old + 10 ≤ N }
         ensures text { self.new ≡ decimal number ++ self.old }
         ensures short { length self.new ≤ length self.old + 10 }
     {
@@ -57,6 +55,7 @@ impl ShortText {
     pub fn as_bytes(&self) -> &[u8]
         ensures { result.now ≡ self.now }
     {
-        &self.bytes[self.start..]
+        let all = &self.bytes[..];
+        &all[self.start..]
     }
 }

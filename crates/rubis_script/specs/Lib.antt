@@ -4,5 +4,6 @@ pub mod Reading
 pub mod Accounts
 pub mod Progress
 pub mod Inputs
+pub mod Replies
 pub mod SiteRuns
 pub mod Adding

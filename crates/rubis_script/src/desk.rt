@@ -15,10 +15,11 @@ ghost use Rattle.rubis_script.specs.SiteRuns.{told_by};
 
 use crate::fault::OutOfMemory;
 use crate::replies::{
-    write_arrival, write_asked, write_listed, write_passed, write_refusal, write_taken,
+    write_arrival, write_asked, write_listed_text, write_passed, write_refusal, write_taken,
 };
 use crate::service::Service;
 use crate::sink::Sink;
+use rubis_listing::Counted;
 use rubis_message::{Message, Packet, ReadFault, Request, Token, read_packet, read_request};
 use rubis_replica::{Config, Fault, Free, Gate, Site};
 use rubis_schema::{Fields, Listing, Refusal};
@@ -73,7 +74,8 @@ fn answer_pass<G: Gate>(
     Ok(())
 }
 
-// Answers a request for a listing.
+// Answers a request for a listing. The rows are written apart, since how many they are stands before them.
+#[inline(never)]
 fn answer_list<G: Gate, R: Threads + Wait + Sync>(
     rt: &R,
     site: &mut Site<G>,
@@ -85,8 +87,11 @@ fn answer_list<G: Gate, R: Threads + Wait + Sync>(
     ensures place { site.new.place ≡ site.old.place }
     ensures answered { OnOk result (IsAnswered number (Asked (Request.List listing.now)) site.old site.new sink.old sink.new) }
 {
-    let answer = answered(site.list(rt, listing))?;
-    write_listed(fields, sink, number, &answer)?;
+    let mut rows = Counted::new(sink.another());
+    match answered(site.list_into(rt, listing, &mut rows))? {
+        Ok(()) => write_listed_text(fields, sink, number, rows)?,
+        Err(refusal) => write_refusal(fields, sink, number, refusal)?,
+    }
     Ok(())
 }
 

@@ -1,11 +1,14 @@
 // The records that answer a record.
 
-ghost use Rattle.std.specs.Prelude.{◌≡◌, ◌∷◌, [], Ok, OnOk, codes};
+ghost use Rattle.std.specs.Prelude.{◌≡◌, ◌∷◌, ◌++◌, [], ℕ, List, Ok, OnOk, codes, decimal};
 ghost use Rattle.rubis_message.specs.declared.answers.Arrival.TheVariants.{Released};
 ghost use Rattle.rubis_schema.specs.Ids.{id_text};
 ghost use Rattle.rubis_model.specs.Answers.{arrived_rows, asked_rows, listed_rows, passed_rows, refused_row, reply, took_rows};
+ghost use Rattle.rubis_script.specs.Replies.{HasRows};
+ghost use Rattle.rubis_script.specs.Text.{rows_text};
 
-use rubis_listing::RowSink;
+use crate::sink::Sink;
+use rubis_listing::{Counted, RowSink};
 use rubis_message::{Arrival, Message, Taken, Token, append_message, append_token};
 use rubis_schema::{Fields, Items, Refusal, push_number};
 use std::alloc::AllocError;
@@ -182,6 +185,20 @@ fn write_rows<S: RowSink>(sink: &mut S, rows: &[Fields]) -> Result<(), AllocErro
     Ok(())
 }
 
+// How many rows a listing has.
+fn write_count<S: RowSink>(
+    fields: &mut Fields,
+    sink: &mut S,
+    number: u64,
+    count: u64,
+) -> Result<(), AllocError>
+    ensures { OnOk result (S.adds (reply number (codes "rows" ∷ decimal count ∷ []) ∷ []) sink.old sink.new) }
+{
+    begin(fields, number, b"rows")?;
+    push_number(fields, count)?;
+    sink.put(fields)
+}
+
 // How many rows a listing has, and the rows.
 fn write_listing<S: RowSink>(
     fields: &mut Fields,
@@ -191,9 +208,7 @@ fn write_listing<S: RowSink>(
 ) -> Result<(), AllocError>
     ensures { OnOk result (S.adds (listed_rows number (Ok rows.now)) sink.old sink.new) }
 {
-    begin(fields, number, b"rows")?;
-    push_number(fields, rows.len() as u64)?;
-    sink.put(fields)?;
+    write_count(fields, sink, number, rows.len() as u64)?;
     write_rows(sink, rows.as_slice())
 }
 
@@ -210,4 +225,17 @@ pub fn write_listed<S: RowSink>(
         Ok(rows) => write_listing(fields, sink, number, rows),
         Err(refusal) => write_refusal(fields, sink, number, *refusal),
     }
+}
+
+/// Says how many rows a listing has, and gives their text.
+pub fn write_listed_text(
+    fields: &mut Fields,
+    sink: &mut Sink,
+    number: u64,
+    listing: Counted<Sink>,
+) -> Result<(), AllocError>
+    ensures { OnOk result ((rows : List (List (List ℕ))) → HasRows rows listing → sink.new ≡ sink.old ++ rows_text (listed_rows number (Ok rows))) }
+{
+    write_count(fields, sink, number, listing.count)?;
+    sink.append(listing.rows)
 }

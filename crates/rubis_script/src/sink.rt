@@ -153,6 +153,25 @@ impl Sink {
         Ok(())
     }
 
+    /// Adds all text of another. Without memory for it no text is left.
+    pub fn append(&mut self, more: Sink) -> Result<(), AllocError>
+        ensures ok { OnOk result (self.new ≡ self.old ++ more) }
+        ensures err { OnErr result (self.new ≡ []) }
+    {
+        let front = mem::replace(self, Sink::new(self.alloc));
+        let mut text = front.into_text()?;
+        text.extend_from_slice(more.into_text()?.as_slice())?;
+        self.rows = WriterBuilder::new().flexible(true).from_writer(text);
+        Ok(())
+    }
+
+    /// Another one, with no text.
+    pub fn another(&self) -> Sink
+        ensures { result ≡ [] }
+    {
+        Sink::new(self.alloc)
+    }
+
     /// Whether there is so much text, of 64 KiB or more, that it is time to write it out.
     pub fn is_full(&self) -> bool
         ensures { result ≡ true → 65536 ≤ length self.now }

@@ -7,8 +7,7 @@ use Rattle.rubis_script.proofs.replies.write_listing.Goals as goal
 pub returns : goal.returns
 returns g c =
     let rows = c.args.rows.now in
-    let told = reply c.args.number (codes "rows" ∷ decimal (length rows) ∷ []) in
-    let row : c.push_number.new.fields ≡ told = search rules in
-    let one = subst (λ r. g.S.RowSink.adds (r ∷ []) c.args.sink.now c.put.new.self) row c.in_ok-put.ensures in
-    on_ok c.write_rows.result (λ two. g.met.S.RowSink.adds_more (told ∷ []) rows c.args.sink.now c.put.new.self c.write_rows.new.sink one
-    (subst (λ rs. g.S.RowSink.adds rs c.put.new.self c.write_rows.new.sink) c.as_slice.ensures two)) c.write_rows.ensures
+    let count : c.len.result ≡ length rows = search rules in
+    let one = subst (λ n. g.S.RowSink.adds (reply c.args.number (codes "rows" ∷ decimal n ∷ []) ∷ []) c.args.sink.now c.write_count.new.sink) count c.in_ok-write_count.ensures in
+    on_ok c.write_rows.result (λ two. g.met.S.RowSink.adds_more (reply c.args.number (codes "rows" ∷ decimal (length rows) ∷ []) ∷ []) rows
+    c.args.sink.now c.write_count.new.sink c.write_rows.new.sink one (subst (λ rs. g.S.RowSink.adds rs c.write_count.new.sink c.write_rows.new.sink) c.as_slice.ensures two)) c.write_rows.ensures
