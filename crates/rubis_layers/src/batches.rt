@@ -1,8 +1,8 @@
 // A batch of three users over five shards, and shards that come back.
 ghost use Rattle.std.specs.Prelude.{◌≡◌, ◌+◌, ◌≤◌, length, IfOk};
 
-use crate::{Done, FaultKind, Places, apply_batch, gather, misfits, split};
 use rubis_message::{Message, Packet, read_packet};
+use rubis_pieces::{Done, FaultKind, Places, apply_batch, gather, misfits, split};
 use rubis_schema::{Fields, Items, Table};
 use rubis_shard::{Shard, Share, Tables};
 use std::alloc::{AllocError, Global};

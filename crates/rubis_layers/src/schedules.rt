@@ -2,8 +2,8 @@ ghost use Rattle.std.specs.Prelude.{◌<◌, IfOk};
 ghost use Rattle.std.specs.List.{All};
 ghost use Rattle.rubis_pool_core.specs.Pieces.{IsPiece};
 
-use crate::{Event, Pool, run};
 use rubis_pieces::{Done, Piece, Places, gather};
+use rubis_pool_core::{Event, Pool, run};
 use rubis_schema::{Id, Items, PurchaseRow, Row, RowKey, shard_of};
 use rubis_shadow::{Change, Effect, Numbered};
 use rubis_shard::{Shard, Share};

@@ -1,7 +1,7 @@
 ghost use Rattle.std.specs.Prelude.{◌≡◌};
 
-use crate::{Arrival, Held, Intake, Taken};
 use rubis_message::Message;
+use rubis_release::{Arrival, Held, Intake, Taken};
 use rubis_schema::Nick;
 use rubis_shadow::Shadow;
 use std::test::Fail;

@@ -3,7 +3,7 @@ use Rattle.rubis_shard.specs.States.{ShardState}
 use Rattle.rubis_shard.specs.Holdings.{AreInOrder}
 use Rattle.rubis_pieces.specs.Shares.{AreShares}
 use Rattle.rubis_pieces.proofs.Folded.{belongs}
-use Rattle.rubis_workers.proofs.tests.apply_none.Goals as goal
+use Rattle.rubis_rows.proofs.meeting.apply_none.Goals as goal
 
 pub apply_all-requires-clause-belong : goal.apply_all-requires-clause-belong
 apply_all-requires-clause-belong g c κs within =

@@ -1,5 +1,5 @@
 use Rattle.std.proofs.Common.{◌≡◌}
-use Rattle.rubis_board.proofs.tests.drain.Given as goal
+use Rattle.rubis_layers.proofs.boards.drain.Given as goal
 
 abbrev pub invariant-loop : goal.invariant-loop
 invariant-loop g l =

@@ -1,6 +1,6 @@
 ghost use Rattle.std.specs.Prelude.{◌≡◌, ◌<◌, true, IfNone};
 
-use crate::{Board, Pass, Poster};
+use rubis_board::{Board, Pass, Poster};
 use rubis_pieces::Piece;
 use rubis_schema::Items;
 use rubis_shard::{Shard, Share};
