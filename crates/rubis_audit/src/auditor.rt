@@ -27,7 +27,7 @@ pub struct Auditor {
     ended: Vec<Log>,
     current: Option<Log>,
     sites: u8,
-    record: Fields,
+    reply: Fields,
     alloc: Global,
 }
 
@@ -102,7 +102,7 @@ impl Auditor {
             ended: Vec::new(alloc),
             current: None,
             sites,
-            record: Fields::new(alloc),
+            reply: Fields::new(alloc),
             alloc,
         }
     }
@@ -149,7 +149,7 @@ impl<T> Service<T> for Auditor {
         let current = self.current.take();
         end_log(&mut self.ended, current)?;
         let verdict = audit(self.alloc, &self.ended, self.sites)?;
-        write_verdict(&mut self.record, sink, verdict)?;
+        write_verdict(&mut self.reply, sink, verdict)?;
         Ok(())
     }
 }
@@ -167,7 +167,7 @@ impl<T> Answering<T> for Auditor {
         {
             return Ok(Course::GoesOn);
         }
-        write_bad_record(&mut self.record, sink, number)?;
+        write_bad_record(&mut self.reply, sink, number)?;
         Ok(Course::Ends)
     }
 }

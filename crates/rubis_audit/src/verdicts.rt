@@ -11,43 +11,43 @@ use rubis_script::Sink;
 use std::alloc::AllocError;
 
 // Begins the record.
-fn begin(record: &mut Fields, word: &[u8]) -> Result<(), AllocError>
-    ensures { OnOk result (record.new ≡ codes "audit" ∷ word.now ∷ []) }
+fn begin(fields: &mut Fields, word: &[u8]) -> Result<(), AllocError>
+    ensures { OnOk result (fields.new ≡ codes "audit" ∷ word.now ∷ []) }
 {
-    record.clear();
-    record.push(b"audit")?;
-    record.push(word)
+    fields.clear();
+    fields.push(b"audit")?;
+    fields.push(word)
 }
 
 // A fault: its kind, its log and its entry.
-fn fill_found(record: &mut Fields, kind: Kind, log: usize, entry: usize) -> Result<(), AllocError>
-    ensures { OnOk result (record.new ≡ verdict_record (Found kind log entry)) }
+fn fill_found(fields: &mut Fields, kind: Kind, log: usize, entry: usize) -> Result<(), AllocError>
+    ensures { OnOk result (fields.new ≡ verdict_record (Found kind log entry)) }
 {
-    begin(record, kind.name().as_bytes())?;
-    push_number(record, log as u64)?;
-    push_number(record, entry as u64)
+    begin(fields, kind.name().as_bytes())?;
+    push_number(fields, log as u64)?;
+    push_number(fields, entry as u64)
 }
 
 /// Writes the record of a verdict.
 pub fn write_verdict(
-    record: &mut Fields,
+    fields: &mut Fields,
     sink: &mut Sink,
     verdict: Verdict,
 ) -> Result<(), AllocError>
     ensures { OnOk result (sink.new ≡ sink.old ++ rows_text (verdict_record verdict ∷ [])) }
 {
     match verdict {
-        Verdict::Agree => begin(record, b"Agree")?,
-        Verdict::Found(kind, log, entry) => fill_found(record, kind, log, entry)?,
+        Verdict::Agree => begin(fields, b"Agree")?,
+        Verdict::Found(kind, log, entry) => fill_found(fields, kind, log, entry)?,
     }
-    sink.write_fields(record)
+    sink.write_fields(fields)
 }
 
 /// Writes the record that names the first record that isn't so.
-pub fn write_bad_record(record: &mut Fields, sink: &mut Sink, number: u64) -> Result<(), AllocError>
+pub fn write_bad_record(fields: &mut Fields, sink: &mut Sink, number: u64) -> Result<(), AllocError>
     ensures { OnOk result (sink.new ≡ sink.old ++ rows_text (audit_record (Err number) ∷ [])) }
 {
-    begin(record, b"BadRecord")?;
-    push_number(record, number)?;
-    sink.write_fields(record)
+    begin(fields, b"BadRecord")?;
+    push_number(fields, number)?;
+    sink.write_fields(fields)
 }

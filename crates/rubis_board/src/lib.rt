@@ -4,8 +4,6 @@
 mod board;
 mod laws;
 mod rule;
-#[cfg(test)]
-mod tests;
 
 pub use board::{Board, Pass, Poster};
 pub use laws::{every_step_keeps_the_rule, steps_move_the_posted};

@@ -7,8 +7,6 @@ mod ordering;
 mod pieces;
 mod rests;
 mod splits;
-#[cfg(test)]
-mod tests;
 
 pub use batches::apply_batch;
 pub use gathers::{FaultKind, GatherFault, Gathered, Places, gather};

@@ -5,8 +5,6 @@ mod event;
 mod laws;
 mod pool;
 mod schedules;
-#[cfg(test)]
-mod tests;
 mod work;
 
 pub use event::Event;

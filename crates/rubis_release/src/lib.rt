@@ -3,8 +3,6 @@
 
 mod intake;
 mod settling;
-#[cfg(test)]
-mod tests;
 mod waiting;
 
 pub use intake::{Held, Intake, IntakeFault};

@@ -1,14 +1,17 @@
 // Two workers that really work at once, in each call that applies a batch.
 
-ghost use Rattle.std.specs.Prelude.{◌≡◌, ◌≤◌, IfOk};
+ghost use Rattle.std.specs.Prelude.{◌≡◌, ◌<◌, ◌≤◌, IfOk};
 ghost use Rattle.rubis_shadow.specs.Limits.{IsAsk};
 
 use crate::records::{message, record};
 use rubis_message::{Arrival, Request, read_request};
 use rubis_replica::{Config, Gate, Site};
+use rubis_pieces::split;
 use rubis_schema::Listing;
 use rubis_script::{Count, run_site_upto};
 use rubis_shadow::Ask;
+use rubis_shard::{Shard, Tables};
+use rubis_workers::{Worked, apply_all};
 use std::alloc::Global;
 use std::sync::Wait;
 use std::sync::atomic::{AtomicBool, AtomicU64, Ordering};
@@ -61,6 +64,48 @@ impl<'a> Gate for Holding<'a> {
             thread::yield_now();
         }
     }
+}
+
+// Applies a batch of no messages on so many shards, by so many workers.
+fn apply_none<'a, R: Threads + Wait + Sync>(
+    rt: &R,
+    alloc: Global,
+    shards: usize,
+    workers: usize,
+    meeting: &'a Meeting,
+) -> Result<Worked, Fail>
+    requires shards { 0 < shards }
+    requires workers { (0 < workers) × (workers ≤ 16) }
+{
+    let tables = Tables::new(alloc, shards)?;
+    let shares = split(alloc, &[], 1, shards)?;
+    let gate = Holding { meeting };
+    match apply_all(rt, alloc, tables.into_shards(), shares, workers, &gate) {
+        Ok(worked) => Ok(worked),
+        Err(_) => Err(Fail::from("no room")),
+    }
+}
+
+#[test]
+fn two_workers_meet(rt: HostRuntime) -> Result<(), Fail> {
+    let meeting = Meeting::new();
+    let worked = apply_none(&rt, rt.alloc(), 2, 2, &meeting)?;
+    assert!(rt; meeting.met());
+    assert_eq!(rt; meeting.taken.load(Ordering::SeqCst), 2);
+    assert!(rt; worked.left.is_empty());
+    let numbers = worked.shards.as_slice().iter().map(Shard::number);
+    assert!(rt; numbers.eq(0..2));
+    Ok(())
+}
+
+#[test]
+fn sixteen_workers_take_each_shard_once(rt: HostRuntime) -> Result<(), Fail> {
+    let meeting = Meeting::new();
+    let worked = apply_none(&rt, rt.alloc(), 64, 16, &meeting)?;
+    assert_eq!(rt; meeting.taken.load(Ordering::SeqCst), 64);
+    let numbers = worked.shards.as_slice().iter().map(Shard::number);
+    assert!(rt; numbers.eq(0..64));
+    Ok(())
 }
 
 // Site 1 of 2, with two shards, two workers and batches of that size.

@@ -37,7 +37,7 @@ pub trait Service<T> {
 
 /// A service that `run_upto` asks for its answers. One whose work goes to other threads isn't one: a bound of a trait's
 /// method is known to the calling thread alone. Its loop goes by the steps of the engine, with a call of its own between
-/// `next_record` and `go_on`.
+/// `next_record` and `write_out`.
 pub trait Answering<T>: Service<T> {
     /// Answers the record with this number, and says whether the run goes on. What it writes and what is still to be
     /// written are together the text; where the run ends here, what it writes is all of it.

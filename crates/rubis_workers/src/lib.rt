@@ -6,8 +6,6 @@ mod batches;
 mod gate;
 mod rooms;
 mod team;
-#[cfg(test)]
-mod tests;
 
 pub use applying::apply_batch;
 pub use batches::{Unstarted, Worked, apply_all};
