@@ -4,3 +4,4 @@ pub mod RowFacts
 pub mod RunFacts
 pub mod TextFacts
 pub mod SiteAnswers
+pub mod OneReading

@@ -176,18 +176,19 @@ enum Input {
     Neither,
 }
 
-// Reads what a record is.
+// Reads what a record is. No record is both a request and a packet, and most records of a busy site are packets.
+#[tactic(auto, using(crate::proofs::OneReading::came))]
 fn read_input(alloc: Global, fields: &Fields, sites: u8) -> Result<Input, AllocError>
     requires { sites ≤ 16 }
     ensures { IfOk result (λ input. IsRead sites fields.now input) }
 {
-    match read_request(alloc, fields, sites) {
-        Ok(request) => return Ok(Input::Asked(request)),
+    match read_packet(alloc, fields, sites) {
+        Ok(packet) => return Ok(Input::Came(packet)),
         Err(ReadFault::BadRecord) => {}
         Err(ReadFault::Memory) => return Err(AllocError),
     }
-    match read_packet(alloc, fields, sites) {
-        Ok(packet) => Ok(Input::Came(packet)),
+    match read_request(alloc, fields, sites) {
+        Ok(request) => Ok(Input::Asked(request)),
         Err(ReadFault::BadRecord) => Ok(Input::Neither),
         Err(ReadFault::Memory) => Err(AllocError),
     }

@@ -7,3 +7,5 @@ pub mod Parts
 pub mod Homes
 pub mod Listing
 pub mod Picked
+pub mod Linking
+pub mod Walking

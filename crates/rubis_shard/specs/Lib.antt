@@ -1,4 +1,5 @@
 pub mod States
+pub mod Chains
 pub mod Stores
 pub mod StateCode
 pub mod Holdings

@@ -1,10 +1,12 @@
 //! The tables of a site in shards: each row at its home shard, and the parts of a batch folded shard by shard.
 #![tactic(auto)]
 
+mod chains;
 mod laws;
 mod message_parts;
 mod messages;
 mod picks;
+mod row_map;
 mod rows;
 mod selections;
 mod shards;

@@ -1,31 +1,97 @@
-// The rows of a map that a listing is of.
+// The rows of a shard that a listing is of.
 
-ghost use Rattle.std.specs.Prelude.{◌≡◌, IfOk, map as each};
+ghost use Rattle.std.specs.Prelude.{◌≡◌, ◌&&◌, Some, IfOk, map as each};
 ghost use Rattle.std.specs.FinMap as map;
+ghost use Rattle.std.specs.List.Sorted.{IsPermutation};
 ghost use Rattle.std.specs.Map.Iter.{deref_pair};
-ghost use Rattle.rubis_shard.specs.Listed.{listed_of};
+ghost use Rattle.rubis_schema.specs.Keys.{holds};
+ghost use Rattle.rubis_model.specs.Listings.{is_of};
+ghost use Rattle.rubis_shard.specs.Chains.{chain_with};
+ghost use Rattle.rubis_shard.specs.Listed.{listed_among, listed_of};
 
+use crate::chains::chain_with;
+use crate::row_map::Rows;
 use crate::selections::selects;
 use indexmap::IndexMap;
 use rubis_schema::{Listing, Row, RowKey, Table};
 use rubis_shadow::put_in_order;
 use std::alloc::{AllocError, Global};
 
-// Those rows of one table that the listing is of, with their keys, in key order. Only these are sorted.
-pub fn picked_in_order<'a>(
+// Whether the listing is of the row, and the row is one of the table's.
+fn picks(listing: &Listing, table: Table, key: &RowKey, row: &Row) -> bool
+    ensures { result ≡ (is_of listing.now key.now row.now && holds table key.now) }
+{
+    selects(listing, key, row) && table.holds(key)
+}
+
+// Those rows of one table that the listing is of, looked for among all rows.
+fn picked_of_all<'a>(
     alloc: Global,
     all: &'a IndexMap<RowKey, Row>,
     table: Table,
     listing: &Listing,
 ) -> Result<Vec<(&'a RowKey, &'a Row)>, AllocError>
-    ensures { IfOk result (λ rows. each deref_pair rows.items ≡ listed_of listing.now table (map.from_entries all.now.entries)) }
+    ensures { IfOk result (λ rows. each deref_pair rows.items ≡ listed_among listing.now table all.now.entries) }
 {
     let mut rows = Vec::new(alloc);
     for (key, row) in all.iter() {
-        if selects(listing, key, row) && table.holds(key) {
+        if picks(listing, table, key, row) {
             rows.push((key, row))?;
         }
     }
-    put_in_order(alloc, &mut rows)?;
     Ok(rows)
+}
+
+// Those rows of one table that the listing is of, looked for in the chain that has them, from its last row on.
+fn picked_of_chain<'a>(
+    alloc: Global,
+    rows: &'a Rows,
+    chain: usize,
+    table: Table,
+    listing: &Listing,
+) -> Result<Vec<(&'a RowKey, &'a Row)>, AllocError>
+    requires { chain_with listing.now ≡ Some chain }
+    ensures { IfOk result (λ picked. IsPermutation (listed_among listing.now table rows.now.all.entries) (each deref_pair picked.items)) }
+{
+    let mut picked = Vec::new(alloc);
+    let mut place = rows.chains.last(chain);
+    while place > 0 {
+        let (key, row) = rows.all.get_index(place - 1).unwrap();
+        if picks(listing, table, key, row) {
+            picked.push((key, row))?;
+        }
+        place = rows.chains.before(place - 1);
+    }
+    Ok(picked)
+}
+
+// Those rows of one table that the listing is of, in any order.
+fn picked<'a>(
+    alloc: Global,
+    rows: &'a Rows,
+    table: Table,
+    listing: &Listing,
+) -> Result<Vec<(&'a RowKey, &'a Row)>, AllocError>
+    ensures { IfOk result (λ picked. IsPermutation (listed_among listing.now table rows.now.all.entries) (each deref_pair picked.items)) }
+{
+    match chain_with(listing) {
+        Some(chain) => picked_of_chain(alloc, rows, chain, table, listing),
+        None => picked_of_all(alloc, &rows.all, table, listing),
+    }
+}
+
+/// Those rows of one table that the listing is of, with their keys, in key order. Only these are sorted.
+pub fn picked_in_order<'a>(
+    alloc: Global,
+    rows: &'a Rows,
+    table: Table,
+    listing: &Listing,
+) -> Result<Vec<(&'a RowKey, &'a Row)>, AllocError>
+    ensures { IfOk result (λ picked. each deref_pair picked.items ≡ listed_of listing.now table (map.from_entries rows.now.all.entries)) }
+{
+    // No two of the map's keys are one, says the contract of its length.
+    let _rows = rows.all.len();
+    let mut picked = picked(alloc, rows, table, listing)?;
+    put_in_order(alloc, &mut picked)?;
+    Ok(picked)
 }

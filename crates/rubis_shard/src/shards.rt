@@ -13,6 +13,7 @@ ghost use Rattle.rubis_shard.specs.Messages.{emptied};
 ghost use Rattle.rubis_shard.specs.Stores.{held_by, HasRoom};
 
 use crate::picks::picked_in_order;
+use crate::row_map::Rows;
 use crate::rows::put_row;
 use crate::shares::Share;
 use crate::stores::Store;
@@ -60,7 +61,7 @@ impl Shard {
         requires { number < shards }
         ensures { IfOk result (λ shard. shard ≡ opening_shard shards number) }
     {
-        let rows = opening_rows(alloc, number, shards)?;
+        let rows = Rows::with(alloc, opening_rows(alloc, number, shards)?)?;
         Ok(Shard {
             number,
             shards,
@@ -90,7 +91,7 @@ impl Shard {
         ensures row { option_copied result ≡ map.get self.now.folded.tables key.now }
         ensures own { HoldsOwnRows self.now }
     {
-        self.store.rows.get(key)
+        self.store.rows.all.get(key)
     }
 
     /// The parts that didn't fit, in the order in which they were met.
@@ -105,7 +106,7 @@ impl Shard {
         ensures rows { IfOk result (λ rows. each deref_pair rows.items ≡ rows_of table self.now.folded.tables) }
         ensures own { HoldsOwnRows self.now }
     {
-        rows_in_order(alloc, &self.store.rows, table)
+        rows_in_order(alloc, &self.store.rows.all, table)
     }
 
     /// Those rows of one table that a listing is of, with their keys, in key order.

@@ -3,16 +3,14 @@ ghost use Rattle.rubis_model.specs.Log.{Folded, step};
 ghost use Rattle.rubis_shard.specs.Stores.{held_by, HasRoom};
 ghost use Rattle.std.specs.FinMap as map;
 
-use crate::rows::put_effect;
-use indexmap::IndexMap;
-use rubis_schema::{Row, RowKey};
+use crate::row_map::Rows;
 use rubis_shadow::{Misfit, Numbered};
 use std::alloc::{AllocError, Global};
 
 /// The rows and misfits of a shard.
 #[derive(Drop)]
 pub struct Store {
-    pub rows: IndexMap<RowKey, Row>,
+    pub rows: Rows,
     pub misfits: Vec<Misfit>,
 }
 
@@ -22,7 +20,7 @@ impl Store {
         ensures { held_by result ≡ record { tables = map.from_entries []; misfits = [] } }
     {
         Store {
-            rows: IndexMap::new(alloc),
+            rows: Rows::new(alloc),
             misfits: Vec::new(alloc),
         }
     }
@@ -32,7 +30,7 @@ impl Store {
         ensures same { held_by self.new ≡ held_by self.old }
         ensures room { OnOk result (HasRoom self.new parts) }
     {
-        self.rows.reserve(parts)?;
+        self.rows.make_room(parts)?;
         self.misfits.reserve(parts)?;
         Ok(())
     }
@@ -49,7 +47,7 @@ impl Store {
             id,
             effect,
         } = part;
-        if let Some(kind) = put_effect(&mut self.rows, effect) {
+        if let Some(kind) = self.rows.put_effect(effect) {
             self.misfits.push_reserved(Misfit {
                 entry,
                 part,

@@ -1,0 +1,169 @@
+-- The rows that a listing is of are found along their chain, the last one first.
+use Rattle.std.proofs.Common.{◌≡◌, ℕ, zero, suc, ◌+◌, ◌-◌, ◌<◌, ◌≤◌, Bool, true, false, cond, ◌&&◌, List, [], ◌∷◌, ◌++◌, length, take, get_or, refl, sym, ap, subst, ◌∙◌, arith, map as each, reverse, append_assoc}
+use Rattle.std.specs.Prelude.{IfOk, Result, Ok, Err, Option, None, Some, ◌%◌, filter, nat_eq, slice_get, slice_index}
+use Rattle.std.proofs.lemmas.Bool.{false≢true}
+use Rattle.std.proofs.lemmas.Bool.Decides.{Decides-eqb}
+use Rattle.std.proofs.lemmas.List.{append-nil, take_all, get_or-map, length-map, reverse-append}
+use Rattle.std.proofs.lemmas.List.Elements.{filter-append, filter_more}
+use Rattle.std.proofs.lemmas.Option.{get_or_from_slice_get}
+use Rattle.rubis_schema.specs.Keys.{holds, same_id}
+use Rattle.rubis_schema.specs.KeyLaws.{Decides-same_id}
+use Rattle.rubis_schema.specs.declared.ids.Id.{Id}
+use Rattle.rubis_schema.specs.declared.listings.Listing.{Listing}
+use Rattle.rubis_schema.specs.declared.listings.Listing.TheVariants as listing
+use Rattle.rubis_schema.specs.declared.row_keys.RowKey.{RowKey}
+use Rattle.rubis_schema.specs.declared.row_keys.RowKey.TheVariants as key
+use Rattle.rubis_schema.specs.declared.row_keys.Table.{Table}
+use Rattle.rubis_schema.specs.declared.rows.Row.{Row}
+use Rattle.rubis_schema.specs.declared.rows.Row.TheVariants as row
+use Rattle.rubis_shadow.specs.Tables.{new_category}
+use Rattle.rubis_model.specs.Listings.{is_of}
+use Rattle.rubis_shard.specs.Chains.{chain_of, chain_with, chains_of, last_among}
+use Rattle.rubis_shard.specs.Listed.{listed_among}
+use Rattle.rubis_shard.specs.declared.chains.TheConstants.{CHAINS}
+
+abbrev Entry : Type 0
+Entry = RowKey × Row
+
+same_seq : (a b : Id) → same_id a b ≡ true → a.seq ≡ b.seq
+same_seq a b e = ap (λ (i : Id). i.seq) ((Decides-same_id a b).0 e)
+
+of_items : (cat : ℕ) (k : RowKey) (r : Row) → is_of (listing.Items cat) k r ≡ true → chain_of r ≡ cat % CHAINS
+of_items cat (key.Item id) (row.Item i) e = ap (λ n. n % CHAINS) ((Decides-eqb _ _).0 e)
+of_items cat k r e = absurd (false≢true e)
+
+of_bids : (item : Id) (k : RowKey) (r : Row) → is_of (listing.Bids item) k r ≡ true → chain_of r ≡ item.seq % CHAINS
+of_bids item (key.Bid id) (row.Bid b) e = ap (λ n. n % CHAINS) (same_seq b.item item e)
+of_bids item k r e = absurd (false≢true e)
+
+of_purchases : (item : Id) (k : RowKey) (r : Row) → is_of (listing.Purchases item) k r ≡ true → chain_of r ≡ item.seq % CHAINS
+of_purchases item (key.Purchase id) (row.Purchase p) e = ap (λ n. n % CHAINS) (same_seq p.item item e)
+of_purchases item k r e = absurd (false≢true e)
+
+of_comments : (user : Id) (k : RowKey) (r : Row) → is_of (listing.Comments user) k r ≡ true → chain_of r ≡ user.seq % CHAINS
+of_comments user (key.Comment id) (row.Comment c) e = ap (λ n. n % CHAINS) (same_seq c.to user e)
+of_comments user k r e = absurd (false≢true e)
+
+one_value : (a b : ℕ) → Some a ≡ Some b → a ≡ b
+one_value a b e = cc
+
+pub small_chain : (l : Listing) (chain : ℕ) → chain_with l ≡ Some chain → chain ≤ CHAINS
+small_chain (listing.Items cat) chain w = let e = one_value _ _ w in omega (arith, e)
+small_chain (listing.Bids item) chain w = let e = one_value _ _ w in omega (arith, e)
+small_chain (listing.Purchases item) chain w = let e = one_value _ _ w in omega (arith, e)
+small_chain (listing.Comments user) chain w = let e = one_value _ _ w in omega (arith, e)
+small_chain l chain w = absurd cc
+
+-- a row that a listing is of is in the listing's chain
+in_chain : (l : Listing) (k : RowKey) (r : Row) (chain : ℕ) → chain_with l ≡ Some chain → is_of l k r ≡ true → chain_of r ≡ chain
+in_chain (listing.Items cat) k r chain w e = of_items cat k r e ∙ one_value _ _ w
+in_chain (listing.Bids item) k r chain w e = of_bids item k r e ∙ one_value _ _ w
+in_chain (listing.Purchases item) k r chain w e = of_purchases item k r e ∙ one_value _ _ w
+in_chain (listing.Comments user) k r chain w e = of_comments user k r e ∙ one_value _ _ w
+in_chain l k r chain w e = absurd cc
+
+default : Entry
+default = (key.Cat 0, new_category)
+
+one_picked : (b c : Bool) (e : Entry) (h : Entry → Bool) → h e ≡ c → filter h (cond b (e ∷ []) []) ≡ cond (b && c) (e ∷ []) []
+one_picked true c e h is = ap (λ x. cond x (e ∷ []) []) is
+one_picked false c e h is = refl
+
+one_turned : (b : Bool) (e : Entry) → reverse (cond b (e ∷ []) []) ≡ cond b (e ∷ []) []
+one_turned true e = refl
+one_turned false e = refl
+
+module _ (l : Listing) (t : Table) (chain : ℕ) (with_chain : chain_with l ≡ Some chain) (es : List Entry) where
+  is_picked : Entry → Bool
+  is_picked e = is_of l e.0 e.1 && holds t e.0
+
+  among : ℕ → List Entry
+  among n = listed_among l t (take n es)
+
+  -- one row more
+  among_more : (n : ℕ) → n < length es
+      → among (n + 1) ≡ among n ++ cond (is_picked (get_or es n default)) (get_or es n default ∷ []) []
+  unfolding among is_picked
+  among_more n within =
+      let e = get_or es n default in
+      ap (filter (λ (x : Entry). holds t x.0)) (filter_more (λ (x : Entry). is_of l x.0 x.1) es n default within)
+      ∙ filter-append (λ (x : Entry). holds t x.0) (filter (λ (x : Entry). is_of l x.0 x.1) (take n es)) (cond (is_of l e.0 e.1) (e ∷ []) [])
+      ∙ ap (λ xs. listed_among l t (take n es) ++ xs) (one_picked (is_of l e.0 e.1) (holds t e.0) e (λ (x : Entry). holds t x.0) refl)
+
+  -- a row of another chain isn't picked
+  not_picked : (n : ℕ) → n < length es → nat_eq (slice_index (chains_of es) n) chain ≡ false → is_picked (get_or es n default) ≡ false
+  unfolding is_picked
+  not_picked n within other = at (is_of l (get_or es n default).0 (get_or es n default).1) refl
+    where
+      at : (b : Bool) → is_of l (get_or es n default).0 (get_or es n default).1 ≡ b → is_picked (get_or es n default) ≡ false
+      at false e = ap (λ b. b && holds t (get_or es n default).0) e
+      at true e =
+          let here : slice_index (chains_of es) n ≡ chain = get_or-map (λ (x : Entry). chain_of x.1) es n default 0 within
+          ∙ in_chain l (get_or es n default).0 (get_or es n default).1 chain with_chain e in
+          let yes = (Decides-eqb (slice_index (chains_of es) n) chain).1 here in absurd cc
+
+  -- no row is picked between two that are linked
+  between : (n : ℕ) → n ≤ length es → among n ≡ among (last_among chain (chains_of es) n)
+  unfolding last_among
+  between zero within = refl
+  between (suc n) within = at (nat_eq (slice_index (chains_of es) n) chain) refl (between n (omega arith))
+    where
+      at : (b : Bool) → nat_eq (slice_index (chains_of es) n) chain ≡ b → among n ≡ among (last_among chain (chains_of es) n)
+          → among (suc n) ≡ among (cond (nat_eq (slice_index (chains_of es) n) chain) (suc n) (last_among chain (chains_of es) n))
+      at true e before = ap (λ b. among (cond b (suc n) (last_among chain (chains_of es) n))) (sym e)
+      at false e before =
+          let next : suc n ≡ n + 1 = omega arith in
+          ap among next ∙ among_more n (omega arith)
+          ∙ ap (λ b. among n ++ cond b (get_or es n default ∷ []) []) (not_picked n (omega arith) e)
+          ∙ append-nil (among n) ∙ before
+          ∙ ap (λ b. among (cond b (suc n) (last_among chain (chains_of es) n))) (sym e)
+
+  last_own : (n : ℕ) → 0 < last_among chain (chains_of es) n → slice_index (chains_of es) (last_among chain (chains_of es) n - 1) ≡ chain
+  unfolding last_among
+  last_own zero some = absurd (omega arith)
+  last_own (suc n) some = at (nat_eq (slice_index (chains_of es) n) chain) refl (last_own n) some
+    where
+      at : (b : Bool) → nat_eq (slice_index (chains_of es) n) chain ≡ b
+          → (0 < last_among chain (chains_of es) n → slice_index (chains_of es) (last_among chain (chains_of es) n - 1) ≡ chain)
+          → 0 < cond (nat_eq (slice_index (chains_of es) n) chain) (suc n) (last_among chain (chains_of es) n)
+          → slice_index (chains_of es) (cond (nat_eq (slice_index (chains_of es) n) chain) (suc n) (last_among chain (chains_of es) n) - 1) ≡ chain
+      at true e before some =
+          let one : suc n - 1 ≡ n = omega arith in
+          ap (λ b. slice_index (chains_of es) (cond b (suc n) (last_among chain (chains_of es) n) - 1)) e
+          ∙ ap (slice_index (chains_of es)) one ∙ (Decides-eqb _ _).0 e
+      at false e before some =
+          ap (λ b. slice_index (chains_of es) (cond b (suc n) (last_among chain (chains_of es) n) - 1)) e
+          ∙ before (subst (λ b. 0 < cond b (suc n) (last_among chain (chains_of es) n)) e some)
+
+  -- the walk begins at the last row of the chain, and goes on to the row that is linked before
+  pub walk_from : (last : ℕ) → last ≡ last_among chain (chains_of es) (length (chains_of es))
+      → listed_among l t (take last es) ++ reverse [] ≡ listed_among l t es
+  unfolding among
+  walk_from last is =
+      append-nil (listed_among l t (take last es))
+      ∙ ap among (is ∙ ap (last_among chain (chains_of es)) (length-map es (λ (x : Entry). chain_of x.1)))
+      ∙ sym (between (length es) (omega arith)) ∙ ap (listed_among l t) (take_all (length es) es (omega arith))
+
+  pub walk_on : (at next : ℕ) (e : Entry) (b : Bool) (picked more : List Entry) → at < length es → slice_get es at ≡ Some e
+      → b ≡ (is_of l e.0 e.1 && holds t e.0) → next ≡ last_among chain (chains_of es) at
+      → more ≡ picked ++ cond b (e ∷ []) []
+      → listed_among l t (take (at + 1) es) ++ reverse picked ≡ listed_among l t es
+      → listed_among l t (take next es) ++ reverse more ≡ listed_among l t es
+  unfolding among is_picked
+  walk_on at next e b picked more within here test is pushed walked =
+      let x = cond b (e ∷ []) [] in
+      let read : get_or es at default ≡ e = get_or_from_slice_get es at e default here in
+      let grown : among (at + 1) ≡ among at ++ x = among_more at within
+      ∙ ap (λ (y : Entry). among at ++ cond (is_picked y) (y ∷ []) []) read ∙ ap (λ c. among at ++ cond c (e ∷ []) []) (sym test) in
+      ap (λ xs. listed_among l t (take next es) ++ reverse xs) pushed
+      ∙ ap (λ xs. among next ++ xs) (reverse-append picked x ∙ ap (λ xs. xs ++ reverse picked) (one_turned b e))
+      ∙ ap (λ n. among n ++ (x ++ reverse picked)) is ∙ ap (λ xs. xs ++ (x ++ reverse picked)) (sym (between at (omega arith)))
+      ∙ sym (append_assoc (among at) x (reverse picked)) ∙ ap (λ xs. xs ++ reverse picked) (sym grown) ∙ walked
+
+  pub own_last : (n last : ℕ) → last ≡ last_among chain (chains_of es) n → 0 < last → slice_index (chains_of es) (last - 1) ≡ chain
+  own_last n last is some = ap (λ k. slice_index (chains_of es) (k - 1)) is ∙ last_own n (omega (arith, is))
+
+-- a fact of what was made, from another one
+pub if_made : {A E : Type 0} (P Q : A → Type 0) → ((x : A) → P x → Q x) → (r : Result A E) → IfOk r P → IfOk r Q
+if_made P Q f (Ok x) h = f x h
+if_made P Q f (Err e) h = h

@@ -1,0 +1,18 @@
+use Rattle.std.proofs.Common.{◌≡◌, ◌++◌, ◌<◌, ◌≤◌, ◌-◌, length, take, map as each}
+use Rattle.std.proofs.Common.{reverse}
+use Rattle.std.specs.Prelude.{slice_index}
+use Rattle.std.specs.Map.Iter.{deref_pair}
+use Rattle.rubis_shard.specs.Chains.{chains_of}
+use Rattle.rubis_shard.specs.Listed.{listed_among}
+use Rattle.rubis_shard.proofs.picks.picked_of_chain.Given as goal
+
+abbrev pub invariant-loop-place : goal.invariant-loop-place
+invariant-loop-place l = record {
+  within : l.place ≤ length l.rows.all.entries;
+  own : 0 < l.place → slice_index (chains_of l.rows.all.entries) (l.place - 1) ≡ l.chain;
+  walked : listed_among l.listing l.table (take l.place l.rows.all.entries) ++ reverse (each deref_pair l.picked.items)
+      ≡ listed_among l.listing l.table l.rows.all.entries;
+}
+
+abbrev pub decreases-loop-place : goal.decreases-loop-place
+decreases-loop-place l = l.place
