@@ -5,7 +5,9 @@ ghost use Rattle.rubis_message.specs.Counts.{deps_of};
 ghost use Rattle.rubis_message.specs.Grammar.{deps_text};
 
 use rubis_clock::Deps;
-use rubis_schema::{COUNT_MAX, COUNTED_MAX, COUNTS_TEXT_MAX, Fields, ShortText, read_number, split_once};
+use rubis_schema::{
+    COUNT_MAX, COUNTED_MAX, COUNTS_TEXT_MAX, Fields, ShortText, read_number, split_once,
+};
 use std::alloc::AllocError;
 
 /// The counts of so many sites that are written so.
