@@ -216,3 +216,48 @@ pub takes_on_ok : {E : Type 0} (m : Core) (entry : ℕ) (old new whole : List Sh
     → OnOk r (FoldsFrom 0 old (number_parts entry 1 m.id (parts_of m)) new) → new ≡ whole → OnOk r (TakesOn m entry old whole)
 takes_on_ok m entry old new whole (Ok u) h e = subst (TakesOn m entry old) e (takes_on m entry old new h)
 takes_on_ok m entry old new whole (Err u) h e = tt
+
+-- ---- the last shard that is a home
+pub folds_last : (ts : List ShardState) (at from : ℕ) (ns : List Numbered) (x z : ShardState) → slice_get ts at ≡ Some x
+    → z ≡ with_parts x (parts_at (length ts) at ns)
+    → ((k : ℕ) → from ≤ k → k < at → parts_at (length ts) k ns ≡ [])
+    → ((k : ℕ) → at + 1 ≤ k → k < length ts → parts_at (length ts) k ns ≡ []) → from ≤ at → FoldsFrom from ts ns (set ts at z)
+folds_last ts at from ns x z there is low_none high_none after = record {
+  many = length-set ts at z;
+  before = λ k l. written_elsewhere ts at k z (λ e. omega (arith, e)) (omega (arith, l, inside));
+  behind = λ k s l e.
+      let within : k < length ts = slice_get_within ts k s e in
+      ⊎_elim
+      (λ here.
+      let same : x ≡ s = let a = ap (slice_get ts) here in cc in
+      ap (slice_get (set ts at z)) here ∙ written_here ts at z inside
+      ∙ ap Some (is ∙ (λ i. with_parts (same i) (parts_at (length ts) (sym here i) ns))))
+      (λ other.
+      let none : parts_at (length ts) k ns ≡ [] = ⊎_elim (λ low. low_none k l low) (λ high. high_none k (beyond k other high) within) (cases_lt k at) in
+      written_elsewhere ts at k z other within ∙ e ∙ ap (λ ps. Some (with_parts s ps)) (sym none))
+      (cases_eq k at);
+}
+  where
+    inside : at < length ts
+    inside = slice_get_within ts at x there
+
+    beyond : (k : ℕ) → ¬ (k ≡ at) → at ≤ k → at + 1 ≤ k
+    beyond k other high = ⊎_elim (λ l. absurd (other (omega arith))) (λ l. l) (cases_lt k (at + 1))
+
+pub folds_last_ok : {E : Type 0} (r : Result (Unit {0}) E) (ts : List ShardState) (at from : ℕ) (ns : List Numbered) (x z : ShardState)
+    → slice_get ts at ≡ Some x → OnOk r (z ≡ with_parts x (parts_at (length ts) at ns))
+    → ((k : ℕ) → from ≤ k → k < at → parts_at (length ts) k ns ≡ [])
+    → ((k : ℕ) → at + 1 ≤ k → k < length ts → parts_at (length ts) k ns ≡ []) → from ≤ at
+    → OnOk r (FoldsFrom from ts ns (set ts at z))
+folds_last_ok (Ok u) ts at from ns x z there is low high after = folds_last ts at from ns x z there is low high after
+folds_last_ok (Err u) ts at from ns x z there is low high after = tt
+
+pub folds_last_err : {E : Type 0} (r : Result (Unit {0}) E) (ts : List ShardState) (at : ℕ) (x z : ShardState)
+    → slice_get ts at ≡ Some x → OnErr r (z ≡ x) → OnErr r (set ts at z ≡ ts)
+folds_last_err (Ok u) ts at x z there is = tt
+folds_last_err (Err u) ts at x z there is =
+    ap (set ts at) (is ∙ sym (get_or_from_slice_get ts at x x there)) ∙ set-get_or ts at x
+
+pub if_ok : {A E : Type 0} (P Q : Type 0) → (P → Q) → (r : Result A E) → OnOk r P → OnOk r Q
+if_ok P Q f (Ok x) h = f h
+if_ok P Q f (Err x) h = tt

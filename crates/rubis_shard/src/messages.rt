@@ -121,8 +121,8 @@ impl<'a> MessageParts<'a> {
         });
     }
 
-    // Folds the parts on whose home is the shard, with that text for the row of the first.
-    fn fold_at(&self, store: &mut Store, at: usize, text: OwnText)
+    /// Folds the parts on whose home is the shard, with that text for the row of the first.
+    pub fn fold_at(&self, store: &mut Store, at: usize, text: OwnText)
         requires at { at < self.now.shards }
         requires room { HasRoom store.old 3 }
         requires text { self.now.first ≡ at → HasText (slice_get (parts self.now.id self.now.red self.now.shadow.now) 0) text }
@@ -165,6 +165,9 @@ pub fn fold_from(
         return Ok(());
     }
     let text = message.own_text(at)?;
+    if message.next_home(at + 1) == list.len() {
+        return list[at].fold_message(message, text);
+    }
     let mut store = list[at].take_store(3)?;
     let folded = fold_from(list, message, at + 1);
     message.fold_if(&mut store, at, text, folded.is_ok());

@@ -94,6 +94,7 @@ impl Rows {
     }
 
     /// Does one part, for which there is room.
+    #[inline(always)]
     pub fn put_effect(&mut self, effect: Effect) -> Option<MisfitKind>
         requires { HasRoomForRows self.old 1 }
         ensures tables { map.from_entries {R = key_order} self.new.all.entries ≡ after (map.from_entries self.old.all.entries) effect }

@@ -9,9 +9,13 @@ ghost use Rattle.rubis_model.specs.Shares.{part_of};
 ghost use Rattle.rubis_model.specs.Log.{fold_on, step};
 ghost use Rattle.rubis_shard.specs.Listed.{listed_of};
 ghost use Rattle.rubis_shard.specs.States.{opening_shard, with_parts, IsHomeOf, HoldsOwnRows};
-ghost use Rattle.rubis_shard.specs.Messages.{emptied};
+ghost use Rattle.rubis_shard.specs.Messages.{emptied, numbered_of};
+ghost use Rattle.rubis_shard.specs.Holdings.{parts_at};
+ghost use Rattle.rubis_shadow.specs.OwnTexts.{HasText};
+ghost use Rattle.rubis_shadow.specs.Parts.{parts};
 ghost use Rattle.rubis_shard.specs.Stores.{held_by, HasRoom};
 
+use crate::message_parts::MessageParts;
 use crate::picks::picked_in_order;
 use crate::row_map::Rows;
 use crate::rows::put_row;
@@ -19,7 +23,7 @@ use crate::shares::Share;
 use crate::stores::Store;
 use indexmap::IndexMap;
 use rubis_schema::{CATEGORIES, CatRow, Listing, Row, RowKey, Table, shard_of};
-use rubis_shadow::{Misfit, rows_in_order};
+use rubis_shadow::{Misfit, OwnText, rows_in_order};
 use std::alloc::{AllocError, Global};
 use std::marker::Model;
 use std::mem;
@@ -165,6 +169,24 @@ impl Shard {
         Applied {
             done: share.effects.len(),
         }
+    }
+
+    // Folds those parts of a message on whose home it is, with that text for the row of the first. Without memory nothing
+    // changes.
+    pub(crate) fn fold_message(
+        &mut self,
+        message: &MessageParts<'_>,
+        text: OwnText,
+    ) -> Result<(), AllocError>
+        requires at { self.old.number < message.now.shards }
+        requires shards { message.now.shards ≡ self.old.shards }
+        requires text { message.now.first ≡ self.old.number → HasText (slice_get (parts message.now.id message.now.red message.now.shadow.now) 0) text }
+        ensures ok { OnOk result (self.new ≡ with_parts self.old (parts_at message.now.shards self.old.number (numbered_of message.now))) }
+        ensures err { OnErr result (self.new ≡ self.old) }
+    {
+        self.store.make_room(3)?;
+        message.fold_at(&mut self.store, self.number, text);
+        Ok(())
     }
 
     // Takes the rows and misfits out, with room for so many parts more, and leaves none.

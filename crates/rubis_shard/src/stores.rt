@@ -36,6 +36,7 @@ impl Store {
     }
 
     /// Folds a part on, for which there is room.
+    #[inline(always)]
     pub fn fold(&mut self, part: Numbered)
         requires { HasRoom self.old 1 }
         ensures folded { held_by self.new ≡ step (held_by self.old) part }

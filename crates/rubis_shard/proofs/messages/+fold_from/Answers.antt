@@ -1,19 +1,19 @@
 use Rattle.std.proofs.Common.{◌≡◌, ℕ, ◌+◌, ◌<◌, ◌≤◌, List, length, get_or, set, refl, sym, ap, ◌∙◌, subst, arith, rules}
 use Rattle.std.specs.Prelude.{Some, slice_get}
 use Rattle.std.proofs.lemmas.Option.{slice_get_read}
-use Rattle.rubis_shard.specs.States.{ShardState, HoldsOwnRows}
+use Rattle.rubis_shard.specs.States.{ShardState, HoldsOwnRows, with_parts}
 use Rattle.rubis_shard.specs.Holdings.{AreInOrder, parts_at}
 use Rattle.rubis_shard.specs.Messages.{emptied, numbered_of}
 use Rattle.rubis_shard.specs.Stores.{held_by}
-use Rattle.rubis_shard.proofs.Homes.{hollow_length, hollow_order, own_back, ended_ok, ended_err}
+use Rattle.rubis_shard.proofs.Homes.{folds_last_err, folds_last_ok, hollow_length, hollow_order, if_ok, own_back, ended_ok, ended_err}
 use Rattle.rubis_shard.proofs.messages.+fold_from.Goals as goal
 
 pub fold_from-folded-requires : goal.fold_from-folded-requires
 fold_from-folded-requires t c =
     let ts : List ShardState = c.args.list.now in
     let at : ℕ = c.next_home-at.result in
-    let x : ShardState = c.index-list-at.result in
-    let there : slice_get ts at ≡ Some x = slice_get_read ts (length ts) at x refl (search rules) c.index-list-at.is in
+    let x : ShardState = c.index-list-at-2.result in
+    let there : slice_get ts at ≡ Some x = slice_get_read ts (length ts) at x refl (search rules) c.index-list-at-2.is in
     let left : c.take_store.new.self ≡ emptied x = search rules in
     let many = hollow_length ts at x there in (
       search rules,
@@ -36,10 +36,10 @@ pub put_store-requires : goal.put_store-requires
 put_store-requires t c =
     let ts : List ShardState = c.args.list.now in
     let at : ℕ = c.next_home-at.result in
-    let x : ShardState = c.index-list-at.result in
+    let x : ShardState = c.index-list-at-2.result in
     let mid : List ShardState = c.fold_from-folded.new.list in
-    let s : ShardState = get_or mid at c.index-list-at-2.result in
-    let there : slice_get ts at ≡ Some x = slice_get_read ts (length ts) at x refl (search rules) c.index-list-at.is in
+    let s : ShardState = get_or mid at c.index-list-at-3.result in
+    let there : slice_get ts at ≡ Some x = slice_get_read ts (length ts) at x refl (search rules) c.index-list-at-2.is in
     let left : c.take_store.new.self ≡ emptied x = search rules in
     let taken : held_by c.in_ok-store.store ≡ x.folded = search rules in
     let rows : HoldsOwnRows x = search rules in
@@ -47,7 +47,7 @@ put_store-requires t c =
     c.fold_from-folded.result
     there c.requires.order c.requires.shards left c.next_home-at.ensures.from c.fold_from-folded.ensures.ok
     c.fold_from-folded.ensures.err
-    (ap (get_or mid at) c.index-list-at-2.is)
+    (ap (get_or mid at) c.index-list-at-3.is)
     (held_by c.in_ok-store.store) (held_by c.fold_if.new.store) (parts_at c.args.message.now.shards at (numbered_of c.args.message.now)) c.is_ok.result rows taken
     refl
     c.fold_if.ensures.wanted c.fold_if.ensures.unwanted
@@ -56,17 +56,17 @@ pub returns-clause-ok : goal.returns-clause-ok
 returns-clause-ok t c =
     let ts : List ShardState = c.args.list.now in
     let at : ℕ = c.next_home-at.result in
-    let x : ShardState = c.index-list-at.result in
+    let x : ShardState = c.index-list-at-2.result in
     let mid : List ShardState = c.fold_from-folded.new.list in
-    let s : ShardState = get_or mid at c.index-list-at-2.result in
-    let there : slice_get ts at ≡ Some x = slice_get_read ts (length ts) at x refl (search rules) c.index-list-at.is in
+    let s : ShardState = get_or mid at c.index-list-at-3.result in
+    let there : slice_get ts at ≡ Some x = slice_get_read ts (length ts) at x refl (search rules) c.index-list-at-2.is in
     let left : c.take_store.new.self ≡ emptied x = search rules in
     let taken : held_by c.in_ok-store.store ≡ x.folded = search rules in
     ended_ok ts mid c.args.message.now.shards at c.args.from (numbered_of c.args.message.now) x c.take_store.new.self s
     c.fold_from-folded.result
     there c.requires.order c.requires.shards left c.next_home-at.ensures.from c.fold_from-folded.ensures.ok
     c.fold_from-folded.ensures.err
-    (ap (get_or mid at) c.index-list-at-2.is)
+    (ap (get_or mid at) c.index-list-at-3.is)
     c.put_store.new.self (held_by c.in_ok-store.store) (held_by c.fold_if.new.store) (parts_at c.args.message.now.shards at (numbered_of c.args.message.now)) c.is_ok.result
     c.put_store.ensures c.is_ok.ensures.value taken refl c.fold_if.ensures.wanted c.next_home-at.ensures.none
 
@@ -74,16 +74,42 @@ pub returns-clause-err : goal.returns-clause-err
 returns-clause-err t c =
     let ts : List ShardState = c.args.list.now in
     let at : ℕ = c.next_home-at.result in
-    let x : ShardState = c.index-list-at.result in
+    let x : ShardState = c.index-list-at-2.result in
     let mid : List ShardState = c.fold_from-folded.new.list in
-    let s : ShardState = get_or mid at c.index-list-at-2.result in
-    let there : slice_get ts at ≡ Some x = slice_get_read ts (length ts) at x refl (search rules) c.index-list-at.is in
+    let s : ShardState = get_or mid at c.index-list-at-3.result in
+    let there : slice_get ts at ≡ Some x = slice_get_read ts (length ts) at x refl (search rules) c.index-list-at-2.is in
     let left : c.take_store.new.self ≡ emptied x = search rules in
     let taken : held_by c.in_ok-store.store ≡ x.folded = search rules in
     ended_err ts mid c.args.message.now.shards at c.args.from (numbered_of c.args.message.now) x c.take_store.new.self s
     c.fold_from-folded.result
     there c.requires.order c.requires.shards left c.next_home-at.ensures.from c.fold_from-folded.ensures.ok
     c.fold_from-folded.ensures.err
-    (ap (get_or mid at) c.index-list-at-2.is)
+    (ap (get_or mid at) c.index-list-at-3.is)
     c.put_store.new.self (held_by c.in_ok-store.store) (held_by c.fold_if.new.store) c.is_ok.result
     c.put_store.ensures c.is_ok.ensures.value taken c.fold_if.ensures.unwanted
+
+pub returns-then-next_home-list-clause-ok : goal.returns-then-next_home-list-clause-ok
+returns-then-next_home-list-clause-ok t c =
+    let ts : List ShardState = c.args.list.now in
+    let at : ℕ = c.next_home-at.result in
+    let x : ShardState = c.index-list-at.result in
+    let ns = numbered_of c.args.message.now in
+    let there : slice_get ts at ≡ Some x = slice_get_read ts (length ts) at x refl (search rules) c.index-list-at.is in
+    let read : get_or ts at x ≡ x = sym c.index-list-at.is in
+    let number : (get_or ts at x).number ≡ at = ap (λ (s : ShardState). s.number) read ∙ (c.requires.order at x there).0 in
+    let many : c.args.message.now.shards ≡ length ts = c.requires.shards in
+    folds_last_ok c.fold_message.result ts at c.args.from ns x c.fold_message.new.self there
+    (if_ok _ _ (λ (is : c.fold_message.new.self ≡ with_parts (get_or ts at x) (parts_at c.args.message.now.shards (get_or ts at x).number ns)).
+    is ∙ (λ i. with_parts (read i) (parts_at (many i) (number i) ns))) c.fold_message.result c.fold_message.ensures.ok)
+    (λ k low high. ap (λ n. parts_at n k ns) (sym many) ∙ c.next_home-at.ensures.none k low high)
+    (λ k low high. ap (λ n. parts_at n k ns) (sym many) ∙ c.next_home.ensures.none k low (omega (arith, high, c.if-next_home-list.true)))
+    c.next_home-at.ensures.from
+
+pub returns-then-next_home-list-clause-err : goal.returns-then-next_home-list-clause-err
+returns-then-next_home-list-clause-err t c =
+    let ts : List ShardState = c.args.list.now in
+    let at : ℕ = c.next_home-at.result in
+    let x : ShardState = c.index-list-at.result in
+    let there : slice_get ts at ≡ Some x = slice_get_read ts (length ts) at x refl (search rules) c.index-list-at.is in
+    folds_last_err c.fold_message.result ts at (get_or ts at x) c.fold_message.new.self
+    (there ∙ ap Some c.index-list-at.is) c.fold_message.ensures.err
