@@ -5,6 +5,7 @@ use rubis_pieces::Piece;
 use rubis_schema::Items;
 use rubis_shard::{Shard, Share};
 use std::alloc::{AllocError, Global};
+use std::process::Abort;
 use std::sync::Wait;
 use std::test::*;
 use std::thread;
@@ -32,20 +33,25 @@ fn take(rt: &impl Wait, board: &Board, pass: &mut Pass) -> Option<usize>
     Some(piece.shard.number())
 }
 
+// Posts pieces 0, 1 and 2, and answers with the one that comes back.
+fn post_three<R: Abort + Wait>(
+    rt: &R,
+    alloc: Global,
+    poster: &mut Poster,
+) -> Result<Option<usize>, AllocError> {
+    for number in 0..2usize {
+        assert!(rt; poster.post(rt, piece(alloc, number)?).is_ok());
+    }
+    match poster.post(rt, piece(alloc, 2)?) {
+        Ok(()) => Ok(None),
+        Err(piece) => Ok(Some(piece.shard.number())),
+    }
+}
+
 #[test]
 fn two_passes_take_in_the_order_of_the_posts(rt: HostRuntime) -> Result<(), Fail> {
     let mut poster = Poster::new(rt.alloc(), 2)?;
-    let (first, second, third) = (
-        piece(rt.alloc(), 0)?,
-        piece(rt.alloc(), 1)?,
-        piece(rt.alloc(), 2)?,
-    );
-    assert!(rt; poster.post(&rt, first).is_ok());
-    assert!(rt; poster.post(&rt, second).is_ok());
-    let back = poster
-        .post(&rt, third)
-        .err()
-        .map(|piece| piece.shard.number());
+    let back = post_three(&rt, rt.alloc(), &mut poster)?;
     assert_eq!(rt; back, Some(2));
     let (board, pass) = poster.open();
     let (mut one, mut two) = board.split(pass);

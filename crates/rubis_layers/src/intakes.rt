@@ -45,12 +45,17 @@ fn a_message_waits_for_the_one_before(rt: HostRuntime) -> Result<(), Fail> {
     Ok(())
 }
 
+// One site passes the token, and the other takes it.
+fn hand_over(here: &mut Intake, there: &mut Intake) -> Result<Taken, Fail> {
+    let token = here.pass_token(1)?;
+    Ok(there.take_token(token)?)
+}
+
 #[test]
 fn the_token_goes_over(rt: HostRuntime) -> Result<(), Fail> {
     let mut here = Intake::new(rt.alloc(), 0, 2, 10)?;
     let mut there = Intake::new(rt.alloc(), 1, 2, 10)?;
-    let token = here.pass_token(1)?;
-    let taken = there.take_token(token)?;
+    let taken = hand_over(&mut here, &mut there)?;
     assert_eq!(rt; (taken, here.token()), (Taken::Holding, None));
     assert_eq!(rt; there.token(), Some(Held { turn: 1, issued: 0 }));
     Ok(())

@@ -6,18 +6,19 @@ ghost use Rattle.rubis_pieces.specs.Batches.{AreFolded, AreFoldedTo, AreUnfinish
 ghost use Rattle.rubis_pieces.specs.Pieces.{IsShareOf};
 
 use crate::gathers::{Gathered, Places, gather};
-use crate::pieces::{Done, Left};
+use crate::pieces::{Done, Left, Piece};
 use crate::splits::split;
 use rubis_message::Message;
 use rubis_schema::Items;
 use rubis_shard::{Shard, Share, Tables};
 use std::alloc::{AllocError, Global};
 
-// Folds the share on its shard, as far as memory goes.
-fn fold_share(mut shard: Shard, share: Share) -> Done
-    requires { IsShareOf shard share }
-    ensures { IsFolded shard share result }
+/// Folds the share on its shard, as far as memory goes.
+pub fn fold_share(piece: Piece) -> Done
+    requires { IsShareOf piece.shard piece.share }
+    ensures { IsFolded piece.shard piece.share result }
 {
+    let Piece { mut shard, share } = piece;
     let applied = shard.apply(&share, 0);
     Done {
         shard,
@@ -38,7 +39,7 @@ fn fold_shares(shards: Vec<Shard>, shares: Vec<Share>, list: &mut Vec<Done>)
         let Some(share) = rest.next() else {
             unreachable!()
         };
-        list.push_reserved(fold_share(shard, share));
+        list.push_reserved(fold_share(Piece { shard, share }));
     }
 }
 

@@ -8,7 +8,7 @@ mod pieces;
 mod rests;
 mod splits;
 
-pub use batches::apply_batch;
+pub use batches::{apply_batch, fold_share};
 pub use gathers::{FaultKind, GatherFault, Gathered, Places, gather};
 pub use ordering::misfits;
 pub use pieces::{Done, Left, Piece};

@@ -1,10 +1,12 @@
 // Tables that follow a log, batch by batch.
 
 ghost use Rattle.std.specs.Prelude.{◌≡◌, ◌≤◌, ◌<◌, ◌⊎◌, [], IfOk, OnOk, OnErr, length};
+ghost use Rattle.rubis_schema.specs.declared.limits.TheConstants.{WORKERS_MAX};
 ghost use Rattle.rubis_shard.specs.Holdings.{HoldsLog};
 ghost use Rattle.rubis_pieces.specs.Batches.{parts_left};
 ghost use Rattle.rubis_replica.specs.Follow.{Follows, IsNoted, StaysWithin, parts_to_do};
 ghost use Rattle.rubis_replica.specs.Progress.{GoesOn, HasBegun, is_behind, parts_between, whole};
+ghost use Rattle.rubis_replica.specs.Setup.{IsCount};
 
 use crate::applying::{apply_upto, count_left, count_parts};
 use rubis_message::Message;
@@ -21,7 +23,7 @@ use std::thread::Threads;
 #[derive(Drop)]
 pub struct Follower<G: Gate> {
     tables: Tables,
-    // How many workers apply a batch, from 1 to 16, and what is called between a worker's take and its work.
+    // How many workers apply a batch, at most WORKERS_MAX, and what is called between a worker's take and its work.
     workers: u8,
     gate: G,
     // How many messages are applied, those of the begun batch aside.
@@ -38,10 +40,11 @@ pub struct Follower<G: Gate> {
 }
 
 impl<G: Gate> Model for Follower<G> {
-    ghost use Rattle.std.specs.Prelude.{◌≤◌, ◌<◌};
     ghost use Rattle.std.specs.Coded.{codes};
     ghost use Rattle.rubis_shard.specs.contracts.tables.Tables as shards;
+    ghost use Rattle.rubis_schema.specs.declared.limits.TheConstants.{WORKERS_MAX};
     ghost use Rattle.rubis_replica.specs.Follow as model;
+    ghost use Rattle.rubis_replica.specs.Setup.{IsCount};
 
     ghost Value = { model.Follower };
 
@@ -49,14 +52,14 @@ impl<G: Gate> Model for Follower<G> {
 
     ghost view = { λ f. record { progress = record { applied = f.applied; upto = f.upto; left = f.left }; at = f.at; rest = f.rest.items; tables = f.tables } };
 
-    ghost invariant = { λ f. (0 < f.workers) × (f.workers ≤ 16) };
+    ghost invariant = { λ f. IsCount f.workers WORKERS_MAX };
 }
 
 impl<G: Gate + Drop> Follower<G> {
     // The tables before any message, in so many shards, which so many workers will bring on.
     pub fn new(alloc: Global, shards: u8, workers: u8, gate: G) -> Result<Follower<G>, AllocError>
         requires shards { 0 < shards }
-        requires workers { (0 < workers) × (workers ≤ 16) }
+        requires workers { IsCount workers WORKERS_MAX }
         ensures progress { IfOk result (λ follower. (follower.progress ≡ whole 0) × (follower.at ≡ 0) × (follower.rest ≡ [])) }
         ensures some { IfOk result (λ follower. 0 < length follower.tables) }
         ensures tables { IfOk result (λ follower. HoldsLog (length follower.tables) [] follower.tables) }

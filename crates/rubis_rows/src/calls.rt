@@ -109,15 +109,21 @@ fn a_part_is_owned(rt: HostRuntime) -> Result<(), Fail> {
     Ok(())
 }
 
+// Makes the shadow of user ann, and answers with its red number.
+fn make_ann(intake: &mut Intake) -> Result<u32, Fail> {
+    let standing = intake.standing();
+    if standing.full || !standing.current {
+        return Err(Fail::from("the site may not"));
+    }
+    let nick = Nick::read(b"ann").ok_or("a nickname")?;
+    let message = intake.generated(Shadow::User(nick))?;
+    Ok(message.stamp().red)
+}
+
 #[test]
 fn a_shadow_is_released(rt: HostRuntime) -> Result<(), Fail> {
     let mut intake = Intake::new(rt.alloc(), 0, 1, 10)?;
-    let standing = intake.standing();
-    assert!(rt; !standing.full);
-    assert!(rt; standing.current);
-    let nick = Nick::read(b"ann").ok_or("a nickname")?;
-    let message = intake.generated(Shadow::User(nick))?;
-    assert_eq!(rt; message.stamp().red, 1);
+    assert_eq!(rt; make_ann(&mut intake)?, 1);
     assert_eq!(rt; intake.log().len(), 1);
     Ok(())
 }

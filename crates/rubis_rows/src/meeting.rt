@@ -5,8 +5,8 @@ ghost use Rattle.rubis_shadow.specs.Limits.{IsAsk};
 
 use crate::records::{message, record};
 use rubis_message::{Arrival, Request, read_request};
-use rubis_replica::{Config, Gate, Site};
 use rubis_pieces::split;
+use rubis_replica::{Config, Gate, Site};
 use rubis_schema::Listing;
 use rubis_script::{Count, run_site_upto};
 use rubis_shadow::Ask;

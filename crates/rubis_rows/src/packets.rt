@@ -1,22 +1,23 @@
-// Messages and tokens that arrive at a site.
+// Messages that arrive at a site.
 
 ghost use Rattle.std.specs.Prelude.{◌≡◌, IfOk};
 
-use crate::records::{message, token};
-use rubis_message::{Arrival, Taken};
-use rubis_replica::{Config, Fault, Free, Site};
-use rubis_schema::{Nick, Refusal};
+use crate::records::message;
+use rubis_message::Arrival;
+use rubis_replica::{Config, Free, Site};
+use rubis_schema::Nick;
 use rubis_shadow::Ask;
 use std::alloc::{AllocError, Global};
+use std::process::Abort;
 use std::sync::Wait;
 use std::test::Fail;
 use std::thread::Threads;
 
+const ONE: Arrival = Arrival::Released(1);
+
 const ANN: &str = "msg,1,0,1,1,0:0,user,ann";
 
 const BOB: &str = "msg,1,0,2,2,1:0,user,bob";
-
-const CAT: &str = "msg,1,0,3,3,2:0,user,cat";
 
 const CUP: &str = "msg,1,0,3,0,2:0,item,0.1,cup,9,3,50,80";
 
@@ -42,24 +43,33 @@ fn arrive<R: Threads + Wait + Sync>(
     Ok(site.arrive(rt, message)?)
 }
 
+// Takes in two users and an item, each of which is released.
+fn release_three<R: Abort + Threads + Wait + Sync>(
+    rt: &R,
+    site: &mut Site,
+    alloc: Global,
+) -> Result<(), Fail>
+    requires { site.old.place.sites ≡ 2 }
+{
+    let first = arrive(rt, site, alloc, ANN)?;
+    let second = arrive(rt, site, alloc, BOB)?;
+    let third = arrive(rt, site, alloc, CUP)?;
+    assert_eq!(rt; (first, second, third), (ONE, ONE, ONE));
+    Ok(())
+}
+
+// Cuts twice, and catches up.
+fn cut_twice<R: Threads + Wait + Sync>(rt: &R, site: &mut Site) -> Result<(u32, u32, u32), Fail> {
+    let first = site.cut(rt)?;
+    let second = site.cut(rt)?;
+    Ok((first, second, site.catch_up()?))
+}
+
 #[test]
 fn three_messages_are_cut_at_once(rt: HostRuntime) -> Result<(), Fail> {
     let mut site = second_of_two(rt.alloc(), 1_000_000)?;
-    assert_eq!(rt;
-        arrive(&rt, &mut site, rt.alloc(), ANN)?,
-        Arrival::Released(1)
-    );
-    assert_eq!(rt;
-        arrive(&rt, &mut site, rt.alloc(), BOB)?,
-        Arrival::Released(1)
-    );
-    assert_eq!(rt;
-        arrive(&rt, &mut site, rt.alloc(), CUP)?,
-        Arrival::Released(1)
-    );
-    assert_eq!(rt; site.cut(&rt)?, 3);
-    assert_eq!(rt; site.cut(&rt)?, 0);
-    assert_eq!(rt; site.catch_up()?, 0);
+    release_three(&rt, &mut site, rt.alloc())?;
+    assert_eq!(rt; cut_twice(&rt, &mut site)?, (3, 0, 0));
     Ok(())
 }
 
@@ -74,18 +84,7 @@ fn site_with_batches_of_three(alloc: Global, site: u8) -> Result<Site, Fail>
 #[test]
 fn a_batch_is_applied_at_the_third_arrival(rt: HostRuntime) -> Result<(), Fail> {
     let mut site = site_with_batches_of_three(rt.alloc(), 1)?;
-    assert_eq!(rt;
-        arrive(&rt, &mut site, rt.alloc(), ANN)?,
-        Arrival::Released(1)
-    );
-    assert_eq!(rt;
-        arrive(&rt, &mut site, rt.alloc(), BOB)?,
-        Arrival::Released(1)
-    );
-    assert_eq!(rt;
-        arrive(&rt, &mut site, rt.alloc(), CUP)?,
-        Arrival::Released(1)
-    );
+    release_three(&rt, &mut site, rt.alloc())?;
     assert_eq!(rt; site.cut(&rt)?, 0);
     Ok(())
 }
@@ -94,77 +93,28 @@ const FIRST_OF_THE_OTHER: &str = "msg,1,1,1,0,1:0,comment,0.1,0.1,0.1,1,x";
 
 const SECOND_OF_THE_OTHER: &str = "msg,1,1,2,0,1:1,comment,0.1,0.1,0.1,1,y";
 
+// Takes in two messages, which wait.
+fn hold_two<R: Abort + Threads + Wait + Sync>(
+    rt: &R,
+    site: &mut Site,
+    alloc: Global,
+) -> Result<(), Fail>
+    requires { site.old.place.sites ≡ 2 }
+{
+    let first = arrive(rt, site, alloc, FIRST_OF_THE_OTHER)?;
+    let second = arrive(rt, site, alloc, SECOND_OF_THE_OTHER)?;
+    assert_eq!(rt; (first, second), (Arrival::Held, Arrival::Held));
+    Ok(())
+}
+
 #[test]
 fn a_batch_is_applied_at_a_request_that_releases_three(rt: HostRuntime) -> Result<(), Fail> {
     let mut site = site_with_batches_of_three(rt.alloc(), 0)?;
-    assert_eq!(rt;
-        arrive(&rt, &mut site, rt.alloc(), FIRST_OF_THE_OTHER)?,
-        Arrival::Held
-    );
-    assert_eq!(rt;
-        arrive(&rt, &mut site, rt.alloc(), SECOND_OF_THE_OTHER)?,
-        Arrival::Held
-    );
+    hold_two(&rt, &mut site, rt.alloc())?;
     let nick = Nick::read(b"ann").ok_or("a nickname")?;
     assert_eq!(rt; site.request(&rt, Ask::User(nick))?.stamp().id.seq, 1);
     assert_eq!(rt; site.history().len(), 3);
     assert_eq!(rt; site.cut(&rt)?, 0);
-    Ok(())
-}
-
-#[test]
-fn messages_wait_for_those_before(rt: HostRuntime) -> Result<(), Fail> {
-    let mut site = second_of_two(rt.alloc(), 1_000_000)?;
-    assert_eq!(rt; arrive(&rt, &mut site, rt.alloc(), BOB)?, Arrival::Held);
-    assert_eq!(rt; arrive(&rt, &mut site, rt.alloc(), BOB)?, Arrival::Repeat);
-    assert_eq!(rt;
-        arrive(&rt, &mut site, rt.alloc(), ANN)?,
-        Arrival::Released(2)
-    );
-    assert_eq!(rt; arrive(&rt, &mut site, rt.alloc(), BOB)?, Arrival::Repeat);
-    assert_eq!(rt; arrive(&rt, &mut site, rt.alloc(), ANN)?, Arrival::Repeat);
-    assert_eq!(rt; site.history().len(), 2);
-    Ok(())
-}
-
-#[test]
-fn a_full_site_refuses_what_is_new(rt: HostRuntime) -> Result<(), Fail> {
-    let mut site = second_of_two(rt.alloc(), 2)?;
-    assert_eq!(rt;
-        arrive(&rt, &mut site, rt.alloc(), ANN)?,
-        Arrival::Released(1)
-    );
-    assert_eq!(rt;
-        arrive(&rt, &mut site, rt.alloc(), BOB)?,
-        Arrival::Released(1)
-    );
-    let cat = message(rt.alloc(), CAT, 2)?;
-    let refused = site.arrive(&rt, cat).err();
-    assert_eq!(rt; refused, Some(Fault::Refused(Refusal::Full)));
-    assert_eq!(rt; arrive(&rt, &mut site, rt.alloc(), ANN)?, Arrival::Repeat);
-    Ok(())
-}
-
-#[test]
-fn a_site_refuses_its_own_unmade_message(rt: HostRuntime) -> Result<(), Fail> {
-    let mut site = second_of_two(rt.alloc(), 2)?;
-    let forged = message(rt.alloc(), "msg,1,1,1,1,0:0,user,ann", 2)?;
-    let refused = site.arrive(&rt, forged).err();
-    assert_eq!(rt; refused, Some(Fault::Refused(Refusal::NotOurs)));
-    Ok(())
-}
-
-#[test]
-fn the_last_turn_is_not_handed_on(rt: HostRuntime) -> Result<(), Fail> {
-    let mut site = second_of_two(rt.alloc(), 2)?;
-    let last = token(rt.alloc(), "token,1,1000000000,1,0", 2)?;
-    assert_eq!(rt; site.token(last)?, Taken::Holding);
-    assert_eq!(rt; site.token(last)?, Taken::Repeat);
-    let refused = site.pass(0).err();
-    assert_eq!(rt; refused, Some(Fault::Refused(Refusal::LastTurn)));
-    let other = token(rt.alloc(), "token,1,1,0,0", 2)?;
-    let refused = site.token(other).err();
-    assert_eq!(rt; refused, Some(Fault::Refused(Refusal::NotForMe)));
     Ok(())
 }
 
@@ -206,21 +156,29 @@ fn ids_of(alloc: Global, site: &Site) -> Result<Vec<(u8, u32)>, AllocError> {
     Ok(ids)
 }
 
+// Takes in three messages, which wait.
+fn hold_three<R: Abort + Threads + Wait + Sync>(
+    rt: &R,
+    site: &mut Site,
+    alloc: Global,
+) -> Result<(), Fail>
+    requires { site.old.place.sites ≡ 3 }
+    ensures { site.new.place ≡ site.old.place }
+{
+    let jug = arrive_of_three(rt, site, alloc, JUG)?;
+    let pot = arrive_of_three(rt, site, alloc, POT)?;
+    let cup = arrive_of_three(rt, site, alloc, SECOND)?;
+    assert_eq!(rt;
+        (jug, pot, cup),
+        (Arrival::Held, Arrival::Held, Arrival::Held)
+    );
+    Ok(())
+}
+
 #[test]
 fn the_earliest_that_is_ready_is_released(rt: HostRuntime) -> Result<(), Fail> {
     let mut site = third_of_three(rt.alloc())?;
-    assert_eq!(rt;
-        arrive_of_three(&rt, &mut site, rt.alloc(), JUG)?,
-        Arrival::Held
-    );
-    assert_eq!(rt;
-        arrive_of_three(&rt, &mut site, rt.alloc(), POT)?,
-        Arrival::Held
-    );
-    assert_eq!(rt;
-        arrive_of_three(&rt, &mut site, rt.alloc(), SECOND)?,
-        Arrival::Held
-    );
+    hold_three(&rt, &mut site, rt.alloc())?;
     let last = arrive_of_three(&rt, &mut site, rt.alloc(), "msg,1,0,1,1,0:0:0,user,ann")?;
     assert_eq!(rt; last, Arrival::Released(4));
     let ids = ids_of(rt.alloc(), &site)?;

@@ -3,7 +3,7 @@
 ghost use Rattle.std.specs.Prelude.{◌≡◌, ◌≤◌, IfOk};
 ghost use Rattle.rubis_message.specs.Message.{sites_of};
 
-use rubis_message::{Message, Packet, Token, read_packet};
+use rubis_message::{Message, Packet, read_packet};
 use rubis_schema::Fields;
 use std::alloc::{AllocError, Global};
 use std::test::Fail;
@@ -37,15 +37,5 @@ pub fn message(alloc: Global, text: &str, sites: u8) -> Result<Message, Fail>
     match read_packet(alloc, &record(alloc, text)?, sites)? {
         Packet::Msg(message) => Ok(message),
         Packet::Token(_) => Err(Fail::from("a token")),
-    }
-}
-
-/// The token that is written so, to a site among so many.
-pub fn token(alloc: Global, text: &str, sites: u8) -> Result<Token, Fail>
-    requires { sites ≤ 16 }
-{
-    match read_packet(alloc, &record(alloc, text)?, sites)? {
-        Packet::Token(token) => Ok(token),
-        Packet::Msg(_) => Err(Fail::from("a message")),
     }
 }

@@ -1,9 +1,10 @@
 // A site's calls, without records.
 
 use crate::transcripts::usual;
-use rubis_replica::{Config, Fault, Free, Site};
-use rubis_schema::{Listing, Nick, Refusal};
+use rubis_replica::{Config, Free, Site};
+use rubis_schema::{Listing, Nick};
 use rubis_shadow::Ask;
+use std::process::Abort;
 use std::sync::Wait;
 use std::test::Fail;
 use std::thread::Threads;
@@ -15,15 +16,23 @@ fn ask_user<R: Threads + Wait + Sync>(rt: &R, site: &mut Site, nick: &[u8]) -> R
     Ok(message.stamp().id.seq)
 }
 
+// Cuts an empty site, and again behind two users.
+fn cut_and_ask<R: Abort + Threads + Wait + Sync>(rt: &R, site: &mut Site) -> Result<(), Fail> {
+    let none = site.cut(rt)?;
+    let ann = ask_user(rt, site, b"ann")?;
+    let bob = ask_user(rt, site, b"bob")?;
+    let one = site.cut(rt)?;
+    let rest = site.cut(rt)?;
+    let done = site.catch_up()?;
+    assert_eq!(rt; (ann, bob), (1, 2));
+    assert_eq!(rt; (none, one, rest, done), (0, 1, 0, 0));
+    Ok(())
+}
+
 #[test]
 fn a_cut_applies_what_is_pending(rt: HostRuntime) -> Result<(), Fail> {
     let mut site = Site::new(rt.alloc(), &usual(&rt, 0, 1), Free)?;
-    assert_eq!(rt; site.cut(&rt)?, 0);
-    assert_eq!(rt; ask_user(&rt, &mut site, b"ann")?, 1);
-    assert_eq!(rt; ask_user(&rt, &mut site, b"bob")?, 2);
-    assert_eq!(rt; site.cut(&rt)?, 1);
-    assert_eq!(rt; site.cut(&rt)?, 0);
-    assert_eq!(rt; site.catch_up()?, 0);
+    cut_and_ask(&rt, &mut site)?;
     assert!(rt; !site.is_behind());
     assert_eq!(rt; site.history().len(), 2);
     Ok(())
@@ -38,27 +47,21 @@ fn a_batch_is_applied_at_once(rt: HostRuntime) -> Result<(), Fail> {
     Ok(())
 }
 
-#[test]
-fn a_listing_has_a_row_for_each_user(rt: HostRuntime) -> Result<(), Fail> {
-    let mut site = Site::new(rt.alloc(), &usual(&rt, 0, 1), Free)?;
-    assert_eq!(rt; ask_user(&rt, &mut site, b"ann")?, 1);
-    assert_eq!(rt; site.list(&rt, &Listing::Users)?.len(), 1);
-    assert_eq!(rt; site.cut(&rt)?, 0);
-    assert_eq!(rt; site.list(&rt, &Listing::Log)?.len(), 1);
-    assert_eq!(rt; site.list(&rt, &Listing::Misfits)?.len(), 0);
+// Lists the one user of a site, its log, and no misfit.
+fn list_one_user<R: Abort + Threads + Wait + Sync>(rt: &R, site: &mut Site) -> Result<(), Fail> {
+    let ann = ask_user(rt, site, b"ann")?;
+    let users = site.list(rt, &Listing::Users)?.len();
+    let pending = site.cut(rt)?;
+    let log = site.list(rt, &Listing::Log)?.len();
+    let misfits = site.list(rt, &Listing::Misfits)?.len();
+    assert_eq!(rt; (ann, users, pending, log, misfits), (1, 1, 0, 1, 0));
     Ok(())
 }
 
 #[test]
-fn the_last_token_goes_to_another_site(rt: HostRuntime) -> Result<(), Fail> {
-    let mut site = Site::new(rt.alloc(), &usual(&rt, 0, 2), Free)?;
-    assert_eq!(rt;
-        site.pass(0).err(),
-        Some(Fault::Refused(Refusal::BadTarget))
-    );
-    assert_eq!(rt; site.pass(1)?.to, 1);
-    assert_eq!(rt; site.pass(1).err(), Some(Fault::Refused(Refusal::NoToken)));
-    Ok(())
+fn a_listing_has_a_row_for_each_user(rt: HostRuntime) -> Result<(), Fail> {
+    let mut site = Site::new(rt.alloc(), &usual(&rt, 0, 1), Free)?;
+    list_one_user(&rt, &mut site)
 }
 
 #[test]

@@ -46,18 +46,39 @@ fn apply_whole<R: Abort>(
     Ok(())
 }
 
+// Makes a user.
+fn add_user<R: Abort>(
+    rt: &R,
+    tables: &mut PlainTables,
+    id: Id,
+    red: u32,
+    nick: &[u8],
+) -> Result<(), Fail> {
+    let shadow = user(nick)?;
+    apply_whole(rt, tables, id, red, &shadow)
+}
+
+// Makes user ann, and then another of that nickname: what became of the second nickname, and whose it is.
+fn add_ann_twice<R: Abort>(
+    rt: &R,
+    tables: &mut PlainTables,
+) -> Result<(Option<MisfitKind>, Option<Id>), Fail> {
+    let shadow = user(b"ann")?;
+    apply_whole(rt, tables, ANN, 1, &shadow)?;
+    let second = shadow.effect(BOB, 2, 1).ok_or("a part")?;
+    let misfit = tables.apply(&second.own()?)?;
+    match tables.row(&second.key()) {
+        Some(Row::Nick(id)) => Ok((misfit, Some(*id))),
+        _ => Ok((misfit, None)),
+    }
+}
+
 #[test]
 fn a_nickname_stays_with_the_first(rt: HostRuntime) -> Result<(), Fail> {
     let mut tables = PlainTables::new(rt.alloc())?;
-    let shadow = user(b"ann")?;
-    apply_whole(&rt, &mut tables, ANN, 1, &shadow)?;
-    let second = shadow.effect(BOB, 2, 1).ok_or("a part")?;
-    let misfit = tables.apply(&second.own()?)?;
+    let (misfit, whose) = add_ann_twice(&rt, &mut tables)?;
     assert_eq!(rt; misfit, Some(MisfitKind::RowThere));
-    match tables.row(&second.key()) {
-        Some(Row::Nick(id)) => assert_eq!(rt; *id, ANN),
-        _ => assert!(rt; false, "no nickname"),
-    }
+    assert_eq!(rt; whose, Some(ANN));
     Ok(())
 }
 
@@ -73,8 +94,8 @@ fn tables_have_a_thousand_categories(rt: HostRuntime) -> Result<(), Fail> {
 #[test]
 fn rows_are_listed_in_key_order(rt: HostRuntime) -> Result<(), Fail> {
     let mut tables = PlainTables::new(rt.alloc())?;
-    apply_whole(&rt, &mut tables, BOB, 1, &user(b"bob")?)?;
-    apply_whole(&rt, &mut tables, ANN, 2, &user(b"ann")?)?;
+    add_user(&rt, &mut tables, BOB, 1, b"bob")?;
+    add_user(&rt, &mut tables, ANN, 2, b"ann")?;
     let rows = tables.rows(rt.alloc(), Table::Users)?;
     assert_eq!(rt; rows.len(), 2);
     let mut keys = rows.iter().map(|entry| *entry.0);
@@ -83,24 +104,24 @@ fn rows_are_listed_in_key_order(rt: HostRuntime) -> Result<(), Fail> {
     Ok(())
 }
 
-// The tables in which ann offered a lamp and closed it, with no bid.
-fn ended_lamp<R: Abort + AllocGlobal>(rt: &R) -> Result<PlainTables, Fail> {
-    let mut tables = PlainTables::new(rt.alloc())?;
+// Ann offers a lamp and closes it, with no bid.
+fn end_lamp<R: Abort + AllocGlobal>(rt: &R, tables: &mut PlainTables) -> Result<(), Fail> {
+    add_user(rt, tables, ANN, 1, b"ann")?;
+    add_user(rt, tables, BOB, 2, b"bob")?;
+    let lamp = lamp(rt.alloc())?;
+    apply_whole(rt, tables, LAMP, 0, &lamp)?;
     let close = Shadow::Close(NewClose {
         item: LAMP,
         cat: 7,
         winner: None,
     });
-    apply_whole(rt, &mut tables, ANN, 1, &user(b"ann")?)?;
-    apply_whole(rt, &mut tables, BOB, 2, &user(b"bob")?)?;
-    apply_whole(rt, &mut tables, LAMP, 0, &lamp(rt.alloc())?)?;
-    apply_whole(rt, &mut tables, CLOSE, 3, &close)?;
-    Ok(tables)
+    apply_whole(rt, tables, CLOSE, 3, &close)
 }
 
 #[test]
 fn red_behind_comes_before_closed(rt: HostRuntime) -> Result<(), Fail> {
-    let tables = ended_lamp(&rt)?;
+    let mut tables = PlainTables::new(rt.alloc())?;
+    end_lamp(&rt, &mut tables)?;
     for (current, want) in [(false, Refusal::RedBehind), (true, Refusal::Closed)] {
         let ask = Ask::Bid(NewBid {
             item: LAMP,

@@ -6,24 +6,10 @@ ghost use Rattle.rubis_workers.specs.Work.{having, IsPiece, IsWorked, IsRoom};
 
 use crate::gate::Gate;
 use rubis_board::{Board, Pass};
-use rubis_pieces::{Done, Piece};
+use rubis_pieces::{Done, fold_share};
 use std::sync::Wait;
 use std::thread;
 use std::thread::Threads;
-
-// Folds the share on its shard, as far as memory goes.
-fn fold_share(piece: Piece) -> Done
-    requires { IsPiece piece }
-    ensures { IsWorked piece result }
-{
-    let Piece { mut shard, share } = piece;
-    let applied = shard.apply(&share, 0);
-    Done {
-        shard,
-        share,
-        done: applied.done,
-    }
-}
 
 /// One worker: takes pieces until none is left, and works on each.
 pub fn work<G: Gate, R: Wait>(
