@@ -165,8 +165,9 @@ fn program<'a>(alloc: Global) -> Result<Command<'a>, AllocError>
             "Which site it is, from 0",
         ))?;
     let site = with_setup(alloc, site)?;
-    let world = Command::new(alloc, "world")
-        .about("Runs several sites: records on standard input, answers on standard output");
+    let world = Command::new(alloc, "world").about(
+        "Runs several sites: records on standard input, answers on standard output",
+    );
     let world = with_setup(alloc, world)?;
     let audit = Command::new(alloc, "audit")
         .about("Audits logs: their records on standard input, the first fault on standard output")

@@ -16,5 +16,5 @@ none_told text site = (sym (append-nil text), refl)
 pub more_told : (xs ys : List (List (List ℕ))) (a b c : List ℕ) (i j k : ℕ) → is_told xs a i b j → is_told ys b j c k → is_told (xs ++ ys) a i c k
 more_told xs ys a b c i j k e f =
     let both : rows_text (map (site_row i) (xs ++ ys)) ≡ rows_text (map (site_row i) xs) ++ rows_text (map (site_row i) ys) =
-        ap rows_text (map-append (site_row i) xs ys) ∙ flat_map-append (row_text plain_writer) (map (site_row i) xs) (map (site_row i) ys) in
+    ap rows_text (map-append (site_row i) xs ys) ∙ flat_map-append (row_text plain_writer) (map (site_row i) xs) (map (site_row i) ys) in
     (f.0 ∙ (λ t. e.0 t ++ rows_text (map (site_row (e.1 t)) ys)) ∙ append_assoc a _ _ ∙ ap (λ t. a ++ t) (sym both), f.1 ∙ e.1)

@@ -131,9 +131,7 @@ impl WorldDesk {
                 answer_delivery(rt, world, reply, sink, number, site, which)
             }
             WorldInput::Audit => answer_audit(rt, world, reply, sink),
-            WorldInput::Neither => {
-                Ok(write_no_event(reply, sink, number, Refusal::BadEvent)?)
-            }
+            WorldInput::Neither => Ok(write_no_event(reply, sink, number, Refusal::BadEvent)?),
         }
     }
 }
