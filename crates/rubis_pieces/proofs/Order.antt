@@ -18,7 +18,6 @@ use Rattle.rubis_shadow.specs.declared.changes.MisfitKind.{MisfitKind}
 use Rattle.rubis_shadow.specs.declared.changes.MisfitKind.TheVariants.{RowThere, NoRow, ClosedItem, StockShort}
 use Rattle.rubis_shadow.specs.declared.numbered.Misfit.{Misfit}
 use Rattle.rubis_shadow.specs.declared.numbered.Numbered.{Numbered}
-use Rattle.rubis_shadow.specs.declared.shadows.Shadow.{Shadow}
 use Rattle.rubis_shadow.proofs.Lists.{few_parts}
 use Rattle.rubis_model.specs.Log.{Core, Folded, noted, number_parts, numbered_from, parts_of, share, fold_of}
 use Rattle.rubis_model.specs.Shares.{part_of}
