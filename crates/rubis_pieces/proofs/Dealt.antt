@@ -1,5 +1,5 @@
 -- Parts dealt to the shares of their homes, one after the other.
-use Rattle.std.proofs.Common.{ℕ, ◌≡◌, ◌+◌, ◌<◌, List, [], ◌∷◌, ◌++◌, length, take, get_or, set, cond, refl, sym, ap, ◌∙◌, subst}
+use Rattle.std.proofs.Common.{ℕ, ◌≡◌, ◌+◌, ◌<◌, List, [], ◌∷◌, ◌++◌, length, take, get_or, set, cond, sym, ap, ◌∙◌, subst}
 use Rattle.std.proofs.Common.{arith, append_assoc, length-set, ⊎_elim}
 use Rattle.std.specs.Prelude.{Some, None, slice_get}
 use Rattle.std.proofs.lemmas.Bool.{cases_eq, cases_lt}
@@ -12,7 +12,7 @@ use Rattle.rubis_shadow.specs.Parts.{parts}
 use Rattle.rubis_shadow.specs.declared.changes.Effect.{Effect}
 use Rattle.rubis_shadow.specs.declared.numbered.Numbered.{Numbered}
 use Rattle.rubis_shadow.specs.declared.shadows.Shadow.{Shadow}
-use Rattle.rubis_shadow.specs.declared.shadows.Shadow.TheVariants as shadow
+use Rattle.rubis_shadow.proofs.Lists.{few_parts}
 use Rattle.rubis_message.specs.Message.{Message}
 use Rattle.rubis_model.specs.Log.{core, cores, number_parts, numbered_from, parts_of}
 use Rattle.rubis_model.proofs.CoreLists.{cores_push}
@@ -125,12 +125,7 @@ place_past shards entry i id es a l there inv = subst (λ fs. IsDealtTo shards (
     es i (sym there))) inv
 
 all_places : (id : Id) (red : ℕ) (s : Shadow) → take 3 (parts id red s) ≡ parts id red s
-all_places id red (shadow.User n) = refl
-all_places id red (shadow.Item n) = refl
-all_places id red (shadow.Bid b) = refl
-all_places id red (shadow.Buy p) = refl
-all_places id red (shadow.Close c) = refl
-all_places id red (shadow.Comment c) = refl
+all_places id red s = take_all 3 (parts id red s) (few_parts id red s)
 
 pub message_end : (shards entry red i : ℕ) (id : Id) (s : Shadow) (a l : List Share) → i ≡ 3
     → IsDealtTo shards (number_parts entry 1 id (take i (parts id red s))) a l

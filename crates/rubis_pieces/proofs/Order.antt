@@ -18,8 +18,7 @@ use Rattle.rubis_shadow.specs.declared.changes.MisfitKind.{MisfitKind}
 use Rattle.rubis_shadow.specs.declared.changes.MisfitKind.TheVariants.{RowThere, NoRow, ClosedItem, StockShort}
 use Rattle.rubis_shadow.specs.declared.numbered.Misfit.{Misfit}
 use Rattle.rubis_shadow.specs.declared.numbered.Numbered.{Numbered}
-use Rattle.rubis_shadow.specs.declared.shadows.Shadow.{Shadow}
-use Rattle.rubis_shadow.specs.declared.shadows.Shadow.TheVariants as shadow
+use Rattle.rubis_shadow.proofs.Lists.{few_parts}
 use Rattle.rubis_model.specs.Log.{Core, Folded, noted, number_parts, numbered_from, parts_of, share, fold_of}
 use Rattle.rubis_model.specs.Shares.{part_of}
 use Rattle.rubis_model.proofs.InPlace.{home_within}
@@ -231,14 +230,6 @@ module _ (shards : ℕ) (f : Misfit → ℕ) where
       omega (arith, first, rest, both, c)
 
 -- ---- the places of a log's parts rise
-few_parts : (id : Id) (red : ℕ) (s : Shadow) → length (parts id red s) ≤ 3
-few_parts id red (shadow.User n) = omega arith
-few_parts id red (shadow.Item n) = omega arith
-few_parts id red (shadow.Bid b) = omega arith
-few_parts id red (shadow.Buy p) = omega arith
-few_parts id red (shadow.Close c) = omega arith
-few_parts id red (shadow.Comment c) = omega arith
-
 abbrev place_of_part : Numbered → ℕ
 place_of_part n = n.entry * 256 + n.part
 
@@ -302,7 +293,7 @@ above_numbered n first (m ∷ ms) h = above_parts n first 1 m.id (parts_of m) (n
 rising_numbered : (first : ℕ) (ms : List Core) → Rising place_of_part (numbered_from first ms)
 rising_numbered first [] = tt
 rising_numbered first (m ∷ ms) =
-    let l = few_parts m.id m.red m.shadow in
+    let l : length (parts m.id m.red m.shadow) ≤ 3 = few_parts m.id m.red m.shadow in
     rising_parts first 1 m.id (parts_of m) (numbered_from (first + 1) ms) (omega (arith, l)) (above_numbered (first * 256 +
     256) (first + 1) ms (omega arith)) (rising_numbered (first + 1) ms)
 

@@ -8,7 +8,8 @@ use Rattle.std.proofs.lemmas.List.{drop-append-le, drop-drop, take-append-le, ta
 use Rattle.rubis_schema.specs.declared.ids.Id.{Id}
 use Rattle.rubis_shadow.specs.Parts.{parts}
 use Rattle.rubis_shadow.specs.declared.shadows.Shadow.{Shadow}
-use Rattle.rubis_shadow.specs.declared.shadows.Shadow.TheVariants.{User, Item, Bid, Buy, Close, Comment}
+use Rattle.rubis_shadow.specs.declared.shadows.Shadow.TheVariants.{User}
+use Rattle.rubis_shadow.proofs.Lists.{few_parts as few_of_one}
 use Rattle.rubis_message.specs.Message.{Message}
 use Rattle.rubis_model.specs.Log.{core, cores, parts_of}
 use Rattle.rubis_model.proofs.CoreLists.{cores_append}
@@ -26,11 +27,7 @@ cores_more log n m h e =
 
 some_parts : (id : Id) (red : ℕ) (x : Shadow) → 0 < length (parts id red x)
 some_parts id red (User n) = omega arith
-some_parts id red (Item n) = omega arith
-some_parts id red (Bid b) = omega arith
-some_parts id red (Buy p) = omega arith
-some_parts id red (Close c) = omega arith
-some_parts id red (Comment c) = omega arith
+some_parts id red x = omega arith
 
 -- ---- between two places
 
@@ -99,12 +96,7 @@ count_more log n count own m h e c o =
     )
 
 three_parts : (id : Id) (red : ℕ) (x : Shadow) → length (parts id red x) ≤ 3
-three_parts id red (User n) = omega arith
-three_parts id red (Item n) = omega arith
-three_parts id red (Bid b) = omega arith
-three_parts id red (Buy p) = omega arith
-three_parts id red (Close c) = omega arith
-three_parts id red (Comment c) = omega arith
+three_parts id red x = few_of_one id red x
 
 few_parts : (xs : List Message) → length (flat_map parts_of (cores xs)) ≤ 3 * length xs
 few_parts [] = omega arith
