@@ -63,11 +63,13 @@ pub fn split(
     requires entries { first + length batch.now ≤ 1000001 }
     ensures { IfOk result (λ shares. AreShares shards first (cores batch.now) shares.items) }
 {
-    let mut list = Vec::new(alloc);
+    // Most messages have two parts.
+    let room = batch.len() / shards * 2;
+    let mut list = Vec::with_capacity(alloc, shards)?;
     for number in 0..shards {
         list.push(Share {
             number,
-            effects: Items::new(alloc),
+            effects: Items::from(Vec::with_capacity(alloc, room)?),
         })?;
     }
     let mut entry = first;

@@ -12,7 +12,7 @@ use Rattle.rubis_message.specs.Message.{Message, IsMessage, sites_of}
 use Rattle.rubis_model.specs.Settle.{counted, Settles}
 use Rattle.rubis_model.specs.Site.{Place, Replica, counts, after_came, not_ours, is_repeat}
 use Rattle.rubis_model.proofs.OneOutcome.{settles_one}
-use Rattle.rubis_release.specs.Release.{IsAmong, AllAmong, AreKept, clock_of}
+use Rattle.rubis_release.specs.Release.{IsAmong, AllAmong, AreKept, NoneReady, clock_of}
 use Rattle.rubis_release.specs.Intake.{Intake, Holds}
 use Rattle.rubis_release.specs.Answers.{IsAdmitted}
 use Rattle.rubis_release.proofs.Counting.{length_counts, counts_at}
@@ -62,15 +62,17 @@ opening_holds p log waiting held k n a b some c e f g = subst₂ (λ (l w : List
   };
   clock = g ∙ opening_counts p.sites;
   room = omega arith;
+  settled = λ k d l r. absurd (omega arith);
 })
 
 -- ---- the next state
-pub next_holds : (i : Intake) (k k' : Counted) (n n' : ℕ) (log waiting : List Message) (held : Option ℕ) → Holds i k n → AreKept i.place log waiting → k' ≡ clock_of (length k.counts) log → length log + length waiting ≤ n'
+pub next_holds : (i : Intake) (k k' : Counted) (n n' : ℕ) (log waiting : List Message) (held : Option ℕ) → Holds i k n → AreKept i.place log waiting → k' ≡ clock_of (length k.counts) log → length log + length waiting ≤ n' → NoneReady k' waiting
     → Holds (record { place = i.place; state = record { log = log; waiting = waiting; held = held; last = i.state.last } }) k' n'
-next_holds i k k' n n' log waiting held h kept e room = record {
+next_holds i k k' n n' log waiting held h kept e room none = record {
   conditions = record { site = h.conditions.site; sites = h.conditions.sites; some = h.conditions.some; keep = h.conditions.keep; kept = kept };
   clock = e ∙ ap (λ x. clock_of x log) (sites_of_clock i k n h);
   room = room;
+  settled = none;
 }
 
 pub unchanged_kept : (i : Intake) (k : Counted) (n : ℕ) (log waiting : List Message) → Holds i k n → log ≡ i.state.log → waiting ≡ i.state.waiting → AreKept i.place log waiting

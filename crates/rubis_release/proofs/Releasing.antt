@@ -1,8 +1,9 @@
 -- What is released by its place among the waiting ones.
-use Rattle.std.proofs.Common.{◌≡◌, ℕ, ◌+◌, ◌<◌, zero, suc, List, [], ◌∷◌, ◌++◌, length, get_or, take, drop, Some, slice_get, sym, ap, ◌∙◌, subst, inl, inr, add-one, arith}
+use Rattle.std.proofs.Common.{◌≡◌, ℕ, ◌+◌, ◌<◌, zero, suc, List, [], ◌∷◌, ◌++◌, length, get_or, take, drop, Some, slice_get, sym, ap, ◌∙◌, subst, inl, inr, add-one, arith, refl, length-append}
 use Rattle.std.specs.List.{remove}
 use Rattle.std.specs.Prelude.{Result, Ok, Err, OnOk}
-use Rattle.std.proofs.lemmas.List.{append-nil, drop_more, take-append-drop, length-take, get_or-take}
+use Rattle.std.proofs.lemmas.Bool.{cases_lt}
+use Rattle.std.proofs.lemmas.List.{append-nil, get_or_append_left, drop_more, take-append-drop, length-take, get_or-take}
 use Rattle.std.proofs.lemmas.List.Edits.{length-remove}
 use Rattle.std.proofs.lemmas.Option.{get_or_from_slice_get}
 use Rattle.rubis_clock.specs.Clocks.{Counted, IsReady, advanced}
@@ -13,6 +14,10 @@ use Rattle.rubis_model.specs.Settle.Settles.{Rest, Release}
 use Rattle.rubis_release.specs.Release.{clock_of, IsAmong, AllAmong, IsFirst, NoneReady}
 use Rattle.rubis_release.proofs.Counting.{ready_after, ready_by_clock, length_counts, clock_more}
 use Rattle.rubis_release.proofs.Entries.{has_there}
+
+last_of : (xs : List Message) (m d : Message) → get_or (xs ++ m ∷ []) (length xs) d ≡ m
+last_of [] m d = refl
+last_of (x ∷ xs) m d = last_of xs m d
 
 place_of : (xs : List Message) (x : Message) → Has x xs → (k : ℕ) × (k < length xs) × ((d : Message) → get_or xs k d ≡ x)
 place_of [] x h = absurd h
@@ -60,6 +65,16 @@ pub comes_first_ok : {E : Type 0} (r : Result (Unit {0}) E) (n : ℕ) (clock : C
 comes_first_ok (Ok u) n clock log waiting log_after left m e all among none ready s = comes_first n log waiting log_after left m all among
     (subst (λ k. NoneReady k waiting) e none) (subst (λ k. IsReady k m.stamp) e ready) s
 comes_first_ok (Err u) n clock log waiting log_after left m e all among none ready s = tt
+
+-- a message that isn't ready waits behind others that aren't
+pub none_more : (clock : Counted) (waiting : List Message) (m : Message) → NoneReady clock waiting → (IsReady clock m.stamp → ⊥)
+    → NoneReady clock (waiting ++ m ∷ [])
+none_more clock waiting m none waits k d within r = elim (cases_lt k (length waiting)) [
+      | inl low ↦ none k d low (subst (λ (x : Message). IsReady clock x.stamp) (get_or_append_left waiting (m ∷ []) d k low) r)
+      | inr high ↦
+          let here : k ≡ length waiting = let more = length-append waiting (m ∷ []) in omega (arith, more, within, high) in
+          waits (subst (λ (x : Message). IsReady clock x.stamp) (ap (λ n. get_or (waiting ++ m ∷ []) n d) here ∙ last_of waiting m d) r)
+    ]
 
 -- what is left was there
 pub has_left_over : (xs : List Message) (i : ℕ) (x : Message) → Has x (remove xs i) → Has x xs

@@ -2,7 +2,7 @@
 use Rattle.std.specs.Prelude.{◌≡◌, ℕ, ◌+◌, ◌<◌, ◌≤◌, length}
 use Rattle.rubis_clock.specs.Clocks.{Counted}
 use Rattle.rubis_model.specs.Site.{Place, Replica}
-use Rattle.rubis_release.specs.Release.{clock_of, AreKept}
+use Rattle.rubis_release.specs.Release.{clock_of, AreKept, NoneReady}
 
 -- a site and its state
 pub record Intake : Type 0 where
@@ -17,8 +17,9 @@ pub record IsIntake (i : Intake) : Type 0 where
   pub keep : i.place.keep ≤ 1000000
   pub kept : AreKept i.place i.state.log i.state.waiting
 
--- the clock counts its log, which has room for all that waits
+-- the clock counts its log, which has room for all that waits, and nothing that waits is ready
 pub record Holds (i : Intake) (c : Counted) (capacity : ℕ) : Type 0 where
   pub conditions : IsIntake i
   pub clock : c ≡ clock_of i.place.sites i.state.log
   pub room : length i.state.log + length i.state.waiting ≤ capacity
+  pub settled : NoneReady c i.state.waiting

@@ -18,6 +18,7 @@ fn settle(log: &mut Vec<Message>, waiting: &mut Waiting, clock: &mut Clock)
     ensures settles { Settles log.old.items waiting.old log.new.items waiting.new }
     ensures counts { clock.new ≡ clock_of (length clock.old.counts) log.new.items }
     ensures room { vec_len log.new + length waiting.new ≤ vec_capacity log.new }
+    ensures none { NoneReady clock.new waiting.new }
 {
     while let Some(at) = waiting.first_ready(clock) {
         let message = waiting.remove(at);
@@ -26,18 +27,17 @@ fn settle(log: &mut Vec<Message>, waiting: &mut Waiting, clock: &mut Clock)
     }
 }
 
-// Whether the message is ready, and none of those that wait is.
-fn is_first_ready(waiting: &Waiting, clock: &Clock, message: &Message) -> bool
-    requires sites { AllAmong (length clock.now.counts) waiting.now }
+// Whether the message is ready.
+fn is_ready(clock: &Clock, message: &Message) -> bool
     requires site { IsAmong (length clock.now.counts) message.now }
     ensures ready { result ≡ true → IsReady clock.now message.now.stamp }
-    ensures none { result ≡ true → NoneReady clock.now waiting.now }
+    ensures waits { result ≡ false → IsReady clock.now message.now.stamp → ⊥ }
 {
-    clock.ready(message.stamp()) && waiting.first_ready(clock).is_none()
+    clock.ready(message.stamp())
 }
 
-// Puts a message last among those that wait, and releases what is ready. Without memory nothing has changed. One that is
-// ready where none that waits is goes to the log at once.
+// Takes a message in where none that waits is ready: one that is ready is released, and then what else is, and one that
+// isn't waits behind the others. Without memory nothing has changed.
 pub fn take_in(
     log: &mut Vec<Message>,
     waiting: &mut Waiting,
@@ -48,22 +48,23 @@ pub fn take_in(
     requires sites { AllAmong (length clock.old.counts) waiting.old }
     requires counts { clock.old ≡ clock_of (length clock.old.counts) log.old.items }
     requires site { IsAmong (length clock.old.counts) message }
+    requires none { NoneReady clock.old waiting.old }
     requires new { list_any (λ m. same_id message.stamp.id m.stamp.id) waiting.old ≡ false }
     ensures settles { OnOk result (Settles log.old.items (waiting.old ++ message ∷ []) log.new.items waiting.new) }
     ensures err { OnErr result ((log.new.items ≡ log.old.items) × (waiting.new ≡ waiting.old)) }
     ensures counts { clock.new ≡ clock_of (length clock.old.counts) log.new.items }
     ensures room { vec_len log.new + length waiting.new ≤ vec_capacity log.new }
+    ensures none { NoneReady clock.new waiting.new }
 {
-    if is_first_ready(waiting, clock, &message) {
+    if is_ready(clock, &message) {
         return release(log, waiting, clock, message);
     }
     log.reserve(waiting.len() + 1)?;
     waiting.push(message)?;
-    settle(log, waiting, clock);
     Ok(())
 }
 
-// Releases a message, and then what else is ready. Without memory nothing has changed.
+// Releases a message where none that waits is ready, and then what else is. Without memory nothing has changed.
 pub fn release(
     log: &mut Vec<Message>,
     waiting: &mut Waiting,
@@ -75,10 +76,12 @@ pub fn release(
     requires counts { clock.old ≡ clock_of (length clock.old.counts) log.old.items }
     requires site { IsAmong (length clock.old.counts) message }
     requires ready { IsReady clock.old message.stamp }
+    requires none { NoneReady clock.old waiting.old }
     ensures settles { OnOk result (Settles (log.old.items ++ message ∷ []) waiting.old log.new.items waiting.new) }
     ensures err { OnErr result ((log.new.items ≡ log.old.items) × (waiting.new ≡ waiting.old)) }
     ensures counts { clock.new ≡ clock_of (length clock.old.counts) log.new.items }
     ensures room { vec_len log.new + length waiting.new ≤ vec_capacity log.new }
+    ensures none { NoneReady clock.new waiting.new }
 {
     log.reserve(waiting.len() + 1)?;
     clock.advance(message.stamp());

@@ -8,7 +8,7 @@ use rubis_schema::{Listing, Row};
 use std::alloc::{AllocError, Global};
 
 /// How many chains there are, but for that of the rows that are listed only with their whole table.
-pub const CHAINS: usize = 4096;
+pub const CHAINS: usize = 1024;
 
 // The greatest place that a row can have.
 const PLACE_MAX: usize = 4294967295;

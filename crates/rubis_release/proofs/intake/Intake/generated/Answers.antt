@@ -23,7 +23,7 @@ pub invariant_of-self : goal.invariant_of-self
 invariant_of-self c =
     next_holds _ _ _ _ _ c.release.new.log.items c.release.new.waiting c.self.inside.held c.self.invariant
     (unchanged_kept _ _ _ c.release.new.log.items c.release.new.waiting c.self.invariant c.in_err-release.ensures.err.0 c.in_err-release.ensures.err.1)
-    c.release.ensures.counts (let o = c.release.new.log.ok in let r = c.release.ensures.room in omega (arith, o, r))
+    c.release.ensures.counts (let o = c.release.new.log.ok in let r = c.release.ensures.room in omega (arith, o, r)) c.release.ensures.none
 
 pub invariant_of-self-2 : goal.invariant_of-self-2
 invariant_of-self-2 c =
@@ -33,7 +33,7 @@ invariant_of-self-2 c =
     (λ e. ap (λ (i : Intake). is_current i.state) c.self.view_is ∙ c.requires.right e)
     (made_of _ c.args.self.now c.args.shadow c.next_stamp.result c.new-message.result c.self.view_is c.next_stamp.ensures c.new-message.ensures)
     c.in_ok-release.ensures.settles)
-    c.release.ensures.counts (let o = c.release.new.log.ok in let r = c.release.ensures.room in omega (arith, o, r))
+    c.release.ensures.counts (let o = c.release.new.log.ok in let r = c.release.ensures.room in omega (arith, o, r)) c.release.ensures.none
 
 red : (c : goal.After-self-2-1) → c.stamp.result.now.red ≡ (made c.args.self.now.place c.args.self.now.state c.args.shadow).stamp.red
 red c = ap (λ (s : Stamp). s.red) (c.stamp.ensures.value ∙ ap (λ (m : Message). m.stamp) (c.in_ok-copy.ensures ∙ c.new-message.ensures) ∙ c.next_stamp.ensures)
@@ -52,3 +52,6 @@ returns-clause-state c =
     (held c ∙ ap (λ (i : Intake). issued_after c.args.shadow i.state.held) (sym c.self.view_is))
     c.in_ok-release.ensures.settles
     ∙ ap (λ (i : Intake). after_made i.place i.state c.args.shadow) c.self.view_is
+
+pub release-requires-clause-none : goal.release-requires-clause-none
+release-requires-clause-none c = c.self.invariant.settled

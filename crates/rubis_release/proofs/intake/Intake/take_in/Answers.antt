@@ -20,7 +20,7 @@ pub invariant_of-self : goal.invariant_of-self
 invariant_of-self c =
     next_holds _ _ _ _ _ c.take_in.new.log.items c.take_in.new.waiting c.self.inside.held c.self.invariant
     (unchanged_kept _ _ _ c.take_in.new.log.items c.take_in.new.waiting c.self.invariant c.in_err-take_in.ensures.err.0 c.in_err-take_in.ensures.err.1)
-    c.take_in.ensures.counts (let o = c.take_in.new.log.ok in let r = c.take_in.ensures.room in omega (arith, o, r))
+    c.take_in.ensures.counts (let o = c.take_in.new.log.ok in let r = c.take_in.ensures.room in omega (arith, o, r)) c.take_in.ensures.none
 
 kept : (c : goal.After-len) → AreKept (record { site = c.self.inside.site; sites = c.self.inside.sites; keep = c.self.inside.keep }) c.take_in.new.log.items c.take_in.new.waiting
 kept c =
@@ -36,7 +36,7 @@ pub overflow_cast-result : goal.overflow_cast-result
 overflow_cast-result c = let k = (kept c).few in let l = c.self.invariant.conditions.keep in let e = c.len.ensures in omega (arith, k, l, e)
 
 pub invariant_of-self-2 : goal.invariant_of-self-2
-invariant_of-self-2 c = next_holds _ _ _ _ _ c.take_in.new.log.items c.take_in.new.waiting c.self.inside.held c.self.invariant (kept c) c.take_in.ensures.counts (let o = c.take_in.new.log.ok in let r = c.take_in.ensures.room in omega (arith, o, r))
+invariant_of-self-2 c = next_holds _ _ _ _ _ c.take_in.new.log.items c.take_in.new.waiting c.self.inside.held c.self.invariant (kept c) c.take_in.ensures.counts (let o = c.take_in.new.log.ok in let r = c.take_in.ensures.room in omega (arith, o, r)) c.take_in.ensures.none
 
 state : (c : goal.After-len) → record { log = c.take_in.new.log.items; waiting = c.take_in.new.waiting; held = c.self.inside.held; last = c.self.inside.last } ≡ after_came c.args.self.now.state c.args.message
 state c =
@@ -51,3 +51,6 @@ returns-clause-released c =
     let e = ap (λ (s : Replica). length s.log) (state c) in
     let f = ap (λ (i : Intake). length i.state.log) c.self.view_is in
     omega (arith, e, f, c.len.ensures, c.len-before.ensures)
+
+pub take_in-requires-clause-none : goal.take_in-requires-clause-none
+take_in-requires-clause-none c = c.self.invariant.settled
