@@ -70,11 +70,11 @@ comes_first_ok (Err u) n clock log waiting log_after left m e all among none rea
 pub none_more : (clock : Counted) (waiting : List Message) (m : Message) → NoneReady clock waiting → (IsReady clock m.stamp → ⊥)
     → NoneReady clock (waiting ++ m ∷ [])
 none_more clock waiting m none waits k d within r = elim (cases_lt k (length waiting)) [
-      | inl low ↦ none k d low (subst (λ (x : Message). IsReady clock x.stamp) (get_or_append_left waiting (m ∷ []) d k low) r)
-      | inr high ↦
-          let here : k ≡ length waiting = let more = length-append waiting (m ∷ []) in omega (arith, more, within, high) in
-          waits (subst (λ (x : Message). IsReady clock x.stamp) (ap (λ n. get_or (waiting ++ m ∷ []) n d) here ∙ last_of waiting m d) r)
-    ]
+  | inl low ↦ none k d low (subst (λ (x : Message). IsReady clock x.stamp) (get_or_append_left waiting (m ∷ []) d k low) r)
+  | inr high ↦
+      let here : k ≡ length waiting = let more = length-append waiting (m ∷ []) in omega (arith, more, within, high) in
+      waits (subst (λ (x : Message). IsReady clock x.stamp) (ap (λ n. get_or (waiting ++ m ∷ []) n d) here ∙ last_of waiting m d) r)
+]
 
 -- what is left was there
 pub has_left_over : (xs : List Message) (i : ℕ) (x : Message) → Has x (remove xs i) → Has x xs

@@ -1,6 +1,6 @@
 -- The rows that a listing is of are found along their chain, the last one first.
-use Rattle.std.proofs.Common.{◌≡◌, ℕ, zero, suc, ◌+◌, ◌-◌, ◌<◌, ◌≤◌, Bool, true, false, cond, ◌&&◌, List, [], ◌∷◌, ◌++◌, length, take, get_or, refl, sym, ap, subst, ◌∙◌, arith, map as each, reverse, append_assoc}
-use Rattle.std.specs.Prelude.{IfOk, Result, Ok, Err, Option, None, Some, ◌%◌, filter, nat_eq, slice_get, slice_index}
+use Rattle.std.proofs.Common.{◌≡◌, ℕ, zero, suc, ◌+◌, ◌-◌, ◌<◌, ◌≤◌, Bool, true, false, cond, ◌&&◌, List, [], ◌∷◌, ◌++◌, length, take, get_or, refl, sym, ap, subst, ◌∙◌, arith, reverse, append_assoc}
+use Rattle.std.specs.Prelude.{IfOk, Result, Ok, Err, Some, ◌%◌, filter, nat_eq, slice_get, slice_index}
 use Rattle.std.proofs.lemmas.Bool.{false≢true}
 use Rattle.std.proofs.lemmas.Bool.Decides.{Decides-eqb}
 use Rattle.std.proofs.lemmas.List.{append-nil, take_all, get_or-map, length-map, reverse-append}

@@ -2,7 +2,7 @@ use Rattle.std.proofs.Common.{List, length, ◌++◌, ◌∷◌, [], sym, subst,
 use Rattle.rubis_clock.specs.Clocks.{Counted}
 use Rattle.rubis_message.specs.Message.{Message}
 use Rattle.rubis_model.specs.Settle.{Settles}
-use Rattle.rubis_release.specs.Release.{AllAmong, NoneReady}
+use Rattle.rubis_release.specs.Release.{NoneReady}
 use Rattle.rubis_release.proofs.Keeping.{among_more}
 use Rattle.rubis_release.proofs.Releasing.{at_rest, comes_first_ok, none_more}
 use Rattle.rubis_release.proofs.settling.take_in.Goals as goal

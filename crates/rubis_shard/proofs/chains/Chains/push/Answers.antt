@@ -1,4 +1,4 @@
-use Rattle.std.proofs.Common.{◌≡◌, suc, length, ◌∙◌, ◌++◌, ◌∷◌, [], ap, sym, arith, rules}
+use Rattle.std.proofs.Common.{◌≡◌, suc, length, ◌∙◌, ◌++◌, ◌∷◌, [], ap, arith}
 use Rattle.std.specs.Prelude.{slice_set}
 use Rattle.std.proofs.lemmas.List.{get_or_read}
 use Rattle.rubis_shard.proofs.Linking.{links_push}

@@ -1,7 +1,6 @@
-use Rattle.std.proofs.Common.{◌≡◌, ◌∷◌, [], ◌++◌, sym, ap, subst, ◌∙◌, refl, arith}
+use Rattle.std.proofs.Common.{◌≡◌, sym, ap, ◌∙◌, refl, arith}
 use Rattle.std.specs.Prelude.{None}
 use Rattle.std.specs.FinMap as map
-use Rattle.std.proofs.lemmas.List.{map-append}
 use Rattle.rubis_schema.specs.Tables.{Tables}
 use Rattle.rubis_shadow.specs.Changes.{fits}
 use Rattle.rubis_shadow.proofs.Rows.{tables_of, after_none, misfit_none, none_of, some_of, after_refused, misfit_refused, inserted, put_then, put_else}
