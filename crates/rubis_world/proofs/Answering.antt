@@ -13,7 +13,7 @@ use Rattle.rubis_replica.specs.declared.faults.Fault.TheVariants as fault
 use Rattle.rubis_script.specs.Text.{rows_text}
 use Rattle.rubis_script.proofs.TextFacts.{text-goes}
 use Rattle.rubis_world.specs.Running.{IsTold, answer_of}
-use Rattle.rubis_world.specs.Worlds.{Steps, WorldState}
+use Rattle.rubis_world.specs.Worlds.{ComesTo, Steps, WorldState}
 use Rattle.rubis_world.specs.declared.faults.WorldFault.{WorldFault}
 use Rattle.rubis_world.specs.declared.faults.WorldFault.TheVariants.{BadEvent, NoSuchPacket, Site, Memory}
 
@@ -29,21 +29,24 @@ world_goes old new n fields sink sink2 told more =
     let step = world_step old.keep old.world n (world_input (length old.world.sites) fields) in
     ap (λ rows. sink ++ rows_text rows) (goes_on old.keep old.world n fields more)
     ∙ text-goes sink sink2 step.1 (world_answers old.keep step.0 (n + 1) more) told.1
-    ∙ (λ i. sink2 ++ rows_text (world_answers (sym told.0 i).keep (sym told.0 i).world (n + 1) more))
+    ∙ (λ i. sink2 ++ rows_text (world_answers (sym told.0.0 i) (sym told.0.1 i) (n + 1) more))
 
 -- ---- an event
 
 module _ (old new : WorldState) (e : Event) (a : Result Happened Refusal) where
   -- a refusal changes nothing
-  stays : (r : Refusal) → (happens old.keep old.world e).1 ≡ Err r → new ≡ old → new ≡ record old { world = (happens old.keep old.world e).0 }
-  stays r f same = same ∙ (λ k. record old { world = sym ((refusals_change_nothing old.keep old.world e).refused r f) k })
+  stays : (r : Refusal) → (happens old.keep old.world e).1 ≡ Err r → ComesTo old new old.world → ComesTo old new (happens old.keep old.world e).0
+  stays r f same = (same.0, same.1 ∙ sym ((refusals_change_nothing old.keep old.world e).refused r f))
+
+  here : new ≡ old → ComesTo old new old.world
+  here f = (ap (λ (s : WorldState). s.keep) f, ap (λ (s : WorldState). s.world) f)
 
   -- where there is an answer, it is the step's, and the world has come to what the step makes of it
   moved : (result : Result Happened WorldFault) → Steps old new (happens old.keep old.world e) result → answer_of result ≡ Ok a
-      → (new ≡ record old { world = (happens old.keep old.world e).0 }) × ((happens old.keep old.world e).1 ≡ a)
+      → ComesTo old new (happens old.keep old.world e).0 × ((happens old.keep old.world e).1 ≡ a)
   moved (Ok h) s q = (s.0, s.1 ∙ cc q)
-  moved (Err BadEvent) s q = (stays refusal.BadEvent s.1 s.0, s.1 ∙ cc q)
-  moved (Err NoSuchPacket) s q = (stays refusal.NoSuchPacket s.1 s.0, s.1 ∙ cc q)
+  moved (Err BadEvent) s q = (stays refusal.BadEvent s.1 (here s.0), s.1 ∙ cc q)
+  moved (Err NoSuchPacket) s q = (stays refusal.NoSuchPacket s.1 (here s.0), s.1 ∙ cc q)
   moved (Err (Site (fault.Refused r))) s q = (stays r s.1 s.0, s.1 ∙ cc q)
   moved (Err (Site fault.Behind)) s q = absurd cc
   moved (Err (Site fault.Memory)) s q = absurd s
@@ -54,5 +57,5 @@ pub event_told : (old new : WorldState) (n i : ℕ) (e : Event) (result : Result
     → IsTold old new (told_at n i (happens old.keep old.world e)) before after
 event_told old new n i e result a sent before after s q all told =
     let m = moved old new e a result s q in
-    let packets : sent ≡ (happens old.keep old.world e).0.sent = all ∙ ap (λ (w : WorldState). w.world.sent) m.0 in
+    let packets : sent ≡ (happens old.keep old.world e).0.sent = all ∙ ap (λ (w : World). w.sent) m.0.1 in
     (m.0, told ∙ (λ k. before ++ rows_text (event_rows n i (packets k) (sym m.1 k))))

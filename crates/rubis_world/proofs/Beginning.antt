@@ -6,12 +6,11 @@ use Rattle.std.proofs.lemmas.Bool.{cases_lt}
 use Rattle.std.proofs.lemmas.List.FromFn.{get_or-map-range_with_len, length-map-range_with_len, map-range_with_len_more}
 use Rattle.std.proofs.lemmas.Option.{slice_get-get_or, slice_get_past}
 use Rattle.rubis_model.specs.Site.{opening_at}
-use Rattle.rubis_model.specs.System.{start}
 use Rattle.rubis_replica.specs.Progress.{whole}
 use Rattle.rubis_replica.specs.Setup.{place_of}
 use Rattle.rubis_replica.specs.State.{SiteState}
 use Rattle.rubis_world.specs.Setup.{WorldSetup, setup_at}
-use Rattle.rubis_world.specs.Worlds.{AreAtPlaces}
+use Rattle.rubis_world.specs.Worlds.{AreAtPlaces, opening}
 use Rattle.rubis_world.proofs.Moves.{state_of}
 
 -- a site with nothing done
@@ -30,11 +29,16 @@ states : (setup : WorldSetup) (a n : ℕ) → map (λ (y : SiteState). y.state) 
 states setup a zero = refl
 states setup a (suc n) = ap (λ q. opening_at a ∷ q) (states setup (a + 1) n)
 
+lefts : (setup : WorldSetup) (a n : ℕ) → map (λ (y : SiteState). y.progress.left) (map (fresh setup) (range_with_len a n)) ≡ map (λ i. 0) (range_with_len a n)
+lefts setup a zero = refl
+lefts setup a (suc n) = ap (λ q. 0 ∷ q) (lefts setup (a + 1) n)
+
 pub starts : (setup : WorldSetup) (sites : List SiteState) → sites ≡ fresh_sites setup setup.sites
-    → state_of setup.keep sites [] ≡ record { keep = setup.keep; world = start setup.sites }
+    → state_of setup.keep sites [] ≡ opening setup.keep setup.sites
 starts setup sites e =
     let f = ap (map (λ (y : SiteState). y.state)) e ∙ states setup 0 setup.sites in
-    (λ k. record { keep = setup.keep; world = record { sites = f k; sent = [] } })
+    let l = ap (map (λ (y : SiteState). y.progress.left)) e ∙ lefts setup 0 setup.sites in
+    (λ k. record { keep = setup.keep; world = record { sites = f k; sent = [] }; left = l k })
 
 fresh_at_places : (setup : WorldSetup) → AreAtPlaces setup.keep (fresh_sites setup setup.sites)
 fresh_at_places setup i =

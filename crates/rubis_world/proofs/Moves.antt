@@ -1,36 +1,36 @@
 -- One site of several changes: what its step is in the world.
-use Rattle.std.proofs.Common.{◌≡◌, ℕ, ◌<◌, ◌≤◌, List, [], ◌∷◌, ◌++◌, length, length-append, get_or, set, sym, ap, ◌∙◌, subst, ⊎_elim, arith}
+use Rattle.std.proofs.Common.{◌≡◌, ℕ, ◌<◌, ◌≤◌, List, [], ◌∷◌, ◌++◌, length, length-append, get_or, set, refl, sym, ap, ◌∙◌, subst, ⊎_elim, arith}
 use Rattle.std.specs.Prelude.{map, slice_get, slice_set, IfSome, IsErr, Some, nat_lt, Result, Ok, Err}
 use Rattle.std.specs.Result.{IsErrAnd}
 use Rattle.std.proofs.lemmas.Bool.{cases_eq, cases_lt, cond-true, lt-ltb}
 use Rattle.std.proofs.lemmas.List.{get_or-map, get_or-set_other, get_or-set_same, length-map, length-set, map-set}
 use Rattle.std.proofs.lemmas.Option.{slice_get-get_or, slice_get_past}
 use Rattle.rubis_schema.specs.declared.listings.Listing.{Listing}
+use Rattle.rubis_schema.specs.declared.listings.Listing.TheVariants as shown_listing
 use Rattle.rubis_schema.specs.declared.refusals.Refusal.{Refusal}
 use Rattle.rubis_message.specs.declared.answers.Happened.{Happened}
 use Rattle.rubis_message.specs.declared.answers.Happened.TheVariants as happened
 use Rattle.rubis_message.specs.declared.tokens.Packet.{Packet}
 use Rattle.rubis_model.specs.Site.{Place, Replica, opening_at}
-use Rattle.rubis_message.specs.Message.{Message, sites_of}
-use Rattle.rubis_message.specs.declared.tokens.Packet.TheVariants as packet
-use Rattle.rubis_model.specs.Sound.{AllDeliverable}
+use Rattle.rubis_model.specs.Sound.{AllDeliverable, IsDeliverable}
 use Rattle.rubis_model.specs.System.{World, site, place, sends, takes, saying, sending, next_number, shown, at_site, coming, packet_at}
 use Rattle.rubis_model.specs.Log.{cores, fold_of}
 use Rattle.rubis_model.specs.Runs.{listed, listing_rows}
 use Rattle.rubis_laws.proofs.Keeps.{has_packet, same_sites}
-use Rattle.rubis_replica.specs.State.{Answers, SiteState}
+use Rattle.rubis_replica.specs.State.{Answers, IsReadFault, Lists, ListsTheLog, NeedsNoTables, SiteState, TakesIn}
 use Rattle.rubis_replica.specs.declared.faults.Fault.{Fault}
 use Rattle.rubis_replica.specs.declared.faults.Fault.TheVariants as fault
 use Rattle.rubis_world.specs.Faults.{fault_at_site}
-use Rattle.rubis_world.specs.Worlds.{AreAtPlaces, Steps, WorldState}
+use Rattle.rubis_world.specs.Worlds.{AreAtPlaces, Asks, ComesTo, Steps, WorldState, left_at}
 use Rattle.rubis_world.specs.declared.faults.WorldFault.{WorldFault}
+use Rattle.rubis_world.specs.declared.faults.WorldFault.TheVariants as world
 
 -- what the fields stand for
 abbrev pub world_of : List SiteState → List Packet → World
 world_of sites sent = record { sites = map (λ (x : SiteState). x.state) sites; sent = sent }
 
 abbrev pub state_of : ℕ → List SiteState → List Packet → WorldState
-state_of keep sites sent = record { keep = keep; world = world_of sites sent }
+state_of keep sites sent = record { keep = keep; world = world_of sites sent; left = map (λ (x : SiteState). x.progress.left) sites }
 
 -- a place stays
 if_place : (keep n : ℕ) (sites : List SiteState) (j : ℕ) (d : SiteState) → j < length sites
@@ -75,10 +75,10 @@ module _ (keep : ℕ) (sites : List SiteState) (sent : List Packet) (i : ℕ) (s
   changed r e = map-set (λ (y : SiteState). y.state) sites i x ∙ ap (slice_set (map (λ (y : SiteState). y.state) sites) i) e
 
   -- or stays as it was
-  unchanged : x.state ≡ s.state → state_of keep (set sites i x) sent ≡ state_of keep sites sent
+  unchanged : x.state ≡ s.state → ComesTo (state_of keep sites sent) (state_of keep (set sites i x) sent) (world_of sites sent)
   unchanged e =
       let f = changed (site (world_of sites sent) i) (e ∙ sym state_is) ∙ same_sites (world_of sites sent) i in
-      (λ k. record { keep = keep; world = record { sites = f k; sent = sent } })
+      (refl, (λ k. record { sites = f k; sent = sent }))
 
   -- the step of the site that is read is its step in the world
   step_is : {A : Type 0} (step : Place → Replica → Replica × Result A Refusal) → step (place keep (world_of sites sent) i) (site (world_of sites sent) i) ≡ step s.place s.state
@@ -120,6 +120,27 @@ module _ (keep : ℕ) (sites : List SiteState) (sent : List Packet) (i : ℕ) (s
   sites_are = ap (λ (p : Place). p.sites) (place_at keep sites sent i s x inside read at)
       ∙ sym (length-map sites (λ (y : SiteState). y.state)) ∙ ap (λ (w : WorldState). length w.world.sites) view
 
+  -- ---- how far the tables are
+  left_is : left_at old i ≡ s.progress.left
+  left_is = subst (λ (w : WorldState). left_at w i ≡ s.progress.left) view
+      (get_or-map (λ (y : SiteState). y.progress.left) sites i s 0 inside ∙ sym (ap (λ (y : SiteState). y.progress.left) read))
+
+  -- the site had nothing left; where it says that it is behind, it has now
+  pub asked_alone : (sent' : List Packet) (result : Result Happened WorldFault) → left_at old i ≡ 0
+      → (s.progress.left ≡ 0 → result ≡ Err (world.Site fault.Behind) → 0 < x.progress.left)
+      → Asks i old (state_of keep (set sites i x) sent') result
+  asked_alone sent' result none says = record {
+    others = λ j n. subst (λ (w : WorldState). left_at (state_of keep (set sites i x) sent') j ≡ left_at w j) view
+        (ap (λ l. get_or l j 0) (map-set (λ (y : SiteState). y.progress.left) sites i x)
+        ∙ get_or-set_other (map (λ (y : SiteState). y.progress.left) sites) i j x.progress.left 0 n);
+    waits = λ some. absurd (omega (arith, some, none));
+    says = λ e. subst (λ n. 0 < n)
+        (sym (ap (λ l. get_or l i 0) (map-set (λ (y : SiteState). y.progress.left) sites i x)
+        ∙ get_or-set_same (map (λ (y : SiteState). y.progress.left) sites) i x.progress.left 0
+        (subst (λ n. i < n) (sym (length-map sites (λ (y : SiteState). y.progress.left))) inside)))
+        (says (sym left_is ∙ none) e);
+  }
+
   -- ---- what is sent
   module _ {A : Type 0} (pack : A → Packet) (step : Place → Replica → Replica × Result A Refusal) (sent' : List Packet) where
     pub sends_fault : (f : Fault) (result : Result Happened WorldFault) → IsErr result × IsErrAnd result (λ g. g ≡ fault_at_site f)
@@ -139,7 +160,7 @@ module _ (keep : ℕ) (sites : List SiteState) (sent : List Packet) (i : ℕ) (s
         let more : sent' ≡ sent ++ sending pack (step (place keep (world_of sites sent) i) (site (world_of sites sent) i)).1 = e ∙ ap (λ o. sent ++ sending pack o) (sym said) in
         let next : number ≡ next_number (world_of sites sent) = n ∙ ap length e ∙ length-append sent (pack answer ∷ []) in
         subst (λ (w : WorldState). Steps w (state_of keep (set sites i x) sent') (sends pack w.world i (step (place w.keep w.world i) (site w.world i))) (Ok (happened.Sent number))) view
-        ((λ k. record { keep = keep; world = record { sites = come k; sent = more k } }), ap (saying (λ _. happened.Sent (next_number (world_of sites sent)))) said ∙ ap (λ m. Ok (happened.Sent m)) (sym next))
+        ((refl, (λ k. record { sites = come k; sent = more k })), ap (saying (λ _. happened.Sent (next_number (world_of sites sent)))) said ∙ ap (λ m. Ok (happened.Sent m)) (sym next))
 
   -- ---- rows
   pub shows_fault : (l : Listing) (f : Fault) (result : Result Happened WorldFault) → IsErr result × IsErrAnd result (λ g. g ≡ fault_at_site f)
@@ -170,7 +191,7 @@ module _ (keep : ℕ) (sites : List SiteState) (sent : List Packet) (i : ℕ) (s
     takes_on answer a =
         let come = come_to keep sites sent i s x inside read at step answer a in
         subst (λ (w : WorldState). Steps w (state_of keep (set sites i x) sent) (takes word w.world i (step (place w.keep w.world i) (site w.world i))) (Ok (word answer))) view
-        ((λ k. record { keep = keep; world = record { sites = come k; sent = sent } }), ap (saying word) (said_there keep sites sent i s x inside read at step answer a))
+        ((refl, (λ k. record { sites = come k; sent = sent })), ap (saying word) (said_there keep sites sent i s x inside read at step answer a))
 
 -- ---- what comes by a packet
 pub at_there : (old new : WorldState) (i : ℕ) (step : World × Result Happened Refusal) (result : Result Happened WorldFault) → i < length old.world.sites
@@ -186,11 +207,46 @@ by_packet old new i j k p q result l same e f h =
     (subst (λ o. Steps old new (coming old.keep old.world i o) result) (sym (e ∙ ap (λ x. Some x) f))
     (subst (λ n. Steps old new (coming old.keep old.world n (Some q)) result) same h))
 
-pub counts_sites : (sites : ℕ) (sent : List Packet) (k : ℕ) (p : Packet) (m : Message) → AllDeliverable sites sent → packet_at sent k ≡ Some p
-    → p ≡ packet.Msg m → sites_of m ≡ sites
-counts_sites sites sent k p m all e f = (all (packet.Msg m) (has_packet sent k (packet.Msg m) (e ∙ ap (λ x. Some x) f))).1
-
 pub is_below : (keep : ℕ) (sites : List SiteState) (sent : List Packet) (old : WorldState) → state_of keep sites sent ≡ old → (i j n : ℕ) → j < n → j ≡ i
     → n ≡ length sites → i < length old.world.sites
 is_below keep sites sent old view i j n l e f = let g = length-map sites (λ (y : SiteState). y.state) in
     subst (λ (w : WorldState). i < length w.world.sites) view (omega (arith, l, e, f, g))
+
+-- ---- when a site says that it is behind
+module _ (s x : SiteState) (f : Fault) (result : Result Happened WorldFault) (said : IsErr result × IsErrAnd result (λ g. g ≡ fault_at_site f)) where
+  -- what the site says is what is told
+  told_behind : (f ≡ fault.Behind → s.progress.left ≡ 0 → 0 < x.progress.left) → s.progress.left ≡ 0 → result ≡ Err (world.Site fault.Behind) → 0 < x.progress.left
+  told_behind so none e = so (is_behind f (fault_is result e said)) none
+    where
+      fault_is : (r : Result Happened WorldFault) → r ≡ Err (world.Site fault.Behind) → IsErr r × IsErrAnd r (λ g. g ≡ fault_at_site f) → fault_at_site f ≡ world.Site fault.Behind
+      fault_is (Ok h) e said = absurd cc
+      fault_is (Err g) e said = sym said.1 ∙ cc e
+
+      is_behind : (f : Fault) → fault_at_site f ≡ world.Site fault.Behind → f ≡ fault.Behind
+      is_behind (fault.Refused r) e = absurd cc
+      is_behind fault.Behind e = refl
+      is_behind fault.Memory e = absurd cc
+
+  pub read_behind : IsReadFault s x f → s.progress.left ≡ 0 → result ≡ Err (world.Site fault.Behind) → 0 < x.progress.left
+  read_behind h = told_behind (λ e none. (subst (IsReadFault s x) e h none).some_left)
+
+  pub needs_none_behind : (A : Type 0) → NeedsNoTables {A = A} s x (Err f) → s.progress.left ≡ 0 → result ≡ Err (world.Site fault.Behind) → 0 < x.progress.left
+  needs_none_behind A h = told_behind (λ e none. let some = subst (λ g. NeedsNoTables {A = A} s x (Err g)) e h in absurd (omega (arith, some, none)))
+
+  pub takes_in_behind : TakesIn s x (Err f) → s.progress.left ≡ 0 → result ≡ Err (world.Site fault.Behind) → 0 < x.progress.left
+  takes_in_behind h = told_behind (λ e none. let some = subst (λ g. TakesIn s x (Err g)) e h in absurd (omega (arith, some, none)))
+
+  pub lists_behind : (A : Type 0) (l : Listing) → Lists {A = A} l s x (Err f) → s.progress.left ≡ 0 → result ≡ Err (world.Site fault.Behind) → 0 < x.progress.left
+  lists_behind A shown_listing.Log h = told_behind (λ e none. let some = (subst (λ g. ListsTheLog {A = A} s x (Err g)) e h).0 in absurd (omega (arith, some, none)))
+  lists_behind A shown_listing.Users h = read_behind h
+  lists_behind A (shown_listing.Items c) h = read_behind h
+  lists_behind A (shown_listing.Bids b) h = read_behind h
+  lists_behind A (shown_listing.Purchases b) h = read_behind h
+  lists_behind A (shown_listing.Comments b) h = read_behind h
+  lists_behind A shown_listing.Categories h = read_behind h
+  lists_behind A shown_listing.Misfits h = read_behind h
+  lists_behind A shown_listing.Tables h = read_behind h
+
+-- a packet of the list can be taken in
+pub is_deliverable : (sites : ℕ) (sent : List Packet) (k : ℕ) (p q : Packet) → AllDeliverable sites sent → packet_at sent k ≡ Some p → q ≡ p → IsDeliverable sites q
+is_deliverable sites sent k p q all e f = subst (IsDeliverable sites) (sym f) (all p (has_packet sent k p e))

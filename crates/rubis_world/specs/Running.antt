@@ -8,7 +8,7 @@ use Rattle.rubis_replica.specs.declared.faults.Fault.TheVariants as fault
 use Rattle.rubis_script.specs.Accounts.{Account}
 use Rattle.rubis_script.specs.Text.{rows_text}
 use Rattle.rubis_script.specs.declared.fault.OutOfMemory.{OutOfMemory}
-use Rattle.rubis_world.specs.Worlds.{WorldState}
+use Rattle.rubis_world.specs.Worlds.{ComesTo, WorldState}
 use Rattle.rubis_world.specs.declared.faults.WorldFault.{WorldFault}
 use Rattle.rubis_world.specs.declared.faults.WorldFault.TheVariants.{BadEvent, NoSuchPacket, Site, Memory}
 
@@ -24,7 +24,7 @@ answer_of (Err Memory) = Err (record {})
 
 -- the world has come to what a step makes of it, and the text of the step's records stands behind what stood before
 abbrev pub IsTold : WorldState → WorldState → World × List (List (List ℕ)) → List ℕ → List ℕ → Type 0
-IsTold old new step before after = (new ≡ record old { world = step.0 }) × (after ≡ before ++ rows_text step.1)
+IsTold old new step before after = ComesTo old new step.0 × (after ≡ before ++ rows_text step.1)
 
 -- however the run ends behind some records, from record n on, its text is that of the answers to them; it reads all of them
 abbrev pub world_account : ℕ → World → ℕ → Account

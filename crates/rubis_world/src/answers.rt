@@ -33,8 +33,8 @@ pub fn write_no_event(
     sink.write_fields(reply)
 }
 
-// The packet with that number, counted from 1, if it was sent.
-fn packet(sent: &[Packet], number: u64) -> Option<&Packet>
+/// The packet with that number, counted from 1, if it was sent.
+pub fn packet(sent: &[Packet], number: u64) -> Option<&Packet>
     ensures { option_map (λ p. p.now) result ≡ packet_at sent.now number }
 {
     if number == 0 {

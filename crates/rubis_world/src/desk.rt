@@ -3,11 +3,12 @@
 ghost use Rattle.std.specs.Prelude.{◌≡◌, ◌≤◌, ◌∷◌, [], IfOk, OnOk, length, refl};
 ghost use Rattle.rubis_message.specs.WorldReadings.{world_input};
 ghost use Rattle.rubis_model.specs.AuditRecords.{verdict_record};
-ghost use Rattle.rubis_model.specs.System.{IsEvent, happens, start};
+ghost use Rattle.rubis_model.specs.System.{IsEvent, happens};
 ghost use Rattle.rubis_model.specs.System.Event.{At, Deliver};
 ghost use Rattle.rubis_model.specs.Verdict.{verdict};
 ghost use Rattle.rubis_model.specs.WorldRecords.{logs_of, told_at, world_step};
 ghost use Rattle.rubis_world.specs.Running.{IsTold, answer_of, told_by};
+ghost use Rattle.rubis_world.specs.Worlds.{opening};
 
 use crate::answers::{write_answer, write_no_event, write_refused};
 use crate::config::WorldConfig;
@@ -97,7 +98,7 @@ pub struct WorldDesk {
 impl WorldDesk {
     /// Sites with nothing done, set up so.
     pub fn new(alloc: Global, config: &WorldConfig) -> Result<WorldDesk, AllocError>
-        ensures { IfOk result (λ desk. desk.world ≡ record { keep = config.now.keep; world = start config.now.sites }) }
+        ensures { IfOk result (λ desk. desk.world ≡ opening config.now.keep config.now.sites) }
     {
         Ok(WorldDesk {
             world: World::new(alloc, config)?,

@@ -1,10 +1,11 @@
-ghost use Rattle.std.specs.Prelude.{◌≡◌, ◌<◌, ◌≤◌, ◌⊎◌, IfErr, IfOk, IsErrOf, None, Some, length};
+ghost use Rattle.std.specs.Prelude.{◌≡◌, ◌<◌, ◌≤◌, ◌⊎◌, IfErr, IfOk, IsErrOf, None, Some, length, nat_lt};
 ghost use Rattle.rubis_schema.specs.declared.limits.TheConstants.{KEEP_MAX, SITES_MAX};
 ghost use Rattle.rubis_shadow.specs.Limits.{IsAsk};
 ghost use Rattle.rubis_message.specs.Message.{sites_of};
 ghost use Rattle.rubis_message.specs.declared.requests.Request.TheVariants as Request;
+ghost use Rattle.rubis_message.specs.declared.tokens.Packet.{Packet as Sent};
 ghost use Rattle.rubis_message.specs.declared.tokens.Packet.TheVariants as Packet;
-ghost use Rattle.rubis_model.specs.Sound.{AllDeliverable};
+ghost use Rattle.rubis_model.specs.Sound.{AllDeliverable, IsDeliverable};
 ghost use Rattle.rubis_model.specs.System.{IsEvent, coming, happens, packet_at, requested, start};
 ghost use Rattle.rubis_model.specs.System.Event.{At, Deliver};
 ghost use Rattle.rubis_replica.specs.Setup.{IsCount};
@@ -13,14 +14,15 @@ ghost use Rattle.rubis_model.specs.Verdict.{verdict};
 ghost use Rattle.rubis_model.specs.WorldRecords.{log_of, logs_of};
 ghost use Rattle.rubis_audit.specs.Walks.{AreAmong};
 ghost use Rattle.rubis_replica.specs.declared.faults.Fault.TheVariants as Fault;
-ghost use Rattle.rubis_world.specs.Worlds.{IsCheckFault, Steps};
+ghost use Rattle.rubis_world.specs.Worlds.{Asks, ComesTo, IsCheckFault, Steps, left_at, opening};
 ghost use Rattle.rubis_world.specs.declared.faults.WorldFault.TheVariants as WorldFault;
 
+use crate::answers::packet;
 use crate::config::WorldConfig;
 use crate::faults::WorldFault;
 use rubis_audit::{Log, audit};
 use rubis_message::{Happened, Message, Packet, Request, Token, Verdict};
-use rubis_replica::{Free, Site};
+use rubis_replica::{Fault, Free, Site};
 use rubis_schema::{Fields, Items, Listing};
 use rubis_shadow::Ask;
 use std::alloc::{AllocError, Global};
@@ -39,6 +41,16 @@ fn copied(alloc: Global, messages: &[Message]) -> Result<Items<Message>, AllocEr
     Ok(copy)
 }
 
+// A copy of the packet.
+fn packet_copy(packet: &Packet) -> Result<Packet, AllocError>
+    ensures { IfOk result (λ copy. copy ≡ packet.now) }
+{
+    match packet {
+        Packet::Msg(message) => Ok(Packet::Msg(message.copy()?)),
+        Packet::Token(token) => Ok(Packet::Token(*token)),
+    }
+}
+
 /// Sites, and all packets that they ever sent.
 #[derive(Drop)]
 pub struct Sites {
@@ -54,7 +66,11 @@ impl Model for Sites {
 
     ghost Value = { WorldState };
 
-    ghost view = { λ s. record { keep = s.keep; world = record { sites = map (λ (x : SiteState). x.state) s.sites.items; sent = s.packets.items } } };
+    ghost view = { λ s. record {
+      keep = s.keep;
+      world = record { sites = map (λ (x : SiteState). x.state) s.sites.items; sent = s.packets.items };
+      left = map (λ (x : SiteState). x.progress.left) s.sites.items;
+    } };
 
     ghost invariant = { λ s. AreAtPlaces s.keep s.sites.items };
 }
@@ -62,7 +78,7 @@ impl Model for Sites {
 impl Sites {
     /// Sites with nothing done, set up so.
     pub fn new(alloc: Global, config: &WorldConfig) -> Result<Sites, AllocError>
-        ensures start { IfOk result (λ sites. sites ≡ record { keep = config.now.keep; world = start config.now.sites }) }
+        ensures start { IfOk result (λ sites. sites ≡ opening config.now.keep config.now.sites) }
         ensures limits { IfOk result (λ sites. IsCount config.now.sites SITES_MAX × IsCount config.now.keep KEEP_MAX) }
     {
         let mut sites = Vec::new(alloc);
@@ -90,6 +106,14 @@ impl Sites {
         self.packets.as_slice()
     }
 
+    // Whether a site has begun a batch that isn't whole.
+    fn is_behind(&self, site: usize) -> bool
+        requires { site < length self.now.world.sites }
+        ensures { result ≡ nat_lt 0 (left_at self.now site) }
+    {
+        self.sites[site].is_behind()
+    }
+
     // A site decides an ask.
     fn ask<R: Threads + Wait + Sync>(
         &mut self,
@@ -98,8 +122,10 @@ impl Sites {
         ask: Ask,
     ) -> Result<Happened, WorldFault>
         requires site { site < length self.old.world.sites }
+        requires ready { left_at self.old site ≡ 0 }
         requires ask { IsAsk (length self.old.world.sites) ask }
-        ensures { Steps self.old self.new (requested self.old.keep self.old.world site (Request.Ask ask)) result }
+        ensures step { Steps self.old self.new (requested self.old.keep self.old.world site (Request.Ask ask)) result }
+        ensures tables { Asks site self.old self.new result }
     {
         self.packets.reserve(1)?;
         let message = self.sites[site].request(rt, ask)?;
@@ -110,7 +136,9 @@ impl Sites {
     // A site hands the token on.
     fn pass(&mut self, site: usize, to: u8) -> Result<Happened, WorldFault>
         requires site { site < length self.old.world.sites }
-        ensures { Steps self.old self.new (requested self.old.keep self.old.world site (Request.Pass to)) result }
+        requires ready { left_at self.old site ≡ 0 }
+        ensures step { Steps self.old self.new (requested self.old.keep self.old.world site (Request.Pass to)) result }
+        ensures tables { Asks site self.old self.new result }
     {
         self.packets.reserve(1)?;
         let token = self.sites[site].pass(to)?;
@@ -126,7 +154,9 @@ impl Sites {
         listing: &Listing,
     ) -> Result<Happened, WorldFault>
         requires site { site < length self.old.world.sites }
-        ensures { Steps self.old self.new (requested self.old.keep self.old.world site (Request.List listing.now)) result }
+        requires ready { left_at self.old site ≡ 0 }
+        ensures step { Steps self.old self.new (requested self.old.keep self.old.world site (Request.List listing.now)) result }
+        ensures tables { Asks site self.old self.new result }
     {
         let rows = self.sites[site].list(rt, listing)?;
         Ok(Happened::Rows(rows))
@@ -139,10 +169,13 @@ impl Sites {
         site: usize,
     ) -> Result<Items<Fields>, WorldFault>
         requires { site < length self.old.world.sites }
-        ensures same { self.new ≡ self.old }
+        ensures same { ComesTo self.old self.new self.old.world }
         ensures rows { IfOk result (λ rows. Some rows ≡ (log_of self.old.world site).rows) }
-        ensures faults { IfErr result IsCheckFault }
+        ensures faults { IfErr result (IsCheckFault self.new) }
     {
+        if self.is_behind(site) {
+            return Err(WorldFault::Site(Fault::Behind));
+        }
         match self.list(rt, site, &Listing::Tables)? {
             Happened::Rows(rows) => Ok(rows),
             _ => unreachable!(),
@@ -166,9 +199,9 @@ impl Sites {
     ) -> Result<Log, WorldFault>
         requires site { site < length self.old.world.sites }
         requires few { length self.old.world.sites ≤ SITES_MAX }
-        ensures same { self.new ≡ self.old }
+        ensures same { ComesTo self.old self.new self.old.world }
         ensures log { IfOk result (λ log. log ≡ log_of self.old.world site) }
-        ensures faults { IfErr result IsCheckFault }
+        ensures faults { IfErr result (IsCheckFault self.new) }
     {
         let rows = self.tables(rt, site)?;
         let messages = copied(alloc, self.history(site))?;
@@ -182,9 +215,9 @@ impl Sites {
         alloc: Global,
     ) -> Result<Vec<Log>, WorldFault>
         requires { length self.old.world.sites ≤ SITES_MAX }
-        ensures same { self.new ≡ self.old }
+        ensures same { ComesTo self.old self.new self.old.world }
         ensures logs { IfOk result (λ logs. logs.items ≡ logs_of self.old.world) }
-        ensures faults { IfErr result IsCheckFault }
+        ensures faults { IfErr result (IsCheckFault self.new) }
     {
         let mut logs = Vec::new(alloc);
         'sites: for site in 0..self.len() {
@@ -197,9 +230,9 @@ impl Sites {
     pub fn check<R: Threads + Wait + Sync>(&mut self, rt: &R) -> Result<Verdict, WorldFault>
         requires few { length self.old.world.sites ≤ SITES_MAX }
         requires among { AreAmong (length self.old.world.sites) (logs_of self.old.world) }
-        ensures same { self.new ≡ self.old }
+        ensures same { ComesTo self.old self.new self.old.world }
         ensures verdict { IfOk result (λ found. found ≡ verdict (logs_of self.old.world)) }
-        ensures faults { IfErr result IsCheckFault }
+        ensures faults { IfErr result (IsCheckFault self.new) }
     {
         let alloc = *self.packets.allocator();
         let logs = self.logs(rt, alloc)?;
@@ -214,32 +247,20 @@ impl Sites {
         request: Request,
     ) -> Result<Happened, WorldFault>
         requires { IsEvent (length self.old.world.sites) (At site request) }
-        ensures { Steps self.old self.new (happens self.old.keep self.old.world (At site request)) result }
+        ensures step { Steps self.old self.new (happens self.old.keep self.old.world (At site request)) result }
+        ensures tables { site < length self.old.world.sites → Asks site self.old self.new result }
     {
         let site = usize::from(site);
         if site >= self.sites.len() {
             return Err(WorldFault::BadEvent);
         }
+        if self.is_behind(site) {
+            return Err(WorldFault::Site(Fault::Behind));
+        }
         match request {
             Request::Ask(ask) => self.ask(rt, site, ask),
             Request::Pass(to) => self.pass(site, to),
             Request::List(listing) => self.list(rt, site, &listing),
-        }
-    }
-
-    // A copy of the packet with that number.
-    fn packet(&self, number: u64) -> Result<Packet, WorldFault>
-        ensures ok { IfOk result (λ packet. packet_at self.now.world.sent number ≡ Some packet) }
-        ensures none { IsErrOf result WorldFault.NoSuchPacket → packet_at self.now.world.sent number ≡ None }
-        ensures faults { IfErr result (λ fault. (fault ≡ WorldFault.NoSuchPacket) ⊎ (fault ≡ WorldFault.Memory)) }
-    {
-        if number == 0 {
-            return Err(WorldFault::NoSuchPacket);
-        }
-        match self.packets.get(number as usize - 1) {
-            Some(Packet::Msg(message)) => Ok(Packet::Msg(message.copy()?)),
-            Some(Packet::Token(token)) => Ok(Packet::Token(*token)),
-            None => Err(WorldFault::NoSuchPacket),
         }
     }
 
@@ -251,8 +272,10 @@ impl Sites {
         message: Message,
     ) -> Result<Happened, WorldFault>
         requires site { site < length self.old.world.sites }
+        requires ready { left_at self.old site ≡ 0 }
         requires sites { sites_of message ≡ length self.old.world.sites }
-        ensures { Steps self.old self.new (coming self.old.keep self.old.world site (Some (Packet.Msg message))) result }
+        ensures step { Steps self.old self.new (coming self.old.keep self.old.world site (Some (Packet.Msg message))) result }
+        ensures tables { Asks site self.old self.new result }
     {
         let arrival = self.sites[site].arrive(rt, message)?;
         Ok(Happened::Came(arrival))
@@ -261,10 +284,31 @@ impl Sites {
     // A token comes to a site.
     fn take(&mut self, site: usize, token: Token) -> Result<Happened, WorldFault>
         requires site { site < length self.old.world.sites }
-        ensures { Steps self.old self.new (coming self.old.keep self.old.world site (Some (Packet.Token token))) result }
+        requires ready { left_at self.old site ≡ 0 }
+        ensures step { Steps self.old self.new (coming self.old.keep self.old.world site (Some (Packet.Token token))) result }
+        ensures tables { Asks site self.old self.new result }
     {
         let taken = self.sites[site].token(token)?;
         Ok(Happened::Token(taken))
+    }
+
+    // A packet comes to a site.
+    fn bring<R: Threads + Wait + Sync>(
+        &mut self,
+        rt: &R,
+        site: usize,
+        packet: Packet,
+    ) -> Result<Happened, WorldFault>
+        requires site { site < length self.old.world.sites }
+        requires ready { left_at self.old site ≡ 0 }
+        requires fits { IsDeliverable (length self.old.world.sites) packet }
+        ensures step { Steps self.old self.new (coming self.old.keep self.old.world site (Some packet)) result }
+        ensures tables { Asks site self.old self.new result }
+    {
+        match packet {
+            Packet::Msg(message) => self.arrive(rt, site, message),
+            Packet::Token(token) => self.take(site, token),
+        }
     }
 
     /// The delivery of packet `number`, counted from 1, to a site.
@@ -275,15 +319,20 @@ impl Sites {
         number: u64,
     ) -> Result<Happened, WorldFault>
         requires { AllDeliverable (length self.old.world.sites) self.old.world.sent }
-        ensures { Steps self.old self.new (happens self.old.keep self.old.world (Deliver site number)) result }
+        ensures step { Steps self.old self.new (happens self.old.keep self.old.world (Deliver site number)) result }
+        ensures tables { site < length self.old.world.sites → (p : Sent) → packet_at self.old.world.sent number ≡ Some p → Asks site self.old self.new result }
     {
         let site = usize::from(site);
         if site >= self.sites.len() {
             return Err(WorldFault::BadEvent);
         }
-        match self.packet(number)? {
-            Packet::Msg(message) => self.arrive(rt, site, message),
-            Packet::Token(token) => self.take(site, token),
+        let Some(packet) = packet(self.packets.as_slice(), number) else {
+            return Err(WorldFault::NoSuchPacket);
+        };
+        if self.is_behind(site) {
+            return Err(WorldFault::Site(Fault::Behind));
         }
+        let packet = packet_copy(packet)?;
+        self.bring(rt, site, packet)
     }
 }

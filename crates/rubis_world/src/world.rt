@@ -1,12 +1,13 @@
-ghost use Rattle.std.specs.Prelude.{◌≡◌, ◌≤◌, IfErr, IfOk, length};
+ghost use Rattle.std.specs.Prelude.{◌≡◌, ◌<◌, ◌≤◌, IfErr, IfOk, Some, length};
+ghost use Rattle.rubis_message.specs.declared.tokens.Packet.{Packet as Sent};
 ghost use Rattle.rubis_model.specs.Laws.{InRun};
-ghost use Rattle.rubis_model.specs.System.{IsEvent, happens, start};
+ghost use Rattle.rubis_model.specs.System.{IsEvent, happens, packet_at};
 ghost use Rattle.rubis_model.specs.System.Event.{At, Deliver};
 ghost use Rattle.rubis_schema.specs.declared.limits.TheConstants.{SITES_MAX};
 ghost use Rattle.rubis_message.specs.declared.answers.Verdict.TheVariants.{Agree};
 ghost use Rattle.rubis_model.specs.Verdict.{verdict};
 ghost use Rattle.rubis_model.specs.WorldRecords.{logs_of};
-ghost use Rattle.rubis_world.specs.Worlds.{IsCheckFault, Steps};
+ghost use Rattle.rubis_world.specs.Worlds.{Asks, ComesTo, IsCheckFault, Steps, opening};
 
 use crate::config::WorldConfig;
 use crate::faults::WorldFault;
@@ -37,7 +38,7 @@ impl Model for World {
 impl World {
     /// Sites with nothing done, set up so.
     pub fn new(alloc: Global, config: &WorldConfig) -> Result<World, AllocError>
-        ensures start { IfOk result (λ world. world ≡ record { keep = config.now.keep; world = start config.now.sites }) }
+        ensures start { IfOk result (λ world. world ≡ opening config.now.keep config.now.sites) }
         ensures run { IfOk result (λ world. InRun world.world) }
     {
         Ok(World {
@@ -63,6 +64,7 @@ impl World {
     ) -> Result<Happened, WorldFault>
         requires { IsEvent (length self.old.world.sites) (At site request) }
         ensures step { Steps self.old self.new (happens self.old.keep self.old.world (At site request)) result }
+        ensures tables { site < length self.old.world.sites → Asks site self.old self.new result }
         ensures run { InRun self.new.world }
     {
         self.sites.at(rt, site, request)
@@ -77,6 +79,7 @@ impl World {
         number: u64,
     ) -> Result<Happened, WorldFault>
         ensures step { Steps self.old self.new (happens self.old.keep self.old.world (Deliver site number)) result }
+        ensures tables { site < length self.old.world.sites → (p : Sent) → packet_at self.old.world.sent number ≡ Some p → Asks site self.old self.new result }
         ensures run { InRun self.new.world }
     {
         self.sites.deliver(rt, site, number)
@@ -85,10 +88,10 @@ impl World {
     /// The auditor's verdict on the logs of all sites, each with its tables: in a run it is always Agree. All that is
     /// pending at a site is applied first. A site that is behind has no tables to show, and its world no verdict.
     pub fn check<R: Threads + Wait + Sync>(&mut self, rt: &R) -> Result<Verdict, WorldFault>
-        ensures same { self.new ≡ self.old }
+        ensures same { ComesTo self.old self.new self.old.world }
         ensures verdict { IfOk result (λ found. found ≡ verdict (logs_of self.old.world)) }
         ensures agrees { IfOk result (λ found. found ≡ Agree) }
-        ensures faults { IfErr result IsCheckFault }
+        ensures faults { IfErr result (IsCheckFault self.new) }
         ensures run { InRun self.new.world }
     {
         self.sites.check(rt)

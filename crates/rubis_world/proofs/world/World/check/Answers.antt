@@ -1,8 +1,7 @@
-use Rattle.std.proofs.Common.{◌∙◌, subst, sym}
+use Rattle.std.proofs.Common.{◌∙◌}
 use Rattle.rubis_script.proofs.RunFacts.{if_ok_so}
-use Rattle.rubis_world.specs.Worlds.{IsWorld}
 use Rattle.rubis_world.proofs.Checking.{agree, among}
-use Rattle.rubis_world.proofs.Keeping.{told}
+use Rattle.rubis_world.proofs.Keeping.{stayed, told}
 use Rattle.rubis_world.proofs.world.World.check.Goals as goal
 
 pub check-requires-clause-among : goal.check-requires-clause-among
@@ -12,4 +11,7 @@ pub returns-clause-agrees : goal.returns-clause-agrees
 returns-clause-agrees g c = if_ok_so _ _ c.check.result (λ found is. is ∙ agree c.self.inside.sites c.self.invariant) c.check.ensures.verdict
 
 pub returns-clause-run : goal.returns-clause-run
-returns-clause-run g c = told c.check.new.self (subst IsWorld (sym c.check.ensures.same) c.self.invariant)
+returns-clause-run g c = told c.check.new.self (stayed c.self.inside.sites c.check.new.self c.check.ensures.same c.self.invariant)
+
+pub invariant_of-self : goal.invariant_of-self
+invariant_of-self g c = stayed c.self.inside.sites c.check.new.self c.check.ensures.same c.self.invariant

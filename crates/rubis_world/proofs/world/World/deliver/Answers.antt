@@ -4,8 +4,8 @@ use Rattle.rubis_world.proofs.world.World.deliver.Goals as goal
 
 pub invariant_of-self : goal.invariant_of-self
 invariant_of-self g c =
-    answered c.self.inside.sites c.deliver.new.self (Deliver c.args.site c.args.number) c.deliver.result tt c.deliver.ensures c.self.invariant
+    answered c.self.inside.sites c.deliver.new.self (Deliver c.args.site c.args.number) c.deliver.result tt c.deliver.ensures.step c.self.invariant
 
 pub returns-clause-run : goal.returns-clause-run
 returns-clause-run g c =
-    told c.deliver.new.self (answered c.self.inside.sites c.deliver.new.self (Deliver c.args.site c.args.number) c.deliver.result tt c.deliver.ensures c.self.invariant)
+    told c.deliver.new.self (answered c.self.inside.sites c.deliver.new.self (Deliver c.args.site c.args.number) c.deliver.result tt c.deliver.ensures.step c.self.invariant)
