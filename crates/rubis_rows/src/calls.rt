@@ -1,16 +1,27 @@
 // Each call that takes memory, once, with enough of it.
 
-use crate::records::{message, record, text_of};
-use rubis_message::{
-    Packet, Request, Token, read_packet, read_request, write_message, write_token,
-};
+use crate::records::{message, request};
+use rubis_message::{Packet, Request, Token, read_packet, write_message, write_token};
 use rubis_release::Intake;
 use rubis_schema::{Fields, Id, Items, Name, Nick, Text, push_int, push_number};
 use rubis_script::Sink;
 use rubis_shadow::{Ask, Change, Shadow};
+use std::alloc::{AllocError, Global};
 use std::test::Fail;
 
 const MESSAGE: &str = "msg,1,0,3,0,2:0,item,0.1,lamp,7,1,100,0";
+
+// The fields of a record, with commas between them.
+fn text_of(alloc: Global, fields: &Fields) -> Result<Vec<u8>, AllocError> {
+    let mut text = Vec::new(alloc);
+    for place in 0..fields.len() {
+        if place > 0 {
+            text.push(b',')?;
+        }
+        text.extend_from_slice(fields.field(place).unwrap_or(b""))?;
+    }
+    Ok(text)
+}
 
 #[test]
 fn ids_names_and_texts(rt: HostRuntime) -> Result<(), Fail> {
@@ -31,7 +42,10 @@ fn ids_names_and_texts(rt: HostRuntime) -> Result<(), Fail> {
 #[test]
 fn records_of_fields(rt: HostRuntime) -> Result<(), Fail> {
     let alloc = rt.alloc();
-    let mut fields = record(alloc, "a,,b")?;
+    let mut fields = Fields::new(alloc);
+    fields.push(b"a")?;
+    fields.push(b"")?;
+    fields.push(b"b")?;
     push_number(&mut fields, 10)?;
     push_int(&mut fields, -5)?;
     Id { site: 0, seq: 9 }.push_to(&mut fields)?;
@@ -61,7 +75,7 @@ fn much_text_is_time_to_write(rt: HostRuntime) -> Result<(), Fail> {
 #[test]
 fn a_request_is_read(rt: HostRuntime) -> Result<(), Fail> {
     let alloc = rt.alloc();
-    match read_request(alloc, &record(alloc, "bid,0.3,0.2,500")?, 1)? {
+    match request(alloc, "bid,0.3,0.2,500", 1)? {
         Request::Ask(Ask::Bid(bid)) => assert_eq!(rt; bid.amount, 500),
         _ => assert!(rt; false, "another request"),
     }

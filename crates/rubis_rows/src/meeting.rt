@@ -3,8 +3,8 @@
 ghost use Rattle.std.specs.Prelude.{◌≡◌, ◌<◌, ◌≤◌, IfOk};
 ghost use Rattle.rubis_shadow.specs.Limits.{IsAsk};
 
-use crate::records::{message, record};
-use rubis_message::{Arrival, Request, read_request};
+use crate::records::{message, request};
+use rubis_message::{Arrival, Request};
 use rubis_pieces::split;
 use rubis_replica::{Config, Gate, Site};
 use rubis_schema::Listing;
@@ -152,7 +152,7 @@ fn arrive_three<'a, R: Threads + Wait + Sync>(
 fn ask(alloc: Global, text: &str) -> Result<Ask, Fail>
     ensures { IfOk result (IsAsk 2) }
 {
-    match read_request(alloc, &record(alloc, text)?, 2)? {
+    match request(alloc, text, 2)? {
         Request::Ask(ask) => Ok(ask),
         _ => Err(Fail::from("no ask")),
     }

@@ -1,32 +1,21 @@
-// Records and packets, as they are written.
+// Requests and packets, as they are written.
 
 ghost use Rattle.std.specs.Prelude.{◌≡◌, ◌≤◌, IfOk};
+ghost use Rattle.rubis_message.specs.Grammar.{IsRequest};
 ghost use Rattle.rubis_message.specs.Message.{sites_of};
 
-use rubis_message::{Message, Packet, read_packet};
+use rubis_message::{Message, Packet, Request, read_packet, read_request};
 use rubis_schema::Fields;
 use std::alloc::{AllocError, Global};
 use std::test::Fail;
 
-/// The record of these fields, which have commas between them.
-pub fn record(alloc: Global, text: &str) -> Result<Fields, AllocError> {
+// The record of these fields, which have commas between them.
+fn record(alloc: Global, text: &str) -> Result<Fields, AllocError> {
     let mut fields = Fields::new(alloc);
     for field in text.split(',') {
         fields.push(field.as_bytes())?;
     }
     Ok(fields)
-}
-
-/// The fields of a record, with commas between them.
-pub fn text_of(alloc: Global, fields: &Fields) -> Result<Vec<u8>, AllocError> {
-    let mut text = Vec::new(alloc);
-    for place in 0..fields.len() {
-        if place > 0 {
-            text.push(b',')?;
-        }
-        text.extend_from_slice(fields.field(place).unwrap_or(b""))?;
-    }
-    Ok(text)
 }
 
 /// The message that is written so, to a site among so many.
@@ -38,4 +27,11 @@ pub fn message(alloc: Global, text: &str, sites: u8) -> Result<Message, Fail>
         Packet::Msg(message) => Ok(message),
         Packet::Token(_) => Err(Fail::from("a token")),
     }
+}
+
+/// The request that is written so, to a site among so many.
+pub fn request(alloc: Global, text: &str, sites: u8) -> Result<Request, Fail>
+    ensures { IfOk result (IsRequest sites) }
+{
+    Ok(read_request(alloc, &record(alloc, text)?, sites)?)
 }
