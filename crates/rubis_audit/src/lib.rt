@@ -17,6 +17,3 @@ pub use logs::Log;
 pub use run::run_audit;
 pub use verdicts::write_verdict;
 pub use walks::audit;
-
-#[cfg(test)]
-mod tests;

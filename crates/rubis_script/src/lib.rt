@@ -21,6 +21,3 @@ pub use run::{next_record, run_upto, stop, write_out};
 pub use service::{Answering, Course, Service};
 pub use sink::Sink;
 pub use site_run::{run_desk, run_site, run_site_upto};
-
-#[cfg(test)]
-mod tests;

@@ -16,6 +16,3 @@ pub use faults::WorldFault;
 pub use rubis_message::Happened;
 pub use run::{run_world, run_world_desk};
 pub use world::World;
-
-#[cfg(test)]
-mod tests;

@@ -1,8 +1,9 @@
-use crate::run_audit;
+// Audits: each check's fault, the count of records, and streams that fail.
+
+use crate::broken::{BrokenReader, BrokenWriter};
+use rubis_audit::run_audit;
 use rubis_script::{Count, RunFault};
 use std::alloc::Global;
-use std::io;
-use std::io::{Read, Write};
 use std::process::Abort;
 
 // The smallest log with a fault of each kind, and its verdict; and one that agrees.
@@ -43,61 +44,6 @@ const LOGS: [(&[u8], &[u8]); 10] = [
     (b"site,2\nsite,0\n", b"audit,BadRecord,1\n"),
 ];
 
-fn broken() -> io::Error {
-    io::Error::from(io::ErrorKind::BrokenPipe)
-}
-
-// Gives its text a byte at a time, and an error in place of its end.
-#[derive(Drop)]
-struct BrokenReader<'a> {
-    text: &'a [u8],
-    at: usize,
-}
-
-impl<'a> Read for BrokenReader<'a> {
-    fn read(&mut self, buf: &mut [u8]) -> io::Result<usize> {
-        match (self.text.get(self.at), buf.first_mut()) {
-            (Some(byte), Some(place)) => {
-                *place = *byte;
-                self.at = self.at.saturating_add(1);
-                Ok(1)
-            }
-            _ => Err(broken()),
-        }
-    }
-}
-
-// Takes at most three bytes a call, and fails at one call, a flush among them.
-#[derive(Drop)]
-struct BrokenWriter {
-    got: Vec<u8>,
-    calls: usize,
-    bad: usize,
-}
-
-impl BrokenWriter {
-    fn call(&mut self) -> io::Result<()> {
-        self.calls = self.calls.saturating_add(1);
-        if self.calls == self.bad {
-            return Err(broken());
-        }
-        Ok(())
-    }
-}
-
-impl Write for BrokenWriter {
-    fn write(&mut self, buf: &[u8]) -> io::Result<usize> {
-        self.call()?;
-        let most = buf.len().min(3);
-        self.got.extend_from_slice(&buf[..most])?;
-        Ok(most)
-    }
-
-    fn flush(&mut self) -> io::Result<()> {
-        self.call()
-    }
-}
-
 #[test]
 fn each_check_finds_its_fault(rt: HostRuntime) {
     for (text, want) in LOGS {
@@ -122,10 +68,7 @@ fn a_failing_reader(rt: HostRuntime) {
     let text = b"site,0\nmsg,1,0,1,1,0:0,user,ann\nrow,user\n".as_slice();
     for cut in 0..text.len() {
         let mut out = Vec::new(rt.alloc());
-        let reader = BrokenReader {
-            text: &text[..cut],
-            at: 0,
-        };
+        let reader = BrokenReader::new(&text[..cut]);
         let end = run_audit(rt.alloc(), reader, &mut out, 2);
         assert!(rt; end == Err(RunFault::Read), "after {cut} bytes");
         assert!(rt; out.is_empty(), "after {cut} bytes");
@@ -134,11 +77,7 @@ fn a_failing_reader(rt: HostRuntime) {
 
 // The writer that fails at one of its calls, and whether the run ended well.
 fn write_until<R: Abort>(rt: &R, alloc: Global, bad: usize) -> (BrokenWriter, bool) {
-    let mut writer = BrokenWriter {
-        got: Vec::new(alloc),
-        calls: 0,
-        bad,
-    };
+    let mut writer = BrokenWriter::new(alloc, bad);
     let text = b"site,0\nmsg,1,0,1,1,0:0,user,ann\n".as_slice();
     let end = run_audit(alloc, text, &mut writer, 2);
     assert!(rt; end.is_ok() || end == Err(RunFault::Write));

@@ -1,0 +1,62 @@
+// A service that says what it hears.
+
+ghost use Rattle.std.specs.Prelude.{◌≡◌, ◌∷◌, ◌++◌, None, OnOk, codes, length, map, refl};
+ghost use Rattle.std.specs.Option.{option_to_list};
+ghost use Rattle.rubis_script.specs.Text.{rows_text};
+
+use rubis_schema::Fields;
+use rubis_script::{Answering, Course, OutOfMemory, Service, Sink};
+
+/// Answers each record by itself behind `got`, one record late.
+#[derive(Drop)]
+pub struct Echo {
+    last: Option<Fields>,
+}
+
+impl Echo {
+    pub fn new() -> Echo {
+        Echo { last: None }
+    }
+
+    fn write_last(&mut self, sink: &mut Sink) -> Result<(), OutOfMemory>
+        ensures held { OnOk result (self.new.last ≡ None) }
+        ensures text { OnOk result (sink.new ≡ sink.old ++ rows_text (map (λ fields. codes "got" ∷ fields) (option_to_list self.old.last))) }
+    {
+        if let Some(last) = self.last.take() {
+            sink.write_after(&[b"got".as_slice()], &last)?;
+        }
+        Ok(())
+    }
+}
+
+impl<T> Service<T> for Echo {
+    ghost account = { λ s n. record {
+      text = λ ending records. rows_text (map (λ fields. codes "got" ∷ fields) (option_to_list s.last ++ records));
+      read = λ records. length records;
+    } };
+
+    ghost reads_none = { λ s n. refl };
+
+    fn settle(&mut self, _rt: &T, sink: &mut Sink) -> Result<(), OutOfMemory> {
+        self.write_last(sink)
+    }
+
+    fn finish(&mut self, _rt: &T, sink: &mut Sink) -> Result<(), OutOfMemory> {
+        self.write_last(sink)
+    }
+}
+
+impl<T> Answering<T> for Echo {
+    fn answer(
+        &mut self,
+        _rt: &T,
+        _number: u64,
+        fields: &Fields,
+        sink: &mut Sink,
+    ) -> Result<Course, OutOfMemory> {
+        let next = fields.copy()?;
+        self.write_last(sink)?;
+        self.last = Some(next);
+        Ok(Course::GoesOn)
+    }
+}

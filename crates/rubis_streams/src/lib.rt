@@ -1,0 +1,16 @@
+//! The tests of runs over streams: the engine, the auditor, and several sites. They stand here since a crate with tests is
+//! proved twice.
+#![tactic(auto)]
+
+#[cfg(test)]
+mod audits;
+#[cfg(test)]
+mod broken;
+#[cfg(test)]
+mod echoes;
+#[cfg(test)]
+mod engine;
+#[cfg(test)]
+mod waiting;
+#[cfg(test)]
+mod worlds;
