@@ -5,55 +5,109 @@ use rubis_replica::Fault;
 use rubis_schema::{Listing, Nick, Refusal};
 use rubis_shadow::Ask;
 use rubis_world::{World, WorldConfig, WorldFault};
+use std::alloc::Global;
+use std::sync::Wait;
 use std::test::Fail;
+use std::thread::Threads;
+
+// Two sites with nothing done.
+fn two_sites(alloc: Global) -> Result<World, Fail> {
+    let config = WorldConfig::new(2, 4, 2, 64, 1_000_000).ok_or("a configuration")?;
+    Ok(World::new(alloc, &config)?)
+}
+
+// The number of the packet that was sent.
+fn number_of(happened: Happened) -> Result<u64, Fail> {
+    match happened {
+        Happened::Sent(number) => Ok(number),
+        _ => Err(Fail::from("nothing was sent")),
+    }
+}
+
+// A user is registered at the first site, and the token handed on: the numbers of both packets.
+fn send_two<R: Threads + Wait + Sync>(rt: &R, world: &mut World) -> Result<(u64, u64), Fail> {
+    let ann = Nick::read(b"ann").ok_or("a nickname")?;
+    let user = number_of(world.at(rt, 0, Request::Ask(Ask::User(ann)))?)?;
+    let token = number_of(world.at(rt, 0, Request::Pass(1))?)?;
+    Ok((user, token))
+}
+
+// The token comes to the second site.
+fn take_token<R: Threads + Wait + Sync>(rt: &R, world: &mut World) -> Result<Taken, Fail> {
+    match world.deliver(rt, 1, 2)? {
+        Happened::Token(taken) => Ok(taken),
+        _ => Err(Fail::from("no token came")),
+    }
+}
+
+// The user comes to the second site.
+fn take_user<R: Threads + Wait + Sync>(rt: &R, world: &mut World) -> Result<Arrival, Fail> {
+    match world.deliver(rt, 1, 1)? {
+        Happened::Came(arrival) => Ok(arrival),
+        _ => Err(Fail::from("no message came")),
+    }
+}
+
+// How many users the second site shows.
+fn count_users<R: Threads + Wait + Sync>(rt: &R, world: &mut World) -> Result<usize, Fail> {
+    match world.at(rt, 1, Request::List(Listing::Users))? {
+        Happened::Rows(rows) => Ok(rows.len()),
+        _ => Err(Fail::from("no rows")),
+    }
+}
+
+// The token comes to the second site, once and again, and the user: what became of each, and the users shown then.
+fn receive_two<R: Threads + Wait + Sync>(
+    rt: &R,
+    world: &mut World,
+) -> Result<(Taken, Taken, Arrival, usize), Fail> {
+    let first = take_token(rt, world)?;
+    let second = take_token(rt, world)?;
+    let user = take_user(rt, world)?;
+    Ok((first, second, user, count_users(rt, world)?))
+}
 
 #[test]
 fn a_message_and_the_token_cross(rt: HostRuntime) -> Result<(), Fail> {
-    let config = WorldConfig::new(2, 4, 2, 64, 1_000_000).ok_or("a configuration")?;
-    let mut world = World::new(rt.alloc(), &config)?;
-    let ann = Nick::read(b"ann").ok_or("a nickname")?;
-    assert!(rt;
-        matches!(
-            world.at(&rt, 0, Request::Ask(Ask::User(ann)))?,
-            Happened::Sent(1)
-        )
+    let mut world = two_sites(rt.alloc())?;
+    assert_eq!(rt; send_two(&rt, &mut world)?, (1, 2));
+    let came = receive_two(&rt, &mut world)?;
+    assert_eq!(rt;
+        came,
+        (Taken::Holding, Taken::Repeat, Arrival::Released(1), 1)
     );
-    assert!(rt; matches!(world.at(&rt, 0, Request::Pass(1))?, Happened::Sent(2)));
-    assert!(rt; matches!(world.deliver(&rt, 1, 2)?, Happened::Token(Taken::Holding)));
-    assert!(rt; matches!(world.deliver(&rt, 1, 2)?, Happened::Token(Taken::Repeat)));
-    assert!(rt;
-        matches!(
-            world.deliver(&rt, 1, 1)?,
-            Happened::Came(Arrival::Released(1))
-        )
-    );
-    let Happened::Rows(rows) = world.at(&rt, 1, Request::List(Listing::Users))? else {
-        return Err("rows".into());
-    };
-    assert_eq!(rt; rows.len(), 1);
     assert_eq!(rt; world.packets().len(), 2);
     Ok(())
 }
 
+// Packets that nobody sent, and a site that isn't there.
+fn deliver_wrongly<R: Threads + Wait + Sync>(
+    rt: &R,
+    world: &mut World,
+) -> (Option<WorldFault>, Option<WorldFault>, Option<WorldFault>) {
+    let ninth = world.deliver(rt, 0, 9).err();
+    let nought = world.deliver(rt, 0, 0).err();
+    let nowhere = world.deliver(rt, 7, 1).err();
+    (ninth, nought, nowhere)
+}
+
+// A site that isn't there, and one that doesn't hold the token.
+fn pass_wrongly<R: Threads + Wait + Sync>(
+    rt: &R,
+    world: &mut World,
+) -> (Option<WorldFault>, Option<WorldFault>) {
+    let nowhere = world.at(rt, 2, Request::Pass(1)).err();
+    let no_token = world.at(rt, 1, Request::Pass(0)).err();
+    (nowhere, no_token)
+}
+
 #[test]
 fn what_is_no_event_is_refused(rt: HostRuntime) -> Result<(), Fail> {
-    let config = WorldConfig::new(2, 4, 2, 64, 1_000_000).ok_or("a configuration")?;
-    let mut world = World::new(rt.alloc(), &config)?;
-    assert!(rt; matches!(world.deliver(&rt, 0, 9), Err(WorldFault::NoSuchPacket)));
-    assert!(rt; matches!(world.deliver(&rt, 0, 0), Err(WorldFault::NoSuchPacket)));
-    assert!(rt; matches!(world.deliver(&rt, 7, 1), Err(WorldFault::BadEvent)));
-    assert!(rt;
-        matches!(
-            world.at(&rt, 2, Request::Pass(1)),
-            Err(WorldFault::BadEvent)
-        )
-    );
-    let refused = world.at(&rt, 1, Request::Pass(0));
-    assert!(rt;
-        matches!(
-            refused,
-            Err(WorldFault::Site(Fault::Refused(Refusal::NoToken)))
-        )
-    );
+    let mut world = two_sites(rt.alloc())?;
+    let unsent = Some(WorldFault::NoSuchPacket);
+    let nowhere = Some(WorldFault::BadEvent);
+    let refused = Some(WorldFault::Site(Fault::Refused(Refusal::NoToken)));
+    assert_eq!(rt; deliver_wrongly(&rt, &mut world), (unsent, unsent, nowhere));
+    assert_eq!(rt; pass_wrongly(&rt, &mut world), (nowhere, refused));
     Ok(())
 }
