@@ -1,10 +1,10 @@
 // Several sites in one run: each call once, with enough memory.
 
-use rubis_message::{Arrival, Happened, Request, Taken};
+use rubis_message::{Arrival, Request, Taken};
 use rubis_replica::Fault;
 use rubis_schema::{Listing, Nick, Refusal};
 use rubis_shadow::Ask;
-use rubis_world::{World, WorldConfig, WorldFault};
+use rubis_world::{Happened, World, WorldConfig, WorldFault};
 use std::alloc::Global;
 use std::sync::Wait;
 use std::test::Fail;

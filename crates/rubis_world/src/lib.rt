@@ -13,5 +13,6 @@ mod world;
 pub use config::WorldConfig;
 pub use desk::WorldDesk;
 pub use faults::WorldFault;
+pub use rubis_message::Happened;
 pub use run::{run_world, run_world_desk};
 pub use world::World;
