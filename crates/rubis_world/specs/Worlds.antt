@@ -60,6 +60,10 @@ pub record Asks (i : ℕ) (old new : WorldState) (result : Result Happened World
   pub waits : 0 < left_at old i → (result ≡ Err (Site fault.Behind)) × (new ≡ old)
   pub says : result ≡ Err (Site fault.Behind) → 0 < left_at new i
 
+-- some site is behind
+abbrev pub SomeBehind : WorldState → Type 0
+SomeBehind s = (i : ℕ) × (i < length s.world.sites) × (0 < left_at s i)
+
 -- why there is no verdict: some site is behind, or memory ran out
 abbrev pub IsCheckFault : WorldState → WorldFault → Type 0
-IsCheckFault s f = ((f ≡ Site fault.Behind) × ((i : ℕ) × (i < length s.world.sites) × (0 < left_at s i))) ⊎ (f ≡ Memory)
+IsCheckFault s f = ((f ≡ Site fault.Behind) × SomeBehind s) ⊎ (f ≡ Memory)

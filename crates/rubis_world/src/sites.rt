@@ -1,4 +1,4 @@
-ghost use Rattle.std.specs.Prelude.{◌≡◌, ◌<◌, ◌≤◌, ◌⊎◌, IfErr, IfOk, IsErrOf, None, Some, length, nat_lt};
+ghost use Rattle.std.specs.Prelude.{◌≡◌, ◌<◌, ◌≤◌, ◌⊎◌, IfErr, IfOk, Err, IsErrOf, None, Some, ℕ, false, length, nat_lt, true};
 ghost use Rattle.rubis_schema.specs.declared.limits.TheConstants.{KEEP_MAX, SITES_MAX};
 ghost use Rattle.rubis_shadow.specs.Limits.{IsAsk};
 ghost use Rattle.rubis_message.specs.Message.{sites_of};
@@ -14,7 +14,7 @@ ghost use Rattle.rubis_model.specs.Verdict.{verdict};
 ghost use Rattle.rubis_model.specs.WorldRecords.{log_of, logs_of};
 ghost use Rattle.rubis_audit.specs.Walks.{AreAmong};
 ghost use Rattle.rubis_replica.specs.declared.faults.Fault.TheVariants as Fault;
-ghost use Rattle.rubis_world.specs.Worlds.{Asks, ComesTo, IsCheckFault, Steps, left_at, opening};
+ghost use Rattle.rubis_world.specs.Worlds.{Asks, ComesTo, IsCheckFault, SomeBehind, Steps, left_at, opening};
 ghost use Rattle.rubis_world.specs.declared.faults.WorldFault.TheVariants as WorldFault;
 
 use crate::answers::packet;
@@ -112,6 +112,19 @@ impl Sites {
         ensures { result ≡ nat_lt 0 (left_at self.now site) }
     {
         self.sites[site].is_behind()
+    }
+
+    // Whether some site has begun a batch that isn't whole.
+    fn some_behind(&self) -> bool
+        ensures some { result ≡ true → SomeBehind self.now }
+        ensures none { result ≡ false → (i : ℕ) → i < length self.now.world.sites → left_at self.now i ≡ 0 }
+    {
+        'sites: for site in 0..self.len() {
+            if self.is_behind(site) {
+                return true;
+            }
+        }
+        false
     }
 
     // A site decides an ask.
@@ -232,8 +245,12 @@ impl Sites {
         requires among { AreAmong (length self.old.world.sites) (logs_of self.old.world) }
         ensures same { ComesTo self.old self.new self.old.world }
         ensures verdict { IfOk result (λ found. found ≡ verdict (logs_of self.old.world)) }
+        ensures waits { (i : ℕ) → i < length self.old.world.sites → 0 < left_at self.old i → (result ≡ Err (WorldFault.Site Fault.Behind)) × (self.new ≡ self.old) }
         ensures faults { IfErr result (IsCheckFault self.new) }
     {
+        if self.some_behind() {
+            return Err(WorldFault::Site(Fault::Behind));
+        }
         let alloc = *self.packets.allocator();
         let logs = self.logs(rt, alloc)?;
         Ok(audit(alloc, &logs, self.len() as u8)?)

@@ -1,4 +1,4 @@
-ghost use Rattle.std.specs.Prelude.{◌≡◌, ◌<◌, ◌≤◌, IfErr, IfOk, Some, length};
+ghost use Rattle.std.specs.Prelude.{◌≡◌, ◌<◌, ◌≤◌, Err, IfErr, IfOk, Some, ℕ, length};
 ghost use Rattle.rubis_message.specs.declared.tokens.Packet.{Packet as Sent};
 ghost use Rattle.rubis_model.specs.Laws.{InRun};
 ghost use Rattle.rubis_model.specs.System.{IsEvent, happens, packet_at};
@@ -7,7 +7,9 @@ ghost use Rattle.rubis_schema.specs.declared.limits.TheConstants.{SITES_MAX};
 ghost use Rattle.rubis_message.specs.declared.answers.Verdict.TheVariants.{Agree};
 ghost use Rattle.rubis_model.specs.Verdict.{verdict};
 ghost use Rattle.rubis_model.specs.WorldRecords.{logs_of};
-ghost use Rattle.rubis_world.specs.Worlds.{Asks, ComesTo, IsCheckFault, Steps, opening};
+ghost use Rattle.rubis_replica.specs.declared.faults.Fault.TheVariants as Fault;
+ghost use Rattle.rubis_world.specs.Worlds.{Asks, ComesTo, IsCheckFault, Steps, left_at, opening};
+ghost use Rattle.rubis_world.specs.declared.faults.WorldFault.TheVariants as WorldFault;
 
 use crate::config::WorldConfig;
 use crate::faults::WorldFault;
@@ -91,6 +93,7 @@ impl World {
         ensures same { ComesTo self.old self.new self.old.world }
         ensures verdict { IfOk result (λ found. found ≡ verdict (logs_of self.old.world)) }
         ensures agrees { IfOk result (λ found. found ≡ Agree) }
+        ensures waits { (i : ℕ) → i < length self.old.world.sites → 0 < left_at self.old i → (result ≡ Err (WorldFault.Site Fault.Behind)) × (self.new ≡ self.old) }
         ensures faults { IfErr result (IsCheckFault self.new) }
         ensures run { InRun self.new.world }
     {
