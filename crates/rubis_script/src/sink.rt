@@ -179,11 +179,12 @@ impl Sink {
         self.rows.get_ref().len() >= CHUNK
     }
 
-    /// Writes all text out, and is empty then.
+    /// Writes all text out, and is empty then; it keeps the room that the text had.
     ///
     /// # Errors
     ///
     /// `Write` where the writer failed, and `Memory` where there was not enough; then nothing was written.
+    #[inline(never)]
     pub fn drain<W: Write>(&mut self, writer: &mut W) -> Result<(), RunFault>
         ensures ok { OnOk result (Appends (W.contents writer.old) (W.contents writer.new) self.old) }
         ensures empty { self.new ≡ [] }
@@ -191,10 +192,13 @@ impl Sink {
         ensures faults { IfErr result (λ e. (e ≡ RunFault.Write) ⊎ (e ≡ RunFault.Memory)) }
     {
         let full = mem::replace(self, Sink::new(self.alloc));
-        let Ok(text) = full.into_text() else {
+        let Ok(mut text) = full.into_text() else {
             return Err(RunFault::Memory);
         };
-        match writer.write_all(text.as_slice()) {
+        let written = writer.write_all(text.as_slice());
+        text.clear();
+        self.rows = WriterBuilder::new().flexible(true).from_writer(text);
+        match written {
             Ok(()) => Ok(()),
             Err(_) => Err(RunFault::Write),
         }
