@@ -5,14 +5,14 @@ ghost use Rattle.rubis_message.specs.Readings.{take_bid, take_comment, take_item
 
 use crate::faults::ReadFault;
 use crate::readers::Reader;
-use rubis_schema::{AMOUNT_MAX, CAT_MAX, CommentRow, PurchaseRow, QUANTITY_MAX};
+use rubis_schema::{AMOUNT_MAX, Boxed, CAT_MAX, CommentRow, PurchaseRow, QUANTITY_MAX};
 use rubis_shadow::{NewBid, NewItem};
 use std::alloc::Global;
 
 impl<'a> Reader<'a> {
     /// A new item.
     #[tactic(auto, unfolding(crate::specs::Readings::take_item))]
-    pub fn new_item(&mut self, alloc: Global, sites: u8) -> Result<NewItem, ReadFault>
+    pub fn new_item(&mut self, alloc: Global, sites: u8) -> Result<Boxed<NewItem>, ReadFault>
         ensures { Takes (take_item sites) self.old self.new result }
     {
         let seller = self.id(sites)?;
@@ -21,14 +21,15 @@ impl<'a> Reader<'a> {
         let stock = self.positive(QUANTITY_MAX)?;
         let start = self.positive(AMOUNT_MAX)?;
         let price = self.number(AMOUNT_MAX)?;
-        Ok(NewItem {
+        let item = NewItem {
             seller,
             name,
             cat: cat as u16,
             stock,
             start,
             price,
-        })
+        };
+        Ok(Boxed::new(alloc, item)?)
     }
 
     /// A bid.
@@ -63,7 +64,7 @@ impl<'a> Reader<'a> {
 
     /// A comment.
     #[tactic(auto, unfolding(crate::specs::Readings::take_comment))]
-    pub fn comment(&mut self, alloc: Global, sites: u8) -> Result<CommentRow, ReadFault>
+    pub fn comment(&mut self, alloc: Global, sites: u8) -> Result<Boxed<CommentRow>, ReadFault>
         ensures { Takes (take_comment sites) self.old self.new result }
     {
         let item = self.id(sites)?;
@@ -71,12 +72,13 @@ impl<'a> Reader<'a> {
         let to = self.id(sites)?;
         let rating = self.rating()?;
         let text = self.text(alloc)?;
-        Ok(CommentRow {
+        let comment = CommentRow {
             item,
             from,
             to,
             rating,
             text,
-        })
+        };
+        Ok(Boxed::new(alloc, comment)?)
     }
 }

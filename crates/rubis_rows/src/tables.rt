@@ -1,7 +1,7 @@
 // Plain tables, and decisions over them.
 
 use rubis_generate::{Standing, decide};
-use rubis_schema::{Id, Name, Nick, Refusal, Row, RowKey, Table, View};
+use rubis_schema::{Boxed, Id, Name, Nick, Refusal, Row, RowKey, Table, View};
 use rubis_shadow::{Ask, MisfitKind, NewBid, NewClose, NewItem, PlainTables, Shadow};
 use std::alloc::Global;
 use std::process::Abort;
@@ -22,14 +22,15 @@ fn user(nick: &[u8]) -> Result<Shadow, Fail> {
 // A lamp that ann offers.
 fn lamp(alloc: Global) -> Result<Shadow, Fail> {
     let name = Name::read(alloc, b"lamp")?.ok_or("a name")?;
-    Ok(Shadow::Item(NewItem {
+    let lamp = NewItem {
         seller: ANN,
         name,
         cat: 7,
         stock: 1,
         start: 100,
         price: 0,
-    }))
+    };
+    Ok(Shadow::Item(Boxed::new(alloc, lamp)?))
 }
 
 // Applies all parts of a shadow, each of which fits.

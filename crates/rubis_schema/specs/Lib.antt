@@ -6,3 +6,4 @@ pub mod KeyLaws
 pub mod Refusals
 pub mod Tables
 pub mod FieldList
+pub mod Lending

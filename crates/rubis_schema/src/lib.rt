@@ -2,6 +2,7 @@
 //! lists of fields, and the view of a set of tables.
 #![tactic(auto)]
 
+mod boxed;
 mod field_list;
 mod homes;
 mod ids;
@@ -19,6 +20,7 @@ mod splits;
 mod texts;
 mod views;
 
+pub use boxed::Boxed;
 pub use field_list::Fields;
 pub use homes::shard_of;
 pub use ids::Id;

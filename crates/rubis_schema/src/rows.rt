@@ -1,5 +1,6 @@
 ghost use Rattle.std.specs.Prelude.{◌≡◌, IfOk};
 
+use crate::boxed::Boxed;
 use crate::ids::Id;
 use crate::nicks::Nick;
 use crate::texts::{Name, Text};
@@ -81,14 +82,15 @@ pub struct CatRow {
     pub live: i64,
 }
 
-/// A row of one of the seven tables. A nickname's row holds the id of its user.
+/// A row of one of the seven tables. A nickname's row holds the id of its user. The larger rows are in boxes, so that tables
+/// stay small.
 #[derive(Drop, Clone, PartialEq, Eq, Debug)]
 pub enum Row {
     User(UserRow),
-    Item(ItemRow),
+    Item(Boxed<ItemRow>),
     Bid(BidRow),
     Purchase(PurchaseRow),
-    Comment(CommentRow),
+    Comment(Boxed<CommentRow>),
     Nick(Id),
     Cat(CatRow),
 }

@@ -4,4 +4,4 @@ pub mod Changes
 pub mod Parts
 pub mod Limits
 pub mod Borrowed
-pub mod OwnTexts
+pub mod BoxedRows

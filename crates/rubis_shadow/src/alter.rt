@@ -144,7 +144,7 @@ impl Change {
     {
         match row {
             Row::User(user) => alter_user(self, user),
-            Row::Item(item) => alter_item(self, item),
+            Row::Item(item) => alter_item(self, item.get_mut()),
             Row::Cat(category) => alter_category(self, category),
             Row::Bid(_) => Some(alter_fixed(self)),
             Row::Purchase(_) => Some(alter_fixed(self)),

@@ -16,6 +16,6 @@ pub use changes::{Change, Effect, MisfitKind};
 pub use keys::Keys;
 pub use listing::{put_in_order, rows_in_order};
 pub use numbered::{Misfit, Numbered};
-pub use parts::{EffectRef, Effects, OwnText, PARTS_MAX};
+pub use parts::{EffectRef, Effects, PARTS_MAX};
 pub use plain::PlainTables;
 pub use shadows::{Colour, NewBid, NewClose, NewItem, Shadow};

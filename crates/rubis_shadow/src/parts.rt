@@ -4,15 +4,13 @@ ghost use Rattle.std.specs.Iterator.{item_count, YieldsFirst};
 ghost use Rattle.rubis_shadow.specs.declared.shadows.Shadow.TheVariants as Shadow;
 ghost use Rattle.rubis_shadow.specs.Parts.{new_item, parts};
 ghost use Rattle.rubis_shadow.specs.Borrowed.{change_of};
-ghost use Rattle.rubis_shadow.specs.OwnTexts.{HasText, text_in};
-ghost use Rattle.rubis_shadow.specs.declared.parts.OwnText.TheVariants as texts;
+ghost use Rattle.rubis_shadow.specs.BoxedRows.{HasBoxedRow, boxed_row_in};
 ghost use Rattle.rubis_schema.specs.declared.rows.Row.TheVariants as rows;
 
 use crate::changes::{Change, Effect};
 use crate::shadows::{NewBid, NewClose, NewItem, Shadow};
 use rubis_schema::{
-    Best, BidRow, CommentRow, Id, ItemRow, Name, Nick, PurchaseRow, Row, RowKey, Sale, Text,
-    UserRow,
+    Best, BidRow, Boxed, CommentRow, Id, ItemRow, Nick, PurchaseRow, Row, RowKey, Sale, UserRow,
 };
 use std::alloc::AllocError;
 use std::marker::Model;
@@ -20,15 +18,15 @@ use std::marker::Model;
 /// The most parts of a shadow.
 pub const PARTS_MAX: u8 = 3;
 
-// A change that borrows the texts of its shadow.
+// A change that borrows the boxes of its shadow.
 #[derive(Clone, Copy)]
 enum ChangeRef<'a> {
     NewUser(Nick),
     NewNick(Id),
-    NewItem(&'a NewItem),
+    NewItem(&'a Boxed<NewItem>),
     NewBid(BidRow),
     NewPurchase(PurchaseRow),
-    NewComment(&'a CommentRow),
+    NewComment(&'a Boxed<CommentRow>),
     ItemListed,
     Bought(u64),
     Rated(i8),
@@ -39,17 +37,7 @@ enum ChangeRef<'a> {
     End(Option<Id>),
 }
 
-/// The text of a row that a part inserts, apart from the row.
-#[derive(Drop, Debug)]
-pub enum OwnText {
-    None,
-    /// That of a new item.
-    Name(Name),
-    /// That of a new comment.
-    Text(Text),
-}
-
-/// A part of a shadow that borrows its texts. Contracts see the effect.
+/// A part of a shadow that borrows the shadow's boxes. Contracts see the effect.
 #[derive(Drop)]
 pub struct EffectRef<'a> {
     key: RowKey,
@@ -112,14 +100,14 @@ impl Shadow {
         }
     }
 
-    /// A text of its own for the row that the first part inserts, where that has one.
-    pub fn own_text(&self) -> Result<OwnText, AllocError>
-        ensures { IfOk result (λ text. (id : Id) (red : ℕ) → HasText (slice_get (parts id red self.now) 0) text) }
+    /// The row that the first part inserts, where that is in a box.
+    pub fn boxed_row(&self) -> Result<Option<Row>, AllocError>
+        ensures { IfOk result (λ row. (id : Id) (red : ℕ) → HasBoxedRow (slice_get (parts id red self.now) 0) row) }
     {
         match self {
-            Shadow::Item(item) => Ok(OwnText::Name(item.name.copy()?)),
-            Shadow::Comment(comment) => Ok(OwnText::Text(comment.text.copy()?)),
-            _ => Ok(OwnText::None),
+            Shadow::Item(item) => Ok(Some(item_row(item)?)),
+            Shadow::Comment(comment) => Ok(Some(comment_row(comment)?)),
+            _ => Ok(None),
         }
     }
 
@@ -161,7 +149,7 @@ fn user_part<'a>(id: Id, nick: Nick, place: u8) -> Option<EffectRef<'a>>
     }
 }
 
-fn item_part<'a>(id: Id, item: &'a NewItem, place: u8) -> Option<EffectRef<'a>>
+fn item_part<'a>(id: Id, item: &'a Boxed<NewItem>, place: u8) -> Option<EffectRef<'a>>
     ensures { result ≡ slice_get (parts id 0 (Shadow.Item item.now)) place }
 {
     match place {
@@ -241,7 +229,7 @@ fn close_part<'a>(close: NewClose, place: u8) -> Option<EffectRef<'a>>
     }
 }
 
-fn comment_part<'a>(id: Id, comment: &'a CommentRow, place: u8) -> Option<EffectRef<'a>>
+fn comment_part<'a>(id: Id, comment: &'a Boxed<CommentRow>, place: u8) -> Option<EffectRef<'a>>
     ensures { result ≡ slice_get (parts id 0 (Shadow.Comment comment.now)) place }
 {
     match place {
@@ -271,14 +259,13 @@ impl<'a> Iterator for Effects<'a> {
     }
 }
 
-// The row of an item that is offered, with that name.
-fn item_row(item: &NewItem, name: Name) -> ItemRow
-    requires { name ≡ item.now.name }
-    ensures { result ≡ new_item item.now }
+// The row of an item that is offered.
+fn item_row(item: &Boxed<NewItem>) -> Result<Row, AllocError>
+    ensures { IfOk result (λ row. row ≡ rows.Item (new_item item.now)) }
 {
-    ItemRow {
+    let row = ItemRow {
         seller: item.seller,
-        name,
+        name: item.name.copy()?,
         cat: item.cat,
         stock: item.stock,
         sold: 0,
@@ -287,61 +274,37 @@ fn item_row(item: &NewItem, name: Name) -> ItemRow
         bids: 0,
         best: None,
         sale: Sale::Open,
-    }
+    };
+    Ok(Row::Item(Boxed::new(item.allocator(), row)?))
 }
 
-// The row of a comment, with that text.
-fn comment_row(comment: &CommentRow, text: Text) -> CommentRow
-    requires { text ≡ comment.now.text }
-    ensures { result ≡ comment.now }
+// The row of a comment.
+fn comment_row(comment: &Boxed<CommentRow>) -> Result<Row, AllocError>
+    ensures { IfOk result (λ row. row ≡ rows.Comment comment.now) }
 {
-    CommentRow {
-        item: comment.item,
-        from: comment.from,
-        to: comment.to,
-        rating: comment.rating,
-        text,
-    }
+    let row = comment.copy()?;
+    Ok(Row::Comment(Boxed::new(comment.allocator(), row)?))
 }
 
-// A text of its own for the row that the change inserts, where that has one.
-fn own_text(change: &ChangeRef<'_>) -> Result<OwnText, AllocError>
-    ensures { IfOk result (λ text. text ≡ text_in (change_of change.now)) }
+// The row that the change inserts, where that is in a box.
+fn boxed_row(change: &ChangeRef<'_>) -> Result<Option<Row>, AllocError>
+    ensures { IfOk result (λ row. row ≡ boxed_row_in (change_of change.now)) }
 {
     match change {
-        ChangeRef::NewItem(item) => Ok(OwnText::Name(item.name.copy()?)),
-        ChangeRef::NewComment(comment) => Ok(OwnText::Text(comment.text.copy()?)),
-        _ => Ok(OwnText::None),
+        ChangeRef::NewItem(item) => Ok(Some(item_row(item)?)),
+        ChangeRef::NewComment(comment) => Ok(Some(comment_row(comment)?)),
+        _ => Ok(None),
     }
 }
 
-// The row of the item that the change inserts.
-fn new_item_row(item: &NewItem, text: OwnText) -> Row
-    requires { text ≡ texts.Name item.now.name }
-    ensures { result ≡ rows.Item (new_item item.now) }
-{
-    match text {
-        OwnText::Name(name) => Row::Item(item_row(item, name)),
-        _ => unreachable!(),
-    }
-}
-
-// The row of the comment that the change inserts.
-fn new_comment_row(comment: &CommentRow, text: OwnText) -> Row
-    requires { text ≡ texts.Text comment.now.text }
-    ensures { result ≡ rows.Comment comment.now }
-{
-    match text {
-        OwnText::Text(text) => Row::Comment(comment_row(comment, text)),
-        _ => unreachable!(),
-    }
-}
-
-// The change with that text as its own.
-fn change_with(change: &ChangeRef<'_>, text: OwnText) -> Change
-    requires { text ≡ text_in (change_of change.now) }
+// The change, with its row in a box, where it has one.
+fn change_with(change: &ChangeRef<'_>, row: Option<Row>) -> Change
+    requires { row ≡ boxed_row_in (change_of change.now) }
     ensures { result ≡ change_of change.now }
 {
+    if let Some(row) = row {
+        return Change::Insert(row);
+    }
     match change {
         ChangeRef::NewUser(nick) => Change::Insert(Row::User(UserRow {
             nick: *nick,
@@ -351,10 +314,9 @@ fn change_with(change: &ChangeRef<'_>, text: OwnText) -> Change
             comments: 0,
         })),
         ChangeRef::NewNick(id) => Change::Insert(Row::Nick(*id)),
-        ChangeRef::NewItem(item) => Change::Insert(new_item_row(item, text)),
         ChangeRef::NewBid(bid) => Change::Insert(Row::Bid(*bid)),
         ChangeRef::NewPurchase(purchase) => Change::Insert(Row::Purchase(*purchase)),
-        ChangeRef::NewComment(comment) => Change::Insert(new_comment_row(comment, text)),
+        ChangeRef::NewItem(_) | ChangeRef::NewComment(_) => unreachable!(),
         ChangeRef::ItemListed => Change::ItemListed,
         ChangeRef::Bought(quantity) => Change::Bought(*quantity),
         ChangeRef::Rated(rating) => Change::Rated(*rating),
@@ -378,21 +340,21 @@ impl<'a> EffectRef<'a> {
     pub fn own(&self) -> Result<Effect, AllocError>
         ensures { IfOk result (λ effect. effect ≡ self.now) }
     {
-        let text = own_text(&self.change)?;
+        let row = boxed_row(&self.change)?;
         Ok(Effect {
             key: self.key,
-            change: change_with(&self.change, text),
+            change: change_with(&self.change, row),
         })
     }
 
-    /// An equal effect that borrows nothing, with that text as its own. It takes no memory.
-    pub fn own_with(&self, text: OwnText) -> Effect
-        requires { text ≡ text_in self.now.change }
+    /// An equal effect that borrows nothing, with the row in a box that it inserts, where it does. It takes no memory.
+    pub fn own_with(&self, row: Option<Row>) -> Effect
+        requires { row ≡ boxed_row_in self.now.change }
         ensures { result ≡ self.now }
     {
         Effect {
             key: self.key,
-            change: change_with(&self.change, text),
+            change: change_with(&self.change, row),
         }
     }
 }

@@ -1,7 +1,7 @@
 ghost use Rattle.std.specs.Prelude.{◌≡◌, IfOk};
 ghost use Rattle.rubis_shadow.specs.Shadows.{colour_of};
 
-use rubis_schema::{CommentRow, Id, Name, Nick, PurchaseRow};
+use rubis_schema::{Boxed, CommentRow, Id, Name, Nick, PurchaseRow};
 use std::alloc::AllocError;
 
 /// An item that is offered: `stock` pieces of it, bids from `start` on, and `price` for a piece at once (0: no
@@ -32,15 +32,16 @@ pub struct NewClose {
     pub winner: Option<Id>,
 }
 
-/// What an accepted ask does, at every site.
+/// What an accepted ask does, at every site. The larger ones are in boxes, so that a log stays
+/// small.
 #[derive(Drop, Clone, PartialEq, Eq, Debug)]
 pub enum Shadow {
     User(Nick),
-    Item(NewItem),
+    Item(Boxed<NewItem>),
     Bid(NewBid),
     Buy(PurchaseRow),
     Close(NewClose),
-    Comment(CommentRow),
+    Comment(Boxed<CommentRow>),
 }
 
 /// Red shadows are totally ordered, blue ones only follow causality.

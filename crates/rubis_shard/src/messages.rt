@@ -1,5 +1,5 @@
 ghost use Rattle.std.specs.Prelude.{◌≡◌, ℕ, ◌+◌, ◌<◌, ◌≤◌, [], length, slice_get, true, false, IfOk, OnOk, OnErr};
-ghost use Rattle.rubis_shadow.specs.OwnTexts.{HasText};
+ghost use Rattle.rubis_shadow.specs.BoxedRows.{HasBoxedRow};
 ghost use Rattle.rubis_shadow.specs.Parts.{parts};
 ghost use Rattle.rubis_model.specs.Log.{fold_on};
 ghost use Rattle.rubis_shard.specs.Holdings.{home_or, parts_at, AreInOrder};
@@ -9,8 +9,8 @@ ghost use Rattle.rubis_shard.specs.Stores.{held_by, HasRoom};
 use crate::message_parts::MessageParts;
 use crate::shards::Shard;
 use crate::stores::Store;
-use rubis_schema::{Id, shard_of};
-use rubis_shadow::{Numbered, OwnText, Shadow};
+use rubis_schema::{Id, Row, shard_of};
+use rubis_shadow::{Numbered, Shadow};
 use std::alloc::AllocError;
 
 // The home of the shadow's part at this place, or the number of shards where there is none.
@@ -87,23 +87,23 @@ impl<'a> MessageParts<'a> {
         self.home_from(2, from, second)
     }
 
-    // A text of its own for the row of the first part, if its home is the shard.
-    fn own_text(&self, at: usize) -> Result<OwnText, AllocError>
+    // The row in a box of the first part, where it has one, if its home is the shard.
+    fn boxed_row(&self, at: usize) -> Result<Option<Row>, AllocError>
         requires { at < self.now.shards }
-        ensures { IfOk result (λ text. self.now.first ≡ at → HasText (slice_get (parts self.now.id self.now.red self.now.shadow.now) 0) text) }
+        ensures { IfOk result (λ row. self.now.first ≡ at → HasBoxedRow (slice_get (parts self.now.id self.now.red self.now.shadow.now) 0) row) }
     {
         if self.first != at {
-            return Ok(OwnText::None);
+            return Ok(None);
         }
-        self.shadow.own_text()
+        self.shadow.boxed_row()
     }
 
     // Folds the part at this place on, if its home is the shard.
-    fn fold_place(&self, store: &mut Store, at: usize, place: u8, text: OwnText)
+    fn fold_place(&self, store: &mut Store, at: usize, place: u8, row: Option<Row>)
         requires at { at < self.now.shards }
         requires place { place < 3 }
         requires room { HasRoom store.old 1 }
-        requires text { home_or self.now.shards (slice_get (parts self.now.id self.now.red self.now.shadow.now) place) ≡ at → HasText (slice_get (parts self.now.id self.now.red self.now.shadow.now) place) text }
+        requires row { home_or self.now.shards (slice_get (parts self.now.id self.now.red self.now.shadow.now) place) ≡ at → HasBoxedRow (slice_get (parts self.now.id self.now.red self.now.shadow.now) place) row }
         ensures folded { held_by store.new ≡ fold_on (held_by store.old) (parts_at self.now.shards at (at_place self.now place)) }
         ensures room { (n : ℕ) → HasRoom store.old (n + 1) → HasRoom store.new n }
     {
@@ -117,32 +117,32 @@ impl<'a> MessageParts<'a> {
             entry: self.entry,
             part: place + 1,
             id: self.id,
-            effect: effect.own_with(text),
+            effect: effect.own_with(row),
         });
     }
 
-    /// Folds the parts on whose home is the shard, with that text for the row of the first.
-    pub fn fold_at(&self, store: &mut Store, at: usize, text: OwnText)
+    /// Folds the parts on whose home is the shard, with that row for the first.
+    pub fn fold_at(&self, store: &mut Store, at: usize, row: Option<Row>)
         requires at { at < self.now.shards }
         requires room { HasRoom store.old 3 }
-        requires text { self.now.first ≡ at → HasText (slice_get (parts self.now.id self.now.red self.now.shadow.now) 0) text }
+        requires row { self.now.first ≡ at → HasBoxedRow (slice_get (parts self.now.id self.now.red self.now.shadow.now) 0) row }
         ensures { held_by store.new ≡ fold_on (held_by store.old) (parts_at self.now.shards at (numbered_of self.now)) }
     {
-        self.fold_place(store, at, 0, text);
-        self.fold_place(store, at, 1, OwnText::None);
-        self.fold_place(store, at, 2, OwnText::None);
+        self.fold_place(store, at, 0, row);
+        self.fold_place(store, at, 1, None);
+        self.fold_place(store, at, 2, None);
     }
 
     // Folds the parts on whose home is the shard, if they are wanted.
-    fn fold_if(&self, store: &mut Store, at: usize, text: OwnText, wanted: bool)
+    fn fold_if(&self, store: &mut Store, at: usize, row: Option<Row>, wanted: bool)
         requires at { at < self.now.shards }
         requires room { HasRoom store.old 3 }
-        requires text { self.now.first ≡ at → HasText (slice_get (parts self.now.id self.now.red self.now.shadow.now) 0) text }
+        requires row { self.now.first ≡ at → HasBoxedRow (slice_get (parts self.now.id self.now.red self.now.shadow.now) 0) row }
         ensures wanted { wanted ≡ true → held_by store.new ≡ fold_on (held_by store.old) (parts_at self.now.shards at (numbered_of self.now)) }
         ensures unwanted { wanted ≡ false → held_by store.new ≡ held_by store.old }
     {
         if wanted {
-            self.fold_at(store, at, text);
+            self.fold_at(store, at, row);
         }
     }
 }
@@ -164,13 +164,13 @@ pub fn fold_from(
     if at == list.len() {
         return Ok(());
     }
-    let text = message.own_text(at)?;
+    let row = message.boxed_row(at)?;
     if message.next_home(at + 1) == list.len() {
-        return list[at].fold_message(message, text);
+        return list[at].fold_message(message, row);
     }
     let mut store = list[at].take_store(3)?;
     let folded = fold_from(list, message, at + 1);
-    message.fold_if(&mut store, at, text, folded.is_ok());
+    message.fold_if(&mut store, at, row, folded.is_ok());
     list[at].put_store(store);
     folded
 }

@@ -11,7 +11,7 @@ ghost use Rattle.rubis_shard.specs.Listed.{listed_of};
 ghost use Rattle.rubis_shard.specs.States.{opening_shard, with_parts, IsHomeOf, HoldsOwnRows};
 ghost use Rattle.rubis_shard.specs.Messages.{emptied, numbered_of};
 ghost use Rattle.rubis_shard.specs.Holdings.{parts_at};
-ghost use Rattle.rubis_shadow.specs.OwnTexts.{HasText};
+ghost use Rattle.rubis_shadow.specs.BoxedRows.{HasBoxedRow};
 ghost use Rattle.rubis_shadow.specs.Parts.{parts};
 ghost use Rattle.rubis_shard.specs.Stores.{held_by, HasRoom};
 
@@ -23,7 +23,7 @@ use crate::shares::Share;
 use crate::stores::Store;
 use indexmap::IndexMap;
 use rubis_schema::{CATEGORIES, CatRow, Listing, Row, RowKey, Table, shard_of};
-use rubis_shadow::{Misfit, OwnText, rows_in_order};
+use rubis_shadow::{Misfit, rows_in_order};
 use std::alloc::{AllocError, Global};
 use std::marker::Model;
 use std::mem;
@@ -171,21 +171,21 @@ impl Shard {
         }
     }
 
-    // Folds those parts of a message on whose home it is, with that text for the row of the first. Without memory nothing
+    // Folds those parts of a message on whose home it is, with that row for the first. Without memory nothing
     // changes.
     pub(crate) fn fold_message(
         &mut self,
         message: &MessageParts<'_>,
-        text: OwnText,
+        row: Option<Row>,
     ) -> Result<(), AllocError>
         requires at { self.old.number < message.now.shards }
         requires shards { message.now.shards ≡ self.old.shards }
-        requires text { message.now.first ≡ self.old.number → HasText (slice_get (parts message.now.id message.now.red message.now.shadow.now) 0) text }
+        requires row { message.now.first ≡ self.old.number → HasBoxedRow (slice_get (parts message.now.id message.now.red message.now.shadow.now) 0) row }
         ensures ok { OnOk result (self.new ≡ with_parts self.old (parts_at message.now.shards self.old.number (numbered_of message.now))) }
         ensures err { OnErr result (self.new ≡ self.old) }
     {
         self.store.make_room(3)?;
-        message.fold_at(&mut self.store, self.number, text);
+        message.fold_at(&mut self.store, self.number, row);
         Ok(())
     }
 
