@@ -60,9 +60,12 @@ fn records_of_fields(rt: HostRuntime) -> Result<(), Fail> {
 #[test]
 fn much_text_is_time_to_write(rt: HostRuntime) -> Result<(), Fail> {
     let mut sink = Sink::new(rt.alloc());
+    let mut row = Fields::new(rt.alloc());
+    row.push(b"a row of 32 bytes")?;
+    row.push(b"with its end.")?;
     assert!(rt; !sink.is_full());
     for _ in 0..4000 {
-        sink.write_row(&[b"a row of 32 bytes with its end."])?;
+        sink.write_fields(&row)?;
     }
     assert!(rt; sink.is_full());
     let mut out = Vec::new(rt.alloc());

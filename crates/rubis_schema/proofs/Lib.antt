@@ -5,3 +5,4 @@ pub mod Marks
 pub mod IdTexts
 pub mod Digits
 pub mod FieldLaws
+pub mod PlainTexts

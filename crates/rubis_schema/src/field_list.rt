@@ -1,6 +1,8 @@
 // One record: a list of fields, each of any bytes.
 
-ghost use Rattle.std.specs.Prelude.{◌≡◌, ◌==◌, ◌<◌, ◌++◌, ◌∷◌, [], IfOk, OnErr, OnOk, get_or, length, option_map, slice_get};
+ghost use Rattle.std.specs.Prelude.{◌≡◌, ◌==◌, ◌<◌, ◌+◌, ◌++◌, ◌∷◌, [], IfOk, IfSome, OnErr, OnOk, get_or, length, option_map, slice_get, true};
+ghost use Rattle.rubis_schema.specs.FieldList.{IsLaidOut, all_plain, joined, pieces};
+ghost use Rattle.rubis_schema.specs.FieldList as model;
 
 use std::alloc::{AllocError, Global};
 use std::marker::Model;
@@ -8,31 +10,70 @@ use std::marker::Model;
 /// One record, as the list of its fields. It is cleared and filled again without giving its room back.
 #[derive(Debug, Drop)]
 pub struct Fields {
-    // The bytes of all fields, one after the other.
-    bytes: Vec<u8>,
+    // The bytes of all fields, each with a comma before it.
+    text: Vec<u8>,
     // Where each field ends in them.
     ends: Vec<usize>,
+    // Whether it is known that no field calls for quotes.
+    plain: bool,
 }
 
 impl Model for Fields {
-    ghost use Rattle.std.specs.Prelude.{ℕ, List, length};
-    ghost use Rattle.rubis_schema.specs.FieldList.{Fills, pieces};
+    ghost use Rattle.std.specs.Prelude.{◌≡◌, ℕ, List, true};
+    ghost use Rattle.rubis_schema.specs.FieldList.{IsLaidOut, all_plain, pieces};
 
     ghost Value = { List (List ℕ) };
 
-    ghost view = { λ f. pieces 0 f.ends.items f.bytes.items };
+    ghost view = { λ f. pieces 0 f.ends.items f.text.items };
 
-    ghost invariant = { λ f. Fills 0 f.ends.items (length f.bytes.items) };
+    ghost invariant = { λ f. IsLaidOut f.ends.items f.text.items × (f.plain ≡ true → all_plain (pieces 0 f.ends.items f.text.items) ≡ true) };
 }
 
 // Where the field at this place starts and ends.
 fn span(ends: &[usize], place: usize) -> (usize, usize)
-    requires { place < length ends.now }
-    ensures start { result.0 ≡ get_or (0 ∷ ends.now) place 0 }
+    requires place { place < length ends.now }
+    requires order { get_or (0 ∷ ends.now) place 0 < get_or ends.now place 0 }
+    ensures start { result.0 ≡ get_or (0 ∷ ends.now) place 0 + 1 }
     ensures end { result.1 ≡ get_or ends.now place 0 }
 {
-    let start = if place == 0 { 0 } else { ends[place - 1] };
-    (start, ends[place])
+    let before = if place == 0 { 0 } else { ends[place - 1] };
+    (before + 1, ends[place])
+}
+
+// Whether a byte of a field calls for quotes where fields are separated by commas.
+fn is_mark(byte: u8) -> bool
+    ensures { result ≡ model.is_mark byte }
+{
+    byte == b',' || byte == b'"' || byte == b'\r' || byte == b'\n'
+}
+
+/// Whether a field calls for no quotes where fields are separated by commas: whether it has no comma, no quote and no line end.
+pub fn is_plain(field: &[u8]) -> bool
+    ensures { result ≡ model.is_plain field.now }
+{
+    for byte in field {
+        if is_mark(*byte) {
+            return false;
+        }
+    }
+    true
+}
+
+// Adds a field at the end. Without memory for it nothing changes.
+fn add(text: &mut Vec<u8>, ends: &mut Vec<usize>, field: &[u8]) -> Result<(), AllocError>
+    requires { IsLaidOut ends.old.items text.old.items }
+    ensures laid { OnOk result (IsLaidOut ends.new.items text.new.items) }
+    ensures ok { OnOk result (pieces 0 ends.new.items text.new.items ≡ pieces 0 ends.old.items text.old.items ++ field.now ∷ []) }
+    ensures err { OnErr result ((ends.new.items ≡ ends.old.items) × (text.new.items ≡ text.old.items)) }
+{
+    ends.reserve(1)?;
+    text.reserve(field.len() + 1)?;
+    text.push_reserved(b',');
+    let Ok(()) = text.extend_from_slice(field) else {
+        unreachable!()
+    };
+    ends.push_reserved(text.len());
+    Ok(())
 }
 
 impl Fields {
@@ -41,8 +82,9 @@ impl Fields {
         ensures { result ≡ [] }
     {
         Fields {
-            bytes: Vec::new(alloc),
+            text: Vec::new(alloc),
             ends: Vec::new(alloc),
+            plain: true,
         }
     }
 
@@ -51,10 +93,41 @@ impl Fields {
         ensures ok { OnOk result (self.new ≡ self.old ++ field.now ∷ []) }
         ensures err { OnErr result (self.new ≡ self.old) }
     {
-        self.ends.reserve(1)?;
-        self.bytes.extend_from_slice(field)?;
-        self.ends.push_reserved(self.bytes.len());
+        let plain = self.plain && is_plain(field);
+        add(&mut self.text, &mut self.ends, field)?;
+        self.plain = plain;
         Ok(())
+    }
+
+    /// Adds a field that calls for no quotes at the end. Without memory for it the record stays as it was.
+    pub fn push_plain(&mut self, field: &[u8]) -> Result<(), AllocError>
+        requires { model.is_plain field.now ≡ true }
+        ensures ok { OnOk result (self.new ≡ self.old ++ field.now ∷ []) }
+        ensures err { OnErr result (self.new ≡ self.old) }
+    {
+        add(&mut self.text, &mut self.ends, field)
+    }
+
+    /// Adds a field of a record that is read, and so not to be written, at the end: it isn't looked at. Without memory for it the
+    /// record stays as it was.
+    pub fn push_read(&mut self, field: &[u8]) -> Result<(), AllocError>
+        ensures ok { OnOk result (self.new ≡ self.old ++ field.now ∷ []) }
+        ensures err { OnErr result (self.new ≡ self.old) }
+    {
+        self.plain = false;
+        add(&mut self.text, &mut self.ends, field)
+    }
+
+    /// All fields, each with a comma before it, where it is known that none of them calls for quotes.
+    pub fn plain_text(&self) -> Option<&[u8]>
+        ensures text { IfSome result (λ text. text.now ≡ joined self.now) }
+        ensures plain { IfSome result (λ text. all_plain self.now ≡ true) }
+    {
+        if self.plain {
+            Some(self.text.as_slice())
+        } else {
+            None
+        }
     }
 
     /// How many fields there are.
@@ -79,25 +152,27 @@ impl Fields {
             return None;
         }
         let (start, end) = span(self.ends.as_slice(), place);
-        Some(&self.bytes.as_slice()[start..end])
+        Some(&self.text.as_slice()[start..end])
     }
 
     /// Takes all fields away, and keeps the room that they had.
     pub fn clear(&mut self)
         ensures { self.new ≡ [] }
     {
-        self.bytes.clear();
+        self.text.clear();
         self.ends.clear();
+        self.plain = true;
     }
 
     /// The same fields once more.
     pub fn copy(&self) -> Result<Fields, AllocError>
         ensures { IfOk result (λ same. same ≡ self.now) }
     {
-        let alloc = *self.bytes.allocator();
+        let alloc = *self.text.allocator();
         Ok(Fields {
-            bytes: Vec::from_slice(alloc, self.bytes.as_slice())?,
+            text: Vec::from_slice(alloc, self.text.as_slice())?,
             ends: Vec::from_slice(alloc, self.ends.as_slice())?,
+            plain: self.plain,
         })
     }
 }

@@ -1,4 +1,5 @@
-ghost use Rattle.std.specs.Prelude.{◌≡◌, ◌++◌, ◌∷◌, [], IfOk, OnErr, OnOk};
+ghost use Rattle.std.specs.Prelude.{◌≡◌, ◌++◌, ◌∷◌, [], IfOk, OnErr, OnOk, true};
+ghost use Rattle.rubis_schema.specs.FieldList.{is_plain};
 ghost use Rattle.rubis_schema.specs.FieldForms.{id_of};
 ghost use Rattle.rubis_schema.specs.Ids.{id_text};
 
@@ -35,7 +36,8 @@ impl Id {
     }
 
     fn text(&self) -> ShortText<ID_TEXT_MAX>
-        ensures { result ≡ id_text self.now }
+        ensures value { result ≡ id_text self.now }
+        ensures plain { is_plain result ≡ true }
     {
         let mut text = ShortText::new();
         text.put_number(self.seq);
@@ -56,6 +58,6 @@ impl Id {
         ensures ok { OnOk result (fields.new ≡ fields.old ++ id_text self.now ∷ []) }
         ensures err { OnErr result (fields.new ≡ fields.old) }
     {
-        fields.push(self.text().as_bytes())
+        fields.push_plain(self.text().as_bytes())
     }
 }

@@ -21,7 +21,7 @@ mod texts;
 mod views;
 
 pub use boxed::Boxed;
-pub use field_list::Fields;
+pub use field_list::{Fields, is_plain};
 pub use homes::shard_of;
 pub use ids::Id;
 pub use laws::fields_have_one_reading;

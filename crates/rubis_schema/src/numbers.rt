@@ -62,12 +62,13 @@ pub fn read_rating(bytes: &[u8]) -> Option<i8>
 }
 
 /// Adds a number as a field. Without memory for it the record stays as it was.
+#[tactic(auto, using(crate::proofs::PlainTexts::decimal_plain))]
 pub fn push_number(fields: &mut Fields, number: u64) -> Result<(), AllocError>
     ensures ok { OnOk result (fields.new ≡ fields.old ++ decimal number ∷ []) }
     ensures err { OnErr result (fields.new ≡ fields.old) }
 {
     let mut digits = Buffer::new();
-    fields.push(digits.format(number).as_bytes())
+    fields.push_plain(digits.format(number).as_bytes())
 }
 
 /// Adds a number, with `-` in front where it is below 0, as a field. Without memory for it the record stays as it was.

@@ -1,4 +1,5 @@
-ghost use Rattle.std.specs.Prelude.{◌≡◌, ◌≤◌, ◌<◌, ◌+◌, [], ◌∷◌, ◌++◌, decimal, length};
+ghost use Rattle.std.specs.Prelude.{◌≡◌, ◌≤◌, ◌<◌, ◌+◌, [], ◌∷◌, ◌++◌, decimal, length, true};
+ghost use Rattle.rubis_schema.specs.FieldList.{is_plain};
 
 use itoa::write_digits;
 use std::marker::Model;
@@ -42,11 +43,13 @@ impl<const N: usize> ShortText<N> {
         self.bytes[self.start] = byte;
     }
 
-    /// Puts the digits of a number first.
+    /// Puts the digits of a number first, none of which calls for quotes.
+    #[tactic(auto, using(crate::proofs::PlainTexts::decimal_plain))]
     pub fn put_number(&mut self, number: u32)
         requires { length self.old + 10 ≤ N }
         ensures text { self.new ≡ decimal number ++ self.old }
         ensures short { length self.new ≤ length self.old + 10 }
+        ensures plain { is_plain (decimal number) ≡ true }
     {
         self.start = write_digits(u64::from(number), &mut self.bytes, self.start);
     }

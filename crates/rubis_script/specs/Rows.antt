@@ -1,8 +1,11 @@
--- A row on its way into a writer.
-use Rattle.std.specs.Prelude.{◌≡◌, ◌==◌, ◌||◌, ◌&&◌, ◌++◌, ◌-◌, ◌^◌, ℕ, List, length, min, not}
+-- A row on its way into a writer or a text.
+use Rattle.std.specs.Prelude.{◌≡◌, ◌==◌, ◌||◌, ◌&&◌, ◌++◌, ◌∷◌, [], ◌-◌, ◌^◌, ℕ, List, drop, length, min, not}
+use Rattle.std.specs.List.{flat_map}
 use Rattle.std.proofs.Common.{Vec, Global}
 use Rattle.csv.specs.Writing.{fields_written, has_written, is_blank, row_body, writer_pending, writer_setup, writer_under}
 use Rattle.csv.specs.declared.writer.Writer.{Writer}
+use Rattle.csv.specs.Machine.{line_feed}
+use Rattle.rubis_schema.specs.FieldList.{comma}
 use Rattle.rubis_script.specs.Text.{plain_writer}
 
 -- the text that a writer holds
@@ -15,3 +18,11 @@ pub record Begun (start : List ℕ) (w : Writer (Vec ℕ Global)) (fields : List
   pub text : held w ≡ start ++ row_body plain_writer fields
   pub count : fields_written w ≡ min (length fields) (2 ^ 64 - 1)
   pub blank : is_blank plain_writer fields ≡ (not (has_written w) && ((length fields == 0) || (length fields == 1)))
+
+-- fields with a comma behind each
+abbrev pub front_text : List (List ℕ) → List ℕ
+front_text first = flat_map (λ field. field ++ comma ∷ []) first
+
+-- the row of these fields and of those of a text, in which each has a comma before it
+abbrev pub plain_row : List (List ℕ) → List ℕ → List ℕ
+plain_row first text = front_text first ++ (drop 1 text ++ line_feed ∷ [])

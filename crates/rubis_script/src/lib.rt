@@ -4,6 +4,7 @@
 mod desk;
 mod fault;
 mod meter;
+mod quoted_rows;
 mod record_list;
 mod replies;
 mod run;

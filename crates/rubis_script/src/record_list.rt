@@ -27,7 +27,7 @@ fn refill(fields: &mut Fields, row: &ByteRecord) -> Result<(), AllocError>
     fields.clear();
     for place in 0..row.len() {
         if let Some(field) = row.get(place) {
-            fields.push(field)?;
+            fields.push_read(field)?;
         }
     }
     Ok(())

@@ -1,110 +1,89 @@
 // The text of rows, on its way to a writer.
 
-ghost use Rattle.std.specs.Prelude.{◌≡◌, ◌≤◌, ◌++◌, ◌∷◌, ◌⊎◌, [], IfErr, IfOk, IsErrOf, ℕ, List, OnErr, OnOk, false, length, map, true};
+ghost use Rattle.std.specs.Prelude.{◌≡◌, ◌<◌, ◌≤◌, ◌++◌, [], IfErr, IfSome, OnErr, OnOk, length, map, true};
 ghost use Rattle.std.specs.Io.KnownBytes.{Appends};
-ghost use Rattle.csv.specs.Writing.{fields_written, has_written, row_text, writer_setup};
-ghost use Rattle.rubis_script.specs.Rows.{Begun, held};
+ghost use Rattle.csv.specs.Writing.{row_text};
+ghost use Rattle.rubis_schema.specs.FieldList.{all_plain};
+ghost use Rattle.rubis_script.specs.Rows.{front_text, plain_row};
 ghost use Rattle.rubis_script.specs.Text.{plain_writer};
 
 use super::fault::RunFault;
-use csv::{Writer, WriterBuilder};
+use super::quoted_rows::quoted_row;
 use rubis_listing::RowSink;
-use rubis_schema::Fields;
+use rubis_schema::{Fields, is_plain};
 use std::alloc::{AllocError, Global};
 use std::io::Write;
 use std::marker::Model;
-use std::mem;
 
 // So many bytes of text are written out at once.
 const CHUNK: usize = 65_536;
 
-/// The text of rows that waits to be written.
+/// The text of rows that waits to be written. It is emptied without giving its room back.
 #[derive(Drop)]
 pub struct Sink {
-    rows: Writer<Vec<u8>>,
-    alloc: Global,
+    text: Vec<u8>,
 }
 
 impl Model for Sink {
-    ghost use Rattle.std.specs.Prelude.{ℕ, List, ◌≡◌, false};
-    ghost use Rattle.csv.specs.Writing.{fields_written, has_written, writer_setup};
-    ghost use Rattle.rubis_script.specs.Rows.{held};
-    ghost use Rattle.rubis_script.specs.Text.{plain_writer};
+    ghost use Rattle.std.specs.Prelude.{ℕ, List};
 
     ghost Value = { List ℕ };
 
-    ghost view = { λ s. held s.rows };
-
-    ghost invariant = { λ s. (writer_setup s.rows ≡ plain_writer) × (fields_written s.rows ≡ 0) × (has_written s.rows ≡ false) };
+    ghost view = { λ s. s.text.items };
 }
 
-// Takes all text away.
-#[cold]
-#[inline(never)]
-fn reset(rows: &mut Writer<Vec<u8>>, alloc: Global)
-    ensures text { held rows.new ≡ [] }
-    ensures setup { writer_setup rows.new ≡ plain_writer }
-    ensures fields { fields_written rows.new ≡ 0 }
-    ensures wrote { has_written rows.new ≡ false }
-{
-    *rows = WriterBuilder::new()
-        .flexible(true)
-        .from_writer(Vec::new(alloc));
-}
-
-// Goes on with a row by one field.
-fn put_field(rows: &mut Writer<Vec<u8>>, field: &[u8]) -> Result<(), AllocError>
-    ensures { OnOk result ((start : List ℕ) (done : List (List ℕ)) → Begun start rows.old done → Begun start rows.new (done ++ field.now ∷ [])) }
-{
-    if rows.write_field(field).is_err() {
-        return Err(AllocError);
-    }
-    Ok(())
-}
-
-// Goes on with a row by these fields.
-fn put_slices(rows: &mut Writer<Vec<u8>>, fields: &[&[u8]]) -> Result<(), AllocError>
-    ensures { OnOk result ((start : List ℕ) (done : List (List ℕ)) → Begun start rows.old done → Begun start rows.new (done ++ map (λ f. f.now) fields.now)) }
+// Whether none of these fields calls for quotes.
+fn are_plain(fields: &[&[u8]]) -> bool
+    ensures { result ≡ all_plain (map (λ f. f.now) fields.now) }
 {
     for field in fields {
-        put_field(rows, field)?;
-    }
-    Ok(())
-}
-
-// Goes on with a row by the fields of a record.
-fn put_fields(rows: &mut Writer<Vec<u8>>, fields: &Fields) -> Result<(), AllocError>
-    ensures { OnOk result ((start : List ℕ) (done : List (List ℕ)) → Begun start rows.old done → Begun start rows.new (done ++ fields.now)) }
-{
-    for place in 0..fields.len() {
-        if let Some(field) = fields.field(place) {
-            put_field(rows, field)?;
+        if !is_plain(field) {
+            return false;
         }
     }
+    true
+}
+
+// The fields of a record, each with a comma before it, if they make a plain row behind those of `first`: if no field calls for
+// quotes, and there is more than one.
+fn plain_text<'a>(first: &[&[u8]], fields: &'a Fields) -> Option<&'a [u8]>
+    ensures row { IfSome result (λ text. row_text plain_writer (map (λ f. f.now) first.now ++ fields.now) ≡ plain_row (map (λ f. f.now) first.now) text.now) }
+    ensures some { IfSome result (λ text. 0 < length text.now) }
+{
+    if fields.len() < 2 || !are_plain(first) {
+        return None;
+    }
+    fields.plain_text()
+}
+
+// Adds fields with a comma behind each.
+fn push_first(text: &mut Vec<u8>, first: &[&[u8]]) -> Result<(), AllocError>
+    ensures { OnOk result (text.new.items ≡ text.old.items ++ front_text (map (λ f. f.now) first.now)) }
+{
+    for field in first {
+        text.extend_from_slice(field)?;
+        text.push(b',')?;
+    }
     Ok(())
 }
 
-// Ends a row.
-fn end_row(rows: &mut Writer<Vec<u8>>) -> Result<(), AllocError>
-    ensures text { OnOk result ((start : List ℕ) (done : List (List ℕ)) → Begun start rows.old done → held rows.new ≡ start ++ row_text plain_writer done) }
-    ensures setup { OnOk result (writer_setup rows.new ≡ writer_setup rows.old) }
-    ensures fields { OnOk result (fields_written rows.new ≡ 0) }
-    ensures wrote { OnOk result (has_written rows.new ≡ false) }
+// Adds a plain row.
+fn push_plain(text: &mut Vec<u8>, first: &[&[u8]], plain: &[u8]) -> Result<(), AllocError>
+    requires { 0 < length plain.now }
+    ensures { OnOk result (text.new.items ≡ text.old.items ++ plain_row (map (λ f. f.now) first.now) plain.now) }
 {
-    match rows.end_record() {
-        Ok(()) => Ok(()),
-        Err(_) => Err(AllocError),
-    }
+    push_first(text, first)?;
+    text.extend_from_slice(&plain[1..])?;
+    text.push(b'\n')?;
+    Ok(())
 }
 
-// Writes a row that begins with `first` and goes on with the fields of a record.
-fn put_row(rows: &mut Writer<Vec<u8>>, first: &[&[u8]], fields: &Fields) -> Result<(), AllocError>
-    ensures { OnOk result ((start : List ℕ) → Begun start rows.old [] → (held rows.new ≡ start ++ row_text plain_writer (map (λ f. f.now) first.now ++ fields.now))
-        × (writer_setup rows.new ≡ plain_writer) × (fields_written rows.new ≡ 0) × (has_written rows.new ≡ false)) }
+// Adds a row in which some field calls for quotes.
+fn push_quoted(text: &mut Vec<u8>, first: &[&[u8]], fields: &Fields) -> Result<(), AllocError>
+    ensures { OnOk result (text.new.items ≡ text.old.items ++ row_text plain_writer (map (λ f. f.now) first.now ++ fields.now)) }
 {
-    put_slices(rows, first)?;
-    put_fields(rows, fields)?;
-    end_row(rows)
+    let row = quoted_row(*text.allocator(), first, fields)?;
+    text.extend_from_slice(row.as_slice())
 }
 
 impl Sink {
@@ -113,23 +92,8 @@ impl Sink {
         ensures { result ≡ [] }
     {
         Sink {
-            rows: WriterBuilder::new()
-                .flexible(true)
-                .from_writer(Vec::new(alloc)),
-            alloc,
+            text: Vec::new(alloc),
         }
-    }
-
-    /// Adds a row of these fields. Without memory for it no text is left.
-    pub fn write_row(&mut self, fields: &[&[u8]]) -> Result<(), AllocError>
-        ensures ok { OnOk result (self.new ≡ self.old ++ row_text plain_writer (map (λ f. f.now) fields.now)) }
-        ensures err { OnErr result (self.new ≡ []) }
-    {
-        if self.rows.write_fields(fields).is_err() {
-            reset(&mut self.rows, self.alloc);
-            return Err(AllocError);
-        }
-        Ok(())
     }
 
     /// Adds a record as a row. Without memory for it no text is left.
@@ -146,58 +110,50 @@ impl Sink {
         ensures ok { OnOk result (self.new ≡ self.old ++ row_text plain_writer (map (λ f. f.now) first.now ++ fields.now)) }
         ensures err { OnErr result (self.new ≡ []) }
     {
-        if put_row(&mut self.rows, first, fields).is_err() {
-            reset(&mut self.rows, self.alloc);
-            return Err(AllocError);
+        let added = match plain_text(first, fields) {
+            Some(text) => push_plain(&mut self.text, first, text),
+            None => push_quoted(&mut self.text, first, fields),
+        };
+        if added.is_err() {
+            self.text.clear();
         }
-        Ok(())
+        added
     }
 
-    /// Adds all text of another. Without memory for it no text is left.
+    /// Adds all text of another. Without memory for it the text stays as it was.
     pub fn append(&mut self, more: Sink) -> Result<(), AllocError>
         ensures ok { OnOk result (self.new ≡ self.old ++ more) }
-        ensures err { OnErr result (self.new ≡ []) }
+        ensures err { OnErr result (self.new ≡ self.old) }
     {
-        let front = mem::replace(self, Sink::new(self.alloc));
-        let mut text = front.into_text()?;
-        text.extend_from_slice(more.into_text()?.as_slice())?;
-        self.rows = WriterBuilder::new().flexible(true).from_writer(text);
-        Ok(())
+        self.text.extend_from_slice(more.text.as_slice())
     }
 
     /// Another one, with no text.
     pub fn another(&self) -> Sink
         ensures { result ≡ [] }
     {
-        Sink::new(self.alloc)
+        Sink::new(*self.text.allocator())
     }
 
     /// Whether there is so much text, of 64 KiB or more, that it is time to write it out.
     pub fn is_full(&self) -> bool
         ensures { result ≡ true → 65536 ≤ length self.now }
     {
-        self.rows.get_ref().len() >= CHUNK
+        self.text.len() >= CHUNK
     }
 
-    /// Writes all text out, and is empty then; it keeps the room that the text had.
+    /// Writes all text out, and is empty then.
     ///
     /// # Errors
     ///
-    /// `Write` where the writer failed, and `Memory` where there was not enough; then nothing was written.
-    #[inline(never)]
+    /// `Write` where the writer failed.
     pub fn drain<W: Write>(&mut self, writer: &mut W) -> Result<(), RunFault>
         ensures ok { OnOk result (Appends (W.contents writer.old) (W.contents writer.new) self.old) }
         ensures empty { self.new ≡ [] }
-        ensures memory { IsErrOf result RunFault.Memory → W.contents writer.new ≡ W.contents writer.old }
-        ensures faults { IfErr result (λ e. (e ≡ RunFault.Write) ⊎ (e ≡ RunFault.Memory)) }
+        ensures faults { IfErr result (λ e. e ≡ RunFault.Write) }
     {
-        let full = mem::replace(self, Sink::new(self.alloc));
-        let Ok(mut text) = full.into_text() else {
-            return Err(RunFault::Memory);
-        };
-        let written = writer.write_all(text.as_slice());
-        text.clear();
-        self.rows = WriterBuilder::new().flexible(true).from_writer(text);
+        let written = writer.write_all(self.text.as_slice());
+        self.text.clear();
         match written {
             Ok(()) => Ok(()),
             Err(_) => Err(RunFault::Write),
@@ -208,12 +164,11 @@ impl Sink {
     ///
     /// # Errors
     ///
-    /// `Write` where the writer failed, and `Memory` where there was not enough; then nothing was written.
+    /// `Write` where the writer failed.
     pub fn close<W: Write>(&mut self, writer: &mut W) -> Result<(), RunFault>
         ensures ok { OnOk result (Appends (W.contents writer.old) (W.contents writer.new) self.old) }
         ensures empty { self.new ≡ [] }
-        ensures memory { IsErrOf result RunFault.Memory → W.contents writer.new ≡ W.contents writer.old }
-        ensures faults { IfErr result (λ e. (e ≡ RunFault.Write) ⊎ (e ≡ RunFault.Memory)) }
+        ensures faults { IfErr result (λ e. e ≡ RunFault.Write) }
     {
         if let Err(fault) = self.drain(writer) {
             return Err(fault);
@@ -221,15 +176,6 @@ impl Sink {
         match writer.flush() {
             Ok(()) => Ok(()),
             Err(_) => Err(RunFault::Write),
-        }
-    }
-
-    fn into_text(self) -> Result<Vec<u8>, AllocError>
-        ensures { IfOk result (λ text. text.items ≡ self) }
-    {
-        match self.rows.into_inner() {
-            Ok(text) => Ok(text),
-            Err(_) => Err(AllocError),
         }
     }
 }

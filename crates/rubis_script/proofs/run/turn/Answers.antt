@@ -25,15 +25,6 @@ returns-in-Ok-close-clause-goes g c all old input p =
     let answered = rw (c.fields.ensures, ends) at c.in-Ok.ensures in
     progress-ended _ _ c.next_record.new.records all _ (g.S.Service.account c.answer.new.self (n + 1)) old _ _ _ c.answer.new.sink n input moved found answered c.in-Ok-close.ensures.ok
 
-pub returns-in-Err-close-clause-memory : goal.returns-in-Err-close-clause-memory
-returns-in-Err-close-clause-memory g c e all old input p =
-    let n = c.args.answered + 1 in
-    let same = if_none c.in-Ok-None.field-0 c.in-Ok-None.ensures.same c.in-Ok-None.field-0-is in
-    let memory : c.in-Err-close.fault ≡ fault.Memory = cc e in
-    let moved = progress-moved _ c.args.records.now all _ (g.S.Service.account c.next_record.new.service n) old _ (g.W.Write.contents c.next_record.new.writer) _ c.next_record.new.sink n input p
-    (ap (λ s. g.S.Service.account s n) same.0) (ap g.W.Write.contents same.2) same.1 in
-    progress-stays _ _ all _ old _ _ _ n input moved (c.in-Err-close.ensures.memory (rw memory refl))
-
 pub returns-in-Ok-write_out-clause-goes : goal.returns-in-Ok-write_out-clause-goes
 returns-in-Ok-write_out-clause-goes g c all old input p =
     let n = c.args.answered + 1 in

@@ -1,8 +1,8 @@
 use Rattle.std.proofs.Common.{◌∙◌, ◌++◌, ◌∷◌, [], ap, append_assoc, subst, sym, take}
 use Rattle.rubis_script.specs.Rows.{Begun}
 use Rattle.rubis_script.proofs.ListFacts.{take-next, take-none}
-use Rattle.rubis_script.proofs.sink.put_fields.Goals.{in-Some+in_ok-put_field, in_default}
-use Rattle.rubis_script.proofs.sink.put_fields.Goals as goal
+use Rattle.rubis_script.proofs.quoted_rows.put_fields.Goals.{in-Some+in_ok-put_field, in_default}
+use Rattle.rubis_script.proofs.quoted_rows.put_fields.Goals as goal
 
 pub loop-place-preserved : goal.loop-place-preserved
 loop-place-preserved c start done h =

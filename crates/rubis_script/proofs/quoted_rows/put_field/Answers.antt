@@ -4,7 +4,7 @@ use Rattle.csv.proofs.ReadFacts.{on-ok}
 use Rattle.csv.specs.Writing.{writer_setup}
 use Rattle.csv.specs.declared.writer.QuoteStyle.TheVariants as style
 use Rattle.rubis_script.proofs.RowFacts.{begun-more}
-use Rattle.rubis_script.proofs.sink.put_field.Goals as goal
+use Rattle.rubis_script.proofs.quoted_rows.put_field.Goals as goal
 
 pub returns : goal.returns
 returns c start done h =

@@ -1,6 +1,6 @@
 use Rattle.std.proofs.Common.{◌∙◌, []}
 use Rattle.rubis_script.proofs.RowFacts.{on_ok_four}
-use Rattle.rubis_script.proofs.sink.put_row.Goals as goal
+use Rattle.rubis_script.proofs.quoted_rows.put_row.Goals as goal
 
 pub returns : goal.returns
 returns c =

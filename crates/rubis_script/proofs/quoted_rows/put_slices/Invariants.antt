@@ -1,6 +1,6 @@
 use Rattle.std.proofs.Common.{◌++◌, ℕ, List, map, take}
 use Rattle.rubis_script.specs.Rows.{Begun}
-use Rattle.rubis_script.proofs.sink.put_slices.Given as goal
+use Rattle.rubis_script.proofs.quoted_rows.put_slices.Given as goal
 
 abbrev pub invariant-loop-field : goal.invariant-loop-field
 invariant-loop-field l = (start : List ℕ) (done : List (List ℕ)) → Begun start l.fn.rows done
