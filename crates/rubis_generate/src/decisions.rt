@@ -4,7 +4,9 @@ ghost use Rattle.rubis_generate.specs.Lookup.{rows_of, user_in, item_in, is_ende
 ghost use Rattle.rubis_generate.specs.Decision.{decision};
 
 use crate::standing::Standing;
-use rubis_schema::{Boxed, CommentRow, Id, ItemRow, Nick, PurchaseRow, Refusal, Row, RowKey, Sale, View};
+use rubis_schema::{
+    Boxed, CommentRow, Id, ItemRow, Nick, PurchaseRow, Refusal, Row, RowKey, Sale, View,
+};
 use rubis_shadow::{Ask, AskedClose, NewBid, NewClose, NewItem, Shadow};
 
 // Whether the id has a user's row.
@@ -55,7 +57,11 @@ fn decide_user<V: View>(nick: Nick, view: &V, standing: &Standing) -> Result<Sha
     Ok(Shadow::User(nick))
 }
 
-fn decide_item<V: View>(item: Boxed<NewItem>, view: &V, standing: &Standing) -> Result<Shadow, Refusal>
+fn decide_item<V: View>(
+    item: Boxed<NewItem>,
+    view: &V,
+    standing: &Standing,
+) -> Result<Shadow, Refusal>
     ensures { result ≡ decision (rows_of (V.tables view.now)) standing.now (Ask.Item item) }
 {
     if standing.full {
