@@ -31,6 +31,7 @@ pub enum Shown {
 }
 
 /// Whether the field is this word.
+#[inline(always)]
 pub fn says(field: &[u8], word: &[u8]) -> bool
     ensures { result ≡ bytes_eq field.now word.now }
 {

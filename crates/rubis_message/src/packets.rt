@@ -76,6 +76,7 @@ impl<'a> Reader<'a> {
 
     /// A message, in that version.
     #[tactic(auto, unfolding(crate::specs::Readings::take_message))]
+    #[inline(always)]
     fn message(&mut self, alloc: Global, sites: u8, version: &[u8]) -> Result<Message, ReadFault>
         requires { sites ≤ COUNTED_MAX }
         ensures { Takes (take_message sites version.now) self.old self.new result }
@@ -111,6 +112,7 @@ impl<'a> Reader<'a> {
 
     /// A packet.
     #[tactic(auto, unfolding(crate::specs::Readings::take_packet))]
+    #[inline(always)]
     fn packet(&mut self, alloc: Global, sites: u8) -> Result<Packet, ReadFault>
         requires { sites ≤ COUNTED_MAX }
         ensures { Takes (take_packet sites) self.old self.new result }
@@ -130,6 +132,7 @@ impl<'a> Reader<'a> {
 /// Reads a packet to a site among so many. `BadRecord` only where no packet is written so; `Memory` where there is
 /// none for a name or a text.
 #[tactic(auto, unfolding(crate::specs::Readings::packet_of))]
+#[inline(always)]
 pub fn read_packet(alloc: Global, fields: &Fields, sites: u8) -> Result<Packet, ReadFault>
     requires { sites ≤ COUNTED_MAX }
     ensures ok { IfOk result (λ p. IsPacket sites p × (fields.now ≡ packet_record p)) }

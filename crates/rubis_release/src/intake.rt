@@ -127,6 +127,7 @@ impl Intake {
     ///
     /// A message that says that this site made it, and it didn't, is refused, and one that comes where the site is
     /// full. One that came before is a repeat. After an error nothing has changed.
+    #[inline(always)]
     pub fn arrive(&mut self, message: Message) -> Result<Arrival, IntakeFault>
         requires { sites_of message ≡ self.old.place.sites }
         ensures place { self.new.place ≡ self.old.place }
@@ -195,6 +196,7 @@ impl Intake {
     }
 
     // Puts a new message last among those that wait, and releases what is ready; how many were released.
+    #[inline(always)]
     fn take_in(&mut self, message: Message) -> Result<u32, AllocError>
         requires site { IsAmong self.old.place.sites message }
         requires new { IsAdmitted self.old.place self.old.state message }

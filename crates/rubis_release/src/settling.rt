@@ -38,6 +38,7 @@ fn is_ready(clock: &Clock, message: &Message) -> bool
 
 // Takes a message in where none that waits is ready: one that is ready is released, and then what else is, and one that
 // isn't waits behind the others. Without memory nothing has changed.
+#[inline(always)]
 pub fn take_in(
     log: &mut Vec<Message>,
     waiting: &mut Waiting,
@@ -65,6 +66,7 @@ pub fn take_in(
 }
 
 // Releases a message where none that waits is ready, and then what else is. Without memory nothing has changed.
+#[inline(always)]
 pub fn release(
     log: &mut Vec<Message>,
     waiting: &mut Waiting,

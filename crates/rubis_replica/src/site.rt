@@ -132,6 +132,7 @@ impl<G: Gate> Site<G> {
     }
 
     /// Takes a message in that arrived from another site; all that is ready then is released.
+    #[inline(always)]
     pub fn arrive<R: Threads + Wait + Sync>(
         &mut self,
         rt: &R,

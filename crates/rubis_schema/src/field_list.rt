@@ -60,6 +60,7 @@ pub fn is_plain(field: &[u8]) -> bool
 }
 
 // Adds a field at the end. Without memory for it nothing changes.
+#[inline(always)]
 fn add(text: &mut Vec<u8>, ends: &mut Vec<usize>, field: &[u8]) -> Result<(), AllocError>
     requires { IsLaidOut ends.old.items text.old.items }
     ensures laid { OnOk result (IsLaidOut ends.new.items text.new.items) }
@@ -100,6 +101,7 @@ impl Fields {
     }
 
     /// Adds a field that calls for no quotes at the end. Without memory for it the record stays as it was.
+    #[inline(always)]
     pub fn push_plain(&mut self, field: &[u8]) -> Result<(), AllocError>
         requires { model.is_plain field.now ≡ true }
         ensures ok { OnOk result (self.new ≡ self.old ++ field.now ∷ []) }
@@ -110,6 +112,7 @@ impl Fields {
 
     /// Adds a field of a record that is read, and so not to be written, at the end: it isn't looked at. Without memory for it the
     /// record stays as it was.
+    #[inline(always)]
     pub fn push_read(&mut self, field: &[u8]) -> Result<(), AllocError>
         ensures ok { OnOk result (self.new ≡ self.old ++ field.now ∷ []) }
         ensures err { OnErr result (self.new ≡ self.old) }

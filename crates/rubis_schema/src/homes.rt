@@ -22,6 +22,7 @@ fn byte_sum(nick: &Nick) -> u64
 }
 
 // The place of an id in a table, before it is brought below the number of shards.
+#[inline(always)]
 fn id_sum(table: u64, id: Id) -> u64
     requires { table < 7 }
     ensures { result ≡ table * 7 + id.site * 31 + id.seq }
@@ -31,6 +32,7 @@ fn id_sum(table: u64, id: Id) -> u64
 
 /// The home shard of a key, of so many shards.
 #[tactic(auto, unfolding(crate::specs::Keys::home))]
+#[inline(always)]
 pub fn shard_of(key: &RowKey, shards: usize) -> usize
     requires { 0 < shards }
     ensures home { result ≡ home shards key.now }

@@ -66,6 +66,7 @@ pub fn key_cmp(a: &RowKey, b: &RowKey) -> Ordering
     }
 }
 
+#[inline(always)]
 fn same_key(a: &RowKey, b: &RowKey) -> bool
     ensures { result ≡ key_eq a.now b.now }
 {
@@ -82,6 +83,7 @@ fn same_key(a: &RowKey, b: &RowKey) -> bool
 }
 
 // The place of a key's table in the order of keys.
+#[inline(always)]
 fn table_number(key: &RowKey) -> u8
     ensures { result ≡ table_of key.now }
 {

@@ -116,6 +116,7 @@ fn answer_request<G: Gate, R: Threads + Wait + Sync>(
 }
 
 // Answers a message that arrives.
+#[inline(always)]
 fn answer_message<G: Gate, R: Threads + Wait + Sync>(
     rt: &R,
     site: &mut Site<G>,
@@ -150,6 +151,7 @@ fn answer_token<G: Gate>(
 }
 
 // Answers a packet.
+#[inline(always)]
 fn answer_packet<G: Gate, R: Threads + Wait + Sync>(
     rt: &R,
     site: &mut Site<G>,
@@ -178,6 +180,7 @@ enum Input {
 
 // Reads what a record is. No record is both a request and a packet, and most records of a busy site are packets.
 #[tactic(auto, using(crate::proofs::OneReading::came))]
+#[inline(always)]
 fn read_input(alloc: Global, fields: &Fields, sites: u8) -> Result<Input, AllocError>
     requires { sites ≤ 16 }
     ensures { IfOk result (λ input. IsRead sites fields.now input) }

@@ -21,6 +21,7 @@ fn can_be_bid_for(sale: &Sale) -> bool
 }
 
 #[tactic(auto, unfolding(crate::specs::Changes::change_row))]
+#[inline(always)]
 fn alter_user(change: &Change, user: &mut UserRow) -> Option<MisfitKind>
     ensures row { (change_row change.now (Some (rows.User user.old))).row ≡ Some (rows.User user.new) }
     ensures misfit { (change_row change.now (Some (rows.User user.old))).misfit ≡ result }
@@ -45,6 +46,7 @@ fn alter_user(change: &Change, user: &mut UserRow) -> Option<MisfitKind>
 }
 
 #[tactic(auto, unfolding(crate::specs::Changes::change_row))]
+#[inline(always)]
 fn alter_category(change: &Change, category: &mut CatRow) -> Option<MisfitKind>
     ensures row { (change_row change.now (Some (rows.Cat category.old))).row ≡ Some (rows.Cat category.new) }
     ensures misfit { (change_row change.now (Some (rows.Cat category.old))).misfit ≡ result }
@@ -65,6 +67,7 @@ fn alter_category(change: &Change, category: &mut CatRow) -> Option<MisfitKind>
 }
 
 #[tactic(auto, unfolding(crate::specs::Changes::change_row))]
+#[inline(always)]
 fn take_bid(best: &Best, item: &mut ItemRow) -> Option<MisfitKind>
     ensures row { (change_row (BidTaken best.now) (Some (rows.Item item.old))).row ≡ Some (rows.Item item.new) }
     ensures misfit { (change_row (BidTaken best.now) (Some (rows.Item item.old))).misfit ≡ result }
@@ -87,6 +90,7 @@ fn take_bid(best: &Best, item: &mut ItemRow) -> Option<MisfitKind>
 }
 
 #[tactic(auto, unfolding(crate::specs::Changes::change_row))]
+#[inline(always)]
 fn sell(quantity: u64, item: &mut ItemRow) -> Option<MisfitKind>
     ensures row { (change_row (Sold quantity) (Some (rows.Item item.old))).row ≡ Some (rows.Item item.new) }
     ensures misfit { (change_row (Sold quantity) (Some (rows.Item item.old))).misfit ≡ result }
@@ -103,6 +107,7 @@ fn sell(quantity: u64, item: &mut ItemRow) -> Option<MisfitKind>
 }
 
 #[tactic(auto, unfolding(crate::specs::Changes::change_row))]
+#[inline(always)]
 fn alter_item(change: &Change, item: &mut ItemRow) -> Option<MisfitKind>
     ensures row { (change_row change.now (Some (rows.Item item.old))).row ≡ Some (rows.Item item.new) }
     ensures misfit { (change_row change.now (Some (rows.Item item.old))).misfit ≡ result }
@@ -138,6 +143,7 @@ fn alter_fixed(change: &Change) -> MisfitKind
 
 impl Change {
     /// Changes a row that is there, or leaves it and says why the change doesn't fit.
+    #[inline(always)]
     pub fn alter(&self, row: &mut Row) -> Option<MisfitKind>
         ensures row { (change_row self.now (Some row.old)).row ≡ Some row.new }
         ensures misfit { (change_row self.now (Some row.old)).misfit ≡ result }

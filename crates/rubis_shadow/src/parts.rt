@@ -112,6 +112,7 @@ impl Shadow {
     }
 
     /// The part at this place, from 0, of the shadow with that id and red number.
+    #[inline(always)]
     pub fn effect(&self, id: Id, red: u32, place: u8) -> Option<EffectRef<'_>>
         ensures { result ≡ slice_get (parts id red self.now) place }
     {
@@ -120,6 +121,7 @@ impl Shadow {
 }
 
 // The part at this place, from 0.
+#[inline(always)]
 fn part_at<'a>(id: Id, red: u32, shadow: &'a Shadow, place: u8) -> Option<EffectRef<'a>>
     ensures { result ≡ slice_get (parts id red shadow.now) place }
 {
@@ -133,6 +135,7 @@ fn part_at<'a>(id: Id, red: u32, shadow: &'a Shadow, place: u8) -> Option<Effect
     }
 }
 
+#[inline(always)]
 fn user_part<'a>(id: Id, nick: Nick, place: u8) -> Option<EffectRef<'a>>
     ensures { result ≡ slice_get (parts id 0 (Shadow.User nick)) place }
 {
@@ -149,6 +152,7 @@ fn user_part<'a>(id: Id, nick: Nick, place: u8) -> Option<EffectRef<'a>>
     }
 }
 
+#[inline(always)]
 fn item_part<'a>(id: Id, item: &'a Boxed<NewItem>, place: u8) -> Option<EffectRef<'a>>
     ensures { result ≡ slice_get (parts id 0 (Shadow.Item item.now)) place }
 {
@@ -169,6 +173,7 @@ fn item_part<'a>(id: Id, item: &'a Boxed<NewItem>, place: u8) -> Option<EffectRe
     }
 }
 
+#[inline(always)]
 fn bid_part<'a>(id: Id, red: u32, bid: NewBid, place: u8) -> Option<EffectRef<'a>>
     ensures { result ≡ slice_get (parts id red (Shadow.Bid bid)) place }
 {
@@ -193,6 +198,7 @@ fn bid_part<'a>(id: Id, red: u32, bid: NewBid, place: u8) -> Option<EffectRef<'a
     }
 }
 
+#[inline(always)]
 fn buy_part<'a>(id: Id, purchase: PurchaseRow, place: u8) -> Option<EffectRef<'a>>
     ensures { result ≡ slice_get (parts id 0 (Shadow.Buy purchase)) place }
 {
@@ -213,6 +219,7 @@ fn buy_part<'a>(id: Id, purchase: PurchaseRow, place: u8) -> Option<EffectRef<'a
     }
 }
 
+#[inline(always)]
 fn close_part<'a>(close: NewClose, place: u8) -> Option<EffectRef<'a>>
     ensures { result ≡ slice_get (parts close.item 0 (Shadow.Close close)) place }
 {
@@ -229,6 +236,7 @@ fn close_part<'a>(close: NewClose, place: u8) -> Option<EffectRef<'a>>
     }
 }
 
+#[inline(always)]
 fn comment_part<'a>(id: Id, comment: &'a Boxed<CommentRow>, place: u8) -> Option<EffectRef<'a>>
     ensures { result ≡ slice_get (parts id 0 (Shadow.Comment comment.now)) place }
 {
@@ -298,6 +306,7 @@ fn boxed_row(change: &ChangeRef<'_>) -> Result<Option<Row>, AllocError>
 }
 
 // The change, with its row in a box, where it has one.
+#[inline(always)]
 fn change_with(change: &ChangeRef<'_>, row: Option<Row>) -> Change
     requires { row ≡ boxed_row_in (change_of change.now) }
     ensures { result ≡ change_of change.now }
@@ -348,6 +357,7 @@ impl<'a> EffectRef<'a> {
     }
 
     /// An equal effect that borrows nothing, with the row in a box that it inserts, where it does. It takes no memory.
+    #[inline(always)]
     pub fn own_with(&self, row: Option<Row>) -> Effect
         requires { row ≡ boxed_row_in self.now.change }
         ensures { result ≡ self.now }

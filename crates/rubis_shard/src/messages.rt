@@ -14,6 +14,7 @@ use rubis_shadow::{Numbered, Shadow};
 use std::alloc::AllocError;
 
 // The home of the shadow's part at this place, or the number of shards where there is none.
+#[inline(always)]
 fn home_at(id: Id, shadow: &Shadow, shards: usize, place: u8) -> usize
     requires { 0 < shards }
     ensures { (red : ℕ) → result ≡ home_or shards (slice_get (parts id red shadow.now) place) }
@@ -99,6 +100,7 @@ impl<'a> MessageParts<'a> {
     }
 
     // Folds the part at this place on, if its home is the shard.
+    #[inline(always)]
     fn fold_place(&self, store: &mut Store, at: usize, place: u8, row: Option<Row>)
         requires at { at < self.now.shards }
         requires place { place < 3 }
@@ -122,6 +124,7 @@ impl<'a> MessageParts<'a> {
     }
 
     /// Folds the parts on whose home is the shard, with that row for the first.
+    #[inline(always)]
     pub fn fold_at(&self, store: &mut Store, at: usize, row: Option<Row>)
         requires at { at < self.now.shards }
         requires room { HasRoom store.old 3 }

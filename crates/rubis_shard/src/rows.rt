@@ -27,6 +27,7 @@ pub fn put_row(rows: &mut IndexMap<RowKey, Row>, key: RowKey, row: Row) -> Resul
 
 // Puts the row at the key where none is there, and says whether it did.
 #[tactic(auto, using(rubis_shadow::proofs::Rows::tables_of_update))]
+#[inline(always)]
 fn put_new(rows: &mut IndexMap<RowKey, Row>, key: RowKey, row: Row) -> bool
     requires { 0 < spare rows.old }
     ensures free { result ≡ is_none (map.get (map.from_entries {R = key_order} rows.old.entries) key) }
@@ -47,6 +48,7 @@ fn put_new(rows: &mut IndexMap<RowKey, Row>, key: RowKey, row: Row) -> bool
 }
 
 // Does a change of a row, where the row is.
+#[inline(always)]
 fn change_row(rows: &mut IndexMap<RowKey, Row>, key: &RowKey, change: &Change) -> Option<MisfitKind>
     requires { (row : Row) → change.now ≢ Insert row }
     ensures tables { map.from_entries {R = key_order} rows.new.entries ≡ after (map.from_entries rows.old.entries) (record { key = key.now; change = change.now }) }
