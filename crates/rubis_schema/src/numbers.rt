@@ -62,11 +62,15 @@ pub fn read_rating(bytes: &[u8]) -> Option<i8>
 }
 
 /// Adds a number as a field. Without memory for it the record stays as it was.
-#[tactic(auto, using(crate::proofs::PlainTexts::decimal_plain))]
+#[tactic(auto, using(crate::proofs::PlainTexts::decimal_plain, std::proofs::lemmas::Fmt::decimal_digit))]
 pub fn push_number(fields: &mut Fields, number: u64) -> Result<(), AllocError>
     ensures ok { OnOk result (fields.new ≡ fields.old ++ decimal number ∷ []) }
     ensures err { OnErr result (fields.new ≡ fields.old) }
 {
+    if number < 10 {
+        // Most numbers have one digit.
+        return fields.push_plain(&[b'0' + number as u8]);
+    }
     let mut digits = Buffer::new();
     fields.push_plain(digits.format(number).as_bytes())
 }
@@ -76,6 +80,9 @@ pub fn push_int(fields: &mut Fields, number: i64) -> Result<(), AllocError>
     ensures ok { OnOk result (fields.new ≡ fields.old ++ int_text number ∷ []) }
     ensures err { OnErr result (fields.new ≡ fields.old) }
 {
+    if let Ok(size) = u64::try_from(number) {
+        return push_number(fields, size);
+    }
     let mut buffer = Buffer::new();
     fields.push(buffer.format(number).as_bytes())
 }

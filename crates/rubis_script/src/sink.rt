@@ -14,6 +14,7 @@ use rubis_schema::{Fields, is_plain};
 use std::alloc::{AllocError, Global};
 use std::io::Write;
 use std::marker::Model;
+use std::mem;
 
 // So many bytes of text are written out at once.
 const CHUNK: usize = 65_536;
@@ -21,15 +22,17 @@ const CHUNK: usize = 65_536;
 /// The text of rows that waits to be written. It is emptied without giving its room back.
 #[derive(Drop)]
 pub struct Sink {
+    // What stands before the text, where a long text was added whole.
+    before: Vec<u8>,
     text: Vec<u8>,
 }
 
 impl Model for Sink {
-    ghost use Rattle.std.specs.Prelude.{ℕ, List};
+    ghost use Rattle.std.specs.Prelude.{ℕ, List, ◌++◌};
 
     ghost Value = { List ℕ };
 
-    ghost view = { λ s. s.text.items };
+    ghost view = { λ s. s.before.items ++ s.text.items };
 }
 
 // Whether none of these fields calls for quotes.
@@ -86,12 +89,42 @@ fn push_quoted(text: &mut Vec<u8>, first: &[&[u8]], fields: &Fields) -> Result<(
     text.extend_from_slice(row.as_slice())
 }
 
+// Adds two texts. Without memory for both nothing is added.
+fn add_both(text: &mut Vec<u8>, first: &[u8], second: &[u8]) -> Result<(), AllocError>
+    ensures ok { OnOk result (text.new.items ≡ text.old.items ++ (first.now ++ second.now)) }
+    ensures err { OnErr result (text.new.items ≡ text.old.items) }
+{
+    text.reserve(first.len().saturating_add(second.len()))?;
+    let (Ok(()), Ok(())) = (
+        text.extend_from_slice(first),
+        text.extend_from_slice(second),
+    ) else {
+        unreachable!()
+    };
+    Ok(())
+}
+
+// Writes two texts out.
+fn write_both<W: Write>(writer: &mut W, first: &[u8], second: &[u8]) -> Result<(), RunFault>
+    ensures ok { OnOk result (Appends (W.contents writer.old) (W.contents writer.new) (first.now ++ second.now)) }
+    ensures faults { IfErr result (λ e. e ≡ RunFault.Write) }
+{
+    if !first.is_empty() && writer.write_all(first).is_err() {
+        return Err(RunFault::Write);
+    }
+    match writer.write_all(second) {
+        Ok(()) => Ok(()),
+        Err(_) => Err(RunFault::Write),
+    }
+}
+
 impl Sink {
     /// No text. It takes no memory yet.
     pub fn new(alloc: Global) -> Sink
         ensures { result ≡ [] }
     {
         Sink {
+            before: Vec::new(alloc),
             text: Vec::new(alloc),
         }
     }
@@ -115,9 +148,17 @@ impl Sink {
             None => push_quoted(&mut self.text, first, fields),
         };
         if added.is_err() {
-            self.text.clear();
+            self.clear();
         }
         added
+    }
+
+    // No text is left, but for its room.
+    fn clear(&mut self)
+        ensures { self.new ≡ [] }
+    {
+        self.before.clear();
+        self.text.clear();
     }
 
     /// Adds all text of another. Without memory for it the text stays as it was.
@@ -125,7 +166,12 @@ impl Sink {
         ensures ok { OnOk result (self.new ≡ self.old ++ more) }
         ensures err { OnErr result (self.new ≡ self.old) }
     {
-        self.text.extend_from_slice(more.text.as_slice())
+        if self.before.is_empty() && more.before.is_empty() && more.is_full() {
+            // So long a text isn't copied: it becomes this one's, behind what was here.
+            self.before = mem::replace(&mut self.text, more.text);
+            return Ok(());
+        }
+        add_both(&mut self.text, more.before.as_slice(), more.text.as_slice())
     }
 
     /// Another one, with no text.
@@ -152,12 +198,9 @@ impl Sink {
         ensures empty { self.new ≡ [] }
         ensures faults { IfErr result (λ e. e ≡ RunFault.Write) }
     {
-        let written = writer.write_all(self.text.as_slice());
-        self.text.clear();
-        match written {
-            Ok(()) => Ok(()),
-            Err(_) => Err(RunFault::Write),
-        }
+        let written = write_both(writer, self.before.as_slice(), self.text.as_slice());
+        self.clear();
+        written
     }
 
     /// Writes all text out, and flushes the writer.

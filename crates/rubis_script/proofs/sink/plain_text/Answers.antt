@@ -1,4 +1,4 @@
-use Rattle.std.proofs.Common.{◌≡◌, ◌∙◌, map, sym}
+use Rattle.std.proofs.Common.{◌∙◌, map, sym}
 use Rattle.rubis_script.proofs.RowFacts.{found-makes, if-found}
 use Rattle.rubis_script.proofs.sink.plain_text.Goals as goal
 
