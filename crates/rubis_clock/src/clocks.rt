@@ -24,6 +24,7 @@ impl Model for Clock {
 }
 
 // Whether each count but the origin's is at most the clock's.
+#[inline(always)]
 fn others_released(deps: &[u32], counts: &[u32], origin: usize) -> bool
     requires { length deps.now ≡ length counts.now }
     ensures { IsTrue result ↔ ((j : ℕ) → j < length deps.now → j ≢ origin → slice_index deps.now j ≤ slice_index counts.now j) }
@@ -73,6 +74,7 @@ impl Clock {
 
     /// Whether the message with that stamp can be released: it is the next one of its origin, all that the origin had
     /// released of other sites was counted, and a red one has the next red number.
+    #[inline(always)]
     pub fn ready(&self, stamp: &Stamp) -> bool
         requires sites { length stamp.now.deps ≡ length self.now.counts }
         requires origin { stamp.now.id.site < length self.now.counts }
@@ -94,6 +96,7 @@ impl Clock {
     }
 
     /// Counts the message with that stamp.
+    #[inline(always)]
     pub fn advance(&mut self, stamp: &Stamp)
         requires origin { stamp.now.id.site < length self.old.counts }
         requires ready { IsReady self.old stamp.now }

@@ -30,6 +30,7 @@ fn agree(shadow: &Shadow, red: u32) -> bool
 impl<'a> Reader<'a> {
     /// The number of one of so many sites.
     #[tactic(auto, unfolding(crate::specs::Forms::take_site))]
+    #[inline(always)]
     pub fn site(&mut self, sites: u8) -> Result<u8, ReadFault>
         ensures form { Takes (take_site sites) self.old self.new result }
         ensures below { IfOk result (λ n. n < sites) }
@@ -42,6 +43,7 @@ impl<'a> Reader<'a> {
     }
 
     /// A count for each of so many sites.
+    #[inline(always)]
     fn deps(&mut self, sites: u8) -> Result<Deps, ReadFault>
         requires some_sites { 0 < sites }
         requires few_sites { sites ≤ COUNTED_MAX }
@@ -53,6 +55,7 @@ impl<'a> Reader<'a> {
 
     /// A stamp.
     #[tactic(auto, unfolding(crate::specs::Readings::take_stamp))]
+    #[inline(always)]
     fn stamp(&mut self, sites: u8) -> Result<Stamp, ReadFault>
         requires { sites ≤ COUNTED_MAX }
         ensures { Takes (take_stamp sites) self.old self.new result }

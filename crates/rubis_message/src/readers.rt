@@ -36,6 +36,7 @@ impl<'a> Reader<'a> {
     }
 
     /// The next field.
+    #[inline(always)]
     pub fn field(&mut self) -> Result<&'a [u8], ReadFault>
         ensures { MatchResult result (λ f. self.old ≡ f.now ∷ self.new) (λ e. (e ≡ ReadFault.BadRecord) × (self.old ≡ [])) }
     {
@@ -81,6 +82,7 @@ impl<'a> Reader<'a> {
     }
 
     /// A number up to `max`.
+    #[inline(always)]
     pub fn number(&mut self, max: u64) -> Result<u64, ReadFault>
         ensures form { Takes (take_number max) self.old self.new result }
         ensures small { IfOk result (λ n. n ≤ max) }
@@ -90,6 +92,7 @@ impl<'a> Reader<'a> {
 
     /// A number from 1 to `max`.
     #[tactic(auto, unfolding(crate::specs::Forms::take_positive))]
+    #[inline(always)]
     pub fn positive(&mut self, max: u64) -> Result<u64, ReadFault>
         ensures form { Takes (take_positive max) self.old self.new result }
         ensures small { IfOk result (λ n. n ≤ max) }
@@ -108,6 +111,7 @@ impl<'a> Reader<'a> {
     }
 
     /// An id of one of so many sites.
+    #[inline(always)]
     pub fn id(&mut self, sites: u8) -> Result<Id, ReadFault>
         ensures { Takes (take_id sites) self.old self.new result }
     {

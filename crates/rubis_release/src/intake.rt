@@ -152,6 +152,7 @@ impl Intake {
 
     /// Makes the site's next message of a shadow and releases it, and all that is ready then. Without memory nothing
     /// has changed.
+    #[inline(always)]
     pub fn generated(&mut self, shadow: Shadow) -> Result<Message, IntakeFault>
         requires room { is_full self.old.place.keep self.old.state ≡ false }
         requires right { is_red shadow ≡ true → is_current self.old.state ≡ true }
@@ -171,6 +172,7 @@ impl Intake {
     }
 
     // Whether released and waiting messages are as many as the site keeps.
+    #[inline(always)]
     fn is_full(&self) -> bool
         ensures { result ≡ is_full self.now.place.keep self.now.state }
     {
@@ -178,6 +180,7 @@ impl Intake {
     }
 
     // Whether the message says that this site made it, and it didn't.
+    #[inline(always)]
     fn is_not_ours(&self, message: &Message) -> bool
         ensures { result ≡ not_ours self.now.place self.now.state message.now }
     {
@@ -186,6 +189,7 @@ impl Intake {
     }
 
     // Whether a message with that id is released or waits.
+    #[inline(always)]
     fn is_repeat(&self, message: &Message) -> bool
         requires { sites_of message.now ≡ self.now.place.sites }
         ensures value { result ≡ is_repeat self.now.state message.now }
@@ -210,6 +214,7 @@ impl Intake {
     }
 
     // The stamp of the message that the site makes of the shadow.
+    #[inline(always)]
     fn next_stamp(&self, shadow: &Shadow) -> Stamp
         requires room { is_full self.now.place.keep self.now.state ≡ false }
         requires right { is_red shadow.now ≡ true → is_current self.now.state ≡ true }

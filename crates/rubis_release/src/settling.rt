@@ -11,6 +11,7 @@ use rubis_message::Message;
 use std::alloc::AllocError;
 
 // Releases what is ready, the earliest first, until nothing is.
+#[inline(always)]
 fn settle(log: &mut Vec<Message>, waiting: &mut Waiting, clock: &mut Clock)
     requires room { vec_len log.old + length waiting.old ≤ vec_capacity log.old }
     requires sites { AllAmong (length clock.old.counts) waiting.old }
@@ -28,6 +29,7 @@ fn settle(log: &mut Vec<Message>, waiting: &mut Waiting, clock: &mut Clock)
 }
 
 // Whether the message is ready.
+#[inline(always)]
 fn is_ready(clock: &Clock, message: &Message) -> bool
     requires site { IsAmong (length clock.now.counts) message.now }
     ensures ready { result ≡ true → IsReady clock.now message.now.stamp }

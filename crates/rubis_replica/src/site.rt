@@ -99,6 +99,7 @@ impl<G: Gate> Site<G> {
     }
 
     // Decides an ask against the tables of the log, all of which is applied first.
+    #[inline(always)]
     fn decided<R: Threads + Wait + Sync>(&mut self, rt: &R, ask: Ask) -> Result<Shadow, Fault>
         requires { IsAsk self.old.place.sites ask }
         ensures place { self.new.place ≡ self.old.place }
@@ -116,6 +117,7 @@ impl<G: Gate> Site<G> {
     }
 
     /// Decides an ask against the tables, and makes the message of its shadow.
+    #[inline(always)]
     pub fn request<R: Threads + Wait + Sync>(&mut self, rt: &R, ask: Ask) -> Result<Message, Fault>
         requires { IsAsk self.old.place.sites ask }
         ensures place { self.new.place ≡ self.old.place }

@@ -30,6 +30,7 @@ impl Model for Fields {
 }
 
 // Where the field at this place starts and ends.
+#[inline(always)]
 fn span(ends: &[usize], place: usize) -> (usize, usize)
     requires place { place < length ends.now }
     requires order { get_or (0 ∷ ends.now) place 0 < get_or ends.now place 0 }
@@ -41,6 +42,7 @@ fn span(ends: &[usize], place: usize) -> (usize, usize)
 }
 
 // Whether a byte of a field calls for quotes where fields are separated by commas.
+#[inline(always)]
 fn is_mark(byte: u8) -> bool
     ensures { result ≡ model.is_mark byte }
 {
@@ -48,6 +50,7 @@ fn is_mark(byte: u8) -> bool
 }
 
 /// Whether a field calls for no quotes where fields are separated by commas: whether it has no comma, no quote and no line end.
+#[inline(always)]
 pub fn is_plain(field: &[u8]) -> bool
     ensures { result ≡ model.is_plain field.now }
 {
@@ -90,6 +93,7 @@ impl Fields {
     }
 
     /// Adds a field at the end. Without memory for it the record stays as it was.
+    #[inline(always)]
     pub fn push(&mut self, field: &[u8]) -> Result<(), AllocError>
         ensures ok { OnOk result (self.new ≡ self.old ++ field.now ∷ []) }
         ensures err { OnErr result (self.new ≡ self.old) }
@@ -148,6 +152,7 @@ impl Fields {
     }
 
     /// The field at this place, counted from 0, or `None` past the last.
+    #[inline(always)]
     pub fn field(&self, place: usize) -> Option<&[u8]>
         ensures { option_map (λ s. s.now) result ≡ slice_get self.now place }
     {

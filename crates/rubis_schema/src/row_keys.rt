@@ -127,6 +127,7 @@ impl Hash for RowKey {
 
     ghost respects_eq = { (same_Alike key_writes Decides-key_eq).fed };
 
+    #[inline(always)]
     fn hash<H: Hasher>(&self, state: &mut H) {
         state.write_u8(table_number(self));
         match self {

@@ -30,6 +30,7 @@ use std::thread::Threads;
 
 // The answer of a site's call, or its refusal. A site that has no memory for an answer gives none, nor does one that is
 // behind, which had none for a batch.
+#[inline(always)]
 fn answered<A>(answer: Result<A, Fault>) -> Result<Result<A, Refusal>, OutOfMemory>
     ensures { result ≡ answer_of answer }
 {
@@ -41,6 +42,7 @@ fn answered<A>(answer: Result<A, Fault>) -> Result<Result<A, Refusal>, OutOfMemo
 }
 
 // Answers an ask.
+#[inline(always)]
 fn answer_ask<G: Gate, R: Threads + Wait + Sync>(
     rt: &R,
     site: &mut Site<G>,
@@ -96,6 +98,7 @@ fn answer_list<G: Gate, R: Threads + Wait + Sync>(
 }
 
 // Answers a request.
+#[inline(always)]
 fn answer_request<G: Gate, R: Threads + Wait + Sync>(
     rt: &R,
     site: &mut Site<G>,

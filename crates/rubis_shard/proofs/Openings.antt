@@ -1,14 +1,19 @@
 -- The opening rows of one shard, and that they are at home there.
 use Rattle.std.proofs.Common.{◌≡◌, ℕ, Bool, true, false, cond, refl, sym, ap, ◌∙◌}
-use Rattle.std.specs.Prelude.{Option, Some, None, nat_eq}
+use Rattle.std.specs.Prelude.{[], Option, Some, None, filter, nat_eq}
 use Rattle.std.specs.FinMap as map
-use Rattle.rubis_schema.specs.Keys.{home, key_order}
+use Rattle.rubis_schema.specs.Keys.{holds, home, key_order}
 use Rattle.rubis_schema.specs.Tables.{Tables}
+use Rattle.rubis_schema.specs.declared.listings.Listing.{Listing}
 use Rattle.rubis_schema.specs.declared.row_keys.RowKey.{RowKey}
+use Rattle.rubis_schema.specs.declared.row_keys.Table.{Table}
 use Rattle.rubis_schema.specs.declared.rows.Row.{Row}
+use Rattle.rubis_shadow.specs.Tables.{rows_of}
 use Rattle.rubis_model.specs.Shares.{part_of}
 use Rattle.rubis_model.proofs.Commute.{same_tables}
 use Rattle.rubis_model.proofs.Shares.{get-part_of, part_with_row}
+use Rattle.rubis_shard.specs.Listed.{listed_of, picked_by}
+use Rattle.rubis_shard.proofs.Places.{no_items}
 
 neither : (b : Bool) → ◌≡◌ {A = Option Row} (cond b None None) None
 neither true = refl
@@ -19,6 +24,16 @@ pub part_empty : (shards k : ℕ) → part_of shards k map.empty ≡ map.empty
 part_empty shards k = same_tables _ _ (λ q.
     get-part_of shards k map.empty q ∙ ap (λ (o : Option Row). cond (nat_eq (home shards q) k) o None) (map.get-empty key_order q)
     ∙ neither (nat_eq (home shards q) k) ∙ sym (map.get-empty key_order q))
+
+-- which no listing shows
+none_there : (t : Tables) → t ≡ map.empty → map.entries t ≡ []
+none_there t e = no_items _ (sym (map.len-entries t) ∙ ap (λ (u : Tables). map.len u) e ∙ map.len-empty key_order Row)
+
+pub no_rows : (t : Table) → rows_of t map.empty ≡ []
+no_rows t = ap (filter (λ e. holds t e.0)) (none_there map.empty refl)
+
+pub none_listed : (l : Listing) (t : Table) → listed_of l t map.empty ≡ []
+none_listed l t = ap (λ es. filter (λ e. holds t e.0) (picked_by l es)) (none_there map.empty refl)
 
 -- a row more, whose home is the shard, and one whose home it isn't
 pub part_here : (shards k : ℕ) (t : Tables) (p : RowKey) (row : Row) → nat_eq (home shards p) k ≡ true

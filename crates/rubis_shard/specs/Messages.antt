@@ -1,16 +1,12 @@
 -- One message folded on the shards of a set, each part at its home.
 use Rattle.std.specs.Prelude.{ℕ, ◌≡◌, ◌+◌, ◌<◌, ◌≤◌, List, [], ◌∷◌, Option, Some, None, length, slice_get}
-use Rattle.std.specs.FinMap as map
 use Rattle.rubis_shadow.specs.Parts.{parts}
 use Rattle.rubis_shadow.specs.declared.numbered.Numbered.{Numbered}
-use Rattle.rubis_model.specs.Log.{Folded, number_parts}
+use Rattle.rubis_model.specs.Log.{number_parts}
 use Rattle.rubis_shard.specs.States.{ShardState, with_parts}
 use Rattle.rubis_shard.specs.Holdings.{parts_at}
+use Rattle.rubis_shard.specs.Stores.{nothing_held}
 use Rattle.rubis_shard.specs.declared.message_parts.MessageParts.{MessageParts}
-
--- no rows and no misfits
-abbrev pub nothing_held : Folded
-nothing_held = record { tables = map.from_entries []; misfits = [] }
 
 -- the shard without its rows and misfits
 abbrev pub emptied : ShardState → ShardState

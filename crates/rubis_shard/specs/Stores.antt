@@ -1,5 +1,5 @@
 -- What a shard's store holds, and for how much more it has room.
-use Rattle.std.specs.Prelude.{ℕ, ◌+◌, ◌≤◌}
+use Rattle.std.specs.Prelude.{ℕ, ◌+◌, ◌≤◌, [], Option, Some, None}
 use Rattle.std.specs.FinMap as map
 use Rattle.std.specs.Vec.{vec_len, vec_capacity}
 use Rattle.indexmap.specs.IndexMap.{spare}
@@ -11,6 +11,15 @@ use Rattle.rubis_shard.specs.declared.stores.Store.{Store}
 -- its rows as tables, and its misfits
 abbrev pub held_by : Store → Folded
 held_by s = record { tables = map.from_entries s.rows.all.entries; misfits = s.misfits.items }
+
+-- no rows and no misfits
+abbrev pub nothing_held : Folded
+nothing_held = record { tables = map.from_entries []; misfits = [] }
+
+-- what a store holds, and nothing where it is out
+abbrev pub held_in : Option Store → Folded
+held_in None = nothing_held
+held_in (Some s) = held_by s
 
 -- there is room for so many rows more
 pub record HasRoomForRows (r : Rows) (rows : ℕ) : Type 0 where

@@ -48,6 +48,7 @@ impl<'a> MessageParts<'a> {
     }
 
     // The home of the part at this place, or the number of shards where there is none.
+    #[inline(always)]
     fn home(&self, place: u8) -> usize
         requires { place < 3 }
         ensures { result ≡ home_or self.now.shards (slice_get (parts self.now.id self.now.red self.now.shadow.now) place) }
@@ -60,6 +61,7 @@ impl<'a> MessageParts<'a> {
     }
 
     // The home of the part at this place, if it is at least `from` and less than `least`; else `least`.
+    #[inline(always)]
     fn home_from(&self, place: u8, from: usize, least: usize) -> usize
         requires place { place < 3 }
         requires low { from ≤ least }
@@ -77,6 +79,7 @@ impl<'a> MessageParts<'a> {
     }
 
     // The least home of a part that is at least `from`, or the number of shards.
+    #[inline(always)]
     fn next_home(&self, from: usize) -> usize
         requires { from ≤ self.now.shards }
         ensures from { from ≤ result }
@@ -89,6 +92,7 @@ impl<'a> MessageParts<'a> {
     }
 
     // The row in a box of the first part, where it has one, if its home is the shard.
+    #[inline(always)]
     fn boxed_row(&self, at: usize) -> Result<Option<Row>, AllocError>
         requires { at < self.now.shards }
         ensures { IfOk result (λ row. self.now.first ≡ at → HasBoxedRow (slice_get (parts self.now.id self.now.red self.now.shadow.now) 0) row) }
@@ -173,7 +177,7 @@ pub fn fold_from(
     }
     let mut store = list[at].take_store(3)?;
     let folded = fold_from(list, message, at + 1);
-    message.fold_if(&mut store, at, row, folded.is_ok());
+    message.fold_if(store.get_mut(), at, row, folded.is_ok());
     list[at].put_store(store);
     folded
 }

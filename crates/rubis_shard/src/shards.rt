@@ -22,11 +22,10 @@ use crate::rows::put_row;
 use crate::shares::Share;
 use crate::stores::Store;
 use indexmap::IndexMap;
-use rubis_schema::{CATEGORIES, CatRow, Listing, Row, RowKey, Table, shard_of};
+use rubis_schema::{Boxed, CATEGORIES, CatRow, Listing, Row, RowKey, Table, shard_of};
 use rubis_shadow::{Misfit, rows_in_order};
 use std::alloc::{AllocError, Global};
 use std::marker::Model;
-use std::mem;
 
 /// One shard of a set: the rows whose home it is, and the misfits that were met there. Contracts see its number, how
 /// many shards its set has, and what is folded on it.
@@ -34,7 +33,9 @@ use std::mem;
 pub struct Shard {
     number: usize,
     shards: usize,
-    store: Store,
+    // In a box, so that it is taken out and put back at no cost. While it is out there are no rows and no misfits.
+    store: Option<Boxed<Store>>,
+    alloc: Global,
 }
 
 impl Model for Shard {
@@ -42,15 +43,15 @@ impl Model for Shard {
     ghost use Rattle.rubis_model.specs.Shares.{part_of};
     ghost use Rattle.rubis_shard.specs.States.{ShardState};
     ghost use Rattle.rubis_shard.specs.StateCode.{state_code};
-    ghost use Rattle.rubis_shard.specs.Stores.{held_by};
+    ghost use Rattle.rubis_shard.specs.Stores.{held_in};
 
     ghost Value = { ShardState };
 
     ghost coded = { state_code };
 
-    ghost view = { λ s. record { number = s.number; shards = s.shards; folded = held_by s.store } };
+    ghost view = { λ s. record { number = s.number; shards = s.shards; folded = held_in s.store } };
 
-    ghost invariant = { λ s. part_of s.shards s.number (held_by s.store).tables ≡ (held_by s.store).tables };
+    ghost invariant = { λ s. part_of s.shards s.number (held_in s.store).tables ≡ (held_in s.store).tables };
 }
 
 /// How many of a share's parts are done.
@@ -66,13 +67,15 @@ impl Shard {
         ensures { IfOk result (λ shard. shard ≡ opening_shard shards number) }
     {
         let rows = Rows::with(alloc, opening_rows(alloc, number, shards)?)?;
+        let store = Store {
+            rows,
+            misfits: Vec::new(alloc),
+        };
         Ok(Shard {
             number,
             shards,
-            store: Store {
-                rows,
-                misfits: Vec::new(alloc),
-            },
+            store: Some(Boxed::new(alloc, store)?),
+            alloc,
         })
     }
 
@@ -95,14 +98,20 @@ impl Shard {
         ensures row { option_copied result ≡ map.get self.now.folded.tables key.now }
         ensures own { HoldsOwnRows self.now }
     {
-        self.store.rows.all.get(key)
+        match &self.store {
+            Some(store) => store.rows.all.get(key),
+            None => None,
+        }
     }
 
     /// The parts that didn't fit, in the order in which they were met.
     pub fn misfits(&self) -> &[Misfit]
         ensures { result.now ≡ self.now.folded.misfits }
     {
-        self.store.misfits.as_slice()
+        match &self.store {
+            Some(store) => store.misfits.as_slice(),
+            None => &[],
+        }
     }
 
     /// The rows of one table with their keys, in key order.
@@ -110,7 +119,10 @@ impl Shard {
         ensures rows { IfOk result (λ rows. each deref_pair rows.items ≡ rows_of table self.now.folded.tables) }
         ensures own { HoldsOwnRows self.now }
     {
-        rows_in_order(alloc, &self.store.rows.all, table)
+        match &self.store {
+            Some(store) => rows_in_order(alloc, &store.rows.all, table),
+            None => Ok(Vec::new(alloc)),
+        }
     }
 
     /// Those rows of one table that a listing is of, with their keys, in key order.
@@ -123,7 +135,10 @@ impl Shard {
         ensures rows { IfOk result (λ rows. each deref_pair rows.items ≡ listed_of listing.now table self.now.folded.tables) }
         ensures own { HoldsOwnRows self.now }
     {
-        picked_in_order(alloc, &self.store.rows, table, listing)
+        match &self.store {
+            Some(store) => picked_in_order(alloc, &store.rows, table, listing),
+            None => Ok(Vec::new(alloc)),
+        }
     }
 
     /// The keys of the rows of one table, in order.
@@ -146,9 +161,10 @@ impl Shard {
         ensures ok { OnOk result (IfSome (slice_get share.now.effects from) (λ part. self.new ≡ with_parts self.old (part ∷ []))) }
         ensures err { OnErr result (self.new ≡ self.old) }
     {
-        self.store.make_room(1)?;
         let part = share.effects.as_slice()[from].copy()?;
-        self.store.fold(part);
+        let mut store = self.take_store(1)?;
+        store.get_mut().fold(part);
+        self.put_store(store);
         Ok(())
     }
 
@@ -184,30 +200,47 @@ impl Shard {
         ensures ok { OnOk result (self.new ≡ with_parts self.old (parts_at message.now.shards self.old.number (numbered_of message.now))) }
         ensures err { OnErr result (self.new ≡ self.old) }
     {
-        self.store.make_room(3)?;
-        message.fold_at(&mut self.store, self.number, row);
+        let mut store = self.take_store(3)?;
+        message.fold_at(store.get_mut(), self.number, row);
+        self.put_store(store);
         Ok(())
     }
 
+    // What is held, or what holds nothing where it is out.
+    fn store_or_none(&mut self) -> Result<Boxed<Store>, AllocError>
+        ensures taken { IfOk result (λ store. held_by store ≡ self.old.folded) }
+        ensures own { HoldsOwnRows self.old }
+        ensures left { OnOk result (self.new ≡ emptied self.old) }
+        ensures err { OnErr result (self.new ≡ self.old) }
+    {
+        match self.store.take() {
+            Some(store) => Ok(store),
+            None => Boxed::new(self.alloc, Store::new(self.alloc)),
+        }
+    }
+
     // Takes the rows and misfits out, with room for so many parts more, and leaves none.
-    pub(crate) fn take_store(&mut self, parts: usize) -> Result<Store, AllocError>
+    pub(crate) fn take_store(&mut self, parts: usize) -> Result<Boxed<Store>, AllocError>
         ensures taken { IfOk result (λ store. held_by store ≡ self.old.folded) }
         ensures room { IfOk result (λ store. HasRoom store parts) }
         ensures own { HoldsOwnRows self.old }
         ensures left { OnOk result (self.new ≡ emptied self.old) }
         ensures err { OnErr result (self.new ≡ self.old) }
     {
-        self.store.make_room(parts)?;
-        let alloc = *self.store.misfits.allocator();
-        Ok(mem::replace(&mut self.store, Store::new(alloc)))
+        let mut store = self.store_or_none()?;
+        if let Err(refused) = store.get_mut().make_room(parts) {
+            self.put_store(store);
+            return Err(refused);
+        }
+        Ok(store)
     }
 
     // Puts rows and misfits in the place of what is there.
-    pub(crate) fn put_store(&mut self, store: Store)
+    pub(crate) fn put_store(&mut self, store: Boxed<Store>)
         requires { part_of self.old.shards self.old.number (held_by store).tables ≡ (held_by store).tables }
         ensures { self.new ≡ record { number = self.old.number; shards = self.old.shards; folded = held_by store } }
     {
-        self.store = store;
+        self.store = Some(store);
     }
 }
 

@@ -41,14 +41,14 @@ put_store-requires t c =
     let s : ShardState = get_or mid at c.index-list-at-3.result in
     let there : slice_get ts at ≡ Some x = slice_get_read ts (length ts) at x refl (search rules) c.index-list-at-2.is in
     let left : c.take_store.new.self ≡ emptied x = search rules in
-    let taken : held_by c.in_ok-store.store ≡ x.folded = search rules in
+    let taken : held_by c.get_mut.result.now ≡ x.folded = search rules in
     let rows : HoldsOwnRows x = search rules in
     own_back ts mid c.args.message.now.shards at c.args.from (numbered_of c.args.message.now) x c.take_store.new.self s
     c.fold_from-folded.result
     there c.requires.order c.requires.shards left c.next_home-at.ensures.from c.fold_from-folded.ensures.ok
     c.fold_from-folded.ensures.err
     (ap (get_or mid at) c.index-list-at-3.is)
-    (held_by c.in_ok-store.store) (held_by c.fold_if.new.store) (parts_at c.args.message.now.shards at (numbered_of c.args.message.now)) c.is_ok.result rows taken
+    (held_by c.get_mut.result.now) (held_by c.fold_if.new.store) (parts_at c.args.message.now.shards at (numbered_of c.args.message.now)) c.is_ok.result rows taken
     refl
     c.fold_if.ensures.wanted c.fold_if.ensures.unwanted
 
@@ -61,13 +61,13 @@ returns-clause-ok t c =
     let s : ShardState = get_or mid at c.index-list-at-3.result in
     let there : slice_get ts at ≡ Some x = slice_get_read ts (length ts) at x refl (search rules) c.index-list-at-2.is in
     let left : c.take_store.new.self ≡ emptied x = search rules in
-    let taken : held_by c.in_ok-store.store ≡ x.folded = search rules in
+    let taken : held_by c.get_mut.result.now ≡ x.folded = search rules in
     ended_ok ts mid c.args.message.now.shards at c.args.from (numbered_of c.args.message.now) x c.take_store.new.self s
     c.fold_from-folded.result
     there c.requires.order c.requires.shards left c.next_home-at.ensures.from c.fold_from-folded.ensures.ok
     c.fold_from-folded.ensures.err
     (ap (get_or mid at) c.index-list-at-3.is)
-    c.put_store.new.self (held_by c.in_ok-store.store) (held_by c.fold_if.new.store) (parts_at c.args.message.now.shards at (numbered_of c.args.message.now)) c.is_ok.result
+    c.put_store.new.self (held_by c.get_mut.result.now) (held_by c.fold_if.new.store) (parts_at c.args.message.now.shards at (numbered_of c.args.message.now)) c.is_ok.result
     c.put_store.ensures c.is_ok.ensures.value taken refl c.fold_if.ensures.wanted c.next_home-at.ensures.none
 
 pub returns-clause-err : goal.returns-clause-err
@@ -79,13 +79,13 @@ returns-clause-err t c =
     let s : ShardState = get_or mid at c.index-list-at-3.result in
     let there : slice_get ts at ≡ Some x = slice_get_read ts (length ts) at x refl (search rules) c.index-list-at-2.is in
     let left : c.take_store.new.self ≡ emptied x = search rules in
-    let taken : held_by c.in_ok-store.store ≡ x.folded = search rules in
+    let taken : held_by c.get_mut.result.now ≡ x.folded = search rules in
     ended_err ts mid c.args.message.now.shards at c.args.from (numbered_of c.args.message.now) x c.take_store.new.self s
     c.fold_from-folded.result
     there c.requires.order c.requires.shards left c.next_home-at.ensures.from c.fold_from-folded.ensures.ok
     c.fold_from-folded.ensures.err
     (ap (get_or mid at) c.index-list-at-3.is)
-    c.put_store.new.self (held_by c.in_ok-store.store) (held_by c.fold_if.new.store) c.is_ok.result
+    c.put_store.new.self (held_by c.get_mut.result.now) (held_by c.fold_if.new.store) c.is_ok.result
     c.put_store.ensures c.is_ok.ensures.value taken c.fold_if.ensures.unwanted
 
 pub returns-then-next_home-list-clause-ok : goal.returns-then-next_home-list-clause-ok

@@ -1,30 +1,34 @@
 use Rattle.std.proofs.Common.{◌≡◌, sym, ap, ◌∙◌, subst}
-use Rattle.rubis_model.specs.Log.{Folded, fold_on}
+use Rattle.rubis_model.specs.Log.{fold_on}
 use Rattle.rubis_model.specs.Shares.{part_of}
 use Rattle.rubis_shard.specs.States.{ShardState}
 use Rattle.rubis_shard.specs.Stores.{held_by}
 use Rattle.rubis_shard.specs.Holdings.{parts_at}
-use Rattle.rubis_shard.specs.Messages.{numbered_of}
+use Rattle.rubis_shard.specs.Messages.{emptied, numbered_of}
 use Rattle.rubis_shard.proofs.Parts.{own_after}
 use Rattle.rubis_shard.proofs.shards.Shard.fold_message.Goals as goal
 
-pub invariant_of-self-2 : goal.invariant_of-self-2
-invariant_of-self-2 c =
-    let k = c.self.inside.number in
-    let shards = c.self.inside.shards in
+pub put_store-requires : goal.put_store-requires
+put_store-requires c =
+    let x : ShardState = c.args.self.now in
     let ns = numbered_of c.args.message.now in
-    let same = c.requires.shards ∙ ap (λ (s : ShardState). s.shards) (sym c.self.view_is) in
-    own_after shards k (held_by c.make_room.new.self) _ ns
-    (subst (λ (f : Folded). part_of shards k f.tables ≡ f.tables) (sym c.in_ok-make_room.ensures.same) c.self.invariant)
-    (c.fold_at.ensures ∙ ap (λ n. fold_on (held_by c.make_room.new.self) (parts_at n k ns)) same)
+    let left : c.take_store.new.self ≡ emptied x = c.in_ok-store.ensures.left in
+    let before : held_by c.get_mut.result.now ≡ x.folded = ap held_by c.get_mut.ensures.value ∙ c.in_ok-store.ensures.taken in
+    let number : c.self.inside.number ≡ x.number = ap (λ (s : ShardState). s.number) (c.self.view_is ∙ left) in
+    let held = held_by c.fold_at.new.store in
+    subst (λ (s : ShardState). part_of s.shards s.number held.tables ≡ held.tables) (sym left)
+    (own_after x.shards x.number x.folded held ns c.in_ok-store.ensures.own
+    (c.fold_at.ensures ∙ (λ i. fold_on (before i) (parts_at (c.requires.shards i) (number i) ns))))
 
 pub returns-clause-ok : goal.returns-clause-ok
 returns-clause-ok c =
-    let before : held_by c.make_room.new.self ≡ c.args.self.now.folded = c.in_ok-make_room.ensures.same
-    ∙ ap (λ (s : ShardState). s.folded) c.self.view_is in
+    let x : ShardState = c.args.self.now in
     let ns = numbered_of c.args.message.now in
-    λ i. record {
-      number = (c.self.view_is i).number;
-      shards = (c.self.view_is i).shards;
-      folded = (c.fold_at.ensures ∙ (λ j. fold_on (before j) (parts_at c.args.message.now.shards (c.self.view_is j).number ns))) i;
-    }
+    let left : c.take_store.new.self ≡ emptied x = c.in_ok-store.ensures.left in
+    let before : held_by c.get_mut.result.now ≡ x.folded = ap held_by c.get_mut.ensures.value ∙ c.in_ok-store.ensures.taken in
+    let number : c.self.inside.number ≡ x.number = ap (λ (s : ShardState). s.number) (c.self.view_is ∙ left) in
+    c.put_store.ensures ∙ (λ i. record {
+      number = (left i).number;
+      shards = (left i).shards;
+      folded = (c.fold_at.ensures ∙ (λ j. fold_on (before j) (parts_at c.args.message.now.shards (number j) ns))) i;
+    })
