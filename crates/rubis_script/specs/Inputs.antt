@@ -1,22 +1,12 @@
 -- What a record is to a site, and what the site answers to it.
 use Rattle.std.specs.Prelude.{◌≡◌, ◌++◌, ℕ, List, Result, Ok, Err}
 use Rattle.rubis_schema.specs.declared.refusals.Refusal.{Refusal}
-use Rattle.rubis_message.specs.Grammar.{IsPacket, IsRequest}
-use Rattle.rubis_model.specs.Runs.{Input as Meant, input_of, input_step}
-use Rattle.rubis_model.specs.Runs.Input.{Asked, Came, Neither}
+use Rattle.rubis_model.specs.Runs.{Input as Meant, input_step}
 use Rattle.rubis_replica.specs.State.{SiteState}
 use Rattle.rubis_replica.specs.declared.faults.Fault.{Fault}
 use Rattle.rubis_replica.specs.declared.faults.Fault.TheVariants.{Refused}
 use Rattle.rubis_script.specs.Text.{rows_text}
-use Rattle.rubis_script.specs.declared.desk.Input.{Input}
-use Rattle.rubis_script.specs.declared.desk.Input.TheVariants as read
 use Rattle.rubis_script.specs.declared.fault.OutOfMemory.{OutOfMemory}
-
--- it is what the record is, and within the limits
-abbrev pub IsRead : ℕ → List (List ℕ) → Input → Type 0
-IsRead sites fields (read.Asked r) = (input_of sites fields ≡ Asked r) × IsRequest sites r
-IsRead sites fields (read.Came p) = (input_of sites fields ≡ Came p) × IsPacket sites p
-IsRead sites fields read.Neither = input_of sites fields ≡ Neither
 
 -- the site has come to what record n makes of it, and the text of its answers stands behind what stood before
 abbrev pub IsAnswered : ℕ → Meant → SiteState → SiteState → List ℕ → List ℕ → Type 0

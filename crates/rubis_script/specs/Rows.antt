@@ -1,5 +1,5 @@
 -- A row on its way into a writer or a text.
-use Rattle.std.specs.Prelude.{◌≡◌, ◌==◌, ◌||◌, ◌&&◌, ◌++◌, ◌∷◌, [], ◌-◌, ◌^◌, ℕ, List, drop, length, min, not}
+use Rattle.std.specs.Prelude.{◌≡◌, ◌==◌, ◌||◌, ◌&&◌, ◌++◌, ◌∷◌, [], ◌-◌, ◌^◌, ℕ, List, drop, false, length, min, not}
 use Rattle.std.specs.List.{flat_map}
 use Rattle.std.proofs.Common.{Vec, Global}
 use Rattle.csv.specs.Writing.{fields_written, has_written, is_blank, row_body, writer_pending, writer_setup, writer_under}
@@ -18,6 +18,13 @@ pub record Begun (start : List ℕ) (w : Writer (Vec ℕ Global)) (fields : List
   pub text : held w ≡ start ++ row_body plain_writer fields
   pub count : fields_written w ≡ min (length fields) (2 ^ 64 - 1)
   pub blank : is_blank plain_writer fields ≡ (not (has_written w) && ((length fields == 0) || (length fields == 1)))
+
+-- no row is begun, and the text underneath has all that was written
+pub record IsBetweenRows (w : Writer (Vec ℕ Global)) : Type 0 where
+  pub setup : writer_setup w ≡ plain_writer
+  pub none : fields_written w ≡ 0
+  pub blank : has_written w ≡ false
+  pub written : writer_pending w ≡ []
 
 -- fields with a comma behind each
 abbrev pub front_text : List (List ℕ) → List ℕ

@@ -1,6 +1,6 @@
 // A site as a service: a record in, its answers out.
 
-ghost use Rattle.std.specs.Prelude.{◌≡◌, ◌≤◌, IfOk, OnOk, refl};
+ghost use Rattle.std.specs.Prelude.{◌≡◌, ◌≤◌, IfOk, None, OnOk, refl};
 ghost use Rattle.rubis_shadow.specs.Limits.{IsAsk};
 ghost use Rattle.rubis_message.specs.Grammar.{IsPacket, IsRequest};
 ghost use Rattle.rubis_message.specs.Message.{sites_of};
@@ -8,14 +8,15 @@ ghost use Rattle.rubis_message.specs.declared.requests.Request.TheVariants as Re
 ghost use Rattle.rubis_message.specs.declared.tokens.Packet.TheVariants as Packet;
 ghost use Rattle.rubis_model.specs.Runs.{input_of};
 ghost use Rattle.rubis_model.specs.Runs.Input.{Asked, Came};
+ghost use Rattle.rubis_message.specs.Readings.{packet_of};
 ghost use Rattle.rubis_model.specs.Site.{opening_at};
 ghost use Rattle.rubis_replica.specs.Setup.{place_of};
-ghost use Rattle.rubis_script.specs.Inputs.{IsAnswered, IsRead, answer_of};
+ghost use Rattle.rubis_script.specs.Inputs.{IsAnswered, answer_of};
 ghost use Rattle.rubis_script.specs.SiteRuns.{told_by};
 
 use crate::fault::OutOfMemory;
 use crate::replies::{
-    write_arrival, write_asked, write_listed_text, write_passed, write_refusal, write_taken,
+    write_arrival, write_listed_text, write_passed, write_refusal, write_sent, write_taken,
 };
 use crate::service::Service;
 use crate::sink::Sink;
@@ -55,8 +56,11 @@ fn answer_ask<G: Gate, R: Threads + Wait + Sync>(
     ensures place { site.new.place ≡ site.old.place }
     ensures answered { OnOk result (IsAnswered number (Asked (Request.Ask ask)) site.old site.new sink.old sink.new) }
 {
-    let answer = answered(site.request(rt, ask))?;
-    write_asked(fields, sink, number, &answer)?;
+    match site.request(rt, ask) {
+        Ok(message) => write_sent(fields, sink, number, &message)?,
+        Err(Fault::Refused(refusal)) => write_refusal(fields, sink, number, refusal)?,
+        Err(Fault::Behind) | Err(Fault::Memory) => return Err(OutOfMemory),
+    }
     Ok(())
 }
 
@@ -173,33 +177,6 @@ fn answer_packet<G: Gate, R: Threads + Wait + Sync>(
     }
 }
 
-// What a record is to a site.
-#[derive(Drop)]
-enum Input {
-    Asked(Request),
-    Came(Packet),
-    Neither,
-}
-
-// Reads what a record is. No record is both a request and a packet, and most records of a busy site are packets.
-#[tactic(auto, using(crate::proofs::OneReading::came))]
-#[inline(always)]
-fn read_input(alloc: Global, fields: &Fields, sites: u8) -> Result<Input, AllocError>
-    requires { sites ≤ 16 }
-    ensures { IfOk result (λ input. IsRead sites fields.now input) }
-{
-    match read_packet(alloc, fields, sites) {
-        Ok(packet) => return Ok(Input::Came(packet)),
-        Err(ReadFault::BadRecord) => {}
-        Err(ReadFault::Memory) => return Err(AllocError),
-    }
-    match read_request(alloc, fields, sites) {
-        Ok(request) => Ok(Input::Asked(request)),
-        Err(ReadFault::BadRecord) => Ok(Input::Neither),
-        Err(ReadFault::Memory) => Err(AllocError),
-    }
-}
-
 /// A site with what it needs to read records and to write its answers.
 #[derive(Drop)]
 pub struct Desk<G: Gate = Free> {
@@ -226,7 +203,34 @@ impl<G: Gate + Drop> Desk<G> {
 }
 
 impl<G: Gate> Desk<G> {
-    /// Answers the record with this number.
+    // Answers a record that is no packet.
+    #[tactic(auto, using(crate::proofs::OneReading::asked, crate::proofs::OneReading::neither))]
+    #[inline(always)]
+    fn respond_to_request<R: Threads + Wait + Sync>(
+        &mut self,
+        rt: &R,
+        number: u64,
+        fields: &Fields,
+        sink: &mut Sink,
+    ) -> Result<(), OutOfMemory>
+        requires { packet_of self.old.site.place.sites fields.now ≡ None }
+        ensures place { self.new.site.place ≡ self.old.site.place }
+        ensures answered { OnOk result (IsAnswered number (input_of self.old.site.place.sites fields.now) self.old.site self.new.site sink.old sink.new) }
+    {
+        let site = &mut self.site;
+        let reply = &mut self.reply;
+        match read_request(self.alloc, fields, self.sites) {
+            Ok(request) => answer_request(rt, site, reply, sink, number, request),
+            Err(ReadFault::BadRecord) => {
+                Ok(write_refusal(reply, sink, number, Refusal::BadRecord)?)
+            }
+            Err(ReadFault::Memory) => Err(OutOfMemory),
+        }
+    }
+
+    /// Answers the record with this number. No record is both a request and a packet, and most records of a busy site are
+    /// packets.
+    #[tactic(auto, using(crate::proofs::OneReading::came))]
     pub fn respond<R: Threads + Wait + Sync>(
         &mut self,
         rt: &R,
@@ -237,12 +241,13 @@ impl<G: Gate> Desk<G> {
         ensures place { self.new.site.place ≡ self.old.site.place }
         ensures answered { OnOk result (IsAnswered number (input_of self.old.site.place.sites fields.now) self.old.site self.new.site sink.old sink.new) }
     {
-        let site = &mut self.site;
-        let reply = &mut self.reply;
-        match read_input(self.alloc, fields, self.sites)? {
-            Input::Asked(request) => answer_request(rt, site, reply, sink, number, request),
-            Input::Came(packet) => answer_packet(rt, site, reply, sink, number, packet),
-            Input::Neither => Ok(write_refusal(reply, sink, number, Refusal::BadRecord)?),
+        match read_packet(self.alloc, fields, self.sites) {
+            Ok(packet) => {
+                let reply = &mut self.reply;
+                answer_packet(rt, &mut self.site, reply, sink, number, packet)
+            }
+            Err(ReadFault::BadRecord) => self.respond_to_request(rt, number, fields, sink),
+            Err(ReadFault::Memory) => Err(OutOfMemory),
         }
     }
 }

@@ -1,13 +1,16 @@
 // Rows in which some field may call for quotes: `csv` writes them.
 
-ghost use Rattle.std.specs.Prelude.{◌≡◌, ◌++◌, ◌∷◌, [], IfOk, ℕ, List, OnOk, false, map};
-ghost use Rattle.csv.specs.Writing.{fields_written, has_written, row_text, writer_setup};
-ghost use Rattle.rubis_script.specs.Rows.{Begun, held};
+ghost use Rattle.std.specs.Prelude.{◌≡◌, ◌++◌, ◌∷◌, [], ℕ, List, OnOk, false, map};
+ghost use Rattle.csv.specs.Writing.{fields_written, has_written, row_text, writer_setup, writer_under};
+ghost use Rattle.rubis_script.specs.Rows.{Begun, IsBetweenRows, held};
 ghost use Rattle.rubis_script.specs.Text.{plain_writer};
 
 use csv::{Writer, WriterBuilder};
-use rubis_schema::Fields;
+use rubis_schema::{Boxed, Fields};
 use std::alloc::{AllocError, Global};
+
+// With so many bytes of text a writer isn't used again.
+const MUCH: usize = 65_536;
 
 // Goes on with a row by one field.
 fn put_field(rows: &mut Writer<Vec<u8>>, field: &[u8]) -> Result<(), AllocError>
@@ -64,18 +67,63 @@ fn put_row(rows: &mut Writer<Vec<u8>>, first: &[&[u8]], fields: &Fields) -> Resu
     end_row(rows)
 }
 
-/// The text of a row that begins with `first` and goes on with the fields of a record.
-#[cold]
-#[inline(never)]
-pub fn quoted_row(alloc: Global, first: &[&[u8]], fields: &Fields) -> Result<Vec<u8>, AllocError>
-    ensures { IfOk result (λ text. text.items ≡ row_text plain_writer (map (λ f. f.now) first.now ++ fields.now)) }
+// Writes a row, and all of it into the text underneath.
+fn put_whole_row(
+    rows: &mut Writer<Vec<u8>>,
+    first: &[&[u8]],
+    fields: &Fields,
+) -> Result<(), AllocError>
+    requires { IsBetweenRows rows.old }
+    ensures text { OnOk result ((writer_under rows.new).items ≡ (writer_under rows.old).items ++ row_text plain_writer (map (λ f. f.now) first.now ++ fields.now)) }
+    ensures between { OnOk result (IsBetweenRows rows.new) }
 {
-    let mut rows = WriterBuilder::new()
-        .flexible(true)
-        .from_writer(Vec::new(alloc));
-    put_row(&mut rows, first, fields)?;
-    match rows.into_inner() {
-        Ok(text) => Ok(text),
+    put_row(rows, first, fields)?;
+    match rows.flush() {
+        Ok(()) => Ok(()),
         Err(_) => Err(AllocError),
+    }
+}
+
+/// What writes rows in which some field calls for quotes, with the text of those that it wrote. It is kept from row to row,
+/// since `csv`'s writer has a large buffer that is cleared when a writer is made.
+#[derive(Drop)]
+pub struct QuotedRows {
+    rows: Boxed<Writer<Vec<u8>>>,
+    ghost between: { IsBetweenRows rows },
+}
+
+impl QuotedRows {
+    /// No row is written yet.
+    #[cold]
+    #[inline(never)]
+    pub fn new(alloc: Global) -> Result<QuotedRows, AllocError> {
+        let rows = WriterBuilder::new()
+            .flexible(true)
+            .from_writer(Vec::new(alloc));
+        Ok(QuotedRows {
+            rows: Boxed::new(alloc, rows)?,
+        })
+    }
+
+    /// Adds a row to a text that begins with the fields `first` and goes on with those of a record. It is given back to be
+    /// used again, unless it holds much text by now.
+    pub fn add_to(
+        self,
+        text: &mut Vec<u8>,
+        first: &[&[u8]],
+        fields: &Fields,
+    ) -> Result<Option<QuotedRows>, AllocError>
+        ensures { OnOk result (text.new.items ≡ text.old.items ++ row_text plain_writer (map (λ f. f.now) first.now ++ fields.now)) }
+    {
+        let mut rows = self.rows;
+        let start = rows.get_ref().len();
+        put_whole_row(rows.get_mut(), first, fields)?;
+        let written = rows.get_ref().as_slice();
+        text.extend_from_slice(&written[start..])?;
+        if written.len() < MUCH {
+            Ok(Some(QuotedRows { rows }))
+        } else {
+            Ok(None)
+        }
     }
 }

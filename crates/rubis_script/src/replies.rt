@@ -68,21 +68,6 @@ pub fn write_sent<S: RowSink>(
     sink.put(fields)
 }
 
-/// Gives the id of an accepted ask, and sends its message; or says why the ask is refused.
-pub fn write_asked<S: RowSink>(
-    fields: &mut Fields,
-    sink: &mut S,
-    number: u64,
-    answer: &Result<Message, Refusal>,
-) -> Result<(), AllocError>
-    ensures { OnOk result (S.adds (asked_rows number answer.now) sink.old sink.new) }
-{
-    match answer {
-        Ok(message) => write_sent(fields, sink, number, message),
-        Err(refusal) => write_refusal(fields, sink, number, *refusal),
-    }
-}
-
 /// Says that the token is handed on, and sends it.
 pub fn write_handed_on<S: RowSink>(
     fields: &mut Fields,

@@ -8,7 +8,7 @@ ghost use Rattle.rubis_script.specs.Rows.{front_text, plain_row};
 ghost use Rattle.rubis_script.specs.Text.{plain_writer};
 
 use super::fault::RunFault;
-use super::quoted_rows::quoted_row;
+use super::quoted_rows::QuotedRows;
 use rubis_listing::RowSink;
 use rubis_schema::{Fields, is_plain};
 use std::alloc::{AllocError, Global};
@@ -25,6 +25,8 @@ pub struct Sink {
     // What stands before the text, where a long text was added whole.
     before: Vec<u8>,
     text: Vec<u8>,
+    // What wrote the last row with quotes.
+    quoted: Option<QuotedRows>,
 }
 
 impl Model for Sink {
@@ -81,12 +83,21 @@ fn push_plain(text: &mut Vec<u8>, first: &[&[u8]], plain: &[u8]) -> Result<(), A
     Ok(())
 }
 
-// Adds a row in which some field calls for quotes.
-fn push_quoted(text: &mut Vec<u8>, first: &[&[u8]], fields: &Fields) -> Result<(), AllocError>
+// Adds a row in which some field calls for quotes, by what is kept for such rows.
+fn push_quoted(
+    text: &mut Vec<u8>,
+    kept: &mut Option<QuotedRows>,
+    first: &[&[u8]],
+    fields: &Fields,
+) -> Result<(), AllocError>
     ensures { OnOk result (text.new.items ≡ text.old.items ++ row_text plain_writer (map (λ f. f.now) first.now ++ fields.now)) }
 {
-    let row = quoted_row(*text.allocator(), first, fields)?;
-    text.extend_from_slice(row.as_slice())
+    let rows = match kept.take() {
+        Some(rows) => rows,
+        None => QuotedRows::new(*text.allocator())?,
+    };
+    *kept = rows.add_to(text, first, fields)?;
+    Ok(())
 }
 
 // Adds two texts. Without memory for both nothing is added.
@@ -126,6 +137,7 @@ impl Sink {
         Sink {
             before: Vec::new(alloc),
             text: Vec::new(alloc),
+            quoted: None,
         }
     }
 
@@ -145,7 +157,7 @@ impl Sink {
     {
         let added = match plain_text(first, fields) {
             Some(text) => push_plain(&mut self.text, first, text),
-            None => push_quoted(&mut self.text, first, fields),
+            None => push_quoted(&mut self.text, &mut self.quoted, first, fields),
         };
         if added.is_err() {
             self.clear();
