@@ -33,16 +33,16 @@ has_middle m [] back = inl refl
 has_middle m (y ∷ front) back = inr (has_middle m front back)
 
 -- one of the messages has no other's id
-other_ids : (m : Message) (front back : List Message) → HaveOwnIds (front ++ m ∷ back) → (u : Message) → Has u (front ++ back) → id_of u ≢ id_of m
+pub other_ids : (m : Message) (front back : List Message) → HaveOwnIds (front ++ m ∷ back) → (u : Message) → Has u (front ++ back) → id_of u ≢ id_of m
 other_ids m [] back h u k = h.0 u k
 other_ids m (y ∷ front) back h u (inl e) = λ q. h.0 m (has_middle m front back) (sym q ∙ ap id_of e)
 other_ids m (y ∷ front) back h u (inr k) = other_ids m front back h.1 u k
 
-own_less : (m : Message) (front back : List Message) → HaveOwnIds (front ++ m ∷ back) → HaveOwnIds (front ++ back)
+pub own_less : (m : Message) (front back : List Message) → HaveOwnIds (front ++ m ∷ back) → HaveOwnIds (front ++ back)
 own_less m [] back h = h.1
 own_less m (y ∷ front) back h = ((λ u k. h.0 u (has_more u m front back k)), own_less m front back h.1)
 
-own_more : (m : Message) (xs : List Message) → HaveOwnIds xs → ((u : Message) → Has u xs → id_of m ≢ id_of u) → HaveOwnIds (xs ++ m ∷ [])
+pub own_more : (m : Message) (xs : List Message) → HaveOwnIds xs → ((u : Message) → Has u xs → id_of m ≢ id_of u) → HaveOwnIds (xs ++ m ∷ [])
 own_more m [] h n = ((λ u k. absurd k), tt)
 own_more m (y ∷ xs) h n = (
   (λ u k. ⊎_elim (λ l. h.0 u l) (λ e q. n y (inl refl) (ap id_of (sym e) ∙ q)) (push_cases u m xs k)),
@@ -117,7 +117,7 @@ making_keeps p log waiting m k l e a r = record {
 }
 
 -- ---- a message comes
-has_any : (test : Message → Bool) (xs : List Message) → list_any test xs ≡ true → (u : Message) × (Has u xs) × (test u ≡ true)
+pub has_any : (test : Message → Bool) (xs : List Message) → list_any test xs ≡ true → (u : Message) × (Has u xs) × (test u ≡ true)
 has_any test [] e = absurd (true≢false (sym e))
 has_any test (x ∷ xs) e = ⊎_elim (λ h. (x, inl refl, h)) (λ h. let f = has_any test xs h in (f.0, inr f.1, f.2)) (or_cases (test x) (list_any test xs) e)
 

@@ -1,4 +1,4 @@
-pub mod Entries
+pub mod Waiters
 pub mod Counting
 pub mod Releasing
 pub mod Keeping

@@ -13,7 +13,7 @@ use Rattle.rubis_model.specs.Site.{counts}
 use Rattle.rubis_model.specs.Settle.Settles.{Rest, Release}
 use Rattle.rubis_release.specs.Release.{clock_of, IsAmong, AllAmong, IsFirst, NoneReady}
 use Rattle.rubis_release.proofs.Counting.{ready_after, ready_by_clock, length_counts, clock_more}
-use Rattle.rubis_release.proofs.Entries.{has_there}
+use Rattle.rubis_release.proofs.Waiters.{has_there}
 
 last_of : (xs : List Message) (m d : Message) → get_or (xs ++ m ∷ []) (length xs) d ≡ m
 last_of [] m d = refl

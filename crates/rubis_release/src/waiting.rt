@@ -4,7 +4,7 @@ ghost use Rattle.std.specs.List.{list_any, remove};
 ghost use Rattle.rubis_schema.specs.Keys.{same_id};
 ghost use Rattle.rubis_release.specs.Release.{AllAmong, IsFirst, NoneReady};
 
-use indexmap::IndexMap;
+use indexmap::IndexSet;
 use rubis_clock::Clock;
 use rubis_message::Message;
 use rubis_schema::Id;
@@ -12,22 +12,26 @@ use std::alloc::{AllocError, Global};
 use std::marker::Model;
 
 // The messages that wait to be released, in arrival order.
+//
+// Their ids stand in a set beside them, so that one is found without a walk, and taking a message out moves no index.
 #[derive(Drop)]
 pub struct Waiting {
-    by_id: IndexMap<Id, Message>,
+    // The ids of those that wait, in any order.
+    ids: IndexSet<Id>,
+    // Those that wait, in arrival order.
+    list: Vec<Message>,
 }
 
 impl Model for Waiting {
-    ghost use Rattle.std.specs.Prelude.{◌≡◌, List, map};
-    ghost use Rattle.indexmap.specs.IndexMap.{keys, values};
+    ghost use Rattle.std.specs.Prelude.{List};
     ghost use Rattle.rubis_message.specs.Message as model;
-    ghost use Rattle.rubis_release.specs.Release.{id_of};
+    ghost use Rattle.rubis_release.specs.Release.{AreTheIds};
 
     ghost Value = { List model.Message };
 
-    ghost view = { λ w. values w.by_id };
+    ghost view = { λ w. w.list.items };
 
-    ghost invariant = { λ w. keys w.by_id ≡ map id_of (values w.by_id) };
+    ghost invariant = { λ w. AreTheIds w.ids.keys w.list.items };
 }
 
 impl Waiting {
@@ -36,22 +40,24 @@ impl Waiting {
         ensures { result ≡ [] }
     {
         Waiting {
-            by_id: IndexMap::new(alloc),
+            ids: IndexSet::new(alloc),
+            list: Vec::new(alloc),
         }
     }
 
     // How many wait.
+    #[inline(always)]
     pub fn len(&self) -> usize
         ensures { result ≡ length self.now }
     {
-        self.by_id.len()
+        self.list.len()
     }
 
     // Whether a message with that id waits.
     pub fn has(&self, id: &Id) -> bool
         ensures { result ≡ list_any (λ m. same_id id.now m.stamp.id) self.now }
     {
-        self.by_id.contains_key(id)
+        self.ids.contains(id)
     }
 
     // Puts a message last.
@@ -60,8 +66,11 @@ impl Waiting {
         ensures ok { OnOk result (self.new ≡ self.old ++ message ∷ []) }
         ensures err { OnErr result (self.new ≡ self.old) }
     {
+        // The list has room before the set has the id, so that without memory nothing is half done.
         let id = message.stamp().id;
-        self.by_id.insert(id, message)?;
+        self.list.reserve(1)?;
+        self.ids.insert(id)?;
+        self.list.push_reserved(message);
         Ok(())
     }
 
@@ -71,20 +80,22 @@ impl Waiting {
         ensures message { slice_get self.old at ≡ Some result }
         ensures rest { self.new ≡ remove self.old at }
     {
-        let (_, message) = self.by_id.shift_remove_index(at).unwrap();
+        let message = self.list.remove(at);
+        self.ids.swap_remove(&message.stamp().id);
         message
     }
 
     // The message at that place.
+    #[inline(always)]
     pub fn message_at(&self, at: usize) -> &Message
         requires { at < length self.now }
         ensures { (d : model.Message) → slice_index_or self.now at d ≡ result.now }
     {
-        let (_, message) = self.by_id.get_index(at).unwrap();
-        message
+        &self.list[at]
     }
 
     // The place of the earliest message that is ready.
+    #[inline(always)]
     pub fn first_ready(&self, clock: &Clock) -> Option<usize>
         requires { AllAmong (length clock.now.counts) self.now }
         ensures { MatchOption result (NoneReady clock.now self.now) (IsFirst clock.now self.now) }

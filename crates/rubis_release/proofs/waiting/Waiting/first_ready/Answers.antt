@@ -1,7 +1,7 @@
 use Rattle.std.proofs.Common.{length, ap, ◌∙◌, arith}
 use Rattle.rubis_clock.specs.declared.stamps.Stamp.{Stamp}
 use Rattle.rubis_release.specs.Release.{IsAmong}
-use Rattle.rubis_release.proofs.Entries.{among_there}
+use Rattle.rubis_release.proofs.Waiters.{among_there}
 use Rattle.rubis_release.proofs.waiting.Waiting.first_ready.Goals as goal
 
 there : (c : goal.After-stamp) → IsAmong (length c.args.clock.now.counts) c.message_at.result.now

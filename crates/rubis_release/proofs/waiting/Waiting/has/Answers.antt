@@ -2,11 +2,7 @@ use Rattle.std.proofs.Common.{ap, ◌∙◌}
 use Rattle.std.specs.List.{list_any}
 use Rattle.rubis_schema.specs.Keys.{same_id}
 use Rattle.rubis_message.specs.Message.{Message}
-use Rattle.rubis_release.proofs.Entries.{found_is}
 use Rattle.rubis_release.proofs.waiting.Waiting.has.Goals as goal
 
 pub returns : goal.returns
-returns c =
-    c.contains_key.ensures
-    ∙ found_is (same_id c.args.id.now) c.self.inside.by_id.entries c.self.invariant
-    ∙ ap (list_any (λ (m : Message). same_id c.args.id.now m.stamp.id)) c.self.view_is
+returns c = c.contains.ensures ∙ c.self.invariant.same c.args.id.now ∙ ap (list_any (λ (m : Message). same_id c.args.id.now m.stamp.id)) c.self.view_is
