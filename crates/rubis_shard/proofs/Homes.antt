@@ -14,7 +14,7 @@ use Rattle.rubis_shard.specs.Holdings.{shard_of_log, parts_at, AreInOrder, Folds
 use Rattle.rubis_shard.specs.Messages.{FoldsFrom, emptied}
 use Rattle.rubis_shard.proofs.Logs.{shard_with_share}
 use Rattle.rubis_shard.proofs.Parts.{own_after}
-use Rattle.rubis_shard.proofs.Places.{written_here, written_elsewhere}
+use Rattle.rubis_shard.proofs.Items.{written_here, written_elsewhere}
 
 set_twice : {X : Type 0} (xs : List X) (i : ℕ) (x y : X) → set (set xs i y) i x ≡ set xs i x
 set_twice [] i x y = refl

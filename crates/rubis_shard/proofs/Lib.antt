@@ -1,6 +1,9 @@
 pub mod Openings
 pub mod Folds
-pub mod Places
+pub mod Items
+pub mod Slots
+pub mod Finding
+pub mod FoundRows
 pub mod Logs
 pub mod Unions
 pub mod Parts

@@ -25,10 +25,10 @@ at_end : (cs : List ℕ) (c : ℕ) → get_or (cs ++ c ∷ []) (length cs) 0 ≡
 at_end [] c = refl
 at_end (x ∷ xs) c = at_end xs c
 
-same_number : (n : ℕ) → nat_eq n n ≡ true
+pub same_number : (n : ℕ) → nat_eq n n ≡ true
 same_number n = (Decides-eqb n n).1 refl
 
-other_number : (a b : ℕ) → ¬ (a ≡ b) → nat_eq a b ≡ false
+pub other_number : (a b : ℕ) → ¬ (a ≡ b) → nat_eq a b ≡ false
 other_number a b apart = at (nat_eq a b) refl
   where
     at : (x : Bool) → nat_eq a b ≡ x → nat_eq a b ≡ false

@@ -1,19 +1,23 @@
 -- The opening rows of one shard, and that they are at home there.
-use Rattle.std.proofs.Common.{◌≡◌, ℕ, Bool, true, false, cond, refl, sym, ap, ◌∙◌}
+use Rattle.std.proofs.Common.{◌≡◌, ℕ, zero, suc, ◌+◌, ◌<◌, arith, Bool, true, false, cond, refl, sym, ap, ◌∙◌}
 use Rattle.std.specs.Prelude.{[], Option, Some, None, filter, nat_eq}
 use Rattle.std.specs.FinMap as map
-use Rattle.rubis_schema.specs.Keys.{holds, home, key_order}
+use Rattle.std.specs.Map.{lookup}
+use Rattle.rubis_schema.specs.Keys.{holds, home, key_eq, key_order}
 use Rattle.rubis_schema.specs.Tables.{Tables}
 use Rattle.rubis_schema.specs.declared.listings.Listing.{Listing}
 use Rattle.rubis_schema.specs.declared.row_keys.RowKey.{RowKey}
+use Rattle.rubis_schema.specs.declared.row_keys.RowKey.TheVariants as key
 use Rattle.rubis_schema.specs.declared.row_keys.Table.{Table}
 use Rattle.rubis_schema.specs.declared.rows.Row.{Row}
-use Rattle.rubis_shadow.specs.Tables.{rows_of}
+use Rattle.rubis_shadow.specs.Tables.{categories_from, new_category, rows_of}
+use Rattle.rubis_shadow.proofs.Rows.{get_tables_of}
 use Rattle.rubis_model.specs.Shares.{part_of}
 use Rattle.rubis_model.proofs.Commute.{same_tables}
 use Rattle.rubis_model.proofs.Shares.{get-part_of, part_with_row}
 use Rattle.rubis_shard.specs.Listed.{listed_of, picked_by}
-use Rattle.rubis_shard.proofs.Places.{no_items}
+use Rattle.rubis_shard.proofs.Items.{no_items}
+use Rattle.rubis_shard.proofs.Linking.{other_number}
 
 neither : (b : Bool) → ◌≡◌ {A = Option Row} (cond b None None) None
 neither true = refl
@@ -45,6 +49,22 @@ pub part_elsewhere : (shards k : ℕ) (t : Tables) (p : RowKey) (row : Row) → 
     → part_of shards k (map.insert t p row) ≡ part_of shards k t
 part_elsewhere shards k t p row h = part_with_row shards k t p (Some row)
     ∙ ap (λ b. cond b (map.insert (part_of shards k t) p row) (part_of shards k t)) h
+
+-- a category before those from k on isn't there
+category_absent : (k n j : ℕ) → j < k → lookup (key_eq (key.Cat j)) (categories_from k n) ≡ None
+unfolding categories_from
+category_absent k zero j before = refl
+category_absent k (suc n) j before =
+    ap (λ b. cond b (Some new_category) (lookup (key_eq (key.Cat j)) (categories_from (k + 1) n))) (other_number j k (λ e. omega (arith, e)))
+    ∙ category_absent (k + 1) n j (omega arith)
+
+pub not_open : (shards number k n j : ℕ) → j < k
+    → map.get (part_of shards number (map.from_entries (categories_from k n))) (key.Cat j) ≡ None
+not_open shards number k n j before =
+    get-part_of shards number _ (key.Cat j)
+    ∙ ap (λ o. cond (nat_eq (home shards (key.Cat j)) number) o None)
+    (get_tables_of (categories_from k n) (key.Cat j) ∙ category_absent k n j before)
+    ∙ neither (nat_eq (home shards (key.Cat j)) number)
 
 twice : (b : Bool) (o : Option Row) → cond b (cond b o None) None ≡ cond b o None
 twice true o = refl

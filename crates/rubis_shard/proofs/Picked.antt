@@ -11,10 +11,13 @@ use Rattle.std.proofs.lemmas.List.Elements.{filter-append}
 use Rattle.std.proofs.lemmas.Map.Made.{IsDistinct-keys_filter}
 use Rattle.rubis_schema.specs.Keys.{holds, key_eq, key_order}
 use Rattle.rubis_schema.specs.KeyLaws.{Decides-key_eq}
+use Rattle.rubis_schema.specs.Tables.{Tables}
 use Rattle.rubis_schema.specs.declared.listings.Listing.{Listing}
+use Rattle.rubis_schema.specs.declared.listings.Listing.TheVariants as listing
 use Rattle.rubis_schema.specs.declared.row_keys.RowKey.{RowKey}
 use Rattle.rubis_schema.specs.declared.row_keys.Table.{Table}
 use Rattle.rubis_schema.specs.declared.rows.Row.{Row}
+use Rattle.rubis_shadow.specs.Tables.{rows_of}
 use Rattle.rubis_shadow.proofs.Entries.{first_of}
 use Rattle.rubis_shadow.proofs.Listed.{rows_listed}
 use Rattle.rubis_shadow.proofs.Rows.{tables_of, get_tables_of, lookup_find}
@@ -120,6 +123,14 @@ picked_listed l t es gs distinct moved sorted =
     let p = λ (e : RowKey × Row). is_of l e.0 e.1 in
     rows_listed t (filter p es) gs (IsDistinct-keys_filter key_eq p es distinct) moved sorted
     ∙ ap (filter (λ (e : RowKey × Row). holds t e.0)) (entries_passing p es distinct)
+
+-- the listing of all rows shows each of them
+picked_all : (es : Entries) → picked_by listing.Tables es ≡ es
+picked_all [] = refl
+picked_all (e ∷ es) = ap (λ fs. e ∷ fs) (picked_all es)
+
+pub all_listed : (t : Table) (tables : Tables) → listed_of listing.Tables t tables ≡ rows_of t tables
+all_listed t tables = ap (filter (λ (e : RowKey × Row). holds t e.0)) (picked_all (map.entries tables))
 
 -- ---- shard by shard
 abbrev pub listed_by_shard : Listing → Table → List ShardState → Entries

@@ -73,6 +73,18 @@ one_turned : (b : Bool) (e : Entry) → reverse (cond b (e ∷ []) []) ≡ cond 
 one_turned true e = refl
 one_turned false e = refl
 
+-- one row more of all
+pub listed_more : (l : Listing) (t : Table) (es : List Entry) (n : ℕ) (e : Entry) (b : Bool) → n < length es → e ≡ get_or es n e
+    → b ≡ (is_of l e.0 e.1 && holds t e.0)
+    → listed_among l t (take (n + 1) es) ≡ listed_among l t (take n es) ++ cond b (e ∷ []) []
+listed_more l t es n e b within read test =
+    let p = λ (x : Entry). is_of l x.0 x.1 in
+    let h = λ (x : Entry). holds t x.0 in
+    ap (filter h) (filter_more p es n e within ∙ ap (λ x. filter p (take n es) ++ cond (p x) (x ∷ []) []) (sym read))
+    ∙ filter-append h (filter p (take n es)) (cond (p e) (e ∷ []) [])
+    ∙ ap (λ xs. listed_among l t (take n es) ++ xs) (one_picked (p e) (h e) e h refl)
+    ∙ ap (λ c. listed_among l t (take n es) ++ cond c (e ∷ []) []) (sym test)
+
 module _ (l : Listing) (t : Table) (chain : ℕ) (with_chain : chain_with l ≡ Some chain) (es : List Entry) where
   is_picked : Entry → Bool
   is_picked e = is_of l e.0 e.1 && holds t e.0

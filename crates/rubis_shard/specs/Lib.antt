@@ -1,5 +1,6 @@
 pub mod States
 pub mod Chains
+pub mod Places
 pub mod Stores
 pub mod StateCode
 pub mod Holdings

@@ -2,15 +2,15 @@
 use Rattle.std.specs.Prelude.{ℕ, ◌+◌, ◌≤◌, [], Option, Some, None}
 use Rattle.std.specs.FinMap as map
 use Rattle.std.specs.Vec.{vec_len, vec_capacity}
-use Rattle.indexmap.specs.IndexMap.{spare}
 use Rattle.rubis_model.specs.Log.{Folded}
 use Rattle.rubis_shard.specs.Chains.{HasPlaces}
+use Rattle.rubis_shard.specs.Places.{HasRoomForKeys}
 use Rattle.rubis_shard.specs.declared.row_map.Rows.{Rows}
 use Rattle.rubis_shard.specs.declared.stores.Store.{Store}
 
 -- its rows as tables, and its misfits
 abbrev pub held_by : Store → Folded
-held_by s = record { tables = map.from_entries s.rows.all.entries; misfits = s.misfits.items }
+held_by s = record { tables = map.from_entries s.rows.all.items; misfits = s.misfits.items }
 
 -- no rows and no misfits
 abbrev pub nothing_held : Folded
@@ -23,8 +23,9 @@ held_in (Some s) = held_by s
 
 -- there is room for so many rows more
 pub record HasRoomForRows (r : Rows) (rows : ℕ) : Type 0 where
-  pub spare : rows ≤ spare r.all
-  pub places : HasPlaces r.chains rows
+  pub all : vec_len r.all + rows ≤ vec_capacity r.all
+  pub keys : HasRoomForKeys r.places rows
+  pub chains : HasPlaces r.chains rows
 
 -- there is room for so many parts more, whatever they do
 pub record HasRoom (s : Store) (parts : ℕ) : Type 0 where

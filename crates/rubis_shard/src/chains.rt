@@ -10,8 +10,8 @@ use std::alloc::{AllocError, Global};
 /// How many chains there are, but for that of the rows that are listed only with their whole table.
 pub const CHAINS: usize = 1024;
 
-// The greatest place that a row can have.
-const PLACE_MAX: usize = 4294967295;
+/// The greatest place that a row can have.
+pub const PLACE_MAX: usize = 4294967295;
 
 /// The chain of a row: by the item, the user or the category by which it is listed.
 pub fn chain_of(row: &Row) -> usize

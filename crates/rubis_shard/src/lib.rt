@@ -6,6 +6,8 @@ mod laws;
 mod message_parts;
 mod messages;
 mod picks;
+mod place_lists;
+mod places;
 mod row_map;
 mod rows;
 mod selections;

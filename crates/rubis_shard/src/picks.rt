@@ -12,7 +12,6 @@ ghost use Rattle.rubis_shard.specs.Listed.{listed_among, listed_of};
 use crate::chains::chain_with;
 use crate::row_map::Rows;
 use crate::selections::selects;
-use indexmap::IndexMap;
 use rubis_schema::{Listing, Row, RowKey, Table};
 use rubis_shadow::put_in_order;
 use std::alloc::{AllocError, Global};
@@ -27,14 +26,14 @@ fn picks(listing: &Listing, table: Table, key: &RowKey, row: &Row) -> bool
 // Those rows of one table that the listing is of, looked for among all rows.
 fn picked_of_all<'a>(
     alloc: Global,
-    all: &'a IndexMap<RowKey, Row>,
+    all: &'a [(RowKey, Row)],
     table: Table,
     listing: &Listing,
 ) -> Result<Vec<(&'a RowKey, &'a Row)>, AllocError>
-    ensures { IfOk result (λ rows. each deref_pair rows.items ≡ listed_among listing.now table all.now.entries) }
+    ensures { IfOk result (λ rows. each deref_pair rows.items ≡ listed_among listing.now table all.now) }
 {
     let mut rows = Vec::new(alloc);
-    for (key, row) in all.iter() {
+    for (key, row) in all {
         if picks(listing, table, key, row) {
             rows.push((key, row))?;
         }
@@ -51,12 +50,12 @@ fn picked_of_chain<'a>(
     listing: &Listing,
 ) -> Result<Vec<(&'a RowKey, &'a Row)>, AllocError>
     requires { chain_with listing.now ≡ Some chain }
-    ensures { IfOk result (λ picked. IsPermutation (listed_among listing.now table rows.now.all.entries) (each deref_pair picked.items)) }
+    ensures { IfOk result (λ picked. IsPermutation (listed_among listing.now table rows.now.all.items) (each deref_pair picked.items)) }
 {
     let mut picked = Vec::new(alloc);
     let mut place = rows.chains.last(chain);
     while place > 0 {
-        let (key, row) = rows.all.get_index(place - 1).unwrap();
+        let (key, row) = &rows.all[place - 1];
         if picks(listing, table, key, row) {
             picked.push((key, row))?;
         }
@@ -72,7 +71,7 @@ fn picked<'a>(
     table: Table,
     listing: &Listing,
 ) -> Result<Vec<(&'a RowKey, &'a Row)>, AllocError>
-    ensures { IfOk result (λ picked. IsPermutation (listed_among listing.now table rows.now.all.entries) (each deref_pair picked.items)) }
+    ensures { IfOk result (λ picked. IsPermutation (listed_among listing.now table rows.now.all.items) (each deref_pair picked.items)) }
 {
     match chain_with(listing) {
         Some(chain) => picked_of_chain(alloc, rows, chain, table, listing),
@@ -87,10 +86,8 @@ pub fn picked_in_order<'a>(
     table: Table,
     listing: &Listing,
 ) -> Result<Vec<(&'a RowKey, &'a Row)>, AllocError>
-    ensures { IfOk result (λ picked. each deref_pair picked.items ≡ listed_of listing.now table (map.from_entries rows.now.all.entries)) }
+    ensures { IfOk result (λ picked. each deref_pair picked.items ≡ listed_of listing.now table (map.from_entries rows.now.all.items)) }
 {
-    // No two of the map's keys are one, says the contract of its length.
-    let _rows = rows.all.len();
     let mut picked = picked(alloc, rows, table, listing)?;
     put_in_order(alloc, &mut picked)?;
     Ok(picked)

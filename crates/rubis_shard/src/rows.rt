@@ -1,117 +1,112 @@
-ghost use Rattle.std.specs.Prelude.{◌≡◌, ◌≢◌, ℕ, ◌+◌, ◌<◌, ◌≤◌, [], ◌∷◌, ◌++◌, true, is_none, IfOk, IsOk, OnOk};
+ghost use Rattle.std.specs.Prelude.{◌≡◌, ◌≢◌, ℕ, ◌+◌, ◌≤◌, [], is_none, option_copied, vec_len, OnOk};
 ghost use Rattle.std.specs.Bool.{MatchBool};
 ghost use Rattle.std.specs.FinMap as map;
-ghost use Rattle.indexmap.specs.IndexMap.{spare};
+ghost use Rattle.std.specs.Map.{keys_of};
 ghost use Rattle.rubis_schema.specs.Keys.{key_order};
 ghost use Rattle.rubis_schema.specs.declared.rows.Row.{Row};
 ghost use Rattle.rubis_shadow.specs.Changes.{after, misfit_of};
 ghost use Rattle.rubis_shadow.specs.declared.changes.Change.TheVariants.{Insert};
-ghost use Rattle.rubis_shard.specs.Chains.{chains_of};
+ghost use Rattle.rubis_shard.specs.Places.{place_among};
 ghost use Rattle.rubis_shard.specs.Stores.{HasRoomForRows};
 
 use crate::chains::{Chains, chain_of};
+use crate::places::Places;
 use crate::row_map::Rows;
-use indexmap::IndexMap;
-use indexmap::map::Entry;
 use rubis_schema::{Row, RowKey};
 use rubis_shadow::{Change, Effect, MisfitKind};
 use std::alloc::{AllocError, Global};
 
-// Puts the row at the key.
-pub fn put_row(rows: &mut IndexMap<RowKey, Row>, key: RowKey, row: Row) -> Result<(), AllocError>
-    ensures ok { OnOk result (map.from_entries {R = key_order} rows.new.entries ≡ map.insert (map.from_entries rows.old.entries) key row) }
-{
-    rows.insert(key, row)?;
-    Ok(())
-}
-
-// Puts the row at the key where none is there, and says whether it did.
-#[tactic(auto, using(rubis_shadow::proofs::Rows::tables_of_update))]
-#[inline(always)]
-fn put_new(rows: &mut IndexMap<RowKey, Row>, key: RowKey, row: Row) -> bool
-    requires { 0 < spare rows.old }
-    ensures free { result ≡ is_none (map.get (map.from_entries {R = key_order} rows.old.entries) key) }
-    ensures put { MatchBool result (map.from_entries {R = key_order} rows.new.entries ≡ map.insert (map.from_entries rows.old.entries) key row) (rows.new.entries ≡ rows.old.entries) }
-    ensures last { result ≡ true → rows.new.entries ≡ rows.old.entries ++ (key, row) ∷ [] }
-    ensures room { spare rows.old ≤ spare rows.new + 1 }
-{
-    let Ok(entry) = rows.entry(key) else {
-        unreachable!()
-    };
-    match entry {
-        Entry::Occupied(_) => false,
-        Entry::Vacant(vacant) => {
-            vacant.insert(row);
-            true
-        }
-    }
-}
-
-// Does a change of a row, where the row is.
-#[inline(always)]
-fn change_row(rows: &mut IndexMap<RowKey, Row>, key: &RowKey, change: &Change) -> Option<MisfitKind>
-    requires { (row : Row) → change.now ≢ Insert row }
-    ensures tables { map.from_entries {R = key_order} rows.new.entries ≡ after (map.from_entries rows.old.entries) (record { key = key.now; change = change.now }) }
-    ensures misfit { result ≡ misfit_of (map.from_entries rows.old.entries) (record { key = key.now; change = change.now }) }
-    ensures chains { chains_of rows.new.entries ≡ chains_of rows.old.entries }
-    ensures room { spare rows.old ≤ spare rows.new }
-{
-    let Some(row) = rows.get_mut(key) else {
-        return Some(MisfitKind::NoRow);
-    };
-    change.alter(row)
-}
-
 impl Rows {
-    /// No rows.
-    pub fn new(alloc: Global) -> Rows
-        ensures { result.all.entries ≡ [] }
+    /// No rows, of one of so many shards.
+    pub fn new(alloc: Global, shards: usize) -> Rows
+        ensures { result.all.items ≡ [] }
     {
         Rows {
-            all: IndexMap::new(alloc),
+            all: Vec::new(alloc),
+            places: Places::new(alloc, shards),
             chains: Chains::new(alloc),
         }
     }
 
-    /// These rows.
-    pub fn with(alloc: Global, all: IndexMap<RowKey, Row>) -> Result<Rows, AllocError>
-        ensures { IfOk result (λ rows. rows.all ≡ all) }
-    {
-        let mut chains = Chains::new(alloc);
-        chains.make_room(all.len())?;
-        for (_, row) in all.iter() {
-            chains.push(chain_of(row));
-        }
-        Ok(Rows { all, chains })
-    }
-
     /// Makes room for so many rows more.
     pub fn make_room(&mut self, rows: usize) -> Result<(), AllocError>
-        ensures same { self.new.all.entries ≡ self.old.all.entries }
+        ensures same { self.new.all.items ≡ self.old.all.items }
         ensures room { OnOk result (HasRoomForRows self.new rows) }
     {
         self.all.reserve(rows)?;
+        self.places.make_room(rows)?;
         self.chains.make_room(rows)?;
         Ok(())
+    }
+
+    // The place of the row at the key, counted from 1, or 0.
+    #[inline(always)]
+    fn place(&self, key: &RowKey) -> usize
+        ensures place { result ≡ place_among key.now (keys_of self.now.all.items) }
+        ensures within { result ≤ vec_len self.now.all }
+    {
+        self.places.find(key, &self.all)
+    }
+
+    /// The row at the key, if there is one.
+    pub fn row(&self, key: &RowKey) -> Option<&Row>
+        ensures { option_copied result ≡ map.get (map.from_entries {R = key_order} self.now.all.items) key.now }
+    {
+        let place = self.place(key);
+        if place == 0 {
+            return None;
+        }
+        Some(&self.all[place - 1].1)
+    }
+
+    /// Puts the row at the key where none is there, and says whether it did. There is room for it.
+    #[inline(always)]
+    pub fn put_new(&mut self, key: RowKey, row: Row) -> bool
+        requires { HasRoomForRows self.old 1 }
+        ensures free { result ≡ is_none (map.get (map.from_entries {R = key_order} self.old.all.items) key) }
+        ensures put { MatchBool result (map.from_entries {R = key_order} self.new.all.items ≡ map.insert (map.from_entries self.old.all.items) key row) (self.new.all.items ≡ self.old.all.items) }
+        ensures room { (n : ℕ) → HasRoomForRows self.old (n + 1) → HasRoomForRows self.new n }
+    {
+        if self.place(&key) != 0 {
+            return false;
+        }
+        let chain = chain_of(&row);
+        self.all.push_reserved((key, row));
+        self.chains.push(chain);
+        self.places.put(key, self.all.len());
+        true
+    }
+
+    // Does a change of a row, where the row is.
+    #[inline(always)]
+    fn change_row(&mut self, key: &RowKey, change: &Change) -> Option<MisfitKind>
+        requires { (row : Row) → change.now ≢ Insert row }
+        ensures tables { map.from_entries {R = key_order} self.new.all.items ≡ after (map.from_entries self.old.all.items) (record { key = key.now; change = change.now }) }
+        ensures misfit { result ≡ misfit_of (map.from_entries self.old.all.items) (record { key = key.now; change = change.now }) }
+        ensures room { (n : ℕ) → HasRoomForRows self.old n → HasRoomForRows self.new n }
+    {
+        let place = self.place(key);
+        if place == 0 {
+            return Some(MisfitKind::NoRow);
+        }
+        change.alter(&mut self.all[place - 1].1)
     }
 
     /// Does one part, for which there is room.
     #[inline(always)]
     pub fn put_effect(&mut self, effect: Effect) -> Option<MisfitKind>
         requires { HasRoomForRows self.old 1 }
-        ensures tables { map.from_entries {R = key_order} self.new.all.entries ≡ after (map.from_entries self.old.all.entries) effect }
-        ensures misfit { result ≡ misfit_of (map.from_entries self.old.all.entries) effect }
+        ensures tables { map.from_entries {R = key_order} self.new.all.items ≡ after (map.from_entries self.old.all.items) effect }
+        ensures misfit { result ≡ misfit_of (map.from_entries self.old.all.items) effect }
         ensures room { (n : ℕ) → HasRoomForRows self.old (n + 1) → HasRoomForRows self.new n }
     {
         let Effect { key, change } = effect;
         if let Change::Insert(row) = change {
-            let chain = chain_of(&row);
-            if put_new(&mut self.all, key, row) {
-                self.chains.push(chain);
+            if self.put_new(key, row) {
                 return None;
             }
             return Some(MisfitKind::RowThere);
         }
-        change_row(&mut self.all, &key, &change)
+        self.change_row(&key, &change)
     }
 }

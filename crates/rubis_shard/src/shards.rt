@@ -18,12 +18,10 @@ ghost use Rattle.rubis_shard.specs.Stores.{held_by, HasRoom};
 use crate::message_parts::MessageParts;
 use crate::picks::picked_in_order;
 use crate::row_map::Rows;
-use crate::rows::put_row;
 use crate::shares::Share;
 use crate::stores::Store;
-use indexmap::IndexMap;
 use rubis_schema::{Boxed, CATEGORIES, CatRow, Listing, Row, RowKey, Table, shard_of};
-use rubis_shadow::{Misfit, rows_in_order};
+use rubis_shadow::Misfit;
 use std::alloc::{AllocError, Global};
 use std::marker::Model;
 
@@ -66,9 +64,8 @@ impl Shard {
         requires { number < shards }
         ensures { IfOk result (λ shard. shard ≡ opening_shard shards number) }
     {
-        let rows = Rows::with(alloc, opening_rows(alloc, number, shards)?)?;
         let store = Store {
-            rows,
+            rows: opening_rows(alloc, number, shards)?,
             misfits: Vec::new(alloc),
         };
         Ok(Shard {
@@ -99,7 +96,7 @@ impl Shard {
         ensures own { HoldsOwnRows self.now }
     {
         match &self.store {
-            Some(store) => store.rows.all.get(key),
+            Some(store) => store.rows.row(key),
             None => None,
         }
     }
@@ -120,7 +117,7 @@ impl Shard {
         ensures own { HoldsOwnRows self.now }
     {
         match &self.store {
-            Some(store) => rows_in_order(alloc, &store.rows.all, table),
+            Some(store) => picked_in_order(alloc, &store.rows, table, &Listing::Tables),
             None => Ok(Vec::new(alloc)),
         }
     }
@@ -215,7 +212,7 @@ impl Shard {
     {
         match self.store.take() {
             Some(store) => Ok(store),
-            None => Boxed::new(self.alloc, Store::new(self.alloc)),
+            None => Boxed::new(self.alloc, Store::new(self.alloc, self.shards)),
         }
     }
 
@@ -245,21 +242,18 @@ impl Shard {
 }
 
 // The opening rows whose home is the shard.
-fn opening_rows(
-    alloc: Global,
-    number: usize,
-    shards: usize,
-) -> Result<IndexMap<RowKey, Row>, AllocError>
+fn opening_rows(alloc: Global, number: usize, shards: usize) -> Result<Rows, AllocError>
     requires { number < shards }
-    ensures { IfOk result (λ rows. map.from_entries {R = key_order} rows.entries ≡ part_of shards number opening) }
+    ensures { IfOk result (λ rows. map.from_entries {R = key_order} rows.all.items ≡ part_of shards number opening) }
 {
-    let mut rows = IndexMap::new(alloc);
+    let mut rows = Rows::new(alloc, shards);
     for cat in (0..CATEGORIES).rev() {
         let key = RowKey::Cat(cat);
         if shard_of(&key, shards) != number {
             continue;
         }
-        put_row(&mut rows, key, Row::Cat(CatRow { items: 0, live: 0 }))?;
+        rows.make_room(1)?;
+        rows.put_new(key, Row::Cat(CatRow { items: 0, live: 0 }));
     }
     Ok(rows)
 }

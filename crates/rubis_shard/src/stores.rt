@@ -15,12 +15,12 @@ pub struct Store {
 }
 
 impl Store {
-    /// No rows and no misfits.
-    pub fn new(alloc: Global) -> Store
+    /// No rows and no misfits, of one of so many shards.
+    pub fn new(alloc: Global, shards: usize) -> Store
         ensures { held_by result ≡ record { tables = map.from_entries []; misfits = [] } }
     {
         Store {
-            rows: Rows::new(alloc),
+            rows: Rows::new(alloc, shards),
             misfits: Vec::new(alloc),
         }
     }

@@ -1,4 +1,4 @@
-use Rattle.std.proofs.Common.{sym, subst}
+use Rattle.std.proofs.Common.{sym, ap, ◌∙◌, subst}
 use Rattle.std.specs.List.Sorted.{IsPermutation}
 use Rattle.std.proofs.lemmas.List.Sorted.{IsPermutation-refl}
 use Rattle.rubis_shard.specs.Listed.{listed_among}
@@ -7,5 +7,5 @@ use Rattle.rubis_shard.proofs.picks.picked.Goals as goal
 
 pub returns-in-None : goal.returns-in-None
 returns-in-None c =
-    let all = listed_among c.args.listing.now c.args.table c.args.rows.now.all.entries in
-    if_made _ _ (λ rows is. subst (IsPermutation all) (sym is) (IsPermutation-refl all)) _ c.picked_of_all.ensures
+    let all = listed_among c.args.listing.now c.args.table c.args.rows.now.all.items in
+    if_made _ _ (λ rows is. subst (IsPermutation all) (sym (is ∙ ap (listed_among c.args.listing.now c.args.table) c.deref.ensures.value)) (IsPermutation-refl all)) _ c.picked_of_all.ensures

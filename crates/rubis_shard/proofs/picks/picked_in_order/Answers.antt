@@ -9,11 +9,11 @@ use Rattle.rubis_shard.proofs.picks.picked_in_order.Goals as goal
 
 pub returns : goal.returns
 returns c =
-    let es = c.args.rows.now.all.entries in
+    let es = c.args.rows.now.all.items in
     let gs = each deref_pair c.put_in_order.new.rows in
     let moved : IsPermutation (listed_among c.args.listing.now c.args.table es) gs = IsPermutation-trans _ (each deref_pair c.deref_mut.result.now) gs
     (subst (IsPermutation (listed_among c.args.listing.now c.args.table es)) (ap (each deref_pair) (sym c.deref_mut.ensures.value)) c.in_ok-picked.ensures)
     c.put_in_order.ensures.permutation in
     let whole = take_at c.put_in_order.new.rows _ c.in_ok-picked.picked.len (c.put_in_order.ensures.len ∙ c.deref_mut.ensures.len) in
     ap (each deref_pair) whole
-    ∙ picked_listed c.args.listing.now c.args.table es gs c.len-rows.ensures.unique moved c.in_ok-put_in_order.ensures.sorted
+    ∙ picked_listed c.args.listing.now c.args.table es gs c.args.rows.now.distinct moved c.in_ok-put_in_order.ensures.sorted

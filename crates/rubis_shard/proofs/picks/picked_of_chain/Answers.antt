@@ -1,9 +1,10 @@
-use Rattle.std.proofs.Common.{◌≡◌, ◌+◌, ◌-◌, ◌<◌, ◌∷◌, [], ◌++◌, List, cond, length, take, reverse, sym, ap, subst, ◌∙◌, arith, option_map, map as each}
+use Rattle.std.proofs.Common.{◌≡◌, ◌+◌, ◌-◌, ◌<◌, ◌∷◌, [], ◌++◌, List, cond, length, take, reverse, refl, sym, ap, subst, ◌∙◌, arith, map as each}
 use Rattle.std.specs.Prelude.{Some, slice_get, slice_index}
 use Rattle.std.specs.List.Sorted.{IsPermutation}
 use Rattle.std.specs.Map.Iter.{deref_pair}
 use Rattle.std.proofs.lemmas.List.{append-nil, length-map, map-append}
 use Rattle.std.proofs.lemmas.List.Sorted.{IsPermutation-reverse, IsPermutation-sym}
+use Rattle.std.proofs.lemmas.Option.{slice_get_read}
 use Rattle.rubis_schema.specs.declared.row_keys.RowKey.{RowKey}
 use Rattle.rubis_schema.specs.declared.rows.Row.{Row}
 use Rattle.rubis_shard.specs.Chains.{chain_of, chains_of, last_among}
@@ -16,7 +17,7 @@ use Rattle.rubis_shard.proofs.picks.picked_of_chain.Goals as goal
 pub loop-place-init : goal.loop-place-init
 loop-place-init c =
     let l = c.args.listing.now in
-    let es = c.args.rows.now.all.entries in
+    let es = c.args.rows.now.all.items in
     let cs = chains_of es in
     let is : c.last-place.result ≡ last_among c.args.chain cs (length cs) =
     c.last-place.ensures ∙ c.args.rows.now.linked.last c.args.chain (small_chain l c.args.chain c.requires) in
@@ -29,7 +30,7 @@ loop-place-init c =
 
 pub loop-place-smaller : goal.loop-place-smaller
 loop-place-smaller c =
-    let es = c.args.rows.now.all.entries in
+    let es = c.args.rows.now.all.items in
     let cs = chains_of es in
     let at = c.loop-place.place - 1 in
     let size = length-map es (λ (e : RowKey × Row). chain_of e.1) in
@@ -40,7 +41,7 @@ pub loop-place-preserved : goal.loop-place-preserved
 loop-place-preserved c =
     let l = c.args.listing.now in
     let t = c.args.table in
-    let es = c.args.rows.now.all.entries in
+    let es = c.args.rows.now.all.items in
     let cs = chains_of es in
     let at = c.loop-place.place - 1 in
     let size = length-map es (λ (e : RowKey × Row). chain_of e.1) in
@@ -49,13 +50,13 @@ loop-place-preserved c =
     let is : c.before-place.result ≡ last_among c.args.chain cs at =
     c.before-place.ensures ∙ c.args.rows.now.linked.before at (omega (arith, size, inside))
     ∙ ap (λ k. last_among k cs at) (c.loop-place.invariant.own (omega arith)) in
-    let e : RowKey × Row = deref_pair c.unwrap.result in
-    let here : slice_get es at ≡ Some e = sym c.get_index.ensures.entry ∙ ap (option_map deref_pair) c.unwrap.ensures in
+    let e : RowKey × Row = c.index.result.now in
+    let here : slice_get es at ≡ Some e = slice_get_read es (length es) at e refl inside c.index.ensures in
     let old : List (RowKey × Row) = each deref_pair c.loop-place.picked.items in
     let pushed : each deref_pair c.if-picks.picked.items ≡ old ++ cond c.picks.result (e ∷ []) [] = elim c.if-picks.branch [
       | then-picks+in_ok-push w ↦
           ap (λ v. each deref_pair v.items) w.picked-is ∙ ap (each deref_pair) w.in_ok-push.ensures.items
-          ∙ map-append deref_pair c.loop-place.picked.items (c.unwrap.result ∷ [])
+          ∙ map-append deref_pair c.loop-place.picked.items (_ ∷ [])
           ∙ ap (λ b. old ++ cond b (e ∷ []) []) (sym w.if-picks.true)
       | else-picks w ↦
           ap (λ v. each deref_pair v.items) w.picked-is ∙ sym (append-nil old)
@@ -70,7 +71,7 @@ loop-place-preserved c =
 
 pub returns : goal.returns
 returns c =
-    let es = c.args.rows.now.all.entries in
+    let es = c.args.rows.now.all.items in
     let picked : List (RowKey × Row) = each deref_pair c.loop-place.picked.items in
     let none : 0 ≡ c.loop-place.place = omega arith in
     let all : reverse picked ≡ listed_among c.args.listing.now c.args.table es =

@@ -6,5 +6,5 @@ use Rattle.rubis_model.specs.Shares.{part_of}
 use Rattle.rubis_shard.proofs.shards.opening_rows.Given as goal
 
 abbrev pub invariant-loop-cat : goal.invariant-loop-cat
-invariant-loop-cat l = tables_of l.rows.entries ≡ part_of l.shards l.number (map.from_entries (categories_from l.cat (1000 -
+invariant-loop-cat l = tables_of l.rows.all.items ≡ part_of l.shards l.number (map.from_entries (categories_from l.cat (1000 -
     l.cat)))

@@ -1,7 +1,6 @@
 use Rattle.std.proofs.Common.{sym, ap, ◌∙◌}
 use Rattle.std.specs.FinMap as map
 use Rattle.rubis_schema.specs.Keys.{key_order}
-use Rattle.rubis_shadow.proofs.Rows.{get_tables_of}
 use Rattle.std.specs.Prelude.{Option}
 use Rattle.rubis_shard.specs.States.{ShardState}
 use Rattle.rubis_shard.specs.Stores.{held_by, held_in}
@@ -10,7 +9,7 @@ use Rattle.rubis_shard.proofs.shards.Shard.row.Goals as goal
 
 pub returns-in-Some-clause-row : goal.returns-in-Some-clause-row
 returns-in-Some-clause-row c =
-    c.get.ensures.value ∙ sym (get_tables_of c.deref.result.now.rows.all.entries c.args.key.now)
+    c.row.ensures
     ∙ ap (λ (s : Store). map.get (held_by s).tables c.args.key.now) c.deref.ensures
     ∙ ap (λ (o : Option Store). map.get (held_in o).tables c.args.key.now) (sym c.in-Some.is)
     ∙ ap (λ (s : ShardState). map.get s.folded.tables c.args.key.now) c.self.view_is
