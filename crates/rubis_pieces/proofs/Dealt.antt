@@ -21,7 +21,7 @@ use Rattle.rubis_shard.specs.Holdings.{parts_at}
 use Rattle.rubis_shard.specs.declared.shares.Share.{Share}
 use Rattle.rubis_shard.proofs.Folds.{not_equal}
 use Rattle.rubis_shard.proofs.Parts.{parts_at_append}
-use Rattle.rubis_shard.proofs.Places.{written_here, written_elsewhere}
+use Rattle.rubis_shard.proofs.Items.{written_here, written_elsewhere}
 use Rattle.rubis_pieces.specs.Shares.{AreDealt}
 
 -- ---- one part

@@ -14,7 +14,7 @@ use Rattle.rubis_model.specs.Log.{Core}
 use Rattle.rubis_shard.specs.States.{ShardState, with_parts}
 use Rattle.rubis_shard.specs.Holdings.{FoldsOn}
 use Rattle.rubis_shard.proofs.Folds.{not_equal, with_append}
-use Rattle.rubis_shard.proofs.Places.{written_here}
+use Rattle.rubis_shard.proofs.Items.{written_here}
 use Rattle.rubis_pieces.specs.Batches.{rest_of, parts_left, AreUnfinished, HoldsBut}
 use Rattle.rubis_pieces.specs.declared.pieces.Left.{Left}
 

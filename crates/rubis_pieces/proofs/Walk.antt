@@ -8,7 +8,7 @@ use Rattle.std.proofs.lemmas.Option.{slice_get-get_or, slice_get_read, slice_get
 use Rattle.std.proofs.lemmas.List.{length-set, length-map, get_or-map}
 use Rattle.std.proofs.lemmas.List.Sums.{sum_by-set, sum_by-cons}
 use Rattle.rubis_pieces.specs.declared.pieces.Done.{Done}
-use Rattle.rubis_shard.proofs.Places.{below_or_last, written_here, written_elsewhere}
+use Rattle.rubis_shard.proofs.Items.{below_or_last, written_here, written_elsewhere}
 use Rattle.rubis_pieces.specs.Faults.{AllUnseen, StandsBelow, IsSoundTo, IsSeenTo, numbers_of}
 
 abbrev pub trues : List Bool → ℕ

@@ -6,11 +6,11 @@ ghost use Rattle.rubis_shard.specs.Places as model;
 ghost use Rattle.rubis_shard.specs.declared.chains.TheConstants.{PLACE_MAX};
 
 use crate::chains::PLACE_MAX;
-use rubis_schema::{Id, RowKey};
+use rubis_schema::{COUNTED_MAX, Id, RowKey};
 use std::alloc::{AllocError, Global};
 
-/// How many sites have lists of their own. The sites beyond share them.
-pub const SITES: usize = 16;
+/// How many sites have lists of their own. Ids of others share them.
+pub const SITES: usize = COUNTED_MAX;
 
 /// How many lists there are: for each of these sites one for each of the five tables with ids.
 pub const LISTS: usize = 5 * SITES;

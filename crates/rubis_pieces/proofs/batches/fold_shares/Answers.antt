@@ -1,6 +1,6 @@
 use Rattle.std.proofs.Common.{rules, ◌≡◌, ◌∷◌, sym, ◌∙◌}
 use Rattle.std.specs.Vec.Iter.{into_iter_items}
-use Rattle.rubis_shard.proofs.Places.{no_items}
+use Rattle.rubis_shard.proofs.Items.{no_items}
 use Rattle.rubis_pieces.proofs.Folded.{fold_turn, fold_end, belong_rest}
 use Rattle.rubis_pieces.proofs.batches.fold_shares.Goals as goal
 
