@@ -1,6 +1,7 @@
 // One record: a list of fields, each of any bytes.
 
-ghost use Rattle.std.specs.Prelude.{◌≡◌, ◌==◌, ◌<◌, ◌+◌, ◌++◌, ◌∷◌, [], IfOk, IfSome, OnErr, OnOk, get_or, length, option_map, slice_get, true};
+ghost use Rattle.std.specs.Prelude.{◌≡◌, ◌==◌, ◌<◌, ◌≤◌, ◌+◌, ◌++◌, ◌∷◌, [], IfOk, IfSome, OnErr, OnOk, get_or, length, option_map, slice_get, true};
+ghost use Rattle.std.specs.Vec.{vec_capacity, vec_len};
 ghost use Rattle.rubis_schema.specs.FieldList.{IsLaidOut, all_plain, joined, pieces};
 ghost use Rattle.rubis_schema.specs.FieldList as model;
 
@@ -62,6 +63,18 @@ pub fn is_plain(field: &[u8]) -> bool
     true
 }
 
+// Makes room for so many more, which is mostly there.
+#[inline(always)]
+fn make_room<T>(list: &mut Vec<T>, more: usize) -> Result<(), AllocError>
+    ensures items { list.new.items ≡ list.old.items }
+    ensures room { OnOk result (vec_len list.new + more ≤ vec_capacity list.new) }
+{
+    if list.capacity() - list.len() >= more {
+        return Ok(());
+    }
+    list.reserve(more)
+}
+
 // Adds a field at the end. Without memory for it nothing changes.
 #[inline(always)]
 fn add(text: &mut Vec<u8>, ends: &mut Vec<usize>, field: &[u8]) -> Result<(), AllocError>
@@ -70,8 +83,8 @@ fn add(text: &mut Vec<u8>, ends: &mut Vec<usize>, field: &[u8]) -> Result<(), Al
     ensures ok { OnOk result (pieces 0 ends.new.items text.new.items ≡ pieces 0 ends.old.items text.old.items ++ field.now ∷ []) }
     ensures err { OnErr result ((ends.new.items ≡ ends.old.items) × (text.new.items ≡ text.old.items)) }
 {
-    ends.reserve(1)?;
-    text.reserve(field.len() + 1)?;
+    make_room(ends, 1)?;
+    make_room(text, field.len() + 1)?;
     text.push_reserved(b',');
     let Ok(()) = text.extend_from_slice(field) else {
         unreachable!()

@@ -8,7 +8,7 @@ returns-clause-laid c =
     let old = c.args.text.now.items in
     let field = c.args.field.now in
     let text : c.extend_from_slice.new.self.items ≡ old ++ comma ∷ field =
-    c.in-Ok.ensures.items ∙ ap (λ t. t ++ field) (c.push_reserved.ensures.items ∙ ap (λ t. t ++ comma ∷ []) c.reserve-2.ensures.items) ∙ append_assoc old (comma ∷ []) field in
+    c.in-Ok.ensures.items ∙ ap (λ t. t ++ field) (c.push_reserved.ensures.items ∙ ap (λ t. t ++ comma ∷ []) c.make_room-2.ensures.items) ∙ append_assoc old (comma ∷ []) field in
     let all : c.len.result ≡ length c.extend_from_slice.new.self.items = search rules in
     let size : c.len.result ≡ length old + 1 + length field = omega (arith, all, ap length text, length-append old (comma ∷ field)) in
     let ends : c.push_reserved-2.new.self.items ≡ c.args.ends.now.items ++ c.len.result ∷ [] = search rules in
@@ -23,7 +23,7 @@ returns-clause-ok c =
     let old = c.args.text.now.items in
     let field = c.args.field.now in
     let text : c.extend_from_slice.new.self.items ≡ old ++ comma ∷ field =
-    c.in-Ok.ensures.items ∙ ap (λ t. t ++ field) (c.push_reserved.ensures.items ∙ ap (λ t. t ++ comma ∷ []) c.reserve-2.ensures.items) ∙ append_assoc old (comma ∷ []) field in
+    c.in-Ok.ensures.items ∙ ap (λ t. t ++ field) (c.push_reserved.ensures.items ∙ ap (λ t. t ++ comma ∷ []) c.make_room-2.ensures.items) ∙ append_assoc old (comma ∷ []) field in
     let all : c.len.result ≡ length c.extend_from_slice.new.self.items = search rules in
     let size : c.len.result ≡ length old + 1 + length field = omega (arith, all, ap length text, length-append old (comma ∷ field)) in
     let ends : c.push_reserved-2.new.self.items ≡ c.args.ends.now.items ++ c.len.result ∷ [] = search rules in
