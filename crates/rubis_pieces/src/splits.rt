@@ -37,7 +37,7 @@ fn deal_message(
         let Some(effect) = shadow.effect(id, red, place) else {
             continue;
         };
-        let effect = effect.own()?;
+        let effect = effect.own(*list.allocator())?;
         deal(
             list,
             Numbered {

@@ -119,7 +119,7 @@ fn a_part_is_owned(rt: HostRuntime) -> Result<(), Fail> {
         .shadow()
         .effect(stamp.id, stamp.red, 0)
         .ok_or("a part")?;
-    match part.own()?.change {
+    match part.own(rt.alloc())?.change {
         Change::Insert(row) => assert!(rt; row.copy().is_ok()),
         _ => assert!(rt; false, "another change"),
     }

@@ -34,7 +34,7 @@ fn lamp(alloc: Global) -> Result<Shadow, Fail> {
 }
 
 // Applies all parts of a shadow, each of which fits.
-fn apply_whole<R: Abort>(
+fn apply_whole<R: Abort + AllocGlobal>(
     rt: &R,
     tables: &mut PlainTables,
     id: Id,
@@ -42,13 +42,13 @@ fn apply_whole<R: Abort>(
     shadow: &Shadow,
 ) -> Result<(), Fail> {
     for part in shadow.effects(id, red) {
-        assert_eq!(rt; tables.apply(&part.own()?)?, None);
+        assert_eq!(rt; tables.apply(&part.own(rt.alloc())?)?, None);
     }
     Ok(())
 }
 
 // Makes a user.
-fn add_user<R: Abort>(
+fn add_user<R: Abort + AllocGlobal>(
     rt: &R,
     tables: &mut PlainTables,
     id: Id,
@@ -60,14 +60,14 @@ fn add_user<R: Abort>(
 }
 
 // Makes user ann, and then another of that nickname: what became of the second nickname, and whose it is.
-fn add_ann_twice<R: Abort>(
+fn add_ann_twice<R: Abort + AllocGlobal>(
     rt: &R,
     tables: &mut PlainTables,
 ) -> Result<(Option<MisfitKind>, Option<Id>), Fail> {
     let shadow = user(b"ann")?;
     apply_whole(rt, tables, ANN, 1, &shadow)?;
     let second = shadow.effect(BOB, 2, 1).ok_or("a part")?;
-    let misfit = tables.apply(&second.own()?)?;
+    let misfit = tables.apply(&second.own(rt.alloc())?)?;
     match tables.row(&second.key()) {
         Some(Row::Nick(id)) => Ok((misfit, Some(*id))),
         _ => Ok((misfit, None)),

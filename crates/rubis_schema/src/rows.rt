@@ -86,7 +86,7 @@ pub struct CatRow {
 /// stay small.
 #[derive(Drop, Clone, PartialEq, Eq, Debug)]
 pub enum Row {
-    User(UserRow),
+    User(Boxed<UserRow>),
     Item(Boxed<ItemRow>),
     Bid(BidRow),
     Purchase(PurchaseRow),

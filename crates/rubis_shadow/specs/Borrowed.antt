@@ -1,14 +1,13 @@
 -- A change that borrows, as the change that it stands for.
-use Rattle.std.specs.Prelude.{pos}
 use Rattle.rubis_schema.specs.declared.rows.Row.TheVariants as row
 use Rattle.rubis_shadow.specs.declared.changes.Change.{Change}
 use Rattle.rubis_shadow.specs.declared.changes.Change.TheVariants as change
 use Rattle.rubis_shadow.specs.declared.parts.ChangeRef.{ChangeRef}
 use Rattle.rubis_shadow.specs.declared.parts.ChangeRef.TheVariants.{NewUser, NewNick, NewItem, NewBid, NewPurchase, NewComment, ItemListed, Bought, Rated, CatListed, CatEnded, BidTaken, Sold, End}
-use Rattle.rubis_shadow.specs.Parts.{new_item}
+use Rattle.rubis_shadow.specs.Parts.{new_item, new_user}
 
 abbrev pub change_of : ChangeRef → Change
-change_of (NewUser n) = change.Insert (row.User (record { nick = n; items = 0; bought = 0; rating = pos 0; comments = 0 }))
+change_of (NewUser n) = change.Insert (row.User (new_user n))
 change_of (NewNick i) = change.Insert (row.Nick i)
 change_of (NewItem n) = change.Insert (row.Item (new_item n.now))
 change_of (NewBid b) = change.Insert (row.Bid b)

@@ -1,4 +1,4 @@
--- The rows that are in boxes: those of items and of comments.
+-- The rows that are in boxes: those of users, items and comments.
 use Rattle.std.specs.Prelude.{◌≡◌, Option, Some, None, IfSome}
 use Rattle.rubis_schema.specs.declared.rows.Row.{Row}
 use Rattle.rubis_schema.specs.declared.rows.Row.TheVariants as row
@@ -8,6 +8,7 @@ use Rattle.rubis_shadow.specs.declared.changes.Effect.{Effect}
 
 -- the row that a change inserts, where that is in a box
 abbrev pub boxed_row_in : Change → Option Row
+boxed_row_in (Insert (row.User u)) = Some (row.User u)
 boxed_row_in (Insert (row.Item i)) = Some (row.Item i)
 boxed_row_in (Insert (row.Comment c)) = Some (row.Comment c)
 boxed_row_in change = None

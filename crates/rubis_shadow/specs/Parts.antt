@@ -5,6 +5,7 @@ use Rattle.rubis_schema.specs.declared.row_keys.RowKey.{RowKey}
 use Rattle.rubis_schema.specs.declared.row_keys.RowKey.TheVariants as key
 use Rattle.rubis_schema.specs.declared.rows.Row.TheVariants as row
 use Rattle.rubis_schema.specs.declared.rows.ItemRow.{ItemRow}
+use Rattle.rubis_schema.specs.declared.rows.UserRow.{UserRow}
 use Rattle.rubis_schema.specs.declared.rows.Sale.TheVariants.{Open}
 use Rattle.rubis_shadow.specs.declared.changes.Change.{Change}
 use Rattle.rubis_shadow.specs.declared.changes.Change.TheVariants.{Insert, ItemListed, Bought, Rated, CatListed, CatEnded, BidTaken, Sold, End}
@@ -16,6 +17,10 @@ use Rattle.rubis_shadow.specs.declared.shadows.Shadow.TheVariants.{User, Item, B
 abbrev pub part : RowKey → Change → Effect
 part k c = record { key = k; change = c }
 
+-- a new user has listed and bought nothing, and is not rated
+abbrev pub new_user : List ℕ → UserRow
+new_user n = record { nick = n; items = 0; bought = 0; rating = pos 0; comments = 0 }
+
 -- a new item has sold nothing, has no bids and can be bid for
 abbrev pub new_item : NewItem → ItemRow
 new_item n = record { seller = n.seller; name = n.name; cat = n.cat; stock = n.stock; sold = 0; start = n.start; price = n.price; bids = 0; best = None; sale = Open }
@@ -23,7 +28,7 @@ new_item n = record { seller = n.seller; name = n.name; cat = n.cat; stock = n.s
 -- the parts of the shadow with that id and red number
 abbrev pub parts : Id → ℕ → Shadow → List Effect
 parts id red (User n) =
-    part (key.User id) (Insert (row.User (record { nick = n; items = 0; bought = 0; rating = pos 0; comments = 0 })))
+    part (key.User id) (Insert (row.User (new_user n)))
     ∷ part (key.Nick n) (Insert (row.Nick id)) ∷ []
 parts id red (Item n) =
     part (key.Item id) (Insert (row.Item (new_item n)))

@@ -149,7 +149,7 @@ impl Change {
         ensures misfit { (change_row self.now (Some row.old)).misfit ≡ result }
     {
         match row {
-            Row::User(user) => alter_user(self, user),
+            Row::User(user) => alter_user(self, user.get_mut()),
             Row::Item(item) => alter_item(self, item.get_mut()),
             Row::Cat(category) => alter_category(self, category),
             Row::Bid(_) => Some(alter_fixed(self)),

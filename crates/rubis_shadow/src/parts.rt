@@ -2,7 +2,7 @@ ghost use Rattle.std.specs.Prelude.{◌≡◌, ◌≤◌, ℕ, length, slice_get
 ghost use Rattle.rubis_schema.specs.declared.ids.Id.{Id};
 ghost use Rattle.std.specs.Iterator.{item_count, YieldsFirst};
 ghost use Rattle.rubis_shadow.specs.declared.shadows.Shadow.TheVariants as Shadow;
-ghost use Rattle.rubis_shadow.specs.Parts.{new_item, parts};
+ghost use Rattle.rubis_shadow.specs.Parts.{new_item, new_user, parts};
 ghost use Rattle.rubis_shadow.specs.Borrowed.{change_of};
 ghost use Rattle.rubis_shadow.specs.BoxedRows.{HasBoxedRow, boxed_row_in};
 ghost use Rattle.rubis_schema.specs.declared.rows.Row.TheVariants as rows;
@@ -12,7 +12,7 @@ use crate::shadows::{NewBid, NewClose, NewItem, Shadow};
 use rubis_schema::{
     Best, BidRow, Boxed, CommentRow, Id, ItemRow, Nick, PurchaseRow, Row, RowKey, Sale, UserRow,
 };
-use std::alloc::AllocError;
+use std::alloc::{AllocError, Global};
 use std::marker::Model;
 
 /// The most parts of a shadow.
@@ -101,10 +101,11 @@ impl Shadow {
     }
 
     /// The row that the first part inserts, where that is in a box.
-    pub fn boxed_row(&self) -> Result<Option<Row>, AllocError>
+    pub fn boxed_row(&self, alloc: Global) -> Result<Option<Row>, AllocError>
         ensures { IfOk result (λ row. (id : Id) (red : ℕ) → HasBoxedRow (slice_get (parts id red self.now) 0) row) }
     {
         match self {
+            Shadow::User(nick) => Ok(Some(user_row(alloc, *nick)?)),
             Shadow::Item(item) => Ok(Some(item_row(item)?)),
             Shadow::Comment(comment) => Ok(Some(comment_row(comment)?)),
             _ => Ok(None),
@@ -267,6 +268,20 @@ impl<'a> Iterator for Effects<'a> {
     }
 }
 
+// The row of a user that is new.
+fn user_row(alloc: Global, nick: Nick) -> Result<Row, AllocError>
+    ensures { IfOk result (λ row. row ≡ rows.User (new_user nick)) }
+{
+    let row = UserRow {
+        nick,
+        items: 0,
+        bought: 0,
+        rating: 0,
+        comments: 0,
+    };
+    Ok(Row::User(Boxed::new(alloc, row)?))
+}
+
 // The row of an item that is offered.
 fn item_row(item: &Boxed<NewItem>) -> Result<Row, AllocError>
     ensures { IfOk result (λ row. row ≡ rows.Item (new_item item.now)) }
@@ -295,10 +310,11 @@ fn comment_row(comment: &Boxed<CommentRow>) -> Result<Row, AllocError>
 }
 
 // The row that the change inserts, where that is in a box.
-fn boxed_row(change: &ChangeRef<'_>) -> Result<Option<Row>, AllocError>
+fn boxed_row(alloc: Global, change: &ChangeRef<'_>) -> Result<Option<Row>, AllocError>
     ensures { IfOk result (λ row. row ≡ boxed_row_in (change_of change.now)) }
 {
     match change {
+        ChangeRef::NewUser(nick) => Ok(Some(user_row(alloc, *nick)?)),
         ChangeRef::NewItem(item) => Ok(Some(item_row(item)?)),
         ChangeRef::NewComment(comment) => Ok(Some(comment_row(comment)?)),
         _ => Ok(None),
@@ -315,17 +331,10 @@ fn change_with(change: &ChangeRef<'_>, row: Option<Row>) -> Change
         return Change::Insert(row);
     }
     match change {
-        ChangeRef::NewUser(nick) => Change::Insert(Row::User(UserRow {
-            nick: *nick,
-            items: 0,
-            bought: 0,
-            rating: 0,
-            comments: 0,
-        })),
         ChangeRef::NewNick(id) => Change::Insert(Row::Nick(*id)),
         ChangeRef::NewBid(bid) => Change::Insert(Row::Bid(*bid)),
         ChangeRef::NewPurchase(purchase) => Change::Insert(Row::Purchase(*purchase)),
-        ChangeRef::NewItem(_) | ChangeRef::NewComment(_) => unreachable!(),
+        ChangeRef::NewUser(_) | ChangeRef::NewItem(_) | ChangeRef::NewComment(_) => unreachable!(),
         ChangeRef::ItemListed => Change::ItemListed,
         ChangeRef::Bought(quantity) => Change::Bought(*quantity),
         ChangeRef::Rated(rating) => Change::Rated(*rating),
@@ -346,10 +355,10 @@ impl<'a> EffectRef<'a> {
     }
 
     /// An equal effect that borrows nothing.
-    pub fn own(&self) -> Result<Effect, AllocError>
+    pub fn own(&self, alloc: Global) -> Result<Effect, AllocError>
         ensures { IfOk result (λ effect. effect ≡ self.now) }
     {
-        let row = boxed_row(&self.change)?;
+        let row = boxed_row(alloc, &self.change)?;
         Ok(Effect {
             key: self.key,
             change: change_with(&self.change, row),

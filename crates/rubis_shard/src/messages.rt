@@ -11,7 +11,7 @@ use crate::shards::Shard;
 use crate::stores::Store;
 use rubis_schema::{Id, Row, shard_of};
 use rubis_shadow::{Numbered, Shadow};
-use std::alloc::AllocError;
+use std::alloc::{AllocError, Global};
 
 // The home of the shadow's part at this place, or the number of shards where there is none.
 #[inline(always)]
@@ -93,14 +93,14 @@ impl<'a> MessageParts<'a> {
 
     // The row in a box of the first part, where it has one, if its home is the shard.
     #[inline(always)]
-    fn boxed_row(&self, at: usize) -> Result<Option<Row>, AllocError>
+    fn boxed_row(&self, alloc: Global, at: usize) -> Result<Option<Row>, AllocError>
         requires { at < self.now.shards }
         ensures { IfOk result (λ row. self.now.first ≡ at → HasBoxedRow (slice_get (parts self.now.id self.now.red self.now.shadow.now) 0) row) }
     {
         if self.first != at {
             return Ok(None);
         }
-        self.shadow.boxed_row()
+        self.shadow.boxed_row(alloc)
     }
 
     // Folds the part at this place on, if its home is the shard.
@@ -156,6 +156,7 @@ impl<'a> MessageParts<'a> {
 
 /// Folds the parts whose home is the shard `from` or one behind it. No shard changes before each has room.
 pub fn fold_from(
+    alloc: Global,
     list: &mut [Shard],
     message: &MessageParts<'_>,
     from: usize,
@@ -171,12 +172,12 @@ pub fn fold_from(
     if at == list.len() {
         return Ok(());
     }
-    let row = message.boxed_row(at)?;
+    let row = message.boxed_row(alloc, at)?;
     if message.next_home(at + 1) == list.len() {
         return list[at].fold_message(message, row);
     }
     let mut store = list[at].take_store(3)?;
-    let folded = fold_from(list, message, at + 1);
+    let folded = fold_from(alloc, list, message, at + 1);
     message.fold_if(store.get_mut(), at, row, folded.is_ok());
     list[at].put_store(store);
     folded

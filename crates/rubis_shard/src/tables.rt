@@ -181,7 +181,8 @@ impl Tables {
         ensures err { OnErr result (self.new ≡ self.old) }
     {
         let message = MessageParts::new(entry, id, red, shadow, self.shards.len());
-        fold_from(&mut self.shards, &message, 0)
+        let alloc = *self.shards.allocator();
+        fold_from(alloc, &mut self.shards, &message, 0)
     }
 }
 
