@@ -6,12 +6,12 @@ use Rattle.rubis_model.specs.AuditRecords.{Line, audit_record, line_of, logs_aft
 use Rattle.rubis_model.specs.Logs.{Log}
 use Rattle.rubis_model.specs.Settle.{Has}
 use Rattle.rubis_model.proofs.Lists.{has_reverse, push_cases}
-use Rattle.rubis_script.specs.Accounts.{Answers}
+use Rattle.rubis_script.specs.Accounts.{AnswersRecord}
 use Rattle.rubis_script.specs.Accounts.Ending.{AtEnd}
 use Rattle.rubis_script.specs.Text.{rows_text}
 use Rattle.rubis_script.specs.declared.service.Course.TheVariants.{GoesOn, Ends}
-use Rattle.rubis_audit.specs.Running.{AreRead, IsCurrentAmong, IsLogAmong, account_from, logs_of, read_of, text_of}
-use Rattle.rubis_audit.specs.Walks.{AreAmong}
+use Rattle.rubis_audit.specs.Running.{AreRead, HasMessagesAmong, IsCurrentAmong, account_from, audit_text, logs_so_far, read_of}
+use Rattle.rubis_audit.specs.Walks.{HaveMessagesAmong}
 
 some_same : {X : Type 0} (a b : X) → Some a ≡ Some b → a ≡ b
 some_same a b e = cc
@@ -22,20 +22,20 @@ pushed_among sites current log log2 m c e s among other f u h =
     ⊎_elim (λ l. among log c u l) (λ r. ap sites_of r ∙ s)
     (push_cases u m log.messages (subst (Has u) (ap (λ (x : Log). x.messages) (sym (some_same log2 other f) ∙ e)) h))
 
-all_among : (sites : ℕ) (ended : List Log) (current : Option Log) → AreRead sites ended current → (log : Log) → Has log (reverse (logs_of ended current)) → IsLogAmong sites log
+all_among : (sites : ℕ) (ended : List Log) (current : Option Log) → AreRead sites ended current → (log : Log) → Has log (reverse (logs_so_far ended current)) → HasMessagesAmong sites log
 all_among sites ended None a log h = absurd (has_reverse log [] h)
 all_among sites ended (Some x) a log h =
     ⊎_elim (λ e. a.current_among log (ap Some (sym e))) (λ r. a.ended_among log (has_reverse log ended r)) (has_reverse log (x ∷ reverse ended) h)
 
 -- the log that was read is put behind those that ended, or all stay
 ended_all : {E : Type 0} (r : Result (Unit {0}) E) (sites : ℕ) (ended ended2 : List Log) (current : Option Log) → AreRead sites ended current
-    → OnOk r (ended2 ≡ reverse (logs_of ended current)) → OnErr r (ended2 ≡ ended) → (log : Log) → Has log ended2 → IsLogAmong sites log
+    → OnOk r (ended2 ≡ reverse (logs_so_far ended current)) → OnErr r (ended2 ≡ ended) → (log : Log) → Has log ended2 → HasMessagesAmong sites log
 ended_all (Ok u) sites ended ended2 current a ok err log h = all_among sites ended current a log (subst (Has log) ok h)
 ended_all (Err e) sites ended ended2 current a ok err log h = a.ended_among log (subst (Has log) err h)
 
 -- a log begins
 pub begun : {E : Type 0} (r : Result (Unit {0}) E) (sites : ℕ) (ended ended2 : List Log) (current current2 : Option Log) (log2 : Log) → AreRead sites ended current
-    → OnOk r (ended2 ≡ reverse (logs_of ended current)) → OnErr r (ended2 ≡ ended) → current2 ≡ Some log2 → log2.messages ≡ []
+    → OnOk r (ended2 ≡ reverse (logs_so_far ended current)) → OnErr r (ended2 ≡ ended) → current2 ≡ Some log2 → log2.messages ≡ []
     → AreRead sites ended2 current2
 begun r sites ended ended2 current current2 log2 a ok err c none = record {
   few = a.few;
@@ -45,7 +45,7 @@ begun r sites ended ended2 current current2 log2 a ok err c none = record {
 
 -- no log is read any more
 pub all_ended : {E : Type 0} (r : Result (Unit {0}) E) (sites : ℕ) (ended ended2 : List Log) (current current2 : Option Log) → AreRead sites ended current
-    → OnOk r (ended2 ≡ reverse (logs_of ended current)) → OnErr r (ended2 ≡ ended) → current2 ≡ None
+    → OnOk r (ended2 ≡ reverse (logs_so_far ended current)) → OnErr r (ended2 ≡ ended) → current2 ≡ None
     → AreRead sites ended2 current2
 all_ended r sites ended ended2 current current2 a ok err c = record {
   few = a.few;
@@ -54,7 +54,7 @@ all_ended r sites ended ended2 current current2 a ok err c = record {
 }
 
 -- the logs that ended are all that were read
-pub read_among : (sites : ℕ) (ended logs : List Log) (current : Option Log) → AreRead sites ended current → logs ≡ reverse (logs_of ended current) → AreAmong sites logs
+pub read_among : (sites : ℕ) (ended logs : List Log) (current : Option Log) → AreRead sites ended current → logs ≡ reverse (logs_so_far ended current) → HaveMessagesAmong sites logs
 read_among sites ended logs current a e log h = all_among sites ended current a log (subst (Has log) e h)
 
 -- ---- what is made of the records
@@ -77,9 +77,9 @@ after_ends : (sites n : ℕ) (logs : List Log) (fields : List (List ℕ)) (rest 
 after_ends sites n logs fields rest e = ap (λ o. elim o as (λ _. Result (List Log) ℕ) [ None ↦ Err n | Some x ↦ logs_after sites (n + 1) x rest ]) e
 
 pub goes : (sites n : ℕ) (logs more : List Log) (line : Line) (fields : List (List ℕ)) (sink sink2 : List ℕ) → line_of sites fields ≡ Some line → with_line logs line ≡ Some more
-    → sink2 ≡ sink → Answers GoesOn (account_from sites n logs) (account_from sites (n + 1) more) sink sink2 fields
+    → sink2 ≡ sink → AnswersRecord GoesOn (account_from sites n logs) (account_from sites (n + 1) more) sink sink2 fields
 goes sites n logs more line fields sink sink2 l w s rest = (
-  λ ending i. sym s i ++ text_of ending (after_goes sites n logs more line fields rest l w i),
+  λ ending i. sym s i ++ audit_text ending (after_goes sites n logs more line fields rest l w i),
   ap (read_of n (length (fields ∷ rest))) (after_goes sites n logs more line fields rest l w) ∙ at (logs_after sites (n + 1) more rest) (late sites (n + 1) more rest),
 )
   where
@@ -88,8 +88,8 @@ goes sites n logs more line fields sink sink2 l w s rest = (
     at (Err bad) h = let l = h bad refl in omega (arith, l)
 
 pub ends : (sites n : ℕ) (logs more : List Log) (fields : List (List ℕ)) (sink sink2 : List ℕ) → option_and_then (with_line logs) (line_of sites fields) ≡ None
-    → sink2 ≡ sink ++ rows_text (audit_record (Err n) ∷ []) → Answers Ends (account_from sites n logs) (account_from sites (n + 1) more) sink sink2 fields
+    → sink2 ≡ sink ++ rows_text (audit_record (Err n) ∷ []) → AnswersRecord Ends (account_from sites n logs) (account_from sites (n + 1) more) sink sink2 fields
 ends sites n logs more fields sink sink2 e s rest = (
-  ap (λ r. sink ++ text_of AtEnd r) (after_ends sites n logs fields rest e) ∙ sym s,
+  ap (λ r. sink ++ audit_text AtEnd r) (after_ends sites n logs fields rest e) ∙ sym s,
   ap (read_of n (length (fields ∷ rest))) (after_ends sites n logs fields rest e) ∙ (let z : n + 1 - n ≡ 1 = omega arith in z),
 )

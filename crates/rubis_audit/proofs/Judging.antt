@@ -27,7 +27,7 @@ use Rattle.rubis_model.proofs.Settling.{counted_reverse, reds_reverse, reverse_p
 use Rattle.rubis_laws.proofs.LogsChecked.{checked_end, count_reds, new_here, number_is}
 use Rattle.rubis_release.specs.Release.{IsAmong, clock_of}
 use Rattle.rubis_audit.specs.Contents.{nick_taken_in, stock_short_in, wrong_reference_in, wrong_winner_in}
-use Rattle.rubis_audit.specs.Lookups.{by_id, by_red, clash_by_id, taken_by_red}
+use Rattle.rubis_audit.specs.Lookups.{by_message_id, by_red, clash_by_id, taken_by_red}
 use Rattle.rubis_audit.specs.Past.{Known, Shows, checks_by}
 use Rattle.rubis_audit.proofs.Finding.{by_id_push, by_red_push}
 use Rattle.rubis_audit.proofs.Fitting.{fits}
@@ -124,15 +124,15 @@ itself : (v : Message) → same_id v.stamp.id v.stamp.id ≡ true
 itself v = (Decides-same_id v.stamp.id v.stamp.id).1 refl
 
 -- v is the first with its id
-new_id : (all : List Message) (v : Message) → clash_by_id all v ≡ false → by_id v.stamp.id (all ++ v ∷ []) ≡ Some v
-new_id all v e = by_id_push v.stamp.id all v ∙ at (by_id v.stamp.id all) e
+new_id : (all : List Message) (v : Message) → clash_by_id all v ≡ false → by_message_id v.stamp.id (all ++ v ∷ []) ≡ Some v
+new_id all v e = by_id_push v.stamp.id all v ∙ at (by_message_id v.stamp.id all) e
   where
     at : (o : Option Message) → option_map_or (λ u. not (same_message u v)) o false ≡ false → option_or o (cond (same_id v.stamp.id v.stamp.id) (Some v) None) ≡ Some v
     at None e = ap (λ b. cond b (Some v) None) (itself v)
     at (Some u) e = ap Some ((Decides-same_message u v).0 (not_false _ e))
 
 -- v is the first with its red number
-new_red : (all : List Message) (v : Message) → ((m : Message) → Has m all → by_id m.stamp.id all ≡ Some m) → clash_by_id all v ≡ false → taken_by_red all v ≡ false
+new_red : (all : List Message) (v : Message) → ((m : Message) → Has m all → by_message_id m.stamp.id all ≡ Some m) → clash_by_id all v ≡ false → taken_by_red all v ≡ false
     → by_red v.stamp.red (all ++ v ∷ []) ≡ Some v
 new_red all v one c e = by_red_push v.stamp.red all v ∙ at (by_red v.stamp.red all) refl e
   where
@@ -142,16 +142,16 @@ new_red all v one c e = by_red_push v.stamp.red all v ∙ at (by_red v.stamp.red
     at (Some u) p e =
         let i : u.stamp.id ≡ v.stamp.id = (Decides-same_id u.stamp.id v.stamp.id).0 (not_false _ e) in
         let f = found_number v.stamp.red all u p in
-        let h : by_id v.stamp.id all ≡ Some u = ap (λ (j : Id). by_id j all) (sym i) ∙ one u f.0 in
+        let h : by_message_id v.stamp.id all ≡ Some u = ap (λ (j : Id). by_message_id j all) (sym i) ∙ one u f.0 in
         ap Some ((Decides-same_message u v).0 (not_false _ (sym (ap (λ o. option_map_or (λ w. not (same_message w v)) o false) h) ∙ c)))
 
 pub known_push : (others : List Message) (site : ℕ) (own : List Message) (v : Message) → Known others own → IsMessage v → Faultless others site own v
     → Known others (own ++ v ∷ [])
 known_push others site own v k f l = record {
   formed = λ m h. ⊎_elim (λ a. k.formed m a) (λ e. subst IsMessage (sym e) f) (split m h);
-  one_id = λ m h. subst (λ xs. by_id m.stamp.id xs ≡ Some m) (append_assoc others own (v ∷ [])) (⊎_elim
+  one_id = λ m h. subst (λ xs. by_message_id m.stamp.id xs ≡ Some m) (append_assoc others own (v ∷ [])) (⊎_elim
       (λ a. by_id_push m.stamp.id (others ++ own) v ∙ option_or_at _ _ m (k.one_id m a))
-      (λ e. subst (λ (x : Message). by_id x.stamp.id ((others ++ own) ++ v ∷ []) ≡ Some x) (sym e) (new_id (others ++ own) v clear)) (split m h));
+      (λ e. subst (λ (x : Message). by_message_id x.stamp.id ((others ++ own) ++ v ∷ []) ≡ Some x) (sym e) (new_id (others ++ own) v clear)) (split m h));
   one_red = λ m h p. subst (λ xs. by_red m.stamp.red xs ≡ Some m) (append_assoc others own (v ∷ [])) (⊎_elim
       (λ a. by_red_push m.stamp.red (others ++ own) v ∙ option_or_at _ _ m (k.one_red m a p))
       (λ e. subst (λ (x : Message). by_red x.stamp.red ((others ++ own) ++ v ∷ []) ≡ Some x) (sym e) (new_red (others ++ own) v k.one_id clear (free (subst (λ (x : Message). 0 < x.stamp.red) e p)))) (split m h));
@@ -182,7 +182,7 @@ known_none = record { formed = λ m h. absurd h; one_id = λ m h. absurd h; one_
 pub known_log : (others own : List Message) → Known others own → Known (others ++ own) []
 known_log others own k = record {
   formed = λ m h. k.formed m (subst (Has m) (append-nil (others ++ own)) h);
-  one_id = λ m h. subst (λ xs. by_id m.stamp.id xs ≡ Some m) (sym (append-nil (others ++ own))) (k.one_id m (subst (Has m) (append-nil (others ++ own)) h));
+  one_id = λ m h. subst (λ xs. by_message_id m.stamp.id xs ≡ Some m) (sym (append-nil (others ++ own))) (k.one_id m (subst (Has m) (append-nil (others ++ own)) h));
   one_red = λ m h p. subst (λ xs. by_red m.stamp.red xs ≡ Some m) (sym (append-nil (others ++ own))) (k.one_red m (subst (Has m) (append-nil (others ++ own)) h) p);
   released = tt;
   checked = tt;

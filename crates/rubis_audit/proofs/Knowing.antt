@@ -22,7 +22,7 @@ use Rattle.rubis_model.proofs.Pasts.{found, red_within}
 use Rattle.rubis_model.proofs.Settling.{counted_reverse, reds_reverse}
 use Rattle.rubis_release.specs.Release.{IsAmong}
 use Rattle.rubis_release.proofs.Counting.{counts_at}
-use Rattle.rubis_audit.specs.Lookups.{by_id, by_red, clash_by_id, differs_by, early_by, exceeds, forgets_by_id, gap_by, last_of, not_next_by, order_by, taken_by_red}
+use Rattle.rubis_audit.specs.Lookups.{by_message_id, by_red, clash_by_id, differs_by, early_by, exceeds, forgets_by_id, gap_by, last_of, not_next_by, order_by, taken_by_red}
 use Rattle.rubis_audit.specs.Past.{Known}
 use Rattle.rubis_audit.proofs.SiteTests.{same_sites, site_of, some_site}
 
@@ -67,11 +67,11 @@ some_is : {X : Type 0} (a b : X) → Some a ≡ Some b → a ≡ b
 some_is a b e = cc
 
 id_at : (i : Id) (x : Message) (xs : List Message) (u : Message) (b : Bool) → same_id i x.stamp.id ≡ b
-    → (by_id i xs ≡ Some u → Has u xs × (i ≡ u.stamp.id)) → cond b (Some x) (by_id i xs) ≡ Some u → Has u (x ∷ xs) × (i ≡ u.stamp.id)
+    → (by_message_id i xs ≡ Some u → Has u xs × (i ≡ u.stamp.id)) → cond b (Some x) (by_message_id i xs) ≡ Some u → Has u (x ∷ xs) × (i ≡ u.stamp.id)
 id_at i x xs u true t rest e = let q : x ≡ u = some_is x u e in (inl (sym q), (Decides-same_id i x.stamp.id).0 t ∙ ap (λ (m : Message). m.stamp.id) q)
 id_at i x xs u false t rest e = let w = rest e in (inr w.0, w.1)
 
-pub found_id : (i : Id) (xs : List Message) (u : Message) → by_id i xs ≡ Some u → Has u xs × (i ≡ u.stamp.id)
+pub found_id : (i : Id) (xs : List Message) (u : Message) → by_message_id i xs ≡ Some u → Has u xs × (i ≡ u.stamp.id)
 found_id i [] u e = absurd cc
 found_id i (x ∷ xs) u e = id_at i x xs u (same_id i x.stamp.id) refl (found_id i xs u) e
 
@@ -86,16 +86,16 @@ found_number r (x ∷ xs) u e = red_at r x xs u (r == x.stamp.red) refl (found_n
 
 -- ---- Clash
 pub clash_is : (others own : List Message) (v : Message) → Known others own → clash others own v ≡ clash_by_id (others ++ own) v
-clash_is others own v k = same_bool (clash others own v) (clash_by_id (others ++ own) v) there (back (by_id v.stamp.id (others ++ own)) refl)
+clash_is others own v k = same_bool (clash others own v) (clash_by_id (others ++ own) v) there (back (by_message_id v.stamp.id (others ++ own)) refl)
   where
     there : clash others own v ≡ true → clash_by_id (others ++ own) v ≡ true
     there e =
         let w = any_has (clashes v) (others ++ own) e in
         let t = and_parts (same_id w.0.stamp.id v.stamp.id) (not (same_message w.0 v)) w.2 in
-        ap (λ (j : Id). option_map_or (λ u. not (same_message u v)) (by_id j (others ++ own)) false) (sym ((Decides-same_id w.0.stamp.id v.stamp.id).0 t.0))
+        ap (λ (j : Id). option_map_or (λ u. not (same_message u v)) (by_message_id j (others ++ own)) false) (sym ((Decides-same_id w.0.stamp.id v.stamp.id).0 t.0))
         ∙ ap (λ o. option_map_or (λ u. not (same_message u v)) o false) (k.one_id w.0 w.1) ∙ t.1
 
-    back : (o : Option Message) → by_id v.stamp.id (others ++ own) ≡ o → option_map_or (λ u. not (same_message u v)) o false ≡ true → clash others own v ≡ true
+    back : (o : Option Message) → by_message_id v.stamp.id (others ++ own) ≡ o → option_map_or (λ u. not (same_message u v)) o false ≡ true → clash others own v ≡ true
     back None q e = absurd (true≢false (sym e))
     back (Some u) q e =
         let w = found_id v.stamp.id (others ++ own) u q in
@@ -121,12 +121,12 @@ forgets_is others own v k le = same_bool (list_any (forgets v) own) (forgets_by_
         let s = (Decides-eqb w.0.stamp.id.seq (dep v w.0.stamp.id.site)).0 t.0 in
         let m = has_right w.0 others own w.1 in
         let q = (k.formed w.0 m).id.positive in
-        some_site v (λ j. option_map_or (exceeds v) (by_id (last_of v j) (others ++ own)) false) w.0.stamp.id.site
+        some_site v (λ j. option_map_or (exceeds v) (by_message_id (last_of v j) (others ++ own)) false) w.0.stamp.id.site
         (past_end v.stamp.deps w.0.stamp.id.site (omega (arith, q, s)))
-        (ap (λ (n : ℕ). option_map_or (exceeds v) (by_id (record { site = w.0.stamp.id.site; seq = n }) (others ++ own)) false) (sym s)
+        (ap (λ (n : ℕ). option_map_or (exceeds v) (by_message_id (record { site = w.0.stamp.id.site; seq = n }) (others ++ own)) false) (sym s)
         ∙ ap (λ o. option_map_or (exceeds v) o false) (k.one_id w.0 m) ∙ t.1)
 
-    at : (j : ℕ) (o : Option Message) → by_id (last_of v j) (others ++ own) ≡ o → option_map_or (exceeds v) o false ≡ true → list_any (forgets v) own ≡ true
+    at : (j : ℕ) (o : Option Message) → by_message_id (last_of v j) (others ++ own) ≡ o → option_map_or (exceeds v) o false ≡ true → list_any (forgets v) own ≡ true
     at j None q e = absurd (true≢false (sym e))
     at j (Some u) q e =
         let f = found_id (last_of v j) (others ++ own) u q in
@@ -137,13 +137,13 @@ forgets_is others own v k le = same_bool (list_any (forgets v) own) (forgets_by_
         let d = le u.stamp.id.site in
         let w = in_own own u.stamp.id.site u.stamp.id.seq k.released p (omega (arith, c, d)) in
         let same : w.0.stamp.id ≡ u.stamp.id = λ i. record { site = w.2 i; seq = w.3 i } in
-        let one : w.0 ≡ u = some_is w.0 u (sym (k.one_id w.0 (has_right w.0 others own w.1)) ∙ ap (λ (i : Id). by_id i (others ++ own)) same ∙ k.one_id u f.0) in
+        let one : w.0 ≡ u = some_is w.0 u (sym (k.one_id w.0 (has_right w.0 others own w.1)) ∙ ap (λ (i : Id). by_message_id i (others ++ own)) same ∙ k.one_id u f.0) in
         has_any (forgets v) own u (subst (λ (x : Message). Has x own) one w.1) (and_from (u.stamp.id.seq == dep v u.stamp.id.site) (exceeds v u) ((Decides-eqb _ _).1 c) e)
 
     back : forgets_by_id (others ++ own) v ≡ true → list_any (forgets v) own ≡ true
     back e =
-        let w = site_of v (λ j. option_map_or (exceeds v) (by_id (last_of v j) (others ++ own)) false) e in
-        at w.0 (by_id (last_of v w.0) (others ++ own)) refl w.2
+        let w = site_of v (λ j. option_map_or (exceeds v) (by_message_id (last_of v j) (others ++ own)) false) e in
+        at w.0 (by_message_id (last_of v w.0) (others ++ own)) refl w.2
 
 -- with the first two tests false no count is above those of this log
 pub within : (own : List Message) (v : Message) → IsMessage v → is_not_next own v ≡ false → is_early own v ≡ false → (j : ℕ) → dep v j ≤ counted j own

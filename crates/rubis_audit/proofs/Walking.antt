@@ -31,9 +31,9 @@ use Rattle.rubis_shard.specs.States.{ShardState}
 use Rattle.rubis_shard.proofs.Unions.{union_of_log}
 use Rattle.rubis_release.specs.Release.{IsAmong, clock_of}
 use Rattle.rubis_release.proofs.Counting.{clock_more, counts_at, length_counts, ready_by_clock}
-use Rattle.rubis_audit.specs.Past.{Known, Shows, Stands, checks_by}
+use Rattle.rubis_audit.specs.Past.{Known, Remembers, Shows, checks_by}
 use Rattle.rubis_audit.specs.Seen.{Sees}
-use Rattle.rubis_audit.specs.Walks.{AreAmong, IsWalked, Walked, said}
+use Rattle.rubis_audit.specs.Walks.{HaveMessagesAmong, IsWalked, Walked, messages_of_logs}
 use Rattle.rubis_audit.specs.declared.seen.Seen.{Seen}
 use Rattle.rubis_audit.proofs.Judging.{checks_are, faultless, known_log, known_none, known_push, ready}
 
@@ -54,7 +54,7 @@ shows_of others own shards k h =
 
 -- the checks by look-ups are those of the definition
 pub fault_is : (sites site : ℕ) (seen : Seen) (clock : Counted) (last : Option Message) (shards : List ShardState) (others own : List Message) (v : Message)
-    → Stands sites seen clock last shards others own → IsAmong sites v → IsMessage v
+    → Remembers sites seen clock last shards others own → IsAmong sites v → IsMessage v
     → first_of (checks_by site clock last (union shards) (others ++ own) v) ≡ first_of (checks others site own v)
 fault_is sites site seen clock last shards others own v s a f =
     (λ i. first_of (checks_by site (s.clock_is i) (s.last_is i) (union shards) (others ++ own) v))
@@ -69,7 +69,7 @@ ready_forth own v r = record {
 }
 
 pub ready_now : (sites site : ℕ) (seen : Seen) (clock : Counted) (last : Option Message) (shards : List ShardState) (others own : List Message) (v : Message)
-    → Stands sites seen clock last shards others own → IsAmong sites v → IsMessage v → first_of (checks others site own v) ≡ None → IsReady clock v.stamp
+    → Remembers sites seen clock last shards others own → IsAmong sites v → IsMessage v → first_of (checks others site own v) ≡ None → IsReady clock v.stamp
 ready_now sites site seen clock last shards others own v s a f e =
     subst (λ k. IsReady k v.stamp) (sym s.clock_is) (ready_by_clock sites own v a (ready_forth own v (ready others site own v f (faultless others site own v e))))
 
@@ -77,10 +77,10 @@ last_push : (own : List Message) (v : Message) → last_red (own ++ v ∷ []) �
 last_push own v = ap (find (λ u. is_red u.shadow)) (reverse_push own v)
 
 stands_push : (sites site : ℕ) (seen after : Seen) (clock clock2 : Counted) (last last2 : Option Message) (shards shards2 : List ShardState) (others own : List Message) (v : Message)
-    → Stands sites seen clock last shards others own → IsAmong sites v → IsMessage v → first_of (checks others site own v) ≡ None
+    → Remembers sites seen clock last shards others own → IsAmong sites v → IsMessage v → first_of (checks others site own v) ≡ None
     → ((all : List Message) → Sees seen all → Sees after (all ++ v ∷ [])) → clock2 ≡ advanced clock v.stamp → last2 ≡ cond (is_red v.shadow) (Some v) last
     → TakesOn (core v) (length own + 1) shards shards2
-    → Stands sites after clock2 last2 shards2 others (own ++ v ∷ [])
+    → Remembers sites after clock2 last2 shards2 others (own ++ v ∷ [])
 stands_push sites site seen after clock clock2 last last2 shards shards2 others own v s a f e more next red takes = record {
   known = known_push others site own v s.known f (faultless others site own v e);
   sees = subst (Sees after) (append_assoc others own (v ∷ [])) (more (others ++ own) s.sees);
@@ -98,7 +98,7 @@ opening_counts sites = λ i. record { counts = same i; red = 0 }
 
 -- ---- over one log
 pub record Walks (sites : ℕ) (seen : Seen) (clock : Counted) (last : Option Message) (shards : List ShardState) (others : List Message) (log : Log) (n : ℕ) : Type 0 where
-  pub stands : Stands sites seen clock last shards others (take n log.messages)
+  pub stands : Remembers sites seen clock last shards others (take n log.messages)
   pub rest : first_fault others log.site [] log.messages ≡ first_fault others log.site (take n log.messages) (drop n log.messages)
 
 pub walks_none : (sites : ℕ) (seen : Seen) (clock : Counted) (last : Option Message) (shards : List ShardState) (others : List Message) (log : Log)
@@ -130,7 +130,7 @@ pub walks_more : (sites : ℕ) (seen after : Seen) (clock clock2 : Counted) (las
     → TakesOn (core v) (n + 1) shards shards2
     → Walks sites after clock2 last2 shards2 others log (n + 1)
 walks_more sites seen after clock clock2 last last2 shards shards2 others log n v l e w a f none more next red takes = record {
-  stands = subst (Stands sites after clock2 last2 shards2 others) (sym (take_next log.messages n v l e))
+  stands = subst (Remembers sites after clock2 last2 shards2 others) (sym (take_next log.messages n v l e))
       (stands_push sites log.site seen after clock clock2 last last2 shards shards2 others (take n log.messages) v w.stands a f none more next red
       (subst (λ k. TakesOn (core v) (k + 1) shards shards2) (sym (length-take-le n log.messages (omega arith))) takes));
   rest = w.rest ∙ step_is others log n v None l e none;
@@ -139,7 +139,7 @@ walks_more sites seen after clock clock2 last last2 shards shards2 others log n 
 -- ---- from log to log
 pub record Over (seen : Seen) (k : ℕ) (logs : List Log) : Type 0 where
   pub walked : Walked seen (take k logs)
-  pub rest : verdict logs ≡ verdict_from (k + 1) (said (take k logs)) (drop k logs)
+  pub rest : verdict logs ≡ verdict_from (k + 1) (messages_of_logs (take k logs)) (drop k logs)
 
 pub over_none : (seen : Seen) (logs : List Log) → Sees seen [] → Over seen 0 logs
 over_none seen logs s = record { walked = record { known = known_none; sees = s }; rest = refl }
@@ -152,18 +152,18 @@ log_at (x ∷ logs) (suc k) l = log_at logs k (omega (arith, l))
 at_is : (logs : List Log) (k : ℕ) (log : Log) → slice_get logs k ≡ Some log → log ≡ get_or logs k log
 at_is logs k log e = sym (get_or_from_slice_get logs k log log e)
 
-next_said : (k : ℕ) (logs : List Log) (log : Log) → k < length logs → slice_get logs k ≡ Some log → said (take (k + 1) logs) ≡ said (take k logs) ++ log.messages
+next_said : (k : ℕ) (logs : List Log) (log : Log) → k < length logs → slice_get logs k ≡ Some log → messages_of_logs (take (k + 1) logs) ≡ messages_of_logs (take k logs) ++ log.messages
 next_said k logs log l e =
-    ap said (take_more logs k log l ∙ ap (λ x. take k logs ++ x ∷ []) (sym (at_is logs k log e)))
-    ∙ flat_map-append (λ (x : Log). x.messages) (take k logs) (log ∷ []) ∙ ap (λ xs. said (take k logs) ++ xs) (append-nil log.messages)
+    ap messages_of_logs (take_more logs k log l ∙ ap (λ x. take k logs ++ x ∷ []) (sym (at_is logs k log e)))
+    ∙ flat_map-append (λ (x : Log). x.messages) (take k logs) (log ∷ []) ∙ ap (λ xs. messages_of_logs (take k logs) ++ xs) (append-nil log.messages)
 
 next_logs : (k : ℕ) (logs : List Log) (log : Log) → k < length logs → slice_get logs k ≡ Some log → drop k logs ≡ log ∷ drop (k + 1) logs
 next_logs k logs log l e = drop-cons logs k log l ∙ (λ i. sym (at_is logs k log e) i ∷ drop (sym (add-one k) i) logs)
 
-log_step : (k : ℕ) (logs : List Log) (log : Log) (found : Option (Kind × ℕ)) → k < length logs → slice_get logs k ≡ Some log → found ≡ log_fault (said (take k logs)) log
-    → verdict_from (k + 1) (said (take k logs)) (drop k logs) ≡ found_or (k + 1) found (verdict_from (k + 1 + 1) (said (take (k + 1) logs)) (drop (k + 1) logs))
+log_step : (k : ℕ) (logs : List Log) (log : Log) (found : Option (Kind × ℕ)) → k < length logs → slice_get logs k ≡ Some log → found ≡ log_fault (messages_of_logs (take k logs)) log
+    → verdict_from (k + 1) (messages_of_logs (take k logs)) (drop k logs) ≡ found_or (k + 1) found (verdict_from (k + 1 + 1) (messages_of_logs (take (k + 1) logs)) (drop (k + 1) logs))
 log_step k logs log found l e f =
-    ap (verdict_from (k + 1) (said (take k logs))) (next_logs k logs log l e)
+    ap (verdict_from (k + 1) (messages_of_logs (take k logs))) (next_logs k logs log l e)
     ∙ (λ i. found_or (k + 1) (sym f i) (verdict_from (k + 1 + 1) (sym (next_said k logs log l e) i) (drop (k + 1) logs)))
 
 pub over_more : (before after : Seen) (k : ℕ) (logs : List Log) → k < length logs → Over before k logs → IsWalked after logs k None → Over after (k + 1) logs
@@ -178,18 +178,18 @@ over_found before after k logs p l o w =
     sym (o.rest ∙ log_step k logs there.0 (Some p) l there.1 (w there.0 there.1).0)
 
 pub over_done : (seen : Seen) (k : ℕ) (logs : List Log) → length logs ≤ k → Over seen k logs → Agree ≡ verdict logs
-over_done seen k logs l o = sym (o.rest ∙ ap (verdict_from (k + 1) (said (take k logs))) (drop_all k logs l))
+over_done seen k logs l o = sym (o.rest ∙ ap (verdict_from (k + 1) (messages_of_logs (take k logs))) (drop_all k logs l))
 
 -- ---- what a walk over one log answers
 same_log : (logs : List Log) (at : ℕ) (log other : Log) → at < length logs → log ≡ get_or logs at log → slice_get logs at ≡ Some other → log ≡ other
 same_log logs at log other l e f = e ∙ get_or_from_slice_get logs at other log f
 
 pub walked_found : (sites : ℕ) (seen after : Seen) (clock : Counted) (last : Option Message) (shards : List ShardState) (logs : List Log) (at : ℕ) (log : Log) (n : ℕ) (v : Message) (k : Kind)
-    → at < length logs → log ≡ get_or logs at log → Walks sites seen clock last shards (said (take at logs)) log n → n < length log.messages → v ≡ get_or log.messages n v
-    → first_of (checks (said (take at logs)) log.site (take n log.messages) v) ≡ Some k → IsWalked after logs at (Some (k, n + 1))
+    → at < length logs → log ≡ get_or logs at log → Walks sites seen clock last shards (messages_of_logs (take at logs)) log n → n < length log.messages → v ≡ get_or log.messages n v
+    → first_of (checks (messages_of_logs (take at logs)) log.site (take n log.messages) v) ≡ Some k → IsWalked after logs at (Some (k, n + 1))
 walked_found sites seen after clock last shards logs at log n v k l e w m i f other g = (
-  subst (λ x. Some (k, n + 1) ≡ log_fault (said (take at logs)) x) (same_log logs at log other l e g)
-      (sym (ap (λ o. option_or o (cond (wrong_rows log) (Some (kind.Rows, 0)) None)) (w.rest ∙ step_is (said (take at logs)) log n v (Some k) m i f))),
+  subst (λ x. Some (k, n + 1) ≡ log_fault (messages_of_logs (take at logs)) x) (same_log logs at log other l e g)
+      (sym (ap (λ o. option_or o (cond (wrong_rows log) (Some (kind.Rows, 0)) None)) (w.rest ∙ step_is (messages_of_logs (take at logs)) log n v (Some k) m i f))),
   λ q. absurd cc,
 )
 
@@ -197,14 +197,14 @@ rows_are : (others own : List Message) (shards : List ShardState) → HoldsLog 1
 rows_are others own shards h = ap (table_rows listing.Tables) (union_of_log 1 (cores own) shards (omega arith) h)
 
 pub walked_end : (sites : ℕ) (after : Seen) (clock : Counted) (last : Option Message) (shards : List ShardState) (logs : List Log) (at : ℕ) (log : Log) (n : ℕ) (wrong : Bool)
-    → at < length logs → log ≡ get_or logs at log → Walks sites after clock last shards (said (take at logs)) log n → length log.messages ≤ n
+    → at < length logs → log ≡ get_or logs at log → Walks sites after clock last shards (messages_of_logs (take at logs)) log n → length log.messages ≤ n
     → wrong ≡ option_map_or (λ rows. not (same_rows rows (table_rows listing.Tables (union shards)))) log.rows false
     → IsWalked after logs at (cond wrong (Some (kind.Rows, 0)) None)
 walked_end sites after clock last shards logs at log n wrong l e w m r other g = (
-  subst (λ x. cond wrong (Some (kind.Rows, 0)) None ≡ log_fault (said (take at logs)) x) same (sym (ap (λ o. option_or o (cond (wrong_rows log) (Some (kind.Rows, 0)) None)) none ∙ ap (λ b. cond b (Some (kind.Rows, 0)) None) (sym rows))),
+  subst (λ x. cond wrong (Some (kind.Rows, 0)) None ≡ log_fault (messages_of_logs (take at logs)) x) same (sym (ap (λ o. option_or o (cond (wrong_rows log) (Some (kind.Rows, 0)) None)) none ∙ ap (λ b. cond b (Some (kind.Rows, 0)) None) (sym rows))),
   λ q. record {
-    known = subst (λ xs. Known xs []) (sym said_more) (known_log (said (take at logs)) log.messages (subst (Known (said (take at logs))) whole w.stands.known));
-    sees = subst (Sees after) (sym said_more) (subst (λ xs. Sees after (said (take at logs) ++ xs)) whole w.stands.sees);
+    known = subst (λ xs. Known xs []) (sym said_more) (known_log (messages_of_logs (take at logs)) log.messages (subst (Known (messages_of_logs (take at logs))) whole w.stands.known));
+    sees = subst (Sees after) (sym said_more) (subst (λ xs. Sees after (messages_of_logs (take at logs) ++ xs)) whole w.stands.sees);
   },
 )
   where
@@ -214,23 +214,23 @@ walked_end sites after clock last shards logs at log n wrong l e w m r other g =
     whole : take n log.messages ≡ log.messages
     whole = take_all n log.messages m
 
-    none : first_fault (said (take at logs)) log.site [] log.messages ≡ None
-    none = w.rest ∙ ap (first_fault (said (take at logs)) log.site (take n log.messages)) (drop_all n log.messages m)
+    none : first_fault (messages_of_logs (take at logs)) log.site [] log.messages ≡ None
+    none = w.rest ∙ ap (first_fault (messages_of_logs (take at logs)) log.site (take n log.messages)) (drop_all n log.messages m)
 
     rows : wrong ≡ wrong_rows log
-    rows = r ∙ ap (λ rs. option_map_or (λ rows. not (same_rows rows rs)) log.rows false) (rows_are (said (take at logs)) log.messages shards (subst (λ xs. HoldsLog 1 (cores xs) shards) whole w.stands.holds))
+    rows = r ∙ ap (λ rs. option_map_or (λ rows. not (same_rows rows rs)) log.rows false) (rows_are (messages_of_logs (take at logs)) log.messages shards (subst (λ xs. HoldsLog 1 (cores xs) shards) whole w.stands.holds))
 
-    said_more : said (take (at + 1) logs) ≡ said (take at logs) ++ log.messages
+    said_more : messages_of_logs (take (at + 1) logs) ≡ messages_of_logs (take at logs) ++ log.messages
     said_more = next_said at logs log l (g ∙ ap Some (sym same))
 
 -- the messages of a log are of so many sites
-pub among_at : (sites : ℕ) (logs : List Log) (at : ℕ) (log : Log) (n : ℕ) (v : Message) → AreAmong sites logs → at < length logs → log ≡ get_or logs at log
+pub among_at : (sites : ℕ) (logs : List Log) (at : ℕ) (log : Log) (n : ℕ) (v : Message) → HaveMessagesAmong sites logs → at < length logs → log ≡ get_or logs at log
     → n < length log.messages → v ≡ get_or log.messages n v → IsMessage v → IsAmong sites v
 among_at sites logs at log n v all l e m i f =
     let many : sites_of v ≡ sites = all log (contained logs log (at, l, sym e)) v (contained log.messages v (n, m, sym i)) in
     record { counts = many; id = subst (λ k. IsId k v.stamp.id) many f.id }
 
-pub sites_at : (sites : ℕ) (logs : List Log) (at : ℕ) (log : Log) (n : ℕ) (v : Message) → AreAmong sites logs → at < length logs → log ≡ get_or logs at log
+pub sites_at : (sites : ℕ) (logs : List Log) (at : ℕ) (log : Log) (n : ℕ) (v : Message) → HaveMessagesAmong sites logs → at < length logs → log ≡ get_or logs at log
     → n < length log.messages → v ≡ get_or log.messages n v → sites_of v ≡ sites
 sites_at sites logs at log n v all l e m i = all log (contained logs log (at, l, sym e)) v (contained log.messages v (n, m, sym i))
 

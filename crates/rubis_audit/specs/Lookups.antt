@@ -9,8 +9,8 @@ use Rattle.rubis_message.specs.Message.{Message, dep}
 use Rattle.rubis_model.specs.Verdict.{at_some_site, precedes}
 
 -- the first message with that id
-abbrev pub by_id : Id → List Message → Option Message
-by_id i all = find (λ m. same_id i m.stamp.id) all
+abbrev pub by_message_id : Id → List Message → Option Message
+by_message_id i all = find (λ m. same_id i m.stamp.id) all
 
 -- the first with that red number
 abbrev pub by_red : ℕ → List Message → Option Message
@@ -18,7 +18,7 @@ by_red r all = find (λ m. r == m.stamp.red) all
 
 -- who has v's id isn't v
 abbrev pub clash_by_id : List Message → Message → Bool
-clash_by_id all v = option_map_or (λ u. not (same_message u v)) (by_id v.stamp.id all) false
+clash_by_id all v = option_map_or (λ u. not (same_message u v)) (by_message_id v.stamp.id all) false
 
 -- the id of what v counts last of site j
 abbrev pub last_of : Message → ℕ → Id
@@ -30,7 +30,7 @@ exceeds v u = at_some_site v (λ j. nat_lt (dep v j) (dep u j))
 
 -- what v counts last of some site counts more than v does
 abbrev pub forgets_by_id : List Message → Message → Bool
-forgets_by_id all v = at_some_site v (λ j. option_map_or (exceeds v) (by_id (last_of v j) all) false)
+forgets_by_id all v = at_some_site v (λ j. option_map_or (exceeds v) (by_message_id (last_of v j) all) false)
 
 -- who has v's red number isn't v
 abbrev pub taken_by_red : List Message → Message → Bool

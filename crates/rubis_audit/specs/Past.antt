@@ -19,7 +19,7 @@ use Rattle.rubis_shard.specs.Holdings.{HoldsLog}
 use Rattle.rubis_shard.specs.States.{ShardState}
 use Rattle.rubis_release.specs.Release.{clock_of}
 use Rattle.rubis_audit.specs.Contents.{nick_taken_in, stock_short_in, wrong_reference_in, wrong_winner_in}
-use Rattle.rubis_audit.specs.Lookups.{by_id, by_red, clash_by_id, gap_by, order_by}
+use Rattle.rubis_audit.specs.Lookups.{by_message_id, by_red, clash_by_id, gap_by, order_by}
 use Rattle.rubis_audit.specs.Seen.{Sees}
 use Rattle.rubis_audit.specs.declared.seen.Seen.{Seen}
 
@@ -46,14 +46,14 @@ checks_by site clock last t all v =
 -- no fault was found among them: each has an id and a red number of its own, and this log passes the checks
 pub record Known (others own : List Message) : Type 0 where
   pub formed : (m : Message) → Has m (others ++ own) → IsMessage m
-  pub one_id : (m : Message) → Has m (others ++ own) → by_id m.stamp.id (others ++ own) ≡ Some m
+  pub one_id : (m : Message) → Has m (others ++ own) → by_message_id m.stamp.id (others ++ own) ≡ Some m
   pub one_red : (m : Message) → Has m (others ++ own) → 0 < m.stamp.red → by_red m.stamp.red (others ++ own) ≡ Some m
   pub released : Released (reverse own)
   pub checked : Checked (cores own)
 
 -- they are found by look-ups; the clock counts those of this log, the last red one of them is that, and the shards hold
 -- them
-pub record Stands (sites : ℕ) (seen : Seen) (clock : Counted) (last : Option Message) (shards : List ShardState) (others own : List Message) : Type 0 where
+pub record Remembers (sites : ℕ) (seen : Seen) (clock : Counted) (last : Option Message) (shards : List ShardState) (others own : List Message) : Type 0 where
   pub known : Known others own
   pub sees : Sees seen (others ++ own)
   pub clock_is : clock ≡ clock_of sites own

@@ -15,29 +15,29 @@ pub record AuditorState : Type 0 where
   pub logs : List Log
 
 -- the logs that ended, in order, and the one that is read, if one has begun
-abbrev pub logs_of : List Log → Option Log → List Log
-logs_of ended None = []
-logs_of ended (Some log) = log ∷ reverse ended
+abbrev pub logs_so_far : List Log → Option Log → List Log
+logs_so_far ended None = []
+logs_so_far ended (Some log) = log ∷ reverse ended
 
 -- each message of the log is of so many sites
-abbrev pub IsLogAmong : ℕ → Log → Type 0
-IsLogAmong sites log = (m : Message) → Has m log.messages → sites_of m ≡ sites
+abbrev pub HasMessagesAmong : ℕ → Log → Type 0
+HasMessagesAmong sites log = (m : Message) → Has m log.messages → sites_of m ≡ sites
 
 abbrev pub IsCurrentAmong : ℕ → Option Log → Type 0
-IsCurrentAmong sites current = (log : Log) → current ≡ Some log → IsLogAmong sites log
+IsCurrentAmong sites current = (log : Log) → current ≡ Some log → HasMessagesAmong sites log
 
 -- what these are for an auditor among so many sites
 pub record AreRead (sites : ℕ) (ended : List Log) (current : Option Log) : Type 0 where
   pub few : sites ≤ COUNTED_MAX
-  pub ended_among : (log : Log) → Has log ended → IsLogAmong sites log
+  pub ended_among : (log : Log) → Has log ended → HasMessagesAmong sites log
   pub current_among : IsCurrentAmong sites current
 
 -- ---- what is made of records
 
 -- the one record of an audit, at the end; where the run is cut short, nothing
-abbrev pub text_of : Ending → Result (List Log) ℕ → List ℕ
-text_of AtEnd logs = rows_text (audit_record logs ∷ [])
-text_of Cut logs = []
+abbrev pub audit_text : Ending → Result (List Log) ℕ → List ℕ
+audit_text AtEnd logs = rows_text (audit_record logs ∷ [])
+audit_text Cut logs = []
 
 -- all records are read, the first of which has the number n, or those up to the first that isn't so
 abbrev pub read_of : ℕ → ℕ → Result (List Log) ℕ → ℕ
@@ -47,7 +47,7 @@ read_of n all (Err bad) = bad + 1 - n
 -- of the records behind these logs, newest first
 abbrev pub account_from : ℕ → ℕ → List Log → Account
 account_from sites n logs = record {
-  text = λ ending records. text_of ending (logs_after sites n logs records);
+  text = λ ending records. audit_text ending (logs_after sites n logs records);
   read = λ records. read_of n (length records) (logs_after sites n logs records);
 }
 

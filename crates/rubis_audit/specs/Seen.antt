@@ -7,7 +7,7 @@ use Rattle.rubis_schema.specs.Keys.{same_id}
 use Rattle.rubis_schema.specs.declared.ids.Id.{Id}
 use Rattle.rubis_message.specs.Message.{Message}
 use Rattle.rubis_audit.specs.declared.seen.Seen.{Seen}
-use Rattle.rubis_audit.specs.Lookups.{by_id, by_red}
+use Rattle.rubis_audit.specs.Lookups.{by_message_id, by_red}
 
 abbrev pub id_in : Seen → Id → Option Message
 id_in s i = option_copied (hash.get same_id s.by_id i)
@@ -17,7 +17,7 @@ red_in s r = option_copied (hash.get nat_eq s.by_red r)
 
 -- the look-ups find the first of all these messages with the id, and with the red number
 pub record Sees (s : Seen) (all : List Message) : Type 0 where
-  pub ids : (i : Id) → id_in s i ≡ by_id i all
+  pub ids : (i : Id) → id_in s i ≡ by_message_id i all
   pub reds : (r : ℕ) → red_in s r ≡ by_red r all
 
 -- m was put in, unless its key had one

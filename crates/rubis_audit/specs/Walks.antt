@@ -11,19 +11,19 @@ use Rattle.rubis_audit.specs.Seen.{Sees}
 use Rattle.rubis_audit.specs.declared.seen.Seen.{Seen}
 
 -- the messages of these logs, log by log
-abbrev pub said : List Log → List Message
-said logs = flat_map (λ log. log.messages) logs
+abbrev pub messages_of_logs : List Log → List Message
+messages_of_logs logs = flat_map (λ log. log.messages) logs
 
 -- each message of the logs is of so many sites
-abbrev pub AreAmong : ℕ → List Log → Type 0
-AreAmong sites logs = (log : Log) → Has log logs → (m : Message) → Has m log.messages → sites_of m ≡ sites
+abbrev pub HaveMessagesAmong : ℕ → List Log → Type 0
+HaveMessagesAmong sites logs = (log : Log) → Has log logs → (m : Message) → Has m log.messages → sites_of m ≡ sites
 
 -- no fault was found in these logs, and their messages are found by look-ups
 pub record Walked (seen : Seen) (logs : List Log) : Type 0 where
-  pub known : Known (said logs) []
-  pub sees : Sees seen (said logs)
+  pub known : Known (messages_of_logs logs) []
+  pub sees : Sees seen (messages_of_logs logs)
 
 -- what was found in the log at that place; where it was nothing, the logs up to it are walked over
 abbrev pub IsWalked : Seen → List Log → ℕ → Option (Kind × ℕ) → Type 0
 IsWalked seen logs at found = (log : Log) → slice_get logs at ≡ Some log
-    → (found ≡ log_fault (said (take at logs)) log) × (found ≡ None → Walked seen (take (at + 1) logs))
+    → (found ≡ log_fault (messages_of_logs (take at logs)) log) × (found ≡ None → Walked seen (take (at + 1) logs))

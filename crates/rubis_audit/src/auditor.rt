@@ -8,7 +8,7 @@ ghost use Rattle.rubis_schema.specs.declared.limits.TheConstants.{COUNTED_MAX};
 ghost use Rattle.rubis_model.specs.AuditRecords.{with_line};
 ghost use Rattle.rubis_model.specs.AuditRecords.Line.{Begin, Claim, Next};
 ghost use Rattle.rubis_audit.specs.Lines.{IsAmongLine, line_as};
-ghost use Rattle.rubis_audit.specs.Running.{IsCurrentAmong, account_from, logs_of};
+ghost use Rattle.rubis_audit.specs.Running.{IsCurrentAmong, account_from, logs_so_far};
 
 use crate::lines::{Line, read_line};
 use crate::logs::Log;
@@ -32,18 +32,18 @@ pub struct Auditor {
 }
 
 impl Model for Auditor {
-    ghost use Rattle.rubis_audit.specs.Running.{AreRead, AuditorState, logs_of};
+    ghost use Rattle.rubis_audit.specs.Running.{AreRead, AuditorState, logs_so_far};
 
     ghost Value = { AuditorState };
 
-    ghost view = { λ a. record { sites = a.sites; logs = logs_of a.ended.items a.current } };
+    ghost view = { λ a. record { sites = a.sites; logs = logs_so_far a.ended.items a.current } };
 
     ghost invariant = { λ a. AreRead a.sites a.ended.items a.current };
 }
 
 // Puts the log that was read behind those that ended. Before the first log there is none.
 fn end_log(ended: &mut Vec<Log>, current: Option<Log>) -> Result<(), AllocError>
-    ensures ok { OnOk result (ended.new.items ≡ reverse (logs_of ended.old.items current)) }
+    ensures ok { OnOk result (ended.new.items ≡ reverse (logs_so_far ended.old.items current)) }
     ensures err { OnErr result (ended.new.items ≡ ended.old.items) }
 {
     match current {
@@ -60,8 +60,8 @@ fn end_log(ended: &mut Vec<Log>, current: Option<Log>) -> Result<(), AllocError>
 // Puts a message behind the log that is read, if there is one that claims no row so far, and says whether there is.
 fn push_message(current: &mut Option<Log>, message: Message) -> Result<bool, AllocError>
     ensures ok { IfOk result (λ pushed. (ended : List logs.Log) → MatchBool pushed
-        (with_line (logs_of ended current.old) (Next message) ≡ Some (logs_of ended current.new))
-        (with_line (logs_of ended current.old) (Next message) ≡ None)) }
+        (with_line (logs_so_far ended current.old) (Next message) ≡ Some (logs_so_far ended current.new))
+        (with_line (logs_so_far ended current.old) (Next message) ≡ None)) }
     ensures among { (sites : ℕ) → sites_of message ≡ sites → IsCurrentAmong sites current.old → IsCurrentAmong sites current.new }
 {
     match current {
@@ -79,8 +79,8 @@ fn push_message(current: &mut Option<Log>, message: Message) -> Result<bool, All
 // Claims a row of the log that is read, if there is one, and says whether there is.
 fn claim_row(alloc: Global, current: &mut Option<Log>, row: &Fields) -> Result<bool, AllocError>
     ensures ok { IfOk result (λ claimed. (ended : List logs.Log) → MatchBool claimed
-        (with_line (logs_of ended current.old) (Claim row.now) ≡ Some (logs_of ended current.new))
-        (with_line (logs_of ended current.old) (Claim row.now) ≡ None)) }
+        (with_line (logs_so_far ended current.old) (Claim row.now) ≡ Some (logs_so_far ended current.new))
+        (with_line (logs_so_far ended current.old) (Claim row.now) ≡ None)) }
     ensures among { (sites : ℕ) → IsCurrentAmong sites current.old → IsCurrentAmong sites current.new }
 {
     match current {

@@ -3,7 +3,7 @@
 ghost use Rattle.std.specs.Prelude.{◌≤◌, IfOk, IfSome, IsErrOf};
 ghost use Rattle.rubis_script.specs.Accounts.Ending.{AtEnd};
 ghost use Rattle.rubis_script.specs.Progress.{IsCut, IsDone, IsTooLong, WroteFront};
-ghost use Rattle.rubis_script.specs.Text.{records_of};
+ghost use Rattle.rubis_script.specs.Text.{input_records};
 ghost use Rattle.rubis_schema.specs.declared.limits.TheConstants.{COUNTED_MAX};
 ghost use Rattle.rubis_audit.specs.Running.{audit_account};
 
@@ -29,13 +29,13 @@ pub fn run_audit<R: Read + Drop, W: Write>(
 ) -> Result<Count, RunFault>
     requires { sites ≤ COUNTED_MAX }
     ensures ok { IfOk result (λ count. IfSome (R.remaining reader) (λ input.
-        IsDone (audit_account sites) 4000000 (W.contents writer.old) (W.contents writer.new) (records_of input) count.records)) }
+        IsDone (audit_account sites) 4000000 (W.contents writer.old) (W.contents writer.new) (input_records input) count.records)) }
     ensures too_long { IsErrOf result RunFault.TooLong → IfSome (R.remaining reader) (λ input.
-        IsTooLong (audit_account sites) 4000000 (W.contents writer.old) (W.contents writer.new) (records_of input)) }
+        IsTooLong (audit_account sites) 4000000 (W.contents writer.old) (W.contents writer.new) (input_records input)) }
     ensures read { IsErrOf result RunFault.Read → IfSome (R.remaining reader) (λ input.
-        IsCut (audit_account sites) (W.contents writer.old) (W.contents writer.new) (records_of input)) }
+        IsCut (audit_account sites) (W.contents writer.old) (W.contents writer.new) (input_records input)) }
     ensures memory { IsErrOf result RunFault.Memory → IfSome (R.remaining reader) (λ input.
-        WroteFront ((audit_account sites).text AtEnd) (W.contents writer.old) (W.contents writer.new) (records_of input)) }
+        WroteFront ((audit_account sites).text AtEnd) (W.contents writer.old) (W.contents writer.new) (input_records input)) }
 {
     let mut auditor = Auditor::new(alloc, sites);
     run_upto(&(), alloc, reader, writer, &mut auditor, RECORDS_MAX)

@@ -11,7 +11,7 @@ ghost use Rattle.rubis_model.specs.Verdict.{first_of, log_fault, verdict, wrong_
 ghost use Rattle.rubis_shard.specs.Holdings.{HoldsLog, TakesOn, union};
 ghost use Rattle.rubis_audit.specs.Past.{checks_by};
 ghost use Rattle.rubis_audit.specs.Seen.{Sees};
-ghost use Rattle.rubis_audit.specs.Walks.{AreAmong, IsWalked, Walked};
+ghost use Rattle.rubis_audit.specs.Walks.{HaveMessagesAmong, IsWalked, Walked};
 
 use crate::contents::{nick_taken, stock_short, wrong_reference, wrong_winner};
 use crate::logs::Log;
@@ -103,7 +103,7 @@ fn walk<'a>(
 ) -> Result<Option<(Kind, usize)>, AllocError>
     requires place { at < length logs.now }
     requires few { sites ≤ COUNTED_MAX }
-    requires among { AreAmong sites logs.now }
+    requires among { HaveMessagesAmong sites logs.now }
     requires walked { Walked seen.old (take at logs.now) }
     ensures { IfOk result (λ found. IsWalked seen.new logs.now at (option_map (λ p. (p.0, p.1)) found)) }
 {
@@ -125,7 +125,7 @@ fn walk<'a>(
 /// The first fault of these logs, in order, or Agree where there is none.
 pub fn audit(alloc: Global, logs: &[Log], sites: u8) -> Result<Verdict, AllocError>
     requires few { sites ≤ COUNTED_MAX }
-    requires among { AreAmong sites logs.now }
+    requires among { HaveMessagesAmong sites logs.now }
     ensures { IfOk result (λ found. found ≡ verdict logs.now) }
 {
     let mut seen = Seen::new(alloc);

@@ -16,11 +16,11 @@ use Rattle.rubis_model.specs.Site.{Place, Replica}
 use Rattle.rubis_model.proofs.Pasts.{counted_yes, counted_no, seq_within, found}
 use Rattle.rubis_model.proofs.Settling.{counted_push, counted_reverse, reds_reverse, reverse_push}
 use Rattle.rubis_model.proofs.Lists.{push_cases, has_reverse, has_back}
-use Rattle.rubis_release.specs.Release.{id_of, IsAmong, AllAmong, HaveOwnIds, AreKept}
+use Rattle.rubis_release.specs.Release.{message_id, IsAmong, AllAmong, HaveOwnIds, AreKept}
 use Rattle.rubis_release.specs.Answers.{IsAdmitted}
 
 -- ---- ids
-same_ids : (u m : Message) → u.stamp.id.site ≡ m.stamp.id.site → u.stamp.id.seq ≡ m.stamp.id.seq → id_of u ≡ id_of m
+same_ids : (u m : Message) → u.stamp.id.site ≡ m.stamp.id.site → u.stamp.id.seq ≡ m.stamp.id.seq → message_id u ≡ message_id m
 same_ids u m a b = λ i. record { site = a i; seq = b i }
 
 has_more : (x m : Message) (front back : List Message) → Has x (front ++ back) → Has x (front ++ m ∷ back)
@@ -33,19 +33,19 @@ has_middle m [] back = inl refl
 has_middle m (y ∷ front) back = inr (has_middle m front back)
 
 -- one of the messages has no other's id
-pub other_ids : (m : Message) (front back : List Message) → HaveOwnIds (front ++ m ∷ back) → (u : Message) → Has u (front ++ back) → id_of u ≢ id_of m
+pub other_ids : (m : Message) (front back : List Message) → HaveOwnIds (front ++ m ∷ back) → (u : Message) → Has u (front ++ back) → message_id u ≢ message_id m
 other_ids m [] back h u k = h.0 u k
-other_ids m (y ∷ front) back h u (inl e) = λ q. h.0 m (has_middle m front back) (sym q ∙ ap id_of e)
+other_ids m (y ∷ front) back h u (inl e) = λ q. h.0 m (has_middle m front back) (sym q ∙ ap message_id e)
 other_ids m (y ∷ front) back h u (inr k) = other_ids m front back h.1 u k
 
 pub own_less : (m : Message) (front back : List Message) → HaveOwnIds (front ++ m ∷ back) → HaveOwnIds (front ++ back)
 own_less m [] back h = h.1
 own_less m (y ∷ front) back h = ((λ u k. h.0 u (has_more u m front back k)), own_less m front back h.1)
 
-pub own_more : (m : Message) (xs : List Message) → HaveOwnIds xs → ((u : Message) → Has u xs → id_of m ≢ id_of u) → HaveOwnIds (xs ++ m ∷ [])
+pub own_more : (m : Message) (xs : List Message) → HaveOwnIds xs → ((u : Message) → Has u xs → message_id m ≢ message_id u) → HaveOwnIds (xs ++ m ∷ [])
 own_more m [] h n = ((λ u k. absurd k), tt)
 own_more m (y ∷ xs) h n = (
-  (λ u k. ⊎_elim (λ l. h.0 u l) (λ e q. n y (inl refl) (ap id_of (sym e) ∙ q)) (push_cases u m xs k)),
+  (λ u k. ⊎_elim (λ l. h.0 u l) (λ e q. n y (inl refl) (ap message_id (sym e) ∙ q)) (push_cases u m xs k)),
   own_more m xs h.1 (λ u k. n u (inr k)),
 )
 
@@ -70,7 +70,7 @@ length_middle : (m : Message) (front back : List Message) → length (front ++ m
 length_middle m [] back = omega arith
 length_middle m (y ∷ front) back = let e = length_middle m front back in omega arith
 
-still_unreleased : (log : List Message) (m u : Message) → Ready log m → counted u.stamp.id.site log < u.stamp.id.seq → id_of u ≢ id_of m → counted u.stamp.id.site (log ++ m ∷ []) < u.stamp.id.seq
+still_unreleased : (log : List Message) (m u : Message) → Ready log m → counted u.stamp.id.site log < u.stamp.id.seq → message_id u ≢ message_id m → counted u.stamp.id.site (log ++ m ∷ []) < u.stamp.id.seq
 still_unreleased log m u r l n = ⊎_elim
     (λ e.
     let more = counted_push u.stamp.id.site log m ∙ counted_yes u.stamp.id.site m log e in

@@ -19,7 +19,7 @@ use Rattle.rubis_model.specs.Settle.{counted, reds, settle, Ready, Settles}
 use Rattle.rubis_model.specs.Site.{Place, Replica, counts, made, after_made, red_for, issued_after, is_current, is_full}
 use Rattle.rubis_model.proofs.OneOutcome.{settles_one}
 use Rattle.rubis_release.specs.Release.{IsAmong, AreKept}
-use Rattle.rubis_release.specs.Intake.{Intake, IsIntake, Holds}
+use Rattle.rubis_release.specs.Intake.{Intake, IsIntake, IsUpToDate}
 use Rattle.rubis_release.proofs.Counting.{length_counts, counts_at}
 use Rattle.rubis_release.proofs.Keeping.{settling_keeps, making_keeps}
 use Rattle.rubis_release.proofs.Intakes.{count_is}
@@ -95,7 +95,7 @@ pub record MayMake (i : Intake) (x : Shadow) : Type 0 where
   pub right : is_red x ≡ true → is_current i.state ≡ true
   pub limits : InLimits i.place.sites x
 
-pub built : (i : Intake) (k : Counted) (n : ℕ) (x : Shadow) → Holds i k n → (count red : ℕ) (deps : List ℕ) → count ≡ get_or k.counts i.place.site 0 → deps ≡ k.counts → red ≡ red_for x i.state.held
+pub built : (i : Intake) (k : Counted) (n : ℕ) (x : Shadow) → IsUpToDate i k n → (count red : ℕ) (deps : List ℕ) → count ≡ get_or k.counts i.place.site 0 → deps ≡ k.counts → red ≡ red_for x i.state.held
     → record { id = record { site = i.place.site; seq = count + 1 }; red = red; deps = deps } ≡ (made i.place i.state x).stamp
 built i k n x h count red deps c d r = λ j. record {
   id = record { site = i.place.site; seq = (c ∙ count_is i k n h i.place.site h.conditions.site) j + 1 };
@@ -138,7 +138,7 @@ made_is_message i x h full right limits = record {
     size : sites_of (made i.place i.state x) ≡ i.place.sites
     size = length_counts i.place.sites i.state.log
 
-pub made_kept : (i : Intake) (k : Counted) (n : ℕ) (x : Shadow) (m : Message) (log waiting : List Message) → Holds i k n → is_full i.place.keep i.state ≡ false → (is_red x ≡ true → is_current i.state ≡ true) → m ≡ made i.place i.state x
+pub made_kept : (i : Intake) (k : Counted) (n : ℕ) (x : Shadow) (m : Message) (log waiting : List Message) → IsUpToDate i k n → is_full i.place.keep i.state ≡ false → (is_red x ≡ true → is_current i.state ≡ true) → m ≡ made i.place i.state x
     → Settles (i.state.log ++ m ∷ []) i.state.waiting log waiting → AreKept i.place log waiting
 made_kept i k n x m log waiting h full right e s =
     settling_keeps i.place (i.state.log ++ made i.place i.state x ∷ []) i.state.waiting log waiting

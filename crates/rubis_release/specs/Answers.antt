@@ -18,5 +18,5 @@ IsFaultOf p s m (Refused r) = arrived p s m ≡ (s, Err r)
 IsFaultOf p s m Memory = IsAdmitted p s m
 
 -- the token, if the site holds it
-abbrev pub held_by : Replica → Option Held
-held_by s = option_map (λ issued. record { turn = s.last; issued = issued }) s.held
+abbrev pub token_held : Replica → Option Held
+token_held s = option_map (λ issued. record { turn = s.last; issued = issued }) s.held

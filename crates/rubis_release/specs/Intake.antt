@@ -18,7 +18,7 @@ pub record IsIntake (i : Intake) : Type 0 where
   pub kept : AreKept i.place i.state.log i.state.waiting
 
 -- the clock counts its log, which has room for all that waits, and nothing that waits is ready
-pub record Holds (i : Intake) (c : Counted) (capacity : ℕ) : Type 0 where
+pub record IsUpToDate (i : Intake) (c : Counted) (capacity : ℕ) : Type 0 where
   pub conditions : IsIntake i
   pub clock : c ≡ clock_of i.place.sites i.state.log
   pub room : length i.state.log + length i.state.waiting ≤ capacity

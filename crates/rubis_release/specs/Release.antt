@@ -10,8 +10,8 @@ use Rattle.rubis_model.specs.Settle.{Has, counted, reds}
 use Rattle.rubis_model.specs.Order.{Released}
 use Rattle.rubis_model.specs.Site.{Place, counts}
 
-abbrev pub id_of : Message → Id
-id_of m = m.stamp.id
+abbrev pub message_id : Message → Id
+message_id m = m.stamp.id
 
 -- the clock that counts a log
 abbrev pub clock_of : ℕ → List Message → Counted
@@ -39,7 +39,7 @@ NoneReady clock waiting = (k : ℕ) (d : Message) → k < length waiting → IsR
 -- no two of the messages have one id
 abbrev pub HaveOwnIds : List Message → Type 0
 HaveOwnIds [] = ⊤
-HaveOwnIds (m ∷ rest) = ((u : Message) → Has u rest → id_of u ≢ id_of m) × HaveOwnIds rest
+HaveOwnIds (m ∷ rest) = ((u : Message) → Has u rest → message_id u ≢ message_id m) × HaveOwnIds rest
 
 -- the ids are just those of the messages, of which no two have one id
 pub record AreTheIds (ids : List Id) (messages : List Message) : Type 0 where

@@ -58,13 +58,13 @@ pub struct Intake {
 impl Model for Intake {
     ghost use Rattle.std.specs.Prelude.{vec_capacity};
     ghost use Rattle.rubis_release.specs.Intake as model;
-    ghost use Rattle.rubis_release.specs.Intake.{Holds};
+    ghost use Rattle.rubis_release.specs.Intake.{IsUpToDate};
 
     ghost Value = { model.Intake };
 
     ghost view = { λ s. record { place = record { site = s.site; sites = s.sites; keep = s.keep }; state = record { log = s.log.items; waiting = s.waiting; held = s.held; last = s.last } } };
 
-    ghost invariant = { λ s. Holds (record { place = record { site = s.site; sites = s.sites; keep = s.keep }; state = record { log = s.log.items; waiting = s.waiting; held = s.held; last = s.last } }) s.clock (vec_capacity s.log) };
+    ghost invariant = { λ s. IsUpToDate (record { place = record { site = s.site; sites = s.sites; keep = s.keep }; state = record { log = s.log.items; waiting = s.waiting; held = s.held; last = s.last } }) s.clock (vec_capacity s.log) };
 }
 
 impl Intake {

@@ -26,8 +26,8 @@ use Rattle.rubis_shard.specs.Holdings.{union}
 use Rattle.rubis_shadow.specs.declared.numbered.Misfit.{Misfit}
 use Rattle.rubis_pieces.specs.Misfits.{AreOfTheLog}
 use Rattle.rubis_replica.specs.Follow.{Follower, FollowsAt}
-use Rattle.rubis_replica.specs.Progress.{Progress, whole}
-use Rattle.rubis_replica.specs.State.{Answers, Decides, SiteState, decision_at, with_all_applied}
+use Rattle.rubis_replica.specs.Progress.{Progress, resting_at}
+use Rattle.rubis_replica.specs.State.{AnswersAsTheStep, Decides, SiteState, decision_at, with_all_applied}
 use Rattle.rubis_replica.specs.declared.faults.Fault.{Fault}
 use Rattle.rubis_replica.specs.declared.faults.Fault.TheVariants.{Refused, Behind, Memory}
 use Rattle.rubis_replica.proofs.Following.{rests_holds}
@@ -129,8 +129,8 @@ module _ (old : SiteState) (place : Place) (state : Replica) (batch : ℕ) (f : 
   same_state : state ≡ old.state
   same_state = ap (λ (s : SiteState). s.state) same
 
-  all_applied : f.progress ≡ whole (length state.log)
-  all_applied = ap (λ (s : SiteState). s.progress) same ∙ ap (λ (r : Replica). whole (length r.log)) (sym same_state)
+  all_applied : f.progress ≡ resting_at (length state.log)
+  all_applied = ap (λ (s : SiteState). s.progress) same ∙ ap (λ (r : Replica). resting_at (length r.log)) (sym same_state)
 
   -- its tables are those of the log
   pub log_tables : union f.tables ≡ (fold_of (cores old.state.log)).tables
@@ -165,7 +165,7 @@ decides_err old ask (Err Memory) refusal h e = tt
 
 -- an ask that isn't decided is refused, or nothing is said of it
 pub undecided : (old new : SiteState) (ask : Ask) (r : Result Message Fault) (fault : Fault) → IsErr r × IsErrAnd r (λ e. e ≡ fault) → new.state ≡ old.state
-    → Decides old ask (Err fault) → Answers old new (asked old.place old.state ask) r
+    → Decides old ask (Err fault) → AnswersAsTheStep old new (asked old.place old.state ask) r
 undecided old new ask (Ok m) fault h same d = absurd (search rules)
 undecided old new ask (Err (Refused r)) fault h same d =
     let refused : decision_at old ask ≡ Err r = subst (λ e. Decides old ask (Err e)) (sym (let e : Refused r ≡ fault = search rules in e)) d in

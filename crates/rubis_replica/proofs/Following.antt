@@ -14,8 +14,8 @@ use Rattle.rubis_shard.specs.States.{ShardState}
 use Rattle.rubis_pieces.specs.Batches.{AreUnfinished, EndsWhole, GoesOn as GoesOnBy, HoldsBut, TakesBatch, parts_left}
 use Rattle.rubis_pieces.specs.declared.pieces.Left.{Left}
 use Rattle.rubis_pieces.proofs.Folded.{holds_all}
-use Rattle.rubis_replica.specs.Follow.{Follower, Follows, IsNoted, parts_to_do}
-use Rattle.rubis_replica.specs.Progress.{GoesOn, HasBegun, IsProgress, Progress, parts_between, whole}
+use Rattle.rubis_replica.specs.Follow.{Follower, FollowsLog, IsNoted, parts_to_do}
+use Rattle.rubis_replica.specs.Progress.{BatchGoesOn, HasBegun, IsProgress, Progress, parts_between, resting_at}
 use Rattle.rubis_replica.proofs.Between.{below_or, between_inside, between_meets, few_between, nothing_between, some_between, to_the_end}
 
 zero_or : (n : ℕ) → (n ≡ 0) ⊎ (0 < n)
@@ -76,7 +76,7 @@ noted_progress log applied f n h = record {
 }
 
 pub noted_follows : (log : List Message) (applied : ℕ) (f : Follower) → IsNoted log applied f → 0 < length f.tables
-    → AreUnfinished 0 (length f.tables) f.rest → HoldsBut (length f.tables) (cores (take f.at log)) f.rest f.tables → Follows log f
+    → AreUnfinished 0 (length f.tables) f.rest → HoldsBut (length f.tables) (cores (take f.at log)) f.rest f.tables → FollowsLog log f
 noted_follows log applied f n some unfinished holds = record {
   progress = noted_progress log applied f n unfinished;
   on = noted_on log applied f n unfinished;
@@ -89,7 +89,7 @@ noted_follows log applied f n some unfinished holds = record {
 
 -- all of the batch is done, so it is whole
 pub noted_whole : (log : List Message) (applied : ℕ) (f : Follower) → IsNoted log applied f → f.rest ≡ [] → f.at ≡ f.progress.upto
-    → f.progress ≡ whole f.progress.upto
+    → f.progress ≡ resting_at f.progress.upto
 noted_whole log applied f n none e =
     let left : f.progress.left ≡ 0 = n.left ∙ all_done log f.rest f.at f.progress.upto none e in
     λ i. record { applied = n.rests left i; upto = f.progress.upto; left = left i }
@@ -110,14 +110,14 @@ noted_begun log old f n e left = record {
 -- ---- between batches
 
 -- where nothing is left, as many messages stand as are applied, and no share is unfinished
-pub rests_at : (log : List Message) (f : Follower) → Follows log f → f.progress.left ≡ 0 → f.at ≡ f.progress.applied
+pub rests_at : (log : List Message) (f : Follower) → FollowsLog log f → f.progress.left ≡ 0 → f.at ≡ f.progress.applied
 rests_at log f h z = omega (arith, h.on, h.inside, h.progress.rests z)
 
-pub rests_whole : (log : List Message) (f : Follower) → Follows log f → f.progress.left ≡ 0 → f.rest ≡ []
+pub rests_whole : (log : List Message) (f : Follower) → FollowsLog log f → f.progress.left ≡ 0 → f.rest ≡ []
 rests_whole log f h z = (none_to_do log (length f.tables) f f.progress.upto h.unfinished h.inside h.progress.inside (sym h.left ∙ z)).0
 
 -- and the tables hold what stands
-pub rests_holds : (log : List Message) (f : Follower) → Follows log f → f.progress.left ≡ 0 → HoldsLog (length f.tables) (cores (take f.at log)) f.tables
+pub rests_holds : (log : List Message) (f : Follower) → FollowsLog log f → f.progress.left ≡ 0 → HoldsLog (length f.tables) (cores (take f.at log)) f.tables
 rests_holds log f h z = holds_all (length f.tables) (cores (take f.at log)) f.rest f.tables (rests_whole log f h z) h.holds
 
 -- shards that hold a log hold it with nothing left
@@ -138,7 +138,7 @@ by_ok (Err x) h e = absurd cc
 
 -- the tables hold what stands, and no share is unfinished
 pub noted_stands : (log : List Message) (applied : ℕ) (new : Follower) (at : ℕ) (t : List ShardState) → IsNoted log applied new → new.rest ≡ []
-    → new.at ≡ at → new.tables ≡ t → 0 < length t → HoldsLog (length t) (cores (take at log)) t → Follows log new
+    → new.at ≡ at → new.tables ≡ t → 0 < length t → HoldsLog (length t) (cores (take at log)) t → FollowsLog log new
 noted_stands log applied new at t noted none same_at same some holds =
     noted_follows log applied new noted (omega (arith, some, ap length same)) (subst (AreUnfinished 0 (length new.tables)) (sym none) tt)
     (holds_none (length new.tables) log new.at new.rest new.tables none
@@ -146,8 +146,8 @@ noted_stands log applied new at t noted none same_at same some holds =
     (subst (λ ts. HoldsLog (length ts) (cores (take at log)) ts) (sym same) holds)))
 
 -- where nothing was done, the tables follow as before
-pub stays : (log : List Message) (old : Follower) (at : ℕ) (t : List ShardState) → Follows log old → old.progress.left ≡ 0 → at ≡ old.at → 0 < length t
-    → HoldsLog (length t) (cores (take at log)) t → Follows log (record { progress = old.progress; at = at; rest = old.rest; tables = t })
+pub stays : (log : List Message) (old : Follower) (at : ℕ) (t : List ShardState) → FollowsLog log old → old.progress.left ≡ 0 → at ≡ old.at → 0 < length t
+    → HoldsLog (length t) (cores (take at log)) t → FollowsLog log (record { progress = old.progress; at = at; rest = old.rest; tables = t })
 stays log old at t h z same some holds =
     let none = rests_whole log old h z in
     record {
@@ -177,7 +177,7 @@ pub stays_begun : (log : List Message) (p : Progress) (n : ℕ) → IsProgress l
 stays_begun log p n h less some = let begun = h.begun (omega (arith, less, some)) in omega (arith, begun.1, less)
 
 -- no batch has more parts to do than 3,000,000
-pub few_left : (log : List Message) (f : Follower) → length log ≤ 1000000 → Follows log f → parts_left f.rest ≤ 3000000
+pub few_left : (log : List Message) (f : Follower) → length log ≤ 1000000 → FollowsLog log f → parts_left f.rest ≤ 3000000
 few_left log f few h = elim (zero_or f.progress.left) [
   | inl z ↦ omega (arith, z, h.left)
   | inr l ↦ omega (arith, h.left, (h.progress.begun l).1, few_between log f.progress.applied f.progress.upto few)
@@ -189,7 +189,7 @@ fewer_left log a b upto h g =
     omega (arith, ap length (between_meets log a b upto h g), length-append (parts_between log a b) (parts_between log b upto))
 
 -- no more is to be done than was left, where no more shares are unfinished and no fewer messages stand
-pub fewer_to_do : (log : List Message) (old : Follower) (rest : List Left) (at : ℕ) → Follows log old → parts_left rest ≤ parts_left old.rest → old.at ≤ at
+pub fewer_to_do : (log : List Message) (old : Follower) (rest : List Left) (at : ℕ) → FollowsLog log old → parts_left rest ≤ parts_left old.rest → old.at ≤ at
     → at ≤ old.progress.upto → parts_to_do log rest at old.progress.upto ≤ old.progress.left
 fewer_to_do log old rest at h fewer on inside = omega (arith, h.left, fewer, fewer_left log old.at at old.progress.upto on inside)
 
@@ -207,9 +207,9 @@ noted_some log applied new rest shards noted same_rest h some = elim (zero_or (p
 ]
 
 -- the shares were gone on with, and some are unfinished still
-pub part_finished : (log : List Message) (old new : Follower) (t : List ShardState) (rest : List Left) → Follows log old → length t ≡ length old.tables
+pub part_finished : (log : List Message) (old new : Follower) (t : List ShardState) (rest : List Left) → FollowsLog log old → length t ≡ length old.tables
     → AreUnfinished 0 (length t) rest → GoesOnBy old.tables old.rest t rest → IsNoted log old.progress.applied new
-    → new.at ≡ old.at → new.rest ≡ rest → new.tables ≡ t → Follows log new
+    → new.at ≡ old.at → new.rest ≡ rest → new.tables ≡ t → FollowsLog log new
 part_finished log old new t rest h many unfinished goes noted same_at same_rest same =
     let all : length new.tables ≡ length old.tables = ap length same ∙ many in
     noted_follows log old.progress.applied new noted (omega (arith, all, h.some))
@@ -220,14 +220,14 @@ part_finished log old new t rest h many unfinished goes noted same_at same_rest 
     (subst (λ ts. HoldsBut (length old.tables) (cores (take old.at log)) rest ts) (sym same) (goes (length old.tables) (cores (take old.at log)) h.holds)))))
 
 -- they were all finished, so what stands is held wholly
-pub all_finished : (log : List Message) (old : Follower) (t : List ShardState) (rest : List Left) → Follows log old → length t ≡ length old.tables
+pub all_finished : (log : List Message) (old : Follower) (t : List ShardState) (rest : List Left) → FollowsLog log old → length t ≡ length old.tables
     → EndsWhole old.tables old.rest t rest → rest ≡ [] → HoldsLog (length t) (cores (take old.at log)) t
 all_finished log old t rest h many ends none =
     subst (λ n. HoldsLog n (cores (take old.at log)) t) (sym many) (ends none (length old.tables) (cores (take old.at log)) h.holds)
 
 -- it isn't whole, and no more is left than before
 pub goes_on : (log : List Message) (old new : Follower) → IsNoted log old.progress.applied new → new.progress.upto ≡ old.progress.upto
-    → 0 < new.progress.left → new.progress.left ≤ old.progress.left → GoesOn old.progress new.progress
+    → 0 < new.progress.left → new.progress.left ≤ old.progress.left → BatchGoesOn old.progress new.progress
 goes_on log old new noted same left fewer = record {
   batch = λ i. record { applied = noted.begun left i; upto = same i; left = new.progress.left };
   some_left = left;
@@ -247,10 +247,10 @@ holds_batch log f first new rest at inside many takes holds =
     subst (λ n. HoldsBut n (cores (take (length log) log)) rest new) (sym many)
     (subst (λ xs. HoldsBut (length f.tables) xs rest new) all (takes (length f.tables) (cores (take f.at log)) count holds))
 
-pub workers_follow : (log : List Message) (old new : Follower) (first : ℕ) (t : List ShardState) (rest : List Left) → Follows log old
+pub workers_follow : (log : List Message) (old new : Follower) (first : ℕ) (t : List ShardState) (rest : List Left) → FollowsLog log old
     → old.progress.left ≡ 0 → first ≡ old.at + 1 → length t ≡ length old.tables → TakesBatch first (cores (slice_range log old.at (length log))) old.tables t rest
     → AreUnfinished 0 (length old.tables) rest → IsNoted log old.progress.applied new
-    → new.at ≡ length log → new.rest ≡ rest → new.tables ≡ t → Follows log new
+    → new.at ≡ length log → new.rest ≡ rest → new.tables ≡ t → FollowsLog log new
 workers_follow log old new first t rest h z next many takes unfinished noted same_at same_rest same =
     let inside : old.at ≤ length log = omega (arith, h.inside, h.progress.inside) in
     let all = subst (λ (xs : List Message). TakesBatch first (cores xs) old.tables t rest) (to_the_end log old.at) takes in
@@ -265,7 +265,7 @@ workers_follow log old new first t rest h z next many takes unfinished noted sam
 -- ---- a log that grows
 
 -- the batch, and what is done of it, are the same
-pub follows_more : (log more : List Message) (f : Follower) → Follows log f → Follows (log ++ more) f
+pub follows_more : (log more : List Message) (f : Follower) → FollowsLog log f → FollowsLog (log ++ more) f
 follows_more log more f h =
     let inside : f.progress.upto ≤ length log = h.progress.inside in
     let batch = sym (between_inside f.progress.applied f.progress.upto log more h.progress.on inside) in

@@ -15,8 +15,8 @@ use Rattle.rubis_model.specs.Site.{Place, Replica, after_made, arrived, is_full,
 use Rattle.rubis_shard.specs.Holdings.{HoldsLog, union}
 use Rattle.rubis_pieces.specs.Batches.{AreUnfinished}
 use Rattle.rubis_shard.proofs.Unions.{union_of_log}
-use Rattle.rubis_replica.specs.Follow.{AreWithin, Follower, Follows, FollowsAt, StaysWithin}
-use Rattle.rubis_replica.specs.Progress.{IsProgress, Progress, whole}
+use Rattle.rubis_replica.specs.Follow.{AreWithin, Follower, FollowsAt, FollowsLog, StaysWithin}
+use Rattle.rubis_replica.specs.Progress.{IsProgress, Progress, resting_at}
 use Rattle.rubis_replica.proofs.Following.{all_done, follows_more, holds_none, rests_at, rests_holds}
 
 abbrev pub Extends : List Message → List Message → Type 0
@@ -36,7 +36,7 @@ follows_extended p q log new f same e h =
     let inside : f.at ≤ length log = omega (arith, h.follows.inside, h.follows.progress.inside) in
     let front : take f.at log ≡ take f.at new = sym (take-append-le f.at log e.0 inside) ∙ ap (take f.at) (sym e.1) in
     subst (λ (y : Place). FollowsAt y.sites new f) (sym same) (record {
-      follows = subst (λ (l : List Message). Follows l f) (sym e.1) (follows_more log e.0 f h.follows);
+      follows = subst (λ (l : List Message). FollowsLog l f) (sym e.1) (follows_more log e.0 f h.follows);
       limits = subst (λ (xs : List Message). AllInLimits p.sites (fold_of (cores xs)).tables) front h.limits;
     })
 
@@ -91,7 +91,7 @@ follows_passed p q s new to a f same e h = follows_same p q s new f same (ap (λ
 
 -- ---- the opening tables
 
-pub follows_opening : (sites : ℕ) (log : List Message) (f : Follower) → log ≡ [] → (f.progress ≡ whole 0) × (f.at ≡ 0) × (f.rest ≡ []) → 0 < length f.tables
+pub follows_opening : (sites : ℕ) (log : List Message) (f : Follower) → log ≡ [] → (f.progress ≡ resting_at 0) × (f.at ≡ 0) × (f.rest ≡ []) → 0 < length f.tables
     → HoldsLog (length f.tables) [] f.tables → FollowsAt sites log f
 follows_opening sites log f e p some holds =
     subst (λ (l : List Message). FollowsAt sites l f) (sym e) (record {
@@ -115,28 +115,28 @@ follows_opening sites log f e p some holds =
 -- ---- tables that were brought on
 
 pub follows_on : (sites : ℕ) (log read : List Message) (old new : Follower) → read ≡ log → All (λ m. sites_of m ≡ sites) log
-    → FollowsAt sites log old → Follows read new → StaysWithin read old.at new.at → FollowsAt sites log new
+    → FollowsAt sites log old → FollowsLog read new → StaysWithin read old.at new.at → FollowsAt sites log new
 follows_on sites log read old new e all f h k = record {
-  follows = subst (λ (l : List Message). Follows l new) e h;
+  follows = subst (λ (l : List Message). FollowsLog l new) e h;
   limits = subst (λ (l : List Message). AreWithin sites l new.at) e
       (k sites (subst (λ (l : List Message). All (λ m. sites_of m ≡ sites) l) (sym e) all) (subst (λ (l : List Message). AreWithin sites l old.at) (sym e) f.limits));
 }
 
 -- with all of the log applied, all of it stands
-pub all_at : (log : List Message) (f : Follower) → Follows log f → f.progress ≡ whole (length log) → take f.at log ≡ log
+pub all_at : (log : List Message) (f : Follower) → FollowsLog log f → f.progress ≡ resting_at (length log) → take f.at log ≡ log
 all_at log f h e =
     let applied = ap (λ (p : Progress). p.applied) e in
     let at : f.at ≡ length log = rests_at log f h (ap (λ (p : Progress). p.left) e) ∙ applied in
     ap (λ n. take n log) at ∙ take-length log
 
 -- the tables are those of the whole log
-pub tables_of_log : (sites : ℕ) (log : List Message) (f : Follower) → FollowsAt sites log f → f.progress ≡ whole (length log)
+pub tables_of_log : (sites : ℕ) (log : List Message) (f : Follower) → FollowsAt sites log f → f.progress ≡ resting_at (length log)
     → union f.tables ≡ (fold_of (cores log)).tables
 tables_of_log sites log f h e =
     union_of_log (length f.tables) (cores (take f.at log)) f.tables h.follows.some (rests_holds log f h.follows (ap (λ (p : Progress). p.left) e))
     ∙ ap (λ xs. (fold_of (cores xs)).tables) (all_at log f h.follows e)
 
 -- and within the limits
-pub log_in_limits : (sites : ℕ) (log : List Message) (f : Follower) → FollowsAt sites log f → f.progress ≡ whole (length log)
+pub log_in_limits : (sites : ℕ) (log : List Message) (f : Follower) → FollowsAt sites log f → f.progress ≡ resting_at (length log)
     → AllInLimits sites (fold_of (cores log)).tables
 log_in_limits sites log f h e = subst (λ (xs : List Message). AllInLimits sites (fold_of (cores xs)).tables) (all_at log f h.follows e) h.limits

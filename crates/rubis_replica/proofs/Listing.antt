@@ -7,7 +7,7 @@ use Rattle.rubis_message.specs.Message.{Message}
 use Rattle.rubis_model.specs.Listings.{table_rows}
 use Rattle.rubis_model.specs.Log.{Folded}
 use Rattle.rubis_model.specs.Runs.{listing_rows}
-use Rattle.rubis_replica.specs.Progress.{whole}
+use Rattle.rubis_replica.specs.Progress.{resting_at}
 use Rattle.rubis_replica.specs.State.{SiteState, with_all_applied}
 
 -- but for the log and the misfits, a listing shows the rows of the tables
@@ -22,5 +22,5 @@ tables_shown log f (Comments user) no_log no_misfits = refl
 tables_shown log f Categories no_log no_misfits = refl
 tables_shown log f Tables no_log no_misfits = refl
 
-pub applied_already : (s t : SiteState) → s ≡ t → t.progress ≡ whole (length t.state.log) → s ≡ with_all_applied t
+pub applied_already : (s t : SiteState) → s ≡ t → t.progress ≡ resting_at (length t.state.log) → s ≡ with_all_applied t
 applied_already s t e h = e ∙ (λ i. record t { progress = h i })

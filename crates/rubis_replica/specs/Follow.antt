@@ -22,7 +22,7 @@ abbrev pub parts_to_do : List Message → List Left → ℕ → ℕ → ℕ
 parts_to_do log rest at upto = parts_left rest + length (parts_between log at upto)
 
 -- the tables are those of the log as far as they are in it, misfits too
-pub record Follows (log : List Message) (f : Follower) : Type 0 where
+pub record FollowsLog (log : List Message) (f : Follower) : Type 0 where
   pub progress : IsProgress log f.progress
   pub on : f.progress.applied ≤ f.at
   pub inside : f.at ≤ f.progress.upto
@@ -41,7 +41,7 @@ StaysWithin log old new = (sites : ℕ) → All (λ m. sites_of m ≡ sites) log
 
 -- the same of a site's, whose rows are within the limits
 pub record FollowsAt (sites : ℕ) (log : List Message) (f : Follower) : Type 0 where
-  pub follows : Follows log f
+  pub follows : FollowsLog log f
   pub limits : AreWithin sites log f.at
 
 -- behind the first `applied` messages a batch was gone on with, which ends with message `upto`: it is whole where all of it

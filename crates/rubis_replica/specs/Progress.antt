@@ -13,8 +13,8 @@ pub record Progress : Type 0 where
   pub left : ℕ
 
 -- so many messages are applied, and no batch has begun
-abbrev pub whole : ℕ → Progress
-whole n = record { applied = n; upto = n; left = 0 }
+abbrev pub resting_at : ℕ → Progress
+resting_at n = record { applied = n; upto = n; left = 0 }
 
 -- a batch has begun and isn't whole
 abbrev pub is_behind : Progress → Bool
@@ -39,7 +39,7 @@ pub record HasBegun (log : List Message) (old new : Progress) : Type 0 where
 
 -- a batch of all that is pending was tried: it is whole, or has begun, or nothing of it is done
 abbrev pub IsTried : List Message → Progress → Progress → Type 0
-IsTried log old new = (new ≡ whole (length log)) ⊎ HasBegun log old new ⊎ (new ≡ old)
+IsTried log old new = (new ≡ resting_at (length log)) ⊎ HasBegun log old new ⊎ (new ≡ old)
 
 -- it was tried where so many are pending; where fewer are, all of them wait
 pub record IsBatched (batch : ℕ) (log : List Message) (old new : Progress) : Type 0 where
@@ -47,7 +47,7 @@ pub record IsBatched (batch : ℕ) (log : List Message) (old new : Progress) : T
   pub tried : batch ≤ length log - old.applied → IsTried log old new
 
 -- the batch that had begun goes on: it is no further from its end, which it hasn't come to
-pub record GoesOn (old new : Progress) : Type 0 where
+pub record BatchGoesOn (old new : Progress) : Type 0 where
   pub batch : new ≡ record old { left = new.left }
   pub some_left : 0 < new.left
   pub fewer : new.left ≤ old.left

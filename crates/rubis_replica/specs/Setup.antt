@@ -27,5 +27,5 @@ pub record IsSetup (s : Setup) : Type 0 where
   pub keep : IsCount s.keep KEEP_MAX
 
 -- all of it that answers depend on
-abbrev pub place_of : Setup → Place
-place_of s = record { site = s.site; sites = s.sites; keep = s.keep }
+abbrev pub setup_place : Setup → Place
+setup_place s = record { site = s.site; sites = s.sites; keep = s.keep }

@@ -9,7 +9,7 @@ use Rattle.rubis_generate.specs.Decision.{decision}
 use Rattle.rubis_message.specs.declared.answers.Arrival.{Arrival}
 use Rattle.rubis_message.specs.declared.answers.Arrival.TheVariants.{Released, Held, Repeat}
 use Rattle.rubis_model.specs.Site.{Place, Replica, rows_at, standing_of}
-use Rattle.rubis_replica.specs.Progress.{HasBegun, IsBatched, Progress, whole}
+use Rattle.rubis_replica.specs.Progress.{HasBegun, IsBatched, Progress, resting_at}
 use Rattle.rubis_replica.specs.declared.faults.Fault.{Fault}
 use Rattle.rubis_replica.specs.declared.faults.Fault.TheVariants.{Refused, Behind, Memory}
 
@@ -26,13 +26,13 @@ pending s = length s.state.log - s.progress.applied
 
 -- the site with all that was pending applied
 abbrev pub with_all_applied : SiteState → SiteState
-with_all_applied s = record s { progress = whole (length s.state.log) }
+with_all_applied s = record s { progress = resting_at (length s.state.log) }
 
 -- the call answers as the step says; where it doesn't, the site's state is as it was
-abbrev pub Answers : {A : Type 0} → SiteState → SiteState → Replica × Result A Refusal → Result A Fault → Type 0
-Answers old new step (Ok a) = (new.state ≡ step.0) × (step.1 ≡ Ok a)
-Answers old new step (Err (Refused r)) = (new.state ≡ old.state) × (step.1 ≡ Err r)
-Answers old new step (Err fault) = new.state ≡ old.state
+abbrev pub AnswersAsTheStep : {A : Type 0} → SiteState → SiteState → Replica × Result A Refusal → Result A Fault → Type 0
+AnswersAsTheStep old new step (Ok a) = (new.state ≡ step.0) × (step.1 ≡ Ok a)
+AnswersAsTheStep old new step (Err (Refused r)) = (new.state ≡ old.state) × (step.1 ≡ Err r)
+AnswersAsTheStep old new step (Err fault) = new.state ≡ old.state
 
 -- the call adds the rows that the step answers with; where it doesn't, the site's state is as it was
 abbrev pub AddsRows : (List (List (List ℕ)) → Type 0) → SiteState → SiteState → Replica × Result (List (List (List ℕ))) Refusal

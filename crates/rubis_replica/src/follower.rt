@@ -4,8 +4,8 @@ ghost use Rattle.std.specs.Prelude.{◌≡◌, ◌≤◌, ◌<◌, ◌⊎◌, []
 ghost use Rattle.rubis_schema.specs.declared.limits.TheConstants.{WORKERS_MAX};
 ghost use Rattle.rubis_shard.specs.Holdings.{HoldsLog};
 ghost use Rattle.rubis_pieces.specs.Batches.{parts_left};
-ghost use Rattle.rubis_replica.specs.Follow.{Follows, IsNoted, StaysWithin, parts_to_do};
-ghost use Rattle.rubis_replica.specs.Progress.{GoesOn, HasBegun, is_behind, parts_between, whole};
+ghost use Rattle.rubis_replica.specs.Follow.{FollowsLog, IsNoted, StaysWithin, parts_to_do};
+ghost use Rattle.rubis_replica.specs.Progress.{BatchGoesOn, HasBegun, is_behind, parts_between, resting_at};
 ghost use Rattle.rubis_replica.specs.Setup.{IsCount};
 
 use crate::applying::{apply_upto, count_left, count_parts};
@@ -60,7 +60,7 @@ impl<G: Gate + Drop> Follower<G> {
     pub fn new(alloc: Global, shards: u8, workers: u8, gate: G) -> Result<Follower<G>, AllocError>
         requires shards { 0 < shards }
         requires workers { IsCount workers WORKERS_MAX }
-        ensures progress { IfOk result (λ follower. (follower.progress ≡ whole 0) × (follower.at ≡ 0) × (follower.rest ≡ [])) }
+        ensures progress { IfOk result (λ follower. (follower.progress ≡ resting_at 0) × (follower.at ≡ 0) × (follower.rest ≡ [])) }
         ensures some { IfOk result (λ follower. 0 < length follower.tables) }
         ensures tables { IfOk result (λ follower. HoldsLog (length follower.tables) [] follower.tables) }
     {
@@ -132,10 +132,10 @@ impl<G: Gate> Follower<G> {
     fn follow_here(&mut self, log: &[Message]) -> Result<(), AllocError>
         requires few { length log.now ≤ 1000000 }
         requires rests { self.old.progress.left ≡ 0 }
-        requires follows { Follows log.now self.old }
-        ensures follows { Follows log.now self.new }
+        requires follows { FollowsLog log.now self.old }
+        ensures follows { FollowsLog log.now self.new }
         ensures limits { StaysWithin log.now self.old.at self.new.at }
-        ensures ok { OnOk result (self.new.progress ≡ whole (length log.now)) }
+        ensures ok { OnOk result (self.new.progress ≡ resting_at (length log.now)) }
         ensures err { OnErr result ((self.new.progress ≡ self.old.progress) ⊎ HasBegun log.now self.old.progress self.new.progress) }
     {
         let ended = apply_upto(&mut self.tables, log, &mut self.at, log.len());
@@ -153,11 +153,11 @@ impl<G: Gate> Follower<G> {
     ) -> Result<(), AllocError>
         requires few { length log.now ≤ 1000000 }
         requires rests { self.old.progress.left ≡ 0 }
-        requires follows { Follows log.now self.old }
+        requires follows { FollowsLog log.now self.old }
         requires pending { self.old.at < length log.now }
-        ensures follows { Follows log.now self.new }
+        ensures follows { FollowsLog log.now self.new }
         ensures limits { StaysWithin log.now self.old.at self.new.at }
-        ensures ok { OnOk result (self.new.progress ≡ whole (length log.now)) }
+        ensures ok { OnOk result (self.new.progress ≡ resting_at (length log.now)) }
         ensures err { OnErr result ((self.new.progress ≡ self.old.progress) ⊎ HasBegun log.now self.old.progress self.new.progress) }
     {
         let batch = &log[self.at..];
@@ -193,10 +193,10 @@ impl<G: Gate> Follower<G> {
     ) -> Result<(), AllocError>
         requires few { length log.now ≤ 1000000 }
         requires rests { self.old.progress.left ≡ 0 }
-        requires follows { Follows log.now self.old }
-        ensures follows { Follows log.now self.new }
+        requires follows { FollowsLog log.now self.old }
+        ensures follows { FollowsLog log.now self.new }
         ensures limits { StaysWithin log.now self.old.at self.new.at }
-        ensures ok { OnOk result (self.new.progress ≡ whole (length log.now)) }
+        ensures ok { OnOk result (self.new.progress ≡ resting_at (length log.now)) }
         ensures err { OnErr result ((self.new.progress ≡ self.old.progress) ⊎ HasBegun log.now self.old.progress self.new.progress) }
     {
         if self.workers == 1 || log.len() - self.at <= 1 {
@@ -209,11 +209,11 @@ impl<G: Gate> Follower<G> {
     // Goes on with the batch that has begun, on this thread.
     pub fn finish(&mut self, log: &[Message]) -> Result<(), AllocError>
         requires few { length log.now ≤ 1000000 }
-        requires follows { Follows log.now self.old }
-        ensures follows { Follows log.now self.new }
+        requires follows { FollowsLog log.now self.old }
+        ensures follows { FollowsLog log.now self.new }
         ensures limits { StaysWithin log.now self.old.at self.new.at }
-        ensures ok { OnOk result (self.new.progress ≡ whole self.old.progress.upto) }
-        ensures err { OnErr result (GoesOn self.old.progress self.new.progress) }
+        ensures ok { OnOk result (self.new.progress ≡ resting_at self.old.progress.upto) }
+        ensures err { OnErr result (BatchGoesOn self.old.progress self.new.progress) }
     {
         finish(&mut self.tables, &mut self.rest);
         let upto = self.upto;

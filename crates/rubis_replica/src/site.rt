@@ -4,10 +4,10 @@ ghost use Rattle.rubis_message.specs.Message.{sites_of};
 ghost use Rattle.rubis_model.specs.Log.{cores, fold_of};
 ghost use Rattle.rubis_model.specs.Runs.{listed, listing_rows};
 ghost use Rattle.rubis_model.specs.Site.{arrived, asked, opening_at, passed, took};
-ghost use Rattle.rubis_replica.specs.Progress.{GoesOn, IsBatched, IsProgress, is_behind, whole};
+ghost use Rattle.rubis_replica.specs.Progress.{BatchGoesOn, IsBatched, IsProgress, is_behind, resting_at};
 ghost use Rattle.rubis_release.specs.Answers.{IsAdmitted};
-ghost use Rattle.rubis_replica.specs.Setup.{place_of};
-ghost use Rattle.rubis_replica.specs.State.{AddsRows, Answers, Decides, IsCutFault, IsReadFault, Lists, NeedsNoTables, TakesIn, WaitsBehind, pending, with_all_applied};
+ghost use Rattle.rubis_replica.specs.Setup.{setup_place};
+ghost use Rattle.rubis_replica.specs.State.{AddsRows, AnswersAsTheStep, Decides, IsCutFault, IsReadFault, Lists, NeedsNoTables, TakesIn, WaitsBehind, pending, with_all_applied};
 
 use crate::config::Config;
 use crate::faults::Fault;
@@ -51,7 +51,7 @@ impl<G: Gate + Drop> Site<G> {
     /// of a shard and its work on it. A batch of one message, and every batch where one worker is set up, is applied on the
     /// caller's thread: there nothing is taken, and the gate isn't called.
     pub fn new(alloc: Global, config: &Config, gate: G) -> Result<Site<G>, AllocError>
-        ensures { IfOk result (λ site. site ≡ record { place = place_of config.now; state = opening_at config.now.site; progress = whole 0; batch = config.now.batch }) }
+        ensures { IfOk result (λ site. site ≡ record { place = setup_place config.now; state = opening_at config.now.site; progress = resting_at 0; batch = config.now.batch }) }
     {
         Ok(Site {
             intake: Intake::new(alloc, config.site(), config.sites(), config.keep())?,
@@ -123,8 +123,8 @@ impl<G: Gate> Site<G> {
         ensures place { self.new.place ≡ self.old.place }
         ensures batch { self.new.batch ≡ self.old.batch }
         ensures waits { WaitsBehind self.old self.new result }
-        ensures step { Answers self.old self.new (asked self.old.place self.old.state ask) result }
-        ensures ok { OnOk result (IsBatched self.old.batch self.new.state.log (whole (length self.old.state.log)) self.new.progress) }
+        ensures step { AnswersAsTheStep self.old self.new (asked self.old.place self.old.state ask) result }
+        ensures ok { OnOk result (IsBatched self.old.batch self.new.state.log (resting_at (length self.old.state.log)) self.new.progress) }
         ensures fault { IfErr result (IsReadFault self.old self.new) }
     {
         let shadow = self.decided(rt, ask)?;
@@ -144,7 +144,7 @@ impl<G: Gate> Site<G> {
         ensures place { self.new.place ≡ self.old.place }
         ensures batch { self.new.batch ≡ self.old.batch }
         ensures waits { WaitsBehind self.old self.new result }
-        ensures step { Answers self.old self.new (arrived self.old.place self.old.state message) result }
+        ensures step { AnswersAsTheStep self.old self.new (arrived self.old.place self.old.state message) result }
         ensures progress { TakesIn self.old self.new result }
         ensures memory { IsErrOf result Fault.Memory → IsAdmitted self.old.place self.old.state message }
     {
@@ -163,7 +163,7 @@ impl<G: Gate> Site<G> {
         ensures place { self.new.place ≡ self.old.place }
         ensures batch { self.new.batch ≡ self.old.batch }
         ensures waits { WaitsBehind self.old self.new result }
-        ensures step { Answers self.old self.new (took self.old.place self.old.state token) result }
+        ensures step { AnswersAsTheStep self.old self.new (took self.old.place self.old.state token) result }
         ensures progress { NeedsNoTables self.old self.new result }
     {
         if self.follower.is_behind() {
@@ -177,7 +177,7 @@ impl<G: Gate> Site<G> {
         ensures place { self.new.place ≡ self.old.place }
         ensures batch { self.new.batch ≡ self.old.batch }
         ensures waits { WaitsBehind self.old self.new result }
-        ensures step { Answers self.old self.new (passed self.old.place self.old.state to) result }
+        ensures step { AnswersAsTheStep self.old self.new (passed self.old.place self.old.state to) result }
         ensures progress { NeedsNoTables self.old self.new result }
     {
         if self.follower.is_behind() {
@@ -188,7 +188,7 @@ impl<G: Gate> Site<G> {
 
     // Adds the rows of a listing, of the log and of the tables as far as they are.
     fn add_rows<S: RowSink>(&self, listing: &Listing, sink: &mut S) -> Result<(), AllocError>
-        requires { self.now.progress ≡ whole (length self.now.state.log) }
+        requires { self.now.progress ≡ resting_at (length self.now.state.log) }
         ensures { OnOk result (S.adds (listing_rows self.now.state.log (fold_of (cores self.now.state.log)) listing.now) sink.old sink.new) }
     {
         match listing {
@@ -236,7 +236,7 @@ impl<G: Gate> Site<G> {
         ensures place { self.new.place ≡ self.old.place }
         ensures batch { self.new.batch ≡ self.old.batch }
         ensures waits { WaitsBehind self.old self.new result }
-        ensures step { Answers self.old self.new (listed self.old.state listing.now) result }
+        ensures step { AnswersAsTheStep self.old self.new (listed self.old.state listing.now) result }
         ensures progress { Lists listing.now self.old self.new result }
     {
         let mut rows = Items::new(self.alloc);
@@ -266,8 +266,8 @@ impl<G: Gate> Site<G> {
         ensures batch { self.new.batch ≡ self.old.batch }
         ensures state { self.new.state ≡ self.old.state }
         ensures ready { self.old.progress.left ≡ 0 → (result ≡ Ok 0) × (self.new ≡ self.old) }
-        ensures ok { IfOk result (λ parts. (parts ≡ self.old.progress.left) × (self.new.progress ≡ whole self.old.progress.upto)) }
-        ensures fault { IfErr result (λ fault. (fault ≡ Fault.Behind) × GoesOn self.old.progress self.new.progress) }
+        ensures ok { IfOk result (λ parts. (parts ≡ self.old.progress.left) × (self.new.progress ≡ resting_at self.old.progress.upto)) }
+        ensures fault { IfErr result (λ fault. (fault ≡ Fault.Behind) × BatchGoesOn self.old.progress self.new.progress) }
     {
         let left = self.follower.left();
         if self.follower.finish(self.intake.log()).is_err() {

@@ -11,8 +11,8 @@ use Rattle.csv.specs.declared.parser.Action.{Action}
 use Rattle.csv.specs.declared.reader.Reader.{Reader}
 use Rattle.csv.specs.declared.reader.Trim.TheVariants as trim
 use Rattle.csv.proofs.ReadFacts.{rows-end, rows-more}
-use Rattle.rubis_script.specs.Reading.{Holds, Takes}
-use Rattle.rubis_script.specs.Text.{records_of}
+use Rattle.rubis_script.specs.Reading.{HasToGive, ReadsNext}
+use Rattle.rubis_script.specs.Text.{input_records}
 
 -- a step that ends a record leaves a state between records
 abbrev Between : State × Action → Type 0
@@ -99,8 +99,8 @@ no-more (suc k) s bytes e = rw e refl
 -- a reader at its start
 pub holds-start : {R : Type 0} (rem : R → Option (List ℕ)) (rdr : Reader R) (known : Option (List ℕ)) → reader_trim rdr ≡ trim.None → Ready rdr
     → reader_config rdr ≡ default_config → reader_state rdr ≡ st.StartRecord → source_of rem rdr ≡ option_map strip_bom known
-    → IfSome known (λ input. Holds rem rdr (records_of input))
-unfolding records_of
+    → IfSome known (λ input. HasToGive rem rdr (input_records input))
+unfolding input_records
 holds-start rem rdr None trim ready config state source = tt
 holds-start rem rdr (Some input) trim ready config state source = record {
   trim = trim;
@@ -118,7 +118,7 @@ holds-start rem rdr (Some input) trim ready config state source = record {
 pub holds-takes : {R : Type 0} (rem : R → Option (List ℕ)) (a b : Reader R) (found : Bool) (fields : List (List ℕ))
     → (reader_trim a ≡ trim.None → took_first b ≡ true)
     → (reader_trim a ≡ trim.None → Ready a → ReadRecord rem a b found fields)
-    → Takes rem a b found fields
+    → ReadsNext rem a b found fields
 unfolding Reached
 holds-takes rem a b true fields first reads rest h =
     let r = reads h.trim h.ready in
@@ -146,5 +146,5 @@ holds-takes rem a b false fields first reads rest h =
 
 -- a read, once it is known whether it found a record and which
 pub takes-at : {R : Type 0} (rem : R → Option (List ℕ)) (a b : Reader R) (found v : Bool) (fields same : List (List ℕ)) → found ≡ v → fields ≡ same
-    → Takes rem a b found fields → Takes rem a b v same
-takes-at rem a b found v fields same e f t = subst (λ x. Takes rem a b v x) f (subst (λ x. Takes rem a b x fields) e t)
+    → ReadsNext rem a b found fields → ReadsNext rem a b v same
+takes-at rem a b found v fields same e f t = subst (λ x. ReadsNext rem a b v x) f (subst (λ x. ReadsNext rem a b x fields) e t)

@@ -7,17 +7,17 @@ use Rattle.std.specs.Io.KnownBytes.{Appends}
 use Rattle.rubis_script.specs.declared.record_list.Records.{Records}
 use Rattle.rubis_script.specs.declared.service.Course.TheVariants.{GoesOn, Ends}
 use Rattle.csv.proofs.WriteFacts.{appends-more, appends-none}
-use Rattle.rubis_script.specs.Accounts.{Account, Answers}
+use Rattle.rubis_script.specs.Accounts.{Account, AnswersRecord}
 use Rattle.rubis_script.specs.Accounts.Ending.{AtEnd, Cut}
 use Rattle.rubis_script.specs.Reading.{Advances, Gives, fields_now}
-use Rattle.rubis_script.specs.Text.{records_of}
-use Rattle.rubis_script.specs.Progress.{Drained, IsDone, IsTooLong, Progress, WroteFront}
+use Rattle.rubis_script.specs.Text.{input_records}
+use Rattle.rubis_script.specs.Progress.{Drained, HasComeSoFar, IsDone, IsTooLong, WroteFront}
 
 pub progress-start : {R : Type 0} (rem : R → Option (List ℕ)) (records : Records R) (all : Account) (old : Option (List ℕ)) (input : List ℕ)
-    → Gives rem records (records_of input) → Progress rem records all all old old [] 1 input
+    → Gives rem records (input_records input) → HasComeSoFar rem records all all old old [] 1 input
 progress-start rem records all old input gives = record {
   done = [];
-  rest = records_of input;
+  rest = input_records input;
   front = [];
   parts = refl;
   count = refl;
@@ -30,9 +30,9 @@ progress-start rem records all old input gives = record {
 -- a record was answered, and the run goes on
 pub progress-step : {R : Type 0} (rem : R → Option (List ℕ)) (a b : Records R) (all more more2 : Account)
     (old now : Option (List ℕ)) (sink sink2 : List ℕ) (n : ℕ) (input : List ℕ)
-    → Progress rem a all more old now sink n input → Advances rem a b true
-    → Answers GoesOn more more2 sink sink2 (fields_now b)
-    → Progress rem b all more2 old now sink2 (n + 1) input
+    → HasComeSoFar rem a all more old now sink n input → Advances rem a b true
+    → AnswersRecord GoesOn more more2 sink sink2 (fields_now b)
+    → HasComeSoFar rem b all more2 old now sink2 (n + 1) input
 progress-step rem a b all more more2 old now sink sink2 n input p takes answered =
     let (left, first, gives) = takes p.rest p.gives in
     let one = length-append p.done (fields_now b ∷ []) in
@@ -54,7 +54,7 @@ progress-step rem a b all more more2 old now sink sink2 n input p takes answered
 -- what was held is written out
 pub progress-drained : {R : Type 0} (rem : R → Option (List ℕ)) (a : Records R) (all more more2 : Account)
     (old now now2 : Option (List ℕ)) (sink : List ℕ) (n : ℕ) (input : List ℕ)
-    → Progress rem a all more old now sink n input → Drained more more2 sink now now2 → Progress rem a all more2 old now2 [] n input
+    → HasComeSoFar rem a all more old now sink n input → Drained more more2 sink now now2 → HasComeSoFar rem a all more2 old now2 [] n input
 progress-drained rem a all more more2 old now now2 sink n input p d = record {
   done = p.done;
   rest = p.rest;
@@ -70,28 +70,28 @@ progress-drained rem a all more more2 old now now2 sink n input p d = record {
 -- the input ends
 pub progress-end : {R : Type 0} (rem : R → Option (List ℕ)) (a b : Records R) (all more : Account)
     (old now now2 : Option (List ℕ)) (sink : List ℕ) (n k limit : ℕ) (input : List ℕ)
-    → Progress rem a all more old now sink n input → Advances rem a b false
+    → HasComeSoFar rem a all more old now sink n input → Advances rem a b false
     → Appends now now2 (sink ++ more.text AtEnd []) → more.read [] ≡ 0 → n ≡ k + 1 → k ≤ limit
-    → IsDone all limit old now2 (records_of input) k
+    → IsDone all limit old now2 (input_records input) k
 progress-end rem a b all more old now now2 sink n k limit input p takes out none e within =
-    let whole : records_of input ≡ p.done ++ [] = p.parts ∙ ap (λ t. p.done ++ t) (takes p.rest p.gives) in
-    let text : all.text AtEnd (records_of input) ≡ p.front ++ (sink ++ more.text AtEnd []) = ap (all.text AtEnd) whole ∙ p.told AtEnd [] in
-    let read : all.read (records_of input) ≡ length p.done + more.read [] = ap all.read whole ∙ p.counted [] in
+    let whole : input_records input ≡ p.done ++ [] = p.parts ∙ ap (λ t. p.done ++ t) (takes p.rest p.gives) in
+    let text : all.text AtEnd (input_records input) ≡ p.front ++ (sink ++ more.text AtEnd []) = ap (all.text AtEnd) whole ∙ p.told AtEnd [] in
+    let read : all.read (input_records input) ≡ length p.done + more.read [] = ap all.read whole ∙ p.counted [] in
     let count = p.count in
     (subst (λ (t : List ℕ). Appends old now2 t) (sym text) (appends-more old now now2 p.front _ p.appended out), omega (arith, read, none, count, e), within)
 
 -- a record ends the run
 pub progress-ended : {R : Type 0} (rem : R → Option (List ℕ)) (a b : Records R) (all more more2 : Account)
     (old now now2 : Option (List ℕ)) (sink sink2 : List ℕ) (n : ℕ) (input : List ℕ)
-    → Progress rem a all more old now sink n input → Advances rem a b true
-    → Answers Ends more more2 sink sink2 (fields_now b) → Appends now now2 sink2
-    → IsDone all n old now2 (records_of input) n
+    → HasComeSoFar rem a all more old now sink n input → Advances rem a b true
+    → AnswersRecord Ends more more2 sink sink2 (fields_now b) → Appends now now2 sink2
+    → IsDone all n old now2 (input_records input) n
 progress-ended rem a b all more more2 old now now2 sink sink2 n input p takes answered out =
     let (left, first, gives) = takes p.rest p.gives in
-    let whole : records_of input ≡ p.done ++ (fields_now b ∷ left) = p.parts ∙ ap (λ t. p.done ++ t) first in
-    let text : all.text AtEnd (records_of input) ≡ p.front ++ sink2 =
+    let whole : input_records input ≡ p.done ++ (fields_now b ∷ left) = p.parts ∙ ap (λ t. p.done ++ t) first in
+    let text : all.text AtEnd (input_records input) ≡ p.front ++ sink2 =
     ap (all.text AtEnd) whole ∙ p.told AtEnd (fields_now b ∷ left) ∙ ap (λ t. p.front ++ t) (answered left).0 in
-    let read : all.read (records_of input) ≡ length p.done + more.read (fields_now b ∷ left) = ap all.read whole ∙ p.counted (fields_now b ∷ left) in
+    let read : all.read (input_records input) ≡ length p.done + more.read (fields_now b ∷ left) = ap all.read whole ∙ p.counted (fields_now b ∷ left) in
     let one = (answered left).1 in
     let count = p.count in
     (subst (λ (t : List ℕ). Appends old now2 t) (sym text) (appends-more old now now2 p.front sink2 p.appended out), omega (arith, read, one, count), omega arith)
@@ -102,7 +102,7 @@ take-front xs ys k e = subst (λ j. take j (xs ++ ys) ≡ xs) e (take-append_sea
 -- the records before the next
 before-next : {R : Type 0} (rem : R → Option (List ℕ)) (a : Records R) (all more : Account)
     (old now : Option (List ℕ)) (sink : List ℕ) (n k : ℕ) (input : List ℕ)
-    → n ≡ k + 1 → (p : Progress rem a all more old now sink n input) → take k (records_of input) ≡ p.done ++ []
+    → n ≡ k + 1 → (p : HasComeSoFar rem a all more old now sink n input) → take k (input_records input) ≡ p.done ++ []
 before-next rem a all more old now sink n k input e p =
     let count = p.count in
     let length : length p.done ≡ k = omega (arith, count, e) in
@@ -111,36 +111,36 @@ before-next rem a all more old now sink n k input e p =
 -- the run is cut short before the next record, and nothing is held
 pub progress-cut : {R : Type 0} (rem : R → Option (List ℕ)) (a : Records R) (all more : Account)
     (old now : Option (List ℕ)) (n k : ℕ) (input : List ℕ)
-    → Progress rem a all more old now [] n input → more.text Cut [] ≡ [] → n ≡ k + 1
-    → Appends old now (all.text Cut (take k (records_of input)))
+    → HasComeSoFar rem a all more old now [] n input → more.text Cut [] ≡ [] → n ≡ k + 1
+    → Appends old now (all.text Cut (take k (input_records input)))
 progress-cut rem a all more old now n k input p none e =
-    let text : all.text Cut (take k (records_of input)) ≡ p.front =
+    let text : all.text Cut (take k (input_records input)) ≡ p.front =
     ap (all.text Cut) (before-next rem a all more old now [] n k input e p) ∙ p.told Cut [] ∙ ap (λ t. p.front ++ t) none ∙ append-nil p.front in
     subst (λ (t : List ℕ). Appends old now t) (sym text) p.appended
 
 -- there is another record, and no more are taken
 pub progress-too_long : {R : Type 0} (rem : R → Option (List ℕ)) (a b : Records R) (all more : Account)
     (old now : Option (List ℕ)) (n k : ℕ) (input : List ℕ)
-    → Progress rem a all more old now [] n input → more.text Cut [] ≡ [] → more.read [] ≡ 0 → n ≡ k + 1 → k < length (records_of input)
-    → IsTooLong all k old now (records_of input)
+    → HasComeSoFar rem a all more old now [] n input → more.text Cut [] ≡ [] → more.read [] ≡ 0 → n ≡ k + 1 → k < length (input_records input)
+    → IsTooLong all k old now (input_records input)
 progress-too_long rem a b all more old now n k input p none zero e next =
-    let read : all.read (take k (records_of input)) ≡ length p.done + more.read [] = ap all.read (before-next rem a all more old now [] n k input e p) ∙ p.counted [] in
+    let read : all.read (take k (input_records input)) ≡ length p.done + more.read [] = ap all.read (before-next rem a all more old now [] n k input e p) ∙ p.counted [] in
     let count = p.count in
     (progress-cut rem a all more old now n k input p none e, next, omega (arith, read, zero, count, e))
 
 -- there is another record
 pub progress-more : {R : Type 0} (rem : R → Option (List ℕ)) (a b : Records R) (all more : Account)
     (old now : Option (List ℕ)) (sink : List ℕ) (n : ℕ) (input : List ℕ)
-    → Progress rem a all more old now sink n input → Advances rem a b true → n ≤ length (records_of input)
+    → HasComeSoFar rem a all more old now sink n input → Advances rem a b true → n ≤ length (input_records input)
 progress-more rem a b all more old now sink n input p takes =
     let (left, first, gives) = takes p.rest p.gives in
-    let whole : records_of input ≡ p.done ++ (fields_now b ∷ left) = p.parts ∙ ap (λ t. p.done ++ t) first in
+    let whole : input_records input ≡ p.done ++ (fields_now b ∷ left) = p.parts ∙ ap (λ t. p.done ++ t) first in
     rw (whole, length-append p.done (fields_now b ∷ left)) (omega (arith, p.count))
 
 -- at any moment
 pub progress-front : {R : Type 0} (rem : R → Option (List ℕ)) (a : Records R) (all more : Account)
     (old now : Option (List ℕ)) (sink : List ℕ) (n : ℕ) (input : List ℕ)
-    → Progress rem a all more old now sink n input → WroteFront (all.text AtEnd) old now (records_of input)
+    → HasComeSoFar rem a all more old now sink n input → WroteFront (all.text AtEnd) old now (input_records input)
 progress-front rem a all more old now sink n input p =
     (p.front, sink ++ more.text AtEnd p.rest, p.appended, sym (ap (all.text AtEnd) p.parts ∙ p.told AtEnd p.rest))
 
@@ -171,8 +171,8 @@ if_ok_so P Q (Err e) f p = tt
 -- the same front, where nothing more was written
 pub progress-stays : {R : Type 0} (rem : R → Option (List ℕ)) (a : Records R) (all more : Account)
     (old now now2 : Option (List ℕ)) (sink : List ℕ) (n : ℕ) (input : List ℕ)
-    → Progress rem a all more old now sink n input → now2 ≡ now → WroteFront (all.text AtEnd) old now2 (records_of input)
-progress-stays rem a all more old now now2 sink n input p same = front-same (all.text AtEnd) old now now2 (records_of input) (progress-front rem a all more old now sink n input p) same
+    → HasComeSoFar rem a all more old now sink n input → now2 ≡ now → WroteFront (all.text AtEnd) old now2 (input_records input)
+progress-stays rem a all more old now now2 sink n input p same = front-same (all.text AtEnd) old now now2 (input_records input) (progress-front rem a all more old now sink n input p) same
 
 -- ---- a record that was found
 
@@ -187,7 +187,7 @@ if_some P (Some y) x h e = let same : y ≡ x = cc in subst P same h
 -- nothing was written and nothing answered
 pub progress-moved : {R : Type 0} (rem : R → Option (List ℕ)) (a : Records R) (all more more2 : Account)
     (old now now2 : Option (List ℕ)) (sink sink2 : List ℕ) (n : ℕ) (input : List ℕ)
-    → Progress rem a all more old now sink n input → more2 ≡ more → now2 ≡ now → sink2 ≡ sink → Progress rem a all more2 old now2 sink2 n input
+    → HasComeSoFar rem a all more old now sink n input → more2 ≡ more → now2 ≡ now → sink2 ≡ sink → HasComeSoFar rem a all more2 old now2 sink2 n input
 progress-moved rem a all more more2 old now now2 sink sink2 n input p same written held =
-    subst (λ m. Progress rem a all m old now2 sink2 n input) (sym same)
-    (subst (λ w. Progress rem a all more old w sink2 n input) (sym written) (subst (λ t. Progress rem a all more old now t n input) (sym held) p))
+    subst (λ m. HasComeSoFar rem a all m old now2 sink2 n input) (sym same)
+    (subst (λ w. HasComeSoFar rem a all more old w sink2 n input) (sym written) (subst (λ t. HasComeSoFar rem a all more old now t n input) (sym held) p))

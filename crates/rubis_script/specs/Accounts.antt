@@ -16,10 +16,10 @@ pub record Account : Type 0 where
 
 -- a record was answered, and `after` has come to be held in place of `before`: it and what is still to be written are
 -- the text; where the run ends with the record, `after` is all of it
-abbrev pub Answers : Course → Account → Account → List ℕ → List ℕ → List (List ℕ) → Type 0
-Answers GoesOn old new before after fields = (more : List (List (List ℕ)))
+abbrev pub AnswersRecord : Course → Account → Account → List ℕ → List ℕ → List (List ℕ) → Type 0
+AnswersRecord GoesOn old new before after fields = (more : List (List (List ℕ)))
     → ((ending : Ending) → before ++ old.text ending (fields ∷ more) ≡ after ++ new.text ending more) × (old.read (fields ∷ more) ≡ new.read more + 1)
-Answers Ends old new before after fields = (more : List (List (List ℕ)))
+AnswersRecord Ends old new before after fields = (more : List (List (List ℕ)))
     → (before ++ old.text Ending.AtEnd (fields ∷ more) ≡ after) × (old.read (fields ∷ more) ≡ 1)
 
 -- the text stays what it was, whatever follows

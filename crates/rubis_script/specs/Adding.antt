@@ -4,9 +4,9 @@ use Rattle.std.proofs.lemmas.Grind.{flat_map-append}
 use Rattle.std.proofs.lemmas.List.{append-nil}
 use Rattle.rubis_script.specs.Text.{plain_writer, row_text, rows_text}
 
-pub added_none : (text : List ℕ) → text ≡ text ++ rows_text []
-added_none text = sym (append-nil text)
+pub none_written : (text : List ℕ) → text ≡ text ++ rows_text []
+none_written text = sym (append-nil text)
 
-pub added_more : (xs ys : List (List (List ℕ))) (a b c : List ℕ) → b ≡ a ++ rows_text xs → c ≡ b ++ rows_text ys → c ≡ a ++ rows_text (xs ++ ys)
-added_more xs ys a b c e f =
+pub more_written : (xs ys : List (List (List ℕ))) (a b c : List ℕ) → b ≡ a ++ rows_text xs → c ≡ b ++ rows_text ys → c ≡ a ++ rows_text (xs ++ ys)
+more_written xs ys a b c e f =
     f ∙ ap (λ t. t ++ rows_text ys) e ∙ append_assoc a (rows_text xs) (rows_text ys) ∙ ap (λ t. a ++ t) (sym (flat_map-append (row_text plain_writer) xs ys))

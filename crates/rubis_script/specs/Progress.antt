@@ -5,16 +5,16 @@ use Rattle.rubis_script.specs.declared.record_list.Records.{Records}
 use Rattle.rubis_script.specs.Accounts.{Account, Ending}
 use Rattle.rubis_script.specs.Accounts.Ending.{AtEnd, Cut}
 use Rattle.rubis_script.specs.Reading.{Gives}
-use Rattle.rubis_script.specs.Text.{records_of}
+use Rattle.rubis_script.specs.Text.{input_records}
 
 -- the records that were answered, those to come, and what was written: `all` is the account of all records, `more` that
 -- of those to come, and `number` is that of the next record
-pub record Progress {R : Type 0} (rem : R → Option (List ℕ)) (records : Records R) (all more : Account)
+pub record HasComeSoFar {R : Type 0} (rem : R → Option (List ℕ)) (records : Records R) (all more : Account)
     (old now : Option (List ℕ)) (sink : List ℕ) (number : ℕ) (input : List ℕ) : Type 0 where
   pub done : List (List (List ℕ))
   pub rest : List (List (List ℕ))
   pub front : List ℕ
-  pub parts : records_of input ≡ done ++ rest
+  pub parts : input_records input ≡ done ++ rest
   pub count : length done + 1 ≡ number
   pub gives : Gives rem records rest
   pub appended : Appends old now front
@@ -34,7 +34,7 @@ pub record Drained (old new : Account) (held : List ℕ) (before after : Option 
 abbrev pub InEachRun : {R : Type 0} → (R → Option (List ℕ)) → Records R → Account → Option (List ℕ) → List ℕ → ℕ
     → (Account → Option (List ℕ) → List ℕ → Type 0) → Type 0
 InEachRun rem records more now sink number holds = (all : Account) (old : Option (List ℕ)) (input : List ℕ)
-    → Progress rem records all more old now sink number input → holds all old input
+    → HasComeSoFar rem records all more old now sink number input → holds all old input
 
 -- the run is done: the text of all records was written, and as many were read as there are to read, at most `limit`
 abbrev pub IsDone : Account → ℕ → Option (List ℕ) → Option (List ℕ) → List (List (List ℕ)) → ℕ → Type 0

@@ -13,7 +13,7 @@ abbrev pub metered : {R : Type 0} → (R → Option (List ℕ)) → Meter R → 
 metered rem m = rem m.inner
 
 -- these are the records that a reader has still to give
-pub record Holds {R : Type 0} (rem : R → Option (List ℕ)) (rows : Reader R) (rest : List (List (List ℕ))) : Type 0 where
+pub record HasToGive {R : Type 0} (rem : R → Option (List ℕ)) (rows : Reader R) (rest : List (List (List ℕ))) : Type 0 where
   pub trim : reader_trim rows ≡ trim.None
   pub ready : Ready rows
   pub config : reader_config rows ≡ default_config
@@ -25,13 +25,13 @@ pub record Holds {R : Type 0} (rem : R → Option (List ℕ)) (rows : Reader R) 
   pub records : rest ≡ records_from default_config fuel (reader_state rows) bytes
 
 -- what one read does: it takes the first of the records to come, or there is none
-abbrev pub Takes : {R : Type 0} → (R → Option (List ℕ)) → Reader R → Reader R → Bool → List (List ℕ) → Type 0
-Takes rem old new found fields = (rest : List (List (List ℕ))) → Holds rem old rest
-    → MatchBool found ((more : List (List (List ℕ))) × (rest ≡ fields ∷ more) × Holds rem new more) (rest ≡ [])
+abbrev pub ReadsNext : {R : Type 0} → (R → Option (List ℕ)) → Reader R → Reader R → Bool → List (List ℕ) → Type 0
+ReadsNext rem old new found fields = (rest : List (List (List ℕ))) → HasToGive rem old rest
+    → MatchBool found ((more : List (List (List ℕ))) × (rest ≡ fields ∷ more) × HasToGive rem new more) (rest ≡ [])
 
 -- these are the records that are still to come
 abbrev pub Gives : {R : Type 0} → (R → Option (List ℕ)) → Records R → List (List (List ℕ)) → Type 0
-Gives rem records rest = Holds (metered rem) records.rows rest
+Gives rem records rest = HasToGive (metered rem) records.rows rest
 
 -- the record that was read last
 abbrev pub fields_now : {R : Type 0} → Records R → List (List ℕ)
@@ -39,4 +39,4 @@ fields_now records = records.fields
 
 -- to go on takes the first of the records to come, or there is none
 abbrev pub Advances : {R : Type 0} → (R → Option (List ℕ)) → Records R → Records R → Bool → Type 0
-Advances rem old new found = Takes (metered rem) old.rows new.rows found (fields_now new)
+Advances rem old new found = ReadsNext (metered rem) old.rows new.rows found (fields_now new)

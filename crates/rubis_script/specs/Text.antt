@@ -15,5 +15,5 @@ abbrev pub rows_text : List (List (List ℕ)) → List ℕ
 rows_text rows = flat_map (row_text plain_writer) rows
 
 -- the records of these bytes, of any lengths and with no header row; a byte order mark at their start is taken off
-unfoldable pub records_of : List ℕ → List (List (List ℕ))
-records_of bytes = records default_config (strip_bom bytes)
+unfoldable pub input_records : List ℕ → List (List (List ℕ))
+input_records bytes = records default_config (strip_bom bytes)

@@ -10,7 +10,7 @@ ghost use Rattle.rubis_model.specs.Runs.{input_of};
 ghost use Rattle.rubis_model.specs.Runs.Input.{Asked, Came};
 ghost use Rattle.rubis_message.specs.Readings.{packet_of};
 ghost use Rattle.rubis_model.specs.Site.{opening_at};
-ghost use Rattle.rubis_replica.specs.Setup.{place_of};
+ghost use Rattle.rubis_replica.specs.Setup.{setup_place};
 ghost use Rattle.rubis_script.specs.Inputs.{IsAnswered, answer_of};
 ghost use Rattle.rubis_script.specs.SiteRuns.{told_by};
 
@@ -191,7 +191,7 @@ pub struct Desk<G: Gate = Free> {
 impl<G: Gate + Drop> Desk<G> {
     /// A site with nothing done, set up so, whose batches are applied under the gate.
     pub fn new(alloc: Global, config: &Config, gate: G) -> Result<Desk<G>, AllocError>
-        ensures { IfOk result (λ desk. (desk.site.place ≡ place_of config.now) × (desk.site.state ≡ opening_at config.now.site)) }
+        ensures { IfOk result (λ desk. (desk.site.place ≡ setup_place config.now) × (desk.site.state ≡ opening_at config.now.site)) }
     {
         Ok(Desk {
             site: Site::new(alloc, config, gate)?,

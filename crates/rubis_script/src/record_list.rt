@@ -3,7 +3,7 @@
 ghost use Rattle.std.specs.Prelude.{◌≡◌, ◌⊎◌, IfErr, IfOk, IfSome, OnOk};
 ghost use Rattle.csv.specs.Records.{fields_of};
 ghost use Rattle.rubis_script.specs.Reading.{Advances, Gives, fields_now};
-ghost use Rattle.rubis_script.specs.Text.{records_of};
+ghost use Rattle.rubis_script.specs.Text.{input_records};
 
 use super::fault::RunFault;
 use super::meter::Meter;
@@ -36,7 +36,7 @@ fn refill(fields: &mut Fields, row: &ByteRecord) -> Result<(), AllocError>
 impl<R: Read> Records<R> {
     /// The records of this reader, before the first.
     pub fn new(alloc: Global, reader: R) -> Records<R>
-        ensures { IfSome (R.remaining reader) (λ input. Gives R.remaining result (records_of input)) }
+        ensures { IfSome (R.remaining reader) (λ input. Gives R.remaining result (input_records input)) }
     {
         let rows = ReaderBuilder::new()
             .has_headers(false)

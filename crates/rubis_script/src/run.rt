@@ -4,9 +4,9 @@ ghost use Rattle.std.specs.Prelude.{◌≡◌, ◌<◌, ◌+◌, ◌++◌, ◌^�
 ghost use Rattle.std.specs.Io.KnownBytes.{Appends};
 ghost use Rattle.rubis_script.specs.Accounts.{Account};
 ghost use Rattle.rubis_script.specs.Accounts.Ending.{AtEnd, Cut};
-ghost use Rattle.rubis_script.specs.Progress.{Drained, InEachRun, IsCut, IsDone, IsTooLong, Progress, WroteFront};
+ghost use Rattle.rubis_script.specs.Progress.{Drained, HasComeSoFar, InEachRun, IsCut, IsDone, IsTooLong, WroteFront};
 ghost use Rattle.rubis_script.specs.Reading.{Advances, Gives};
-ghost use Rattle.rubis_script.specs.Text.{records_of};
+ghost use Rattle.rubis_script.specs.Text.{input_records};
 
 use super::fault::{Count, RunFault};
 use super::record_list::Records;
@@ -56,8 +56,8 @@ pub fn write_out<T, S: Service<T>, R: Read, W: Write>(
     writer: &mut W,
 ) -> Result<(), RunFault>
     ensures goes { OnOk result ((all : Account) (old : Option (List ℕ)) (number : ℕ) (input : List ℕ)
-        → Progress R.remaining records.now all (S.account service.old number) old (W.contents writer.old) sink.old number input
-        → Progress R.remaining records.now all (S.account service.new number) old (W.contents writer.new) sink.new number input) }
+        → HasComeSoFar R.remaining records.now all (S.account service.old number) old (W.contents writer.old) sink.old number input
+        → HasComeSoFar R.remaining records.now all (S.account service.new number) old (W.contents writer.new) sink.new number input) }
     ensures memory { IsErrOf result RunFault.Memory → W.contents writer.new ≡ W.contents writer.old }
     ensures faults { IfErr result (λ e. (e ≡ RunFault.Write) ⊎ (e ≡ RunFault.Memory)) }
 {
@@ -83,11 +83,11 @@ pub fn next_record<T, S: Service<T>, R: Read, W: Write>(
     ensures found { IfOk result (λ over. IfNone over (Advances R.remaining records.old records.new true)) }
     ensures same { IfOk result (λ over. IfNone over ((service.new ≡ service.old) × (sink.new ≡ sink.old) × (writer.new ≡ writer.old))) }
     ensures done { IfOk result (λ over. IfSome over (λ count. InEachRun R.remaining records.old (S.account service.old (answered + 1)) (W.contents writer.old) sink.old (answered + 1) (λ all old input.
-        IsDone all answered old (W.contents writer.new) (records_of input) count.records))) }
+        IsDone all answered old (W.contents writer.new) (input_records input) count.records))) }
     ensures read { IsErrOf result RunFault.Read → InEachRun R.remaining records.old (S.account service.old (answered + 1)) (W.contents writer.old) sink.old (answered + 1) (λ all old input.
-        IsCut all old (W.contents writer.new) (records_of input)) }
+        IsCut all old (W.contents writer.new) (input_records input)) }
     ensures memory { IsErrOf result RunFault.Memory → InEachRun R.remaining records.old (S.account service.old (answered + 1)) (W.contents writer.old) sink.old (answered + 1) (λ all old input.
-        WroteFront (all.text AtEnd) old (W.contents writer.new) (records_of input)) }
+        WroteFront (all.text AtEnd) old (W.contents writer.new) (input_records input)) }
     ensures faults { IfErr result (λ e. (e ≡ RunFault.Read) ⊎ (e ≡ RunFault.Write) ⊎ (e ≡ RunFault.Memory)) }
 {
     match records.advance() {
@@ -113,13 +113,13 @@ pub fn stop<T, S: Service<T>, R: Read, W: Write>(
     answered: u64,
 ) -> Result<Count, RunFault>
     ensures ok { IfOk result (λ count. InEachRun R.remaining records.old (S.account service.old (answered + 1)) (W.contents writer.old) sink.old (answered + 1) (λ all old input.
-        IsDone all answered old (W.contents writer.new) (records_of input) count.records)) }
+        IsDone all answered old (W.contents writer.new) (input_records input) count.records)) }
     ensures too_long { IsErrOf result RunFault.TooLong → InEachRun R.remaining records.old (S.account service.old (answered + 1)) (W.contents writer.old) sink.old (answered + 1) (λ all old input.
-        IsTooLong all answered old (W.contents writer.new) (records_of input)) }
+        IsTooLong all answered old (W.contents writer.new) (input_records input)) }
     ensures read { IsErrOf result RunFault.Read → InEachRun R.remaining records.old (S.account service.old (answered + 1)) (W.contents writer.old) sink.old (answered + 1) (λ all old input.
-        IsCut all old (W.contents writer.new) (records_of input)) }
+        IsCut all old (W.contents writer.new) (input_records input)) }
     ensures memory { IsErrOf result RunFault.Memory → InEachRun R.remaining records.old (S.account service.old (answered + 1)) (W.contents writer.old) sink.old (answered + 1) (λ all old input.
-        WroteFront (all.text AtEnd) old (W.contents writer.new) (records_of input)) }
+        WroteFront (all.text AtEnd) old (W.contents writer.new) (input_records input)) }
 {
     match next_record(rt, records, service, sink, writer, answered) {
         Ok(None) => match settle(rt, service, sink, writer) {
@@ -144,12 +144,12 @@ fn turn<T, S: Answering<T>, R: Read, W: Write>(
     requires { answered + 1 < 2 ^ 64 }
     ensures goes { IfOk result (λ over. InEachRun R.remaining records.old (S.account service.old (answered + 1)) (W.contents writer.old) sink.old (answered + 1) (λ all old input.
         MatchOption over
-        (Progress R.remaining records.new all (S.account service.new (answered + 1 + 1)) old (W.contents writer.new) sink.new (answered + 1 + 1) input)
-        (λ count. IsDone all (answered + 1) old (W.contents writer.new) (records_of input) count.records))) }
+        (HasComeSoFar R.remaining records.new all (S.account service.new (answered + 1 + 1)) old (W.contents writer.new) sink.new (answered + 1 + 1) input)
+        (λ count. IsDone all (answered + 1) old (W.contents writer.new) (input_records input) count.records))) }
     ensures read { IsErrOf result RunFault.Read → InEachRun R.remaining records.old (S.account service.old (answered + 1)) (W.contents writer.old) sink.old (answered + 1) (λ all old input.
-        IsCut all old (W.contents writer.new) (records_of input)) }
+        IsCut all old (W.contents writer.new) (input_records input)) }
     ensures memory { IsErrOf result RunFault.Memory → InEachRun R.remaining records.old (S.account service.old (answered + 1)) (W.contents writer.old) sink.old (answered + 1) (λ all old input.
-        WroteFront (all.text AtEnd) old (W.contents writer.new) (records_of input)) }
+        WroteFront (all.text AtEnd) old (W.contents writer.new) (input_records input)) }
     ensures faults { IfErr result (λ e. (e ≡ RunFault.Read) ⊎ (e ≡ RunFault.Write) ⊎ (e ≡ RunFault.Memory)) }
 {
     match next_record(rt, records, service, sink, writer, answered) {
@@ -182,14 +182,14 @@ fn serve<T, S: Answering<T>, R: Read, W: Write>(
     writer: &mut W,
     limit: u64,
 ) -> Result<Count, RunFault>
-    ensures ok { IfOk result (λ count. (input : List ℕ) → Gives R.remaining records.old (records_of input) → sink.old ≡ []
-        → IsDone (S.account service.old 1) limit (W.contents writer.old) (W.contents writer.new) (records_of input) count.records) }
-    ensures too_long { IsErrOf result RunFault.TooLong → (input : List ℕ) → Gives R.remaining records.old (records_of input) → sink.old ≡ []
-        → IsTooLong (S.account service.old 1) limit (W.contents writer.old) (W.contents writer.new) (records_of input) }
-    ensures read { IsErrOf result RunFault.Read → (input : List ℕ) → Gives R.remaining records.old (records_of input) → sink.old ≡ []
-        → IsCut (S.account service.old 1) (W.contents writer.old) (W.contents writer.new) (records_of input) }
-    ensures memory { IsErrOf result RunFault.Memory → (input : List ℕ) → Gives R.remaining records.old (records_of input) → sink.old ≡ []
-        → WroteFront ((S.account service.old 1).text AtEnd) (W.contents writer.old) (W.contents writer.new) (records_of input) }
+    ensures ok { IfOk result (λ count. (input : List ℕ) → Gives R.remaining records.old (input_records input) → sink.old ≡ []
+        → IsDone (S.account service.old 1) limit (W.contents writer.old) (W.contents writer.new) (input_records input) count.records) }
+    ensures too_long { IsErrOf result RunFault.TooLong → (input : List ℕ) → Gives R.remaining records.old (input_records input) → sink.old ≡ []
+        → IsTooLong (S.account service.old 1) limit (W.contents writer.old) (W.contents writer.new) (input_records input) }
+    ensures read { IsErrOf result RunFault.Read → (input : List ℕ) → Gives R.remaining records.old (input_records input) → sink.old ≡ []
+        → IsCut (S.account service.old 1) (W.contents writer.old) (W.contents writer.new) (input_records input) }
+    ensures memory { IsErrOf result RunFault.Memory → (input : List ℕ) → Gives R.remaining records.old (input_records input) → sink.old ≡ []
+        → WroteFront ((S.account service.old 1).text AtEnd) (W.contents writer.old) (W.contents writer.new) (input_records input) }
 {
     'turns: for n in 0..limit {
         match turn(rt, records, service, sink, writer, n) {
@@ -219,13 +219,13 @@ pub fn run_upto<T, S: Answering<T>, R: Read + Drop, W: Write>(
     limit: u64,
 ) -> Result<Count, RunFault>
     ensures ok { IfOk result (λ count. IfSome (R.remaining reader) (λ input.
-        IsDone (S.account service.old 1) limit (W.contents writer.old) (W.contents writer.new) (records_of input) count.records)) }
+        IsDone (S.account service.old 1) limit (W.contents writer.old) (W.contents writer.new) (input_records input) count.records)) }
     ensures too_long { IsErrOf result RunFault.TooLong → IfSome (R.remaining reader) (λ input.
-        IsTooLong (S.account service.old 1) limit (W.contents writer.old) (W.contents writer.new) (records_of input)) }
+        IsTooLong (S.account service.old 1) limit (W.contents writer.old) (W.contents writer.new) (input_records input)) }
     ensures read { IsErrOf result RunFault.Read → IfSome (R.remaining reader) (λ input.
-        IsCut (S.account service.old 1) (W.contents writer.old) (W.contents writer.new) (records_of input)) }
+        IsCut (S.account service.old 1) (W.contents writer.old) (W.contents writer.new) (input_records input)) }
     ensures memory { IsErrOf result RunFault.Memory → IfSome (R.remaining reader) (λ input.
-        WroteFront ((S.account service.old 1).text AtEnd) (W.contents writer.old) (W.contents writer.new) (records_of input)) }
+        WroteFront ((S.account service.old 1).text AtEnd) (W.contents writer.old) (W.contents writer.new) (input_records input)) }
 {
     let mut records = Records::new(alloc, reader);
     let mut sink = Sink::new(alloc);

@@ -1,7 +1,7 @@
 // What answers records.
 
 ghost use Rattle.std.specs.Prelude.{◌≡◌, ◌++◌, ◌+◌, [], ℕ, IfOk, OnOk};
-ghost use Rattle.rubis_script.specs.Accounts.{Account, Answers, Keeps};
+ghost use Rattle.rubis_script.specs.Accounts.{Account, AnswersRecord, Keeps};
 ghost use Rattle.rubis_script.specs.Accounts.Ending.{AtEnd, Cut};
 
 use super::fault::OutOfMemory;
@@ -48,5 +48,5 @@ pub trait Answering<T>: Service<T> {
         fields: &Fields,
         sink: &mut Sink,
     ) -> Result<Course, OutOfMemory>
-        ensures { IfOk result (λ course. Answers course (Self.account self.old number) (Self.account self.new (number + 1)) sink.old sink.new fields.now) };
+        ensures { IfOk result (λ course. AnswersRecord course (Self.account self.old number) (Self.account self.new (number + 1)) sink.old sink.new fields.now) };
 }

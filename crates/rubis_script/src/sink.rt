@@ -237,7 +237,7 @@ impl Sink {
 
 impl RowSink for Sink {
     ghost use Rattle.std.specs.Prelude.{◌≡◌, ◌++◌};
-    ghost use Rattle.rubis_script.specs.Adding.{added_more, added_none};
+    ghost use Rattle.rubis_script.specs.Adding.{more_written, none_written};
     ghost use Rattle.rubis_script.specs.Text.{rows_text};
 
     ghost adds = { λ rows old new. new ≡ old ++ rows_text rows };
@@ -246,7 +246,7 @@ impl RowSink for Sink {
         self.write_fields(row)
     }
 
-    ghost adds_none = { added_none };
+    ghost adds_none = { none_written };
 
-    ghost adds_more = { added_more };
+    ghost adds_more = { more_written };
 }

@@ -3,12 +3,12 @@
 ghost use Rattle.std.specs.Prelude.{◌≡◌, ◌≤◌, ◌<◌, ◌+◌, ◌^◌, ◌⊎◌, [], ℕ, List, IfErr, IfOk, IfSome, IsErrOf, MatchOption, length, take};
 ghost use Rattle.std.specs.Io.KnownBytes.{Appends};
 ghost use Rattle.rubis_model.specs.Runs.{output_of};
-ghost use Rattle.rubis_replica.specs.Setup.{place_of};
+ghost use Rattle.rubis_replica.specs.Setup.{setup_place};
 ghost use Rattle.rubis_script.specs.Accounts.Ending.{AtEnd};
-ghost use Rattle.rubis_script.specs.Progress.{InEachRun, IsCut, IsDone, IsTooLong, Progress, WroteFront};
+ghost use Rattle.rubis_script.specs.Progress.{HasComeSoFar, InEachRun, IsCut, IsDone, IsTooLong, WroteFront};
 ghost use Rattle.rubis_script.specs.Reading.{Gives};
 ghost use Rattle.rubis_script.specs.SiteRuns.{told_by};
-ghost use Rattle.rubis_script.specs.Text.{records_of, rows_text};
+ghost use Rattle.rubis_script.specs.Text.{input_records, rows_text};
 
 use crate::desk::Desk;
 use crate::fault::{Count, RunFault};
@@ -34,12 +34,12 @@ fn turn<G: Gate, T: Threads + Wait + Sync, R: Read, W: Write>(
     requires { answered + 1 < 2 ^ 64 }
     ensures goes { IfOk result (λ over. InEachRun R.remaining records.old (told_by desk.old.site (answered + 1)) (W.contents writer.old) sink.old (answered + 1) (λ all old input.
         MatchOption over
-        (Progress R.remaining records.new all (told_by desk.new.site (answered + 1 + 1)) old (W.contents writer.new) sink.new (answered + 1 + 1) input)
-        (λ count. IsDone all (answered + 1) old (W.contents writer.new) (records_of input) count.records))) }
+        (HasComeSoFar R.remaining records.new all (told_by desk.new.site (answered + 1 + 1)) old (W.contents writer.new) sink.new (answered + 1 + 1) input)
+        (λ count. IsDone all (answered + 1) old (W.contents writer.new) (input_records input) count.records))) }
     ensures read { IsErrOf result RunFault.Read → InEachRun R.remaining records.old (told_by desk.old.site (answered + 1)) (W.contents writer.old) sink.old (answered + 1) (λ all old input.
-        IsCut all old (W.contents writer.new) (records_of input)) }
+        IsCut all old (W.contents writer.new) (input_records input)) }
     ensures memory { IsErrOf result RunFault.Memory → InEachRun R.remaining records.old (told_by desk.old.site (answered + 1)) (W.contents writer.old) sink.old (answered + 1) (λ all old input.
-        WroteFront (all.text AtEnd) old (W.contents writer.new) (records_of input)) }
+        WroteFront (all.text AtEnd) old (W.contents writer.new) (input_records input)) }
     ensures faults { IfErr result (λ e. (e ≡ RunFault.Read) ⊎ (e ≡ RunFault.Write) ⊎ (e ≡ RunFault.Memory)) }
 {
     match next_record(rt, records, desk, sink, writer, answered) {
@@ -65,14 +65,14 @@ fn serve<G: Gate, T: Threads + Wait + Sync, R: Read, W: Write>(
     writer: &mut W,
     limit: u64,
 ) -> Result<Count, RunFault>
-    ensures ok { IfOk result (λ count. (input : List ℕ) → Gives R.remaining records.old (records_of input) → sink.old ≡ []
-        → IsDone (told_by desk.old.site 1) limit (W.contents writer.old) (W.contents writer.new) (records_of input) count.records) }
-    ensures too_long { IsErrOf result RunFault.TooLong → (input : List ℕ) → Gives R.remaining records.old (records_of input) → sink.old ≡ []
-        → IsTooLong (told_by desk.old.site 1) limit (W.contents writer.old) (W.contents writer.new) (records_of input) }
-    ensures read { IsErrOf result RunFault.Read → (input : List ℕ) → Gives R.remaining records.old (records_of input) → sink.old ≡ []
-        → IsCut (told_by desk.old.site 1) (W.contents writer.old) (W.contents writer.new) (records_of input) }
-    ensures memory { IsErrOf result RunFault.Memory → (input : List ℕ) → Gives R.remaining records.old (records_of input) → sink.old ≡ []
-        → WroteFront ((told_by desk.old.site 1).text AtEnd) (W.contents writer.old) (W.contents writer.new) (records_of input) }
+    ensures ok { IfOk result (λ count. (input : List ℕ) → Gives R.remaining records.old (input_records input) → sink.old ≡ []
+        → IsDone (told_by desk.old.site 1) limit (W.contents writer.old) (W.contents writer.new) (input_records input) count.records) }
+    ensures too_long { IsErrOf result RunFault.TooLong → (input : List ℕ) → Gives R.remaining records.old (input_records input) → sink.old ≡ []
+        → IsTooLong (told_by desk.old.site 1) limit (W.contents writer.old) (W.contents writer.new) (input_records input) }
+    ensures read { IsErrOf result RunFault.Read → (input : List ℕ) → Gives R.remaining records.old (input_records input) → sink.old ≡ []
+        → IsCut (told_by desk.old.site 1) (W.contents writer.old) (W.contents writer.new) (input_records input) }
+    ensures memory { IsErrOf result RunFault.Memory → (input : List ℕ) → Gives R.remaining records.old (input_records input) → sink.old ≡ []
+        → WroteFront ((told_by desk.old.site 1).text AtEnd) (W.contents writer.old) (W.contents writer.new) (input_records input) }
 {
     'turns: for n in 0..limit {
         match turn(rt, records, desk, sink, writer, n) {
@@ -99,13 +99,13 @@ pub fn run_desk<G: Gate, T: Threads + Wait + Sync, R: Read + Drop, W: Write>(
     limit: u64,
 ) -> Result<Count, RunFault>
     ensures ok { IfOk result (λ count. IfSome (R.remaining reader) (λ input.
-        IsDone (told_by desk.old.site 1) limit (W.contents writer.old) (W.contents writer.new) (records_of input) count.records)) }
+        IsDone (told_by desk.old.site 1) limit (W.contents writer.old) (W.contents writer.new) (input_records input) count.records)) }
     ensures too_long { IsErrOf result RunFault.TooLong → IfSome (R.remaining reader) (λ input.
-        IsTooLong (told_by desk.old.site 1) limit (W.contents writer.old) (W.contents writer.new) (records_of input)) }
+        IsTooLong (told_by desk.old.site 1) limit (W.contents writer.old) (W.contents writer.new) (input_records input)) }
     ensures read { IsErrOf result RunFault.Read → IfSome (R.remaining reader) (λ input.
-        IsCut (told_by desk.old.site 1) (W.contents writer.old) (W.contents writer.new) (records_of input)) }
+        IsCut (told_by desk.old.site 1) (W.contents writer.old) (W.contents writer.new) (input_records input)) }
     ensures memory { IsErrOf result RunFault.Memory → IfSome (R.remaining reader) (λ input.
-        WroteFront ((told_by desk.old.site 1).text AtEnd) (W.contents writer.old) (W.contents writer.new) (records_of input)) }
+        WroteFront ((told_by desk.old.site 1).text AtEnd) (W.contents writer.old) (W.contents writer.new) (input_records input)) }
 {
     let mut records = Records::new(alloc, reader);
     let mut sink = Sink::new(alloc);
@@ -131,15 +131,15 @@ pub fn run_site_upto<G: Gate + Drop, T: Threads + Wait + Sync, R: Read + Drop, W
     gate: G,
 ) -> Result<Count, RunFault>
     ensures ok { IfOk result (λ count. IfSome (R.remaining reader) (λ input.
-        Appends (W.contents writer.old) (W.contents writer.new) (rows_text (output_of (place_of config.now) (records_of input)))
-        × (count.records ≡ length (records_of input)) × (count.records ≤ limit))) }
+        Appends (W.contents writer.old) (W.contents writer.new) (rows_text (output_of (setup_place config.now) (input_records input)))
+        × (count.records ≡ length (input_records input)) × (count.records ≤ limit))) }
     ensures too_long { IsErrOf result RunFault.TooLong → IfSome (R.remaining reader) (λ input.
-        Appends (W.contents writer.old) (W.contents writer.new) (rows_text (output_of (place_of config.now) (take limit (records_of input))))
-        × (limit < length (records_of input))) }
+        Appends (W.contents writer.old) (W.contents writer.new) (rows_text (output_of (setup_place config.now) (take limit (input_records input))))
+        × (limit < length (input_records input))) }
     ensures read { IsErrOf result RunFault.Read → IfSome (R.remaining reader) (λ input.
-        (k : ℕ) × Appends (W.contents writer.old) (W.contents writer.new) (rows_text (output_of (place_of config.now) (take k (records_of input))))) }
+        (k : ℕ) × Appends (W.contents writer.old) (W.contents writer.new) (rows_text (output_of (setup_place config.now) (take k (input_records input))))) }
     ensures memory { IsErrOf result RunFault.Memory → IfSome (R.remaining reader) (λ input.
-        WroteFront (λ records. rows_text (output_of (place_of config.now) records)) (W.contents writer.old) (W.contents writer.new) (records_of input)) }
+        WroteFront (λ records. rows_text (output_of (setup_place config.now) records)) (W.contents writer.old) (W.contents writer.new) (input_records input)) }
 {
     let Ok(mut desk) = Desk::new(alloc, config, gate) else {
         return Err(RunFault::Memory);
@@ -160,15 +160,15 @@ pub fn run_site<T: Threads + Wait + Sync, R: Read + Drop, W: Write>(
     config: &Config,
 ) -> Result<Count, RunFault>
     ensures ok { IfOk result (λ count. IfSome (R.remaining reader) (λ input.
-        Appends (W.contents writer.old) (W.contents writer.new) (rows_text (output_of (place_of config.now) (records_of input)))
-        × (count.records ≡ length (records_of input)) × (count.records ≤ 4000000))) }
+        Appends (W.contents writer.old) (W.contents writer.new) (rows_text (output_of (setup_place config.now) (input_records input)))
+        × (count.records ≡ length (input_records input)) × (count.records ≤ 4000000))) }
     ensures too_long { IsErrOf result RunFault.TooLong → IfSome (R.remaining reader) (λ input.
-        Appends (W.contents writer.old) (W.contents writer.new) (rows_text (output_of (place_of config.now) (take 4000000 (records_of input))))
-        × (4000000 < length (records_of input))) }
+        Appends (W.contents writer.old) (W.contents writer.new) (rows_text (output_of (setup_place config.now) (take 4000000 (input_records input))))
+        × (4000000 < length (input_records input))) }
     ensures read { IsErrOf result RunFault.Read → IfSome (R.remaining reader) (λ input.
-        (k : ℕ) × Appends (W.contents writer.old) (W.contents writer.new) (rows_text (output_of (place_of config.now) (take k (records_of input))))) }
+        (k : ℕ) × Appends (W.contents writer.old) (W.contents writer.new) (rows_text (output_of (setup_place config.now) (take k (input_records input))))) }
     ensures memory { IsErrOf result RunFault.Memory → IfSome (R.remaining reader) (λ input.
-        WroteFront (λ records. rows_text (output_of (place_of config.now) records)) (W.contents writer.old) (W.contents writer.new) (records_of input)) }
+        WroteFront (λ records. rows_text (output_of (setup_place config.now) records)) (W.contents writer.old) (W.contents writer.new) (input_records input)) }
 {
     run_site_upto(rt, alloc, reader, writer, config, RECORDS_MAX, Free)
 }

@@ -12,7 +12,7 @@ use Rattle.rubis_laws.proofs.Refusing.{refusals_change_nothing}
 use Rattle.rubis_replica.specs.declared.faults.Fault.TheVariants as fault
 use Rattle.rubis_script.specs.Text.{rows_text}
 use Rattle.rubis_script.proofs.TextFacts.{text-goes}
-use Rattle.rubis_world.specs.Running.{IsTold, answer_of}
+use Rattle.rubis_world.specs.Running.{IsTold, answer_in_world}
 use Rattle.rubis_world.specs.Worlds.{ComesTo, Steps, WorldState}
 use Rattle.rubis_world.specs.declared.faults.WorldFault.{WorldFault}
 use Rattle.rubis_world.specs.declared.faults.WorldFault.TheVariants.{BadEvent, NoSuchPacket, Site, Memory}
@@ -42,7 +42,7 @@ module _ (old new : WorldState) (e : Event) (a : Result Happened Refusal) where
   here f = (ap (λ (s : WorldState). s.keep) f, ap (λ (s : WorldState). s.world) f)
 
   -- where there is an answer, it is the step's, and the world has come to what the step makes of it
-  moved : (result : Result Happened WorldFault) → Steps old new (happens old.keep old.world e) result → answer_of result ≡ Ok a
+  moved : (result : Result Happened WorldFault) → Steps old new (happens old.keep old.world e) result → answer_in_world result ≡ Ok a
       → ComesTo old new (happens old.keep old.world e).0 × ((happens old.keep old.world e).1 ≡ a)
   moved (Ok h) s q = (s.0, s.1 ∙ cc q)
   moved (Err BadEvent) s q = (stays refusal.BadEvent s.1 (here s.0), s.1 ∙ cc q)
@@ -53,7 +53,7 @@ module _ (old new : WorldState) (e : Event) (a : Result Happened Refusal) where
   moved (Err Memory) s q = absurd cc
 
 pub event_told : (old new : WorldState) (n i : ℕ) (e : Event) (result : Result Happened WorldFault) (a : Result Happened Refusal) (sent : List Packet) (before after : List ℕ)
-    → Steps old new (happens old.keep old.world e) result → answer_of result ≡ Ok a → sent ≡ new.world.sent → after ≡ before ++ rows_text (event_rows n i sent a)
+    → Steps old new (happens old.keep old.world e) result → answer_in_world result ≡ Ok a → sent ≡ new.world.sent → after ≡ before ++ rows_text (event_rows n i sent a)
     → IsTold old new (told_at n i (happens old.keep old.world e)) before after
 event_told old new n i e result a sent before after s q all told =
     let m = moved old new e a result s q in

@@ -6,8 +6,8 @@ use Rattle.std.proofs.lemmas.Bool.{cases_lt}
 use Rattle.std.proofs.lemmas.List.FromFn.{get_or-map-range_with_len, length-map-range_with_len, map-range_with_len_more}
 use Rattle.std.proofs.lemmas.Option.{slice_get-get_or, slice_get_past}
 use Rattle.rubis_model.specs.Site.{opening_at}
-use Rattle.rubis_replica.specs.Progress.{whole}
-use Rattle.rubis_replica.specs.Setup.{place_of}
+use Rattle.rubis_replica.specs.Progress.{resting_at}
+use Rattle.rubis_replica.specs.Setup.{setup_place}
 use Rattle.rubis_replica.specs.State.{SiteState}
 use Rattle.rubis_world.specs.Setup.{WorldSetup, setup_at}
 use Rattle.rubis_world.specs.Worlds.{AreAtPlaces, opening}
@@ -15,7 +15,7 @@ use Rattle.rubis_world.proofs.Moves.{state_of}
 
 -- a site with nothing done
 abbrev pub fresh : WorldSetup → ℕ → SiteState
-fresh setup i = record { place = place_of (setup_at setup i); state = opening_at i; progress = whole 0; batch = setup.batch }
+fresh setup i = record { place = setup_place (setup_at setup i); state = opening_at i; progress = resting_at 0; batch = setup.batch }
 
 abbrev pub fresh_sites : WorldSetup → ℕ → List SiteState
 fresh_sites setup n = map (fresh setup) (range_with_len 0 n)

@@ -10,7 +10,7 @@ use Rattle.rubis_model.specs.Settle.{Has}
 use Rattle.rubis_model.specs.System.{World}
 use Rattle.rubis_model.specs.Verdict.{verdict}
 use Rattle.rubis_model.specs.WorldRecords.{log_of, logs_of}
-use Rattle.rubis_audit.specs.Walks.{AreAmong}
+use Rattle.rubis_audit.specs.Walks.{HaveMessagesAmong}
 use Rattle.rubis_laws.proofs.Audited.{run_faultless, run_formed}
 use Rattle.rubis_laws.proofs.Runs.{logged}
 use Rattle.rubis_laws.proofs.Verdicts.{faultless_agree}
@@ -26,7 +26,7 @@ are_logs w log h =
     subst (IsLogOf w) (sym e) (record { messages = refl; rows = refl })
 
 -- each message of theirs counts all sites
-pub among : (s : WorldState) → IsWorld s → AreAmong (length s.world.sites) (logs_of s.world)
+pub among : (s : WorldState) → IsWorld s → HaveMessagesAmong (length s.world.sites) (logs_of s.world)
 among s h log k m in_log =
     let sent = logged s.world h.sound log.site m (subst (Has m) (are_logs s.world log k).messages in_log) in
     (h.deliverable (packet.Msg m) sent).1

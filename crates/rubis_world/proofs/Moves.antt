@@ -17,7 +17,7 @@ use Rattle.rubis_model.specs.System.{World, site, place, sends, takes, saying, s
 use Rattle.rubis_model.specs.Log.{cores, fold_of}
 use Rattle.rubis_model.specs.Runs.{listed, listing_rows}
 use Rattle.rubis_laws.proofs.Keeps.{has_packet, same_sites}
-use Rattle.rubis_replica.specs.State.{Answers, IsReadFault, Lists, ListsTheLog, NeedsNoTables, SiteState, TakesIn}
+use Rattle.rubis_replica.specs.State.{AnswersAsTheStep, IsReadFault, Lists, ListsTheLog, NeedsNoTables, SiteState, TakesIn}
 use Rattle.rubis_replica.specs.declared.faults.Fault.{Fault}
 use Rattle.rubis_replica.specs.declared.faults.Fault.TheVariants as fault
 use Rattle.rubis_world.specs.Faults.{fault_at_site}
@@ -87,7 +87,7 @@ module _ (keep : ℕ) (sites : List SiteState) (sent : List Packet) (i : ℕ) (s
   -- a site that gives no answer
   refused : {A : Type 0} (p : Replica × Result A Refusal) (step : World × Result Happened Refusal) (f : Fault) (result : Result Happened WorldFault)
       → IsErr result × IsErrAnd result (λ g. g ≡ fault_at_site f)
-      → Answers s x p (Err f) → ((r : Refusal) → p.1 ≡ Err r → step.1 ≡ Err r)
+      → AnswersAsTheStep s x p (Err f) → ((r : Refusal) → p.1 ≡ Err r → step.1 ≡ Err r)
       → Steps (state_of keep sites sent) (state_of keep (set sites i x) sent) step result
   refused p step f (Ok h) e a said = absurd (cc)
   refused p step (fault.Refused r) (Err g) e a said =
@@ -99,11 +99,11 @@ module _ (keep : ℕ) (sites : List SiteState) (sent : List Packet) (i : ℕ) (s
 
   -- the site's answer is the step's
   module _ {A : Type 0} (step : Place → Replica → Replica × Result A Refusal) where
-    said_there : (answer : A) → Answers s x (step s.place s.state) (Ok answer)
+    said_there : (answer : A) → AnswersAsTheStep s x (step s.place s.state) (Ok answer)
         → (step (place keep (world_of sites sent) i) (site (world_of sites sent) i)).1 ≡ Ok answer
     said_there answer a = ap (λ p. p.1) (step_is step) ∙ a.1
 
-    come_to : (answer : A) → Answers s x (step s.place s.state) (Ok answer)
+    come_to : (answer : A) → AnswersAsTheStep s x (step s.place s.state) (Ok answer)
         → map (λ (y : SiteState). y.state) (set sites i x) ≡ slice_set (map (λ (y : SiteState). y.state) sites) i (step (place keep (world_of sites sent) i) (site (world_of sites sent) i)).0
     come_to answer a = changed (step (place keep (world_of sites sent) i) (site (world_of sites sent) i)).0 (a.0 ∙ sym (ap (λ p. p.0) (step_is step)))
 
@@ -144,7 +144,7 @@ module _ (keep : ℕ) (sites : List SiteState) (sent : List Packet) (i : ℕ) (s
   -- ---- what is sent
   module _ {A : Type 0} (pack : A → Packet) (step : Place → Replica → Replica × Result A Refusal) (sent' : List Packet) where
     pub sends_fault : (f : Fault) (result : Result Happened WorldFault) → IsErr result × IsErrAnd result (λ g. g ≡ fault_at_site f)
-        → Answers s x (step s.place s.state) (Err f) → sent' ≡ sent
+        → AnswersAsTheStep s x (step s.place s.state) (Err f) → sent' ≡ sent
         → Steps old (state_of keep (set sites i x) sent') (sends pack old.world i (step (place old.keep old.world i) (site old.world i))) result
     sends_fault f result e a same =
         subst (λ (w : WorldState). Steps w (state_of keep (set sites i x) sent') (sends pack w.world i (step (place w.keep w.world i) (site w.world i))) result) view
@@ -152,7 +152,7 @@ module _ (keep : ℕ) (sites : List SiteState) (sent : List Packet) (i : ℕ) (s
         (refused keep sites sent i s x inside read at (step s.place s.state) _ f result e a
         (λ r h. ap (saying (λ _. happened.Sent (next_number (world_of sites sent)))) (ap (λ p. p.1) (step_is keep sites sent i s x inside read at step) ∙ h))))
 
-    pub sends_on : (answer : A) (number : ℕ) → Answers s x (step s.place s.state) (Ok answer) → sent' ≡ sent ++ pack answer ∷ [] → number ≡ length sent'
+    pub sends_on : (answer : A) (number : ℕ) → AnswersAsTheStep s x (step s.place s.state) (Ok answer) → sent' ≡ sent ++ pack answer ∷ [] → number ≡ length sent'
         → Steps old (state_of keep (set sites i x) sent') (sends pack old.world i (step (place old.keep old.world i) (site old.world i))) (Ok (happened.Sent number))
     sends_on answer number a e n =
         let said = said_there keep sites sent i s x inside read at step answer a in
@@ -164,13 +164,13 @@ module _ (keep : ℕ) (sites : List SiteState) (sent : List Packet) (i : ℕ) (s
 
   -- ---- rows
   pub shows_fault : (l : Listing) (f : Fault) (result : Result Happened WorldFault) → IsErr result × IsErrAnd result (λ g. g ≡ fault_at_site f)
-      → Answers s x (listed s.state l) (Err f)
+      → AnswersAsTheStep s x (listed s.state l) (Err f)
       → Steps old (state_of keep (set sites i x) sent) (shown old.world i l) result
   shows_fault l f result e a =
       subst (λ (w : WorldState). Steps w (state_of keep (set sites i x) sent) (shown w.world i l) result) view
       (refused keep sites sent i s x inside read at (listed s.state l) (shown (world_of sites sent) i l) f result e a (λ r h. absurd (cc)))
 
-  pub shows_on : (l : Listing) (rows : List (List (List ℕ))) → Answers s x (listed s.state l) (Ok rows)
+  pub shows_on : (l : Listing) (rows : List (List (List ℕ))) → AnswersAsTheStep s x (listed s.state l) (Ok rows)
       → Steps old (state_of keep (set sites i x) sent) (shown old.world i l) (Ok (happened.Rows rows))
   shows_on l rows a =
       subst (λ (w : WorldState). Steps w (state_of keep (set sites i x) sent) (shown w.world i l) (Ok (happened.Rows rows))) view
@@ -179,14 +179,14 @@ module _ (keep : ℕ) (sites : List SiteState) (sent : List Packet) (i : ℕ) (s
   -- ---- what is taken in
   module _ {A : Type 0} (word : A → Happened) (step : Place → Replica → Replica × Result A Refusal) where
     pub takes_fault : (f : Fault) (result : Result Happened WorldFault) → IsErr result × IsErrAnd result (λ g. g ≡ fault_at_site f)
-        → Answers s x (step s.place s.state) (Err f)
+        → AnswersAsTheStep s x (step s.place s.state) (Err f)
         → Steps old (state_of keep (set sites i x) sent) (takes word old.world i (step (place old.keep old.world i) (site old.world i))) result
     takes_fault f result e a =
         subst (λ (w : WorldState). Steps w (state_of keep (set sites i x) sent) (takes word w.world i (step (place w.keep w.world i) (site w.world i))) result) view
         (refused keep sites sent i s x inside read at (step s.place s.state) _ f result e a
         (λ r h. ap (saying word) (ap (λ p. p.1) (step_is keep sites sent i s x inside read at step) ∙ h)))
 
-    pub takes_on : (answer : A) → Answers s x (step s.place s.state) (Ok answer)
+    pub takes_on : (answer : A) → AnswersAsTheStep s x (step s.place s.state) (Ok answer)
         → Steps old (state_of keep (set sites i x) sent) (takes word old.world i (step (place old.keep old.world i) (site old.world i))) (Ok (word answer))
     takes_on answer a =
         let come = come_to keep sites sent i s x inside read at step answer a in

@@ -13,14 +13,14 @@ use Rattle.rubis_world.specs.declared.faults.WorldFault.{WorldFault}
 use Rattle.rubis_world.specs.declared.faults.WorldFault.TheVariants.{BadEvent, NoSuchPacket, Site, Memory}
 
 -- an answer, or a refusal; where a site is behind or memory runs out there is none
-abbrev pub answer_of : {A : Type 0} → Result A WorldFault → Result (Result A Refusal) OutOfMemory
-answer_of (Ok a) = Ok (Ok a)
-answer_of (Err BadEvent) = Ok (Err refusal.BadEvent)
-answer_of (Err NoSuchPacket) = Ok (Err refusal.NoSuchPacket)
-answer_of (Err (Site (fault.Refused r))) = Ok (Err r)
-answer_of (Err (Site fault.Behind)) = Err (record {})
-answer_of (Err (Site fault.Memory)) = Err (record {})
-answer_of (Err Memory) = Err (record {})
+abbrev pub answer_in_world : {A : Type 0} → Result A WorldFault → Result (Result A Refusal) OutOfMemory
+answer_in_world (Ok a) = Ok (Ok a)
+answer_in_world (Err BadEvent) = Ok (Err refusal.BadEvent)
+answer_in_world (Err NoSuchPacket) = Ok (Err refusal.NoSuchPacket)
+answer_in_world (Err (Site (fault.Refused r))) = Ok (Err r)
+answer_in_world (Err (Site fault.Behind)) = Err (record {})
+answer_in_world (Err (Site fault.Memory)) = Err (record {})
+answer_in_world (Err Memory) = Err (record {})
 
 -- the world has come to what a step makes of it, and the text of the step's records stands behind what stood before
 abbrev pub IsTold : WorldState → WorldState → World × List (List (List ℕ)) → List ℕ → List ℕ → Type 0
@@ -31,5 +31,5 @@ abbrev pub world_account : ℕ → World → ℕ → Account
 world_account keep w n = record { text = λ ending records. rows_text (world_answers keep w n records); read = λ records. length records }
 
 -- what is still to be made of a world
-abbrev pub told_by : WorldState → ℕ → Account
-told_by s n = world_account s.keep s.world n
+abbrev pub told_by_world : WorldState → ℕ → Account
+told_by_world s n = world_account s.keep s.world n

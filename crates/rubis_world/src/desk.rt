@@ -7,7 +7,7 @@ ghost use Rattle.rubis_model.specs.System.{IsEvent, happens};
 ghost use Rattle.rubis_model.specs.System.Event.{At, Deliver};
 ghost use Rattle.rubis_model.specs.Verdict.{verdict};
 ghost use Rattle.rubis_model.specs.WorldRecords.{logs_of, told_at, world_step};
-ghost use Rattle.rubis_world.specs.Running.{IsTold, answer_of, told_by};
+ghost use Rattle.rubis_world.specs.Running.{IsTold, answer_in_world, told_by_world};
 ghost use Rattle.rubis_world.specs.Worlds.{opening};
 
 use crate::answers::{write_answer, write_no_event, write_refused};
@@ -25,7 +25,7 @@ use std::thread::Threads;
 
 // The answer to an event, or its refusal. Where a site has no memory for an answer there is none, nor where it is behind.
 fn answered<A>(answer: Result<A, WorldFault>) -> Result<Result<A, Refusal>, OutOfMemory>
-    ensures { result ≡ answer_of answer }
+    ensures { result ≡ answer_in_world answer }
 {
     match answer {
         Ok(answer) => Ok(Ok(answer)),
@@ -138,7 +138,7 @@ impl WorldDesk {
 }
 
 impl<T> Service<T> for WorldDesk {
-    ghost account = { λ s n. told_by s.world n };
+    ghost account = { λ s n. told_by_world s.world n };
 
     ghost reads_none = { λ s n. refl };
 

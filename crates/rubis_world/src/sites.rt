@@ -12,7 +12,7 @@ ghost use Rattle.rubis_replica.specs.Setup.{IsCount};
 ghost use Rattle.rubis_model.specs.System.{site as site_of};
 ghost use Rattle.rubis_model.specs.Verdict.{verdict};
 ghost use Rattle.rubis_model.specs.WorldRecords.{log_of, logs_of};
-ghost use Rattle.rubis_audit.specs.Walks.{AreAmong};
+ghost use Rattle.rubis_audit.specs.Walks.{HaveMessagesAmong};
 ghost use Rattle.rubis_replica.specs.declared.faults.Fault.TheVariants as Fault;
 ghost use Rattle.rubis_world.specs.Worlds.{Asks, ComesTo, IsCheckFault, SomeBehind, Steps, left_at, opening};
 ghost use Rattle.rubis_world.specs.declared.faults.WorldFault.TheVariants as WorldFault;
@@ -242,7 +242,7 @@ impl Sites {
     /// The auditor's verdict on the logs of all sites, each with its tables.
     pub fn check<R: Threads + Wait + Sync>(&mut self, rt: &R) -> Result<Verdict, WorldFault>
         requires few { length self.old.world.sites ≤ SITES_MAX }
-        requires among { AreAmong (length self.old.world.sites) (logs_of self.old.world) }
+        requires among { HaveMessagesAmong (length self.old.world.sites) (logs_of self.old.world) }
         ensures same { ComesTo self.old self.new self.old.world }
         ensures verdict { IfOk result (λ found. found ≡ verdict (logs_of self.old.world)) }
         ensures waits { (i : ℕ) → i < length self.old.world.sites → 0 < left_at self.old i → (result ≡ Err (WorldFault.Site Fault.Behind)) × (self.new ≡ self.old) }

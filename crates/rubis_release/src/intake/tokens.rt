@@ -1,6 +1,6 @@
 ghost use Rattle.std.specs.Prelude.{◌≡◌};
 ghost use Rattle.rubis_model.specs.Site.{took, passed};
-ghost use Rattle.rubis_release.specs.Answers.{held_by};
+ghost use Rattle.rubis_release.specs.Answers.{token_held};
 
 use super::Intake;
 use rubis_message::{Taken, Token};
@@ -21,7 +21,7 @@ pub struct Held {
 impl Intake {
     /// The token, if the site holds it.
     pub fn token(&self) -> Option<Held>
-        ensures { result ≡ held_by self.now.state }
+        ensures { result ≡ token_held self.now.state }
     {
         let turn = self.last;
         self.held.map(|issued| Held { turn, issued })

@@ -1,6 +1,6 @@
 use Rattle.std.proofs.Common.{◌≡◌, ◌<◌, ◌∙◌, ap, arith, false, get_or, length, rules, subst, sym, take, true}
 use Rattle.std.specs.Prelude.{option_copied}
-use Rattle.rubis_audit.specs.Walks.{said}
+use Rattle.rubis_audit.specs.Walks.{messages_of_logs}
 use Rattle.rubis_audit.proofs.Walking.{among_at, counts_of, few_entries, found_is, ready_at, sites_at, walked_end, walked_found, walks_more, walks_none}
 use Rattle.rubis_audit.proofs.walks.walk.Goals as goal
 
@@ -8,7 +8,7 @@ pub loop-n-init : goal.loop-n-init
 loop-n-init c = record {
   items = c.messages-v-items.ensures;
   walk =
-      walks_none c.args.sites c.args.seen.now c.in_ok-past.past.clock (option_copied c.in_ok-past.past.last_red) c.in_ok-past.past.tables (said (take c.args.at c.args.logs.now)) c.index-logs-at.result
+      walks_none c.args.sites c.args.seen.now c.in_ok-past.past.clock (option_copied c.in_ok-past.past.last_red) c.in_ok-past.past.tables (messages_of_logs (take c.args.at c.args.logs.now)) c.index-logs-at.result
       c.requires.walked.known c.requires.walked.sees c.in_ok-past.ensures.0 c.in_ok-past.ensures.1 c.in_ok-past.ensures.2;
 }
 
@@ -35,7 +35,7 @@ returns-in-Some c =
 pub overflow_cast-n : goal.overflow_cast-n
 overflow_cast-n c =
     let m = subst (λ xs. c.loop-n.n < length xs) c.loop-n.invariant.items c.loop-n-test.true in
-    let few = few_entries c.args.sites c.loop-n.seen c.loop-n.past.clock (option_copied c.loop-n.past.last_red) c.loop-n.past.tables (said (take c.args.at c.args.logs.now)) c.index-logs-at.result c.loop-n.n m c.loop-n.invariant.walk in
+    let few = few_entries c.args.sites c.loop-n.seen c.loop-n.past.clock (option_copied c.loop-n.past.last_red) c.loop-n.past.tables (messages_of_logs (take c.args.at c.args.logs.now)) c.index-logs-at.result c.loop-n.n m c.loop-n.invariant.walk in
     search rules
 
 pub take-requires-clause-origin : goal.take-requires-clause-origin

@@ -1,6 +1,6 @@
 use Rattle.std.proofs.Common.{◌≡◌, ◌+◌, subst, arith}
-use Rattle.rubis_script.specs.Progress.{Progress}
-use Rattle.rubis_world.specs.Running.{told_by}
+use Rattle.rubis_script.specs.Progress.{HasComeSoFar}
+use Rattle.rubis_world.specs.Running.{told_by_world}
 use Rattle.rubis_script.proofs.RunFacts.{if_ok_so, progress-start}
 use Rattle.rubis_world.proofs.run.serve.Goals as goal
 
@@ -11,16 +11,16 @@ pub returns-clause-ok : goal.returns-clause-ok
 returns-clause-ok g c =
     let limit : c.turns.n ≡ c.args.limit = omega (arith, c.turns-test.false, c.turns.auto.n-end) in
     if_ok_so _ _ c.stop.result (λ count done input holds empty. done _ _ input
-    (subst (λ k. Progress g.R.Read.remaining c.turns.records (told_by c.args.desk.now.world 1) (told_by c.turns.desk.world (k + 1)) (g.W.Write.contents c.args.writer.now) (g.W.Write.contents c.turns.writer) c.turns.sink (k + 1) input) limit (c.turns.invariant input holds empty))) c.stop.ensures.ok
+    (subst (λ k. HasComeSoFar g.R.Read.remaining c.turns.records (told_by_world c.args.desk.now.world 1) (told_by_world c.turns.desk.world (k + 1)) (g.W.Write.contents c.args.writer.now) (g.W.Write.contents c.turns.writer) c.turns.sink (k + 1) input) limit (c.turns.invariant input holds empty))) c.stop.ensures.ok
 
 pub returns-clause-read : goal.returns-clause-read
 returns-clause-read g c e input holds empty =
     let limit : c.turns.n ≡ c.args.limit = omega (arith, c.turns-test.false, c.turns.auto.n-end) in
     c.stop.ensures.read e _ _ input
-    (subst (λ k. Progress g.R.Read.remaining c.turns.records (told_by c.args.desk.now.world 1) (told_by c.turns.desk.world (k + 1)) (g.W.Write.contents c.args.writer.now) (g.W.Write.contents c.turns.writer) c.turns.sink (k + 1) input) limit (c.turns.invariant input holds empty))
+    (subst (λ k. HasComeSoFar g.R.Read.remaining c.turns.records (told_by_world c.args.desk.now.world 1) (told_by_world c.turns.desk.world (k + 1)) (g.W.Write.contents c.args.writer.now) (g.W.Write.contents c.turns.writer) c.turns.sink (k + 1) input) limit (c.turns.invariant input holds empty))
 
 pub returns-clause-memory : goal.returns-clause-memory
 returns-clause-memory g c e input holds empty =
     let limit : c.turns.n ≡ c.args.limit = omega (arith, c.turns-test.false, c.turns.auto.n-end) in
     c.stop.ensures.memory e _ _ input
-    (subst (λ k. Progress g.R.Read.remaining c.turns.records (told_by c.args.desk.now.world 1) (told_by c.turns.desk.world (k + 1)) (g.W.Write.contents c.args.writer.now) (g.W.Write.contents c.turns.writer) c.turns.sink (k + 1) input) limit (c.turns.invariant input holds empty))
+    (subst (λ k. HasComeSoFar g.R.Read.remaining c.turns.records (told_by_world c.args.desk.now.world 1) (told_by_world c.turns.desk.world (k + 1)) (g.W.Write.contents c.args.writer.now) (g.W.Write.contents c.turns.writer) c.turns.sink (k + 1) input) limit (c.turns.invariant input holds empty))

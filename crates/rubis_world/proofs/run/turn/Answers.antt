@@ -1,5 +1,5 @@
 use Rattle.std.proofs.Common.{◌≡◌, ◌+◌, ◌∙◌, ap, refl, arith}
-use Rattle.rubis_world.specs.Running.{told_by}
+use Rattle.rubis_world.specs.Running.{told_by_world}
 use Rattle.rubis_script.specs.declared.fault.RunFault.TheVariants as fault
 use Rattle.rubis_world.proofs.Answering.{world_goes}
 use Rattle.rubis_script.proofs.RunFacts.{if_none, if_some, progress-moved, progress-stays, progress-step}
@@ -22,11 +22,11 @@ returns-in-Ok-write_out-clause-goes g c all old input p =
     let found = if_none c.in-Ok-None.field-0 c.in-Ok-None.ensures.found c.in-Ok-None.field-0-is in
     let before = c.next_record.new.service.world in
     let after = c.respond.new.self.world in
-    let moved = progress-moved _ c.args.records.now all _ (told_by before n) old _ (g.W.Write.contents c.next_record.new.writer) _ c.next_record.new.sink n input p
-    (ap (λ s. told_by s.world n) same.0) (ap g.W.Write.contents same.2) same.1 in
+    let moved = progress-moved _ c.args.records.now all _ (told_by_world before n) old _ (g.W.Write.contents c.next_record.new.writer) _ c.next_record.new.sink n input p
+    (ap (λ s. told_by_world s.world n) same.0) (ap g.W.Write.contents same.2) same.1 in
     let answered = rw (c.fields.ensures) at c.in-Ok.ensures in
     c.in-Ok-write_out.ensures.goes all old (n + 1) input
-    (progress-step _ c.args.records.now c.next_record.new.records all _ (told_by after (n + 1)) old _ _ c.respond.new.sink n input moved found
+    (progress-step _ c.args.records.now c.next_record.new.records all _ (told_by_world after (n + 1)) old _ _ c.respond.new.sink n input moved found
     (λ more. (
       λ ending. world_goes before after n _ c.next_record.new.sink c.respond.new.sink answered more,
       omega arith,

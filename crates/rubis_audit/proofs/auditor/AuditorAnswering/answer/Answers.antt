@@ -1,6 +1,6 @@
 use Rattle.std.proofs.Common.{◌≡◌, ◌∙◌, ◌+◌, ap, subst, sym, refl}
 use Rattle.std.specs.Prelude.{option_map}
-use Rattle.rubis_script.specs.Accounts.{Answers}
+use Rattle.rubis_script.specs.Accounts.{AnswersRecord}
 use Rattle.rubis_script.specs.declared.service.Course.TheVariants.{GoesOn}
 use Rattle.rubis_audit.specs.Lines.{line_as}
 use Rattle.rubis_audit.specs.Running.{account_from}
@@ -15,5 +15,5 @@ returns g c =
     let sites : c.self.inside.sites ≡ c.args.self.now.sites = ap (λ a. a.sites) c.self.view_is in
     let goes_on =
     goes c.self.inside.sites c.args.number c.args.self.now.logs c.take.new.self.logs (line_as fields c.in-Some.line) fields c.args.sink.now c.args.sink.now line more refl in
-    subst (λ s. Answers GoesOn (account_from c.args.self.now.sites c.args.number c.args.self.now.logs) (account_from s (c.args.number + 1) c.take.new.self.logs) c.args.sink.now c.args.sink.now fields) (sym c.take.ensures.sites)
-    (subst (λ s. Answers GoesOn (account_from s c.args.number c.args.self.now.logs) (account_from s (c.args.number + 1) c.take.new.self.logs) c.args.sink.now c.args.sink.now fields) sites goes_on)
+    subst (λ s. AnswersRecord GoesOn (account_from c.args.self.now.sites c.args.number c.args.self.now.logs) (account_from s (c.args.number + 1) c.take.new.self.logs) c.args.sink.now c.args.sink.now fields) (sym c.take.ensures.sites)
+    (subst (λ s. AnswersRecord GoesOn (account_from s c.args.number c.args.self.now.logs) (account_from s (c.args.number + 1) c.take.new.self.logs) c.args.sink.now c.args.sink.now fields) sites goes_on)

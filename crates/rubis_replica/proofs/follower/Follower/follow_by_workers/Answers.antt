@@ -1,5 +1,5 @@
 use Rattle.std.proofs.Common.{◌+◌, ◌∙◌, ap, sym, subst, arith}
-use Rattle.rubis_replica.specs.Follow.{Follower, Follows, StaysWithin}
+use Rattle.rubis_replica.specs.Follow.{Follower, FollowsLog, StaysWithin}
 use Rattle.rubis_replica.proofs.Following.{workers_follow}
 use Rattle.rubis_replica.proofs.NextMessage.{log_within}
 use Rattle.rubis_replica.proofs.follower.Follower.follow_by_workers.Goals as goal
@@ -8,7 +8,7 @@ pub returns-then-self-gt0-clause-follows : goal.returns-then-self-gt0-clause-fol
 returns-then-self-gt0-clause-follows g c =
     let log = c.args.log.now in
     let old : Follower = record { progress = record { applied = c.self.inside.applied; upto = c.self.inside.upto; left = c.self.inside.left }; at = c.self.inside.at; rest = c.self.inside.rest.items; tables = c.self.inside.tables } in
-    let follows = subst (Follows log) (sym c.self.view_is) c.requires.follows in
+    let follows = subst (FollowsLog log) (sym c.self.view_is) c.requires.follows in
     let rests = ap (λ (f : Follower). f.progress.left) c.self.view_is ∙ c.requires.rests in
     workers_follow log old c.note.new.self (c.self.inside.at + 1) c.apply_batch.new.tables c.in_ok-left.left follows rests (omega arith)
     c.in_ok-left.ensures.begun.many c.in_ok-left.ensures.log c.in_ok-left.ensures.unfinished c.note.ensures.noted c.note.ensures.at
@@ -24,7 +24,7 @@ pub returns-clause-follows : goal.returns-clause-follows
 returns-clause-follows g c =
     let log = c.args.log.now in
     let old : Follower = record { progress = record { applied = c.self.inside.applied; upto = c.self.inside.upto; left = c.self.inside.left }; at = c.self.inside.at; rest = c.self.inside.rest.items; tables = c.self.inside.tables } in
-    let follows = subst (Follows log) (sym c.self.view_is) c.requires.follows in
+    let follows = subst (FollowsLog log) (sym c.self.view_is) c.requires.follows in
     let rests = ap (λ (f : Follower). f.progress.left) c.self.view_is ∙ c.requires.rests in
     workers_follow log old c.note.new.self (c.self.inside.at + 1) c.apply_batch.new.tables c.in_ok-left.left follows rests (omega arith)
     c.in_ok-left.ensures.begun.many c.in_ok-left.ensures.log c.in_ok-left.ensures.unfinished c.note.ensures.noted c.note.ensures.at

@@ -1,6 +1,6 @@
 use Rattle.std.proofs.Common.{◌≡◌, ◌∙◌, ap, sym, subst, arith, inr}
 use Rattle.std.specs.Prelude.{◌⊎◌, length}
-use Rattle.rubis_replica.specs.Follow.{Follower, Follows, StaysWithin}
+use Rattle.rubis_replica.specs.Follow.{Follower, FollowsLog, StaysWithin}
 use Rattle.rubis_replica.specs.Progress.{HasBegun}
 use Rattle.rubis_replica.proofs.Following.{all_done, by_ok, noted_begun, noted_left, noted_stands, on_err, rests_at, rests_holds, rests_whole, some_stand, stays}
 use Rattle.rubis_replica.proofs.follower.Follower.follow_here.Goals.{then-is_ok-via-then-is_ok, then-is_ok-via-else-is_ok+then-self}
@@ -10,7 +10,7 @@ pub note-requires-clause-some : goal.note-requires-clause-some
 note-requires-clause-some g c κs within some =
     let log = c.args.log.now in
     let old : Follower = record { progress = record { applied = c.self.inside.applied; upto = c.self.inside.upto; left = c.self.inside.left }; at = c.self.inside.at; rest = c.self.inside.rest.items; tables = c.self.inside.tables } in
-    let follows = subst (Follows log) (sym c.self.view_is) c.requires.follows in
+    let follows = subst (FollowsLog log) (sym c.self.view_is) c.requires.follows in
     let rests = ap (λ (f : Follower). f.progress.left) c.self.view_is ∙ c.requires.rests in
     let none = rests_whole log old follows rests in
     elim c.then-is_ok.branch [
@@ -25,7 +25,7 @@ pub returns-then-is_ok-clause-follows : goal.returns-then-is_ok-clause-follows
 returns-then-is_ok-clause-follows g c =
     let log = c.args.log.now in
     let old : Follower = record { progress = record { applied = c.self.inside.applied; upto = c.self.inside.upto; left = c.self.inside.left }; at = c.self.inside.at; rest = c.self.inside.rest.items; tables = c.self.inside.tables } in
-    let follows = subst (Follows log) (sym c.self.view_is) c.requires.follows in
+    let follows = subst (FollowsLog log) (sym c.self.view_is) c.requires.follows in
     let rests = ap (λ (f : Follower). f.progress.left) c.self.view_is ∙ c.requires.rests in
     noted_stands log old.progress.applied c.note.new.self c.apply_upto-ended.new.at c.apply_upto-ended.new.tables c.note.ensures.noted
     (c.note.ensures.rest ∙ rests_whole log old follows rests) c.note.ensures.at c.note.ensures.tables c.apply_upto-ended.ensures.some
@@ -49,7 +49,7 @@ pub returns-else-self-clause-follows : goal.returns-else-self-clause-follows
 returns-else-self-clause-follows g c =
     let log = c.args.log.now in
     let old : Follower = record { progress = record { applied = c.self.inside.applied; upto = c.self.inside.upto; left = c.self.inside.left }; at = c.self.inside.at; rest = c.self.inside.rest.items; tables = c.self.inside.tables } in
-    let follows = subst (Follows log) (sym c.self.view_is) c.requires.follows in
+    let follows = subst (FollowsLog log) (sym c.self.view_is) c.requires.follows in
     let rests = ap (λ (f : Follower). f.progress.left) c.self.view_is ∙ c.requires.rests in
     stays log old c.apply_upto-ended.new.at c.apply_upto-ended.new.tables follows rests
     (omega (arith, c.apply_upto-ended.ensures.on, c.if-self.false, rests_at log old follows rests)) c.apply_upto-ended.ensures.some

@@ -1,14 +1,14 @@
 use Rattle.std.proofs.Common.{rules, ◌≡◌, ap, ◌∙◌}
 use Rattle.rubis_model.specs.Site.{opening_at}
-use Rattle.rubis_replica.specs.Progress.{whole}
-use Rattle.rubis_replica.specs.Setup.{Setup, place_of}
+use Rattle.rubis_replica.specs.Progress.{resting_at}
+use Rattle.rubis_replica.specs.Setup.{Setup, setup_place}
 use Rattle.rubis_replica.specs.State.{SiteState}
 use Rattle.rubis_world.proofs.Beginning.{at_places, fresh_sites, one_more, starts}
 use Rattle.rubis_world.proofs.Moves.{state_of}
 use Rattle.rubis_world.proofs.sites.Sites.new.Goals as goal
 
 abbrev opened : Setup → SiteState
-opened q = record { place = place_of q; state = opening_at q.site; progress = whole 0; batch = q.batch }
+opened q = record { place = setup_place q; state = opening_at q.site; progress = resting_at 0; batch = q.batch }
 
 pub sites-preserved : goal.sites-preserved
 sites-preserved c =
