@@ -81,8 +81,9 @@ impl<R: Read> Records<R> {
         &self.fields
     }
 
-    /// Whether all bytes that the reader gave so far were used up, so that to go on is to wait for it.
-    pub fn is_used_up(&self) -> bool {
+    // Whether all bytes that the reader gave so far were used up, so that to go on is to wait for it. It decides when text is
+    // written, and not which.
+    pub(crate) fn is_used_up(&self) -> bool {
         self.rows.get_ref().is_used_up(self.rows.position().byte())
     }
 }
