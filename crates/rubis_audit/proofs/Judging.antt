@@ -14,13 +14,13 @@ use Rattle.rubis_message.specs.Equal.{Decides-same_message, same_message}
 use Rattle.rubis_message.specs.Message.{IsMessage, Message, sites_of}
 use Rattle.rubis_message.specs.declared.answers.Kind.{Kind}
 use Rattle.rubis_message.specs.declared.answers.Kind.TheVariants as kind
-use Rattle.rubis_generate.specs.Lookup.{rows_of}
+use Rattle.rubis_generate.specs.Lookup.{row_by_key}
 use Rattle.rubis_model.specs.Checks.{Checked, Follows, has_id}
 use Rattle.rubis_model.specs.Log.{core, cores}
 use Rattle.rubis_model.specs.Meaning.{count}
 use Rattle.rubis_model.specs.Order.{Released}
 use Rattle.rubis_model.specs.Settle.{Has, Ready, counted, reds}
-use Rattle.rubis_model.specs.Verdict.{checks, clash, first_of, is_early, is_not_next, last_red, nick_taken, out_of_order, precedes, red_gap, stock_short, wrong_reference, wrong_winner}
+use Rattle.rubis_model.specs.Verdict.{checks, clash, first_of, is_early, is_not_next, last_red, nick_taken, out_of_order, comes_before, red_gap, stock_short, wrong_reference, wrong_winner}
 use Rattle.rubis_model.proofs.CoreLists.{cores_push}
 use Rattle.rubis_model.proofs.Lists.{has_reverse, has_right, push_cases}
 use Rattle.rubis_model.proofs.Settling.{counted_reverse, reds_reverse, reverse_push}
@@ -28,7 +28,7 @@ use Rattle.rubis_laws.proofs.LogsChecked.{checked_end, count_reds, new_here, num
 use Rattle.rubis_release.specs.Release.{IsAmong, clock_of}
 use Rattle.rubis_audit.specs.Contents.{nick_taken_in, stock_short_in, wrong_reference_in, wrong_winner_in}
 use Rattle.rubis_audit.specs.Lookups.{by_message_id, by_red, clash_by_id, taken_by_red}
-use Rattle.rubis_audit.specs.Past.{Known, Shows, checks_by}
+use Rattle.rubis_audit.specs.Past.{IsFaultless, Shows, checks_by}
 use Rattle.rubis_audit.proofs.Finding.{by_id_push, by_red_push}
 use Rattle.rubis_audit.proofs.Fitting.{fits}
 use Rattle.rubis_audit.proofs.Knowing.{clash_is, found_number, gap_is, not_false, or_parts, order_is, within}
@@ -42,17 +42,17 @@ cond_rest false x r s e = e refl
 abbrev content : Bool → Bool → Bool → Bool → Option Kind
 content a b c d = cond a (Some kind.Refers) (cond b (Some kind.Nick) (cond c (Some kind.Stock) (cond d (Some kind.Winner) None)))
 
-pub checks_are : (sites site : ℕ) (t : Tables) (others own : List Message) (v : Message) → Known others own → Shows t (cores own) → IsAmong sites v → IsMessage v
+pub checks_are : (sites site : ℕ) (t : Tables) (others own : List Message) (v : Message) → IsFaultless others own → Shows t (cores own) → IsAmong sites v → IsMessage v
     → first_of (checks others site own v) ≡ first_of (checks_by site (clock_of sites own) (last_red own) t (others ++ own) v)
 checks_are sites site t others own v k s a f =
     (λ i. cond (clash_is others own v k i) (Some kind.Clash) (cond (order_is sites site others own v k a f i) (Some kind.Order) (cond (gap_is others own v k i) (Some kind.RedGap) (rest i))))
   where
     rest : content (wrong_reference own v) (nick_taken (cores own) v.shadow) (stock_short (cores own) v.shadow) (wrong_winner (cores own) v.shadow)
-        ≡ content (wrong_reference_in (rows_of t) v) (nick_taken_in (rows_of t) v.shadow) (stock_short_in (rows_of t) v.shadow) (wrong_winner_in (rows_of t) v.shadow)
+        ≡ content (wrong_reference_in (row_by_key t) v) (nick_taken_in (row_by_key t) v.shadow) (stock_short_in (row_by_key t) v.shadow) (wrong_winner_in (row_by_key t) v.shadow)
     rest =
         cond_rest (wrong_reference own v) (Some kind.Refers) _ _ (λ e i.
         cond (sym (nick_is t (cores own) v.shadow s) i) (Some kind.Nick) (cond (sym (stock_is t (cores own) v.shadow s) i) (Some kind.Stock) (cond (sym (winner_is t own v s e) i) (Some kind.Winner) None)))
-        ∙ ap (λ b. content b (nick_taken_in (rows_of t) v.shadow) (stock_short_in (rows_of t) v.shadow) (wrong_winner_in (rows_of t) v.shadow)) (sym (reference_is t own v s))
+        ∙ ap (λ b. content b (nick_taken_in (row_by_key t) v.shadow) (stock_short_in (row_by_key t) v.shadow) (wrong_winner_in (row_by_key t) v.shadow)) (sym (reference_is t own v s))
 
 -- ---- where none finds a fault
 pub record Faultless (others : List Message) (site : ℕ) (own : List Message) (v : Message) : Type 0 where
@@ -99,7 +99,7 @@ ready others site own v f l = record {
     positive : (n : ℕ) → 0 < n → nat_lt 0 n ≡ true
     positive n p = grind (arith, nat_tests)
 
-pub follows : (others : List Message) (site : ℕ) (own : List Message) (v : Message) → Known others own → IsMessage v → Faultless others site own v → Follows (cores own) (core v)
+pub follows : (others : List Message) (site : ℕ) (own : List Message) (v : Message) → IsFaultless others own → IsMessage v → Faultless others site own v → Follows (cores own) (core v)
 follows others site own v k f l = record {
   new_id = subst (λ xs. new xs) (reverse-reverse own) (new_here (reverse own) v k.released r);
   next_red = number_is v.stamp.red (count is_red (cores own)) (is_red v.shadow) f.colour (λ p. r.number p ∙ ap (λ n. n + 1) same);
@@ -145,8 +145,8 @@ new_red all v one c e = by_red_push v.stamp.red all v ∙ at (by_red v.stamp.red
         let h : by_message_id v.stamp.id all ≡ Some u = ap (λ (j : Id). by_message_id j all) (sym i) ∙ one u f.0 in
         ap Some ((Decides-same_message u v).0 (not_false _ (sym (ap (λ o. option_map_or (λ w. not (same_message w v)) o false) h) ∙ c)))
 
-pub known_push : (others : List Message) (site : ℕ) (own : List Message) (v : Message) → Known others own → IsMessage v → Faultless others site own v
-    → Known others (own ++ v ∷ [])
+pub known_push : (others : List Message) (site : ℕ) (own : List Message) (v : Message) → IsFaultless others own → IsMessage v → Faultless others site own v
+    → IsFaultless others (own ++ v ∷ [])
 known_push others site own v k f l = record {
   formed = λ m h. ⊎_elim (λ a. k.formed m a) (λ e. subst IsMessage (sym e) f) (split m h);
   one_id = λ m h. subst (λ xs. by_message_id m.stamp.id xs ≡ Some m) (append_assoc others own (v ∷ [])) (⊎_elim
@@ -166,7 +166,7 @@ known_push others site own v k f l = record {
     clear = sym (clash_is others own v k) ∙ l.clash
 
     free : 0 < v.stamp.red → taken_by_red (others ++ own) v ≡ false
-    free p = parts (is_red v.shadow) (not (v.stamp.red == reds own + 1)) (taken_by_red (others ++ own) v) (option_map_or (λ u. not (precedes u v)) (last_red own) false) (f.colour ∙ positive v.stamp.red p) (sym (gap_is others own v k) ∙ l.gap)
+    free p = parts (is_red v.shadow) (not (v.stamp.red == reds own + 1)) (taken_by_red (others ++ own) v) (option_map_or (λ u. not (comes_before u v)) (last_red own) false) (f.colour ∙ positive v.stamp.red p) (sym (gap_is others own v k) ∙ l.gap)
       where
         positive : (n : ℕ) → 0 < n → nat_lt 0 n ≡ true
         positive n p = grind (arith, nat_tests)
@@ -175,11 +175,11 @@ known_push others site own v k f l = record {
         parts true x y z e h = (or_parts _ _ (or_parts _ _ h).1).0
         parts false x y z e h = absurd (true≢false (sym e))
 
-pub known_none : Known [] []
+pub known_none : IsFaultless [] []
 known_none = record { formed = λ m h. absurd h; one_id = λ m h. absurd h; one_red = λ m h p. absurd h; released = tt; checked = tt }
 
 -- a whole log is among the earlier ones
-pub known_log : (others own : List Message) → Known others own → Known (others ++ own) []
+pub known_log : (others own : List Message) → IsFaultless others own → IsFaultless (others ++ own) []
 known_log others own k = record {
   formed = λ m h. k.formed m (subst (Has m) (append-nil (others ++ own)) h);
   one_id = λ m h. subst (λ xs. by_message_id m.stamp.id xs ≡ Some m) (sym (append-nil (others ++ own))) (k.one_id m (subst (Has m) (append-nil (others ++ own)) h));

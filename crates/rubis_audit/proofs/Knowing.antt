@@ -16,14 +16,14 @@ use Rattle.rubis_message.specs.Message.{IsMessage, Message, dep, sites_of}
 use Rattle.rubis_model.specs.Order.{Released}
 use Rattle.rubis_model.specs.Settle.{Has, counted, reds}
 use Rattle.rubis_model.specs.Site.{counts}
-use Rattle.rubis_model.specs.Verdict.{at_some_site, clash, clashes, forgets, is_early, is_not_next, last_red, out_of_order, precedes, red_gap, takes_number}
+use Rattle.rubis_model.specs.Verdict.{at_some_site, clash, clashes, forgets, is_early, is_not_next, last_red, out_of_order, comes_before, red_gap, takes_number}
 use Rattle.rubis_model.proofs.Lists.{has_append, has_back, has_left, has_reverse, has_right}
 use Rattle.rubis_model.proofs.Pasts.{found, red_within}
 use Rattle.rubis_model.proofs.Settling.{counted_reverse, reds_reverse}
 use Rattle.rubis_release.specs.Release.{IsAmong}
 use Rattle.rubis_release.proofs.Counting.{counts_at}
 use Rattle.rubis_audit.specs.Lookups.{by_message_id, by_red, clash_by_id, differs_by, early_by, exceeds, forgets_by_id, gap_by, last_of, not_next_by, order_by, taken_by_red}
-use Rattle.rubis_audit.specs.Past.{Known}
+use Rattle.rubis_audit.specs.Past.{IsFaultless}
 use Rattle.rubis_audit.proofs.SiteTests.{same_sites, site_of, some_site}
 
 -- ---- tests over members
@@ -85,7 +85,7 @@ found_number r [] u e = absurd cc
 found_number r (x ∷ xs) u e = red_at r x xs u (r == x.stamp.red) refl (found_number r xs u) e
 
 -- ---- Clash
-pub clash_is : (others own : List Message) (v : Message) → Known others own → clash others own v ≡ clash_by_id (others ++ own) v
+pub clash_is : (others own : List Message) (v : Message) → IsFaultless others own → clash others own v ≡ clash_by_id (others ++ own) v
 clash_is others own v k = same_bool (clash others own v) (clash_by_id (others ++ own) v) there (back (by_message_id v.stamp.id (others ++ own)) refl)
   where
     there : clash others own v ≡ true → clash_by_id (others ++ own) v ≡ true
@@ -111,7 +111,7 @@ in_own own j s r l h =
     let w = found (reverse own) j s r l (let c = counted_reverse j own in omega (arith, c, h)) in
     (w.0, has_reverse w.0 own w.1, w.2, w.3)
 
-pub forgets_is : (others own : List Message) (v : Message) → Known others own → ((j : ℕ) → dep v j ≤ counted j own) → list_any (forgets v) own ≡ forgets_by_id (others ++ own) v
+pub forgets_is : (others own : List Message) (v : Message) → IsFaultless others own → ((j : ℕ) → dep v j ≤ counted j own) → list_any (forgets v) own ≡ forgets_by_id (others ++ own) v
 forgets_is others own v k le = same_bool (list_any (forgets v) own) (forgets_by_id (others ++ own) v) there back
   where
     there : list_any (forgets v) own ≡ true → forgets_by_id (others ++ own) v ≡ true
@@ -167,7 +167,7 @@ within own v f next early j = ⊎_elim here other (cases_eq j v.stamp.id.site)
         (and_from _ _ (apart j v.stamp.id.site n) (above (counted j own) (dep v j) l))) ∙ early)))
         (λ l. l) (cases_lt (counted j own) (dep v j))
 
-pub order_is : (sites site : ℕ) (others own : List Message) (v : Message) → Known others own → IsAmong sites v → IsMessage v
+pub order_is : (sites site : ℕ) (others own : List Message) (v : Message) → IsFaultless others own → IsAmong sites v → IsMessage v
     → out_of_order site own v ≡ order_by site (counts sites own) (others ++ own) v
 order_is sites site others own v k a f = clocked ∙ or_rest _ _ _ (λ n. or_rest _ _ _ (λ e. or_rest _ _ _ (λ d. forgets_is others own v k (le n e))))
   where
@@ -191,7 +191,7 @@ order_is sites site others own v k a f = clocked ∙ or_rest _ _ _ (λ n. or_res
     le n e = within own v f (next ∙ n) (early ∙ e)
 
 -- ---- RedGap
-pub taken_is : (others own : List Message) (v : Message) → Known others own → v.stamp.red ≡ reds own + 1 → list_any (takes_number v) others ≡ taken_by_red (others ++ own) v
+pub taken_is : (others own : List Message) (v : Message) → IsFaultless others own → v.stamp.red ≡ reds own + 1 → list_any (takes_number v) others ≡ taken_by_red (others ++ own) v
 taken_is others own v k next = same_bool (list_any (takes_number v) others) (taken_by_red (others ++ own) v) there (back (by_red v.stamp.red (others ++ own)) refl)
   where
     there : list_any (takes_number v) others ≡ true → taken_by_red (others ++ own) v ≡ true
@@ -210,8 +210,8 @@ taken_is others own v k next = same_bool (list_any (takes_number v) others) (tak
         (λ r. let m = red_within (reverse own) u k.released (has_back u own r) in let n = reds_reverse own in absurd (omega (arith, m, n, f.1, next)))
         (has_append u others own f.0)
 
-pub gap_is : (others own : List Message) (v : Message) → Known others own → red_gap others own v ≡ gap_by (reds own) (last_red own) (others ++ own) v
+pub gap_is : (others own : List Message) (v : Message) → IsFaultless others own → red_gap others own v ≡ gap_by (reds own) (last_red own) (others ++ own) v
 gap_is others own v k =
     ap (λ b. is_red v.shadow && b) (or_rest (not (v.stamp.red == reds own + 1)) _ _ (λ e.
-    ap (λ b. b || option_map_or (λ u. not (precedes u v)) (last_red own) false)
+    ap (λ b. b || option_map_or (λ u. not (comes_before u v)) (last_red own) false)
     (taken_is others own v k ((Decides-eqb v.stamp.red (reds own + 1)).0 (not_false _ e)))))

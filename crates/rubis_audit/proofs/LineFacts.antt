@@ -3,7 +3,7 @@ use Rattle.std.proofs.Common.{ℕ, ◌≡◌, ◌∙◌, List, [], ◌∷◌, Bo
 use Rattle.std.specs.Prelude.{bytes_eq, codes, nat_lt, option_and_then, option_map}
 use Rattle.std.specs.Option.{option_or}
 use Rattle.rubis_schema.specs.FieldForms.{number_of}
-use Rattle.rubis_message.specs.Forms.{Form, after, beside, check, give, made, no_more, take_site, whole}
+use Rattle.rubis_message.specs.Forms.{Form, followed_by, beside, check, give, mapped, no_more, take_site, whole}
 use Rattle.rubis_message.specs.Readings.{packet_of}
 use Rattle.rubis_message.specs.declared.tokens.Packet.{Packet}
 use Rattle.rubis_model.specs.AuditRecords.{Line, claim_of, line_of, next_of, take_begin}
@@ -12,12 +12,12 @@ use Rattle.rubis_audit.specs.Lines.{begin_of, is_row}
 
 -- what `site` is read as, once its tests are known
 abbrev behind : Bool → Form Line → Form Line
-behind b form fields = after (check b fields) (λ _. form)
+behind b form fields = followed_by (check b fields) (λ _. form)
 
 abbrev numbered : ℕ → Option ℕ → List (List ℕ) → Option (Line × List (List ℕ))
-numbered sites o rest = after (after (beside rest o) (λ n. λ more. after (check (nat_lt n sites) more) (λ _. give n))) (λ n. give (Begin n))
+numbered sites o rest = followed_by (followed_by (beside rest o) (λ n. λ more. followed_by (check (nat_lt n sites) more) (λ _. give n))) (λ n. give (Begin n))
 
-nothing_behind : (sites : ℕ) (b : Bool) → no_more (behind b (made Begin (take_site sites)) []) ≡ None
+nothing_behind : (sites : ℕ) (b : Bool) → no_more (behind b (mapped Begin (take_site sites)) []) ≡ None
 unfolding take_site
 nothing_behind sites true = refl
 nothing_behind sites false = refl
@@ -26,7 +26,7 @@ one_behind : (sites : ℕ) (o : Option ℕ) → no_more (numbered sites o []) �
 one_behind sites None = refl
 one_behind sites (Some k) = at (nat_lt k sites)
   where
-    at : (b : Bool) → no_more (after (after (check b []) (λ _. give k)) (λ n. give (Begin n))) ≡ option_map Begin (cond b (Some k) None)
+    at : (b : Bool) → no_more (followed_by (followed_by (check b []) (λ _. give k)) (λ n. give (Begin n))) ≡ option_map Begin (cond b (Some k) None)
     at true = refl
     at false = refl
 
@@ -34,7 +34,7 @@ more_behind : (sites : ℕ) (o : Option ℕ) (more : List ℕ) (rest : List (Lis
 more_behind sites None more rest = refl
 more_behind sites (Some k) more rest = at (nat_lt k sites)
   where
-    at : (b : Bool) → no_more (after (after (check b (more ∷ rest)) (λ _. give k)) (λ n. give (Begin n))) ≡ None
+    at : (b : Bool) → no_more (followed_by (followed_by (check b (more ∷ rest)) (λ _. give k)) (λ n. give (Begin n))) ≡ None
     at true = refl
     at false = refl
 
@@ -44,12 +44,12 @@ begin_is sites [] = refl
 begin_is sites (word ∷ []) = nothing_behind sites (bytes_eq word (codes "site"))
 begin_is sites (word ∷ site ∷ []) = at (bytes_eq word (codes "site"))
   where
-    at : (b : Bool) → no_more (behind b (made Begin (take_site sites)) (site ∷ [])) ≡ option_map Begin (cond b (option_and_then (λ n. cond (nat_lt n sites) (Some n) None) (number_of 255 site)) None)
+    at : (b : Bool) → no_more (behind b (mapped Begin (take_site sites)) (site ∷ [])) ≡ option_map Begin (cond b (option_and_then (λ n. cond (nat_lt n sites) (Some n) None) (number_of 255 site)) None)
     at true = one_behind sites (number_of 255 site)
     at false = refl
 begin_is sites (word ∷ site ∷ more ∷ rest) = at (bytes_eq word (codes "site"))
   where
-    at : (b : Bool) → no_more (behind b (made Begin (take_site sites)) (site ∷ more ∷ rest)) ≡ None
+    at : (b : Bool) → no_more (behind b (mapped Begin (take_site sites)) (site ∷ more ∷ rest)) ≡ None
     at true = more_behind sites (number_of 255 site) more rest
     at false = refl
 

@@ -18,11 +18,11 @@ use Rattle.rubis_shadow.specs.Parts.{refers_of}
 use Rattle.rubis_shadow.specs.declared.shadows.NewItem.{NewItem}
 use Rattle.rubis_shadow.specs.declared.shadows.Shadow.{Shadow}
 use Rattle.rubis_shadow.specs.declared.shadows.Shadow.TheVariants.{User, Item, Bid, Buy, Close, Comment}
-use Rattle.rubis_generate.specs.Lookup.{as_item_row, is_ended, item_in, rows_of}
+use Rattle.rubis_generate.specs.Lookup.{as_item_row, is_ended, item_in, row_by_key}
 use Rattle.rubis_message.specs.Message.{Message, dep}
 use Rattle.rubis_model.specs.Log.{Core, core, cores}
 use Rattle.rubis_model.specs.Meaning.{as_bid, as_item, as_user, at_id, best_bid, best_of, close_of, item_at, item_row, meaning_row, named, nick_at, sale_after, sold_of, supply, total, when}
-use Rattle.rubis_model.specs.Verdict.{is_known, nick_taken, precedes, stock_short, wrong_category, wrong_reference, wrong_winner}
+use Rattle.rubis_model.specs.Verdict.{is_known, nick_taken, comes_before, stock_short, wrong_category, wrong_reference, wrong_winner}
 use Rattle.rubis_audit.specs.Contents.{closed_in, known_in, nick_taken_in, outbid_in, stock_short_in, wrong_category_in, wrong_reference_in, wrong_winner_in}
 use Rattle.rubis_audit.specs.Past.{Shows}
 
@@ -43,7 +43,7 @@ known_head i j v (Some x) rest more true e h =
     ∙ absorbed (nat_le i.seq (dep v i.site)) (is_some rest)
 
 pub known_by : {X : Type 0} (f : Core → Option X) (i : Id) (own : List Message) (v : Message)
-    → list_any (λ u. (same_id i u.stamp.id && is_some (f (core u))) && precedes u v) own ≡ (is_some (at_id f i (cores own)) && nat_le i.seq (dep v i.site))
+    → list_any (λ u. (same_id i u.stamp.id && is_some (f (core u))) && comes_before u v) own ≡ (is_some (at_id f i (cores own)) && nat_le i.seq (dep v i.site))
 known_by f i [] v = refl
 known_by f i (u ∷ own) v =
     known_head i u.stamp.id v (f (core u)) (at_id f i (cores own)) _ (same_id i u.stamp.id) refl (known_by f i own v)
@@ -56,7 +56,7 @@ nothing : (own : List Message) → false ≡ list_any (λ u. false) own
 nothing [] = refl
 nothing (u ∷ own) = nothing own
 
-known_is : (t : Tables) (own : List Message) (v : Message) (k : RowKey) → Shows t (cores own) → known_in (rows_of t) v k ≡ is_known own v k
+known_is : (t : Tables) (own : List Message) (v : Message) (k : RowKey) → Shows t (cores own) → known_in (row_by_key t) v k ≡ is_known own v k
 unfolding meaning_row
 known_is t own v (key.User i) s =
     ap (λ o. is_some o && nat_le i.seq (dep v i.site)) (s.rows (key.User i))
@@ -77,11 +77,11 @@ any_same p q e [] = refl
 any_same p q e (k ∷ ks) = λ i. e k i || any_same p q e ks i
 
 -- the row of an item
-item_is : (t : Tables) (before : List Core) (i : Id) → Shows t before → item_in (rows_of t) i ≡ option_and_then as_item_row (option_map (item_row before i) (item_at i before))
+item_is : (t : Tables) (before : List Core) (i : Id) → Shows t before → item_in (row_by_key t) i ≡ option_and_then as_item_row (option_map (item_row before i) (item_at i before))
 unfolding meaning_row
 item_is t before i s = ap (option_and_then as_item_row) (s.rows (key.Item i))
 
-category_is : (t : Tables) (before : List Core) (x : Shadow) → Shows t before → wrong_category_in (rows_of t) x ≡ wrong_category before x
+category_is : (t : Tables) (before : List Core) (x : Shadow) → Shows t before → wrong_category_in (row_by_key t) x ≡ wrong_category before x
 category_is t before (Close c) s = ap (λ o. option_map_or (λ (i : ItemRow). not (i.cat == c.cat)) o false) (item_is t before c.item s) ∙ at (item_at c.item before)
   where
     at : (o : Option NewItem) → option_map_or (λ (i : ItemRow). not (i.cat == c.cat)) (option_and_then as_item_row (option_map (item_row before c.item) o)) false ≡ option_map_or (λ (n : NewItem). not (n.cat == c.cat)) o false
@@ -93,12 +93,12 @@ category_is t before (Bid n) s = refl
 category_is t before (Buy n) s = refl
 category_is t before (Comment n) s = refl
 
-pub reference_is : (t : Tables) (own : List Message) (v : Message) → Shows t (cores own) → wrong_reference_in (rows_of t) v ≡ wrong_reference own v
+pub reference_is : (t : Tables) (own : List Message) (v : Message) → Shows t (cores own) → wrong_reference_in (row_by_key t) v ≡ wrong_reference own v
 reference_is t own v s =
-    λ i. any_same (λ k. not (known_in (rows_of t) v k)) (λ k. not (is_known own v k)) (λ k j. not (known_is t own v k s j)) (refers_of v.shadow) i
+    λ i. any_same (λ k. not (known_in (row_by_key t) v k)) (λ k. not (is_known own v k)) (λ k j. not (known_is t own v k s j)) (refers_of v.shadow) i
     || category_is t (cores own) v.shadow s i
 
-pub nick_is : (t : Tables) (before : List Core) (x : Shadow) → Shows t before → nick_taken_in (rows_of t) x ≡ nick_taken before x
+pub nick_is : (t : Tables) (before : List Core) (x : Shadow) → Shows t before → nick_taken_in (row_by_key t) x ≡ nick_taken before x
 unfolding meaning_row
 nick_is t before (User n) s = ap is_some (s.rows (key.Nick n)) ∙ some_map _ (named n before)
 nick_is t before (Item n) s = refl
@@ -110,7 +110,7 @@ nick_is t before (Comment n) s = refl
 short_is : (n t q : ℕ) → t ≤ n → nat_lt (n - t) q ≡ nat_lt n (t + q)
 short_is n t q h = grind (arith, nat_tests)
 
-pub stock_is : (t : Tables) (before : List Core) (x : Shadow) → Shows t before → stock_short_in (rows_of t) x ≡ stock_short before x
+pub stock_is : (t : Tables) (before : List Core) (x : Shadow) → Shows t before → stock_short_in (row_by_key t) x ≡ stock_short before x
 stock_is t before (Buy p) s = ap (λ o. option_map_or (λ (i : ItemRow). nat_lt i.stock p.quantity) o false) (item_is t before p.item s) ∙ at (item_at p.item before) (s.holds.stock p.item)
   where
     at : (o : Option NewItem) → IfSome o (λ n. total (sold_of p.item) before ≤ supply before p.item n)
@@ -136,7 +136,7 @@ best_is : (o : Option Core) → option_map (λ (b : Best). b.bid) (option_map be
 best_is None = refl
 best_is (Some m) = refl
 
-closed_is : (t : Tables) (before : List Core) (i : Id) → Shows t before → IsSome (item_at i before) → closed_in (rows_of t) i ≡ is_some (close_of i before)
+closed_is : (t : Tables) (before : List Core) (i : Id) → Shows t before → IsSome (item_at i before) → closed_in (row_by_key t) i ≡ is_some (close_of i before)
 closed_is t before i s h = ap (λ o. option_map_or (λ (r : ItemRow). is_ended r.sale) o false) (item_is t before i s) ∙ at (item_at i before) h
   where
     at : (o : Option NewItem) → IsSome o → option_map_or (λ (r : ItemRow). is_ended r.sale) (option_and_then as_item_row (option_map (item_row before i) o)) false ≡ is_some (close_of i before)
@@ -144,7 +144,7 @@ closed_is t before i s h = ap (λ o. option_map_or (λ (r : ItemRow). is_ended r
     at (Some n) h = over_is before i n
 
 outbid_is : (t : Tables) (before : List Core) (i : Id) (w : Option Id) → Shows t before → IsSome (item_at i before)
-    → outbid_in (rows_of t) i w ≡ not (option_eq same_id w (option_map (λ (m : Core). m.id) (best_bid i before)))
+    → outbid_in (row_by_key t) i w ≡ not (option_eq same_id w (option_map (λ (m : Core). m.id) (best_bid i before)))
 outbid_is t before i w s h =
     ap (λ o. option_map_or (λ (r : ItemRow). not (option_eq same_id w (option_map (λ (b : Best). b.bid) r.best))) o false) (item_is t before i s) ∙ at (item_at i before) h
   where
@@ -162,7 +162,7 @@ item_named own v i rest more e =
     first false b c e = sym e
 
 winner_by : (t : Tables) (own : List Message) (v : Message) (x : Shadow) → Shows t (cores own) → (list_any (λ k. not (is_known own v k)) (refers_of x) || wrong_category (cores own) x) ≡ false
-    → wrong_winner_in (rows_of t) x ≡ wrong_winner (cores own) x
+    → wrong_winner_in (row_by_key t) x ≡ wrong_winner (cores own) x
 winner_by t own v (User n) s e = refl
 winner_by t own v (Item n) s e = refl
 winner_by t own v (Bid b) s e = closed_is t (cores own) b.item s (item_named own v b.item _ _ e)
@@ -173,5 +173,5 @@ winner_by t own v (Close c) s e =
 winner_by t own v (Comment c) s e = refl
 
 pub winner_is : (t : Tables) (own : List Message) (v : Message) → Shows t (cores own) → wrong_reference own v ≡ false
-    → wrong_winner_in (rows_of t) v.shadow ≡ wrong_winner (cores own) v.shadow
+    → wrong_winner_in (row_by_key t) v.shadow ≡ wrong_winner (cores own) v.shadow
 winner_is t own v s e = winner_by t own v v.shadow s e

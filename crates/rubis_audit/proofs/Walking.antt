@@ -9,7 +9,7 @@ use Rattle.std.proofs.lemmas.Option.{get_or_from_slice_get}
 use Rattle.rubis_schema.specs.Ids.{IsId}
 use Rattle.rubis_schema.specs.declared.listings.Listing.TheVariants as listing
 use Rattle.rubis_shadow.specs.Shadows.{is_red}
-use Rattle.rubis_clock.specs.Clocks.{Counted, IsReady, advanced, opening_clock}
+use Rattle.rubis_clock.specs.Clocks.{MessageCounts, IsReady, advanced, opening_clock}
 use Rattle.rubis_message.specs.Message.{IsMessage, Message, sites_of}
 use Rattle.rubis_message.specs.declared.answers.Kind.{Kind}
 use Rattle.rubis_message.specs.declared.answers.Kind.TheVariants as kind
@@ -31,7 +31,7 @@ use Rattle.rubis_shard.specs.States.{ShardState}
 use Rattle.rubis_shard.proofs.Unions.{union_of_log}
 use Rattle.rubis_release.specs.Release.{IsAmong, clock_of}
 use Rattle.rubis_release.proofs.Counting.{clock_more, counts_at, length_counts, ready_by_clock}
-use Rattle.rubis_audit.specs.Past.{Known, Remembers, Shows, checks_by}
+use Rattle.rubis_audit.specs.Past.{IsFaultless, Remembers, Shows, checks_by}
 use Rattle.rubis_audit.specs.Seen.{Sees}
 use Rattle.rubis_audit.specs.Walks.{HaveMessagesAmong, IsWalked, Walked, messages_of_logs}
 use Rattle.rubis_audit.specs.declared.seen.Seen.{Seen}
@@ -39,10 +39,10 @@ use Rattle.rubis_audit.proofs.Judging.{checks_are, faultless, known_log, known_n
 
 -- ---- what stands before an entry
 
-short : (others own : List Message) → Known others own → length own ≤ 16 * 1000000
+short : (others own : List Message) → IsFaultless others own → length own ≤ 16 * 1000000
 short others own k = log_small own k.released (λ v h. k.formed v (has_right v others own (has_reverse v own h)))
 
-pub shows_of : (others own : List Message) (shards : List ShardState) → Known others own → HoldsLog 1 (cores own) shards → Shows (union shards) (cores own)
+pub shows_of : (others own : List Message) (shards : List ShardState) → IsFaultless others own → HoldsLog 1 (cores own) shards → Shows (union shards) (cores own)
 shows_of others own shards k h =
     let few = short others own k in
     let same = cores_length own in
@@ -53,7 +53,7 @@ shows_of others own shards k h =
     }
 
 -- the checks by look-ups are those of the definition
-pub fault_is : (sites site : ℕ) (seen : Seen) (clock : Counted) (last : Option Message) (shards : List ShardState) (others own : List Message) (v : Message)
+pub fault_is : (sites site : ℕ) (seen : Seen) (clock : MessageCounts) (last : Option Message) (shards : List ShardState) (others own : List Message) (v : Message)
     → Remembers sites seen clock last shards others own → IsAmong sites v → IsMessage v
     → first_of (checks_by site clock last (union shards) (others ++ own) v) ≡ first_of (checks others site own v)
 fault_is sites site seen clock last shards others own v s a f =
@@ -68,7 +68,7 @@ ready_forth own v r = record {
   number = λ p. r.number p ∙ ap (λ n. n + 1) (reds_reverse own);
 }
 
-pub ready_now : (sites site : ℕ) (seen : Seen) (clock : Counted) (last : Option Message) (shards : List ShardState) (others own : List Message) (v : Message)
+pub ready_now : (sites site : ℕ) (seen : Seen) (clock : MessageCounts) (last : Option Message) (shards : List ShardState) (others own : List Message) (v : Message)
     → Remembers sites seen clock last shards others own → IsAmong sites v → IsMessage v → first_of (checks others site own v) ≡ None → IsReady clock v.stamp
 ready_now sites site seen clock last shards others own v s a f e =
     subst (λ k. IsReady k v.stamp) (sym s.clock_is) (ready_by_clock sites own v a (ready_forth own v (ready others site own v f (faultless others site own v e))))
@@ -76,7 +76,7 @@ ready_now sites site seen clock last shards others own v s a f e =
 last_push : (own : List Message) (v : Message) → last_red (own ++ v ∷ []) ≡ cond (is_red v.shadow) (Some v) (last_red own)
 last_push own v = ap (find (λ u. is_red u.shadow)) (reverse_push own v)
 
-stands_push : (sites site : ℕ) (seen after : Seen) (clock clock2 : Counted) (last last2 : Option Message) (shards shards2 : List ShardState) (others own : List Message) (v : Message)
+stands_push : (sites site : ℕ) (seen after : Seen) (clock clock2 : MessageCounts) (last last2 : Option Message) (shards shards2 : List ShardState) (others own : List Message) (v : Message)
     → Remembers sites seen clock last shards others own → IsAmong sites v → IsMessage v → first_of (checks others site own v) ≡ None
     → ((all : List Message) → Sees seen all → Sees after (all ++ v ∷ [])) → clock2 ≡ advanced clock v.stamp → last2 ≡ cond (is_red v.shadow) (Some v) last
     → TakesOn (core v) (length own + 1) shards shards2
@@ -97,12 +97,12 @@ opening_counts sites = λ i. record { counts = same i; red = 0 }
         (λ j l. let k : j < sites = (let e = length-replicate {A = ℕ} sites 0 in omega (arith, e, l)) in get_or-replicate {A = ℕ} sites j 0 0 k ∙ sym (counts_at sites [] j k))
 
 -- ---- over one log
-pub record Walks (sites : ℕ) (seen : Seen) (clock : Counted) (last : Option Message) (shards : List ShardState) (others : List Message) (log : Log) (n : ℕ) : Type 0 where
+pub record Walks (sites : ℕ) (seen : Seen) (clock : MessageCounts) (last : Option Message) (shards : List ShardState) (others : List Message) (log : Log) (n : ℕ) : Type 0 where
   pub stands : Remembers sites seen clock last shards others (take n log.messages)
   pub rest : first_fault others log.site [] log.messages ≡ first_fault others log.site (take n log.messages) (drop n log.messages)
 
-pub walks_none : (sites : ℕ) (seen : Seen) (clock : Counted) (last : Option Message) (shards : List ShardState) (others : List Message) (log : Log)
-    → Known others [] → Sees seen others → clock ≡ opening_clock sites → last ≡ None → HoldsLog 1 [] shards → Walks sites seen clock last shards others log 0
+pub walks_none : (sites : ℕ) (seen : Seen) (clock : MessageCounts) (last : Option Message) (shards : List ShardState) (others : List Message) (log : Log)
+    → IsFaultless others [] → Sees seen others → clock ≡ opening_clock sites → last ≡ None → HoldsLog 1 [] shards → Walks sites seen clock last shards others log 0
 walks_none sites seen clock last shards others log k s c l h = record {
   stands = record { known = k; sees = subst (Sees seen) (sym (append-nil others)) s; clock_is = c ∙ opening_counts sites; last_is = l; holds = h };
   rest = refl;
@@ -123,7 +123,7 @@ step_is others log n v o l e f =
     ap (first_fault others log.site (take n log.messages)) (drop_next log.messages n v l e)
     ∙ (λ i. option_or (option_map (λ k. (k, length-take-le n log.messages (omega arith) i + 1)) (f i)) (first_fault others log.site (sym (take_next log.messages n v l e) i) (drop (n + 1) log.messages)))
 
-pub walks_more : (sites : ℕ) (seen after : Seen) (clock clock2 : Counted) (last last2 : Option Message) (shards shards2 : List ShardState) (others : List Message) (log : Log) (n : ℕ) (v : Message)
+pub walks_more : (sites : ℕ) (seen after : Seen) (clock clock2 : MessageCounts) (last last2 : Option Message) (shards shards2 : List ShardState) (others : List Message) (log : Log) (n : ℕ) (v : Message)
     → n < length log.messages → v ≡ get_or log.messages n v → Walks sites seen clock last shards others log n → IsAmong sites v → IsMessage v
     → first_of (checks others log.site (take n log.messages) v) ≡ None
     → ((all : List Message) → Sees seen all → Sees after (all ++ v ∷ [])) → clock2 ≡ advanced clock v.stamp → last2 ≡ cond (is_red v.shadow) (Some v) last
@@ -184,7 +184,7 @@ over_done seen k logs l o = sym (o.rest ∙ ap (verdict_from (k + 1) (messages_o
 same_log : (logs : List Log) (at : ℕ) (log other : Log) → at < length logs → log ≡ get_or logs at log → slice_get logs at ≡ Some other → log ≡ other
 same_log logs at log other l e f = e ∙ get_or_from_slice_get logs at other log f
 
-pub walked_found : (sites : ℕ) (seen after : Seen) (clock : Counted) (last : Option Message) (shards : List ShardState) (logs : List Log) (at : ℕ) (log : Log) (n : ℕ) (v : Message) (k : Kind)
+pub walked_found : (sites : ℕ) (seen after : Seen) (clock : MessageCounts) (last : Option Message) (shards : List ShardState) (logs : List Log) (at : ℕ) (log : Log) (n : ℕ) (v : Message) (k : Kind)
     → at < length logs → log ≡ get_or logs at log → Walks sites seen clock last shards (messages_of_logs (take at logs)) log n → n < length log.messages → v ≡ get_or log.messages n v
     → first_of (checks (messages_of_logs (take at logs)) log.site (take n log.messages) v) ≡ Some k → IsWalked after logs at (Some (k, n + 1))
 walked_found sites seen after clock last shards logs at log n v k l e w m i f other g = (
@@ -196,14 +196,14 @@ walked_found sites seen after clock last shards logs at log n v k l e w m i f ot
 rows_are : (others own : List Message) (shards : List ShardState) → HoldsLog 1 (cores own) shards → table_rows listing.Tables (union shards) ≡ shown_rows own
 rows_are others own shards h = ap (table_rows listing.Tables) (union_of_log 1 (cores own) shards (omega arith) h)
 
-pub walked_end : (sites : ℕ) (after : Seen) (clock : Counted) (last : Option Message) (shards : List ShardState) (logs : List Log) (at : ℕ) (log : Log) (n : ℕ) (wrong : Bool)
+pub walked_end : (sites : ℕ) (after : Seen) (clock : MessageCounts) (last : Option Message) (shards : List ShardState) (logs : List Log) (at : ℕ) (log : Log) (n : ℕ) (wrong : Bool)
     → at < length logs → log ≡ get_or logs at log → Walks sites after clock last shards (messages_of_logs (take at logs)) log n → length log.messages ≤ n
     → wrong ≡ option_map_or (λ rows. not (same_rows rows (table_rows listing.Tables (union shards)))) log.rows false
     → IsWalked after logs at (cond wrong (Some (kind.Rows, 0)) None)
 walked_end sites after clock last shards logs at log n wrong l e w m r other g = (
   subst (λ x. cond wrong (Some (kind.Rows, 0)) None ≡ log_fault (messages_of_logs (take at logs)) x) same (sym (ap (λ o. option_or o (cond (wrong_rows log) (Some (kind.Rows, 0)) None)) none ∙ ap (λ b. cond b (Some (kind.Rows, 0)) None) (sym rows))),
   λ q. record {
-    known = subst (λ xs. Known xs []) (sym said_more) (known_log (messages_of_logs (take at logs)) log.messages (subst (Known (messages_of_logs (take at logs))) whole w.stands.known));
+    known = subst (λ xs. IsFaultless xs []) (sym said_more) (known_log (messages_of_logs (take at logs)) log.messages (subst (IsFaultless (messages_of_logs (take at logs))) whole w.stands.known));
     sees = subst (Sees after) (sym said_more) (subst (λ xs. Sees after (messages_of_logs (take at logs) ++ xs)) whole w.stands.sees);
   },
 )
@@ -234,12 +234,12 @@ pub sites_at : (sites : ℕ) (logs : List Log) (at : ℕ) (log : Log) (n : ℕ) 
     → n < length log.messages → v ≡ get_or log.messages n v → sites_of v ≡ sites
 sites_at sites logs at log n v all l e m i = all log (contained logs log (at, l, sym e)) v (contained log.messages v (n, m, sym i))
 
-pub counts_of : (sites : ℕ) (seen : Seen) (clock : Counted) (last : Option Message) (shards : List ShardState) (others : List Message) (log : Log) (n : ℕ)
+pub counts_of : (sites : ℕ) (seen : Seen) (clock : MessageCounts) (last : Option Message) (shards : List ShardState) (others : List Message) (log : Log) (n : ℕ)
     → Walks sites seen clock last shards others log n → length clock.counts ≡ sites
-counts_of sites seen clock last shards others log n w = ap (λ (k : Counted). length k.counts) w.stands.clock_is ∙ length_counts sites (take n log.messages)
+counts_of sites seen clock last shards others log n w = ap (λ (k : MessageCounts). length k.counts) w.stands.clock_is ∙ length_counts sites (take n log.messages)
 
 -- what was found by look-ups is what the checks find
-pub found_is : (sites : ℕ) (seen : Seen) (clock : Counted) (last : Option Message) (shards : List ShardState) (others : List Message) (log : Log) (n : ℕ) (v : Message) (o : Option Kind)
+pub found_is : (sites : ℕ) (seen : Seen) (clock : MessageCounts) (last : Option Message) (shards : List ShardState) (others : List Message) (log : Log) (n : ℕ) (v : Message) (o : Option Kind)
     → Walks sites seen clock last shards others log n → IsAmong sites v → IsMessage v
     → ((all : List Message) → Sees seen all → o ≡ first_of (checks_by log.site clock last (union shards) all v))
     → first_of (checks others log.site (take n log.messages) v) ≡ o
@@ -247,13 +247,13 @@ found_is sites seen clock last shards others log n v o w a f found =
     sym (found (others ++ take n log.messages) w.stands.sees ∙ fault_is sites log.site seen clock last shards others (take n log.messages) v w.stands a f)
 
 -- the number of an entry has room
-pub few_entries : (sites : ℕ) (seen : Seen) (clock : Counted) (last : Option Message) (shards : List ShardState) (others : List Message) (log : Log) (n : ℕ)
+pub few_entries : (sites : ℕ) (seen : Seen) (clock : MessageCounts) (last : Option Message) (shards : List ShardState) (others : List Message) (log : Log) (n : ℕ)
     → n < length log.messages → Walks sites seen clock last shards others log n → n + 1 < 2 ^ 32
 few_entries sites seen clock last shards others log n m w =
     let few = short others (take n log.messages) w.stands.known in
     let size = length-take-le n log.messages (omega arith) in
     omega (arith, few, size)
 
-pub ready_at : (sites : ℕ) (seen : Seen) (clock : Counted) (last : Option Message) (shards : List ShardState) (others : List Message) (log : Log) (n : ℕ) (v : Message)
+pub ready_at : (sites : ℕ) (seen : Seen) (clock : MessageCounts) (last : Option Message) (shards : List ShardState) (others : List Message) (log : Log) (n : ℕ) (v : Message)
     → Walks sites seen clock last shards others log n → IsAmong sites v → IsMessage v → first_of (checks others log.site (take n log.messages) v) ≡ None → IsReady clock v.stamp
 ready_at sites seen clock last shards others log n v w a f e = ready_now sites log.site seen clock last shards others (take n log.messages) v w.stands a f e

@@ -6,7 +6,7 @@ use Rattle.rubis_schema.specs.declared.ids.Id.{Id}
 use Rattle.rubis_shadow.specs.Shadows.{is_red}
 use Rattle.rubis_message.specs.Equal.{same_message}
 use Rattle.rubis_message.specs.Message.{Message, dep}
-use Rattle.rubis_model.specs.Verdict.{at_some_site, precedes}
+use Rattle.rubis_model.specs.Verdict.{at_some_site, comes_before}
 
 -- the first message with that id
 abbrev pub by_message_id : Id → List Message → Option Message
@@ -54,4 +54,4 @@ order_by site counts all v =
 
 abbrev pub gap_by : ℕ → Option Message → List Message → Message → Bool
 gap_by reds last all v =
-    is_red v.shadow && (not (v.stamp.red == reds + 1) || (taken_by_red all v || option_map_or (λ u. not (precedes u v)) last false))
+    is_red v.shadow && (not (v.stamp.red == reds + 1) || (taken_by_red all v || option_map_or (λ u. not (comes_before u v)) last false))

@@ -6,7 +6,7 @@ use Rattle.rubis_message.specs.declared.answers.Kind.{Kind}
 use Rattle.rubis_model.specs.Logs.{Log}
 use Rattle.rubis_model.specs.Settle.{Has}
 use Rattle.rubis_model.specs.Verdict.{log_fault}
-use Rattle.rubis_audit.specs.Past.{Known}
+use Rattle.rubis_audit.specs.Past.{IsFaultless}
 use Rattle.rubis_audit.specs.Seen.{Sees}
 use Rattle.rubis_audit.specs.declared.seen.Seen.{Seen}
 
@@ -20,7 +20,7 @@ HaveMessagesAmong sites logs = (log : Log) → Has log logs → (m : Message) �
 
 -- no fault was found in these logs, and their messages are found by look-ups
 pub record Walked (seen : Seen) (logs : List Log) : Type 0 where
-  pub known : Known (messages_of_logs logs) []
+  pub known : IsFaultless (messages_of_logs logs) []
   pub sees : Sees seen (messages_of_logs logs)
 
 -- what was found in the log at that place; where it was nothing, the logs up to it are walked over

@@ -2,7 +2,7 @@
 
 ghost use Rattle.std.specs.Prelude.{◌≡◌, nat_le, option_copied};
 ghost use Rattle.rubis_message.specs.Message.{dep};
-ghost use Rattle.rubis_generate.specs.Lookup.{is_ended, item_in, rows_of};
+ghost use Rattle.rubis_generate.specs.Lookup.{is_ended, item_in, row_by_key};
 ghost use Rattle.rubis_audit.specs.Contents.{closed_in, known_in, nick_taken_in, outbid_in, stock_short_in, wrong_category_in, wrong_reference_in, wrong_winner_in};
 
 use rubis_message::Message;
@@ -21,7 +21,7 @@ fn is_counted(id: Id, v: &Message) -> bool
 
 // Whether what made the row at that key precedes `v`.
 fn is_known<V: View>(view: &V, v: &Message, key: &RowKey) -> bool
-    ensures { result ≡ known_in (rows_of (V.tables view.now)) v.now key.now }
+    ensures { result ≡ known_in (row_by_key (V.tables view.now)) v.now key.now }
 {
     match key {
         RowKey::User(id) | RowKey::Item(id) | RowKey::Bid(id) => {
@@ -33,7 +33,7 @@ fn is_known<V: View>(view: &V, v: &Message, key: &RowKey) -> bool
 
 // The item's row.
 fn item_row<V: View>(view: &V, item: Id) -> Option<&ItemRow>
-    ensures { option_copied result ≡ item_in (rows_of (V.tables view.now)) item }
+    ensures { option_copied result ≡ item_in (row_by_key (V.tables view.now)) item }
 {
     match view.row(&RowKey::Item(item)) {
         Some(Row::Item(row)) => Some(row),
@@ -43,7 +43,7 @@ fn item_row<V: View>(view: &V, item: Id) -> Option<&ItemRow>
 
 // Whether it is a close in another category than its item's.
 fn wrong_category<V: View>(view: &V, shadow: &Shadow) -> bool
-    ensures { result ≡ wrong_category_in (rows_of (V.tables view.now)) shadow.now }
+    ensures { result ≡ wrong_category_in (row_by_key (V.tables view.now)) shadow.now }
 {
     match shadow {
         Shadow::Close(close) => match item_row(view, close.item) {
@@ -56,14 +56,14 @@ fn wrong_category<V: View>(view: &V, shadow: &Shadow) -> bool
 
 /// Whether what `v` names isn't there or doesn't precede it, or its category is wrong.
 pub fn wrong_reference<V: View>(view: &V, v: &Message) -> bool
-    ensures { result ≡ wrong_reference_in (rows_of (V.tables view.now)) v.now }
+    ensures { result ≡ wrong_reference_in (row_by_key (V.tables view.now)) v.now }
 {
     v.shadow().refers().any(|key| !is_known(view, v, &key)) || wrong_category(view, v.shadow())
 }
 
 /// Whether the nickname has a user.
 pub fn nick_taken<V: View>(view: &V, shadow: &Shadow) -> bool
-    ensures { result ≡ nick_taken_in (rows_of (V.tables view.now)) shadow.now }
+    ensures { result ≡ nick_taken_in (row_by_key (V.tables view.now)) shadow.now }
 {
     match shadow {
         Shadow::User(nick) => view.row(&RowKey::Nick(*nick)).is_some(),
@@ -73,7 +73,7 @@ pub fn nick_taken<V: View>(view: &V, shadow: &Shadow) -> bool
 
 /// Whether more is bought than there is.
 pub fn stock_short<V: View>(view: &V, shadow: &Shadow) -> bool
-    ensures { result ≡ stock_short_in (rows_of (V.tables view.now)) shadow.now }
+    ensures { result ≡ stock_short_in (row_by_key (V.tables view.now)) shadow.now }
 {
     match shadow {
         Shadow::Buy(purchase) => match item_row(view, purchase.item) {
@@ -96,7 +96,7 @@ fn is_over(sale: &Sale) -> bool
 
 // Whether the item's sale is over.
 fn is_closed<V: View>(view: &V, item: Id) -> bool
-    ensures { result ≡ closed_in (rows_of (V.tables view.now)) item }
+    ensures { result ≡ closed_in (row_by_key (V.tables view.now)) item }
 {
     match item_row(view, item) {
         Some(row) => is_over(&row.sale),
@@ -106,7 +106,7 @@ fn is_closed<V: View>(view: &V, item: Id) -> bool
 
 // Whether the item's highest bid is another one.
 fn is_outbid<V: View>(view: &V, item: Id, winner: Option<Id>) -> bool
-    ensures { result ≡ outbid_in (rows_of (V.tables view.now)) item winner }
+    ensures { result ≡ outbid_in (row_by_key (V.tables view.now)) item winner }
 {
     match item_row(view, item) {
         Some(row) => winner != row.best.map(|best| best.bid),
@@ -117,7 +117,7 @@ fn is_outbid<V: View>(view: &V, item: Id, winner: Option<Id>) -> bool
 /// Whether the item of a bid, a buy or a close is closed, or a close names another than the item's highest bid. What is
 /// named is there.
 pub fn wrong_winner<V: View>(view: &V, shadow: &Shadow) -> bool
-    ensures { result ≡ wrong_winner_in (rows_of (V.tables view.now)) shadow.now }
+    ensures { result ≡ wrong_winner_in (row_by_key (V.tables view.now)) shadow.now }
 {
     match shadow {
         Shadow::Bid(bid) => is_closed(view, bid.item),

@@ -4,7 +4,7 @@ ghost use Rattle.std.specs.Prelude.{◌≡◌, ◌≤◌, ◌<◌, List, length,
 ghost use Rattle.rubis_shadow.specs.Shadows.{is_red};
 ghost use Rattle.rubis_message.specs.Message as model;
 ghost use Rattle.rubis_message.specs.Message.{sites_of};
-ghost use Rattle.rubis_model.specs.Verdict.{precedes};
+ghost use Rattle.rubis_model.specs.Verdict.{comes_before};
 ghost use Rattle.rubis_audit.specs.Lookups.{clash_by_id, differs_by, early_by, exceeds, forgets_by_id, gap_by, order_by, taken_by_red};
 ghost use Rattle.rubis_audit.specs.Seen.{Sees};
 
@@ -100,7 +100,7 @@ pub fn out_of_order(site: u8, seen: &Seen, clock: &Clock, v: &Message) -> bool
 
 // Whether the origin of `v` had released `u` when it made `v`.
 fn precedes(u: &Message, v: &Message) -> bool
-    ensures { result ≡ precedes u.now v.now }
+    ensures { result ≡ comes_before u.now v.now }
 {
     rubis_clock::precedes(u.stamp(), v.stamp())
 }

@@ -8,18 +8,18 @@ use Rattle.crossbeam_queue.specs.Fifo.{Forks, Merges}
 use Rattle.rubis_pieces.specs.declared.pieces.Piece.{Piece}
 use Rattle.rubis_board.specs.declared.rule.PassView.{PassView}
 use Rattle.rubis_board.specs.declared.rule.Item.{Item}
-use Rattle.rubis_board.specs.Rule.{spent, content, marks_in, total, all_taken, Fits, Ruled, one_part_less, new_part, both}
+use Rattle.rubis_board.specs.Rule.{spent, content, marks_in, sum_over, all_taken, AgreesWith, Ruled, split_view, new_view, both}
 use Rattle.rubis_board.proofs.Views.{swapped, without, total_at, taken_at, set_apart, at_apart, total_set, taken_set, total_snoc, taken_snoc, each_without, each_snoc, each_put}
 use Rattle.rubis_board.proofs.Passing.{parts_of, marks_of, fits_fresh, fits_spent, Here, own, theirs, taken_by_all, marks_more, taken_now}
 
 split_after : (items : List Item) (views : List PassView) (place : ℕ) (v : PassView) → 1 < v.parts → Here items views place v
-    → Ruled items (set views place (one_part_less v) ++ new_part v ∷ [])
+    → Ruled items (set views place (split_view v) ++ new_view v ∷ [])
 split_after items views place v two_parts here =
-    let w : PassView = one_part_less v in
-    let r : PassView = new_part v in
+    let w : PassView = split_view v in
+    let r : PassView = new_view v in
     let now : List PassView = set views place w in
     let ruled = here.ruled in
-    let F : PassView → Type 0 = Fits ruled.posted (content items) in
+    let F : PassView → Type 0 = AgreesWith ruled.posted (content items) in
     let same : v.posted ≡ ruled.posted = (own here).common (omega arith) in
     record {
       posted = ruled.posted;
@@ -45,7 +45,7 @@ split_after items views place v two_parts here =
           omega arith);
     }
 
-pub forks : (place : ℕ) (v : PassView) → 1 < v.parts → Forks Ruled place v (one_part_less v) (new_part v)
+pub forks : (place : ℕ) (v : PassView) → 1 < v.parts → Forks Ruled place v (split_view v) (new_view v)
 forks place v two_parts items views ruled at = split_after items views place v two_parts (record { ruled = ruled; at = at })
 
 either_seen : (a b : Bool) (A : Type 0) → (a ≡ true → A) → (b ≡ true → A) → (a || b) ≡ true → A
@@ -82,7 +82,7 @@ module _ (items : List Item) (views : List PassView) (ruled : Ruled items views)
       (subst (λ l. IsPermutation l (all_taken (set one place (both v u)))) (append_assoc v.taken u.taken rest) to_both)))
 
   -- a number of which a spent pass has none, and the joined one the sum
-  sum_kept : (f : PassView → ℕ) → f spent ≡ 0 → f (both v u) ≡ f v + f u → total f (set one place (both v u)) ≡ total f views
+  sum_kept : (f : PassView → ℕ) → f spent ≡ 0 → f (both v u) ≡ f v + f u → sum_over f (set one place (both v u)) ≡ sum_over f views
   sum_kept f none sum =
       let a = total_at f views other u there in
       let b = total_set f views other u spent there in
@@ -92,7 +92,7 @@ module _ (items : List Item) (views : List PassView) (ruled : Ruled items views)
 
   join_after : 0 < v.parts → 0 < u.parts → Ruled items (set one place (both v u))
   join_after some_part their_part =
-      let F : PassView → Type 0 = Fits ruled.posted (content items) in
+      let F : PassView → Type 0 = AgreesWith ruled.posted (content items) in
       record {
         posted = ruled.posted;
         before = ruled.before;

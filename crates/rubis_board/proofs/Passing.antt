@@ -7,7 +7,7 @@ use Rattle.std.proofs.lemmas.List.Sorted.{IsPermutation-refl, IsPermutation-tran
 use Rattle.rubis_pieces.specs.declared.pieces.Piece.{Piece}
 use Rattle.rubis_board.specs.declared.rule.PassView.{PassView}
 use Rattle.rubis_board.specs.declared.rule.Item.{Item}
-use Rattle.rubis_board.specs.Rule.{first_view, spent, content, marks_in, total, all_taken, Each, Fits, Ruled}
+use Rattle.rubis_board.specs.Rule.{first_view, spent, content, marks_in, sum_over, all_taken, Each, AgreesWith, Ruled}
 use Rattle.rubis_board.proofs.Views.{without, total_at, taken_at, total_set, taken_set, each_at, each_without, AreSpent, none_left}
 
 abbrev pub parts_of : PassView → ℕ
@@ -18,7 +18,7 @@ marks_of v = v.marks
 
 -- it has a part, has not seen None, and knows what was posted
 pub fits_fresh : (posted rest : List Piece) (v : PassView) → 0 < v.parts → v.posted ≡ posted → v.seen_none ≡ false
-    → Fits posted rest v
+    → AgreesWith posted rest v
 fits_fresh posted rest v some_part same unseen =
     record {
       idle = λ none. absurd (omega arith);
@@ -26,7 +26,7 @@ fits_fresh posted rest v some_part same unseen =
       empty = λ seen. absurd (true≢false (sym seen ∙ unseen));
     }
 
-pub fits_spent : (posted rest : List Piece) (v : PassView) → v ≡ spent → Fits posted rest v
+pub fits_spent : (posted rest : List Piece) (v : PassView) → v ≡ spent → AgreesWith posted rest v
 fits_spent posted rest v is =
     record {
       idle = λ _. is;
@@ -53,11 +53,11 @@ pub record Here (items : List Item) (views : List PassView) (place : ℕ) (v : P
   pub at : get_elem? views place ≡ some v
 
 module _ {items : List Item} {views : List PassView} {place : ℕ} {v : PassView} (here : Here items views place v) where
-  pub own : Fits here.ruled.posted (content items) v
-  own = each_at (Fits here.ruled.posted (content items)) views place v here.at here.ruled.each
+  pub own : AgreesWith here.ruled.posted (content items) v
+  own = each_at (AgreesWith here.ruled.posted (content items)) views place v here.at here.ruled.each
 
-  pub theirs : Each (Fits here.ruled.posted (content items)) (without views place)
-  theirs = each_without (Fits here.ruled.posted (content items)) views place here.ruled.each
+  pub theirs : Each (AgreesWith here.ruled.posted (content items)) (without views place)
+  theirs = each_without (AgreesWith here.ruled.posted (content items)) views place here.ruled.each
 
   pub taken_by_all : IsPermutation here.ruled.before (v.taken ++ all_taken (without views place))
   taken_by_all = IsPermutation-trans _ _ _ here.ruled.taken (taken_at views place v here.at)
@@ -71,7 +71,7 @@ module _ {items : List Item} {views : List PassView} {place : ℕ} {v : PassView
 
   module _ (w : PassView) where
     -- its parts stay
-    pub parts_kept : w.parts ≡ v.parts → total parts_of (set views place w) ≡ 16
+    pub parts_kept : w.parts ≡ v.parts → sum_over parts_of (set views place w) ≡ 16
     parts_kept same =
         let new = total_set parts_of views place v w here.at in
         let old = total_at parts_of views place v here.at in
@@ -80,7 +80,7 @@ module _ {items : List Item} {views : List PassView} {place : ℕ} {v : PassView
 
     -- so many marks more
     pub marks_more : (count more : ℕ) → w.marks ≡ v.marks + more → count ≤ marks_in items + more
-        → count ≤ total marks_of (set views place w)
+        → count ≤ sum_over marks_of (set views place w)
     marks_more count more grown few =
         let new = total_set marks_of views place v w here.at in
         let old = total_at marks_of views place v here.at in

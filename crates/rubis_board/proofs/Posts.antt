@@ -6,7 +6,7 @@ use Rattle.rubis_pieces.specs.declared.pieces.Piece.{Piece}
 use Rattle.rubis_board.specs.declared.rule.PassView.{PassView}
 use Rattle.rubis_board.specs.declared.rule.Item.{Item}
 use Rattle.rubis_board.specs.declared.rule.Item.TheVariants.{Work}
-use Rattle.rubis_board.specs.Rule.{view_of, spent, content, marks_in, Each, Fits, Ruled, posting, HasPosted}
+use Rattle.rubis_board.specs.Rule.{view_of, spent, content, marks_in, Each, AgreesWith, Ruled, posting, HasPosted}
 use Rattle.rubis_board.proofs.Items.{content_append, marks_worked, last_worked, length_items}
 use Rattle.rubis_board.proofs.Views.{without, total_at, each_put, each_of}
 use Rattle.rubis_board.proofs.Passing.{parts_of, marks_of, fits_fresh, fits_spent, Here, own, taken_by_all, alone, parts_kept, marks_more, taken_now}
@@ -28,14 +28,14 @@ module _ (place : ℕ) (v : PassView) (may_post : v ≡ posting v.posted) where
         omega arith
 
     fits_all : (p : Piece)
-        → Each (Fits (here.ruled.posted ++ p ∷ []) (content (items ++ Work p ∷ []))) (set views place (after p))
+        → Each (AgreesWith (here.ruled.posted ++ p ∷ []) (content (items ++ Work p ∷ []))) (set views place (after p))
     unfolding after
     fits_all p =
         let posted : List Piece = here.ruled.posted ++ p ∷ [] in
         let rest : List Piece = content (items ++ Work p ∷ []) in
         let same : v.posted ≡ here.ruled.posted = (own here).common (omega (arith, all_parts)) in
-        each_put (Fits posted rest) views place (after p)
-        (each_of (λ u. u ≡ spent) (Fits posted rest) (fits_spent posted rest) (without views place) (alone here all_parts).each)
+        each_put (AgreesWith posted rest) views place (after p)
+        (each_of (λ u. u ≡ spent) (AgreesWith posted rest) (fits_spent posted rest) (without views place) (alone here all_parts).each)
         (fits_fresh posted rest (after p) (omega (arith, all_parts)) (ap (λ l. l ++ p ∷ []) same)
         (ap (λ (u : PassView). u.seen_none) may_post))
 

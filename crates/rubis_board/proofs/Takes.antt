@@ -8,18 +8,18 @@ use Rattle.rubis_pieces.specs.declared.pieces.Piece.{Piece}
 use Rattle.rubis_board.specs.declared.rule.PassView.{PassView}
 use Rattle.rubis_board.specs.declared.rule.Item.{Item}
 use Rattle.rubis_board.specs.declared.rule.Item.TheVariants.{Work, Mark}
-use Rattle.rubis_board.specs.Rule.{view_of, content, all_taken, Each, Fits, Ruled, IsPartOf, HasMarked, HasTaken, Knows}
+use Rattle.rubis_board.specs.Rule.{view_of, content, all_taken, Each, AgreesWith, Ruled, IsPartOf, HasMarked, HasTaken, Knows}
 use Rattle.rubis_board.proofs.Items.{content_marked, marks_marked, last_marked}
 use Rattle.rubis_board.proofs.Views.{without, each_put, each_of}
 use Rattle.rubis_board.proofs.Passing.{fits_fresh, Here, own, theirs, taken_by_all, alone, parts_kept, marks_more, taken_now}
 
 -- a piece that is first leaves the board
-fits_less : (posted rest : List Piece) (p : Piece) (u : PassView) → Fits posted (p ∷ rest) u → Fits posted rest u
+fits_less : (posted rest : List Piece) (p : Piece) (u : PassView) → AgreesWith posted (p ∷ rest) u → AgreesWith posted rest u
 fits_less posted rest p u f =
     record { idle = f.idle; common = f.common; empty = λ seen. absurd (let none = ap length (f.empty seen) in omega arith) }
 
 -- while there is one, no pass has seen None
-unseen : (posted rest : List Piece) (p : Piece) (u : PassView) (seen : Bool) → u.seen_none ≡ seen → Fits posted (p ∷ rest) u
+unseen : (posted rest : List Piece) (p : Piece) (u : PassView) (seen : Bool) → u.seen_none ≡ seen → AgreesWith posted (p ∷ rest) u
     → u.seen_none ≡ false
 unseen posted rest p u true is f = absurd (let none = ap length (f.empty is) in omega arith)
 unseen posted rest p u false is f = is
@@ -44,8 +44,8 @@ module _ (place : ℕ) (v : PassView) (some_part : 0 < v.parts) where
           taken = taken_now here w ruled.before (taken_by_all here);
           parts = parts_kept here w refl;
           each =
-              subst (λ l. Each (Fits ruled.posted l) (set views place w)) same
-              (each_put (Fits ruled.posted (content items)) views place w (theirs here)
+              subst (λ l. Each (AgreesWith ruled.posted l) (set views place w)) same
+              (each_put (AgreesWith ruled.posted (content items)) views place w (theirs here)
               (record { idle = λ none. absurd (omega arith); common = (own here).common; empty = (own here).empty }));
           marks_last = last_marked items ruled.marks_last;
           marks_few = marks_more here w _ 1 refl (let one = marks_marked items in omega arith);
@@ -96,7 +96,7 @@ module _ (place : ℕ) (v : PassView) (some_part : 0 < v.parts) where
           suffix = suffix_with;
           taken = taken_now here w (ruled.before ++ p ∷ []) taken_with;
           parts = parts_kept here w refl;
-          each = each_put (Fits ruled.posted (content items)) views place w
+          each = each_put (AgreesWith ruled.posted (content items)) views place w
               (each_of _ _ (fits_less ruled.posted (content items) p) (without views place) (theirs here))
               (fits_fresh ruled.posted (content items) w some_part ((own here).common some_part) refl);
           marks_last = ruled.marks_last;
@@ -122,7 +122,7 @@ module _ (place : ℕ) (v : PassView) (some_part : 0 < v.parts) where
           suffix = ruled.suffix;
           taken = taken_now here w ruled.before (taken_by_all here);
           parts = parts_kept here w refl;
-          each = each_put (Fits ruled.posted (content items)) views place w (theirs here)
+          each = each_put (AgreesWith ruled.posted (content items)) views place w (theirs here)
               (record { idle = λ none. absurd (omega arith); common = (own here).common; empty = λ _. ruled.marks_last.0 });
           marks_last = ruled.marks_last.1;
           marks_few = marks_more here w _ 0 (omega arith) (omega arith);

@@ -6,7 +6,7 @@ use Rattle.std.specs.List.Sorted.{IsPermutation}
 use Rattle.std.proofs.lemmas.List.Sorted.{IsPermutation-refl, IsPermutation-trans, IsPermutation-sym, IsPermutation-append_left, IsPermutation-append_right, IsPermutation-append_comm}
 use Rattle.rubis_pieces.specs.declared.pieces.Piece.{Piece}
 use Rattle.rubis_board.specs.declared.rule.PassView.{PassView}
-use Rattle.rubis_board.specs.Rule.{spent, total, all_taken, Each, Fits}
+use Rattle.rubis_board.specs.Rule.{spent, sum_over, all_taken, Each, AgreesWith}
 
 -- two blocks at the front change places
 pub swapped : (a b c : List Piece) → IsPermutation (a ++ (b ++ c)) (b ++ (a ++ c))
@@ -21,9 +21,9 @@ without (x ∷ xs) zero = xs
 without (x ∷ xs) (suc i) = x ∷ without xs i
 
 pub total_at : (f : PassView → ℕ) (views : List PassView) (i : ℕ) (v : PassView) → get_elem? views i ≡ some v
-    → total f views ≡ f v + total f (without views i)
+    → sum_over f views ≡ f v + sum_over f (without views i)
 total_at f [] i v e = absurd (some-ne-none v (sym e))
-total_at f (x ∷ xs) zero v e = ap (λ y. f y + total f xs) (some-injective x v e)
+total_at f (x ∷ xs) zero v e = ap (λ y. f y + sum_over f xs) (some-injective x v e)
 total_at f (x ∷ xs) (suc i) v e = let h = total_at f xs i v e in omega arith
 
 pub taken_at : (views : List PassView) (i : ℕ) (v : PassView) → get_elem? views i ≡ some v
@@ -61,9 +61,9 @@ at_apart (x ∷ xs) (suc i) zero a n = refl
 at_apart (x ∷ xs) (suc i) (suc j) a n = at_apart xs i j a (λ e. n (ap suc e))
 
 pub total_set : (f : PassView → ℕ) (views : List PassView) (i : ℕ) (v w : PassView) → get_elem? views i ≡ some v
-    → total f (set views i w) ≡ f w + total f (without views i)
+    → sum_over f (set views i w) ≡ f w + sum_over f (without views i)
 total_set f views i v w e =
-    total_at f (set views i w) i w (there_set views i v w e) ∙ ap (λ l. f w + total f l) (without_set views i w)
+    total_at f (set views i w) i w (there_set views i v w e) ∙ ap (λ l. f w + sum_over f l) (without_set views i w)
 
 pub taken_set : (views : List PassView) (i : ℕ) (v w : PassView) → get_elem? views i ≡ some v
     → IsPermutation (w.taken ++ all_taken (without views i)) (all_taken (set views i w))
@@ -72,7 +72,7 @@ taken_set views i v w e =
     (subst (λ (l : List PassView). IsPermutation (all_taken (set views i w)) (w.taken ++ all_taken l)) (without_set views i w)
     (taken_at (set views i w) i w (there_set views i v w e)))
 
-pub total_snoc : (f : PassView → ℕ) (views : List PassView) (w : PassView) → total f (views ++ w ∷ []) ≡ total f views + f w
+pub total_snoc : (f : PassView → ℕ) (views : List PassView) (w : PassView) → sum_over f (views ++ w ∷ []) ≡ sum_over f views + f w
 total_snoc f [] w = omega arith
 total_snoc f (x ∷ xs) w = let h = total_snoc f xs w in omega arith
 
@@ -109,15 +109,15 @@ each_of P Q go (x ∷ xs) h = (go x h.0, each_of P Q go xs h.1)
 -- passes that have no part between them were all joined to another
 pub record AreSpent (views : List PassView) : Type 0 where
   pub taken : all_taken views ≡ []
-  pub marks : total (λ v. v.marks) views ≡ 0
+  pub marks : sum_over (λ v. v.marks) views ≡ 0
   pub each : Each (λ v. v ≡ spent) views
 
-pub none_left : (posted rest : List Piece) (views : List PassView) → Each (Fits posted rest) views
-    → total (λ v. v.parts) views ≡ 0 → AreSpent views
+pub none_left : (posted rest : List Piece) (views : List PassView) → Each (AgreesWith posted rest) views
+    → sum_over (λ v. v.parts) views ≡ 0 → AreSpent views
 none_left posted rest [] h e = record { taken = refl; marks = refl; each = tt }
 none_left posted rest (x ∷ xs) h e =
     let is : x ≡ spent = h.0.idle (omega arith) in
-    let less : total (λ v. v.parts) xs ≡ 0 = omega arith in
+    let less : sum_over (λ v. v.parts) xs ≡ 0 = omega arith in
     let others = none_left posted rest xs h.1 less in
     record {
       taken = ap (λ (y : PassView). y.taken ++ all_taken xs) is ∙ others.taken;

@@ -7,7 +7,7 @@ use Rattle.rubis_pieces.specs.Posted.Move.{Posted, Taken}
 use Rattle.rubis_board.specs.declared.rule.PassView.{PassView}
 use Rattle.rubis_board.specs.declared.rule.Item.{Item}
 use Rattle.rubis_board.specs.declared.rule.Item.TheVariants.{Work, Mark}
-use Rattle.rubis_board.specs.Rule.{Ruled, first_view, spent, posting, content, HasPosted, HasTaken, HasMarked, one_part_less, new_part, both}
+use Rattle.rubis_board.specs.Rule.{Ruled, first_view, spent, posting, content, HasPosted, HasTaken, HasMarked, split_view, new_view, both}
 
 -- whatever the queue holds and whatever the other passes know
 pub record StepsKeepTheRule : Type 0 where
@@ -16,7 +16,7 @@ pub record StepsKeepTheRule : Type 0 where
       → Pushes Ruled room place v (Work p) (HasPosted v (Work p))
   pub take : (place : ℕ) (v : PassView) → 0 < v.parts → Pops Ruled place v (HasTaken v)
   pub mark : (room place : ℕ) (v : PassView) → 0 < v.parts → Pushes Ruled room place v Mark (HasMarked v Mark)
-  pub split : (place : ℕ) (v : PassView) → 1 < v.parts → Forks Ruled place v (one_part_less v) (new_part v)
+  pub split : (place : ℕ) (v : PassView) → 1 < v.parts → Forks Ruled place v (split_view v) (new_view v)
   pub join : (place : ℕ) (v : PassView) (other : ℕ) (u : PassView) → 0 < v.parts → 0 < u.parts
       → Merges Ruled place v other u (both v u) spent
 

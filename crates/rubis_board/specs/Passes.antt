@@ -32,8 +32,8 @@ abbrev pub new_part : PassState → PassState
 new_part p = record { board = p.board; parts = 1; posted = p.posted; taken = []; seen_none = false }
 
 -- a join puts lists and parts together; it has seen None where either had
-abbrev pub joined : PassState → PassState → PassState
-joined p q =
+abbrev pub joined_pass : PassState → PassState → PassState
+joined_pass p q =
     record {
       board = p.board;
       parts = p.parts + q.parts;

@@ -42,9 +42,9 @@ MarksAreLast (Mark ∷ items) = (content items ≡ []) × MarksAreLast items
 -- ---- all passes
 
 -- what a number of each pass adds up to
-abbrev pub total : (PassView → ℕ) → List PassView → ℕ
-total f [] = 0
-total f (v ∷ views) = f v + total f views
+abbrev pub sum_over : (PassView → ℕ) → List PassView → ℕ
+sum_over f [] = 0
+sum_over f (v ∷ views) = f v + sum_over f views
 
 -- the taken lists, one behind the other
 abbrev pub all_taken : List PassView → List Piece
@@ -58,7 +58,7 @@ Each P (v ∷ views) = P v × Each P views
 -- ---- the rule
 
 -- a pass fits what was posted and what of it is still on the board
-pub record Fits (posted rest : List Piece) (v : PassView) : Type 0 where
+pub record AgreesWith (posted rest : List Piece) (v : PassView) : Type 0 where
   -- it has a part, or it was joined to another
   pub idle : v.parts ≡ 0 → v ≡ spent
   pub common : 0 < v.parts → v.posted ≡ posted
@@ -72,12 +72,12 @@ pub record Ruled (items : List Item) (views : List PassView) : Type 0 where
   -- the taken lists together hold the pieces before that suffix, each once
   pub taken : IsPermutation before (all_taken views)
   -- the parts of all passes add up to 16
-  pub parts : total (λ v. v.parts) views ≡ 16
+  pub parts : sum_over (λ v. v.parts) views ≡ 16
   -- if a pass has seen None, the suffix is empty
-  pub each : Each (Fits posted (content items)) views
+  pub each : Each (AgreesWith posted (content items)) views
   -- no piece stands behind a mark, and each mark was put there by a pass
   pub marks_last : MarksAreLast items
-  pub marks_few : marks_in items ≤ total (λ v. v.marks) views
+  pub marks_few : marks_in items ≤ sum_over (λ v. v.marks) views
 
 -- ---- the steps
 
@@ -105,11 +105,11 @@ HasTaken v (Work p) w =
 HasTaken v Mark w = w ≡ view_of v.parts v.posted v.taken true v.marks
 
 -- a split: the first pass gives one part to a second one, which took nothing and has not seen None
-abbrev pub one_part_less : PassView → PassView
-one_part_less v = view_of (v.parts - 1) v.posted v.taken v.seen_none v.marks
+abbrev pub split_view : PassView → PassView
+split_view v = view_of (v.parts - 1) v.posted v.taken v.seen_none v.marks
 
-abbrev pub new_part : PassView → PassView
-new_part v = view_of 1 v.posted [] false 0
+abbrev pub new_view : PassView → PassView
+new_view v = view_of 1 v.posted [] false 0
 
 -- a join
 abbrev pub both : PassView → PassView → PassView

@@ -1,6 +1,6 @@
 ghost use Rattle.std.specs.Prelude.{◌≡◌, ◌<◌, [], ◌∷◌, ◌++◌, length, true, false, IfOk, IfErr, OnOk, IfSome, IfNone};
 ghost use Rattle.std.specs.List.Sorted.{IsPermutation};
-ghost use Rattle.rubis_board.specs.Passes.{opened, one_part_less, new_part, joined, after_piece, after_none};
+ghost use Rattle.rubis_board.specs.Passes.{opened, one_part_less, new_part, joined_pass, after_piece, after_none};
 ghost use Rattle.rubis_board.specs.Rule.{IsPartOf};
 
 use crate::rule::{BoardRule, Item, Looking, Marking, PassView, Posting, Sharing, Taking};
@@ -138,7 +138,7 @@ impl Board {
     /// Puts two passes together. What they took was posted.
     pub fn join(&self, pass: Pass, other: Pass) -> Pass
         requires { (pass.board ≡ self.now) × (other.board ≡ self.now) }
-        ensures both { result ≡ joined pass other }
+        ensures both { result ≡ joined_pass pass other }
         ensures posted { IsPartOf result.taken result.posted }
     {
         let Pass { mut seat } = pass;

@@ -43,11 +43,11 @@ impl Protocol<Item, PassView> for BoardRule {
 pub struct Sharing;
 
 impl Split<PassView> for Sharing {
-    ghost use Rattle.rubis_board.specs.Rule.{one_part_less, new_part};
+    ghost use Rattle.rubis_board.specs.Rule.{split_view, new_view};
 
-    ghost left = { one_part_less };
+    ghost left = { split_view };
 
-    ghost right = { new_part };
+    ghost right = { new_view };
 }
 
 impl Join<PassView> for Sharing {

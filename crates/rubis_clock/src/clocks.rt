@@ -1,5 +1,5 @@
 ghost use Rattle.std.specs.Prelude.{◌≡◌, ◌≢◌, ◌↔◌, ◌<◌, ◌≤◌, ℕ, IsTrue, length, slice_index};
-ghost use Rattle.rubis_clock.specs.Clocks.{IsReady, Precedes, advanced, opening_clock};
+ghost use Rattle.rubis_clock.specs.Clocks.{IsReady, StampPrecedes, advanced, opening_clock};
 
 use crate::counts::Deps;
 use crate::stamps::Stamp;
@@ -14,9 +14,9 @@ pub struct Clock {
 }
 
 impl Model for Clock {
-    ghost use Rattle.rubis_clock.specs.Clocks.{Counted};
+    ghost use Rattle.rubis_clock.specs.Clocks.{MessageCounts};
 
-    ghost Value = { Counted };
+    ghost Value = { MessageCounts };
 
     ghost view = { λ c. record { counts = c.counts; red = c.red } };
 
@@ -130,7 +130,7 @@ impl Eq for Clock {
 
 /// Whether the message with the stamp `v` was made where that with the stamp `u` had been released.
 pub fn precedes(u: &Stamp, v: &Stamp) -> bool
-    ensures { IsTrue result ↔ Precedes u.now v.now }
+    ensures { IsTrue result ↔ StampPrecedes u.now v.now }
 {
     match v.deps.as_slice().get(usize::from(u.id.site)) {
         Some(count) => u.id.seq <= *count,

@@ -51,9 +51,9 @@ item_of (Comment c) = Some c.item
 abbrev pub at_item : Rows → Ask → (ItemRow → Bool) → Bool
 at_item t ask p = option_map_or (λ id. of_item t id p) (item_of ask) false
 
-abbrev pub nick_taken : Rows → Ask → Bool
-nick_taken t (User n) = is_some (t (key.Nick n))
-nick_taken t ask = false
+abbrev pub asks_taken_nick : Rows → Ask → Bool
+asks_taken_nick t (User n) = is_some (t (key.Nick n))
+asks_taken_nick t ask = false
 
 -- the amount is below the start price
 abbrev pub low_bid : Ask → ItemRow → Bool
@@ -61,9 +61,9 @@ low_bid (Bid b) i = nat_lt b.amount i.start
 low_bid ask i = false
 
 -- the quantity is above the stock
-abbrev pub stock_short : Ask → ItemRow → Bool
-stock_short (Buy p) i = nat_lt i.stock p.quantity
-stock_short ask i = false
+abbrev pub asks_above_stock : Ask → ItemRow → Bool
+asks_above_stock (Buy p) i = nat_lt i.stock p.quantity
+asks_above_stock ask i = false
 
 -- the named user isn't the item's seller
 abbrev pub not_seller : Ask → ItemRow → Bool
@@ -87,27 +87,27 @@ self_comment (Comment c) = same_id c.from c.to
 self_comment ask = false
 
 -- whether a refusal holds, of each by itself
-abbrev pub holds : Rows → Standing → Ask → Refusal → Bool
-holds t s ask Full = s.full
-holds t s ask NoToken = not s.holds
-holds t s ask RedBehind = not s.current
-holds t s ask NickTaken = nick_taken t ask
-holds t s ask NoUser = list_any (λ id. is_none (user_in t id)) (users_of ask)
-holds t s ask NoItem = option_map_or (λ id. is_none (item_in t id)) (item_of ask) false
-holds t s ask Closed = at_item t ask (λ i. is_ended i.sale)
-holds t s ask LowBid = at_item t ask (low_bid ask)
-holds t s ask StockShort = at_item t ask (stock_short ask)
-holds t s ask NotSeller = at_item t ask (not_seller ask)
-holds t s ask OwnItem = at_item t ask (own_item ask)
-holds t s ask NoBuyNow = at_item t ask (no_buy_now ask)
-holds t s ask SelfComment = self_comment ask
-holds t s ask BadRecord = false
-holds t s ask BadTarget = false
-holds t s ask LastTurn = false
-holds t s ask NotOurs = false
-holds t s ask NotForMe = false
-holds t s ask BadEvent = false
-holds t s ask NoSuchPacket = false
+abbrev pub is_due : Rows → Standing → Ask → Refusal → Bool
+is_due t s ask Full = s.full
+is_due t s ask NoToken = not s.holds
+is_due t s ask RedBehind = not s.current
+is_due t s ask NickTaken = asks_taken_nick t ask
+is_due t s ask NoUser = list_any (λ id. is_none (user_in t id)) (users_of ask)
+is_due t s ask NoItem = option_map_or (λ id. is_none (item_in t id)) (item_of ask) false
+is_due t s ask Closed = at_item t ask (λ i. is_ended i.sale)
+is_due t s ask LowBid = at_item t ask (low_bid ask)
+is_due t s ask StockShort = at_item t ask (asks_above_stock ask)
+is_due t s ask NotSeller = at_item t ask (not_seller ask)
+is_due t s ask OwnItem = at_item t ask (own_item ask)
+is_due t s ask NoBuyNow = at_item t ask (no_buy_now ask)
+is_due t s ask SelfComment = self_comment ask
+is_due t s ask BadRecord = false
+is_due t s ask BadTarget = false
+is_due t s ask LastTurn = false
+is_due t s ask NotOurs = false
+is_due t s ask NotForMe = false
+is_due t s ask BadEvent = false
+is_due t s ask NoSuchPacket = false
 
 -- the end of an item's sale, with its category and its best bid
 abbrev pub closing : Rows → Id → Shadow
@@ -132,4 +132,4 @@ refused_or (Some r) x = Err r
 
 -- the first refusal that holds, or the shadow
 abbrev pub decision : Rows → Standing → Ask → Result Shadow Refusal
-decision t s ask = refused_or (find (holds t s ask) (order_of ask)) (shadow_of t ask)
+decision t s ask = refused_or (find (is_due t s ask) (order_of ask)) (shadow_of t ask)

@@ -17,8 +17,8 @@ use Rattle.rubis_schema.specs.declared.rows.Sale.TheVariants.{Open, Ended}
 abbrev pub Rows : Type 0
 Rows = RowKey → Option Row
 
-abbrev pub rows_of : Tables → Rows
-rows_of t k = map.get t k
+abbrev pub row_by_key : Tables → Rows
+row_by_key t k = map.get t k
 
 abbrev pub as_user_row : Row → Option UserRow
 as_user_row (row.User u) = Some u

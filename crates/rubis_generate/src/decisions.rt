@@ -1,6 +1,6 @@
 ghost use Rattle.std.specs.Prelude.{◌≡◌, option_copied, is_some};
 ghost use Rattle.rubis_shadow.specs.declared.asks.Ask.TheVariants as Ask;
-ghost use Rattle.rubis_generate.specs.Lookup.{rows_of, user_in, item_in, is_ended};
+ghost use Rattle.rubis_generate.specs.Lookup.{row_by_key, user_in, item_in, is_ended};
 ghost use Rattle.rubis_generate.specs.Decision.{decision};
 
 use crate::standing::Standing;
@@ -11,7 +11,7 @@ use rubis_shadow::{Ask, AskedClose, NewBid, NewClose, NewItem, Shadow};
 
 // Whether the id has a user's row.
 fn has_user<V: View>(view: &V, user: Id) -> bool
-    ensures { result ≡ is_some (user_in (rows_of (V.tables view.now)) user) }
+    ensures { result ≡ is_some (user_in (row_by_key (V.tables view.now)) user) }
 {
     match view.row(&RowKey::User(user)) {
         Some(Row::User(_)) => true,
@@ -21,7 +21,7 @@ fn has_user<V: View>(view: &V, user: Id) -> bool
 
 // The item's row.
 fn item_row<V: View>(view: &V, item: Id) -> Option<&ItemRow>
-    ensures { option_copied result ≡ item_in (rows_of (V.tables view.now)) item }
+    ensures { option_copied result ≡ item_in (row_by_key (V.tables view.now)) item }
 {
     match view.row(&RowKey::Item(item)) {
         Some(Row::Item(row)) => Some(row),
@@ -40,7 +40,7 @@ fn is_over(sale: &Sale) -> bool
 }
 
 fn decide_user<V: View>(nick: Nick, view: &V, standing: &Standing) -> Result<Shadow, Refusal>
-    ensures { result ≡ decision (rows_of (V.tables view.now)) standing.now (Ask.User nick) }
+    ensures { result ≡ decision (row_by_key (V.tables view.now)) standing.now (Ask.User nick) }
 {
     if standing.full {
         return Err(Refusal::Full);
@@ -62,7 +62,7 @@ fn decide_item<V: View>(
     view: &V,
     standing: &Standing,
 ) -> Result<Shadow, Refusal>
-    ensures { result ≡ decision (rows_of (V.tables view.now)) standing.now (Ask.Item item) }
+    ensures { result ≡ decision (row_by_key (V.tables view.now)) standing.now (Ask.Item item) }
 {
     if standing.full {
         return Err(Refusal::Full);
@@ -74,7 +74,7 @@ fn decide_item<V: View>(
 }
 
 fn decide_bid<V: View>(bid: NewBid, view: &V, standing: &Standing) -> Result<Shadow, Refusal>
-    ensures { result ≡ decision (rows_of (V.tables view.now)) standing.now (Ask.Bid bid) }
+    ensures { result ≡ decision (row_by_key (V.tables view.now)) standing.now (Ask.Bid bid) }
 {
     if standing.full {
         return Err(Refusal::Full);
@@ -108,7 +108,7 @@ fn decide_buy<V: View>(
     view: &V,
     standing: &Standing,
 ) -> Result<Shadow, Refusal>
-    ensures { result ≡ decision (rows_of (V.tables view.now)) standing.now (Ask.Buy purchase) }
+    ensures { result ≡ decision (row_by_key (V.tables view.now)) standing.now (Ask.Buy purchase) }
 {
     if standing.full {
         return Err(Refusal::Full);
@@ -145,7 +145,7 @@ fn decide_close<V: View>(
     view: &V,
     standing: &Standing,
 ) -> Result<Shadow, Refusal>
-    ensures { result ≡ decision (rows_of (V.tables view.now)) standing.now (Ask.Close close) }
+    ensures { result ≡ decision (row_by_key (V.tables view.now)) standing.now (Ask.Close close) }
 {
     if standing.full {
         return Err(Refusal::Full);
@@ -177,7 +177,7 @@ fn decide_comment<V: View>(
     view: &V,
     standing: &Standing,
 ) -> Result<Shadow, Refusal>
-    ensures { result ≡ decision (rows_of (V.tables view.now)) standing.now (Ask.Comment comment) }
+    ensures { result ≡ decision (row_by_key (V.tables view.now)) standing.now (Ask.Comment comment) }
 {
     if standing.full {
         return Err(Refusal::Full);
@@ -197,7 +197,7 @@ fn decide_comment<V: View>(
 /// The shadow of the ask, or the first refusal that holds, in the order of the ask's tests. A close carries the item's
 /// category and its best bid.
 pub fn decide<V: View>(ask: Ask, view: &V, standing: &Standing) -> Result<Shadow, Refusal>
-    ensures { result ≡ decision (rows_of (V.tables view.now)) standing.now ask }
+    ensures { result ≡ decision (row_by_key (V.tables view.now)) standing.now ask }
 {
     match ask {
         Ask::User(nick) => decide_user(nick, view, standing),

@@ -7,7 +7,7 @@ use Rattle.std.specs.Option.{option_or}
 use Rattle.std.proofs.lemmas.List.{map-append, reverse-append, reverse-reverse}
 use Rattle.std.proofs.lemmas.List.Concat.{flat_map-append}
 use Rattle.rubis_schema.specs.declared.limits.TheConstants.{COUNTED_MAX}
-use Rattle.rubis_message.specs.Forms.{after, check, made, no_more, take_site, whole}
+use Rattle.rubis_message.specs.Forms.{followed_by, check, mapped, no_more, take_site, whole}
 use Rattle.rubis_message.specs.Grammar.{IsMessageAmong, message_record}
 use Rattle.rubis_message.specs.Message.{Message}
 use Rattle.rubis_message.specs.Readings.{packet_of}
@@ -39,7 +39,7 @@ begin_only : (sites : ℕ) → sites < 2 ^ 8 → (fields rest : List (List ℕ))
 unfolding take_begin
 begin_only sites few [] rest x e = absurd cc
 begin_only sites few (word ∷ more) rest x e =
-    let c = check_only (bytes_eq word (codes "site")) more rest (made Begin (take_site sites)) x e in
+    let c = check_only (bytes_eq word (codes "site")) more rest (mapped Begin (take_site sites)) x e in
     let w = (bytes_decides word (codes "site")).0 c.0 in
     made_only (site_form sites few) Begin (λ y behind. IsBegin sites y × (word ∷ more ≡ line_record y ++ behind)) more rest x c.1
     (λ site behind h is. (h, (λ i. w i ∷ is i)))
@@ -95,7 +95,7 @@ line_only sites top fields x e = ⊎_elim begins (λ f. ⊎_elim claims says (fi
 -- what doesn't begin with `site` begins no log
 no_begin : (sites : ℕ) (word : List ℕ) (more : List (List ℕ)) → bytes_eq word (codes "site") ≡ false → whole (take_begin sites) (word ∷ more) ≡ None
 unfolding take_begin
-no_begin sites word more e = ap (λ b. no_more (after (check b more) (λ _. made Begin (take_site sites)))) e
+no_begin sites word more e = ap (λ b. no_more (followed_by (check b more) (λ _. mapped Begin (take_site sites)))) e
 
 line_back : (sites : ℕ) → sites ≤ COUNTED_MAX → (x : Line) → IsLine sites x → line_of sites (line_record x) ≡ Some x
 line_back sites top (Begin site) h =

@@ -16,7 +16,7 @@ use Rattle.rubis_model.specs.Meaning.{IsMeaning, count}
 use Rattle.rubis_model.specs.Checks.{Checked}
 use Rattle.rubis_model.specs.Settle.{Has}
 use Rattle.rubis_model.specs.Order.{Precedes, Released}
-use Rattle.rubis_model.specs.References.{Referred, RefersOf}
+use Rattle.rubis_model.specs.References.{Referred, RefersToPast}
 use Rattle.rubis_model.specs.System.{World, site}
 use Rattle.rubis_model.specs.Sound.{Sound}
 use Rattle.rubis_model.specs.Laws.{Sent, IsLogOf}
@@ -71,8 +71,8 @@ if_more : (all wide : Message → Type 0) (v : Message) (kind : Message → Type
 if_more all wide v kind None f r = tt
 if_more all wide v kind (Some i) f r = refer_more all wide v kind i f r
 
-pub refers_more : (all wide : Message → Type 0) (v : Message) → ((m : Message) → all m → Precedes m v → wide m) → (x : Shadow) → RefersOf all v x
-    → RefersOf wide v x
+pub refers_more : (all wide : Message → Type 0) (v : Message) → ((m : Message) → all m → Precedes m v → wide m) → (x : Shadow) → RefersToPast all v x
+    → RefersToPast wide v x
 refers_more all wide v f (User n) r = tt
 refers_more all wide v f (Item n) r = refer_more all wide v _ n.seller f r
 refers_more all wide v f (Bid b) r = (refer_more all wide v _ b.item f r.0, refer_more all wide v _ b.bidder f r.1)
@@ -81,10 +81,10 @@ refers_more all wide v f (Close c) r = (refer_more all wide v _ c.item f r.0, if
 refers_more all wide v f (Comment c) r =
     (refer_more all wide v _ c.item f r.0, refer_more all wide v _ c.from f r.1, refer_more all wide v _ c.to f r.2)
 
-refers_in : (past : List Message) → AllFitting past → (v : Message) → Has v past → RefersOf (λ u. Has u past) v v.shadow
+refers_in : (past : List Message) → AllFitting past → (v : Message) → Has v past → RefersToPast (λ u. Has u past) v v.shadow
 refers_in [] h v k = absurd k
 refers_in (x ∷ past) h v (inl e) =
-    subst (λ (y : Message). RefersOf (λ u. Has u (x ∷ past)) y y.shadow) (sym e) (refers_more (λ u. Has u past) (λ u. Has u (x ∷ past)) x (λ m g p. inr g) x.shadow h.0.1)
+    subst (λ (y : Message). RefersToPast (λ u. Has u (x ∷ past)) y y.shadow) (sym e) (refers_more (λ u. Has u past) (λ u. Has u (x ∷ past)) x (λ m g p. inr g) x.shadow h.0.1)
 refers_in (x ∷ past) h v (inr k) = refers_more (λ u. Has u past) (λ u. Has u (x ∷ past)) v (λ m g p. inr g) v.shadow (refers_in past h.1 v k)
 
 -- ---- what passes is sound

@@ -15,7 +15,7 @@ use Rattle.rubis_shadow.specs.declared.shadows.Shadow.{Shadow}
 use Rattle.rubis_shadow.specs.declared.shadows.Shadow.TheVariants as shadow
 use Rattle.rubis_message.specs.Message.{Message}
 use Rattle.rubis_generate.specs.Lookup.{Rows}
-use Rattle.rubis_generate.specs.Decision.{decision, holds, order_of, shadow_of}
+use Rattle.rubis_generate.specs.Decision.{decision, is_due, order_of, shadow_of}
 use Rattle.rubis_generate.specs.declared.standing.Standing.{Standing}
 use Rattle.rubis_model.specs.Log.{Core, cores}
 use Rattle.rubis_model.specs.Meaning.{as_item, item_at, best_bid, bids_on, higher}
@@ -41,8 +41,8 @@ use Rattle.rubis_model.proofs.Lists.{has_back}
 
 -- ---- what an answer that isn't a refusal says
 pub allowed : (t : Rows) (s : Standing) (ask : Ask) (x : Shadow) → decision t s ask ≡ Ok x
-    → NoneHolds (holds t s ask) (order_of ask) × (shadow_of t ask ≡ x)
-allowed t s ask x e = not_refused (holds t s ask) (order_of ask) (shadow_of t ask) x e
+    → NoneHolds (is_due t s ask) (order_of ask) × (shadow_of t ask ≡ x)
+allowed t s ask x e = not_refused (is_due t s ask) (order_of ask) (shadow_of t ask) x e
 
 pub not_full : (t : Rows) (s : Standing) (ask : Ask) (x : Shadow) → decision t s ask ≡ Ok x → s.full ≡ false
 not_full t s (User n) x e = (allowed t s (User n) x e).0.0

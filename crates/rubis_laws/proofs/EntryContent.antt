@@ -18,9 +18,9 @@ use Rattle.rubis_model.specs.Checks.{Fits}
 use Rattle.rubis_model.specs.Log.{Core, core, cores}
 use Rattle.rubis_model.specs.Meaning.{as_bid, as_item, as_user, at_id, best_bid, bids_on, close_of, higher, item_at, named, sold_of, supply, total}
 use Rattle.rubis_model.specs.Order.{Precedes}
-use Rattle.rubis_model.specs.References.{Referred, ToUser, ToItem, ToBid, RefersOf}
+use Rattle.rubis_model.specs.References.{Referred, ToUser, ToItem, ToBid, RefersToPast}
 use Rattle.rubis_model.specs.Settle.{Has}
-use Rattle.rubis_model.specs.Verdict.{precedes, makes_row, is_known, wrong_category, nick_taken, stock_short, wrong_winner}
+use Rattle.rubis_model.specs.Verdict.{comes_before, makes_row, is_known, wrong_category, nick_taken, stock_short, wrong_winner}
 use Rattle.rubis_laws.proofs.Choices.{IsChoice, choose_is, higher_ranks}
 use Rattle.rubis_laws.proofs.Cores.{core_of, has_core}
 use Rattle.rubis_laws.proofs.Sets.{OneEach, at_member}
@@ -57,15 +57,15 @@ module _ (own : List Message) (v : Message) (ids : OneEach (cores own)) where
 
   user : (i : Id) → not (is_known own v (key.User i)) ≡ false → ToUser (λ u. Has u own) v i
   user i e =
-      let w = any_has (λ u. makes_row (key.User i) u && precedes u v) own (not-false (is_known own v (key.User i)) e) in
-      let t = and_parts (makes_row (key.User i) w.0) (precedes w.0 v) w.2 in
+      let w = any_has (λ u. makes_row (key.User i) u && comes_before u v) own (not-false (is_known own v (key.User i)) e) in
+      let t = and_parts (makes_row (key.User i) w.0) (comes_before w.0 v) w.2 in
       let s = and_parts (same_id i w.0.stamp.id) (is_some (as_user w.0.shadow)) t.0 in
       (w.0, w.1, (Decides-same_id i w.0.stamp.id).0 s.0, s.1, leb-true w.0.stamp.id.seq (dep v w.0.stamp.id.site) t.1)
 
   item : (i : Id) → not (is_known own v (key.Item i)) ≡ false → ToItem (λ u. Has u own) v i
   item i e =
-      let w = any_has (λ u. makes_row (key.Item i) u && precedes u v) own (not-false (is_known own v (key.Item i)) e) in
-      let t = and_parts (makes_row (key.Item i) w.0) (precedes w.0 v) w.2 in
+      let w = any_has (λ u. makes_row (key.Item i) u && comes_before u v) own (not-false (is_known own v (key.Item i)) e) in
+      let t = and_parts (makes_row (key.Item i) w.0) (comes_before w.0 v) w.2 in
       let s = and_parts (same_id i w.0.stamp.id) (is_some (as_item w.0.shadow)) t.0 in
       (w.0, w.1, (Decides-same_id i w.0.stamp.id).0 s.0, s.1, leb-true w.0.stamp.id.seq (dep v w.0.stamp.id.site) t.1)
 
@@ -94,8 +94,8 @@ module _ (own : List Message) (v : Message) (ids : OneEach (cores own)) where
     where
       before : (u : Message) → i ≡ u.stamp.id → Precedes u v
       before u s =
-          let w = any_has (λ u. makes_row (key.Bid i) u && precedes u v) own (not-false (is_known own v (key.Bid i)) (or_parts (not (is_known own v (key.Bid i))) false k).0) in
-          let t = and_parts (makes_row (key.Bid i) w.0) (precedes w.0 v) w.2 in
+          let w = any_has (λ u. makes_row (key.Bid i) u && comes_before u v) own (not-false (is_known own v (key.Bid i)) (or_parts (not (is_known own v (key.Bid i))) false k).0) in
+          let t = and_parts (makes_row (key.Bid i) w.0) (comes_before w.0 v) w.2 in
           let r = and_parts (same_id i w.0.stamp.id) (is_some (as_bid w.0.stamp.red w.0.shadow)) t.0 in
           subst (λ (x : Id). x.seq ≤ dep v x.site) (sym ((Decides-same_id i w.0.stamp.id).0 r.0) ∙ s) (leb-true w.0.stamp.id.seq (dep v w.0.stamp.id.site) t.1)
 
@@ -108,7 +108,7 @@ module _ (own : List Message) (v : Message) (ids : OneEach (cores own)) where
           let q = s ∙ ap (λ (c : Core). c.id) (sym u.2) in
           (u.0, u.1, q, ap (λ (c : Core). bids_on j c.shadow) u.2 ∙ h.passes, before u.0 q)
 
-  pub fits : (x : Shadow) → Passes own v x → Fits (cores own) x × RefersOf (λ u. Has u own) v x
+  pub fits : (x : Shadow) → Passes own v x → Fits (cores own) x × RefersToPast (λ u. Has u own) v x
   fits (User n) p = (none_is (named n (cores own)) p.nick, tt)
   fits (Item n) p =
       let r = or_parts (not (is_known own v (key.User n.seller))) false p.known in
@@ -144,17 +144,17 @@ module _ (own : List Message) (v : Message) (ids : OneEach (cores own)) where
 -- ---- what fits passes
 module _ (own : List Message) (v : Message) where
   user_known : (i : Id) → ToUser (λ u. Has u own) v i → not (is_known own v (key.User i)) ≡ false
-  user_known i r = not_from_true (is_known own v (key.User i)) (has_any (λ u. makes_row (key.User i) u && precedes u v) own r.0 r.1
-      (and_from (makes_row (key.User i) r.0) (precedes r.0 v) (and_from (same_id i r.0.stamp.id) (is_some (as_user r.0.shadow)) ((Decides-same_id i r.0.stamp.id).1 r.2) r.3) (le-leb r.0.stamp.id.seq (dep v r.0.stamp.id.site) r.4)))
+  user_known i r = not_from_true (is_known own v (key.User i)) (has_any (λ u. makes_row (key.User i) u && comes_before u v) own r.0 r.1
+      (and_from (makes_row (key.User i) r.0) (comes_before r.0 v) (and_from (same_id i r.0.stamp.id) (is_some (as_user r.0.shadow)) ((Decides-same_id i r.0.stamp.id).1 r.2) r.3) (le-leb r.0.stamp.id.seq (dep v r.0.stamp.id.site) r.4)))
 
   item_known : (i : Id) → ToItem (λ u. Has u own) v i → not (is_known own v (key.Item i)) ≡ false
-  item_known i r = not_from_true (is_known own v (key.Item i)) (has_any (λ u. makes_row (key.Item i) u && precedes u v) own r.0 r.1
-      (and_from (makes_row (key.Item i) r.0) (precedes r.0 v) (and_from (same_id i r.0.stamp.id) (is_some (as_item r.0.shadow)) ((Decides-same_id i r.0.stamp.id).1 r.2) r.3) (le-leb r.0.stamp.id.seq (dep v r.0.stamp.id.site) r.4)))
+  item_known i r = not_from_true (is_known own v (key.Item i)) (has_any (λ u. makes_row (key.Item i) u && comes_before u v) own r.0 r.1
+      (and_from (makes_row (key.Item i) r.0) (comes_before r.0 v) (and_from (same_id i r.0.stamp.id) (is_some (as_item r.0.shadow)) ((Decides-same_id i r.0.stamp.id).1 r.2) r.3) (le-leb r.0.stamp.id.seq (dep v r.0.stamp.id.site) r.4)))
 
   bid_known : (j : Id) (o : Option Id) → IfSome o (ToBid (λ u. Has u own) v j) → list_any (λ k. not (is_known own v k)) (winner_key o) ≡ false
   bid_known j None r = refl
-  bid_known j (Some i) r = or_from (not (is_known own v (key.Bid i))) false (not_from_true (is_known own v (key.Bid i)) (has_any (λ u. makes_row (key.Bid i) u && precedes u v) own r.0 r.1
-      (and_from (makes_row (key.Bid i) r.0) (precedes r.0 v) (and_from (same_id i r.0.stamp.id) (is_some (as_bid r.0.stamp.red r.0.shadow)) ((Decides-same_id i r.0.stamp.id).1 r.2) (bids r.0.stamp.red j r.0.shadow r.3)) (le-leb r.0.stamp.id.seq (dep v r.0.stamp.id.site) r.4)))) refl
+  bid_known j (Some i) r = or_from (not (is_known own v (key.Bid i))) false (not_from_true (is_known own v (key.Bid i)) (has_any (λ u. makes_row (key.Bid i) u && comes_before u v) own r.0 r.1
+      (and_from (makes_row (key.Bid i) r.0) (comes_before r.0 v) (and_from (same_id i r.0.stamp.id) (is_some (as_bid r.0.stamp.red r.0.shadow)) ((Decides-same_id i r.0.stamp.id).1 r.2) (bids r.0.stamp.red j r.0.shadow r.3)) (le-leb r.0.stamp.id.seq (dep v r.0.stamp.id.site) r.4)))) refl
 
   not_short : (i : Id) (q : ℕ) (o : Option NewItem) → IfSome o (λ n. total (sold_of i) (cores own) + q ≤ supply (cores own) i n)
       → option_map_or (λ n. nat_lt (supply (cores own) i n) (total (sold_of i) (cores own) + q)) o false ≡ false
@@ -165,7 +165,7 @@ module _ (own : List Message) (v : Message) where
   right_cat cat None e = refl
   right_cat cat (Some n) e = let s : n.cat ≡ cat = cc in not_from_true (n.cat == cat) (eq-eqb n.cat cat s)
 
-  pub passes : (x : Shadow) → Fits (cores own) x → RefersOf (λ u. Has u own) v x → Passes own v x
+  pub passes : (x : Shadow) → Fits (cores own) x → RefersToPast (λ u. Has u own) v x → Passes own v x
   passes (User n) f r = record { known = refl; category = refl; nick = is_none (named n (cores own)) f; stock = refl; winner = refl }
   passes (Item n) f r = record { known = or_from (not (is_known own v (key.User n.seller))) false (user_known n.seller r) refl; category = refl; nick = refl; stock = refl; winner = refl }
   passes (Bid b) f r = record {

@@ -14,7 +14,7 @@ use Rattle.rubis_message.specs.Message.{Message, dep, sites_of}
 use Rattle.rubis_model.specs.Audit.{IsOrdered}
 use Rattle.rubis_model.specs.Order.{Precedes, Released}
 use Rattle.rubis_model.specs.Settle.{Has, counted, reds}
-use Rattle.rubis_model.specs.Verdict.{precedes, clashes, clash, is_not_next, is_early, miscounts, forgets, out_of_order, last_red, takes_number, red_gap}
+use Rattle.rubis_model.specs.Verdict.{comes_before, clashes, clash, is_not_next, is_early, miscounts, forgets, out_of_order, last_red, takes_number, red_gap}
 use Rattle.rubis_model.proofs.Lists.{has_back, has_reverse}
 use Rattle.rubis_model.proofs.Pasts.{counted_no, red_within, reds_no, reds_yes}
 use Rattle.rubis_model.proofs.Settling.{counted_reverse, reds_reverse}
@@ -160,13 +160,13 @@ last_is (m ∷ past) r c u (inr h) l e = ⊎_elim
     (cases_lt 0 m.stamp.red)
 
 module _ (others own : List Message) (v : Message) (e : red_gap others own v ≡ false) (red : Coloured v) where
-  number_tests : 0 < v.stamp.red → (not (v.stamp.red == reds own + 1) || (list_any (takes_number v) others || option_map_or (λ u. not (precedes u v)) (last_red own) false)) ≡ false
+  number_tests : 0 < v.stamp.red → (not (v.stamp.red == reds own + 1) || (list_any (takes_number v) others || option_map_or (λ u. not (comes_before u v)) (last_red own) false)) ≡ false
   number_tests l = ⊎_elim (λ f. absurd (true≢false (sym (lt-ltb 0 v.stamp.red l) ∙ sym red ∙ f))) (λ f. f) (and_cases (is_red v.shadow) _ e)
 
   pub number : 0 < v.stamp.red → v.stamp.red ≡ reds own + 1
   number l = same_number v.stamp.red (reds own + 1) (or_parts (not (v.stamp.red == reds own + 1)) _ (number_tests l)).0
 
-  others_tests : 0 < v.stamp.red → (list_any (takes_number v) others ≡ false) × (option_map_or (λ u. not (precedes u v)) (last_red own) false ≡ false)
+  others_tests : 0 < v.stamp.red → (list_any (takes_number v) others ≡ false) × (option_map_or (λ u. not (comes_before u v)) (last_red own) false ≡ false)
   others_tests l = or_parts (list_any (takes_number v) others) _ (or_parts (not (v.stamp.red == reds own + 1)) _ (number_tests l)).1
 
   -- who has v's number in an earlier log has its id
@@ -182,13 +182,13 @@ module _ (others own : List Message) (v : Message) (e : red_gap others own v ≡
       let p : 0 < v.stamp.red = omega (arith, q) in
       let n = number p in
       let s = last_is (reverse own) r (λ x k. c x (has_reverse x own k)) u (has_back u own h) l (let z = reds_reverse own in omega (arith, z, n, q)) in
-      leb-true u.stamp.id.seq (dep v u.stamp.id.site) (not-false (precedes u v) (ap (λ o. option_map_or (λ u. not (precedes u v)) o false) (sym s) ∙ (others_tests p).1))
+      leb-true u.stamp.id.seq (dep v u.stamp.id.site) (not-false (comes_before u v) (ap (λ o. option_map_or (λ u. not (comes_before u v)) o false) (sym s) ∙ (others_tests p).1))
 
 -- what has the next red number, and is preceded by the red one before it, passes
 pub no_gap : (site : ℕ) (others own : List Message) (v : Message) → Coloured v → Released (reverse own) → ((u : Message) → Has u own → Coloured u)
     → IsOrdered site (reverse own) v → ((u : Message) → Has u others → 0 < v.stamp.red → u.stamp.red ≡ v.stamp.red → u ≡ v) → red_gap others own v ≡ false
 no_gap site others own v red r c o once = false_from_ne_true (red_gap others own v) (λ e.
-    let t = and_parts (is_red v.shadow) (not (v.stamp.red == reds own + 1) || (list_any (takes_number v) others || option_map_or (λ u. not (precedes u v)) (last_red own) false)) e in
+    let t = and_parts (is_red v.shadow) (not (v.stamp.red == reds own + 1) || (list_any (takes_number v) others || option_map_or (λ u. not (comes_before u v)) (last_red own) false)) e in
     let l = ltb-true 0 v.stamp.red (sym red ∙ t.0) in
     true≢false (sym t.1 ∙ or_from (not (v.stamp.red == reds own + 1)) _ (number_same v.stamp.red (reds own + 1) (o.ready.number l ∙ ap (λ n. n + 1) (reds_reverse own)))
     (or_from (list_any (takes_number v) others) _ (none_has (takes_number v) others (λ u h. false_from_ne_true (takes_number v u) (taken l u h))) (last l (last_red own) refl))))
@@ -199,9 +199,9 @@ no_gap site others own v red r c o once = false_from_ne_true (red_gap others own
         let s = once u h l (eqb-true u.stamp.red v.stamp.red t.0) in
         true≢false (sym ((Decides-same_id u.stamp.id v.stamp.id).1 (ap (λ (x : Message). x.stamp.id) s)) ∙ not-true (same_id u.stamp.id v.stamp.id) t.1)
 
-    last : 0 < v.stamp.red → (x : Option Message) → last_red own ≡ x → option_map_or (λ u. not (precedes u v)) x false ≡ false
+    last : 0 < v.stamp.red → (x : Option Message) → last_red own ≡ x → option_map_or (λ u. not (comes_before u v)) x false ≡ false
     last l None e = refl
     last l (Some u) e =
         let w = last_has (reverse own) r (λ x k. c x (has_reverse x own k)) u e in
         let n = o.ready.number l in
-        not_from_true (precedes u v) (le-leb u.stamp.id.seq (dep v u.stamp.id.site) (o.red_before u w.0 w.1 (n ∙ ap (λ k. k + 1) (sym w.2))))
+        not_from_true (comes_before u v) (le-leb u.stamp.id.seq (dep v u.stamp.id.site) (o.red_before u w.0 w.1 (n ∙ ap (λ k. k + 1) (sym w.2))))

@@ -12,7 +12,7 @@ use Rattle.rubis_schema.specs.declared.rows.Row.TheVariants as row
 use Rattle.rubis_schema.specs.declared.row_keys.RowKey.{RowKey}
 use Rattle.rubis_schema.specs.declared.row_keys.RowKey.TheVariants as key
 use Rattle.rubis_schema.specs.Keys.{same_id}
-use Rattle.rubis_model.specs.Meaning.{when, as_user, as_item, as_bid, as_purchase, as_comment, lists_item_of, bought_by, rating_for, rates, sold_of, supply, bids_on, closes, nick_at, is_nick, lists_in, closes_in, higher, earlier, choose, count, user_row, item_row, best_of, sale_after, meaning_row, named}
+use Rattle.rubis_model.specs.Meaning.{when, as_user, as_item, as_bid, as_purchase, as_comment, lists_item_of, bought_by, rating_for, rates, sold_of, supply, bids_on, closes, nick_at, is_same_nick, lists_in, closes_in, higher, earlier, choose, count, user_row, item_row, best_of, sale_after, meaning_row, named}
 use Rattle.rubis_shadow.specs.Shadows.{is_red}
 use Rattle.rubis_model.specs.Checks.{Follows, has_id, CheckedFrom, Checked, SameSet}
 use Rattle.rubis_model.proofs.Commute.{same_tables}
@@ -88,7 +88,7 @@ pub user_red : (x : Shadow) → IsSome (as_user x) → is_red x ≡ true
 user_red (User b) e = refl
 user_red x e = absurd (true≢false (sym e))
 
-pub some_is : (n : List ℕ) (o : Option (List ℕ)) → is_nick n o ≡ true → IsSome o
+pub some_is : (n : List ℕ) (o : Option (List ℕ)) → is_same_nick n o ≡ true → IsSome o
 some_is n None e = absurd (true≢false (sym e))
 some_is n (Some k) e = refl
 
@@ -118,10 +118,10 @@ module _ (a b : List Core) (u : Apart a) (v : Apart b) (s : Same a b) where
 
   pub same_named : (k : List ℕ) → named k a ≡ named k b
   same_named k =
-      same_choice earlier_ranks (λ m. is_nick k (nick_at m.id a)) a b s (λ m n h l p q f g. u.reds m n h l (holder_red m h p) (holder_red n l q) (earlier_apart m n f g))
-      ∙ (λ j. choose earlier (λ m. is_nick k (same_nick m.id j)) b)
+      same_choice earlier_ranks (λ m. is_same_nick k (nick_at m.id a)) a b s (λ m n h l p q f g. u.reds m n h l (holder_red m h p) (holder_red n l q) (earlier_apart m n f g))
+      ∙ (λ j. choose earlier (λ m. is_same_nick k (same_nick m.id j)) b)
     where
-      holder_red : (m : Core) → Member a m → is_nick k (nick_at m.id a) ≡ true → is_red m.shadow ≡ true
+      holder_red : (m : Core) → Member a m → is_same_nick k (nick_at m.id a) ≡ true → is_red m.shadow ≡ true
       holder_red m h p = user_red m.shadow (subst IsSome (at_member (λ n. as_user n.shadow) a m u.ids h) (some_is k (nick_at m.id a) p))
 
   same_item_row : (i : Id) (n : NewItem) → item_row a i n ≡ item_row b i n

@@ -11,7 +11,7 @@ use Rattle.rubis_shadow.specs.declared.shadows.Shadow.{Shadow}
 use Rattle.rubis_shadow.specs.declared.shadows.Shadow.TheVariants.{User, Item, Bid, Buy, Close, Comment}
 use Rattle.rubis_model.specs.Log.{Core}
 use Rattle.rubis_schema.specs.Keys.{same_id}
-use Rattle.rubis_model.specs.Meaning.{when, at_id, as_item, user_at, item_at, total, sold_of, choose, nick_at, is_nick, as_user, supply, named, best_bid, close_of, bids_on, closes, earlier}
+use Rattle.rubis_model.specs.Meaning.{when, at_id, as_item, user_at, item_at, total, sold_of, choose, nick_at, is_same_nick, as_user, supply, named, best_bid, close_of, bids_on, closes, earlier}
 use Rattle.rubis_shadow.specs.Shadows.{is_red}
 use Rattle.rubis_model.specs.Checks.{Fits}
 use Rattle.rubis_schema.specs.KeyLaws.{Decides-same_id}
@@ -111,13 +111,13 @@ module _ (a b : List Core) (within : (m : Core) → Member a m → Member b m) (
         at None e None f = e ∙ sym f
         at None e (Some n) f = absurd (user_back i n f e)
 
-    holder_red : (n : List ℕ) (m : Core) → Member b m → is_nick n (nick_at m.id b) ≡ true → is_red m.shadow ≡ true
+    holder_red : (n : List ℕ) (m : Core) → Member b m → is_same_nick n (nick_at m.id b) ≡ true → is_red m.shadow ≡ true
     holder_red n m h p = user_red m.shadow (subst IsSome (at_member (λ k. as_user k.shadow) b m ids h) (some_is n (nick_at m.id b) p))
 
     same_named : (n : List ℕ) → named n a ≡ named n b
     same_named n =
-        (λ j. choose earlier (λ m. is_nick n (same_holder m.id j)) a)
-        ∙ same_chosen earlier_ranks (λ m. is_nick n (nick_at m.id b)) a b (λ m e k. within m k) (λ m e k. back m k (holder_red n m k e))
+        (λ j. choose earlier (λ m. is_same_nick n (same_holder m.id j)) a)
+        ∙ same_chosen earlier_ranks (λ m. is_same_nick n (nick_at m.id b)) a b (λ m e k. within m k) (λ m e k. back m k (holder_red n m k e))
         (λ x y h l p q f g. one_red x y h l (holder_red n x h p) (holder_red n y l q) (earlier_apart x y f g))
 
     enough : (i : Id) (q : ℕ) → IsSome (item_at i a) → IfSome (item_at i a) (λ n. total (sold_of i) a + q ≤ supply a i n)

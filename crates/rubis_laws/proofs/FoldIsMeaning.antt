@@ -24,7 +24,7 @@ use Rattle.rubis_schema.specs.declared.row_keys.RowKey.TheVariants as key
 use Rattle.rubis_schema.specs.Keys.{key_order, tied, key_eq}
 use Rattle.rubis_schema.specs.Tables.{Tables}
 use Rattle.rubis_shadow.specs.declared.numbered.Misfit.{Misfit}
-use Rattle.rubis_shadow.specs.Changes.{change_row, after, doing, misfit_of, fits, misfits_as}
+use Rattle.rubis_shadow.specs.Changes.{change_row, after_part, doing, misfit_of, fits_as, misfits_as}
 use Rattle.rubis_shadow.specs.Parts.{parts}
 use Rattle.rubis_shadow.specs.Tables.{opening, categories_from, new_category}
 use Rattle.rubis_model.specs.Meaning.{when, at_id, user_at, item_at, nick_at, as_user, as_item, as_bid, as_purchase, as_comment, close_of, best_bid, sold_of, bids_on, supply, total, count, user_row, item_row, category_row, meaning_row, IsMeaning}
@@ -42,17 +42,17 @@ use Rattle.rubis_laws.proofs.Nicks.{nick_none, nick_some}
 
 abbrev pub effects_after : Tables → List Effect → Tables
 effects_after t [] = t
-effects_after t (e ∷ es) = effects_after (after t e) es
+effects_after t (e ∷ es) = effects_after (after_part t e) es
 
 abbrev AllFit : Tables → List Effect → Type 0
 AllFit t [] = ⊤
-AllFit t (e ∷ es) = (misfit_of t e ≡ None) × AllFit (after t e) es
+AllFit t (e ∷ es) = (misfit_of t e ≡ None) × AllFit (after_part t e) es
 
 one_key : (b : Bool) (c : Change) (o p : Option Row) → (b ≡ true → o ≡ p) → cond b (change_row c o).row p ≡ cond b (change_row c p).row p
 one_key true c o p e = ap (λ x. (change_row c x).row) (e refl)
 one_key false c o p e = refl
 
-get-after : (t : Tables) (e : Effect) (q : RowKey) → map.get (after t e) q ≡ at_key q (map.get t q) e
+get-after : (t : Tables) (e : Effect) (q : RowKey) → map.get (after_part t e) q ≡ at_key q (map.get t q) e
 get-after t e q =
     get-with_row t e.key (doing t e).row q
     ∙ one_key (tied q e.key) e.change (map.get t e.key) (map.get t q) (λ h. map.get_tied key_total t q e.key ((Equal-is (key_order q e.key)).0 h))
@@ -60,15 +60,15 @@ get-after t e q =
 
 pub get-effects_after : (t : Tables) (es : List Effect) (q : RowKey) → map.get (effects_after t es) q ≡ fold (at_key q) (map.get t q) es
 get-effects_after t [] q = refl
-get-effects_after t (e ∷ es) q = get-effects_after (after t e) es q ∙ ap (λ o. fold (at_key q) o es) (get-after t e q)
+get-effects_after t (e ∷ es) q = get-effects_after (after_part t e) es q ∙ ap (λ o. fold (at_key q) o es) (get-after t e q)
 
 folded_fit : (t : Tables) (ms : List Misfit) (entry part : ℕ) (id : Id) (es : List Effect) → AllFit t es →
     fold_on (record { tables = t; misfits = ms }) (number_parts entry part id es) ≡ record { tables = effects_after t es; misfits = ms }
 folded_fit t ms entry part id [] h = refl
 folded_fit t ms entry part id (e ∷ es) h =
-    ap (λ w. fold_on (record { tables = after t e; misfits = ms ++ noted (record { entry = entry; part = part; id = id; effect = e }) w }) (number_parts entry (part + 1) id es)) h.0
-    ∙ ap (λ w. fold_on (record { tables = after t e; misfits = w }) (number_parts entry (part + 1) id es)) (search Rattle.std.proofs.Common.rules)
-    ∙ folded_fit (after t e) ms entry (part + 1) id es h.1
+    ap (λ w. fold_on (record { tables = after_part t e; misfits = ms ++ noted (record { entry = entry; part = part; id = id; effect = e }) w }) (number_parts entry (part + 1) id es)) h.0
+    ∙ ap (λ w. fold_on (record { tables = after_part t e; misfits = w }) (number_parts entry (part + 1) id es)) (search Rattle.std.proofs.Common.rules)
+    ∙ folded_fit (after_part t e) ms entry (part + 1) id es h.1
 
 -- ---- each part fits
 
@@ -78,7 +78,7 @@ fit_two t e f n p q = (p, (ap (λ d. d.misfit) (doing_else t e f n) ∙ q, tt))
 fit_three : (t : Tables) (e f g : Effect) → ¬ (f.key ≡ e.key) → ¬ (g.key ≡ e.key) → ¬ (g.key ≡ f.key) → misfit_of t e ≡ None → misfit_of t f ≡ None
     → misfit_of t g ≡ None → AllFit t (e ∷ f ∷ g ∷ [])
 fit_three t e f g n k l p q r =
-    (p, (ap (λ d. d.misfit) (doing_else t e f n) ∙ q, (ap (λ d. d.misfit) (doing_else (after t e) f g l ∙ doing_else t e g k) ∙ r, tt)))
+    (p, (ap (λ d. d.misfit) (doing_else t e f n) ∙ q, (ap (λ d. d.misfit) (doing_else (after_part t e) f g l ∙ doing_else t e g k) ∙ r, tt)))
 
 fits_at : (t : Tables) (a : List Core) (k : RowKey) (c : Change) → map.get t k ≡ meaning_row a k → (change_row c (meaning_row a k)).misfit ≡ None
     → (change_row c (map.get t k)).misfit ≡ None
@@ -137,7 +137,7 @@ sold_fits : (q : ℕ) (w : NewItem → ℕ) (s c : ℕ) (best : Option Core) (n 
 unfolding change_row
 sold_fits q w s c best n h = split (nat_le q (w n - s)) _ (le_true q (w n - s) (omega arith))
   where
-    split : (b : Bool) (r : Row) → b ≡ true → (cond b (fits r) (misfits_as StockShort (Some (item_of w s c best None n)))).misfit ≡ None
+    split : (b : Bool) (r : Row) → b ≡ true → (cond b (fits_as r) (misfits_as StockShort (Some (item_of w s c best None n)))).misfit ≡ None
     split true r e = refl
     split false r e = absurd (true≢false (sym e))
 

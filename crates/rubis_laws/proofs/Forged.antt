@@ -14,7 +14,7 @@ use Rattle.rubis_schema.specs.declared.rows.Best.{Best}
 use Rattle.rubis_schema.specs.declared.rows.Sale.{Sale}
 use Rattle.rubis_schema.specs.declared.rows.Sale.TheVariants.{Open, Ended}
 use Rattle.rubis_schema.specs.Keys.{same_id}
-use Rattle.rubis_shadow.specs.Changes.{change_row, count_up, better, if_open, fits, misfits_as}
+use Rattle.rubis_shadow.specs.Changes.{change_row, count_up, better, if_open, fits_as, misfits_as}
 use Rattle.rubis_shadow.specs.Parts.{parts, new_item}
 use Rattle.rubis_shadow.specs.Tables.{opening}
 use Rattle.rubis_shadow.specs.declared.changes.Change.{Change}
@@ -25,7 +25,7 @@ use Rattle.rubis_shadow.specs.declared.shadows.NewItem.{NewItem}
 use Rattle.rubis_shadow.specs.declared.shadows.Shadow.{Shadow}
 use Rattle.rubis_shadow.specs.declared.shadows.Shadow.TheVariants as shadow
 use Rattle.rubis_model.specs.Log.{Core, Folded, fold_of, fold_on, number_parts, parts_of, step}
-use Rattle.rubis_model.specs.Meaning.{as_item, as_user, is_nick, item_at, meaning_row, when}
+use Rattle.rubis_model.specs.Meaning.{as_item, as_user, is_same_nick, item_at, meaning_row, when}
 use Rattle.rubis_model.specs.Forged.{FirstKeepsTheName, IsKept, StockIsKept, first_named}
 use Rattle.rubis_laws.proofs.FoldIsMeaning.{effects_after, fold_push_parts, get-effects_after, opening_rows}
 use Rattle.rubis_laws.proofs.Pushes.{at_id_push, by_pushes, first_push, or_none}
@@ -55,7 +55,7 @@ inserted_nick false u None = refl
 inserted_nick false u (Some v) = refl
 
 nick_after : (n : List ℕ) (m : Core) (x : Shadow) (o : Option Id)
-    → fold (at_key (key.Nick n)) (option_map row.Nick o) (parts m.id m.red x) ≡ option_map row.Nick (option_or o (when (is_nick n (as_user x)) (Some m.id)))
+    → fold (at_key (key.Nick n)) (option_map row.Nick o) (parts m.id m.red x) ≡ option_map row.Nick (option_or o (when (is_same_nick n (as_user x)) (Some m.id)))
 nick_after n m (shadow.User k) o = inserted_nick (bytes_eq n k) m.id o
 nick_after n m x o = ap (option_map row.Nick) (sym (or_none o))
 
@@ -78,12 +78,12 @@ Small o = IfSome o (λ n. n.stock < 2 ^ 64)
 
 -- a bid or a close leaves stock as it is
 bid_keeps : (b : Best) (s : ℕ) (x : ItemRow) (z : Sale) → x.sold + x.stock ≡ s
-    → Has s (if_open x z (fits (row.Item (record x { bids = count_up x.bids 1; best = better x.best b })))).row
+    → Has s (if_open x z (fits_as (row.Item (record x { bids = count_up x.bids 1; best = better x.best b })))).row
 bid_keeps b s x Open e = (record x { bids = count_up x.bids 1; best = better x.best b }, refl, e)
 bid_keeps b s x (Ended w) e = (x, refl, e)
 
 end_keeps : (w : Option Id) (s : ℕ) (x : ItemRow) (z : Sale) → x.sold + x.stock ≡ s
-    → Has s (if_open x z (fits (row.Item (record x { sale = Ended w })))).row
+    → Has s (if_open x z (fits_as (row.Item (record x { sale = Ended w })))).row
 end_keeps w s x Open e = (record x { sale = Ended w }, refl, e)
 end_keeps w s x (Ended v) e = (x, refl, e)
 
@@ -92,7 +92,7 @@ sold_sum : (q sold stock s : ℕ) → nat_le q stock ≡ true → sold + stock �
 sold_sum q sold stock s h e l = let k : q ≤ stock = grind (arith, nat_tests) in omega (arith, k)
 
 sold_keeps : (q s : ℕ) (x : ItemRow) (z : Sale) (b : Bool) → nat_le q x.stock ≡ b → s < 2 ^ 64 → x.sold + x.stock ≡ s
-    → Has s (if_open x z (cond b (fits (row.Item (record x { stock = x.stock - q; sold = count_up x.sold q }))) (misfits_as StockShort (Some (row.Item x))))).row
+    → Has s (if_open x z (cond b (fits_as (row.Item (record x { stock = x.stock - q; sold = count_up x.sold q }))) (misfits_as StockShort (Some (row.Item x))))).row
 sold_keeps q s x Open true h l e = (record x { stock = x.stock - q; sold = count_up x.sold q }, refl, sold_sum q x.sold x.stock s h e l)
 sold_keeps q s x Open false h l e = (x, refl, e)
 sold_keeps q s x (Ended w) b h l e = (x, refl, e)

@@ -32,7 +32,7 @@ use Rattle.rubis_message.specs.declared.tokens.Packet.{Packet}
 use Rattle.rubis_model.specs.System.{World, Event, IsEvent, AreEvents, site, place, with_site, packet_at, answering, requested, coming, at_site, happens, run, start}
 use Rattle.rubis_message.specs.declared.tokens.Packet.TheVariants as packet
 use Rattle.rubis_model.specs.System.Event.{At, Deliver}
-use Rattle.rubis_model.specs.Sound.{Good, Home, Reds, OneToken, Sound}
+use Rattle.rubis_model.specs.Sound.{Good, HasOrigins, RedsInOrder, OneToken, Sound}
 use Rattle.rubis_model.proofs.Settling.{good_settle, settle_grows, reverse_push}
 use Rattle.rubis_laws.proofs.Making.{set_at, good_more, good_make, IsMade, is_made, reds_blue, reds_red, reds_token, shadow_cases, not_shadow, not_right, red_count_blue, turns_shadow}
 use Rattle.rubis_laws.proofs.Tokens.{held_is, token_same, token_red, token_passed, token_taken}
@@ -82,7 +82,7 @@ arrives w i m held l = subst (λ (x : Replica). Has m (reverse x.log)) (sym (get
     (settle_grows m (length (site w i).waiting) ((site w i).log ++ m ∷ []) (site w i).waiting (subst (Has m) (sym (reverse_push (site w i).log m)) (inl refl)))
 
 home_after : (w : World) (i : ℕ) (m : Message) (held : Option ℕ) → i < length w.sites → Sound w → IsMade i (site w i).log m
-    → Home (length w.sites) (λ j. (get_or (set w.sites i (after w i m held)) j (opening_at 1)).log) (w.sent ++ packet.Msg m ∷ [])
+    → HasOrigins (length w.sites) (λ j. (get_or (set w.sites i (after w i m held)) j (opening_at 1)).log) (w.sent ++ packet.Msg m ∷ [])
 home_after w i m held l s k = record {
   origin =
       λ u h. ⊎_elim (λ a. s.home.origin u a) (λ e. let o = ap (λ (x : Message). x.stamp.id.site) e in omega (arith, k.origin)) (shadow_cases u m w.sent h);
@@ -107,13 +107,13 @@ unfolding after
 held_after_same w i m held l = ap (λ (x : Replica). x.held) (get_or-set_same w.sites i (after w i m held) (opening_at 1) l)
 
 sound_after : (w : World) (i : ℕ) (m : Message) (held : Option ℕ) → i < length w.sites → Sound w → IsMade i (site w i).log m
-    → Reds (w.sent ++ packet.Msg m ∷ [])
+    → RedsInOrder (w.sent ++ packet.Msg m ∷ [])
     → OneToken (length w.sites) (λ j. (get_or (set w.sites i (after w i m held)) j (opening_at 1)).held) (λ j. (get_or (set w.sites i (after w i m held)) j (opening_at 1)).last) (w.sent ++ packet.Msg m ∷ [])
     → Sound (record { sites = set w.sites i (after w i m held); sent = w.sent ++ packet.Msg m ∷ [] })
 sound_after w i m held l s k r t = record {
   good = good_after w i m held l s k;
   home =
-      subst (λ n. Home n (λ j. (get_or (set w.sites i (after w i m held)) j (opening_at 1)).log) (w.sent ++ packet.Msg m ∷ [])) (sym (length-set w.sites i (after w i m held))) (home_after w i m held l s k);
+      subst (λ n. HasOrigins n (λ j. (get_or (set w.sites i (after w i m held)) j (opening_at 1)).log) (w.sent ++ packet.Msg m ∷ [])) (sym (length-set w.sites i (after w i m held))) (home_after w i m held l s k);
   reds = r;
   token =
       subst (λ n. OneToken n (λ j. (get_or (set w.sites i (after w i m held)) j (opening_at 1)).held) (λ j. (get_or (set w.sites i (after w i m held)) j (opening_at 1)).last) (w.sent ++ packet.Msg m ∷ [])) (sym (length-set w.sites i (after w i m held))) t;
@@ -172,13 +172,13 @@ quiet_other : (w : World) (i : ℕ) (x : Replica) (j : ℕ) → (j ≡ i → ⊥
     → ((get_or (set w.sites i x) j (opening_at 1)).held ≡ (site w j).held) × ((get_or (set w.sites i x) j (opening_at 1)).last ≡ (site w j).last)
 quiet_other w i x j n = let e = get_or-set_other w.sites i j x (opening_at 1) n in (ap (λ (q : Replica). q.held) e, ap (λ (q : Replica). q.last) e)
 
-home_more : (n : ℕ) (log : ℕ → List Message) (sent : List Packet) (t : Token) → Home n log sent → Home n log (sent ++ packet.Token t ∷ [])
+home_more : (n : ℕ) (log : ℕ → List Message) (sent : List Packet) (t : Token) → HasOrigins n log sent → HasOrigins n log (sent ++ packet.Token t ∷ [])
 home_more n log sent t h = record {
   origin = λ u k. h.origin u (not_shadow t u sent k);
   home = λ u k. h.home u (not_shadow t u sent k);
 }
 
-home_same : (n : ℕ) (log log' : ℕ → List Message) (sent : List Packet) → ((j : ℕ) → log' j ≡ log j) → Home n log sent → Home n log' sent
+home_same : (n : ℕ) (log log' : ℕ → List Message) (sent : List Packet) → ((j : ℕ) → log' j ≡ log j) → HasOrigins n log sent → HasOrigins n log' sent
 home_same n log log' sent e h = record {
   origin = h.origin;
   home = λ u k. subst (λ x. Has u (reverse x)) (sym (e u.stamp.id.site)) (h.home u k);
@@ -190,13 +190,13 @@ good_same sent i log waiting log' waiting' e g = subst (λ x. Good sent i x wait
 
 -- logs and waiting messages are the same, and at most one token more was sent
 sound_quiet : (w : World) (i : ℕ) (held : Option ℕ) (last : ℕ) (sent : List Packet) → i < length w.sites
-    → ((j : ℕ) → Good sent j (site w j).log (site w j).waiting) → Home (length w.sites) (λ j. (site w j).log) sent → Reds sent
+    → ((j : ℕ) → Good sent j (site w j).log (site w j).waiting) → HasOrigins (length w.sites) (λ j. (site w j).log) sent → RedsInOrder sent
     → OneToken (length w.sites) (λ j. (get_or (set w.sites i (quiet w i held last)) j (opening_at 1)).held) (λ j. (get_or (set w.sites i (quiet w i held last)) j (opening_at 1)).last) sent
     → Sound (record { sites = set w.sites i (quiet w i held last); sent = sent })
 sound_quiet w i held last sent l g h r t = record {
   good =
       λ j. good_same sent j (site w j).log (site w j).waiting (get_or (set w.sites i (quiet w i held last)) j (opening_at 1)).log (get_or (set w.sites i (quiet w i held last)) j (opening_at 1)).waiting (quiet_site w i held last l j) (g j);
-  home = subst (λ n. Home n (λ j. (get_or (set w.sites i (quiet w i held last)) j (opening_at 1)).log) sent) (sym (length-set w.sites i (quiet w i held last)))
+  home = subst (λ n. HasOrigins n (λ j. (get_or (set w.sites i (quiet w i held last)) j (opening_at 1)).log) sent) (sym (length-set w.sites i (quiet w i held last)))
       (home_same (length w.sites) (λ j. (site w j).log) (λ j. (get_or (set w.sites i (quiet w i held last)) j (opening_at 1)).log) sent (λ j. (quiet_site w i held last l j).0) h);
   reds = r;
   token =
@@ -282,7 +282,7 @@ sound_came w i m l h n s = record {
   good = set_at (λ q x. Good w.sent q x.log x.waiting) w.sites i (came w i m) (opening_at 1) l
       (good_settle w.sent i (length ((site w i).waiting ++ m ∷ [])) (site w i).log ((site w i).waiting ++ m ∷ []) (good_waiting w.sent i (site w i).log (site w i).waiting m h n (s.good i)))
       (λ q _. s.good q);
-  home = subst (λ n. Home n (λ j. (get_or (set w.sites i (came w i m)) j (opening_at 1)).log) w.sent) (sym (length-set w.sites i (came w i m)))
+  home = subst (λ n. HasOrigins n (λ j. (get_or (set w.sites i (came w i m)) j (opening_at 1)).log) w.sent) (sym (length-set w.sites i (came w i m)))
       (record { origin = s.home.origin; home = λ u k. stay u u.stamp.id.site (s.home.home u k) });
   reds = s.reds;
   token = subst (λ n. OneToken n (λ j. (get_or (set w.sites i (came w i m)) j (opening_at 1)).held) (λ j. (get_or (set w.sites i (came w i m)) j (opening_at 1)).last) w.sent) (sym (length-set w.sites i (came w i m)))

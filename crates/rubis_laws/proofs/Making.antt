@@ -10,7 +10,7 @@ use Rattle.rubis_message.specs.Message.{Message, dep}
 use Rattle.rubis_shadow.specs.declared.shadows.Shadow.{Shadow}
 use Rattle.rubis_model.specs.Order.{Decided, Precedes, Released}
 use Rattle.rubis_model.specs.Settle.{counted, reds, Ready, Has}
-use Rattle.rubis_model.specs.Sound.{DecidedBy, CountedBy, red_count, turns, Good, Reds}
+use Rattle.rubis_model.specs.Sound.{DecidedBy, CountedBy, red_count, turns, Good, RedsInOrder}
 use Rattle.rubis_message.specs.declared.tokens.Token.{Token}
 use Rattle.rubis_message.specs.declared.tokens.Packet.{Packet}
 use Rattle.rubis_model.specs.Site.{Place, Replica, made, red_for}
@@ -132,7 +132,7 @@ red_count_red sent m e = omega (arith, red_count_shadow sent m, one_if_red m e)
 red_same : (u v : Message) → u ≡ v → u.stamp.red ≡ v.stamp.red
 red_same u v e = ap (λ (x : Message). x.stamp.red) e
 
-pub reds_blue : (sent : List Packet) (m : Message) → m.stamp.red ≡ 0 → Reds sent → Reds (sent ++ packet.Msg m ∷ [])
+pub reds_blue : (sent : List Packet) (m : Message) → m.stamp.red ≡ 0 → RedsInOrder sent → RedsInOrder (sent ++ packet.Msg m ∷ [])
 reds_blue sent m blue r = record {
   small = λ u h. ⊎_elim (λ k. omega (arith, r.small u k, same)) (λ e. omega (arith, red_same u m e)) (shadow_cases u m sent h);
   single = λ u v hu hv l e. ⊎_elim
@@ -148,7 +148,7 @@ reds_blue sent m blue r = record {
     same = red_count_blue sent m blue
 
 -- all red ones so far are in a log that has as many
-red_there : (sent : List Packet) (i : ℕ) (log waiting : List Message) (u : Message) → Good sent i log waiting → Reds sent → reds log ≡ red_count sent
+red_there : (sent : List Packet) (i : ℕ) (log waiting : List Message) (u : Message) → Good sent i log waiting → RedsInOrder sent → reds log ≡ red_count sent
     → Has (packet.Msg u) sent → 0 < u.stamp.red → u.stamp.id.seq ≤ counted u.stamp.id.site log
 red_there sent i log waiting u g r full h l =
     let few : u.stamp.red ≤ reds (reverse log) = omega (arith, r.small u h, reds_reverse log) in
@@ -158,7 +158,7 @@ red_there sent i log waiting u g r full h l =
     omega (arith, within.1, counted_reverse u.stamp.id.site log)
 
 pub reds_red : (sent : List Packet) (i : ℕ) (log waiting : List Message) (m : Message) → Good sent i log waiting → reds log ≡ red_count sent
-    → IsMade i log m → m.stamp.red ≡ red_count sent + 1 → Reds sent → Reds (sent ++ packet.Msg m ∷ [])
+    → IsMade i log m → m.stamp.red ≡ red_count sent + 1 → RedsInOrder sent → RedsInOrder (sent ++ packet.Msg m ∷ [])
 reds_red sent i log waiting m g full k number r = record {
   small = λ u h. ⊎_elim (λ a. omega (arith, r.small u a, more)) (λ e. omega (arith, red_same u m e, more)) (shadow_cases u m sent h);
   single = λ u v hu hv l e. ⊎_elim
@@ -183,7 +183,7 @@ reds_red sent i log waiting m g full k number r = record {
     le_cases a b = ⊎_elim (λ x. inr x) (λ x. inl x) (cases_lt b a)
 
 -- no shadow more
-pub reds_token : (sent : List Packet) (t : Token) → Reds sent → Reds (sent ++ packet.Token t ∷ [])
+pub reds_token : (sent : List Packet) (t : Token) → RedsInOrder sent → RedsInOrder (sent ++ packet.Token t ∷ [])
 reds_token sent t r = record {
   small = λ u h. omega (arith, r.small u (not_shadow t u sent h), red_count_right sent t);
   single = λ u v hu hv. r.single u v (not_shadow t u sent hu) (not_shadow t v sent hv);

@@ -11,7 +11,7 @@ use Rattle.rubis_model.specs.Log.{Core}
 use Rattle.rubis_schema.specs.declared.rows.Row.{Row}
 use Rattle.rubis_schema.specs.declared.rows.Row.TheVariants as row
 use Rattle.rubis_schema.specs.Keys.{same_id}
-use Rattle.rubis_model.specs.Meaning.{when, user_at, as_user, choose, earlier, nick_at, is_nick, named}
+use Rattle.rubis_model.specs.Meaning.{when, user_at, as_user, choose, earlier, nick_at, is_same_nick, named}
 use Rattle.rubis_model.specs.Checks.{has_id}
 use Rattle.rubis_model.specs.Invariants.{Unique}
 use Rattle.rubis_schema.specs.KeyLaws.{Decides-same_id}
@@ -67,12 +67,12 @@ nick_some u a e = e
 pub nick_none : (u : Id) (a : List Core) → user_at u a ≡ None → nick_at u a ≡ None
 nick_none u a e = e
 
-is_nick_of : (n : List ℕ) (o : Option (List ℕ)) → is_nick n o ≡ true → o ≡ Some n
+is_nick_of : (n : List ℕ) (o : Option (List ℕ)) → is_same_nick n o ≡ true → o ≡ Some n
 is_nick_of n None e = absurd (true≢false (sym e))
 is_nick_of n (Some k) e = ap Some (sym ((bytes_decides n k).0 e))
 
-pub is_nick_at : (n : List ℕ) (o : Option (List ℕ)) → o ≡ Some n → is_nick n o ≡ true
-is_nick_at n o e = ap (is_nick n) e ∙ (bytes_decides n n).1 refl
+pub is_nick_at : (n : List ℕ) (o : Option (List ℕ)) → o ≡ Some n → is_same_nick n o ≡ true
+is_nick_at n o e = ap (is_same_nick n) e ∙ (bytes_decides n n).1 refl
 
 member_with : (v : Id) (a : List Core) → IsSome (user_at v a) → (m : Core) × Member a m × (v ≡ m.id)
 member_with v a s = at (has_id v a) refl
@@ -82,7 +82,7 @@ member_with v a s = at (has_id v a) refl
     at (Some m) e = let w = found_member v a m e in (m, w.0, w.1)
 
 abbrev pub has : List ℕ → List Core → Core → Bool
-has n a m = is_nick n (nick_at m.id a)
+has n a m = is_same_nick n (nick_at m.id a)
 
 pub not_named : (n : List ℕ) (a : List Core) → named n a ≡ None → Free n (λ v. nick_at v a)
 not_named n a e v h =
@@ -106,9 +106,9 @@ named_is n a u h e = at (named n a) refl (choose_is earlier_ranks (has n a) a)
     at None q k = absurd (not_named n a q u e)
     at (Some m) q k = ap (λ i. Some (row.Nick i)) (h n m.id u (is_nick_of n (nick_at m.id a) k.passes) e)
 
-pub named_same : (n : List ℕ) (a : List Core) (m : Core) → ((v : Id) → is_nick n (nick_at v (a ++ m ∷ [])) ≡ is_nick n (nick_at v a))
+pub named_same : (n : List ℕ) (a : List Core) (m : Core) → ((v : Id) → is_same_nick n (nick_at v (a ++ m ∷ [])) ≡ is_same_nick n (nick_at v a))
     → nick_at m.id a ≡ None → named n (a ++ m ∷ []) ≡ named n a
 named_same n a m e h =
     choose_push earlier (has n (a ++ m ∷ [])) a m
-    ∙ choice_not earlier (has n (a ++ m ∷ [])) _ m (e m.id ∙ ap (is_nick n) h)
+    ∙ choice_not earlier (has n (a ++ m ∷ [])) _ m (e m.id ∙ ap (is_same_nick n) h)
     ∙ (λ j. choose earlier (λ k. e k.id j) a)

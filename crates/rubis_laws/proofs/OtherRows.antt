@@ -16,7 +16,7 @@ use Rattle.rubis_shadow.specs.declared.changes.Change.TheVariants.{Insert, CatLi
 use Rattle.rubis_schema.specs.Keys.{same_id}
 use Rattle.rubis_shadow.specs.Changes.{change_row}
 use Rattle.rubis_shadow.specs.Parts.{parts}
-use Rattle.rubis_model.specs.Meaning.{count, when, at_id, as_bid, as_purchase, as_comment, as_user, nick_at, is_nick, named, lists_in, closes_in, category_row, meaning_row}
+use Rattle.rubis_model.specs.Meaning.{count, when, at_id, as_bid, as_purchase, as_comment, as_user, nick_at, is_same_nick, named, lists_in, closes_in, category_row, meaning_row}
 use Rattle.rubis_model.specs.Checks.{Follows, has_id}
 use Rattle.rubis_schema.specs.KeyLaws.{Decides-same_id}
 use Rattle.rubis_laws.proofs.Pushes.{count_push, or_none, at_id_push_not, at_id_push, none_at}
@@ -64,11 +64,11 @@ row_of_comment a s x f i = same_rows (λ m. as_comment m.shadow) row.Comment i a
 other_nick : (n : List ℕ) (a : List Core) (m : Core) → has_id m.id a ≡ None → as_user m.shadow ≡ None
     → named_row (named n a) ≡ named_row (named n (a ++ m ∷ []))
 other_nick n a m none e =
-    ap named_row (sym (named_same n a m (λ v. ap (is_nick n) (nick_push_not v a m e)) (nick_none m.id a (none_at (λ k. as_user k.shadow) m.id a none))))
+    ap named_row (sym (named_same n a m (λ v. ap (is_same_nick n) (nick_push_not v a m e)) (nick_none m.id a (none_at (λ k. as_user k.shadow) m.id a none))))
 
 -- one that gives another
-not_given : (n k : List ℕ) (b : Bool) (o : Option (List ℕ)) → bytes_eq n k ≡ false → (b ≡ true → is_nick n o ≡ false)
-    → is_nick n (cond b (Some k) o) ≡ is_nick n o
+not_given : (n k : List ℕ) (b : Bool) (o : Option (List ℕ)) → bytes_eq n k ≡ false → (b ≡ true → is_same_nick n o ≡ false)
+    → is_same_nick n (cond b (Some k) o) ≡ is_same_nick n o
 not_given n k true o e h = e ∙ sym (h refl)
 not_given n k false o e h = refl
 
@@ -82,7 +82,7 @@ new_nick a s k n g h f true e =
     ∙ sym (named_is n (a ++ msg s (shadow.User k) ∷ []) s.id h.nicks (user_gives a s k g f s.id ∙ ap (λ b. cond b (Some k) (nick_at s.id a)) ((Decides-same_id s.id s.id).1 refl) ∙ ap Some (sym same)))
 new_nick a s k n g h f false e =
     let none : nick_at s.id a ≡ None = nick_none s.id a (none_at (λ m. as_user m.shadow) s.id a f.new_id) in
-    ap named_row (sym (named_same n a (msg s (shadow.User k)) (λ v. ap (is_nick n) (user_gives a s k g f v) ∙ not_given n k (same_id v s.id) (nick_at v a) e (λ t. ap (is_nick n) (subst (λ w. nick_at w a ≡ None) (sym ((Decides-same_id v s.id).0 t)) none))) none))
+    ap named_row (sym (named_same n a (msg s (shadow.User k)) (λ v. ap (is_same_nick n) (user_gives a s k g f v) ∙ not_given n k (same_id v s.id) (nick_at v a) e (λ t. ap (is_same_nick n) (subst (λ w. nick_at w a ≡ None) (sym ((Decides-same_id v s.id).0 t)) none))) none))
 
 pub row_of_nick : (a : List Core) (s : Head) (x : Shadow) → Good a → Good (a ++ msg s x ∷ []) → Follows a (msg s x) → (n : List ℕ) →
     fold (at_key (key.Nick n)) (meaning_row a (key.Nick n)) (parts s.id s.red x) ≡ meaning_row (a ++ msg s x ∷ []) (key.Nick n)

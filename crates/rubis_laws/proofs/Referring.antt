@@ -12,7 +12,7 @@ use Rattle.rubis_model.specs.Meaning.{at_id, as_user, as_item, item_at, user_at,
 use Rattle.rubis_model.specs.Checks.{Fits}
 use Rattle.rubis_model.specs.Settle.{Has}
 use Rattle.rubis_model.specs.Order.{Precedes}
-use Rattle.rubis_model.specs.References.{Referred, ToUser, ToItem, ToBid, RefersOf}
+use Rattle.rubis_model.specs.References.{Referred, ToUser, ToItem, ToBid, RefersToPast}
 use Rattle.rubis_laws.proofs.Choices.{IsChoice, choose_is, higher_ranks}
 use Rattle.rubis_laws.proofs.Fitting.{found_at}
 use Rattle.rubis_laws.proofs.Cores.{core_of}
@@ -51,7 +51,7 @@ module _ (all : Message → Type 0) (v : Message) (past : List Message) (known :
           let q = known u.0 u.1 in
           (u.0, q.0, ap (λ (c : Core). c.id) (sym u.2), ap (λ (c : Core). bids_on j c.shadow) u.2 ∙ h.passes, q.1)
 
-  pub refers_of : (x : Shadow) → Fits (cores past) x → RefersOf all v x
+  pub refers_of : (x : Shadow) → Fits (cores past) x → RefersToPast all v x
   refers_of (User n) f = tt
   refers_of (Item n) f = to_user n.seller f
   refers_of (Bid x) f = (to_item x.item f.0, to_user x.bidder f.1)

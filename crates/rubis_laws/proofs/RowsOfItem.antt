@@ -16,7 +16,7 @@ use Rattle.rubis_schema.specs.declared.row_keys.RowKey.TheVariants as key
 use Rattle.rubis_schema.specs.declared.rows.Sale.TheVariants.{Open}
 use Rattle.rubis_shadow.specs.declared.changes.Change.TheVariants.{Insert, BidTaken, Sold, End}
 use Rattle.rubis_schema.specs.Keys.{same_id}
-use Rattle.rubis_shadow.specs.Changes.{change_row, better, fits, misfits_as}
+use Rattle.rubis_shadow.specs.Changes.{change_row, better, fits_as, misfits_as}
 use Rattle.rubis_shadow.specs.Parts.{parts, new_item}
 use Rattle.rubis_shadow.specs.declared.changes.MisfitKind.TheVariants.{StockShort}
 use Rattle.rubis_model.specs.Meaning.{count, total, choice, when, at_id, item_at, as_item, sold_of, bids_on, closes, best_bid, close_of, best_of, sale_after, supply, item_row, meaning_row, higher, earlier, amount_of}
@@ -136,7 +136,7 @@ unfolding change_row
 sold_more true q w s c best close i m None p e shut stock small = refl
 sold_more true q w s c best close i m (Some k) p e shut stock small =
     (λ j. (change_row (Sold q) (Some (item_of w s c best (shut refl j) k))).row)
-    ∙ (λ j. (cond (le_true q (w k - s) (enough (stock refl)) j) (fits sold_row) (misfits_as StockShort (Some (item_of w s c best None k)))).row)
+    ∙ (λ j. (cond (le_true q (w k - s) (enough (stock refl)) j) (fits_as sold_row) (misfits_as StockShort (Some (item_of w s c best None k)))).row)
     ∙ (λ j. Some (row.Item (record {
       seller = k.seller;
       name = k.name;

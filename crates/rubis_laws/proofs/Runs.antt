@@ -6,7 +6,7 @@ use Rattle.rubis_shadow.specs.Shadows.{is_red}
 use Rattle.rubis_message.specs.Message.{Message}
 use Rattle.rubis_model.specs.Log.{cores, fold_of}
 use Rattle.rubis_model.specs.Settle.{Has}
-use Rattle.rubis_model.specs.References.{RefersOf}
+use Rattle.rubis_model.specs.References.{RefersToPast}
 use Rattle.rubis_model.specs.System.{World, Event, AreEvents, site, run, start}
 use Rattle.rubis_model.specs.Sound.{AllDeliverable, Sound, Room}
 use Rattle.rubis_model.specs.Checks.{Checked}
@@ -47,7 +47,7 @@ module _ (w : World) (s : Sound w) where
   pub single : (u v : Message) → Sent w u → Sent w v → is_red u.shadow ≡ true → is_red v.shadow ≡ true → u.stamp.red ≡ v.stamp.red → u ≡ v
   single u v a b e f q = s.reds.single u v a b (red_positive w u s a e) q
 
-  pub refers : (v : Message) → Sent w v → RefersOf (Sent w) v v.shadow
+  pub refers : (v : Message) → Sent w v → RefersToPast (Sent w) v v.shadow
   refers v b =
       refers_of (Sent w) v (reverse (foundation w v s b).past) (λ u h. ((foundation w v s b).exactly u).0 (has_reverse u (foundation w v s b).past h)) v.shadow (foundation w v s b).decided.fits
 

@@ -15,7 +15,7 @@ use Rattle.rubis_model.specs.Checks.{Fits}
 use Rattle.rubis_model.specs.Log.{cores}
 use Rattle.rubis_model.specs.Logs.{Log, shown_rows}
 use Rattle.rubis_model.specs.Order.{Released}
-use Rattle.rubis_model.specs.References.{RefersOf}
+use Rattle.rubis_model.specs.References.{RefersToPast}
 use Rattle.rubis_model.specs.Settle.{Has, Ready}
 use Rattle.rubis_model.specs.Verdict.{checks, clash, first_fault, first_of, found_or, log_fault, nick_taken, out_of_order, red_gap, same_rows, stock_short, verdict, verdict_from, wrong_category, wrong_reference, wrong_rows, wrong_winner}
 use Rattle.rubis_model.proofs.Lists.{has_append, has_back, has_left, has_reverse, has_right, push_cases}
@@ -114,7 +114,7 @@ module _ (sites site : ℕ) (others own : List Message) (v : Message) (w : Walke
     red_before = λ u h. red_before others own v c.red_gap t.formed.colour past (λ x k. (typed x k).formed.colour) u (has_reverse u own h);
   }
 
-  content : Fits (cores own) v.shadow × RefersOf (λ u. Has u own) v v.shadow
+  content : Fits (cores own) v.shadow × RefersToPast (λ u. Has u own) v v.shadow
   content = fits own v (subst (λ l. OneEach (cores l)) (reverse-reverse own) (one_each_back (reverse own) past)) v.shadow c.content
 
   one_number : (u : Message) → Has u (others ++ own) → 0 < u.stamp.red → u.stamp.red ≡ v.stamp.red → u ≡ v

@@ -3,7 +3,7 @@
 ghost use Rattle.std.specs.Bool.{MatchBool};
 ghost use Rattle.std.specs.Prelude.{◌≡◌, ◌++◌, ◌∷◌, [], IfOk, OnOk, codes, decimal};
 ghost use Rattle.rubis_message.specs.Grammar.{comment_fields, purchase_fields, winner_text};
-ghost use Rattle.rubis_model.specs.Listings.{best_fields, bid_fields, by_id, category_record, item_fields, row_record, sale_fields, shows_nothing, user_fields};
+ghost use Rattle.rubis_model.specs.Listings.{best_fields, bid_row_fields, by_id, category_record, item_row_fields, row_record, sale_fields, shows_nothing, user_fields};
 
 use rubis_schema::{
     Best, BidRow, CatRow, CommentRow, Fields, Id, ItemRow, PurchaseRow, Row, RowKey, Sale, UserRow,
@@ -72,7 +72,7 @@ fn push_sale(fields: &mut Fields, sale: &Sale) -> Result<(), AllocError>
 }
 
 fn put_item(fields: &mut Fields, id: &Id, item: &ItemRow) -> Result<(), AllocError>
-    ensures { OnOk result (fields.new ≡ by_id (codes "item") id.now (item_fields item.now)) }
+    ensures { OnOk result (fields.new ≡ by_id (codes "item") id.now (item_row_fields item.now)) }
 {
     begin(fields, b"item", id)?;
     item.seller.push_to(fields)?;
@@ -88,7 +88,7 @@ fn put_item(fields: &mut Fields, id: &Id, item: &ItemRow) -> Result<(), AllocErr
 }
 
 fn put_bid(fields: &mut Fields, id: &Id, bid: &BidRow) -> Result<(), AllocError>
-    ensures { OnOk result (fields.new ≡ by_id (codes "bid") id.now (bid_fields bid.now)) }
+    ensures { OnOk result (fields.new ≡ by_id (codes "bid") id.now (bid_row_fields bid.now)) }
 {
     begin(fields, b"bid", id)?;
     bid.item.push_to(fields)?;

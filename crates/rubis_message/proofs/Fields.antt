@@ -13,7 +13,7 @@ use Rattle.rubis_schema.proofs.FieldLaws.{id_is, number_is, step_back, step_by, 
 use Rattle.rubis_schema.proofs.IdTexts.{decimal_free}
 use Rattle.rubis_schema.proofs.Marks.{cut_back, cut_only}
 use Rattle.rubis_message.specs.Counts.{deps_of}
-use Rattle.rubis_message.specs.Forms.{winner_of}
+use Rattle.rubis_message.specs.Forms.{id_or_none}
 use Rattle.rubis_message.specs.Grammar.{deps_text, winner_text}
 
 -- ---- winners
@@ -40,15 +40,15 @@ no_id sites id true few h says =
     absurd cc
 no_id sites id false few h says = refl
 
-winner_back : (sites : ℕ) (few : sites < 2 ^ 8) (w : Option Id) → IfSome w (IsId sites) → winner_of sites (winner_text w) ≡ Some w
-unfolding winner_of
+winner_back : (sites : ℕ) (few : sites < 2 ^ 8) (w : Option Id) → IfSome w (IsId sites) → id_or_none sites (winner_text w) ≡ Some w
+unfolding id_or_none
 winner_back sites few None h = refl
 winner_back sites few (Some id) h =
     ap (λ b. cond b (Some None) (option_map Some (id_of sites (id_text id)))) (no_id sites id _ few h refl)
     ∙ ap (option_map Some) ((id_is sites few).back id h)
 
-pub winner_is : (sites : ℕ) → sites < 2 ^ 8 → IsField (λ w. IfSome w (IsId sites)) winner_text (winner_of sites)
-unfolding winner_of
+pub winner_is : (sites : ℕ) → sites < 2 ^ 8 → IsField (λ w. IfSome w (IsId sites)) winner_text (id_or_none sites)
+unfolding id_or_none
 winner_is sites few = record { back = winner_back sites few; only = λ field w e. winner_by sites few field w _ _ refl refl e }
 
 -- ---- counts

@@ -6,7 +6,7 @@ use Rattle.std.proofs.lemmas.Option.{same_Some, some_pair_parts}
 use Rattle.std.proofs.lemmas.Bool.Decides.{Decides-ltb}
 use Rattle.rubis_schema.specs.FieldForms.{IsField}
 use Rattle.rubis_schema.proofs.FieldLaws.{number_is}
-use Rattle.rubis_message.specs.Forms.{Form, ◌>>=◌, ◌>>◌, after, beside, check, give, kept, made, at_end, no_more, one, take_number, take_positive, take_site, whole}
+use Rattle.rubis_message.specs.Forms.{Form, ◌>>=◌, ◌>>◌, followed_by, beside, check, give, kept, mapped, at_end, no_more, one, take_number, take_positive, take_site, whole}
 use Rattle.rubis_message.specs.Words.{said}
 
 -- what the form reads is within the limits and written so, and all that is written so is read
@@ -38,19 +38,19 @@ one_is form = record {
 -- ---- one form, and then the next
 
 pub then_back : {A B : Type 0} {Fits : A → Type 0} {write : A → List (List ℕ)} {form : Form A} → IsForm Fits write form
-    → (x : A) (rest : List (List ℕ)) (next : A → Form B) → Fits x → after (form (write x ++ rest)) next ≡ next x rest
-then_back form x rest next h = ap (λ o. after o next) (form.back x rest h)
+    → (x : A) (rest : List (List ℕ)) (next : A → Form B) → Fits x → followed_by (form (write x ++ rest)) next ≡ next x rest
+then_back form x rest next h = ap (λ o. followed_by o next) (form.back x rest h)
 
 then_by : {A B P : Type 0} {Fits : A → Type 0} {write : A → List (List ℕ)} {form : Form A} → IsForm Fits write form
     → (next : A → Form B) (fields rest : List (List ℕ)) (y : B) (o : Option (A × List (List ℕ))) → form fields ≡ o
-    → after o next ≡ Some (y, rest)
+    → followed_by o next ≡ Some (y, rest)
     → ((x : A) (behind : List (List ℕ)) → Fits x → fields ≡ write x ++ behind → next x behind ≡ Some (y, rest) → P) → P
 then_by law next fields rest y None is e k = absurd cc
 then_by law next fields rest y (Some p) is e k = let w = law.only fields p.1 p.0 is in k p.0 p.1 w.0 w.1 e
 
 -- the first form read a value, and the next one what stands behind it
 pub then_only : {A B P : Type 0} {Fits : A → Type 0} {write : A → List (List ℕ)} {form : Form A} → IsForm Fits write form
-    → (next : A → Form B) (fields rest : List (List ℕ)) (y : B) → after (form fields) next ≡ Some (y, rest)
+    → (next : A → Form B) (fields rest : List (List ℕ)) (y : B) → followed_by (form fields) next ≡ Some (y, rest)
     → ((x : A) (behind : List (List ℕ)) → Fits x → fields ≡ write x ++ behind → next x behind ≡ Some (y, rest) → P) → P
 then_only {form} law next fields rest y e k = then_by law next fields rest y (form fields) refl e k
 
@@ -61,12 +61,12 @@ given {A} P x y behind rest e h =
 
 -- what is made of what a form reads
 pub made_back : {A B : Type 0} {Fits : A → Type 0} {write : A → List (List ℕ)} {form : Form A} → IsForm Fits write form
-    → (make : A → B) (x : A) (rest : List (List ℕ)) → Fits x → made make form (write x ++ rest) ≡ Some (make x, rest)
+    → (make : A → B) (x : A) (rest : List (List ℕ)) → Fits x → mapped make form (write x ++ rest) ≡ Some (make x, rest)
 made_back law make x rest h = then_back law x rest (λ y. give (make y)) h
 
 pub made_only : {A B : Type 0} {Fits : A → Type 0} {write : A → List (List ℕ)} {form : Form A} → IsForm Fits write form
     → (make : A → B) (P : B → List (List ℕ) → Type 0) (fields rest : List (List ℕ)) (y : B)
-    → made make form fields ≡ Some (y, rest)
+    → mapped make form fields ≡ Some (y, rest)
     → ((x : A) (behind : List (List ℕ)) → Fits x → fields ≡ write x ++ behind → P (make x) behind) → P y rest
 made_only law make P fields rest y e k =
     then_only law (λ x. give (make x)) fields rest y e
@@ -75,11 +75,11 @@ made_only law make P fields rest y e k =
 -- ---- tests
 
 pub check_back : {A : Type 0} (test : Bool) (fields : List (List ℕ)) (next : Form A) → test ≡ true
-    → after (check test fields) (λ _. next) ≡ next fields
-check_back test fields next h = ap (λ b. after (check b fields) (λ _. next)) h
+    → followed_by (check test fields) (λ _. next) ≡ next fields
+check_back test fields next h = ap (λ b. followed_by (check b fields) (λ _. next)) h
 
 pub check_only : {A : Type 0} (test : Bool) (fields rest : List (List ℕ)) (next : Form A) (y : A)
-    → after (check test fields) (λ _. next) ≡ Some (y, rest) → (test ≡ true) × (next fields ≡ Some (y, rest))
+    → followed_by (check test fields) (λ _. next) ≡ Some (y, rest) → (test ≡ true) × (next fields ≡ Some (y, rest))
 check_only true fields rest next y e = (refl, e)
 check_only false fields rest next y e = absurd cc
 
@@ -122,7 +122,7 @@ IsBehind {A} Fits write word form =
 pub behind : {A B : Type 0} {FitsA : A → Type 0} {writeA : A → List (List ℕ)} {form : Form A} → IsForm FitsA writeA form
     → (make : A → B) (Fits : B → Type 0) (write : B → List (List ℕ)) (word : List ℕ) → ((x : A) → FitsA x → Fits (make x))
     → ((x : A) (more : List (List ℕ)) → word ∷ (writeA x ++ more) ≡ write (make x) ++ more)
-    → IsBehind Fits write word (made make form)
+    → IsBehind Fits write word (mapped make form)
 behind law make Fits write word fits writes fields rest y e =
     made_only law make (λ z more. Fits z × (word ∷ fields ≡ write z ++ more)) fields rest y e
     (λ x more h is. (fits x h, ap (λ (t : List (List ℕ)). word ∷ t) is ∙ writes x more))
@@ -135,7 +135,7 @@ alone Fits write word x h writes fields rest y e =
 -- a word, and what stands behind that word
 pub by_word : {A K : Type 0} (Fits : A → Type 0) (write : A → List (List ℕ)) (text : K → List ℕ) (word : Form K)
     (form : K → Form A) → IsForm (λ _. ⊤) (λ k. text k ∷ []) word → ((k : K) → IsBehind Fits write (text k) (form k))
-    → ((x : A) (rest : List (List ℕ)) → Fits x → after (word (write x ++ rest)) form ≡ Some (x, rest))
+    → ((x : A) (rest : List (List ℕ)) → Fits x → followed_by (word (write x ++ rest)) form ≡ Some (x, rest))
     → IsForm Fits write (word >>= form)
 by_word Fits write text word form law each back = record {
   back = back;

@@ -16,7 +16,7 @@ use Rattle.rubis_shadow.specs.declared.shadows.Shadow.TheVariants as shadow
 use Rattle.rubis_clock.specs.declared.stamps.Stamp.{Stamp}
 use Rattle.rubis_message.specs.Message.{Message, IsMessage}
 use Rattle.rubis_message.specs.Grammar.{token_version, version_of, HasShadowTexts, IsListing, IsMessageAmong, IsPacket, IsRequest, IsStamp, IsToken, asked_close_fields, bid_fields, close_fields, comment_fields, item_fields, listing_fields, message_fields, message_record, packet_record, purchase_fields, request_record, shadow_fields, stamp_fields, token_fields, token_record}
-use Rattle.rubis_message.specs.Forms.{after, give, none, made, one, take_id, take_number, take_positive}
+use Rattle.rubis_message.specs.Forms.{followed_by, give, none, mapped, one, take_id, take_number, take_positive}
 use Rattle.rubis_message.specs.Readings.{agrees, listing_by, packet_of, request_by, request_of, shadow_by, take_asked_close, take_bid, take_close, take_comment, take_item, take_kind, take_listing, take_message, take_packet, take_purchase, take_request, take_shadow, take_shown, take_stamp, take_token}
 use Rattle.rubis_message.specs.Words.{all_shown, kind_of, kind_text, kinds, shown_of, shown_text}
 use Rattle.rubis_message.specs.declared.faults.ReadFault.{ReadFault}
@@ -386,8 +386,8 @@ module _ (sites : ℕ) (few : sites < 2 ^ 8) where
 
   packet_behind : sites ≤ COUNTED_MAX → (word version : List ℕ) (fields rest : List (List ℕ)) (p : Packet) (a b : Bool)
       → bytes_eq word (codes "msg") ≡ a → bytes_eq word (codes "token") ≡ b
-      → cond a (made packet.Msg (take_message sites version))
-      (cond b (made packet.Token (take_token sites version)) none) fields ≡ Some (p, rest) → IsSent word version fields p rest
+      → cond a (mapped packet.Msg (take_message sites version))
+      (cond b (mapped packet.Token (take_token sites version)) none) fields ≡ Some (p, rest) → IsSent word version fields p rest
   packet_behind top word version fields rest p true b says other e =
       made_only (message_form top version) packet.Msg (IsSent word version fields) fields rest p e
       (λ m more h is. (h.0, (λ i. (bytes_decides word (codes "msg")).0 says i ∷ h.1 i ∷ is i)))
@@ -403,7 +403,7 @@ module _ (sites : ℕ) (few : sites < 2 ^ 8) where
       → take_packet sites (packet_record p ++ rest) ≡ Some (p, rest)
   unfolding take_packet
   packet_back (packet.Msg m) rest h =
-      ap (λ o. after o (λ x. give (packet.Msg x))) (message_back (version_of m.shadow) m rest (h, refl))
+      ap (λ o. followed_by o (λ x. give (packet.Msg x))) (message_back (version_of m.shadow) m rest (h, refl))
   packet_back (packet.Token t) rest h = made_back (token_form token_version) packet.Token t rest (h, refl)
 
   pub packet_form : sites ≤ COUNTED_MAX → IsForm (IsPacket sites) packet_record (take_packet sites)

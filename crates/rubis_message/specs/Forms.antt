@@ -16,18 +16,18 @@ Takes form fields rest (Ok x) = form fields ≡ Some (x, rest)
 Takes form fields rest (Err BadRecord) = form fields ≡ None
 Takes form fields rest (Err Memory) = ⊤
 
-abbrev pub after : {A B : Type 0} → Option (A × List (List ℕ)) → (A → Form B) → Option (B × List (List ℕ))
-after None next = None
-after (Some p) next = next p.0 p.1
+abbrev pub followed_by : {A B : Type 0} → Option (A × List (List ℕ)) → (A → Form B) → Option (B × List (List ℕ))
+followed_by None next = None
+followed_by (Some p) next = next p.0 p.1
 
 -- one form, and then the next
 infixl 10 ◌>>=◌
 abbrev pub ◌>>=◌ : {A B : Type 0} → Form A → (A → Form B) → Form B
-(form >>= next) fields = after (form fields) next
+(form >>= next) fields = followed_by (form fields) next
 
 infixl 10 ◌>>◌
 abbrev pub ◌>>◌ : {A B : Type 0} → Form A → Form B → Form B
-(form >> next) fields = after (form fields) (λ _. next)
+(form >> next) fields = followed_by (form fields) (λ _. next)
 
 abbrev pub give : {A : Type 0} → A → Form A
 give x fields = Some (x, fields)
@@ -36,8 +36,8 @@ abbrev pub none : {A : Type 0} → Form A
 none fields = None
 
 -- the value, made of what the form reads
-abbrev pub made : {A B : Type 0} → (A → B) → Form A → Form B
-made make form fields = after (form fields) (λ x. give (make x))
+abbrev pub mapped : {A B : Type 0} → (A → B) → Form A → Form B
+mapped make form fields = followed_by (form fields) (λ x. give (make x))
 
 -- nothing is read, and the test holds
 abbrev pub check : Bool → Form (Unit {0})
@@ -87,11 +87,11 @@ abbrev pub take_id : ℕ → Form Id
 take_id sites = one (id_of sites)
 
 -- an id of one of so many sites, or `none`
-unfoldable pub winner_of : ℕ → List ℕ → Option (Option Id)
-winner_of sites field = cond (bytes_eq field (codes "none")) (Some None) (option_map Some (id_of sites field))
+unfoldable pub id_or_none : ℕ → List ℕ → Option (Option Id)
+id_or_none sites field = cond (bytes_eq field (codes "none")) (Some None) (option_map Some (id_of sites field))
 
 abbrev pub take_winner : ℕ → Form (Option Id)
-take_winner sites = one (winner_of sites)
+take_winner sites = one (id_or_none sites)
 
 abbrev pub take_rating : Form ℤ
 take_rating = one rating_of

@@ -3,12 +3,12 @@ use Rattle.std.specs.Prelude.{ℕ, List, codes}
 use Rattle.rubis_message.specs.declared.answers.Kind.{Kind}
 use Rattle.rubis_message.specs.declared.answers.Kind.TheVariants.{Clash, Order, RedGap, Refers, Nick, Stock, Winner, Rows}
 
-abbrev pub name_of : Kind → List ℕ
-name_of Clash = codes "Clash"
-name_of Order = codes "Order"
-name_of RedGap = codes "RedGap"
-name_of Refers = codes "Refers"
-name_of Nick = codes "Nick"
-name_of Stock = codes "Stock"
-name_of Winner = codes "Winner"
-name_of Rows = codes "Rows"
+abbrev pub fault_kind_name : Kind → List ℕ
+fault_kind_name Clash = codes "Clash"
+fault_kind_name Order = codes "Order"
+fault_kind_name RedGap = codes "RedGap"
+fault_kind_name Refers = codes "Refers"
+fault_kind_name Nick = codes "Nick"
+fault_kind_name Stock = codes "Stock"
+fault_kind_name Winner = codes "Winner"
+fault_kind_name Rows = codes "Rows"

@@ -14,7 +14,7 @@ use Rattle.rubis_shadow.specs.declared.shadows.NewClose.{NewClose}
 use Rattle.rubis_shadow.specs.declared.shadows.Shadow.{Shadow}
 use Rattle.rubis_shadow.specs.declared.shadows.Shadow.TheVariants as shadow
 use Rattle.rubis_clock.specs.declared.stamps.Stamp.{Stamp}
-use Rattle.rubis_message.specs.Forms.{Form, ◌>>=◌, ◌>>◌, give, none, made, check, whole, one, take_deps, take_id, take_name, take_nick, take_number, take_positive, take_rating, take_site, take_text, take_winner}
+use Rattle.rubis_message.specs.Forms.{Form, ◌>>=◌, ◌>>◌, give, none, mapped, check, whole, one, take_deps, take_id, take_name, take_nick, take_number, take_positive, take_rating, take_site, take_text, take_winner}
 use Rattle.rubis_message.specs.Grammar.{IsPacket, IsRequest, packet_record, request_record, token_version, version_of}
 use Rattle.rubis_message.specs.Message.{Message}
 use Rattle.rubis_message.specs.Words.{kind_of, shown_of}
@@ -86,10 +86,10 @@ take_shown = one shown_of
 
 abbrev pub listing_by : ℕ → Shown → Form Listing
 listing_by sites shown.Users = give listing.Users
-listing_by sites shown.Items = made listing.Items (take_number CAT_MAX)
-listing_by sites shown.Bids = made listing.Bids (take_id sites)
-listing_by sites shown.Purchases = made listing.Purchases (take_id sites)
-listing_by sites shown.Comments = made listing.Comments (take_id sites)
+listing_by sites shown.Items = mapped listing.Items (take_number CAT_MAX)
+listing_by sites shown.Bids = mapped listing.Bids (take_id sites)
+listing_by sites shown.Purchases = mapped listing.Purchases (take_id sites)
+listing_by sites shown.Comments = mapped listing.Comments (take_id sites)
 listing_by sites shown.Categories = give listing.Categories
 listing_by sites shown.Log = give listing.Log
 listing_by sites shown.Misfits = give listing.Misfits
@@ -99,14 +99,14 @@ unfoldable pub take_listing : ℕ → Form Listing
 take_listing sites = take_shown >>= listing_by sites
 
 abbrev pub request_by : ℕ → Kind → Form Request
-request_by sites kind.User = made (λ n. request.Ask (ask.User n)) take_nick
-request_by sites kind.Item = made (λ n. request.Ask (ask.Item n)) (take_item sites)
-request_by sites kind.Bid = made (λ b. request.Ask (ask.Bid b)) (take_bid sites)
-request_by sites kind.Buy = made (λ p. request.Ask (ask.Buy p)) (take_purchase sites)
-request_by sites kind.Close = made (λ c. request.Ask (ask.Close c)) (take_asked_close sites)
-request_by sites kind.Comment = made (λ c. request.Ask (ask.Comment c)) (take_comment sites)
-request_by sites kind.Pass = made request.Pass (take_number PASS_MAX)
-request_by sites kind.List = made request.List (take_listing sites)
+request_by sites kind.User = mapped (λ n. request.Ask (ask.User n)) take_nick
+request_by sites kind.Item = mapped (λ n. request.Ask (ask.Item n)) (take_item sites)
+request_by sites kind.Bid = mapped (λ b. request.Ask (ask.Bid b)) (take_bid sites)
+request_by sites kind.Buy = mapped (λ p. request.Ask (ask.Buy p)) (take_purchase sites)
+request_by sites kind.Close = mapped (λ c. request.Ask (ask.Close c)) (take_asked_close sites)
+request_by sites kind.Comment = mapped (λ c. request.Ask (ask.Comment c)) (take_comment sites)
+request_by sites kind.Pass = mapped request.Pass (take_number PASS_MAX)
+request_by sites kind.List = mapped request.List (take_listing sites)
 
 unfoldable pub take_request : ℕ → Form Request
 take_request sites = take_kind >>= request_by sites
@@ -127,12 +127,12 @@ take_stamp sites = do
   give (record { id = record { site = site; seq = seq }; red = red; deps = deps })
 
 abbrev pub shadow_by : ℕ → Kind → Form Shadow
-shadow_by sites kind.User = made shadow.User take_nick
-shadow_by sites kind.Item = made shadow.Item (take_item sites)
-shadow_by sites kind.Bid = made shadow.Bid (take_bid sites)
-shadow_by sites kind.Buy = made shadow.Buy (take_purchase sites)
-shadow_by sites kind.Close = made shadow.Close (take_close sites)
-shadow_by sites kind.Comment = made shadow.Comment (take_comment sites)
+shadow_by sites kind.User = mapped shadow.User take_nick
+shadow_by sites kind.Item = mapped shadow.Item (take_item sites)
+shadow_by sites kind.Bid = mapped shadow.Bid (take_bid sites)
+shadow_by sites kind.Buy = mapped shadow.Buy (take_purchase sites)
+shadow_by sites kind.Close = mapped shadow.Close (take_close sites)
+shadow_by sites kind.Comment = mapped shadow.Comment (take_comment sites)
 shadow_by sites kind.Pass = none
 shadow_by sites kind.List = none
 
@@ -162,8 +162,8 @@ take_token sites version = do
 
 abbrev pub packet_by : ℕ → List ℕ → List ℕ → Form Packet
 packet_by sites word version =
-    cond (bytes_eq word (codes "msg")) (made packet.Msg (take_message sites version))
-    (cond (bytes_eq word (codes "token")) (made packet.Token (take_token sites version)) none)
+    cond (bytes_eq word (codes "msg")) (mapped packet.Msg (take_message sites version))
+    (cond (bytes_eq word (codes "token")) (mapped packet.Token (take_token sites version)) none)
 
 unfoldable pub take_packet : ℕ → Form Packet
 take_packet sites = do

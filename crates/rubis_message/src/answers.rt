@@ -1,5 +1,5 @@
 ghost use Rattle.std.specs.Prelude.{◌≡◌};
-ghost use Rattle.rubis_message.specs.Kinds.{name_of};
+ghost use Rattle.rubis_message.specs.Kinds.{fault_kind_name};
 
 use rubis_schema::{Fields, Items};
 
@@ -60,7 +60,7 @@ pub enum Kind {
 impl Kind {
     /// The name that the record of a verdict shows.
     pub fn name(&self) -> &'static str
-        ensures { result.now ≡ name_of self.now }
+        ensures { result.now ≡ fault_kind_name self.now }
     {
         match self {
             Kind::Clash => "Clash",

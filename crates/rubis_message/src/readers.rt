@@ -119,7 +119,7 @@ impl<'a> Reader<'a> {
     }
 
     /// An id of one of so many sites, or `none`.
-    #[tactic(auto, unfolding(crate::specs::Forms::winner_of))]
+    #[tactic(auto, unfolding(crate::specs::Forms::id_or_none))]
     pub fn winner(&mut self, sites: u8) -> Result<Option<Id>, ReadFault>
         ensures { Takes (take_winner sites) self.old self.new result }
     {

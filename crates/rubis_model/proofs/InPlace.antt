@@ -13,7 +13,7 @@ use Rattle.rubis_shadow.specs.declared.changes.Effect.{Effect}
 use Rattle.rubis_shadow.specs.declared.changes.MisfitKind.{MisfitKind}
 use Rattle.rubis_shadow.specs.declared.numbered.Numbered.{Numbered}
 use Rattle.rubis_shadow.specs.declared.numbered.Misfit.{Misfit}
-use Rattle.rubis_shadow.specs.Changes.{after, misfit_of}
+use Rattle.rubis_shadow.specs.Changes.{after_part, misfit_of}
 use Rattle.rubis_model.specs.Log.{Core, noted, number_parts, numbered_from, parts_of, share}
 use Rattle.rubis_model.specs.Settle.{Has}
 use Rattle.rubis_model.specs.Shares.{part_of, batch_folded, share_folded, IsBefore, InPlace}
@@ -143,7 +143,7 @@ numbered_rise first (m ∷ ms) =
 noted_of : (t : Tables) (ns : List Numbered) (z : Misfit) → Has z (all_noted (outcomes t ns))
     → (n : Numbered) × (Has n ns) × (z.entry ≡ n.entry) × (z.part ≡ n.part)
 noted_of t [] z h = absurd h
-noted_of t (n ∷ ns) z h = ⊎_elim (here (misfit_of t n.effect)) (λ k. let w = noted_of (after t n.effect) ns z k in (w.0, inr w.1, w.2, w.3)) (has_append z (noted n (misfit_of t n.effect)) (all_noted (outcomes (after t n.effect) ns)) h)
+noted_of t (n ∷ ns) z h = ⊎_elim (here (misfit_of t n.effect)) (λ k. let w = noted_of (after_part t n.effect) ns z k in (w.0, inr w.1, w.2, w.3)) (has_append z (noted n (misfit_of t n.effect)) (all_noted (outcomes (after_part t n.effect) ns)) h)
   where
     here : (o : Option MisfitKind) → Has z (noted n o) → (n' : Numbered) × (Has n' (n ∷ ns)) × (z.entry ≡ n'.entry) × (z.part ≡ n'.part)
     here None m = absurd m
@@ -152,16 +152,16 @@ noted_of t (n ∷ ns) z h = ⊎_elim (here (misfit_of t n.effect)) (λ k. let w 
 
 misfits_rise : (t : Tables) (ns : List Numbered) → PartsInPlace ns → InPlace (all_noted (outcomes t ns))
 misfits_rise t [] r = tt
-misfits_rise t (n ∷ ns) r = at (misfit_of t n.effect) (misfits_rise (after t n.effect) ns r.1)
+misfits_rise t (n ∷ ns) r = at (misfit_of t n.effect) (misfits_rise (after_part t n.effect) ns r.1)
   where
-    later : (kind : MisfitKind) (z : Misfit) → Has z (all_noted (outcomes (after t n.effect) ns))
+    later : (kind : MisfitKind) (z : Misfit) → Has z (all_noted (outcomes (after_part t n.effect) ns))
         → IsBefore (record { entry = n.entry; part = n.part; id = n.id; kind = kind }) z
     later kind z h =
-        let w = noted_of (after t n.effect) ns z h in
+        let w = noted_of (after_part t n.effect) ns z h in
         ⊎_elim (λ l. inl (let e = w.2 in omega (arith, l, e))) (λ p. inr (p.0 ∙ sym w.2, (let l = p.1 in let e = w.3 in omega (arith, l, e)))) (r.0 w.0 w.1)
 
-    at : (o : Option MisfitKind) → InPlace (all_noted (outcomes (after t n.effect) ns))
-        → InPlace (noted n o ++ all_noted (outcomes (after t n.effect) ns))
+    at : (o : Option MisfitKind) → InPlace (all_noted (outcomes (after_part t n.effect) ns))
+        → InPlace (noted n o ++ all_noted (outcomes (after_part t n.effect) ns))
     at None k = k
     at (Some kind) k = (later kind, k)
 

@@ -13,7 +13,7 @@ use Rattle.rubis_schema.specs.Keys.{tied, home}
 use Rattle.rubis_schema.specs.Tables.{Tables}
 use Rattle.rubis_shadow.specs.declared.numbered.Numbered.{Numbered}
 use Rattle.rubis_shadow.specs.declared.numbered.Misfit.{Misfit}
-use Rattle.rubis_shadow.specs.Changes.{with_row, after, doing, misfit_of, change_row}
+use Rattle.rubis_shadow.specs.Changes.{with_row, after_part, doing, misfit_of, change_row}
 use Rattle.rubis_model.specs.Log.{Core, noted, number_parts, numbered_from, parts_of, share, step, fold_on, before_any, fold_of}
 use Rattle.rubis_model.specs.Shares.{part_of, batch_folded, share_folded}
 use Rattle.rubis_schema.specs.KeyLaws.{key_antisymmetric, Decides-tied}
@@ -21,12 +21,12 @@ use Rattle.rubis_model.proofs.Commute.{same_tables, get-with_row}
 
 abbrev pub tables_after : Tables → List Numbered → Tables
 tables_after t [] = t
-tables_after t (n ∷ ns) = tables_after (after t n.effect) ns
+tables_after t (n ∷ ns) = tables_after (after_part t n.effect) ns
 
 -- each part with its misfit, if it has one
 abbrev pub outcomes : Tables → List Numbered → List (Numbered × Option MisfitKind)
 outcomes t [] = []
-outcomes t (n ∷ ns) = (n, misfit_of t n.effect) ∷ outcomes (after t n.effect) ns
+outcomes t (n ∷ ns) = (n, misfit_of t n.effect) ∷ outcomes (after_part t n.effect) ns
 
 abbrev pub all_noted : List (Numbered × Option MisfitKind) → List Misfit
 all_noted os = flat_map (λ o. noted o.0 o.1) os
@@ -38,8 +38,8 @@ fold_on_is t ms [] = λ i. record { tables = t; misfits = nothing_more i }
     nothing_more : ms ≡ ms ++ []
     nothing_more = search Rattle.std.proofs.Common.rules
 fold_on_is t ms (n ∷ ns) =
-    fold_on_is (after t n.effect) (ms ++ noted n (misfit_of t n.effect)) ns
-    ∙ (λ i. record { tables = tables_after (after t n.effect) ns; misfits = append_assoc ms (noted n (misfit_of t n.effect)) (all_noted (outcomes (after t n.effect) ns)) i })
+    fold_on_is (after_part t n.effect) (ms ++ noted n (misfit_of t n.effect)) ns
+    ∙ (λ i. record { tables = tables_after (after_part t n.effect) ns; misfits = append_assoc ms (noted n (misfit_of t n.effect)) (all_noted (outcomes (after_part t n.effect) ns)) i })
 
 module _ (shards k : ℕ) where
   abbrev at_home : RowKey → Bool
@@ -75,19 +75,19 @@ module _ (shards k : ℕ) where
       left : (q : RowKey) → map.get (part_of shards k (with_row t p o)) q ≡ cond (at_home q) (cond (tied q p) o (map.get t q)) None
       left q = get-part_of (with_row t p o) q ∙ ap (λ x. cond (at_home q) x None) (get-with_row t p o q)
 
-  pub part_after : (t : Tables) (e : Effect) → part_of shards k (after t e) ≡ cond (at_home e.key) (after (part_of shards k t) e) (part_of shards k t)
+  pub part_after : (t : Tables) (e : Effect) → part_of shards k (after_part t e) ≡ cond (at_home e.key) (after_part (part_of shards k t) e) (part_of shards k t)
   part_after t e = part_with_row t e.key (doing t e).row ∙ at (at_home e.key) refl
     where
       at : (b : Bool) → at_home e.key ≡ b
-          → cond b (with_row (part_of shards k t) e.key (doing t e).row) (part_of shards k t) ≡ cond b (after (part_of shards k t) e) (part_of shards k t)
+          → cond b (with_row (part_of shards k t) e.key (doing t e).row) (part_of shards k t) ≡ cond b (after_part (part_of shards k t) e) (part_of shards k t)
       at true h = ap (λ d. with_row (part_of shards k t) e.key d.row) (sym (same_doing t e h))
       at false h = refl
 
   pub share_tables : (t : Tables) (ns : List Numbered) → tables_after (part_of shards k t) (filter mine ns) ≡ part_of shards k (tables_after t ns)
   share_tables t [] = refl
-  share_tables t (n ∷ ns) = elim (mine n) as (λ b. mine n ≡ b → tables_after (part_of shards k t) (cond b (n ∷ filter mine ns) (filter mine ns)) ≡ part_of shards k (tables_after (after t n.effect) ns)) [
-    | true ↦ λ h. ap (λ u. tables_after u (filter mine ns)) (sym (part_after t n.effect ∙ ap (λ b. cond b (after (part_of shards k t) n.effect) (part_of shards k t)) h)) ∙ share_tables (after t n.effect) ns
-    | false ↦ λ h. ap (λ u. tables_after u (filter mine ns)) (sym (part_after t n.effect ∙ ap (λ b. cond b (after (part_of shards k t) n.effect) (part_of shards k t)) h)) ∙ share_tables (after t n.effect) ns
+  share_tables t (n ∷ ns) = elim (mine n) as (λ b. mine n ≡ b → tables_after (part_of shards k t) (cond b (n ∷ filter mine ns) (filter mine ns)) ≡ part_of shards k (tables_after (after_part t n.effect) ns)) [
+    | true ↦ λ h. ap (λ u. tables_after u (filter mine ns)) (sym (part_after t n.effect ∙ ap (λ b. cond b (after_part (part_of shards k t) n.effect) (part_of shards k t)) h)) ∙ share_tables (after_part t n.effect) ns
+    | false ↦ λ h. ap (λ u. tables_after u (filter mine ns)) (sym (part_after t n.effect ∙ ap (λ b. cond b (after_part (part_of shards k t) n.effect) (part_of shards k t)) h)) ∙ share_tables (after_part t n.effect) ns
   ] refl
 
   abbrev mine_done : Numbered × Option MisfitKind → Bool
@@ -95,9 +95,9 @@ module _ (shards k : ℕ) where
 
   pub share_outcomes : (t : Tables) (ns : List Numbered) → outcomes (part_of shards k t) (filter mine ns) ≡ filter mine_done (outcomes t ns)
   share_outcomes t [] = refl
-  share_outcomes t (n ∷ ns) = elim (mine n) as (λ b. mine n ≡ b → outcomes (part_of shards k t) (cond b (n ∷ filter mine ns) (filter mine ns)) ≡ cond b ((n, misfit_of t n.effect) ∷ filter mine_done (outcomes (after t n.effect) ns)) (filter mine_done (outcomes (after t n.effect) ns))) [
-    | true ↦ λ h. λ i. (n, (same_doing t n.effect h i).misfit) ∷ ((ap (λ u. outcomes u (filter mine ns)) (sym (part_after t n.effect ∙ ap (λ b. cond b (after (part_of shards k t) n.effect) (part_of shards k t)) h)) ∙ share_outcomes (after t n.effect) ns) i)
-    | false ↦ λ h. ap (λ u. outcomes u (filter mine ns)) (sym (part_after t n.effect ∙ ap (λ b. cond b (after (part_of shards k t) n.effect) (part_of shards k t)) h)) ∙ share_outcomes (after t n.effect) ns
+  share_outcomes t (n ∷ ns) = elim (mine n) as (λ b. mine n ≡ b → outcomes (part_of shards k t) (cond b (n ∷ filter mine ns) (filter mine ns)) ≡ cond b ((n, misfit_of t n.effect) ∷ filter mine_done (outcomes (after_part t n.effect) ns)) (filter mine_done (outcomes (after_part t n.effect) ns))) [
+    | true ↦ λ h. λ i. (n, (same_doing t n.effect h i).misfit) ∷ ((ap (λ u. outcomes u (filter mine ns)) (sym (part_after t n.effect ∙ ap (λ b. cond b (after_part (part_of shards k t) n.effect) (part_of shards k t)) h)) ∙ share_outcomes (after_part t n.effect) ns) i)
+    | false ↦ λ h. ap (λ u. outcomes u (filter mine ns)) (sym (part_after t n.effect ∙ ap (λ b. cond b (after_part (part_of shards k t) n.effect) (part_of shards k t)) h)) ∙ share_outcomes (after_part t n.effect) ns
   ] refl
 
 -- every row is in its home's part

@@ -1,7 +1,7 @@
 -- The records that a site writes.
 use Rattle.std.specs.Prelude.{ℕ, List, [], ◌∷◌, length, Result, Ok, Err, codes, decimal}
 use Rattle.rubis_schema.specs.Ids.{id_text}
-use Rattle.rubis_schema.specs.Refusals.{code_of, name_of}
+use Rattle.rubis_schema.specs.Refusals.{code_of, refusal_name}
 use Rattle.rubis_schema.specs.declared.refusals.Refusal.{Refusal}
 use Rattle.rubis_message.specs.Message.{Message}
 use Rattle.rubis_message.specs.Grammar.{message_record, token_record}
@@ -16,7 +16,7 @@ abbrev pub reply : ℕ → List (List ℕ) → List (List ℕ)
 reply n rest = codes "reply" ∷ decimal n ∷ rest
 
 abbrev pub refused_row : ℕ → Refusal → List (List ℕ)
-refused_row n r = reply n (codes "refused" ∷ decimal (code_of r) ∷ name_of r ∷ [])
+refused_row n r = reply n (codes "refused" ∷ decimal (code_of r) ∷ refusal_name r ∷ [])
 
 -- what other sites are sent
 abbrev pub send_row : List (List ℕ) → List (List ℕ)

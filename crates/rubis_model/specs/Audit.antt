@@ -11,7 +11,7 @@ use Rattle.rubis_model.specs.Checks.{Fits}
 use Rattle.rubis_model.specs.Claims.{SerializeOneOrder, KeepInvariants}
 use Rattle.rubis_model.specs.Settle.{Has, Ready, counted}
 use Rattle.rubis_model.specs.Order.{Precedes}
-use Rattle.rubis_model.specs.References.{RefersOf}
+use Rattle.rubis_model.specs.References.{RefersToPast}
 
 -- one of the logs
 abbrev pub OneOf : List Log → Type 0
@@ -40,7 +40,7 @@ AllOrdered i (v ∷ past) = IsOrdered i past v × AllOrdered i past
 -- each fits after those before it, and refers to messages among them that precede it; newest first
 abbrev pub AllFitting : List Message → Type 0
 AllFitting [] = ⊤
-AllFitting (v ∷ past) = (Fits (cores (reverse past)) v.shadow × RefersOf (λ u. Has u past) v v.shadow) × AllFitting past
+AllFitting (v ∷ past) = (Fits (cores (reverse past)) v.shadow × RefersToPast (λ u. Has u past) v v.shadow) × AllFitting past
 
 -- the logs pass all checks together
 pub record AreFaultless (logs : List Log) : Type 0 where

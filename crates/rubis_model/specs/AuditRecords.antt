@@ -4,9 +4,9 @@ use Rattle.std.specs.List.{flat_map}
 use Rattle.std.specs.Option.{option_or}
 use Rattle.rubis_schema.specs.FieldForms.{only_if}
 use Rattle.rubis_schema.specs.declared.limits.TheConstants.{COUNTED_MAX}
-use Rattle.rubis_message.specs.Forms.{Form, ◌>>=◌, ◌>>◌, check, made, one, take_site, whole}
+use Rattle.rubis_message.specs.Forms.{Form, ◌>>=◌, ◌>>◌, check, mapped, one, take_site, whole}
 use Rattle.rubis_message.specs.Grammar.{IsMessageAmong, message_record}
-use Rattle.rubis_message.specs.Kinds.{name_of}
+use Rattle.rubis_message.specs.Kinds.{fault_kind_name}
 use Rattle.rubis_message.specs.Message.{Message}
 use Rattle.rubis_message.specs.Readings.{packet_of}
 use Rattle.rubis_message.specs.declared.answers.Verdict.{Verdict}
@@ -28,7 +28,7 @@ unfoldable pub take_begin : ℕ → Form Line
 take_begin sites = do
   word ← one Some
   check (bytes_eq word (codes "site"))
-  made Begin (take_site sites)
+  mapped Begin (take_site sites)
 
 -- a message, and no token
 abbrev pub next_of : Packet → Option Line
@@ -66,7 +66,7 @@ logs_after sites n logs (fields ∷ rest) = elim (option_and_then (with_line log
 -- the record of a verdict
 abbrev pub verdict_record : Verdict → List (List ℕ)
 verdict_record Agree = codes "audit" ∷ codes "Agree" ∷ []
-verdict_record (Found kind log entry) = codes "audit" ∷ name_of kind ∷ decimal log ∷ decimal entry ∷ []
+verdict_record (Found kind log entry) = codes "audit" ∷ fault_kind_name kind ∷ decimal log ∷ decimal entry ∷ []
 
 abbrev pub audit_record : Result (List Log) ℕ → List (List ℕ)
 audit_record (Ok logs) = verdict_record (verdict (reverse logs))

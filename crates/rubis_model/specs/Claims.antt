@@ -14,7 +14,7 @@ use Rattle.rubis_model.specs.Log.{cores, fold_of}
 use Rattle.rubis_model.specs.Logs.{Log}
 use Rattle.rubis_model.specs.Meaning.{IsMeaning, as_user, closes, item_at, supply, winner_of}
 use Rattle.rubis_model.specs.Order.{IsRedBlueOrder, Serializes}
-use Rattle.rubis_model.specs.References.{RefersOf}
+use Rattle.rubis_model.specs.References.{RefersToPast}
 use Rattle.rubis_model.specs.Site.{rows_at}
 
 -- the logs causally serialize one RedBlue order of all these messages
@@ -31,7 +31,7 @@ pub record KeepInvariants (all : Message → Type 0) (IsLog : Log → Type 0) : 
   pub meaning : (log : Log) → IsLog log → IsMeaning (cores log.messages) (fold_of (cores log.messages)).tables
   pub clean : (log : Log) → IsLog log → (fold_of (cores log.messages)).misfits ≡ []
   -- each refers to messages of the right kind that precede it
-  pub refers : (v : Message) → all v → RefersOf all v v.shadow
+  pub refers : (v : Message) → all v → RefersToPast all v v.shadow
   -- in each log no more of an item is sold than there was, a nickname has one user, and a winner is the highest bid; and what
   -- wasn't sold is what the tables show
   pub holds : (log : Log) → IsLog log → Holds (cores log.messages)

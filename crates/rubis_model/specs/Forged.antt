@@ -8,11 +8,11 @@ use Rattle.rubis_schema.specs.declared.rows.Row.{Row}
 use Rattle.rubis_schema.specs.declared.rows.Row.TheVariants as row
 use Rattle.rubis_shadow.specs.declared.shadows.NewItem.{NewItem}
 use Rattle.rubis_model.specs.Log.{Core, fold_of}
-use Rattle.rubis_model.specs.Meaning.{as_user, first, is_nick, item_at, when}
+use Rattle.rubis_model.specs.Meaning.{as_user, first, is_same_nick, item_at, when}
 
 -- the first user of a log that has this nickname
 abbrev pub first_named : List ℕ → List Core → Option Id
-first_named n log = first (λ m. when (is_nick n (as_user m.shadow)) (Some m.id)) log
+first_named n log = first (λ m. when (is_same_nick n (as_user m.shadow)) (Some m.id)) log
 
 -- a nickname has a row where a user of the log has it, and it names the first
 abbrev pub FirstKeepsTheName : Type 0

@@ -4,12 +4,12 @@ use Rattle.std.specs.FinMap as map
 use Rattle.rubis_schema.specs.Keys.{home}
 use Rattle.rubis_schema.specs.Tables.{Tables}
 use Rattle.rubis_schema.specs.declared.row_keys.RowKey.{RowKey}
-use Rattle.rubis_shadow.specs.Changes.{after, misfit_of}
+use Rattle.rubis_shadow.specs.Changes.{after_part, misfit_of}
 use Rattle.rubis_shadow.specs.declared.asks.Ask.{Ask}
 use Rattle.rubis_shadow.specs.declared.changes.Effect.{Effect}
 use Rattle.rubis_shadow.specs.declared.shadows.Shadow.{Shadow}
 use Rattle.rubis_generate.specs.Decision.{decision}
-use Rattle.rubis_generate.specs.Lookup.{rows_of}
+use Rattle.rubis_generate.specs.Lookup.{row_by_key}
 use Rattle.rubis_generate.specs.declared.standing.Standing.{Standing}
 use Rattle.rubis_shadow.specs.declared.numbered.Misfit.{Misfit}
 use Rattle.rubis_message.specs.declared.answers.Arrival.TheVariants as arrival
@@ -40,7 +40,7 @@ use Rattle.rubis_model.specs.Sound.{AllDeliverable, red_count, OneToken}
 -- parts on different keys may be done in either order: the tables are the same, and the misfit of each part
 abbrev pub PartsCommute : Type 0
 PartsCommute = (t : Tables) (e f : Effect) → ¬ (e.key ≡ f.key)
-    → (after (after t e) f ≡ after (after t f) e) × (misfit_of (after t e) f ≡ misfit_of t f) × (misfit_of (after t f) e ≡ misfit_of t e)
+    → (after_part (after_part t e) f ≡ after_part (after_part t f) e) × (misfit_of (after_part t e) f ≡ misfit_of t f) × (misfit_of (after_part t f) e ≡ misfit_of t e)
 
 -- a set of messages has one meaning
 abbrev pub MeaningIsOne : Type 0
@@ -57,7 +57,7 @@ CheckedLogsHold = (log : List Core) → Checked log → Holds log
 -- the shadow of an ask that isn't refused at the tables of such a log fits after it
 abbrev pub DecidedShadowsFit : Type 0
 DecidedShadowsFit = (log : List Core) (standing : Standing) (ask : Ask) (x : Shadow) → Checked log → length log ≤ 2 ^ 32
-    → decision (rows_of (fold_of log).tables) standing ask ≡ Ok x → Fits log x
+    → decision (row_by_key (fold_of log).tables) standing ask ≡ Ok x → Fits log x
 
 -- logs that pass the checks and have equal sets fold to equal tables
 abbrev pub EqualSetsEqualTables : Type 0

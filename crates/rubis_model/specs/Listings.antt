@@ -40,13 +40,13 @@ abbrev pub sale_fields : Sale → List (List ℕ)
 sale_fields Open = codes "open" ∷ codes "none" ∷ []
 sale_fields (Ended winner) = codes "closed" ∷ winner_text winner ∷ []
 
-abbrev pub item_fields : ItemRow → List (List ℕ)
-item_fields i =
+abbrev pub item_row_fields : ItemRow → List (List ℕ)
+item_row_fields i =
     id_text i.seller ∷ i.name ∷ decimal i.cat ∷ decimal i.stock ∷ decimal i.sold ∷ decimal i.start ∷ decimal i.price ∷ decimal i.bids ∷ []
     ++ (best_fields i.best ++ sale_fields i.sale)
 
-abbrev pub bid_fields : BidRow → List (List ℕ)
-bid_fields b = id_text b.item ∷ id_text b.bidder ∷ decimal b.amount ∷ decimal b.red ∷ []
+abbrev pub bid_row_fields : BidRow → List (List ℕ)
+bid_row_fields b = id_text b.item ∷ id_text b.bidder ∷ decimal b.amount ∷ decimal b.red ∷ []
 
 -- a row by its id
 abbrev pub by_id : List ℕ → Id → List (List ℕ) → List (List ℕ)
@@ -66,8 +66,8 @@ shows_nothing c = nat_eq c.items 0 && is_zero c.live
 -- the record of the row at a key; there is none for a nickname, nor for a category that shows nothing
 abbrev pub row_record : RowKey → Row → List (List (List ℕ))
 row_record (key.User id) (row.User u) = by_id (codes "user") id (user_fields u) ∷ []
-row_record (key.Item id) (row.Item i) = by_id (codes "item") id (item_fields i) ∷ []
-row_record (key.Bid id) (row.Bid b) = by_id (codes "bid") id (bid_fields b) ∷ []
+row_record (key.Item id) (row.Item i) = by_id (codes "item") id (item_row_fields i) ∷ []
+row_record (key.Bid id) (row.Bid b) = by_id (codes "bid") id (bid_row_fields b) ∷ []
 row_record (key.Purchase id) (row.Purchase p) = by_id (codes "purchase") id (purchase_fields p) ∷ []
 row_record (key.Comment id) (row.Comment c) = by_id (codes "comment") id (comment_fields c) ∷ []
 row_record (key.Cat k) (row.Cat c) = cond (shows_nothing c) [] (category_record k c ∷ [])

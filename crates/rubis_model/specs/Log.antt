@@ -4,7 +4,7 @@ use Rattle.rubis_schema.specs.Keys.{home}
 use Rattle.rubis_schema.specs.Tables.{Tables}
 use Rattle.rubis_schema.specs.declared.ids.Id.{Id}
 use Rattle.rubis_shadow.specs.Tables.{opening}
-use Rattle.rubis_shadow.specs.Changes.{after, misfit_of}
+use Rattle.rubis_shadow.specs.Changes.{after_part, misfit_of}
 use Rattle.rubis_shadow.specs.Parts.{parts}
 use Rattle.rubis_shadow.specs.declared.changes.Effect.{Effect}
 use Rattle.rubis_shadow.specs.declared.changes.MisfitKind.{MisfitKind}
@@ -49,7 +49,7 @@ noted n (Some kind) = record { entry = n.entry; part = n.part; id = n.id; kind =
 
 -- one part more
 abbrev pub step : Folded → Numbered → Folded
-step f n = record { tables = after f.tables n.effect; misfits = f.misfits ++ noted n (misfit_of f.tables n.effect) }
+step f n = record { tables = after_part f.tables n.effect; misfits = f.misfits ++ noted n (misfit_of f.tables n.effect) }
 
 abbrev pub fold_on : Folded → List Numbered → Folded
 fold_on f ns = fold step f ns

@@ -151,13 +151,13 @@ item_at = at_id (λ m. as_item m.shadow)
 abbrev pub nick_at : Id → List Core → Option (List ℕ)
 nick_at u a = user_at u a
 
-abbrev pub is_nick : List ℕ → Option (List ℕ) → Bool
-is_nick n None = false
-is_nick n (Some k) = bytes_eq n k
+abbrev pub is_same_nick : List ℕ → Option (List ℕ) → Bool
+is_same_nick n None = false
+is_same_nick n (Some k) = bytes_eq n k
 
 -- the user that has the nickname; of several, the one with the smallest red number
 abbrev pub named : List ℕ → List Core → Option Core
-named n a = choose earlier (λ m. is_nick n (nick_at m.id a)) a
+named n a = choose earlier (λ m. is_same_nick n (nick_at m.id a)) a
 
 -- ---- the rows
 

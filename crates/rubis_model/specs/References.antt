@@ -22,10 +22,10 @@ ToBid all v item = Referred all v (λ m. bids_on item m.shadow ≡ true)
 
 -- each id that the shadow of v names is that of a message of the right kind that precedes v: a user, an item, or, for the
 -- winner of a close, a bid on its item
-abbrev pub RefersOf : (Message → Type 0) → Message → Shadow → Type 0
-RefersOf all v (User n) = ⊤
-RefersOf all v (Item n) = ToUser all v n.seller
-RefersOf all v (Bid b) = ToItem all v b.item × ToUser all v b.bidder
-RefersOf all v (Buy p) = ToItem all v p.item × ToUser all v p.buyer
-RefersOf all v (Close c) = ToItem all v c.item × IfSome c.winner (ToBid all v c.item)
-RefersOf all v (Comment c) = ToItem all v c.item × ToUser all v c.from × ToUser all v c.to
+abbrev pub RefersToPast : (Message → Type 0) → Message → Shadow → Type 0
+RefersToPast all v (User n) = ⊤
+RefersToPast all v (Item n) = ToUser all v n.seller
+RefersToPast all v (Bid b) = ToItem all v b.item × ToUser all v b.bidder
+RefersToPast all v (Buy p) = ToItem all v p.item × ToUser all v p.buyer
+RefersToPast all v (Close c) = ToItem all v c.item × IfSome c.winner (ToBid all v c.item)
+RefersToPast all v (Comment c) = ToItem all v c.item × ToUser all v c.from × ToUser all v c.to

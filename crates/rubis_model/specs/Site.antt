@@ -14,7 +14,7 @@ use Rattle.rubis_message.specs.declared.answers.Arrival.{Arrival}
 use Rattle.rubis_message.specs.declared.answers.Arrival.TheVariants as arrival
 use Rattle.rubis_message.specs.declared.answers.Taken.{Taken}
 use Rattle.rubis_message.specs.declared.answers.Taken.TheVariants as taken
-use Rattle.rubis_generate.specs.Lookup.{Rows, rows_of}
+use Rattle.rubis_generate.specs.Lookup.{Rows, row_by_key}
 use Rattle.rubis_generate.specs.Decision.{decision}
 use Rattle.rubis_generate.specs.declared.standing.Standing.{Standing}
 use Rattle.rubis_model.specs.Log.{cores, fold_of}
@@ -56,7 +56,7 @@ standing_of keep s = record { full = is_full keep s; holds = is_some s.held; cur
 
 -- the rows of the tables of a log
 abbrev pub rows_at : List Message → Rows
-rows_at log = rows_of (fold_of (cores log)).tables
+rows_at log = row_by_key (fold_of (cores log)).tables
 
 -- a red shadow takes the next red number of the token, a blue one has 0
 abbrev pub red_for : Shadow → Option ℕ → ℕ

@@ -41,12 +41,12 @@ pub record Good (sent : List Packet) (i : ℕ) (log waiting : List Message) : Ty
   pub waiting_others : (m : Message) → Has m waiting → m.stamp.id.site ≡ i → ⊥
 
 -- of each message: one of the sites made it, and has it in its log
-pub record Home (n : ℕ) (log : ℕ → List Message) (sent : List Packet) : Type 0 where
+pub record HasOrigins (n : ℕ) (log : ℕ → List Message) (sent : List Packet) : Type 0 where
   pub origin : (m : Message) → Has (packet.Msg m) sent → m.stamp.id.site < n
   pub home : (m : Message) → Has (packet.Msg m) sent → Has m (reverse (log m.stamp.id.site))
 
 -- of the red messages: their numbers are 1 to their count, each once, and the smaller number precedes
-pub record Reds (sent : List Packet) : Type 0 where
+pub record RedsInOrder (sent : List Packet) : Type 0 where
   pub small : (m : Message) → Has (packet.Msg m) sent → m.stamp.red ≤ red_count sent
   pub single : (u v : Message) → Has (packet.Msg u) sent → Has (packet.Msg v) sent → 0 < u.stamp.red → u.stamp.red ≡ v.stamp.red → u ≡ v
   pub ordered : (u v : Message) → Has (packet.Msg u) sent → Has (packet.Msg v) sent → 0 < u.stamp.red → u.stamp.red < v.stamp.red → Precedes u v
@@ -80,8 +80,8 @@ OneToken n held last sent = ((h : ℕ) × Stands n held last sent h) ⊎ ((t : T
 -- what every event keeps
 pub record Sound (w : World) : Type 0 where
   pub good : (i : ℕ) → Good w.sent i (site w i).log (site w i).waiting
-  pub home : Home (length w.sites) (λ i. (site w i).log) w.sent
-  pub reds : Reds w.sent
+  pub home : HasOrigins (length w.sites) (λ i. (site w i).log) w.sent
+  pub reds : RedsInOrder w.sent
   pub token : OneToken (length w.sites) (λ i. (site w i).held) (λ i. (site w i).last) w.sent
 
 -- what any of so many sites can take in: a message that meets the conditions of its type and counts just these sites, or a

@@ -25,8 +25,8 @@ use Rattle.rubis_model.specs.Settle.{counted, reds}
 -- ---- the checks of an entry v. `others` has the messages of the earlier logs, `own` those of this log before v
 
 -- v's origin had released u when it made v
-abbrev pub precedes : Message → Message → Bool
-precedes u v = nat_le u.stamp.id.seq (dep v u.stamp.id.site)
+abbrev pub comes_before : Message → Message → Bool
+comes_before u v = nat_le u.stamp.id.seq (dep v u.stamp.id.site)
 
 -- it is so at one of the sites that v counts
 abbrev pub at_some_site : Message → (ℕ → Bool) → Bool
@@ -74,7 +74,7 @@ abbrev pub red_gap : List Message → List Message → Message → Bool
 red_gap others own v =
     is_red v.shadow
     && (not (v.stamp.red == reds own + 1)
-    || (list_any (takes_number v) others || option_map_or (λ u. not (precedes u v)) (last_red own) false))
+    || (list_any (takes_number v) others || option_map_or (λ u. not (comes_before u v)) (last_red own) false))
 
 -- u makes the row at that key: of a user, an item or a bid
 abbrev pub makes_row : RowKey → Message → Bool
@@ -85,7 +85,7 @@ makes_row k u = false
 
 -- what makes the row at that key precedes v
 abbrev pub is_known : List Message → Message → RowKey → Bool
-is_known own v k = list_any (λ u. makes_row k u && precedes u v) own
+is_known own v k = list_any (λ u. makes_row k u && comes_before u v) own
 
 -- it is a close in another category than its item's
 abbrev pub wrong_category : List Core → Shadow → Bool

@@ -1,7 +1,7 @@
 -- The records of several sites in one run, and what answers them.
 use Rattle.std.specs.Prelude.{ℕ, ◌+◌, codes, decimal, List, [], ◌∷◌, ◌++◌, length, map, Option, Some, None, Result, Ok, Err}
 use Rattle.std.specs.List.{range_with_len}
-use Rattle.rubis_schema.specs.Refusals.{code_of, name_of}
+use Rattle.rubis_schema.specs.Refusals.{code_of, refusal_name}
 use Rattle.rubis_schema.specs.declared.refusals.Refusal.{Refusal}
 use Rattle.rubis_schema.specs.declared.refusals.Refusal.TheVariants.{BadEvent, BadRecord, NoSuchPacket}
 use Rattle.rubis_message.specs.WorldReadings.{world_input}
@@ -27,7 +27,7 @@ site_row site row = codes "at" ∷ decimal site ∷ row
 
 -- record n is no event
 abbrev pub world_row : ℕ → Refusal → List (List ℕ)
-world_row n r = codes "world" ∷ decimal n ∷ codes "refused" ∷ decimal (code_of r) ∷ name_of r ∷ []
+world_row n r = codes "world" ∷ decimal n ∷ codes "refused" ∷ decimal (code_of r) ∷ refusal_name r ∷ []
 
 -- the packet that answers a request
 abbrev pub sent_rows : ℕ → Option Packet → List (List (List ℕ))

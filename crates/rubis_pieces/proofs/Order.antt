@@ -10,7 +10,7 @@ use Rattle.std.proofs.lemmas.Option.{slice_get_within}
 use Rattle.rubis_schema.specs.Keys.{home}
 use Rattle.rubis_schema.specs.Tables.{Tables}
 use Rattle.rubis_schema.specs.declared.ids.Id.{Id}
-use Rattle.rubis_shadow.specs.Changes.{after}
+use Rattle.rubis_shadow.specs.Changes.{after_part}
 use Rattle.rubis_shadow.specs.Parts.{parts}
 use Rattle.rubis_shadow.specs.Tables.{opening}
 use Rattle.rubis_shadow.specs.declared.changes.Effect.{Effect}
@@ -25,7 +25,7 @@ use Rattle.rubis_model.proofs.InPlace.{home_within}
 use Rattle.rubis_model.proofs.Shares.{outcomes, all_noted, fold_on_is, share_outcomes}
 use Rattle.rubis_shard.specs.States.{ShardState}
 use Rattle.rubis_shard.specs.Holdings.{shard_of_log, HoldsLog, all_misfits}
-use Rattle.rubis_pieces.specs.Misfits.{place_of}
+use Rattle.rubis_pieces.specs.Misfits.{misfit_order}
 
 -- ---- lists in order, told apart by sums
 
@@ -239,30 +239,30 @@ place_of_outcome o = place_of_part o.0
 above_outcomes : (n : ℕ) (t : Tables) (ns : List Numbered) → AtLeast place_of_part n ns
     → AtLeast place_of_outcome n (outcomes t ns)
 above_outcomes n t [] h = tt
-above_outcomes n t (x ∷ ns) h = (h.0, above_outcomes n (after t x.effect) ns h.1)
+above_outcomes n t (x ∷ ns) h = (h.0, above_outcomes n (after_part t x.effect) ns h.1)
 
 rising_outcomes : (t : Tables) (ns : List Numbered) → Rising place_of_part ns → Rising place_of_outcome (outcomes t ns)
 rising_outcomes t [] h = tt
 rising_outcomes t (x ∷ ns) h = (
-  above_outcomes (place_of_part x + 1) (after t x.effect) ns h.0,
-  rising_outcomes (after t
+  above_outcomes (place_of_part x + 1) (after_part t x.effect) ns h.0,
+  rising_outcomes (after_part t
       x.effect) ns h.1,
 )
 
-above_noted : (n : ℕ) (os : List Outcome) → AtLeast place_of_outcome n os → AtLeast place_of n (all_noted os)
+above_noted : (n : ℕ) (os : List Outcome) → AtLeast place_of_outcome n os → AtLeast misfit_order n (all_noted os)
 above_noted n [] h = tt
 above_noted n (o ∷ os) h = rest (above_noted n os h.1) o.1
   where
-    rest : AtLeast place_of n (all_noted os) → (k : Option MisfitKind) → AtLeast place_of n (noted o.0 k ++ all_noted os)
+    rest : AtLeast misfit_order n (all_noted os) → (k : Option MisfitKind) → AtLeast misfit_order n (noted o.0 k ++ all_noted os)
     rest r None = r
     rest r (Some k) = (h.0, r)
 
-rising_noted : (os : List Outcome) → Rising place_of_outcome os → Rising place_of (all_noted os)
+rising_noted : (os : List Outcome) → Rising place_of_outcome os → Rising misfit_order (all_noted os)
 rising_noted [] h = tt
 rising_noted (o ∷ os) h = rest (above_noted (place_of_outcome o + 1) os h.0) (rising_noted os h.1) o.1
   where
-    rest : AtLeast place_of (place_of_outcome o + 1) (all_noted os) → Rising place_of (all_noted os)
-        → (k : Option MisfitKind) → Rising place_of (noted o.0 k ++ all_noted os)
+    rest : AtLeast misfit_order (place_of_outcome o + 1) (all_noted os) → Rising misfit_order (all_noted os)
+        → (k : Option MisfitKind) → Rising misfit_order (noted o.0 k ++ all_noted os)
     rest u r None = r
     rest u r (Some k) = (u, r)
 
@@ -299,15 +299,15 @@ rising_numbered first (m ∷ ms) =
 
 -- ---- from a clause of a sort
 
-at_least_from : (n : ℕ) (xs : List Misfit) → ((j : ℕ) (d : Misfit) → j < length xs → n ≤ place_of (get_or xs j d))
-    → AtLeast place_of n xs
+at_least_from : (n : ℕ) (xs : List Misfit) → ((j : ℕ) (d : Misfit) → j < length xs → n ≤ misfit_order (get_or xs j d))
+    → AtLeast misfit_order n xs
 at_least_from n [] h = tt
 at_least_from n (x ∷ xs) h = (h 0 x (omega arith), at_least_from n xs (λ j d l. h (suc j) d (omega (arith, l))))
 
-ordered_from : (xs : List Misfit) → IsNonDecreasingBy place_of xs → Ordered place_of xs
+ordered_from : (xs : List Misfit) → IsNonDecreasingBy misfit_order xs → Ordered misfit_order xs
 ordered_from [] h = tt
 ordered_from (x ∷ xs) h = (
-  at_least_from (place_of x) xs (λ j d l. h 0 (suc j) d (omega arith) (omega (arith, l))),
+  at_least_from (misfit_order x) xs (λ j d l. h 0 (suc j) d (omega arith) (omega (arith, l))),
   ordered_from xs (λ i j d a l. h (suc i) (suc j) d (omega (arith, a)) (omega (arith, l))),
 )
 
@@ -319,9 +319,9 @@ misfits_of_log shards log k =
     ∙ ap all_noted (share_outcomes shards k opening (numbered_from 1 log))
 
 pub misfits_are : (shards : ℕ) (log : List Core) (ts : List ShardState) (ms : List Misfit) → 0 < shards → HoldsLog shards log ts
-    → IsPermutation (all_misfits ts) ms → IsNonDecreasingBy place_of ms → ms ≡ (fold_of log).misfits
+    → IsPermutation (all_misfits ts) ms → IsNonDecreasingBy misfit_order ms → ms ≡ (fold_of log).misfits
 misfits_are shards log ts ms l h p o =
-    same_order place_of tell_misfits ms (all_noted os) (ordered_from ms o) (rising_noted os (rising_outcomes opening
+    same_order misfit_order tell_misfits ms (all_noted os) (ordered_from ms o) (rising_noted os (rising_outcomes opening
     (numbered_from 1 log) (rising_numbered 1 log))) sums
     ∙ sym (ap (λ (f : Folded). f.misfits) (fold_on_is opening [] (numbered_from 1 log)))
   where
@@ -339,7 +339,7 @@ misfits_are shards log ts ms l h p o =
         ap (λ (x : ShardState). x.folded.misfits) (sym is) ∙ misfits_of_log shards log j
         ∙ ap (λ n. all_noted (filter (λ o. nat_eq (home shards o.0.effect.key) n) os)) z
 
-    sums : SameSums place_of ms (all_noted os)
+    sums : SameSums misfit_order ms (all_noted os)
     sums f =
         sum_by-IsPermutation f (all_misfits ts) ms p
         ∙ shards_from shards f l os 0 ts (let m = h.many in omega (arith, m)) of_shard

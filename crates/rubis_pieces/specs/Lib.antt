@@ -6,3 +6,4 @@ pub mod Gathered
 pub mod Places
 pub mod Batches
 pub mod Misfits
+pub mod Work

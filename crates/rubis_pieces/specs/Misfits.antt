@@ -6,8 +6,8 @@ use Rattle.rubis_shard.specs.States.{ShardState}
 use Rattle.rubis_shard.specs.Holdings.{HoldsLog}
 
 -- a number that orders misfits by entry, then by part
-abbrev pub place_of : Misfit → ℕ
-place_of m = m.entry * 256 + m.part
+abbrev pub misfit_order : Misfit → ℕ
+misfit_order m = m.entry * 256 + m.part
 
 -- where the shards hold a log, these are its misfits
 abbrev pub AreOfTheLog : List ShardState → List Misfit → Type 0

@@ -5,7 +5,7 @@ use Rattle.rubis_pieces.specs.Faults.{AllUnseen}
 use Rattle.rubis_pieces.specs.declared.pieces.Left.{Left}
 
 -- a flag for each shard, none of which is set, and room for as many shards and shares
-pub record HasPlaces (seen : List Bool) (shards : List ShardState) (shard_room : ℕ) (left : List Left) (left_room : ℕ) : Type 0
+pub record HasRoomForEach (seen : List Bool) (shards : List ShardState) (shard_room : ℕ) (left : List Left) (left_room : ℕ) : Type 0
   where
     pub unseen : AllUnseen seen
     pub no_shards : shards ≡ []

@@ -43,13 +43,13 @@ pub struct Places {
 impl Model for Places {
     ghost use Rattle.std.specs.Prelude.{ℕ, length};
     ghost use Rattle.std.specs.Vec.{vec_capacity};
-    ghost use Rattle.rubis_pieces.specs.Places.{HasPlaces};
+    ghost use Rattle.rubis_pieces.specs.Places.{HasRoomForEach};
 
     ghost Value = { ℕ };
 
     ghost view = { λ p. length p.seen.items };
 
-    ghost invariant = { λ p. HasPlaces p.seen.items p.shards.items (vec_capacity p.shards) p.left.items (vec_capacity p.left) };
+    ghost invariant = { λ p. HasRoomForEach p.seen.items p.shards.items (vec_capacity p.shards) p.left.items (vec_capacity p.left) };
 }
 
 impl Places {

@@ -1,7 +1,7 @@
 ghost use Rattle.std.specs.Prelude.{◌≡◌, IfOk};
 ghost use Rattle.std.specs.List.Sorted.{IsPermutation, IsNonDecreasingBy};
 ghost use Rattle.rubis_shard.specs.Holdings.{all_misfits};
-ghost use Rattle.rubis_pieces.specs.Misfits.{place_of, AreOfTheLog};
+ghost use Rattle.rubis_pieces.specs.Misfits.{misfit_order, AreOfTheLog};
 
 use rubis_shadow::Misfit;
 use rubis_shard::Tables;
@@ -10,7 +10,7 @@ use std::alloc::{AllocError, Global};
 /// The misfits of all shards, by entry and then by part: those of the log that the shards hold.
 pub fn misfits(alloc: Global, tables: &Tables) -> Result<Vec<Misfit>, AllocError>
     ensures all { IfOk result (λ misfits. IsPermutation (all_misfits tables.now) misfits.items) }
-    ensures order { IfOk result (λ misfits. IsNonDecreasingBy place_of misfits.items) }
+    ensures order { IfOk result (λ misfits. IsNonDecreasingBy misfit_order misfits.items) }
     ensures log { IfOk result (λ misfits. AreOfTheLog tables.now misfits.items) }
 {
     let mut list = Vec::new(alloc);

@@ -10,13 +10,13 @@ use Rattle.rubis_pieces.specs.declared.pieces.Piece.{Piece}
 use Rattle.rubis_pieces.specs.declared.pieces.Done.{Done}
 use Rattle.rubis_pool_core.specs.declared.event.Event.{Event}
 use Rattle.rubis_pool_core.specs.declared.event.Event.TheVariants.{Take, Apply, Back}
-use Rattle.rubis_pool_core.specs.Pieces.{begun, next_part, one_more, IsWhole}
-use Rattle.rubis_pool_core.specs.Machine.{PoolState, opening, with_posted, taken, applied_to, applied, back_of, backed, or_same, after_event, posted_all, run_from, run_of}
+use Rattle.rubis_pool_core.specs.Pieces.{begun, next_part, one_part_more, IsWhole}
+use Rattle.rubis_pool_core.specs.Machine.{PoolState, opening_pool, with_posted, taken, applied_to, applied, back_of, backed, or_same, after_event, posted_all, run_from, run_of}
 use Rattle.rubis_pool_core.specs.Schedules.{present, Accounted}
 use Rattle.rubis_pool_core.proofs.Works.{begun_worked, next_worked, none_next}
 use Rattle.rubis_pool_core.proofs.Slots.{zip_set, zip_push, none_present, none_worked, one_present, worked_on, held_at}
 
-pub opens : (workers : ℕ) → Accounted [] (opening workers)
+pub opens : (workers : ℕ) → Accounted [] (opening_pool workers)
 opens workers =
     record {
       held = replicate workers None;
@@ -73,7 +73,7 @@ applies pieces (Some n) d s w is at a =
       held = a.held;
       returned = a.returned;
       once = a.once;
-      held_worked = worked_on a.held s.held w d (one_more d n) a.held_worked at (λ p. next_worked p d n is);
+      held_worked = worked_on a.held s.held w d (one_part_more d n) a.held_worked at (λ p. next_worked p d n is);
       returned_worked = a.returned_worked;
       returned_whole = a.returned_whole;
     }
@@ -129,4 +129,4 @@ runs pieces s (e ∷ es) a = runs pieces (after_event s e) es (events pieces s e
 
 pub every : (workers : ℕ) (pieces : List Piece) (es : List Event) → Accounted pieces (run_of workers pieces es)
 every workers pieces es =
-    runs pieces (posted_all (opening workers) pieces) es (posts_all [] pieces (opening workers) (opens workers))
+    runs pieces (posted_all (opening_pool workers) pieces) es (posts_all [] pieces (opening_pool workers) (opens workers))

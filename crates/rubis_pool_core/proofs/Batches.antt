@@ -18,10 +18,12 @@ use Rattle.rubis_pieces.specs.Gathered.{IsInOrder, IsGathered, left_of}
 use Rattle.rubis_pieces.specs.declared.gathers.Gathered.{Gathered}
 use Rattle.rubis_pieces.specs.declared.pieces.Piece.{Piece}
 use Rattle.rubis_pieces.specs.declared.pieces.Done.{Done}
-use Rattle.rubis_pool_core.specs.Pieces.{IsWorked, IsWhole}
+use Rattle.rubis_pieces.specs.Work.{IsWorked}
+use Rattle.rubis_pool_core.specs.Pieces.{IsWhole}
 use Rattle.rubis_pool_core.specs.Machine.{PoolState, run_of}
 use Rattle.rubis_pool_core.specs.Schedules.{present, IsWorkedSlot, Accounted}
-use Rattle.rubis_pool_core.specs.Batches.{pieces_of, IsAtEnd, HoldsTheBatch, EveryScheduleFoldsTheBatch}
+use Rattle.rubis_pieces.specs.Work.{pieces_of}
+use Rattle.rubis_pool_core.specs.Batches.{IsAtEnd, HoldsTheBatch, EveryScheduleFoldsTheBatch}
 use Rattle.rubis_pool_core.proofs.Accounts.{every}
 use Rattle.rubis_pool_core.proofs.Numbers.{never_faulty}
 
@@ -71,7 +73,7 @@ module _ (shards : ℕ) (log batch : List Core) where
       let all : take d.done ns ≡ ns = take_all d.done ns (omega (arith, long, whole)) in (
         k,
         inside,
-        worked.folded ∙ ap (λ (q : Piece). with_parts q.shard (take d.done q.share.effects)) is
+        worked.shard ∙ ap (λ (q : Piece). with_parts q.shard (take d.done q.share.effects)) is
             ∙ ap (with_parts (shard_of_log shards log k)) all ∙ shard_with_share shards log batch k,
       )
 

@@ -16,7 +16,7 @@ use Rattle.rubis_pieces.specs.declared.gathers.FaultKind.TheVariants.{Stranger, 
 use Rattle.rubis_pieces.proofs.Sorting.{distinct_from}
 use Rattle.rubis_pieces.specs.declared.pieces.Piece.{Piece}
 use Rattle.rubis_pieces.specs.declared.pieces.Done.{Done}
-use Rattle.rubis_pool_core.specs.Pieces.{IsWorked}
+use Rattle.rubis_pieces.specs.Work.{IsWorked}
 use Rattle.rubis_pool_core.specs.Machine.{PoolState}
 use Rattle.rubis_pool_core.specs.Schedules.{Accounted}
 
@@ -29,7 +29,7 @@ numbers_kept [] [] h = refl
 numbers_kept [] (d ∷ ds) h = absurd h
 numbers_kept (p ∷ ps) [] h = absurd h
 numbers_kept (p ∷ ps) (d ∷ ds) h =
-    let same : d.shard.number ≡ p.shard.number = ap (λ (s : ShardState). s.number) h.0.folded in
+    let same : d.shard.number ≡ p.shard.number = ap (λ (s : ShardState). s.number) h.0.shard in
     λ i. same i ∷ numbers_kept ps ds h.1 i
 
 -- the numbers from 0 in order, moved about

@@ -6,7 +6,7 @@ use Rattle.std.proofs.lemmas.Option.{slice_get_read}
 use Rattle.rubis_shadow.specs.declared.numbered.Numbered.{Numbered}
 use Rattle.rubis_pieces.specs.declared.pieces.Piece.{Piece}
 use Rattle.rubis_pieces.specs.declared.pieces.Done.{Done}
-use Rattle.rubis_pool_core.specs.Pieces.{begun, next_part, or_one_more}
+use Rattle.rubis_pool_core.specs.Pieces.{begun, next_part, or_one_part_more}
 use Rattle.rubis_pool_core.specs.Machine.{PoolState, PoolOf, in_state, taken, applied_to, applied, or_same, with_posted, posted_all}
 
 -- what follows from a fact about an answer
@@ -34,7 +34,7 @@ applied_just (Some n) d s w = refl
 applied_just None d s w = refl
 
 applied_is : (next : Option Numbered) (d : Done) (s : PoolState) (w : ℕ) → slice_get s.held w ≡ Some (Some d)
-    → with_slot s s.posted w (Some (or_one_more d next)) ≡ or_same s (applied_to next d s w)
+    → with_slot s s.posted w (Some (or_one_part_more d next)) ≡ or_same s (applied_to next d s w)
 applied_is (Some n) d s w at = refl
 applied_is None d s w at = λ i. record { posted = s.posted; held = same_slot s.held w (Some d) at i; returned = s.returned }
 
@@ -74,7 +74,7 @@ module _ (pool now : PoolOf) (same : pool ≡ now) (w : ℕ) where
         (λ did is. is ∙ applied_just (next_part d) d pool.state w ∙ ap (λ slot. is_some (applied slot pool.state w)) (sym at)
         ∙ ap (λ (q : PoolOf). is_some (applied (slice_get q.state.held w) q.state w)) same) h
 
-    pub apply_is : {E : Type 0} (r : Result Bool E) (e : Done) → OnOk r (e ≡ or_one_more d (next_part d))
+    pub apply_is : {E : Type 0} (r : Result Bool E) (e : Done) → OnOk r (e ≡ or_one_part_more d (next_part d))
         → OnOk r (AppliesTo (in_state pool (with_slot pool.state pool.state.posted w (Some e))))
     apply_is r e h = if_ok r _ _
         (λ did is. ap (λ x. in_state pool (with_slot pool.state pool.state.posted w (Some x))) is

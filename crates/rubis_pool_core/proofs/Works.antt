@@ -9,7 +9,8 @@ use Rattle.rubis_shard.specs.States.{with_parts}
 use Rattle.rubis_shard.proofs.Folds.{with_append}
 use Rattle.rubis_pieces.specs.declared.pieces.Piece.{Piece}
 use Rattle.rubis_pieces.specs.declared.pieces.Done.{Done}
-use Rattle.rubis_pool_core.specs.Pieces.{IsPiece, begun, next_part, one_more, IsWorked, IsWhole}
+use Rattle.rubis_pieces.specs.Work.{IsPiece, IsWorked}
+use Rattle.rubis_pool_core.specs.Pieces.{begun, next_part, one_part_more, IsWhole}
 
 pub one_more_piece : (pieces more : List Piece) (p : Piece) → more ≡ pieces ++ p ∷ [] → All IsPiece pieces → IsPiece p
     → All IsPiece more
@@ -17,7 +18,7 @@ one_more_piece pieces more p is all one =
     subst (All IsPiece) (sym is) (All-append IsPiece pieces (p ∷ []) all (All-cons IsPiece p [] one (All-nil IsPiece)))
 
 pub begun_worked : (p : Piece) → IsWorked p (begun p)
-begun_worked p = record { share = refl; short = omega arith; folded = refl }
+begun_worked p = record { share = refl; done = omega arith; shard = refl }
 
 past : (ns : List Numbered) (i : ℕ) → slice_get ns i ≡ None → length ns ≤ i
 past [] i is = omega arith
@@ -29,7 +30,7 @@ take_next [] i n is = absurd cc
 take_next (x ∷ ns) zero n is = let same : x ≡ n = cc in ap (λ y. y ∷ []) same
 take_next (x ∷ ns) (suc i) n is = ap (λ l. x ∷ l) (take_next ns i n is)
 
-pub next_worked : (p : Piece) (d : Done) (n : Numbered) → next_part d ≡ Some n → IsWorked p d → IsWorked p (one_more d n)
+pub next_worked : (p : Piece) (d : Done) (n : Numbered) → next_part d ≡ Some n → IsWorked p d → IsWorked p (one_part_more d n)
 next_worked p d n is h =
     let ns : List Numbered = p.share.effects in
     let at : slice_get ns d.done ≡ Some n = subst (λ share. slice_get share.effects d.done ≡ Some n) h.share is in
@@ -37,9 +38,9 @@ next_worked p d n is h =
     let both : take d.done ns ++ n ∷ [] ≡ take (d.done + 1) ns = sym (take_next ns d.done n at) ∙ ap (λ k. take k ns) more in
     record {
       share = h.share;
-      short = (let less = slice_get_within ns d.done n at in omega arith);
-      folded =
-          ap (λ s. with_parts s (n ∷ [])) h.folded ∙ sym (with_append p.shard (take d.done ns) (n ∷ []))
+      done = (let less = slice_get_within ns d.done n at in omega arith);
+      shard =
+          ap (λ s. with_parts s (n ∷ [])) h.shard ∙ sym (with_append p.shard (take d.done ns) (n ∷ []))
           ∙ ap (with_parts p.shard) both;
     }
 
@@ -47,5 +48,5 @@ pub none_next : (p : Piece) (d : Done) → next_part d ≡ None → IsWorked p d
 none_next p d is h =
     let long = past d.share.effects d.done is in
     let same = ap (λ share. length share.effects) h.share in
-    let short = h.short in
+    let short = h.done in
     omega arith

@@ -1,5 +1,5 @@
 -- A batch, folded by any schedule.
-use Rattle.std.specs.Prelude.{◌≡◌, ℕ, ◌+◌, ◌<◌, List, [], ◌∷◌, ◌++◌, length, slice_get, Some}
+use Rattle.std.specs.Prelude.{◌≡◌, ℕ, ◌+◌, ◌<◌, List, [], ◌++◌, length, slice_get, Some}
 use Rattle.rubis_model.specs.Log.{Core, fold_of}
 use Rattle.rubis_shard.specs.States.{ShardState}
 use Rattle.rubis_shard.specs.Holdings.{HoldsLog, union}
@@ -9,16 +9,9 @@ use Rattle.rubis_pieces.specs.Faults.{IsFault, numbers_of}
 use Rattle.rubis_pieces.specs.Gathered.{IsGathered}
 use Rattle.rubis_pieces.specs.declared.gathers.FaultKind.{FaultKind}
 use Rattle.rubis_pieces.specs.declared.gathers.Gathered.{Gathered}
-use Rattle.rubis_pieces.specs.declared.pieces.Piece.{Piece}
 use Rattle.rubis_pieces.specs.declared.pieces.Done.{Done}
 use Rattle.rubis_pool_core.specs.declared.event.Event.{Event}
 use Rattle.rubis_pool_core.specs.Machine.{PoolState, run_of}
-
--- each shard with the share in its place
-abbrev pub pieces_of : List ShardState → List Share → List Piece
-pieces_of [] shares = []
-pieces_of (s ∷ ts) [] = []
-pieces_of (s ∷ ts) (share ∷ shares) = record { shard = s; share = share } ∷ pieces_of ts shares
 
 -- nothing is posted, and no worker holds a piece
 pub record IsAtEnd (s : PoolState) : Type 0 where

@@ -10,13 +10,13 @@ use Rattle.rubis_pool_core.specs.Machine.{PoolState, PoolOf}
 abbrev pub done_code : Coded Done
 done_code = done.the_row.coded
 
-abbrev pub state_code : Coded PoolState
-state_code =
+abbrev pub pool_state_code : Coded PoolState
+pool_state_code =
     code_by (List Piece × (List (Option Done) × List Done))
     (coded× (coded_list piece.the_row.coded) (coded× (coded_list (coded_option done_code)) (coded_list done_code)))
     (λ s. (s.posted, (s.held, s.returned))) (λ c. record { posted = c.0; held = c.1.0; returned = c.1.1 }) (λ _. refl)
 
 abbrev pub pool_code : Coded PoolOf
 pool_code =
-    code_by (ℕ × (ℕ × PoolState)) (coded× coded_ℕ (coded× coded_ℕ state_code)) (λ p. (p.capacity, (p.count, p.state)))
+    code_by (ℕ × (ℕ × PoolState)) (coded× coded_ℕ (coded× coded_ℕ pool_state_code)) (λ p. (p.capacity, (p.count, p.state)))
     (λ c. record { capacity = c.0; count = c.1.0; state = c.1.1 }) (λ _. refl)

@@ -5,7 +5,7 @@ use Rattle.rubis_pieces.specs.declared.pieces.Piece.{Piece}
 use Rattle.rubis_pieces.specs.declared.pieces.Done.{Done}
 use Rattle.rubis_pool_core.specs.declared.event.Event.{Event}
 use Rattle.rubis_pool_core.specs.declared.event.Event.TheVariants.{Take, Apply, Back}
-use Rattle.rubis_pool_core.specs.Pieces.{begun, next_part, one_more}
+use Rattle.rubis_pool_core.specs.Pieces.{begun, next_part, one_part_more}
 
 pub record PoolState : Type 0 where
   pub posted : List Piece
@@ -14,8 +14,8 @@ pub record PoolState : Type 0 where
   pub returned : List Done
 
 -- nothing is posted, and all workers are free
-abbrev pub opening : ℕ → PoolState
-opening workers = record { posted = []; held = replicate workers None; returned = [] }
+abbrev pub opening_pool : ℕ → PoolState
+opening_pool workers = record { posted = []; held = replicate workers None; returned = [] }
 
 -- Post: the piece stands last among the posted
 abbrev pub with_posted : PoolState → Piece → PoolState
@@ -34,7 +34,7 @@ taken None posted s w = None
 -- Apply: the next part of the share that a worker holds is folded on its shard
 abbrev pub applied_to : Option Numbered → Done → PoolState → ℕ → Option PoolState
 applied_to (Some n) d s w =
-    Some (record { posted = s.posted; held = slice_set s.held w (Some (one_more d n)); returned = s.returned })
+    Some (record { posted = s.posted; held = slice_set s.held w (Some (one_part_more d n)); returned = s.returned })
 applied_to None d s w = None
 
 abbrev pub applied : Option (Option Done) → PoolState → ℕ → Option PoolState
@@ -76,7 +76,7 @@ run_from s events = fold after_event s events
 
 -- a Post of each piece, in order, and then the events
 abbrev pub run_of : ℕ → List Piece → List Event → PoolState
-run_of workers pieces events = run_from (posted_all (opening workers) pieces) events
+run_of workers pieces events = run_from (posted_all (opening_pool workers) pieces) events
 
 -- ---- a pool: the machine, how many pieces were posted, and how many may be
 pub record PoolOf : Type 0 where

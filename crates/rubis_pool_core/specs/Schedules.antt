@@ -5,8 +5,9 @@ use Rattle.std.specs.List.Sorted.{IsPermutation}
 use Rattle.rubis_pieces.specs.declared.pieces.Piece.{Piece}
 use Rattle.rubis_pieces.specs.declared.pieces.Done.{Done}
 use Rattle.rubis_pool_core.specs.declared.event.Event.{Event}
-use Rattle.rubis_pool_core.specs.Pieces.{IsWorked, IsWhole}
-use Rattle.rubis_pool_core.specs.Machine.{PoolState, opening, with_posted, after_event, run_of}
+use Rattle.rubis_pieces.specs.Work.{IsWorked}
+use Rattle.rubis_pool_core.specs.Pieces.{IsWhole}
+use Rattle.rubis_pool_core.specs.Machine.{PoolState, opening_pool, with_posted, after_event, run_of}
 
 -- what the workers hold, in the order of workers
 abbrev pub present : List (Option Piece) → List Piece
@@ -39,7 +40,7 @@ EveryScheduleAccounts =
 
 -- and wherever posts stand between the events
 pub record StepsAccount : Type 0 where
-  pub opening : (workers : ℕ) → Accounted [] (opening workers)
+  pub opening : (workers : ℕ) → Accounted [] (opening_pool workers)
   pub post : (pieces : List Piece) (s : PoolState) (p : Piece) → Accounted pieces s
       → Accounted (pieces ++ p ∷ []) (with_posted s p)
   pub event : (pieces : List Piece) (s : PoolState) (e : Event) → Accounted pieces s → Accounted pieces (after_event s e)

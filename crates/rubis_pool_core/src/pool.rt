@@ -1,7 +1,7 @@
 ghost use Rattle.std.specs.Prelude.{◌≡◌, ◌+◌, ◌<◌, is_some, None, IfOk, IfErr, OnOk, OnErr, length, slice_get, replicate};
 ghost use Rattle.std.specs.List.{All};
-ghost use Rattle.rubis_pool_core.specs.Machine.{opening, with_posted, posted_all, stepped, after_event, in_state, or_same, taken, applied, backed};
-ghost use Rattle.rubis_pool_core.specs.Pieces.{IsPiece};
+ghost use Rattle.rubis_pool_core.specs.Machine.{opening_pool, with_posted, posted_all, stepped, after_event, in_state, or_same, taken, applied, backed};
+ghost use Rattle.rubis_pieces.specs.Work.{IsPiece};
 
 use crate::event::Event;
 use crate::work::Work;
@@ -27,7 +27,7 @@ impl Model for Pool {
     ghost use Rattle.std.specs.VecDeque.{deque_capacity};
     ghost use Rattle.rubis_pool_core.specs.Machine.{PoolOf};
     ghost use Rattle.rubis_pool_core.specs.Codes.{pool_code};
-    ghost use Rattle.rubis_pool_core.specs.Pieces.{IsPiece};
+    ghost use Rattle.rubis_pieces.specs.Work.{IsPiece};
 
     ghost Value = { PoolOf };
 
@@ -41,7 +41,7 @@ impl Model for Pool {
 impl Pool {
     /// A machine of so many workers, all free, to which so many pieces may be posted.
     pub fn new(alloc: Global, workers: usize, capacity: usize) -> Result<Pool, AllocError>
-        ensures { IfOk result (λ pool. pool ≡ record { capacity = capacity; count = 0; state = opening workers }) }
+        ensures { IfOk result (λ pool. pool ≡ record { capacity = capacity; count = 0; state = opening_pool workers }) }
     {
         Ok(Pool {
             posted: VecDeque::with_capacity(alloc, capacity)?,
@@ -59,7 +59,7 @@ impl Pool {
         pieces: Vec<Piece>,
     ) -> Result<Pool, AllocError>
         requires { All IsPiece pieces.items }
-        ensures { IfOk result (λ pool. pool ≡ record { capacity = length pieces.items; count = length pieces.items; state = posted_all (opening workers) pieces.items }) }
+        ensures { IfOk result (λ pool. pool ≡ record { capacity = length pieces.items; count = length pieces.items; state = posted_all (opening_pool workers) pieces.items }) }
     {
         Ok(Pool {
             held: free_workers(alloc, workers)?,

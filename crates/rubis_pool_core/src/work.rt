@@ -1,5 +1,6 @@
 ghost use Rattle.std.specs.Prelude.{◌≡◌, is_some, is_none, IfOk, OnOk, OnErr};
-ghost use Rattle.rubis_pool_core.specs.Pieces.{IsPiece, begun, next_part, or_one_more};
+ghost use Rattle.rubis_pieces.specs.Work.{IsPiece};
+ghost use Rattle.rubis_pool_core.specs.Pieces.{begun, next_part, or_one_part_more};
 
 use rubis_pieces::{Done, Piece};
 use std::alloc::AllocError;
@@ -49,7 +50,7 @@ impl Work {
     // Folds the next part on, and says whether there was one.
     pub fn apply_next(&mut self) -> Result<bool, AllocError>
         ensures possible { IfOk result (λ did. did ≡ is_some (next_part self.old)) }
-        ensures next { OnOk result (self.new ≡ or_one_more self.old (next_part self.old)) }
+        ensures next { OnOk result (self.new ≡ or_one_part_more self.old (next_part self.old)) }
         ensures same { OnErr result (self.new ≡ self.old) }
     {
         if self.done.done >= self.done.share.effects.len() {

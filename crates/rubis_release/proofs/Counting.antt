@@ -4,7 +4,7 @@ use Rattle.std.proofs.lemmas.Bool.{cases_lt, cases_eq}
 use Rattle.std.proofs.lemmas.List.{get_or_past, get_or-set_same, get_or-set_other, length-set}
 use Rattle.std.proofs.lemmas.List.FromFn.{get_or-map-range_with_len, length-map-range_with_len}
 use Rattle.std.proofs.lemmas.Grind.{same_number_lists}
-use Rattle.rubis_clock.specs.Clocks.{Counted, IsReady, advanced}
+use Rattle.rubis_clock.specs.Clocks.{MessageCounts, IsReady, advanced}
 use Rattle.rubis_clock.specs.declared.stamps.Stamp.{Stamp}
 use Rattle.rubis_message.specs.Message.{Message, dep}
 use Rattle.rubis_model.specs.Settle.{counted, Ready}
@@ -69,11 +69,11 @@ clock_more n log m l =
     (λ j k. counted_more n log m j l (subst (λ x. j < x) size k) ∙ sym (counts_at n (log ++ m ∷ []) j (subst (λ x. j < x) size k))) in
     λ i. record { counts = same i; red = sym (reds_push log m) i }
 
-pub sites_stay : (k k' : Counted) (s : Stamp) → k' ≡ advanced k s → length k'.counts ≡ length k.counts
-sites_stay k k' s e = ap (λ (x : Counted). length x.counts) e ∙ length-set k.counts s.id.site (get_or k.counts s.id.site 0 + 1)
+pub sites_stay : (k k' : MessageCounts) (s : Stamp) → k' ≡ advanced k s → length k'.counts ≡ length k.counts
+sites_stay k k' s e = ap (λ (x : MessageCounts). length x.counts) e ∙ length-set k.counts s.id.site (get_or k.counts s.id.site 0 + 1)
 
 -- a clock that counts a log, and then counts one message more
-pub counts_more : (k k' : Counted) (log log' : List Message) (m : Message) (s : Stamp) → k ≡ clock_of (length k.counts) log → IsAmong (length k.counts) m → s ≡ m.stamp → k' ≡ advanced k s → log' ≡ log ++ m ∷ []
+pub counts_more : (k k' : MessageCounts) (log log' : List Message) (m : Message) (s : Stamp) → k ≡ clock_of (length k.counts) log → IsAmong (length k.counts) m → s ≡ m.stamp → k' ≡ advanced k s → log' ≡ log ++ m ∷ []
     → k' ≡ clock_of (length k'.counts) log'
 counts_more k k' log log' m s c a is next more =
     next ∙ ap (advanced k) is ∙ ap (λ x. advanced x m.stamp) c ∙ clock_more (length k.counts) log m a.id.site

@@ -12,7 +12,7 @@ use Rattle.rubis_shadow.specs.Shadows.{is_red, colour_of}
 use Rattle.rubis_shadow.specs.declared.shadows.Shadow.{Shadow}
 use Rattle.rubis_shadow.specs.declared.shadows.Shadow.TheVariants.{User, Item, Bid, Buy, Close, Comment}
 use Rattle.rubis_shadow.specs.declared.shadows.Colour.TheVariants.{Red, Blue}
-use Rattle.rubis_clock.specs.Clocks.{Counted}
+use Rattle.rubis_clock.specs.Clocks.{MessageCounts}
 use Rattle.rubis_clock.specs.declared.stamps.Stamp.{Stamp}
 use Rattle.rubis_message.specs.Message.{Message, IsMessage, sites_of, dep}
 use Rattle.rubis_model.specs.Settle.{counted, reds, settle, Ready, Settles}
@@ -95,12 +95,12 @@ pub record MayMake (i : Intake) (x : Shadow) : Type 0 where
   pub right : is_red x ≡ true → is_current i.state ≡ true
   pub limits : InLimits i.place.sites x
 
-pub built : (i : Intake) (k : Counted) (n : ℕ) (x : Shadow) → IsUpToDate i k n → (count red : ℕ) (deps : List ℕ) → count ≡ get_or k.counts i.place.site 0 → deps ≡ k.counts → red ≡ red_for x i.state.held
+pub built : (i : Intake) (k : MessageCounts) (n : ℕ) (x : Shadow) → IsUpToDate i k n → (count red : ℕ) (deps : List ℕ) → count ≡ get_or k.counts i.place.site 0 → deps ≡ k.counts → red ≡ red_for x i.state.held
     → record { id = record { site = i.place.site; seq = count + 1 }; red = red; deps = deps } ≡ (made i.place i.state x).stamp
 built i k n x h count red deps c d r = λ j. record {
   id = record { site = i.place.site; seq = (c ∙ count_is i k n h i.place.site h.conditions.site) j + 1 };
   red = r j;
-  deps = (d ∙ ap (λ (y : Counted). y.counts) h.clock) j;
+  deps = (d ∙ ap (λ (y : MessageCounts). y.counts) h.clock) j;
 }
 
 pub made_dep : (i : Intake) (x : Shadow) (j : ℕ) → j < i.place.sites → dep (made i.place i.state x) j ≡ counted j i.state.log
@@ -138,7 +138,7 @@ made_is_message i x h full right limits = record {
     size : sites_of (made i.place i.state x) ≡ i.place.sites
     size = length_counts i.place.sites i.state.log
 
-pub made_kept : (i : Intake) (k : Counted) (n : ℕ) (x : Shadow) (m : Message) (log waiting : List Message) → IsUpToDate i k n → is_full i.place.keep i.state ≡ false → (is_red x ≡ true → is_current i.state ≡ true) → m ≡ made i.place i.state x
+pub made_kept : (i : Intake) (k : MessageCounts) (n : ℕ) (x : Shadow) (m : Message) (log waiting : List Message) → IsUpToDate i k n → is_full i.place.keep i.state ≡ false → (is_red x ≡ true → is_current i.state ≡ true) → m ≡ made i.place i.state x
     → Settles (i.state.log ++ m ∷ []) i.state.waiting log waiting → AreKept i.place log waiting
 made_kept i k n x m log waiting h full right e s =
     settling_keeps i.place (i.state.log ++ made i.place i.state x ∷ []) i.state.waiting log waiting

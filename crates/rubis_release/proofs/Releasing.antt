@@ -6,7 +6,7 @@ use Rattle.std.proofs.lemmas.Bool.{cases_lt}
 use Rattle.std.proofs.lemmas.List.{append-nil, get_or_append_left, drop_more, take-append-drop, length-take, get_or-take}
 use Rattle.std.proofs.lemmas.List.Edits.{length-remove}
 use Rattle.std.proofs.lemmas.Option.{get_or_from_slice_get}
-use Rattle.rubis_clock.specs.Clocks.{Counted, IsReady, advanced}
+use Rattle.rubis_clock.specs.Clocks.{MessageCounts, IsReady, advanced}
 use Rattle.rubis_message.specs.Message.{Message}
 use Rattle.rubis_model.specs.Settle.{Has, Ready, Settles}
 use Rattle.rubis_model.specs.Site.{counts}
@@ -59,7 +59,7 @@ comes_first n log waiting log_after left m all among none ready s =
     (ready_after n log m among ready)
     (subst (λ q. Settles (log ++ m ∷ []) q log_after left) (sym (append-nil waiting)) s)
 
-pub comes_first_ok : {E : Type 0} (r : Result (Unit {0}) E) (n : ℕ) (clock : Counted) (log waiting log_after left : List Message) (m : Message) → clock ≡ clock_of n log
+pub comes_first_ok : {E : Type 0} (r : Result (Unit {0}) E) (n : ℕ) (clock : MessageCounts) (log waiting log_after left : List Message) (m : Message) → clock ≡ clock_of n log
     → AllAmong n waiting → IsAmong n m → NoneReady clock waiting → IsReady clock m.stamp
     → OnOk r (Settles (log ++ m ∷ []) waiting log_after left) → OnOk r (Settles log (waiting ++ m ∷ []) log_after left)
 comes_first_ok (Ok u) n clock log waiting log_after left m e all among none ready s = comes_first n log waiting log_after left m all among
@@ -67,7 +67,7 @@ comes_first_ok (Ok u) n clock log waiting log_after left m e all among none read
 comes_first_ok (Err u) n clock log waiting log_after left m e all among none ready s = tt
 
 -- a message that isn't ready waits behind others that aren't
-pub none_more : (clock : Counted) (waiting : List Message) (m : Message) → NoneReady clock waiting → (IsReady clock m.stamp → ⊥)
+pub none_more : (clock : MessageCounts) (waiting : List Message) (m : Message) → NoneReady clock waiting → (IsReady clock m.stamp → ⊥)
     → NoneReady clock (waiting ++ m ∷ [])
 none_more clock waiting m none waits k d within r = elim (cases_lt k (length waiting)) [
   | inl low ↦ none k d low (subst (λ (x : Message). IsReady clock x.stamp) (get_or_append_left waiting (m ∷ []) d k low) r)
@@ -85,7 +85,7 @@ has_left_over (y ∷ xs) (suc i) x (inl e) = inl e
 has_left_over (y ∷ xs) (suc i) x (inr h) = inr (has_left_over xs i x h)
 
 -- the first that is ready is released, and the others wait on
-pub record IsTurn (n : ℕ) (clock : Counted) (log waiting : List Message) (i : ℕ) (m : Message) : Type 0 where
+pub record IsTurn (n : ℕ) (clock : MessageCounts) (log waiting : List Message) (i : ℕ) (m : Message) : Type 0 where
   pub origin : m.stamp.id.site < length clock.counts
   pub ready : IsReady clock m.stamp
   pub counts : advanced clock m.stamp ≡ clock_of n (log ++ m ∷ [])
@@ -93,13 +93,13 @@ pub record IsTurn (n : ℕ) (clock : Counted) (log waiting : List Message) (i : 
   pub shorter : length (remove waiting i) + 1 ≡ length waiting
   pub settles : (log_after left : List Message) → Settles (log ++ m ∷ []) (remove waiting i) log_after left → Settles log waiting log_after left
 
-pub turn : (n : ℕ) (clock : Counted) (log waiting : List Message) (i : ℕ) (m : Message) → clock ≡ clock_of n log → AllAmong n waiting → IsFirst clock waiting i → slice_get waiting i ≡ Some m → IsTurn n clock log waiting i m
+pub turn : (n : ℕ) (clock : MessageCounts) (log waiting : List Message) (i : ℕ) (m : Message) → clock ≡ clock_of n log → AllAmong n waiting → IsFirst clock waiting i → slice_get waiting i ≡ Some m → IsTurn n clock log waiting i m
 turn n clock log waiting i m e all f at =
     let there : get_or waiting i m ≡ m = get_or_from_slice_get waiting i m m at in
     let a : IsAmong n m = all m (subst (λ x. Has x waiting) there (has_there waiting i m f.within)) in
     let first : IsFirst (clock_of n log) waiting i = subst (λ k. IsFirst k waiting i) e f in
     record {
-      origin = let l : m.stamp.id.site < length (counts n log) = (let z = length_counts n log in let b = a.id.site in omega (arith, z, b)) in subst (λ (k : Counted). m.stamp.id.site < length k.counts) (sym e) l;
+      origin = let l : m.stamp.id.site < length (counts n log) = (let z = length_counts n log in let b = a.id.site in omega (arith, z, b)) in subst (λ (k : MessageCounts). m.stamp.id.site < length k.counts) (sym e) l;
       ready = subst (λ (x : Message). IsReady clock x.stamp) there (f.ready m);
       counts = ap (λ k. advanced k m.stamp) e ∙ clock_more n log m a.id.site;
       sites = λ x h. all x (has_left_over waiting i x h);

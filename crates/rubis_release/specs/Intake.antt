@@ -1,6 +1,6 @@
 -- What a site has taken in.
 use Rattle.std.specs.Prelude.{◌≡◌, ℕ, ◌+◌, ◌<◌, ◌≤◌, length}
-use Rattle.rubis_clock.specs.Clocks.{Counted}
+use Rattle.rubis_clock.specs.Clocks.{MessageCounts}
 use Rattle.rubis_model.specs.Site.{Place, Replica}
 use Rattle.rubis_release.specs.Release.{clock_of, AreKept, NoneReady}
 
@@ -18,7 +18,7 @@ pub record IsIntake (i : Intake) : Type 0 where
   pub kept : AreKept i.place i.state.log i.state.waiting
 
 -- the clock counts its log, which has room for all that waits, and nothing that waits is ready
-pub record IsUpToDate (i : Intake) (c : Counted) (capacity : ℕ) : Type 0 where
+pub record IsUpToDate (i : Intake) (c : MessageCounts) (capacity : ℕ) : Type 0 where
   pub conditions : IsIntake i
   pub clock : c ≡ clock_of i.place.sites i.state.log
   pub room : length i.state.log + length i.state.waiting ≤ capacity

@@ -4,7 +4,7 @@ use Rattle.std.specs.List.{list_any}
 use Rattle.rubis_schema.specs.Ids.{IsId}
 use Rattle.rubis_schema.specs.Keys.{same_id}
 use Rattle.rubis_schema.specs.declared.ids.Id.{Id}
-use Rattle.rubis_clock.specs.Clocks.{Counted, IsReady}
+use Rattle.rubis_clock.specs.Clocks.{MessageCounts, IsReady}
 use Rattle.rubis_message.specs.Message.{Message, sites_of}
 use Rattle.rubis_model.specs.Settle.{Has, counted, reds}
 use Rattle.rubis_model.specs.Order.{Released}
@@ -14,7 +14,7 @@ abbrev pub message_id : Message → Id
 message_id m = m.stamp.id
 
 -- the clock that counts a log
-abbrev pub clock_of : ℕ → List Message → Counted
+abbrev pub clock_of : ℕ → List Message → MessageCounts
 clock_of sites log = record { counts = counts sites log; red = reds log }
 
 -- a message of one of so many sites
@@ -27,13 +27,13 @@ abbrev pub AllAmong : ℕ → List Message → Type 0
 AllAmong sites messages = (m : Message) → Has m messages → IsAmong sites m
 
 -- the message at that place is the first that is ready
-pub record IsFirst (clock : Counted) (waiting : List Message) (at : ℕ) : Type 0 where
+pub record IsFirst (clock : MessageCounts) (waiting : List Message) (at : ℕ) : Type 0 where
   pub within : at < length waiting
   pub ready : (d : Message) → IsReady clock (slice_index_or waiting at d).stamp
   pub first : (k : ℕ) (d : Message) → k < at → IsReady clock (slice_index_or waiting k d).stamp → ⊥
 
 -- none is
-abbrev pub NoneReady : Counted → List Message → Type 0
+abbrev pub NoneReady : MessageCounts → List Message → Type 0
 NoneReady clock waiting = (k : ℕ) (d : Message) → k < length waiting → IsReady clock (slice_index_or waiting k d).stamp → ⊥
 
 -- no two of the messages have one id

@@ -16,8 +16,8 @@ use Rattle.rubis_shadow.specs.Shadows.{is_red}
 use Rattle.rubis_shadow.specs.declared.asks.Ask.{Ask}
 use Rattle.rubis_shadow.specs.declared.asks.Ask.TheVariants.{User, Item, Bid, Buy, Close, Comment}
 use Rattle.rubis_shadow.specs.declared.shadows.Shadow.{Shadow}
-use Rattle.rubis_generate.specs.Lookup.{Rows, as_item_row, item_in, rows_of}
-use Rattle.rubis_generate.specs.Decision.{decision, holds, order_of, refused_or, shadow_of}
+use Rattle.rubis_generate.specs.Lookup.{Rows, as_item_row, item_in, row_by_key}
+use Rattle.rubis_generate.specs.Decision.{decision, is_due, order_of, refused_or, shadow_of}
 use Rattle.rubis_generate.specs.declared.standing.Standing.{Standing}
 use Rattle.rubis_model.specs.Log.{cores, fold_of}
 use Rattle.rubis_message.specs.Message.{Message}
@@ -27,7 +27,7 @@ use Rattle.rubis_shadow.specs.declared.numbered.Misfit.{Misfit}
 use Rattle.rubis_pieces.specs.Misfits.{AreOfTheLog}
 use Rattle.rubis_replica.specs.Follow.{Follower, FollowsAt}
 use Rattle.rubis_replica.specs.Progress.{Progress, resting_at}
-use Rattle.rubis_replica.specs.State.{AnswersAsTheStep, Decides, SiteState, decision_at, with_all_applied}
+use Rattle.rubis_replica.specs.State.{AnswersAsTheStep, IsDecision, SiteState, decision_at, with_all_applied}
 use Rattle.rubis_replica.specs.declared.faults.Fault.{Fault}
 use Rattle.rubis_replica.specs.declared.faults.Fault.TheVariants.{Refused, Behind, Memory}
 use Rattle.rubis_replica.proofs.Following.{rests_holds}
@@ -61,23 +61,23 @@ winner_fits sites None h = tt
 winner_fits sites (Some i) h = best_fits sites i.best h.1
 
 -- the shadow of an ask within the limits is within them
-shadow_fits : (sites : ℕ) (t : Tables) (ask : Ask) → AllInLimits sites t → IsAsk sites ask → InLimits sites (shadow_of (rows_of t) ask)
+shadow_fits : (sites : ℕ) (t : Tables) (ask : Ask) → AllInLimits sites t → IsAsk sites ask → InLimits sites (shadow_of (row_by_key t) ask)
 shadow_fits sites t (User n) h g = g
 shadow_fits sites t (Item n) h g = g
 shadow_fits sites t (Bid b) h g = g
 shadow_fits sites t (Buy p) h g = g
 shadow_fits sites t (Close c) h g =
     let item = row_fits sites (map.get t (key.Item c.item)) (h (key.Item c.item)) in
-    (g.0, cat_fits sites (item_in (rows_of t) c.item) item, winner_fits sites (item_in (rows_of t) c.item) item)
+    (g.0, cat_fits sites (item_in (row_by_key t) c.item) item, winner_fits sites (item_in (row_by_key t) c.item) item)
 shadow_fits sites t (Comment c) h g = g
 
 granted : (o : Option Refusal) (x y : Shadow) → refused_or o x ≡ Ok y → (o ≡ None) × (x ≡ y)
 granted None x y e = (refl, cc)
 granted (Some r) x y e = absurd cc
 
-pub decided_fits : (sites : ℕ) (t : Tables) (s : Standing) (ask : Ask) (x : Shadow) → AllInLimits sites t → IsAsk sites ask → decision (rows_of t) s ask ≡ Ok x → InLimits sites x
+pub decided_fits : (sites : ℕ) (t : Tables) (s : Standing) (ask : Ask) (x : Shadow) → AllInLimits sites t → IsAsk sites ask → decision (row_by_key t) s ask ≡ Ok x → InLimits sites x
 decided_fits sites t s ask x h g e =
-    let w = granted _ (shadow_of (rows_of t) ask) x e in
+    let w = granted _ (shadow_of (row_by_key t) ask) x e in
     subst (InLimits sites) w.1 (shadow_fits sites t ask h g)
 
 past : (b : Bool) (r : Refusal) (o : Option Refusal) → cond b (Some r) o ≡ None → (b ≡ false) × (o ≡ None)
@@ -88,7 +88,7 @@ unturned : (b : Bool) → not b ≡ false → b ≡ true
 unturned true e = refl
 unturned false e = absurd cc
 
-open_by : (t : Rows) (s : Standing) (ask : Ask) → find (holds t s ask) (order_of ask) ≡ None → s.full ≡ false
+open_by : (t : Rows) (s : Standing) (ask : Ask) → find (is_due t s ask) (order_of ask) ≡ None → s.full ≡ false
 open_by t s (User n) e = (past s.full Full _ e).0
 open_by t s (Item n) e = (past s.full Full _ e).0
 open_by t s (Bid b) e = (past s.full Full _ e).0
@@ -103,7 +103,7 @@ decided_room t s ask x e = open_by t s ask (granted _ (shadow_of t ask) x e).0
 third : (a b c : Bool) (o : Option Refusal) → cond a (Some Full) (cond (not b) (Some NoToken) (cond (not c) (Some RedBehind) o)) ≡ None → c ≡ true
 third a b c o e = unturned c (past (not c) RedBehind o (past (not b) NoToken _ (past a Full _ e).1).1).0
 
-right_by : (t : Rows) (s : Standing) (ask : Ask) → find (holds t s ask) (order_of ask) ≡ None → is_red (shadow_of t ask) ≡ true → s.current ≡ true
+right_by : (t : Rows) (s : Standing) (ask : Ask) → find (is_due t s ask) (order_of ask) ≡ None → is_red (shadow_of t ask) ≡ true → s.current ≡ true
 right_by t s (User n) e r = third s.full s.holds s.current _ e
 right_by t s (Item n) e r = absurd cc
 right_by t s (Bid b) e r = third s.full s.holds s.current _ e
@@ -143,13 +143,13 @@ module _ (old : SiteState) (place : Place) (state : Replica) (batch : ℕ) (f : 
       h (length f.tables) (cores (take f.at state.log)) follows.follows.some (rests_holds state.log f follows.follows (ap (λ (x : Progress). x.left) all_applied)) ∙ ap (λ l. (fold_of (cores l)).misfits) whole_log
 
   -- so it decides by the model
-  pub same_decision : (st : Standing) (ask : Ask) → st ≡ standing_of place.keep state → decision_at old ask ≡ decision (rows_of (union f.tables)) st ask
+  pub same_decision : (st : Standing) (ask : Ask) → st ≡ standing_of place.keep state → decision_at old ask ≡ decision (row_by_key (union f.tables)) st ask
   same_decision st ask e =
       let standing : standing_of old.place.keep old.state ≡ st = (λ i. standing_of (sym same_place i).keep (sym same_state i)) ∙ sym e in
-      λ i. decision (rows_of (sym log_tables i)) (standing i) ask
+      λ i. decision (row_by_key (sym log_tables i)) (standing i) ask
 
   -- and what it decides is within the limits
-  pub decided_limits : (st : Standing) (ask : Ask) (x : Shadow) → IsAsk old.place.sites ask → decision (rows_of (union f.tables)) st ask ≡ Ok x
+  pub decided_limits : (st : Standing) (ask : Ask) (x : Shadow) → IsAsk old.place.sites ask → decision (row_by_key (union f.tables)) st ask ≡ Ok x
       → InLimits old.place.sites x
   decided_limits st ask x asks e =
       let within = subst (λ (p : Place). AllInLimits p.sites (fold_of (cores state.log)).tables) same_place (log_in_limits place.sites state.log f follows all_applied) in
@@ -157,7 +157,7 @@ module _ (old : SiteState) (place : Place) (state : Replica) (batch : ℕ) (f : 
       decided_fits old.place.sites (union f.tables) st ask x (subst (AllInLimits old.place.sites) (sym tables) within) asks e
 
 pub decides_err : (old : SiteState) (ask : Ask) (r : Result Shadow Fault) (refusal : Refusal) → IsErr r × IsErrAnd r (λ fault. fault ≡ Refused refusal)
-    → decision_at old ask ≡ Err refusal → Decides old ask r
+    → decision_at old ask ≡ Err refusal → IsDecision old ask r
 decides_err old ask (Ok x) refusal h e = absurd (search rules)
 decides_err old ask (Err (Refused r)) refusal h e = let same : r ≡ refusal = cc h.1 in e ∙ ap Err (sym same)
 decides_err old ask (Err Behind) refusal h e = tt
@@ -165,10 +165,10 @@ decides_err old ask (Err Memory) refusal h e = tt
 
 -- an ask that isn't decided is refused, or nothing is said of it
 pub undecided : (old new : SiteState) (ask : Ask) (r : Result Message Fault) (fault : Fault) → IsErr r × IsErrAnd r (λ e. e ≡ fault) → new.state ≡ old.state
-    → Decides old ask (Err fault) → AnswersAsTheStep old new (asked old.place old.state ask) r
+    → IsDecision old ask (Err fault) → AnswersAsTheStep old new (asked old.place old.state ask) r
 undecided old new ask (Ok m) fault h same d = absurd (search rules)
 undecided old new ask (Err (Refused r)) fault h same d =
-    let refused : decision_at old ask ≡ Err r = subst (λ e. Decides old ask (Err e)) (sym (let e : Refused r ≡ fault = search rules in e)) d in
+    let refused : decision_at old ask ≡ Err r = subst (λ e. IsDecision old ask (Err e)) (sym (let e : Refused r ≡ fault = search rules in e)) d in
     (same, ap (λ o. (generating old.place old.state o).1) refused)
 undecided old new ask (Err Behind) fault h same d = same
 undecided old new ask (Err Memory) fault h same d = same

@@ -46,10 +46,10 @@ abbrev pub decision_at : SiteState → Ask → Result Shadow Refusal
 decision_at s ask = decision (rows_at s.state.log) (standing_of s.place.keep s.state) ask
 
 -- the shadow, or the refusal, is what the site decides; where there is neither nothing is said
-abbrev pub Decides : SiteState → Ask → Result Shadow Fault → Type 0
-Decides s ask (Ok x) = decision_at s ask ≡ Ok x
-Decides s ask (Err (Refused r)) = decision_at s ask ≡ Err r
-Decides s ask (Err fault) = ⊤
+abbrev pub IsDecision : SiteState → Ask → Result Shadow Fault → Type 0
+IsDecision s ask (Ok x) = decision_at s ask ≡ Ok x
+IsDecision s ask (Err (Refused r)) = decision_at s ask ≡ Err r
+IsDecision s ask (Err fault) = ⊤
 
 -- a site that is behind says so, and stays as it is
 abbrev pub WaitsBehind : {A : Type 0} → SiteState → SiteState → Result A Fault → Type 0

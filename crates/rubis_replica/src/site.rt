@@ -7,7 +7,7 @@ ghost use Rattle.rubis_model.specs.Site.{arrived, asked, opening_at, passed, too
 ghost use Rattle.rubis_replica.specs.Progress.{BatchGoesOn, IsBatched, IsProgress, is_behind, resting_at};
 ghost use Rattle.rubis_release.specs.Answers.{IsAdmitted};
 ghost use Rattle.rubis_replica.specs.Setup.{setup_place};
-ghost use Rattle.rubis_replica.specs.State.{AddsRows, AnswersAsTheStep, Decides, IsCutFault, IsReadFault, Lists, NeedsNoTables, TakesIn, WaitsBehind, pending, with_all_applied};
+ghost use Rattle.rubis_replica.specs.State.{AddsRows, AnswersAsTheStep, IsDecision, IsCutFault, IsReadFault, Lists, NeedsNoTables, TakesIn, WaitsBehind, pending, with_all_applied};
 
 use crate::config::Config;
 use crate::faults::Fault;
@@ -106,7 +106,7 @@ impl<G: Gate> Site<G> {
         ensures batch { self.new.batch ≡ self.old.batch }
         ensures state { self.new.state ≡ self.old.state }
         ensures waits { WaitsBehind self.old self.new result }
-        ensures decides { Decides self.old ask result }
+        ensures decides { IsDecision self.old ask result }
         ensures limits { IfOk result (InLimits self.old.place.sites) }
         ensures ok { OnOk result (self.new ≡ with_all_applied self.old) }
         ensures fault { IfErr result (IsReadFault self.old self.new) }

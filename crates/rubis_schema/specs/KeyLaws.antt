@@ -70,13 +70,13 @@ of_ids f back undo i j = (
   λ e. (Decides-same_id i j).1 (sym (undo i) ∙ ap back e ∙ undo j),
 )
 
-id_of : RowKey → Id
-id_of (User i) = i
-id_of (Item i) = i
-id_of (Bid i) = i
-id_of (Purchase i) = i
-id_of (Comment i) = i
-id_of k = record { site = 0; seq = 0 }
+key_id : RowKey → Id
+key_id (User i) = i
+key_id (Item i) = i
+key_id (Bid i) = i
+key_id (Purchase i) = i
+key_id (Comment i) = i
+key_id k = record { site = 0; seq = 0 }
 
 nick_of : RowKey → List ℕ
 nick_of (Nick n) = n
@@ -87,12 +87,12 @@ cat_of (Cat k) = k
 cat_of k = 0
 
 pub Decides-key_eq : (k l : RowKey) → Decides (key_eq k l) (k ≡ l)
-unfolding id_of nick_of cat_of
-Decides-key_eq (User i) (User j) = of_ids User id_of (λ _. refl) i j
-Decides-key_eq (Item i) (Item j) = of_ids Item id_of (λ _. refl) i j
-Decides-key_eq (Bid i) (Bid j) = of_ids Bid id_of (λ _. refl) i j
-Decides-key_eq (Purchase i) (Purchase j) = of_ids Purchase id_of (λ _. refl) i j
-Decides-key_eq (Comment i) (Comment j) = of_ids Comment id_of (λ _. refl) i j
+unfolding key_id nick_of cat_of
+Decides-key_eq (User i) (User j) = of_ids User key_id (λ _. refl) i j
+Decides-key_eq (Item i) (Item j) = of_ids Item key_id (λ _. refl) i j
+Decides-key_eq (Bid i) (Bid j) = of_ids Bid key_id (λ _. refl) i j
+Decides-key_eq (Purchase i) (Purchase j) = of_ids Purchase key_id (λ _. refl) i j
+Decides-key_eq (Comment i) (Comment j) = of_ids Comment key_id (λ _. refl) i j
 Decides-key_eq (Nick m) (Nick n) = (λ e. ap Nick ((bytes_decides m n).0 e), λ e. (bytes_decides m n).1 (ap nick_of e))
 Decides-key_eq (Cat m) (Cat n) = (λ e. ap Cat ((Decides-eqb m n).0 e), λ e. (Decides-eqb m n).1 (ap cat_of e))
 Decides-key_eq k l = (λ e. absurd (true≢false (sym e)), λ e. absurd cc)

@@ -1,5 +1,5 @@
 ghost use Rattle.std.specs.Prelude.{◌≡◌};
-ghost use Rattle.rubis_schema.specs.Refusals.{code_of, name_of};
+ghost use Rattle.rubis_schema.specs.Refusals.{code_of, refusal_name};
 
 /// Why a record is refused.
 #[derive(Clone, Copy, PartialEq, Eq, Debug)]
@@ -77,7 +77,7 @@ impl Refusal {
 
     /// The name that answers show.
     pub fn name(&self) -> &'static str
-        ensures { result.now ≡ name_of self.now }
+        ensures { result.now ≡ refusal_name self.now }
     {
         match self {
             Refusal::BadRecord => "BadRecord",

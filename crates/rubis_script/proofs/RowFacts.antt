@@ -13,7 +13,7 @@ use Rattle.csv.specs.Writing.{field_text, fields_text, fields_written, has_writt
 use Rattle.csv.specs.declared.writer.Writer.{Writer}
 use Rattle.std.specs.List.{list_any}
 use Rattle.rubis_schema.specs.FieldList.{all_plain, comma, is_mark, is_plain, joined}
-use Rattle.rubis_script.specs.Rows.{Begun, front_text, held, plain_row}
+use Rattle.rubis_script.specs.Rows.{HasBegunRow, front_text, held, plain_row}
 use Rattle.rubis_script.specs.Text.{plain_writer}
 
 -- a count that stops at the greatest number
@@ -34,7 +34,7 @@ capped-one (suc zero) = refl
 capped-one (suc (suc n)) = rw (ne_eqb (capped (suc (suc n))) 1 (λ e. absurd (omega (arith, e))), ne_eqb (suc (suc n)) 1 (λ e. cc e)) refl
 
 -- a row at its start
-pub begun-start : (w : Writer (Vec ℕ Global)) → writer_setup w ≡ plain_writer → fields_written w ≡ 0 → has_written w ≡ false → Begun (held w) w []
+pub begun-start : (w : Writer (Vec ℕ Global)) → writer_setup w ≡ plain_writer → fields_written w ≡ 0 → has_written w ≡ false → HasBegunRow (held w) w []
 unfolding is_blank
 begun-start w setup none wrote = record {
   setup = setup;
@@ -44,13 +44,13 @@ begun-start w setup none wrote = record {
 }
 
 -- a row with one more field
-pub begun-more : (start : List ℕ) (a b : Writer (Vec ℕ Global)) (done : List (List ℕ)) (field : List ℕ) → Begun start a done
+pub begun-more : (start : List ℕ) (a b : Writer (Vec ℕ Global)) (done : List (List ℕ)) (field : List ℕ) → HasBegunRow start a done
     → held b ≡ held a ++ (next_sep (writer_setup a) (fields_written a) ++ field_text (writer_setup a) field)
     → writer_setup b ≡ writer_setup a
     → fields_written b ≡ min (fields_written a + 1) (2 ^ 64 - 1)
     → (has_written a ≡ false → has_written b ≡ not (length (field_text (writer_setup a) field) == 0))
     → (has_written a ≡ true → has_written b ≡ true)
-    → Begun start b (done ++ field ∷ [])
+    → HasBegunRow start b (done ++ field ∷ [])
 begun-more start a b done field h text setup count wrote stays =
     let one : length (done ++ field ∷ []) ≡ length done + 1 = length-append done (field ∷ []) in
     let sep : next_sep plain_writer (capped (length done)) ≡ next_sep plain_writer (length done) = rw (capped-none (length done)) refl in
@@ -63,7 +63,7 @@ begun-more start a b done field h text setup count wrote stays =
     }
 
 -- a row at its end
-pub begun-end : (start : List ℕ) (a b : Writer (Vec ℕ Global)) (done : List (List ℕ)) → Begun start a done
+pub begun-end : (start : List ℕ) (a b : Writer (Vec ℕ Global)) (done : List (List ℕ)) → HasBegunRow start a done
     → held b ≡ held a ++ tail_text (writer_setup a) (has_written a) (fields_written a)
     → held b ≡ start ++ row_text plain_writer done
 begun-end start a b done h text =

@@ -13,7 +13,7 @@ abbrev pub held : Writer (Vec ℕ Global) → List ℕ
 held w = (writer_under w).items ++ writer_pending w
 
 -- after the text `start` the writer holds the first fields of a row
-pub record Begun (start : List ℕ) (w : Writer (Vec ℕ Global)) (fields : List (List ℕ)) : Type 0 where
+pub record HasBegunRow (start : List ℕ) (w : Writer (Vec ℕ Global)) (fields : List (List ℕ)) : Type 0 where
   pub setup : writer_setup w ≡ plain_writer
   pub text : held w ≡ start ++ row_body plain_writer fields
   pub count : fields_written w ≡ min (length fields) (2 ^ 64 - 1)

@@ -2,7 +2,7 @@
 
 ghost use Rattle.std.specs.Prelude.{◌≡◌, ◌++◌, ◌∷◌, [], ℕ, List, OnOk, false, map};
 ghost use Rattle.csv.specs.Writing.{fields_written, has_written, row_text, writer_setup, writer_under};
-ghost use Rattle.rubis_script.specs.Rows.{Begun, IsBetweenRows, held};
+ghost use Rattle.rubis_script.specs.Rows.{HasBegunRow, IsBetweenRows, held};
 ghost use Rattle.rubis_script.specs.Text.{plain_writer};
 
 use csv::{Writer, WriterBuilder};
@@ -14,7 +14,7 @@ const MUCH: usize = 65_536;
 
 // Goes on with a row by one field.
 fn put_field(rows: &mut Writer<Vec<u8>>, field: &[u8]) -> Result<(), AllocError>
-    ensures { OnOk result ((start : List ℕ) (done : List (List ℕ)) → Begun start rows.old done → Begun start rows.new (done ++ field.now ∷ [])) }
+    ensures { OnOk result ((start : List ℕ) (done : List (List ℕ)) → HasBegunRow start rows.old done → HasBegunRow start rows.new (done ++ field.now ∷ [])) }
 {
     if rows.write_field(field).is_err() {
         return Err(AllocError);
@@ -24,7 +24,7 @@ fn put_field(rows: &mut Writer<Vec<u8>>, field: &[u8]) -> Result<(), AllocError>
 
 // Goes on with a row by these fields.
 fn put_slices(rows: &mut Writer<Vec<u8>>, fields: &[&[u8]]) -> Result<(), AllocError>
-    ensures { OnOk result ((start : List ℕ) (done : List (List ℕ)) → Begun start rows.old done → Begun start rows.new (done ++ map (λ f. f.now) fields.now)) }
+    ensures { OnOk result ((start : List ℕ) (done : List (List ℕ)) → HasBegunRow start rows.old done → HasBegunRow start rows.new (done ++ map (λ f. f.now) fields.now)) }
 {
     for field in fields {
         put_field(rows, field)?;
@@ -34,7 +34,7 @@ fn put_slices(rows: &mut Writer<Vec<u8>>, fields: &[&[u8]]) -> Result<(), AllocE
 
 // Goes on with a row by the fields of a record.
 fn put_fields(rows: &mut Writer<Vec<u8>>, fields: &Fields) -> Result<(), AllocError>
-    ensures { OnOk result ((start : List ℕ) (done : List (List ℕ)) → Begun start rows.old done → Begun start rows.new (done ++ fields.now)) }
+    ensures { OnOk result ((start : List ℕ) (done : List (List ℕ)) → HasBegunRow start rows.old done → HasBegunRow start rows.new (done ++ fields.now)) }
 {
     for place in 0..fields.len() {
         if let Some(field) = fields.field(place) {
@@ -46,7 +46,7 @@ fn put_fields(rows: &mut Writer<Vec<u8>>, fields: &Fields) -> Result<(), AllocEr
 
 // Ends a row.
 fn end_row(rows: &mut Writer<Vec<u8>>) -> Result<(), AllocError>
-    ensures text { OnOk result ((start : List ℕ) (done : List (List ℕ)) → Begun start rows.old done → held rows.new ≡ start ++ row_text plain_writer done) }
+    ensures text { OnOk result ((start : List ℕ) (done : List (List ℕ)) → HasBegunRow start rows.old done → held rows.new ≡ start ++ row_text plain_writer done) }
     ensures setup { OnOk result (writer_setup rows.new ≡ writer_setup rows.old) }
     ensures fields { OnOk result (fields_written rows.new ≡ 0) }
     ensures wrote { OnOk result (has_written rows.new ≡ false) }
@@ -59,7 +59,7 @@ fn end_row(rows: &mut Writer<Vec<u8>>) -> Result<(), AllocError>
 
 // Writes a row that begins with `first` and goes on with the fields of a record.
 fn put_row(rows: &mut Writer<Vec<u8>>, first: &[&[u8]], fields: &Fields) -> Result<(), AllocError>
-    ensures { OnOk result ((start : List ℕ) → Begun start rows.old [] → (held rows.new ≡ start ++ row_text plain_writer (map (λ f. f.now) first.now ++ fields.now))
+    ensures { OnOk result ((start : List ℕ) → HasBegunRow start rows.old [] → (held rows.new ≡ start ++ row_text plain_writer (map (λ f. f.now) first.now ++ fields.now))
         × (writer_setup rows.new ≡ plain_writer) × (fields_written rows.new ≡ 0) × (has_written rows.new ≡ false)) }
 {
     put_slices(rows, first)?;

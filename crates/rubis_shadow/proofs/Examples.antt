@@ -8,7 +8,7 @@ use Rattle.rubis_schema.specs.declared.rows.ItemRow.{ItemRow}
 use Rattle.rubis_schema.specs.declared.rows.Row.TheVariants as row
 use Rattle.rubis_schema.specs.declared.rows.Sale.TheVariants.{Open, Ended}
 use Rattle.rubis_schema.specs.declared.rows.UserRow.{UserRow}
-use Rattle.rubis_shadow.specs.Changes.{change_row, fits, int_up, misfits_as}
+use Rattle.rubis_shadow.specs.Changes.{change_row, fits_as, int_up, misfits_as}
 use Rattle.rubis_shadow.specs.Parts.{key_of, parts, refers_of}
 use Rattle.rubis_shadow.specs.declared.changes.Change.TheVariants.{Insert, ItemListed, Rated, BidTaken, Sold, End}
 use Rattle.rubis_shadow.specs.declared.changes.MisfitKind.TheVariants.{RowThere, NoRow, ClosedItem, StockShort}
@@ -29,7 +29,7 @@ ann = record { nick = codes "ann"; items = 0; bought = 0; rating = pos 0; commen
 
 -- ---- changes
 
-two_are_sold : change_row (Sold 2) (Some (row.Item cups)) ≡ fits (row.Item (record cups { stock = 1; sold = 2 }))
+two_are_sold : change_row (Sold 2) (Some (row.Item cups)) ≡ fits_as (row.Item (record cups { stock = 1; sold = 2 }))
 unfolding change_row
 two_are_sold = refl
 
@@ -38,12 +38,12 @@ unfolding change_row
 five_are_too_many = refl
 
 later_of_equal_bids : change_row (BidTaken (best 5 60)) (Some (row.Item (record cups { bids = 1; best = Some (best 4 60) })))
-    ≡ fits (row.Item (record cups { bids = 2; best = Some (best 4 60) }))
+    ≡ fits_as (row.Item (record cups { bids = 2; best = Some (best 4 60) }))
 unfolding change_row
 later_of_equal_bids = refl
 
 higher_bid : change_row (BidTaken (best 5 61)) (Some (row.Item (record cups { bids = 1; best = Some (best 4 60) })))
-    ≡ fits (row.Item (record cups { bids = 2; best = Some (best 5 61) }))
+    ≡ fits_as (row.Item (record cups { bids = 2; best = Some (best 5 61) }))
 unfolding change_row
 higher_bid = refl
 
@@ -58,7 +58,7 @@ sold_after_the_end : change_row (Sold 5) (Some (row.Item (record cups { sale = E
 unfolding change_row
 sold_after_the_end = refl
 
-ended_with_a_winner : change_row (End (Some (id 4))) (Some (row.Item cups)) ≡ fits (row.Item (record cups { sale = Ended (Some (id 4)) }))
+ended_with_a_winner : change_row (End (Some (id 4))) (Some (row.Item cups)) ≡ fits_as (row.Item (record cups { sale = Ended (Some (id 4)) }))
 unfolding change_row
 ended_with_a_winner = refl
 
@@ -71,7 +71,7 @@ unfolding change_row
 no_user = refl
 
 rated : change_row (Rated (negsuc 4)) (Some (row.User (record ann { rating = pos 3; comments = 1 })))
-    ≡ fits (row.User (record ann { rating = negsuc 1; comments = 2 }))
+    ≡ fits_as (row.User (record ann { rating = negsuc 1; comments = 2 }))
 unfolding change_row
 rated = refl
 

@@ -16,7 +16,7 @@ use Rattle.rubis_schema.specs.declared.rows.Best.{Best}
 use Rattle.rubis_schema.specs.declared.rows.Sale.{Sale}
 use Rattle.rubis_schema.specs.declared.rows.Sale.TheVariants.{Open, Ended}
 use Rattle.rubis_schema.specs.declared.rows.ItemRow.{ItemRow}
-use Rattle.rubis_shadow.specs.Changes.{Done, change_row, after, with_row, better, if_open, misfits_as}
+use Rattle.rubis_shadow.specs.Changes.{Done, change_row, after_part, with_row, better, if_open, misfits_as}
 use Rattle.rubis_shadow.specs.Limits.{RowInLimits, AllInLimits, InLimits}
 use Rattle.rubis_shadow.specs.Parts.{parts}
 use Rattle.rubis_shadow.specs.Tables.{categories_from, new_category, opening}
@@ -72,7 +72,7 @@ module _ (sites : ℕ) where
   with_row_kept t k (Some r) h g q = subst (λ (x : Option Row). Kept x) (sym (map.get-insert key_total t k r q)) (at_key (tied q k) (Some r) (map.get t q) h (g q))
 
   -- a part within the limits keeps the tables within them
-  pub after_kept : (t : Tables) (e : Effect) → ChangeInLimits sites e.change → AllInLimits sites t → AllInLimits sites (after t e)
+  pub after_kept : (t : Tables) (e : Effect) → ChangeInLimits sites e.change → AllInLimits sites t → AllInLimits sites (after_part t e)
   after_kept t e g h = with_row_kept t e.key _ (change_kept e.change (map.get t e.key) g (h e.key)) h
 
 -- the parts of a shadow within the limits are within them

@@ -11,7 +11,7 @@ use Rattle.rubis_schema.specs.KeyLaws.{key_total, key_antisymmetric, key_eq_equi
 use Rattle.rubis_schema.specs.Tables.{Tables}
 use Rattle.rubis_schema.specs.declared.row_keys.RowKey.{RowKey}
 use Rattle.rubis_schema.specs.declared.rows.Row.{Row}
-use Rattle.rubis_shadow.specs.Changes.{change_row, after, fits, misfit_of, misfits_as, with_row, Done}
+use Rattle.rubis_shadow.specs.Changes.{change_row, after_part, fits_as, misfit_of, misfits_as, with_row, Done}
 use Rattle.rubis_shadow.specs.declared.changes.Change.{Change}
 use Rattle.rubis_shadow.specs.declared.changes.Change.TheVariants.{Insert}
 use Rattle.rubis_shadow.specs.declared.changes.MisfitKind.TheVariants.{RowThere, NoRow}
@@ -40,14 +40,14 @@ tables_of_update es fs k v h = map.same_map key_total key_antisymmetric _ _ (λ 
     ∙ sym (map.get-insert key_total (tables_of es) k v q))
 
 -- a change in place of a row that is there
-pub after_alter : (t : Tables) (e : Effect) (old new : Row) → map.get t e.key ≡ Some old → (change_row e.change (Some old)).row ≡ Some new → map.insert t e.key new ≡ after t e
+pub after_alter : (t : Tables) (e : Effect) (old new : Row) → map.get t e.key ≡ Some old → (change_row e.change (Some old)).row ≡ Some new → map.insert t e.key new ≡ after_part t e
 after_alter t e old new g r = ap (with_row t e.key) (sym r ∙ ap (λ (o : Option Row). (change_row e.change o).row) (sym g))
 
 pub misfit_alter : (t : Tables) (e : Effect) (old : Row) (m : Option MisfitKind) → map.get t e.key ≡ Some old → (change_row e.change (Some old)).misfit ≡ m → m ≡ misfit_of t e
 misfit_alter t e old m g r = sym r ∙ ap (λ (o : Option Row). (change_row e.change o).misfit) (sym g)
 
 -- no row is there
-pub after_none : (t : Tables) (e : Effect) (d : Done) → map.get t e.key ≡ None → change_row e.change None ≡ d → with_row t e.key d.row ≡ after t e
+pub after_none : (t : Tables) (e : Effect) (d : Done) → map.get t e.key ≡ None → change_row e.change None ≡ d → with_row t e.key d.row ≡ after_part t e
 after_none t e d g r = ap (λ (x : Done). with_row t e.key x.row) (sym r ∙ ap (change_row e.change) (sym g))
 
 pub misfit_none : (t : Tables) (e : Effect) (d : Done) → map.get t e.key ≡ None → change_row e.change None ≡ d → d.misfit ≡ misfit_of t e
@@ -83,16 +83,16 @@ refused : (h : Change) (row old : Row) → h ≡ Insert row → change_row h (So
 unfolding change_row
 refused h row old e = ap (λ x. change_row x (Some old)) e
 
-pub after_refused : (t : Tables) (e : Effect) (row old : Row) → map.get t e.key ≡ Some old → e.change ≡ Insert row → t ≡ after t e
+pub after_refused : (t : Tables) (e : Effect) (row old : Row) → map.get t e.key ≡ Some old → e.change ≡ Insert row → t ≡ after_part t e
 after_refused t e row old g i = sym (insert_same t e.key old g) ∙ ap (λ (x : Done). with_row t e.key x.row) (sym (refused e.change row old i) ∙ ap (change_row e.change) (sym g))
 
 pub misfit_refused : (t : Tables) (e : Effect) (row old : Row) → map.get t e.key ≡ Some old → e.change ≡ Insert row → Some RowThere ≡ misfit_of t e
 misfit_refused t e row old g i = ap (λ (x : Done). x.misfit) (sym (refused e.change row old i) ∙ ap (change_row e.change) (sym g))
 
 -- an insert at a free key, and every other change there
-pub inserted : (h : Change) (row new : _) → h ≡ Insert row → new ≡ row → change_row h None ≡ fits new
+pub inserted : (h : Change) (row new : _) → h ≡ Insert row → new ≡ row → change_row h None ≡ fits_as new
 unfolding change_row
-inserted h row new e s = ap (λ x. change_row x None) e ∙ ap fits (sym s)
+inserted h row new e s = ap (λ x. change_row x None) e ∙ ap fits_as (sym s)
 
 pub not_insert : (h : Change) → ((x : _) → h ≡ Insert x → ⊥) → change_row h None ≡ misfits_as NoRow None
 unfolding change_row

@@ -31,8 +31,8 @@ pub record Done : Type 0 where
   pub row : Option Row
   pub misfit : Option MisfitKind
 
-abbrev pub fits : Row → Done
-fits row = record { row = Some row; misfit = None }
+abbrev pub fits_as : Row → Done
+fits_as row = record { row = Some row; misfit = None }
 
 abbrev pub misfits_as : MisfitKind → Option Row → Done
 misfits_as kind row = record { row = row; misfit = Some kind }
@@ -53,17 +53,17 @@ if_open item (Ended winner) done = misfits_as ClosedItem (Some (Item item))
 
 -- an insert wants a free key, and each other change a row of its table; else the row stays as it is
 unfoldable pub change_row : Change → Option Row → Done
-change_row (Insert row) None = fits row
+change_row (Insert row) None = fits_as row
 change_row (Insert row) (Some old) = misfits_as RowThere (Some old)
-change_row ItemListed (Some (User u)) = fits (User (record u { items = count_up u.items 1 }))
-change_row (Bought q) (Some (User u)) = fits (User (record u { bought = count_up u.bought q }))
-change_row (Rated r) (Some (User u)) = fits (User (record u { rating = int_up u.rating r; comments = count_up u.comments 1 }))
-change_row CatListed (Some (Cat c)) = fits (Cat (record { items = count_up c.items 1; live = int_up c.live (pos 1) }))
-change_row CatEnded (Some (Cat c)) = fits (Cat (record c { live = int_up c.live (negsuc 0) }))
-change_row (BidTaken b) (Some (Item i)) = if_open i i.sale (fits (Item (record i { bids = count_up i.bids 1; best = better i.best b })))
+change_row ItemListed (Some (User u)) = fits_as (User (record u { items = count_up u.items 1 }))
+change_row (Bought q) (Some (User u)) = fits_as (User (record u { bought = count_up u.bought q }))
+change_row (Rated r) (Some (User u)) = fits_as (User (record u { rating = int_up u.rating r; comments = count_up u.comments 1 }))
+change_row CatListed (Some (Cat c)) = fits_as (Cat (record { items = count_up c.items 1; live = int_up c.live (pos 1) }))
+change_row CatEnded (Some (Cat c)) = fits_as (Cat (record c { live = int_up c.live (negsuc 0) }))
+change_row (BidTaken b) (Some (Item i)) = if_open i i.sale (fits_as (Item (record i { bids = count_up i.bids 1; best = better i.best b })))
 change_row (Sold q) (Some (Item i)) =
-    if_open i i.sale (cond (nat_le q i.stock) (fits (Item (record i { stock = i.stock - q; sold = count_up i.sold q }))) (misfits_as StockShort (Some (Item i))))
-change_row (End w) (Some (Item i)) = if_open i i.sale (fits (Item (record i { sale = Ended w })))
+    if_open i i.sale (cond (nat_le q i.stock) (fits_as (Item (record i { stock = i.stock - q; sold = count_up i.sold q }))) (misfits_as StockShort (Some (Item i))))
+change_row (End w) (Some (Item i)) = if_open i i.sale (fits_as (Item (record i { sale = Ended w })))
 change_row change row = misfits_as NoRow row
 
 -- the tables with that row at the key, or with none
@@ -75,8 +75,8 @@ abbrev pub doing : Tables → Effect → Done
 doing t e = change_row e.change (map.get t e.key)
 
 -- the tables after a part
-abbrev pub after : Tables → Effect → Tables
-after t e = with_row t e.key (doing t e).row
+abbrev pub after_part : Tables → Effect → Tables
+after_part t e = with_row t e.key (doing t e).row
 
 -- why the part doesn't fit the tables, if it doesn't
 abbrev pub misfit_of : Tables → Effect → Option MisfitKind

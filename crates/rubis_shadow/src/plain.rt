@@ -4,7 +4,7 @@ ghost use Rattle.std.specs.FinMap as map;
 ghost use Rattle.std.specs.Map.Iter.{deref_pair};
 ghost use Rattle.rubis_schema.specs.Keys.{key_order};
 ghost use Rattle.rubis_shadow.specs.Tables.{opening, rows_of};
-ghost use Rattle.rubis_shadow.specs.Changes.{after, misfit_of};
+ghost use Rattle.rubis_shadow.specs.Changes.{after_part, misfit_of};
 
 use crate::changes::{Change, Effect, MisfitKind};
 use crate::listing::rows_in_order;
@@ -80,7 +80,7 @@ impl PlainTables {
 
     /// Does one part: changes its row, or says why the part doesn't fit.
     pub fn apply(&mut self, effect: &Effect) -> Result<Option<MisfitKind>, AllocError>
-        ensures tables { IfOk result (λ misfit. self.new ≡ after self.old effect.now) }
+        ensures tables { IfOk result (λ misfit. self.new ≡ after_part self.old effect.now) }
         ensures misfit { IfOk result (λ misfit. misfit ≡ misfit_of self.old effect.now) }
         ensures err { OnErr result (self.new ≡ self.old) }
     {

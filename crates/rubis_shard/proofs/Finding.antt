@@ -7,7 +7,7 @@ use Rattle.std.proofs.lemmas.Option.{slice_get_past}
 use Rattle.rubis_schema.specs.Keys.{key_eq}
 use Rattle.rubis_schema.specs.KeyLaws.{Decides-key_eq, key_eq_equiv}
 use Rattle.rubis_schema.specs.declared.row_keys.RowKey.{RowKey}
-use Rattle.rubis_shard.specs.Places.{is_key, listed, one_more, place_of, place_among, place_at, place_by, place_in, same_slot, slot_of, stands_at, Finds}
+use Rattle.rubis_shard.specs.Places.{is_key, place_in_lists, one_place_on, place_of, place_among, place_at, place_by, place_in, same_slot, slot_of, stands_at, Finds}
 use Rattle.rubis_shard.specs.declared.place_lists.Slot.{Slot}
 use Rattle.rubis_shard.specs.declared.places.Places.{Places}
 use Rattle.rubis_shard.proofs.Items.{push_last}
@@ -16,30 +16,30 @@ use Rattle.rubis_shard.proofs.Linking.{same_number}
 pub itself : (k : RowKey) → key_eq k k ≡ true
 itself k = (Decides-key_eq k k).1 refl
 
-none_more : (n : ℕ) → one_more n ≡ 0 → n ≡ 0
+none_more : (n : ℕ) → one_place_on n ≡ 0 → n ≡ 0
 none_more zero e = refl
 none_more (suc n) e = absurd (omega arith)
 
 -- a key that isn't among those behind the first either
-pub not_first : (key k : RowKey) (n : ℕ) → cond (key_eq key k) 1 (one_more n) ≡ 0 → (key_eq key k ≡ false) × (n ≡ 0)
+pub not_first : (key k : RowKey) (n : ℕ) → cond (key_eq key k) 1 (one_place_on n) ≡ 0 → (key_eq key k ≡ false) × (n ≡ 0)
 not_first key k n h = at (key_eq key k) refl
   where
     at : (b : Bool) → key_eq key k ≡ b → (key_eq key k ≡ false) × (n ≡ 0)
-    at true e = absurd (let one : 1 ≡ 0 = ap (λ b. cond b 1 (one_more n)) (sym e) ∙ h in omega arith)
-    at false e = (e, none_more n (ap (λ b. cond b 1 (one_more n)) (sym e) ∙ h))
+    at true e = absurd (let one : 1 ≡ 0 = ap (λ b. cond b 1 (one_place_on n)) (sym e) ∙ h in omega arith)
+    at false e = (e, none_more n (ap (λ b. cond b 1 (one_place_on n)) (sym e) ∙ h))
 
 -- ---- one more key
 among_other : (q k : RowKey) (ks : List RowKey) → key_eq q k ≡ false → place_among q (ks ++ k ∷ []) ≡ place_among q ks
 unfolding place_among
 among_other q k [] other = ap (λ b. cond b 1 0) other
-among_other q k (x ∷ ks) other = ap (λ n. cond (key_eq q x) 1 (one_more n)) (among_other q k ks other)
+among_other q k (x ∷ ks) other = ap (λ n. cond (key_eq q x) 1 (one_place_on n)) (among_other q k ks other)
 
 among_last : (k : RowKey) (ks : List RowKey) → place_among k ks ≡ 0 → place_among k (ks ++ k ∷ []) ≡ suc (length ks)
 unfolding place_among
 among_last k [] none = ap (λ b. cond b 1 0) (itself k)
 among_last k (x ∷ ks) none =
     let w = not_first k x (place_among k ks) none in
-    ap (λ b. cond b 1 (one_more (place_among k (ks ++ k ∷ [])))) w.0 ∙ ap one_more (among_last k ks w.1)
+    ap (λ b. cond b 1 (one_place_on (place_among k (ks ++ k ∷ [])))) w.0 ∙ ap one_place_on (among_last k ks w.1)
 
 is_key_other : (q k : RowKey) (ks : List RowKey) (i : ℕ) → key_eq q k ≡ false
     → is_key q (slice_get (ks ++ k ∷ []) i) ≡ is_key q (slice_get ks i)
@@ -79,25 +79,25 @@ module _ (k : RowKey) (ks : List RowKey) (old new : Places) (none : place_among 
   other_found : (q : RowKey) → key_eq q k ≡ false
       → place_at new.named.entries q ≡ place_at old.named.entries q
       → place_at new.strays.entries q ≡ place_at old.strays.entries q
-      → ((s : Slot) → (listed new.lists s ≡ listed old.lists s) ⊎ ((listed old.lists s ≡ 0) × (listed new.lists s ≡ suc (length ks))))
+      → ((s : Slot) → (place_in_lists new.lists s ≡ place_in_lists old.lists s) ⊎ ((place_in_lists old.lists s ≡ 0) × (place_in_lists new.lists s ≡ suc (length ks))))
       → (s : Option Slot) → place_by new (ks ++ k ∷ []) q s ≡ place_by old ks q s
   other_found q other named strays lists None = named
   other_found q other named strays lists (Some s) = ⊎_elim
       (λ same. λ i. cond
-      ((ap (stands_at (ks ++ k ∷ []) q) same ∙ stands_other q k ks (listed old.lists s) other) i)
+      ((ap (stands_at (ks ++ k ∷ []) q) same ∙ stands_other q k ks (place_in_lists old.lists s) other) i)
       (same i) (strays i))
       (λ taken.
-      ap (λ b. cond b (listed new.lists s) (place_at new.strays.entries q))
+      ap (λ b. cond b (place_in_lists new.lists s) (place_at new.strays.entries q))
       (ap (stands_at (ks ++ k ∷ []) q) taken.1 ∙ stands_other q k ks (suc (length ks)) other ∙ stands_beyond q ks)
       ∙ strays
-      ∙ ap (λ b. cond b (listed old.lists s) (place_at old.strays.entries q)) (sym (ap (stands_at ks q) taken.0)))
+      ∙ ap (λ b. cond b (place_in_lists old.lists s) (place_at old.strays.entries q)) (sym (ap (stands_at ks q) taken.0)))
       (lists s)
 
   -- all are found, if the new one is
   found_all : place_by new (ks ++ k ∷ []) k (slot_of new.shards k) ≡ suc (length ks)
       → ((q : RowKey) → key_eq q k ≡ false → place_at new.named.entries q ≡ place_at old.named.entries q)
       → ((q : RowKey) → key_eq q k ≡ false → place_at new.strays.entries q ≡ place_at old.strays.entries q)
-      → ((s : Slot) → (listed new.lists s ≡ listed old.lists s) ⊎ ((listed old.lists s ≡ 0) × (listed new.lists s ≡ suc (length ks))))
+      → ((s : Slot) → (place_in_lists new.lists s ≡ place_in_lists old.lists s) ⊎ ((place_in_lists old.lists s ≡ 0) × (place_in_lists new.lists s ≡ suc (length ks))))
       → Finds ks old → Finds (ks ++ k ∷ []) new
   found_all itself_found named strays lists finds = record { found = λ q. at q (key_eq q k) refl }
     where
@@ -132,12 +132,12 @@ module _ (k : RowKey) (ks : List RowKey) (old new : Places) (none : place_among 
         ∙ at_itself place old.named.entries new.named.entries put ∙ is_last)
         (at_other place old.named.entries new.named.entries put)
         (λ q other. ap (λ es. place_at es q) strays)
-        (λ s. inl (ap (λ l. listed l s) lists))
+        (λ s. inl (ap (λ l. place_in_lists l s) lists))
 
     module _ (slot : Slot) (with_slot : slot_of old.shards k ≡ Some slot) where
       -- a key whose place is in its slot
-      pub listed_put : listed old.lists slot ≡ 0
-          → ((s : Slot) → listed new.lists s ≡ cond (same_slot slot s) place (listed old.lists s))
+      pub listed_put : place_in_lists old.lists slot ≡ 0
+          → ((s : Slot) → place_in_lists new.lists s ≡ cond (same_slot slot s) place (place_in_lists old.lists s))
           → new.named.entries ≡ old.named.entries → new.strays.entries ≡ old.strays.entries
           → Finds ks old → Finds (ks ++ k ∷ []) new
       listed_put free put named strays = found_all
@@ -148,39 +148,39 @@ module _ (k : RowKey) (ks : List RowKey) (old new : Places) (none : place_among 
           (λ q other. ap (λ es. place_at es q) strays)
           (λ s. at s (nat_eq slot.list s.list) (nat_eq slot.at s.at) refl refl)
         where
-          here : listed new.lists slot ≡ suc (length ks)
+          here : place_in_lists new.lists slot ≡ suc (length ks)
           here = put slot
-              ∙ (λ t. cond (same_number slot.list t && same_number slot.at t) place (listed old.lists slot)) ∙ is_last
+              ∙ (λ t. cond (same_number slot.list t && same_number slot.at t) place (place_in_lists old.lists slot)) ∙ is_last
 
           at : (s : Slot) (a b : Bool) → nat_eq slot.list s.list ≡ a → nat_eq slot.at s.at ≡ b
-              → (listed new.lists s ≡ listed old.lists s) ⊎ ((listed old.lists s ≡ 0) × (listed new.lists s ≡ suc (length ks)))
+              → (place_in_lists new.lists s ≡ place_in_lists old.lists s) ⊎ ((place_in_lists old.lists s ≡ 0) × (place_in_lists new.lists s ≡ suc (length ks)))
           at s true true e f =
               let list : slot.list ≡ s.list = (Decides-eqb _ _).0 e in
               let index : slot.at ≡ s.at = (Decides-eqb _ _).0 f in
               inr (
                 (λ t. place_of (sym index t) (slice_get old.lists.lists.items (sym list t))) ∙ free,
-                put s ∙ (λ t. cond (e t && f t) place (listed old.lists s)) ∙ is_last,
+                put s ∙ (λ t. cond (e t && f t) place (place_in_lists old.lists s)) ∙ is_last,
               )
-          at s true false e f = inl (put s ∙ (λ t. cond (e t && f t) place (listed old.lists s)))
-          at s false b e f = inl (put s ∙ ap (λ x. cond (x && nat_eq slot.at s.at) place (listed old.lists s)) e)
+          at s true false e f = inl (put s ∙ (λ t. cond (e t && f t) place (place_in_lists old.lists s)))
+          at s false b e f = inl (put s ∙ ap (λ x. cond (x && nat_eq slot.at s.at) place (place_in_lists old.lists s)) e)
 
       -- a stray
-      pub stray_put : ((s : Slot) → listed new.lists s ≡ listed old.lists s)
+      pub stray_put : ((s : Slot) → place_in_lists new.lists s ≡ place_in_lists old.lists s)
           → new.named.entries ≡ old.named.entries
           → ((q : RowKey) → place_at new.strays.entries q ≡ cond (key_eq k q) place (place_at old.strays.entries q))
           → Finds ks old → Finds (ks ++ k ∷ []) new
       stray_put same named put = found_all
           (ap (place_by new (ks ++ k ∷ []) k) (ap (λ n. slot_of n k) shards ∙ with_slot)
-          ∙ at (stands_at (ks ++ k ∷ []) k (listed new.lists slot)) refl)
+          ∙ at (stands_at (ks ++ k ∷ []) k (place_in_lists new.lists slot)) refl)
           (λ q other. ap (λ es. place_at es q) named)
           (at_other place old.strays.entries new.strays.entries put)
           (λ s. inl (same s))
         where
-          at : (b : Bool) → stands_at (ks ++ k ∷ []) k (listed new.lists slot) ≡ b
+          at : (b : Bool) → stands_at (ks ++ k ∷ []) k (place_in_lists new.lists slot) ≡ b
               → place_by new (ks ++ k ∷ []) k (Some slot) ≡ suc (length ks)
-          at true e = ap (λ b. cond b (listed new.lists slot) (place_at new.strays.entries k)) e
-              ∙ stands_only k ks (listed new.lists slot) none e
-          at false e = ap (λ b. cond b (listed new.lists slot) (place_at new.strays.entries k)) e
+          at true e = ap (λ b. cond b (place_in_lists new.lists slot) (place_at new.strays.entries k)) e
+              ∙ stands_only k ks (place_in_lists new.lists slot) none e
+          at false e = ap (λ b. cond b (place_in_lists new.lists slot) (place_at new.strays.entries k)) e
               ∙ at_itself place old.strays.entries new.strays.entries put ∙ is_last
 
 -- ---- no keys
@@ -195,7 +195,7 @@ none_put new named strays = record { found = λ q. at q (slot_of new.shards q) }
     at : (q : RowKey) (s : Option Slot) → place_by new [] q s ≡ 0
     at q None = ap (λ es. place_at es q) named
     at q (Some s) =
-        ap (λ b. cond b (listed new.lists s) (place_at new.strays.entries q)) (nowhere q (listed new.lists s))
+        ap (λ b. cond b (place_in_lists new.lists s) (place_at new.strays.entries q)) (nowhere q (place_in_lists new.lists s))
         ∙ ap (λ es. place_at es q) strays
 
 -- ---- the same places
@@ -208,4 +208,4 @@ same_finds ks old new shards lists named strays finds = record {
   where
     at : (q : RowKey) (s : Option Slot) → place_by new ks q s ≡ place_by old ks q s
     at q None = ap (λ es. place_at es q) named
-    at q (Some s) = λ i. cond (stands_at ks q (listed (lists i) s)) (listed (lists i) s) (place_at (strays i) q)
+    at q (Some s) = λ i. cond (stands_at ks q (place_in_lists (lists i) s)) (place_in_lists (lists i) s) (place_at (strays i) q)

@@ -9,7 +9,7 @@ use Rattle.std.proofs.lemmas.List.{take_more}
 use Rattle.std.proofs.lemmas.List.Sums.{fold-append}
 use Rattle.std.proofs.lemmas.Option.{slice_get-get_or, slice_get_within, get_or_from_slice_get, slice_get_cases}
 use Rattle.rubis_schema.specs.Keys.{home}
-use Rattle.rubis_shadow.specs.Changes.{after}
+use Rattle.rubis_shadow.specs.Changes.{after_part}
 use Rattle.rubis_shadow.specs.declared.numbered.Numbered.{Numbered}
 use Rattle.rubis_model.specs.Log.{Folded, step}
 use Rattle.rubis_model.specs.Shares.{part_of}
@@ -50,8 +50,8 @@ pub part_kept : (shards k : ℕ) (f g : Folded) (n : Numbered) → part_of shard
 part_kept shards k f g n own here next =
     ap (λ (x : Folded). part_of shards k x.tables) next
     ∙ part_after shards k f.tables n.effect
-    ∙ ap (λ b. cond b (after (part_of shards k f.tables) n.effect) (part_of shards k f.tables)) ((Decides-eqb _ _).1 here)
-    ∙ ap (λ t. after t n.effect) own
+    ∙ ap (λ b. cond b (after_part (part_of shards k f.tables) n.effect) (part_of shards k f.tables)) ((Decides-eqb _ _).1 here)
+    ∙ ap (λ t. after_part t n.effect) own
     ∙ ap (λ (x : Folded). x.tables) (sym next)
 
 -- a part of the list is at home where all are

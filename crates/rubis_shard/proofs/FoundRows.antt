@@ -14,7 +14,7 @@ use Rattle.rubis_schema.specs.declared.row_keys.RowKey.{RowKey}
 use Rattle.rubis_schema.specs.declared.rows.Row.{Row}
 use Rattle.rubis_shadow.proofs.Rows.{tables_of, get_tables_of, tables_of_update}
 use Rattle.rubis_shard.specs.Chains.{chain_of, chains_of}
-use Rattle.rubis_shard.specs.Places.{is_key, one_more, place_among, stands_at}
+use Rattle.rubis_shard.specs.Places.{is_key, one_place_on, place_among, stands_at}
 use Rattle.rubis_shard.proofs.Finding.{itself, not_first}
 use Rattle.rubis_shard.proofs.Linking.{chains_set}
 
@@ -26,7 +26,7 @@ found_in : Entries → ℕ → Option Row
 found_in es zero = None
 found_in es (suc i) = option_map (λ (e : RowKey × Row). e.1) (slice_get es i)
 
-found_behind : (e : RowKey × Row) (es : Entries) (n : ℕ) → found_in (e ∷ es) (one_more n) ≡ found_in es n
+found_behind : (e : RowKey × Row) (es : Entries) (n : ℕ) → found_in (e ∷ es) (one_place_on n) ≡ found_in es n
 unfolding found_in
 found_behind e es zero = refl
 found_behind e es (suc n) = refl
@@ -38,12 +38,12 @@ looked_up key (e ∷ es) = at (key_eq key e.0) refl (looked_up key es)
   where
     at : (b : Bool) → key_eq key e.0 ≡ b → lookup (key_eq key) es ≡ found_in es (place_among key (keys_of es))
         → cond (key_eq key e.0) (Some e.1) (lookup (key_eq key) es)
-        ≡ found_in (e ∷ es) (cond (key_eq key e.0) 1 (one_more (place_among key (keys_of es))))
+        ≡ found_in (e ∷ es) (cond (key_eq key e.0) 1 (one_place_on (place_among key (keys_of es))))
     at true is rest = ap (λ b. cond b (Some e.1) (lookup (key_eq key) es)) is
-        ∙ ap (λ b. found_in (e ∷ es) (cond b 1 (one_more (place_among key (keys_of es))))) (sym is)
+        ∙ ap (λ b. found_in (e ∷ es) (cond b 1 (one_place_on (place_among key (keys_of es))))) (sym is)
     at false not rest = ap (λ b. cond b (Some e.1) (lookup (key_eq key) es)) not ∙ rest
         ∙ sym (found_behind e es (place_among key (keys_of es)))
-        ∙ ap (λ b. found_in (e ∷ es) (cond b 1 (one_more (place_among key (keys_of es))))) (sym not)
+        ∙ ap (λ b. found_in (e ∷ es) (cond b 1 (one_place_on (place_among key (keys_of es))))) (sym not)
 
 none_found_in : (key : RowKey) (es : Entries) → place_among key (keys_of es) ≡ 0 → lookup (key_eq key) es ≡ None
 unfolding found_in
@@ -61,20 +61,20 @@ unfolding place_among
 found_within key [] = omega arith
 found_within key (e ∷ es) =
     let rest = more (place_among key (keys_of es)) (length es) (found_within key es) in
-    elim (key_eq key e.0) as (λ b. cond b 1 (one_more (place_among key (keys_of es))) ≤ suc (length es)) [
+    elim (key_eq key e.0) as (λ b. cond b 1 (one_place_on (place_among key (keys_of es))) ≤ suc (length es)) [
       | true ↦ omega arith
       | false ↦ rest
     ]
   where
-    more : (n m : ℕ) → n ≤ m → one_more n ≤ suc m
+    more : (n m : ℕ) → n ≤ m → one_place_on n ≤ suc m
     more zero m l = omega arith
     more (suc n) m l = omega arith
 
-not_one : (n : ℕ) → one_more n ≡ 1 → ⊥
+not_one : (n : ℕ) → one_place_on n ≡ 1 → ⊥
 not_one zero e = omega arith
 not_one (suc n) e = omega arith
 
-one_less : (n i : ℕ) → one_more n ≡ suc (suc i) → n ≡ suc i
+one_less : (n i : ℕ) → one_place_on n ≡ suc (suc i) → n ≡ suc i
 one_less zero i e = absurd (omega arith)
 one_less (suc n) i e = omega arith
 
@@ -85,7 +85,7 @@ unfolding place_among
 row_set key [] i e row is there = absurd cc
 row_set key (x ∷ es) i e row is there = at (key_eq key x.0) i refl is there (row_set key es)
   where
-    at : (b : Bool) (i : ℕ) → key_eq key x.0 ≡ b → cond (key_eq key x.0) 1 (one_more (place_among key (keys_of es))) ≡ suc i
+    at : (b : Bool) (i : ℕ) → key_eq key x.0 ≡ b → cond (key_eq key x.0) 1 (one_place_on (place_among key (keys_of es))) ≡ suc i
         → slice_get (x ∷ es) i ≡ Some e
         → ((j : ℕ) (y : RowKey × Row) (r : Row) → place_among key (keys_of es) ≡ suc j → slice_get es j ≡ Some y
         → set es j (y.0, r) ≡ set_value (key_eq key) es r)
@@ -95,11 +95,11 @@ row_set key (x ∷ es) i e row is there = at (key_eq key x.0) i refl is there (r
         ap (λ (y : RowKey × Row). (y.0, row) ∷ es) (sym same)
         ∙ ap (λ b. cond b ((x.0, row) ∷ es) (x ∷ set_value (key_eq key) es row)) (sym is)
     at true (suc i) is found there rest =
-        absurd (let one : 1 ≡ suc (suc i) = ap (λ b. cond b 1 (one_more (place_among key (keys_of es)))) (sym is) ∙ found in omega arith)
+        absurd (let one : 1 ≡ suc (suc i) = ap (λ b. cond b 1 (one_place_on (place_among key (keys_of es)))) (sym is) ∙ found in omega arith)
     at false zero not found there rest =
-        absurd (not_one (place_among key (keys_of es)) (ap (λ b. cond b 1 (one_more (place_among key (keys_of es)))) (sym not) ∙ found))
+        absurd (not_one (place_among key (keys_of es)) (ap (λ b. cond b 1 (one_place_on (place_among key (keys_of es)))) (sym not) ∙ found))
     at false (suc i) not found there rest =
-        let next = one_less (place_among key (keys_of es)) i (ap (λ b. cond b 1 (one_more (place_among key (keys_of es)))) (sym not) ∙ found) in
+        let next = one_less (place_among key (keys_of es)) i (ap (λ b. cond b 1 (one_place_on (place_among key (keys_of es)))) (sym not) ∙ found) in
         ap (λ ys. x ∷ ys) (rest i e row next there)
         ∙ ap (λ b. cond b ((x.0, row) ∷ es) (x ∷ set_value (key_eq key) es row)) (sym not)
 

@@ -13,7 +13,7 @@ use Rattle.rubis_schema.specs.declared.rows.Row.{Row}
 use Rattle.rubis_schema.specs.declared.rows.Row.TheVariants as row
 use Rattle.rubis_schema.specs.declared.rows.Sale.{Sale}
 use Rattle.rubis_schema.specs.declared.rows.Sale.TheVariants as sale
-use Rattle.rubis_shadow.specs.Changes.{change_row, count_up, fits, if_open, misfits_as, Done}
+use Rattle.rubis_shadow.specs.Changes.{change_row, count_up, fits_as, if_open, misfits_as, Done}
 use Rattle.rubis_shadow.specs.declared.changes.Change.{Change}
 use Rattle.rubis_shadow.specs.declared.changes.Change.TheVariants as change
 use Rattle.rubis_shadow.specs.declared.changes.MisfitKind.TheVariants.{StockShort}
@@ -164,7 +164,7 @@ stays (change.Rated x) (row.User u) = refl
 stays change.CatListed (row.Cat k) = refl
 stays change.CatEnded (row.Cat k) = refl
 stays (change.BidTaken b) (row.Item i) = if_open_kept i i.sale _ refl
-stays (change.Sold q) (row.Item i) = if_open_kept i i.sale _ (elim (nat_le q i.stock) as (λ b. chain_or (cond b (fits (row.Item (record i { stock = i.stock - q; sold = count_up i.sold q }))) (misfits_as StockShort (Some (row.Item i)))).row ≡ chain_of (row.Item i)) [ true ↦ refl | false ↦ refl ])
+stays (change.Sold q) (row.Item i) = if_open_kept i i.sale _ (elim (nat_le q i.stock) as (λ b. chain_or (cond b (fits_as (row.Item (record i { stock = i.stock - q; sold = count_up i.sold q }))) (misfits_as StockShort (Some (row.Item i)))).row ≡ chain_of (row.Item i)) [ true ↦ refl | false ↦ refl ])
 stays (change.End w) (row.Item i) = if_open_kept i i.sale _ refl
 stays c r = refl
 

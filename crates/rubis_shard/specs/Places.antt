@@ -39,22 +39,22 @@ length_of None = 0
 length_of (Some list) = length list.items
 
 -- the place at a slot, or 0
-abbrev pub listed : PlaceLists → Slot → ℕ
-listed p slot = place_of slot.at (slice_get p.lists.items slot.list)
+abbrev pub place_in_lists : PlaceLists → Slot → ℕ
+place_in_lists p slot = place_of slot.at (slice_get p.lists.items slot.list)
 
 abbrev pub list_length : PlaceLists → ℕ → ℕ
 list_length p list = length_of (slice_get p.lists.items list)
 
 -- ---- what is found
 -- a place behind one key more
-abbrev pub one_more : ℕ → ℕ
-one_more zero = 0
-one_more (suc n) = suc (suc n)
+abbrev pub one_place_on : ℕ → ℕ
+one_place_on zero = 0
+one_place_on (suc n) = suc (suc n)
 
 -- the place of the first of these keys that is the key, or 0
 unfoldable pub place_among : RowKey → List RowKey → ℕ
 place_among key [] = 0
-place_among key (k ∷ ks) = cond (key_eq key k) 1 (one_more (place_among key ks))
+place_among key (k ∷ ks) = cond (key_eq key k) 1 (one_place_on (place_among key ks))
 
 -- whether the key stands at a place of these keys
 abbrev pub is_key : RowKey → Option RowKey → Bool
@@ -78,7 +78,7 @@ place_at es key = or_none (lookup (key_eq key) es)
 abbrev pub place_by : Places → List RowKey → RowKey → Option Slot → ℕ
 place_by p keys key None = place_at p.named.entries key
 place_by p keys key (Some slot) =
-    cond (stands_at keys key (listed p.lists slot)) (listed p.lists slot) (place_at p.strays.entries key)
+    cond (stands_at keys key (place_in_lists p.lists slot)) (place_in_lists p.lists slot) (place_at p.strays.entries key)
 
 abbrev pub place_in : Places → List RowKey → RowKey → ℕ
 place_in p keys key = place_by p keys key (slot_of p.shards key)

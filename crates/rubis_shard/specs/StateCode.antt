@@ -9,8 +9,8 @@ use Rattle.rubis_shadow.specs.declared.numbered.Misfit.{Misfit}
 use Rattle.rubis_shadow.specs.contracts.numbered.Misfit as misfit
 use Rattle.rubis_shard.specs.States.{ShardState}
 
-abbrev pub state_code : Coded ShardState
-state_code =
+abbrev pub shard_state_code : Coded ShardState
+shard_state_code =
     code_by (ℕ × (ℕ × (Tables × List Misfit)))
     (coded× coded_ℕ (coded× coded_ℕ (coded× (map.code key.the_row.coded row.the_row.coded) (coded_list misfit.the_row.coded))))
     (λ s. (s.number, (s.shards, (s.folded.tables, s.folded.misfits))))

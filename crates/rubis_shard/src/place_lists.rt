@@ -1,7 +1,7 @@
 // Places in lists, one list for each table and site, so that the place of a row with an id is found without hashing.
 
 ghost use Rattle.std.specs.Prelude.{◌≡◌, ◌<◌, ◌≤◌, [], cond, nat_lt, true, false, length, IfSome, OnOk};
-ghost use Rattle.rubis_shard.specs.Places.{listed, list_length, same_slot};
+ghost use Rattle.rubis_shard.specs.Places.{place_in_lists, list_length, same_slot};
 ghost use Rattle.rubis_shard.specs.Places as model;
 ghost use Rattle.rubis_shard.specs.declared.chains.TheConstants.{PLACE_MAX};
 
@@ -70,7 +70,7 @@ impl PlaceLists {
     /// The place at a slot, or 0.
     #[inline(always)]
     pub fn at(&self, slot: Slot) -> usize
-        ensures { result ≡ listed self.now slot }
+        ensures { result ≡ place_in_lists self.now slot }
     {
         match self.lists.get(slot.list) {
             Some(list) => match list.get(slot.at as usize) {
@@ -94,7 +94,7 @@ impl PlaceLists {
 
     // Makes the lists, if they aren't there yet.
     fn make_lists(&mut self) -> Result<(), AllocError>
-        ensures same { (slot : Slot) → listed self.new slot ≡ listed self.old slot }
+        ensures same { (slot : Slot) → place_in_lists self.new slot ≡ place_in_lists self.old slot }
         ensures there { OnOk result (LISTS ≤ length self.new.lists.items) }
     {
         let alloc = *self.lists.allocator();
@@ -108,7 +108,7 @@ impl PlaceLists {
     #[inline(never)]
     fn make_slot(&mut self, slot: Slot) -> Result<(), AllocError>
         requires { slot.list < LISTS }
-        ensures same { (other : Slot) → listed self.new other ≡ listed self.old other }
+        ensures same { (other : Slot) → place_in_lists self.new other ≡ place_in_lists self.old other }
         ensures there { OnOk result (slot.at < list_length self.new slot.list) }
     {
         self.make_lists()?;
@@ -125,7 +125,7 @@ impl PlaceLists {
     fn reaches(&mut self, slot: Slot, rows: usize) -> bool
         requires list { slot.list < LISTS }
         requires rows { rows ≤ PLACE_MAX }
-        ensures same { (other : Slot) → listed self.new other ≡ listed self.old other }
+        ensures same { (other : Slot) → place_in_lists self.new other ≡ place_in_lists self.old other }
         ensures there { result ≡ true → slot.at < list_length self.new slot.list }
     {
         self.has(slot) || (slot.at as usize <= rows * 2 + 64 && self.make_slot(slot).is_ok())
@@ -137,9 +137,9 @@ impl PlaceLists {
     pub fn put(&mut self, slot: Slot, place: usize) -> bool
         requires list { slot.list < LISTS }
         requires place { place ≤ PLACE_MAX }
-        ensures free { result ≡ true → listed self.old slot ≡ 0 }
-        ensures put { result ≡ true → (other : Slot) → listed self.new other ≡ cond (same_slot slot other) place (listed self.old other) }
-        ensures same { result ≡ false → (other : Slot) → listed self.new other ≡ listed self.old other }
+        ensures free { result ≡ true → place_in_lists self.old slot ≡ 0 }
+        ensures put { result ≡ true → (other : Slot) → place_in_lists self.new other ≡ cond (same_slot slot other) place (place_in_lists self.old other) }
+        ensures same { result ≡ false → (other : Slot) → place_in_lists self.new other ≡ place_in_lists self.old other }
     {
         if !self.reaches(slot, place) {
             return false;

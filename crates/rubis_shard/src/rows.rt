@@ -4,7 +4,7 @@ ghost use Rattle.std.specs.FinMap as map;
 ghost use Rattle.std.specs.Map.{keys_of};
 ghost use Rattle.rubis_schema.specs.Keys.{key_order};
 ghost use Rattle.rubis_schema.specs.declared.rows.Row.{Row};
-ghost use Rattle.rubis_shadow.specs.Changes.{after, misfit_of};
+ghost use Rattle.rubis_shadow.specs.Changes.{after_part, misfit_of};
 ghost use Rattle.rubis_shadow.specs.declared.changes.Change.TheVariants.{Insert};
 ghost use Rattle.rubis_shard.specs.Places.{place_among};
 ghost use Rattle.rubis_shard.specs.Stores.{HasRoomForRows};
@@ -81,7 +81,7 @@ impl Rows {
     #[inline(always)]
     fn change_row(&mut self, key: &RowKey, change: &Change) -> Option<MisfitKind>
         requires { (row : Row) → change.now ≢ Insert row }
-        ensures tables { map.from_entries {R = key_order} self.new.all.items ≡ after (map.from_entries self.old.all.items) (record { key = key.now; change = change.now }) }
+        ensures tables { map.from_entries {R = key_order} self.new.all.items ≡ after_part (map.from_entries self.old.all.items) (record { key = key.now; change = change.now }) }
         ensures misfit { result ≡ misfit_of (map.from_entries self.old.all.items) (record { key = key.now; change = change.now }) }
         ensures room { (n : ℕ) → HasRoomForRows self.old n → HasRoomForRows self.new n }
     {
@@ -96,7 +96,7 @@ impl Rows {
     #[inline(always)]
     pub fn put_effect(&mut self, effect: Effect) -> Option<MisfitKind>
         requires { HasRoomForRows self.old 1 }
-        ensures tables { map.from_entries {R = key_order} self.new.all.items ≡ after (map.from_entries self.old.all.items) effect }
+        ensures tables { map.from_entries {R = key_order} self.new.all.items ≡ after_part (map.from_entries self.old.all.items) effect }
         ensures misfit { result ≡ misfit_of (map.from_entries self.old.all.items) effect }
         ensures room { (n : ℕ) → HasRoomForRows self.old (n + 1) → HasRoomForRows self.new n }
     {

@@ -40,12 +40,12 @@ impl Model for Shard {
     ghost use Rattle.std.specs.Prelude.{◌≡◌};
     ghost use Rattle.rubis_model.specs.Shares.{part_of};
     ghost use Rattle.rubis_shard.specs.States.{ShardState};
-    ghost use Rattle.rubis_shard.specs.StateCode.{state_code};
+    ghost use Rattle.rubis_shard.specs.StateCode.{shard_state_code};
     ghost use Rattle.rubis_shard.specs.Stores.{held_in};
 
     ghost Value = { ShardState };
 
-    ghost coded = { state_code };
+    ghost coded = { shard_state_code };
 
     ghost view = { λ s. record { number = s.number; shards = s.shards; folded = held_in s.store } };
 

@@ -29,12 +29,12 @@ impl Model for Tables {
     ghost use Rattle.std.specs.Prelude.{List};
     ghost use Rattle.std.specs.Coded.{coded_list};
     ghost use Rattle.rubis_shard.specs.States.{ShardState};
-    ghost use Rattle.rubis_shard.specs.StateCode.{state_code};
+    ghost use Rattle.rubis_shard.specs.StateCode.{shard_state_code};
     ghost use Rattle.rubis_shard.specs.Holdings.{AreInOrder};
 
     ghost Value = { List ShardState };
 
-    ghost coded = { coded_list state_code };
+    ghost coded = { coded_list shard_state_code };
 
     ghost view = { λ t. t.shards.items };
 

@@ -18,7 +18,8 @@ use Rattle.rubis_pieces.specs.declared.pieces.Piece.{Piece}
 use Rattle.rubis_pieces.specs.declared.pieces.Done.{Done}
 use Rattle.rubis_pieces.proofs.Folded.{folded_numbers, order_folded, begun, takes_batch, takes_whole}
 use Rattle.rubis_board.specs.Passes.{PassState}
-use Rattle.rubis_workers.specs.Work.{IsWorked, pieces_of, AreWorked, AppliesBatch}
+use Rattle.rubis_pieces.specs.Work.{IsWorked, pieces_of}
+use Rattle.rubis_workers.specs.Work.{AreWorked, AppliesBatch}
 use Rattle.rubis_workers.specs.declared.batches.Worked.{Worked}
 use Rattle.rubis_workers.proofs.Moved.{moves_along}
 use Rattle.rubis_workers.proofs.Numbers.{never_faulty}

@@ -1,13 +1,12 @@
 -- What the workers make of the pieces, and what the shards are afterwards.
-use Rattle.std.specs.Prelude.{◌≡◌, ℕ, ◌≤◌, Bool, List, [], ◌∷◌, length}
+use Rattle.std.specs.Prelude.{◌≡◌, ℕ, ◌≤◌, Bool, List, [], length}
 use Rattle.std.specs.Global.{Vec}
 use Rattle.std.specs.Vec.{vec_capacity}
 use Rattle.rubis_model.specs.Log.{Core}
 use Rattle.rubis_shard.specs.States.{ShardState}
 use Rattle.rubis_shard.specs.declared.shares.Share.{Share}
-use Rattle.rubis_pieces.specs.Pieces.{IsShareOf}
 use Rattle.rubis_pieces.specs.Shares.{AreShares}
-use Rattle.rubis_pieces.specs.Batches.{IsFolded, AreFoldedTo, IsBegun, TakesBatch, TakesWholeBatch}
+use Rattle.rubis_pieces.specs.Batches.{AreFoldedTo, IsBegun, TakesBatch, TakesWholeBatch}
 use Rattle.rubis_pieces.specs.declared.pieces.Piece.{Piece}
 use Rattle.rubis_pieces.specs.declared.pieces.Done.{Done}
 use Rattle.rubis_board.specs.Passes.{PassState}
@@ -17,20 +16,6 @@ use Rattle.rubis_workers.specs.declared.batches.Worked.{Worked}
 abbrev pub having : PassState → List Piece → Bool → PassState
 having p taken seen_none =
     record { board = p.board; parts = p.parts; posted = p.posted; taken = taken; seen_none = seen_none }
-
--- the share is the shard's own
-abbrev pub IsPiece : Piece → Type 0
-IsPiece p = IsShareOf p.shard p.share
-
--- a beginning of the piece's share is folded on its shard, as long as it says
-abbrev pub IsWorked : Piece → Done → Type 0
-IsWorked p d = IsFolded p.shard p.share d
-
--- each shard with the share in its place
-abbrev pub pieces_of : List ShardState → List Share → List Piece
-pieces_of [] shares = []
-pieces_of (s ∷ ts) [] = []
-pieces_of (s ∷ ts) (share ∷ shares) = record { shard = s; share = share } ∷ pieces_of ts shares
 
 -- an empty list with room for so many
 abbrev pub IsRoom : ℕ → Vec Done → Type 0

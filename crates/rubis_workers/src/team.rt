@@ -2,7 +2,8 @@ ghost use Rattle.std.specs.Prelude.{◌≡◌, ◌+◌, ◌-◌, ◌<◌, ◌≤
 ghost use Rattle.std.specs.List.{All, AllZip};
 ghost use Rattle.std.specs.Vec.{vec_capacity};
 ghost use Rattle.std.specs.Thread.{IsSync};
-ghost use Rattle.rubis_workers.specs.Work.{having, IsPiece, IsWorked, IsRoom};
+ghost use Rattle.rubis_pieces.specs.Work.{IsPiece, IsWorked};
+ghost use Rattle.rubis_workers.specs.Work.{having, IsRoom};
 
 use crate::gate::Gate;
 use rubis_board::{Board, Pass};

@@ -10,7 +10,7 @@ use Rattle.rubis_replica.specs.Progress.{resting_at}
 use Rattle.rubis_replica.specs.Setup.{setup_place}
 use Rattle.rubis_replica.specs.State.{SiteState}
 use Rattle.rubis_world.specs.Setup.{WorldSetup, setup_at}
-use Rattle.rubis_world.specs.Worlds.{AreAtPlaces, opening}
+use Rattle.rubis_world.specs.Worlds.{AreAtPlaces, opening_world}
 use Rattle.rubis_world.proofs.Moves.{state_of}
 
 -- a site with nothing done
@@ -34,7 +34,7 @@ lefts setup a zero = refl
 lefts setup a (suc n) = ap (λ q. 0 ∷ q) (lefts setup (a + 1) n)
 
 pub starts : (setup : WorldSetup) (sites : List SiteState) → sites ≡ fresh_sites setup setup.sites
-    → state_of setup.keep sites [] ≡ opening setup.keep setup.sites
+    → state_of setup.keep sites [] ≡ opening_world setup.keep setup.sites
 starts setup sites e =
     let f = ap (map (λ (y : SiteState). y.state)) e ∙ states setup 0 setup.sites in
     let l = ap (map (λ (y : SiteState). y.progress.left)) e ∙ lefts setup 0 setup.sites in

@@ -11,7 +11,7 @@ use Rattle.rubis_laws.proofs.Room.{room_event, room_start}
 use Rattle.rubis_laws.proofs.Runs.{in_run}
 use Rattle.rubis_replica.specs.declared.faults.Fault.TheVariants as fault
 use Rattle.rubis_replica.specs.Setup.{IsCount}
-use Rattle.rubis_world.specs.Worlds.{ComesTo, IsWorld, Steps, WorldState, opening}
+use Rattle.rubis_world.specs.Worlds.{ComesTo, IsWorld, Steps, WorldState, opening_world}
 use Rattle.rubis_world.specs.declared.faults.WorldFault.{WorldFault}
 use Rattle.rubis_world.specs.declared.faults.WorldFault.TheVariants.{BadEvent, NoSuchPacket, Site, Memory}
 
@@ -54,7 +54,7 @@ answered old new e (Err (Site fault.Memory)) a t h = absurd t
 answered old new e (Err Memory) a t h = stayed old new t h
 
 -- the start
-pub begun : (s : WorldState) (sites keep : ℕ) → IsCount sites 8 × IsCount keep 1000000 → s ≡ opening keep sites → IsWorld s
+pub begun : (s : WorldState) (sites keep : ℕ) → IsCount sites 8 × IsCount keep 1000000 → s ≡ opening_world keep sites → IsWorld s
 begun s sites keep limits e = subst IsWorld (sym e) (record {
   sites = subst (λ n. n ≤ 8) (sym (start_sites sites)) limits.0.small;
   keep = limits.1.small;

@@ -7,13 +7,13 @@ use Rattle.rubis_model.specs.WorldRecords.{site_row}
 use Rattle.rubis_script.specs.Text.{plain_writer, row_text, rows_text}
 
 -- the text comes to have these records of the site behind what it had
-abbrev pub is_told : List (List (List ℕ)) → List ℕ → ℕ → List ℕ → ℕ → Type 0
-is_told rows old site new same = (new ≡ old ++ rows_text (map (site_row site) rows)) × (same ≡ site)
+abbrev pub text_grows_by : List (List (List ℕ)) → List ℕ → ℕ → List ℕ → ℕ → Type 0
+text_grows_by rows old site new same = (new ≡ old ++ rows_text (map (site_row site) rows)) × (same ≡ site)
 
-pub none_told : (text : List ℕ) (site : ℕ) → is_told [] text site text site
+pub none_told : (text : List ℕ) (site : ℕ) → text_grows_by [] text site text site
 none_told text site = (sym (append-nil text), refl)
 
-pub more_told : (xs ys : List (List (List ℕ))) (a b c : List ℕ) (i j k : ℕ) → is_told xs a i b j → is_told ys b j c k → is_told (xs ++ ys) a i c k
+pub more_told : (xs ys : List (List (List ℕ))) (a b c : List ℕ) (i j k : ℕ) → text_grows_by xs a i b j → text_grows_by ys b j c k → text_grows_by (xs ++ ys) a i c k
 more_told xs ys a b c i j k e f =
     let both : rows_text (map (site_row i) (xs ++ ys)) ≡ rows_text (map (site_row i) xs) ++ rows_text (map (site_row i) ys) =
     ap rows_text (map-append (site_row i) xs ys) ∙ flat_map-append (row_text plain_writer) (map (site_row i) xs) (map (site_row i) ys) in

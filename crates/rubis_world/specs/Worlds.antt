@@ -20,8 +20,8 @@ pub record WorldState : Type 0 where
   pub left : List ℕ
 
 -- so many sites with nothing done
-abbrev pub opening : ℕ → ℕ → WorldState
-opening keep sites = record { keep = keep; world = start sites; left = map (λ i. 0) (range_with_len 0 sites) }
+abbrev pub opening_world : ℕ → ℕ → WorldState
+opening_world keep sites = record { keep = keep; world = start sites; left = map (λ i. 0) (range_with_len 0 sites) }
 
 -- what a site has left; it is behind where that is something
 abbrev pub left_at : WorldState → ℕ → ℕ

@@ -8,7 +8,7 @@ ghost use Rattle.rubis_model.specs.System.Event.{At, Deliver};
 ghost use Rattle.rubis_model.specs.Verdict.{verdict};
 ghost use Rattle.rubis_model.specs.WorldRecords.{logs_of, told_at, world_step};
 ghost use Rattle.rubis_world.specs.Running.{IsTold, answer_in_world, told_by_world};
-ghost use Rattle.rubis_world.specs.Worlds.{opening};
+ghost use Rattle.rubis_world.specs.Worlds.{opening_world};
 
 use crate::answers::{write_answer, write_no_event, write_refused};
 use crate::config::WorldConfig;
@@ -98,7 +98,7 @@ pub struct WorldDesk {
 impl WorldDesk {
     /// Sites with nothing done, set up so.
     pub fn new(alloc: Global, config: &WorldConfig) -> Result<WorldDesk, AllocError>
-        ensures { IfOk result (λ desk. desk.world ≡ opening config.now.keep config.now.sites) }
+        ensures { IfOk result (λ desk. desk.world ≡ opening_world config.now.keep config.now.sites) }
     {
         Ok(WorldDesk {
             world: World::new(alloc, config)?,

@@ -16,10 +16,10 @@ pub struct SiteRows<'a> {
 impl RowSink for SiteRows<'_> {
     ghost use Rattle.std.specs.Prelude.{◌≡◌, refl};
     ghost use Rattle.std.proofs.Common.{◌∙◌};
-    ghost use Rattle.rubis_world.specs.Telling.{is_told, more_told, none_told};
+    ghost use Rattle.rubis_world.specs.Telling.{text_grows_by, more_told, none_told};
 
     // The reference stays the same.
-    ghost adds = { λ rows old new. (new.sink.ghost_name ≡ old.sink.ghost_name) × is_told rows old.sink.now old.site new.sink.now new.site };
+    ghost adds = { λ rows old new. (new.sink.ghost_name ≡ old.sink.ghost_name) × text_grows_by rows old.sink.now old.site new.sink.now new.site };
 
     fn put(&mut self, row: &Fields) -> Result<(), AllocError> {
         let mut buffer = Buffer::new();

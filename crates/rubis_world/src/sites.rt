@@ -14,7 +14,7 @@ ghost use Rattle.rubis_model.specs.Verdict.{verdict};
 ghost use Rattle.rubis_model.specs.WorldRecords.{log_of, logs_of};
 ghost use Rattle.rubis_audit.specs.Walks.{HaveMessagesAmong};
 ghost use Rattle.rubis_replica.specs.declared.faults.Fault.TheVariants as Fault;
-ghost use Rattle.rubis_world.specs.Worlds.{Asks, ComesTo, IsCheckFault, SomeBehind, Steps, left_at, opening};
+ghost use Rattle.rubis_world.specs.Worlds.{Asks, ComesTo, IsCheckFault, SomeBehind, Steps, left_at, opening_world};
 ghost use Rattle.rubis_world.specs.declared.faults.WorldFault.TheVariants as WorldFault;
 
 use crate::answers::packet;
@@ -78,7 +78,7 @@ impl Model for Sites {
 impl Sites {
     /// Sites with nothing done, set up so.
     pub fn new(alloc: Global, config: &WorldConfig) -> Result<Sites, AllocError>
-        ensures start { IfOk result (λ sites. sites ≡ opening config.now.keep config.now.sites) }
+        ensures start { IfOk result (λ sites. sites ≡ opening_world config.now.keep config.now.sites) }
         ensures limits { IfOk result (λ sites. IsCount config.now.sites SITES_MAX × IsCount config.now.keep KEEP_MAX) }
     {
         let mut sites = Vec::new(alloc);

@@ -8,7 +8,7 @@ ghost use Rattle.rubis_message.specs.declared.answers.Verdict.TheVariants.{Agree
 ghost use Rattle.rubis_model.specs.Verdict.{verdict};
 ghost use Rattle.rubis_model.specs.WorldRecords.{logs_of};
 ghost use Rattle.rubis_replica.specs.declared.faults.Fault.TheVariants as Fault;
-ghost use Rattle.rubis_world.specs.Worlds.{Asks, ComesTo, IsCheckFault, Steps, left_at, opening};
+ghost use Rattle.rubis_world.specs.Worlds.{Asks, ComesTo, IsCheckFault, Steps, left_at, opening_world};
 ghost use Rattle.rubis_world.specs.declared.faults.WorldFault.TheVariants as WorldFault;
 
 use crate::config::WorldConfig;
@@ -40,7 +40,7 @@ impl Model for World {
 impl World {
     /// Sites with nothing done, set up so.
     pub fn new(alloc: Global, config: &WorldConfig) -> Result<World, AllocError>
-        ensures start { IfOk result (λ world. world ≡ opening config.now.keep config.now.sites) }
+        ensures start { IfOk result (λ world. world ≡ opening_world config.now.keep config.now.sites) }
         ensures run { IfOk result (λ world. InRun world.world) }
     {
         Ok(World {

@@ -5,13 +5,13 @@ use Rattle.std.proofs.lemmas.Iterator.Consumers.{YieldsList-from_first}
 use Rattle.std.proofs.lemmas.Iterator.Search.{any_from_yields_List}
 use Rattle.rubis_schema.specs.declared.row_keys.RowKey.{RowKey}
 use Rattle.rubis_shadow.specs.Parts.{refers_of}
-use Rattle.rubis_generate.specs.Lookup.{rows_of}
+use Rattle.rubis_generate.specs.Lookup.{row_by_key}
 use Rattle.rubis_audit.specs.Contents.{known_in, wrong_category_in}
 use Rattle.rubis_audit.proofs.contents.wrong_reference.Goals as goal
 
 pub returns-then-any : goal.returns-then-any
 returns-then-any g c =
-    let t = rows_of (g.V.View.tables c.args.view.now) in
+    let t = row_by_key (g.V.View.tables c.args.view.now) in
     let v = c.args.v.now in
     let keys : c.refers.result ≡ refers_of v.shadow = c.refers.ensures ∙ ap refers_of c.shadow.ensures.value in
     let found : c.any.result ≡ list_any (λ k. not (known_in t v k)) (refers_of v.shadow) =
@@ -21,7 +21,7 @@ returns-then-any g c =
 
 pub returns-else-any : goal.returns-else-any
 returns-else-any g c =
-    let t = rows_of (g.V.View.tables c.args.view.now) in
+    let t = row_by_key (g.V.View.tables c.args.view.now) in
     let v = c.args.v.now in
     let keys : c.refers.result ≡ refers_of v.shadow = c.refers.ensures ∙ ap refers_of c.shadow.ensures.value in
     let found : c.any.result ≡ list_any (λ k. not (known_in t v k)) (refers_of v.shadow) =

@@ -1,4 +1,4 @@
-use Rattle.rubis_generate.specs.Lookup.{rows_of}
+use Rattle.rubis_generate.specs.Lookup.{row_by_key}
 use Rattle.rubis_model.specs.Log.{fold_of}
 use Rattle.rubis_laws.proofs.FoldIsMeaning.{fold_is_meaning}
 use Rattle.rubis_laws.proofs.Invariants.{checked_holds}
@@ -6,4 +6,4 @@ use Rattle.rubis_laws.proofs.Decisions.{decided_fits}
 use Rattle.rubis_laws.proofs.laws.decided_shadows_fit.Goals as goal
 
 pub returns : goal.returns
-returns c = λ log standing ask x checked short e. decided_fits (rows_of (fold_of log).tables) log (fold_is_meaning log checked short).0.rows standing ask x (checked_holds log checked) e
+returns c = λ log standing ask x checked short e. decided_fits (row_by_key (fold_of log).tables) log (fold_is_meaning log checked short).0.rows standing ask x (checked_holds log checked) e

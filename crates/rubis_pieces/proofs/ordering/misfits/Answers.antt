@@ -3,12 +3,12 @@ use Rattle.std.specs.List.Sorted.{IsPermutation}
 use Rattle.std.proofs.lemmas.List.{take_all}
 use Rattle.std.proofs.lemmas.List.Sorted.{IsNonDecreasingBy-from_sort_by_key}
 use Rattle.rubis_shard.specs.Holdings.{all_misfits}
-use Rattle.rubis_pieces.specs.Misfits.{place_of}
+use Rattle.rubis_pieces.specs.Misfits.{misfit_order}
 use Rattle.rubis_pieces.proofs.Order.{misfits_are}
 use Rattle.rubis_pieces.proofs.ordering.misfits.Goals as goal
 
 pub returns-clause-order : goal.returns-clause-order
-returns-clause-order c = IsNonDecreasingBy-from_sort_by_key place_of _ c.sort_unstable_by_key.ensures.sorted (λ a r q k. search
+returns-clause-order c = IsNonDecreasingBy-from_sort_by_key misfit_order _ c.sort_unstable_by_key.ensures.sorted (λ a r q k. search
     rules)
 
 pub returns-clause-log : goal.returns-clause-log
@@ -18,4 +18,4 @@ returns-clause-log c = λ shards log l h.
     let all : IsPermutation (all_misfits c.args.tables.now) c.sort_unstable_by_key.new.self.items = subst (λ xs. IsPermutation
     xs c.sort_unstable_by_key.new.self.items) is c.sort_unstable_by_key.ensures.permutation in
     misfits_are shards log c.args.tables.now c.sort_unstable_by_key.new.self.items l h all
-    (IsNonDecreasingBy-from_sort_by_key place_of _ c.sort_unstable_by_key.ensures.sorted (λ a r q k. search rules))
+    (IsNonDecreasingBy-from_sort_by_key misfit_order _ c.sort_unstable_by_key.ensures.sorted (λ a r q k. search rules))

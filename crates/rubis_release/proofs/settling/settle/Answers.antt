@@ -1,5 +1,5 @@
 use Rattle.std.proofs.Common.{◌<◌, List, length, ap, ◌∙◌, sym, subst, subst₂, arith}
-use Rattle.rubis_clock.specs.Clocks.{Counted, IsReady, advanced}
+use Rattle.rubis_clock.specs.Clocks.{MessageCounts, IsReady, advanced}
 use Rattle.rubis_clock.specs.declared.stamps.Stamp.{Stamp}
 use Rattle.rubis_message.specs.Message.{Message}
 use Rattle.rubis_model.specs.Settle.{Settles}
@@ -9,7 +9,7 @@ use Rattle.rubis_release.proofs.Releasing.{turn, at_rest}
 use Rattle.rubis_release.proofs.settling.settle.Goals as goal
 
 pub first_ready-requires : goal.first_ready-requires
-first_ready-requires c = subst (λ n. AllAmong n c.loop-at.waiting) (sym (ap (λ (k : Counted). length k.counts) c.loop-at.invariant.counts ∙ length_counts (length c.args.clock.now.counts) c.loop-at.log.items)) c.loop-at.invariant.sites
+first_ready-requires c = subst (λ n. AllAmong n c.loop-at.waiting) (sym (ap (λ (k : MessageCounts). length k.counts) c.loop-at.invariant.counts ∙ length_counts (length c.args.clock.now.counts) c.loop-at.log.items)) c.loop-at.invariant.sites
 
 pub advance-requires-clause-origin : goal.advance-requires-clause-origin
 advance-requires-clause-origin c =

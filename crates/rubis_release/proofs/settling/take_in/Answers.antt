@@ -1,5 +1,5 @@
 use Rattle.std.proofs.Common.{List, length, ◌++◌, ◌∷◌, [], sym, subst, subst₂}
-use Rattle.rubis_clock.specs.Clocks.{Counted}
+use Rattle.rubis_clock.specs.Clocks.{MessageCounts}
 use Rattle.rubis_message.specs.Message.{Message}
 use Rattle.rubis_model.specs.Settle.{Settles}
 use Rattle.rubis_release.specs.Release.{NoneReady}
@@ -26,7 +26,7 @@ returns-clause-settles c =
     let n = length c.args.clock.now.counts in
     let log = c.args.log.now.items in
     let waiting : List Message = c.args.waiting.now ++ c.args.message ∷ [] in
-    let none = subst (λ (k : Counted). NoneReady k waiting) c.requires.counts
+    let none = subst (λ (k : MessageCounts). NoneReady k waiting) c.requires.counts
     (none_more c.args.clock.now c.args.waiting.now c.args.message c.requires.none (c.is_ready.ensures.waits c.if-is_ready.false)) in
     subst₂ (Settles log waiting) (sym c.in_ok-reserve.ensures.items) (sym c.in_ok-push.ensures.ok)
     (at_rest n log waiting (among_more n c.args.waiting.now c.args.message c.requires.sites c.requires.site) none)

@@ -4,7 +4,7 @@ use Rattle.std.proofs.lemmas.List.Sorted.{All-permutation}
 use Rattle.rubis_pieces.specs.Faults.{IsFault, numbers_of}
 use Rattle.rubis_pieces.specs.Gathered.{IsGathered}
 use Rattle.rubis_board.specs.Passes.{PassState}
-use Rattle.rubis_workers.specs.Work.{IsPiece, pieces_of}
+use Rattle.rubis_pieces.specs.Work.{IsPiece, pieces_of}
 use Rattle.rubis_workers.proofs.Lists.{belong_length, all_pieces}
 use Rattle.rubis_workers.proofs.Folded.{all_taken, no_fault, gathered, applies}
 use Rattle.rubis_workers.proofs.batches.apply_all.Goals as goal

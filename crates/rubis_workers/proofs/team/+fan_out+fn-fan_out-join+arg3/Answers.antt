@@ -2,7 +2,7 @@ use Rattle.std.proofs.Common.{◌++◌, length, ap, sym, subst, arith}
 use Rattle.std.specs.List.{AllZip}
 use Rattle.std.proofs.lemmas.List.{length-append}
 use Rattle.rubis_board.specs.Passes.{PassState}
-use Rattle.rubis_workers.specs.Work.{IsWorked}
+use Rattle.rubis_pieces.specs.Work.{IsWorked}
 use Rattle.rubis_workers.proofs.Lists.{part_length, zip_append, zip_length}
 use Rattle.rubis_workers.proofs.team.+fan_out+fn-fan_out-join+arg3.Goals as goal
 

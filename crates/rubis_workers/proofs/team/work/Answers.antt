@@ -2,7 +2,8 @@ use Rattle.std.proofs.Common.{[], ◌∷◌, ◌++◌, length, ap, ◌∙◌, sy
 use Rattle.std.specs.List.{All, AllZip}
 use Rattle.std.proofs.lemmas.List.{length-append}
 use Rattle.rubis_board.specs.Passes.{PassState}
-use Rattle.rubis_workers.specs.Work.{having, IsPiece, IsWorked}
+use Rattle.rubis_pieces.specs.Work.{IsPiece, IsWorked}
+use Rattle.rubis_workers.specs.Work.{having}
 use Rattle.rubis_workers.proofs.Lists.{part_length, last_is, zip_append, zip_length}
 use Rattle.rubis_workers.proofs.team.work.Goals as goal
 

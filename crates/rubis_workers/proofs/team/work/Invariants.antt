@@ -1,7 +1,8 @@
 use Rattle.std.proofs.Common.{◌≡◌, ◌≤◌, length}
 use Rattle.std.specs.List.{AllZip}
 use Rattle.std.specs.Vec.{vec_capacity}
-use Rattle.rubis_workers.specs.Work.{having, IsWorked}
+use Rattle.rubis_pieces.specs.Work.{IsWorked}
+use Rattle.rubis_workers.specs.Work.{having}
 use Rattle.rubis_workers.proofs.team.work.Given as goal
 
 abbrev pub invariant-loop : goal.invariant-loop

@@ -1,7 +1,7 @@
 use Rattle.std.proofs.Common.{◌≡◌, List, length, sym, ◌∙◌, arith}
 use Rattle.std.specs.Prelude.{None, replicate}
 use Rattle.rubis_pieces.specs.declared.pieces.Piece.{Piece}
-use Rattle.rubis_pool_core.specs.Machine.{opening}
+use Rattle.rubis_pool_core.specs.Machine.{opening_pool}
 use Rattle.rubis_pool_core.proofs.Steps.{all_posted}
 use Rattle.rubis_pool_core.proofs.pool.Pool.with_posted.Goals as goal
 
@@ -15,5 +15,5 @@ returns c =
       capacity = many i;
       count = count i;
       state = ((λ j. record { posted = c.from_vec.ensures.items j; held = free j; returned = c.new.ensures.items j })
-          ∙ sym (all_posted (opening c.args.workers) pieces)) i;
+          ∙ sym (all_posted (opening_pool c.args.workers) pieces)) i;
     }

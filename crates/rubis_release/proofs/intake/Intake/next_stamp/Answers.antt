@@ -1,5 +1,5 @@
 use Rattle.std.proofs.Common.{◌≡◌, ◌+◌, true, ap, ◌∙◌, sym, arith}
-use Rattle.rubis_clock.specs.Clocks.{Counted}
+use Rattle.rubis_clock.specs.Clocks.{MessageCounts}
 use Rattle.rubis_shadow.specs.Shadows.{is_red}
 use Rattle.rubis_model.specs.Site.{made, is_current, red_for}
 use Rattle.rubis_release.specs.Intake.{Intake}
@@ -10,7 +10,7 @@ use Rattle.rubis_release.proofs.intake.Intake.next_stamp.Goals.{in-Red, in-Blue}
 
 pub overflow_add-red : goal.overflow_add-red
 overflow_add-red c =
-    let e = ap (λ (k : Counted). k.red) c.self.invariant.clock in
+    let e = ap (λ (k : MessageCounts). k.red) c.self.invariant.clock in
     let l = reds_few c.self.inside.log.items in
     let few = c.self.invariant.conditions.kept.few in
     let keep = c.self.invariant.conditions.keep in
@@ -32,7 +32,7 @@ right c e = ap (λ (i : Intake). is_current i.state) c.self.view_is ∙ c.requir
 
 red_is : (c : goal.After-deps) → c.match-colour.red ≡ red_for c.args.shadow.now c.self.inside.held
 red_is c = elim c.match-colour.branch [
-  | in-Red w ↦ w.red-is ∙ ap (λ n. n + 1) (w.red.ensures ∙ ap (λ (k : Counted). k.red) c.self.invariant.clock)
+  | in-Red w ↦ w.red-is ∙ ap (λ n. n + 1) (w.red.ensures ∙ ap (λ (k : MessageCounts). k.red) c.self.invariant.clock)
       ∙ red_number (record { log = c.self.inside.log.items; waiting = c.self.inside.waiting; held = c.self.inside.held; last = c.self.inside.last }) c.args.shadow.now (right c) (sym c.colour.ensures ∙ w.in-Red.is)
   | in-Blue w ↦ w.red-is
       ∙ blue_number (record { log = c.self.inside.log.items; waiting = c.self.inside.waiting; held = c.self.inside.held; last = c.self.inside.last }) c.args.shadow.now (sym c.colour.ensures ∙ w.in-Blue.is)

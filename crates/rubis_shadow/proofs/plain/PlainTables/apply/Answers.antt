@@ -2,7 +2,7 @@ use Rattle.std.proofs.Common.{◌≡◌, sym, ap, ◌∙◌, rules}
 use Rattle.std.specs.Prelude.{Some, None}
 use Rattle.std.specs.FinMap as map
 use Rattle.rubis_schema.specs.Tables.{Tables}
-use Rattle.rubis_shadow.specs.Changes.{fits}
+use Rattle.rubis_shadow.specs.Changes.{fits_as}
 use Rattle.rubis_shadow.proofs.Rows.{tables_of, get_tables_of, tables_of_update, after_alter, misfit_alter, after_none, misfit_none, remove_none, none_of, some_of, after_refused, misfit_refused, inserted, not_insert, put_then, put_else}
 use Rattle.rubis_shadow.proofs.plain.PlainTables.apply.Goals as goal
 
@@ -12,14 +12,14 @@ returns-then-branch-clause-tables c =
     let row = c.in_ok-copy.field-0 in
     let g : map.get c.args.self.now k ≡ None = ap (λ t. map.get t k) (sym c.self.view_is) ∙ none_of _ (sym c.if-branch.true ∙ c.in_ok-put_new.ensures.free) in
     let n = put_then _ _ _ c.if-branch.true c.in_ok-put_new.ensures.put ∙ ap (λ (t : Tables). map.insert t k row) c.self.view_is in
-    n ∙ after_none c.args.self.now c.args.effect.now (fits row) g (inserted c.args.effect.now.change c.in-Insert.row row c.in-Insert.is c.in_ok-copy.ensures)
+    n ∙ after_none c.args.self.now c.args.effect.now (fits_as row) g (inserted c.args.effect.now.change c.in-Insert.row row c.in-Insert.is c.in_ok-copy.ensures)
 
 pub returns-then-branch-clause-misfit : goal.returns-then-branch-clause-misfit
 returns-then-branch-clause-misfit c =
     let k = c.args.effect.now.key in
     let row = c.in_ok-copy.field-0 in
     let g : map.get c.args.self.now k ≡ None = ap (λ t. map.get t k) (sym c.self.view_is) ∙ none_of _ (sym c.if-branch.true ∙ c.in_ok-put_new.ensures.free) in
-    misfit_none c.args.self.now c.args.effect.now (fits row) g (inserted c.args.effect.now.change c.in-Insert.row row c.in-Insert.is c.in_ok-copy.ensures)
+    misfit_none c.args.self.now c.args.effect.now (fits_as row) g (inserted c.args.effect.now.change c.in-Insert.row row c.in-Insert.is c.in_ok-copy.ensures)
 
 pub returns-in-Insert-clause-tables : goal.returns-in-Insert-clause-tables
 returns-in-Insert-clause-tables c =

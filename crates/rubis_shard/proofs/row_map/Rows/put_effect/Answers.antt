@@ -2,7 +2,7 @@ use Rattle.std.proofs.Common.{◌≡◌, sym, ap, ◌∙◌, refl, arith}
 use Rattle.std.specs.Prelude.{None}
 use Rattle.std.specs.FinMap as map
 use Rattle.rubis_schema.specs.Tables.{Tables}
-use Rattle.rubis_shadow.specs.Changes.{fits}
+use Rattle.rubis_shadow.specs.Changes.{fits_as}
 use Rattle.rubis_shadow.proofs.Rows.{tables_of, after_none, misfit_none, none_of, some_of, after_refused, misfit_refused, inserted, put_then, put_else}
 use Rattle.rubis_shard.proofs.row_map.Rows.put_effect.Goals as goal
 
@@ -12,14 +12,14 @@ returns-then-put_new-clause-tables c =
     let row = c.in-Insert.row in
     let g : map.get t c.args.effect.key ≡ None = none_of _ (sym c.if-put_new.true ∙ c.put_new.ensures.free) in
     put_then _ _ _ c.if-put_new.true c.put_new.ensures.put
-    ∙ after_none t c.args.effect (fits row) g (inserted c.args.effect.change row row c.in-Insert.is refl)
+    ∙ after_none t c.args.effect (fits_as row) g (inserted c.args.effect.change row row c.in-Insert.is refl)
 
 pub returns-then-put_new-clause-misfit : goal.returns-then-put_new-clause-misfit
 returns-then-put_new-clause-misfit c =
     let t : Tables = tables_of c.args.self.now.all.items in
     let row = c.in-Insert.row in
     let g : map.get t c.args.effect.key ≡ None = none_of _ (sym c.if-put_new.true ∙ c.put_new.ensures.free) in
-    misfit_none t c.args.effect (fits row) g (inserted c.args.effect.change row row c.in-Insert.is refl)
+    misfit_none t c.args.effect (fits_as row) g (inserted c.args.effect.change row row c.in-Insert.is refl)
 
 pub returns-in-Insert-clause-tables : goal.returns-in-Insert-clause-tables
 returns-in-Insert-clause-tables c =
