@@ -16,7 +16,7 @@ use crate::verdicts::{write_bad_record, write_verdict};
 use crate::walks::audit;
 use rubis_message::Message;
 use rubis_schema::{Fields, Items};
-use rubis_script::{Answering, Course, OutOfMemory, Service, Sink};
+use rubis_script::{Answering, Course, InputRecord, OutOfMemory, Service, Sink};
 use std::alloc::{AllocError, Global};
 use std::marker::Model;
 
@@ -77,7 +77,11 @@ fn push_message(current: &mut Option<Log>, message: Message) -> Result<bool, All
 }
 
 // Claims a row of the log that is read, if there is one, and says whether there is.
-fn claim_row(alloc: Global, current: &mut Option<Log>, row: &Fields) -> Result<bool, AllocError>
+fn claim_row(
+    alloc: Global,
+    current: &mut Option<Log>,
+    row: &InputRecord,
+) -> Result<bool, AllocError>
     ensures ok { IfOk result (λ claimed. (ended : List logs.Log) → MatchBool claimed
         (with_line (logs_so_far ended current.old) (Claim row.now) ≡ Some (logs_so_far ended current.new))
         (with_line (logs_so_far ended current.old) (Claim row.now) ≡ None)) }
@@ -85,7 +89,7 @@ fn claim_row(alloc: Global, current: &mut Option<Log>, row: &Fields) -> Result<b
 {
     match current {
         Some(log) => {
-            log.claim(alloc, row.copy()?)?;
+            log.claim(alloc, row.to_fields(alloc)?)?;
             Ok(true)
         }
         None => Ok(false),
@@ -118,7 +122,7 @@ impl Auditor {
     }
 
     // Takes what a record says, if it may stand here, and says whether it does.
-    fn take(&mut self, fields: &Fields, line: Line) -> Result<bool, AllocError>
+    fn take(&mut self, fields: &InputRecord, line: Line) -> Result<bool, AllocError>
         requires { IsAmongLine self.old.sites (Some line) }
         ensures sites { self.new.sites ≡ self.old.sites }
         ensures logs { IfOk result (λ taken. MatchBool taken
@@ -159,7 +163,7 @@ impl<T> Answering<T> for Auditor {
         &mut self,
         _rt: &T,
         number: u64,
-        fields: &Fields,
+        fields: &InputRecord,
         sink: &mut Sink,
     ) -> Result<Course, OutOfMemory> {
         if let Some(line) = read_line(self.alloc, fields, self.sites)?

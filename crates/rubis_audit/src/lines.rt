@@ -6,7 +6,8 @@ ghost use Rattle.rubis_model.specs.AuditRecords.{line_of};
 ghost use Rattle.rubis_audit.specs.Lines.{IsAmongLine, begin_of, is_row, line_as};
 
 use rubis_message::{Message, Packet, ReadFault, read_packet};
-use rubis_schema::{Fields, read_number};
+use rubis_schema::{Record, read_number};
+use rubis_script::InputRecord;
 use std::alloc::{AllocError, Global};
 
 /// What a record says.
@@ -21,7 +22,7 @@ pub enum Line {
 }
 
 // The site whose log begins, if one does.
-fn read_begin(fields: &Fields, sites: u8) -> Option<u8>
+fn read_begin(fields: &InputRecord, sites: u8) -> Option<u8>
     ensures { result ≡ begin_of sites fields.now }
 {
     if fields.len() != 2 {
@@ -41,7 +42,7 @@ fn read_begin(fields: &Fields, sites: u8) -> Option<u8>
 }
 
 // Whether it is a row of tables.
-fn is_row(fields: &Fields) -> bool
+fn is_row(fields: &InputRecord) -> bool
     ensures { result ≡ is_row fields.now }
 {
     match fields.field(0) {
@@ -51,7 +52,7 @@ fn is_row(fields: &Fields) -> bool
 }
 
 /// What a record says, if anything.
-pub fn read_line(alloc: Global, fields: &Fields, sites: u8) -> Result<Option<Line>, AllocError>
+pub fn read_line(alloc: Global, fields: &InputRecord, sites: u8) -> Result<Option<Line>, AllocError>
     requires { sites ≤ COUNTED_MAX }
     ensures line { IfOk result (λ line. option_map (line_as fields.now) line ≡ line_of sites fields.now) }
     ensures among { IfOk result (IsAmongLine sites) }

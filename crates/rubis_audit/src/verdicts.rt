@@ -15,7 +15,7 @@ fn begin(fields: &mut Fields, word: &[u8]) -> Result<(), AllocError>
     ensures { OnOk result (fields.new ≡ codes "audit" ∷ word.now ∷ []) }
 {
     fields.clear();
-    fields.push(b"audit")?;
+    fields.push_plain(b"audit")?;
     fields.push(word)
 }
 

@@ -14,8 +14,8 @@ fn put_entry(fields: &mut Fields, entry: u64, message: &Message) -> Result<(), A
     ensures { OnOk result (fields.new ≡ log_record entry message.now) }
 {
     fields.clear();
-    fields.push(b"row")?;
-    fields.push(b"log")?;
+    fields.push_plain(b"row")?;
+    fields.push_plain(b"log")?;
     push_number(fields, entry)?;
     append_message(fields, message)
 }
@@ -49,8 +49,8 @@ fn put_misfit(fields: &mut Fields, misfit: &Misfit) -> Result<(), AllocError>
     ensures { OnOk result (fields.new ≡ misfit_record misfit.now) }
 {
     fields.clear();
-    fields.push(b"row")?;
-    fields.push(b"misfit")?;
+    fields.push_plain(b"row")?;
+    fields.push_plain(b"misfit")?;
     push_number(fields, u64::from(misfit.entry))?;
     push_number(fields, u64::from(misfit.part))?;
     misfit.id.push_to(fields)?;

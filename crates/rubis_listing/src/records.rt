@@ -1,7 +1,8 @@
 // The records of rows.
 
 ghost use Rattle.std.specs.Bool.{MatchBool};
-ghost use Rattle.std.specs.Prelude.{◌≡◌, ◌++◌, ◌∷◌, [], IfOk, OnOk, codes, decimal};
+ghost use Rattle.std.specs.Prelude.{◌≡◌, ◌++◌, ◌∷◌, [], IfOk, OnOk, codes, decimal, true};
+ghost use Rattle.rubis_schema.specs.FieldList.{is_plain};
 ghost use Rattle.rubis_message.specs.Grammar.{comment_fields, purchase_fields, winner_text};
 ghost use Rattle.rubis_model.specs.Listings.{best_fields, bid_row_fields, by_id, category_record, item_row_fields, row_record, sale_fields, shows_nothing, user_fields};
 
@@ -13,11 +14,12 @@ use std::alloc::AllocError;
 
 // Begins the record of the row with that id.
 fn begin(fields: &mut Fields, kind: &[u8], id: &Id) -> Result<(), AllocError>
+    requires { is_plain kind.now ≡ true }
     ensures { OnOk result (fields.new ≡ by_id kind.now id.now []) }
 {
     fields.clear();
-    fields.push(b"row")?;
-    fields.push(kind)?;
+    fields.push_plain(b"row")?;
+    fields.push_plain(kind)?;
     id.push_to(fields)
 }
 
@@ -41,8 +43,8 @@ fn push_best(fields: &mut Fields, best: &Option<Best>) -> Result<(), AllocError>
             push_number(fields, best.amount)
         }
         None => {
-            fields.push(b"none")?;
-            fields.push(b"0")
+            fields.push_plain(b"none")?;
+            fields.push_plain(b"0")
         }
     }
 }
@@ -52,7 +54,7 @@ fn push_winner(fields: &mut Fields, winner: &Option<Id>) -> Result<(), AllocErro
 {
     match winner {
         Some(id) => id.push_to(fields),
-        None => fields.push(b"none"),
+        None => fields.push_plain(b"none"),
     }
 }
 
@@ -61,11 +63,11 @@ fn push_sale(fields: &mut Fields, sale: &Sale) -> Result<(), AllocError>
 {
     match sale {
         Sale::Open => {
-            fields.push(b"open")?;
-            fields.push(b"none")
+            fields.push_plain(b"open")?;
+            fields.push_plain(b"none")
         }
         Sale::Ended(winner) => {
-            fields.push(b"closed")?;
+            fields.push_plain(b"closed")?;
             push_winner(fields, winner)
         }
     }
@@ -121,8 +123,8 @@ fn put_category(fields: &mut Fields, cat: u16, row: &CatRow) -> Result<(), Alloc
     ensures { OnOk result (fields.new ≡ category_record cat row.now) }
 {
     fields.clear();
-    fields.push(b"row")?;
-    fields.push(b"category")?;
+    fields.push_plain(b"row")?;
+    fields.push_plain(b"category")?;
     push_number(fields, u64::from(cat))?;
     push_number(fields, row.items)?;
     push_int(fields, row.live)

@@ -5,11 +5,11 @@ ghost use Rattle.rubis_message.specs.Readings.{take_bid, take_comment, take_item
 
 use crate::faults::ReadFault;
 use crate::readers::Reader;
-use rubis_schema::{AMOUNT_MAX, Boxed, CAT_MAX, CommentRow, PurchaseRow, QUANTITY_MAX};
+use rubis_schema::{AMOUNT_MAX, Boxed, CAT_MAX, CommentRow, PurchaseRow, QUANTITY_MAX, Record};
 use rubis_shadow::{NewBid, NewItem};
 use std::alloc::Global;
 
-impl<'a> Reader<'a> {
+impl<'a, F: Record> Reader<'a, F> {
     /// A new item.
     #[tactic(auto, unfolding(crate::specs::Readings::take_item))]
     pub fn new_item(&mut self, alloc: Global, sites: u8) -> Result<Boxed<NewItem>, ReadFault>

@@ -13,7 +13,7 @@ use crate::shadows::version_of;
 use crate::stamps::read_deps;
 use crate::tokens::{Packet, TOKEN_VERSION, Token};
 use rubis_clock::{Deps, Stamp};
-use rubis_schema::{COUNT_MAX, COUNTED_MAX, Fields, Id, SEQ_MAX, TURN_MAX};
+use rubis_schema::{COUNT_MAX, COUNTED_MAX, Id, Record, SEQ_MAX, TURN_MAX};
 use rubis_shadow::{Colour, Shadow};
 use std::alloc::Global;
 
@@ -27,7 +27,7 @@ fn agree(shadow: &Shadow, red: u32) -> bool
     }
 }
 
-impl<'a> Reader<'a> {
+impl<'a, F: Record> Reader<'a, F> {
     /// The number of one of so many sites.
     #[tactic(auto, unfolding(crate::specs::Forms::take_site))]
     #[inline(always)]
@@ -136,14 +136,14 @@ impl<'a> Reader<'a> {
 /// none for a name or a text.
 #[tactic(auto, unfolding(crate::specs::Readings::packet_of))]
 #[inline(always)]
-pub fn read_packet(alloc: Global, fields: &Fields, sites: u8) -> Result<Packet, ReadFault>
+pub fn read_packet<F: Record>(alloc: Global, fields: &F, sites: u8) -> Result<Packet, ReadFault>
     requires { sites ≤ COUNTED_MAX }
-    ensures ok { IfOk result (λ p. IsPacket sites p × (fields.now ≡ packet_record p)) }
-    ensures bad { IsErrOf result ReadFault.BadRecord → (p : Packet) → IsPacket sites p → fields.now ≢ packet_record p }
+    ensures ok { IfOk result (λ p. IsPacket sites p × (F.fields fields.now ≡ packet_record p)) }
+    ensures bad { IsErrOf result ReadFault.BadRecord → (p : Packet) → IsPacket sites p → F.fields fields.now ≢ packet_record p }
 
     // In one word: it is the packet that the fields are.
-    ensures some { IfOk result (λ p. packet_of sites fields.now ≡ Some p) }
-    ensures none { IsErrOf result ReadFault.BadRecord → packet_of sites fields.now ≡ None }
+    ensures some { IfOk result (λ p. packet_of sites (F.fields fields.now) ≡ Some p) }
+    ensures none { IsErrOf result ReadFault.BadRecord → packet_of sites (F.fields fields.now) ≡ None }
 {
     let mut reader = Reader::new(fields);
     let packet = reader.packet(alloc, sites)?;

@@ -6,31 +6,31 @@ ghost use Rattle.rubis_message.specs.Readings.{take_kind, take_shown};
 
 use crate::faults::ReadFault;
 use crate::kinds::{Kind, Shown, says};
-use rubis_schema::{Fields, Id, Name, Nick, Text, read_number, read_rating};
+use rubis_schema::{Id, Name, Nick, Record, Text, read_number, read_rating};
 use std::alloc::Global;
 use std::marker::Model;
 
 /// The fields of a record that are still to be read. Contracts see their list.
 #[derive(Drop)]
-pub struct Reader<'a> {
-    fields: &'a Fields,
+pub struct Reader<'a, F: Record> {
+    fields: &'a F,
     next: usize,
 }
 
-impl<'a> Model for Reader<'a> {
+impl<'a, F: Record> Model for Reader<'a, F> {
     ghost use Rattle.std.specs.Prelude.{ℕ, List, drop, length, ◌≤◌};
 
     ghost Value = { List (List ℕ) };
 
-    ghost view = { λ r. drop r.next r.fields.now };
+    ghost view = { λ r. drop r.next (F.fields r.fields.now) };
 
-    ghost invariant = { λ r. r.next ≤ length r.fields.now };
+    ghost invariant = { λ r. r.next ≤ length (F.fields r.fields.now) };
 }
 
-impl<'a> Reader<'a> {
+impl<'a, F: Record> Reader<'a, F> {
     /// Nothing is read yet.
-    pub fn new(fields: &'a Fields) -> Reader<'a>
-        ensures { result ≡ fields.now }
+    pub fn new(fields: &'a F) -> Reader<'a, F>
+        ensures { result ≡ F.fields fields.now }
     {
         Reader { fields, next: 0 }
     }

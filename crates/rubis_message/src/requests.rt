@@ -6,7 +6,7 @@ ghost use Rattle.rubis_message.specs.Readings.{request_of, take_asked_close, tak
 use crate::faults::ReadFault;
 use crate::kinds::{Kind, Shown};
 use crate::readers::Reader;
-use rubis_schema::{CAT_MAX, Fields, Listing, PASS_MAX};
+use rubis_schema::{CAT_MAX, Listing, PASS_MAX, Record};
 use rubis_shadow::{Ask, AskedClose};
 use std::alloc::Global;
 
@@ -19,7 +19,7 @@ pub enum Request {
     List(Listing),
 }
 
-impl<'a> Reader<'a> {
+impl<'a, F: Record> Reader<'a, F> {
     /// The end of a sale that a user asks for.
     #[tactic(auto, unfolding(crate::specs::Readings::take_asked_close))]
     fn asked_close(&mut self, sites: u8) -> Result<AskedClose, ReadFault>
@@ -66,7 +66,7 @@ impl<'a> Reader<'a> {
     }
 }
 
-impl<'a> Reader<'a> {
+impl<'a, F: Record> Reader<'a, F> {
     /// All that is left, as a request to a site among so many.
     #[tactic(auto, unfolding(crate::specs::Readings::request_of))]
     pub fn request_left(&mut self, alloc: Global, sites: u8) -> Result<Request, ReadFault>
@@ -82,13 +82,13 @@ impl<'a> Reader<'a> {
 
 /// Reads a request to a site among so many. `BadRecord` only where no request is written so; `Memory` where there is
 /// none for a name or a text.
-pub fn read_request(alloc: Global, fields: &Fields, sites: u8) -> Result<Request, ReadFault>
-    ensures ok { IfOk result (λ r. IsRequest sites r × (fields.now ≡ request_record r)) }
-    ensures bad { IsErrOf result ReadFault.BadRecord → (r : Request) → IsRequest sites r → fields.now ≢ request_record r }
+pub fn read_request<F: Record>(alloc: Global, fields: &F, sites: u8) -> Result<Request, ReadFault>
+    ensures ok { IfOk result (λ r. IsRequest sites r × (F.fields fields.now ≡ request_record r)) }
+    ensures bad { IsErrOf result ReadFault.BadRecord → (r : Request) → IsRequest sites r → F.fields fields.now ≢ request_record r }
 
     // In one word: it is the request that the fields are.
-    ensures some { IfOk result (λ r. request_of sites fields.now ≡ Some r) }
-    ensures none { IsErrOf result ReadFault.BadRecord → request_of sites fields.now ≡ None }
+    ensures some { IfOk result (λ r. request_of sites (F.fields fields.now) ≡ Some r) }
+    ensures none { IsErrOf result ReadFault.BadRecord → request_of sites (F.fields fields.now) ≡ None }
 {
     Reader::new(fields).request_left(alloc, sites)
 }

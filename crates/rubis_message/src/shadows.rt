@@ -8,11 +8,11 @@ ghost use Rattle.rubis_message.specs.Readings.{take_close, take_shadow};
 use crate::faults::ReadFault;
 use crate::kinds::Kind;
 use crate::readers::Reader;
-use rubis_schema::CAT_MAX;
+use rubis_schema::{CAT_MAX, Record};
 use rubis_shadow::{NewClose, Shadow};
 use std::alloc::Global;
 
-impl<'a> Reader<'a> {
+impl<'a, F: Record> Reader<'a, F> {
     /// The end of a sale.
     #[tactic(auto, unfolding(crate::specs::Readings::take_close))]
     pub fn new_close(&mut self, sites: u8) -> Result<NewClose, ReadFault>

@@ -8,7 +8,7 @@ use crate::faults::ReadFault;
 use crate::kinds::says;
 use crate::readers::Reader;
 use crate::requests::Request;
-use rubis_schema::{Fields, RECORDS_MAX};
+use rubis_schema::{RECORDS_MAX, Record};
 use std::alloc::{AllocError, Global};
 
 /// What a record is to several sites in one run.
@@ -24,7 +24,7 @@ pub enum WorldInput {
     Neither,
 }
 
-impl<'a> Reader<'a> {
+impl<'a, F: Record> Reader<'a, F> {
     // A field with just that word.
     fn word(&mut self, word: &[u8]) -> Result<(), ReadFault>
         ensures { Takes (take_word word.now) self.old self.new result }
@@ -70,8 +70,8 @@ impl<'a> Reader<'a> {
 
 // A request at a site.
 #[tactic(auto, unfolding(crate::specs::WorldReadings::request_at))]
-fn read_request_at(alloc: Global, fields: &Fields, sites: u8) -> Result<WorldInput, ReadFault>
-    ensures input { Reads (request_at sites fields.now) result }
+fn read_request_at<F: Record>(alloc: Global, fields: &F, sites: u8) -> Result<WorldInput, ReadFault>
+    ensures input { Reads (request_at sites (F.fields fields.now)) result }
     ensures limits { IfOk result (IsWorldInput sites) }
 {
     let mut reader = Reader::new(fields);
@@ -87,8 +87,8 @@ fn read_request_at(alloc: Global, fields: &Fields, sites: u8) -> Result<WorldInp
 }
 
 // The delivery of a packet.
-fn read_delivery(fields: &Fields, sites: u8) -> Result<WorldInput, ReadFault>
-    ensures input { Reads (whole (take_delivery sites) fields.now) result }
+fn read_delivery<F: Record>(fields: &F, sites: u8) -> Result<WorldInput, ReadFault>
+    ensures input { Reads (whole (take_delivery sites) (F.fields fields.now)) result }
     ensures limits { IfOk result (IsWorldInput sites) }
 {
     let mut reader = Reader::new(fields);
@@ -98,8 +98,8 @@ fn read_delivery(fields: &Fields, sites: u8) -> Result<WorldInput, ReadFault>
 }
 
 // An audit.
-fn read_audit(fields: &Fields) -> Result<WorldInput, ReadFault>
-    ensures input { Reads (whole take_audit fields.now) result }
+fn read_audit<F: Record>(fields: &F) -> Result<WorldInput, ReadFault>
+    ensures input { Reads (whole take_audit (F.fields fields.now)) result }
     ensures limits { IfOk result (λ input. (sites : ℕ) → IsWorldInput sites input) }
 {
     let mut reader = Reader::new(fields);
@@ -109,8 +109,12 @@ fn read_audit(fields: &Fields) -> Result<WorldInput, ReadFault>
 }
 
 /// Reads what a record is to so many sites. `AllocError` where there is no memory for a name or a text.
-pub fn read_world_input(alloc: Global, fields: &Fields, sites: u8) -> Result<WorldInput, AllocError>
-    ensures input { IfOk result (λ input. input ≡ world_input sites fields.now) }
+pub fn read_world_input<F: Record>(
+    alloc: Global,
+    fields: &F,
+    sites: u8,
+) -> Result<WorldInput, AllocError>
+    ensures input { IfOk result (λ input. input ≡ world_input sites (F.fields fields.now)) }
     ensures limits { IfOk result (IsWorldInput sites) }
 {
     match read_request_at(alloc, fields, sites) {

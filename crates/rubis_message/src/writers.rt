@@ -43,7 +43,7 @@ fn push_winner(fields: &mut Fields, winner: Option<Id>) -> Result<(), AllocError
 {
     match winner {
         Some(id) => id.push_to(fields),
-        None => fields.push(b"none"),
+        None => fields.push_plain(b"none"),
     }
 }
 
@@ -70,27 +70,27 @@ fn push_shadow(fields: &mut Fields, shadow: &Shadow) -> Result<(), AllocError>
 {
     match shadow {
         Shadow::User(nick) => {
-            fields.push(b"user")?;
+            fields.push_plain(b"user")?;
             fields.push(nick.as_bytes())
         }
         Shadow::Item(item) => {
-            fields.push(b"item")?;
+            fields.push_plain(b"item")?;
             push_item(fields, item)
         }
         Shadow::Bid(bid) => {
-            fields.push(b"bid")?;
+            fields.push_plain(b"bid")?;
             push_bid(fields, bid)
         }
         Shadow::Buy(purchase) => {
-            fields.push(b"buy")?;
+            fields.push_plain(b"buy")?;
             push_purchase(fields, purchase)
         }
         Shadow::Close(close) => {
-            fields.push(b"close")?;
+            fields.push_plain(b"close")?;
             push_close(fields, close)
         }
         Shadow::Comment(comment) => {
-            fields.push(b"comment")?;
+            fields.push_plain(b"comment")?;
             push_comment(fields, comment)
         }
     }
@@ -100,7 +100,7 @@ fn push_message(fields: &mut Fields, message: &Message) -> Result<(), AllocError
     ensures { OnOk result (fields.new ≡ fields.old ++ message_record message.now) }
 {
     let stamp = message.stamp();
-    fields.push(b"msg")?;
+    fields.push_plain(b"msg")?;
     fields.push(version_of(message.shadow()))?;
     push_number(fields, u64::from(stamp.id.site))?;
     push_number(fields, u64::from(stamp.id.seq))?;
@@ -112,8 +112,8 @@ fn push_message(fields: &mut Fields, message: &Message) -> Result<(), AllocError
 fn push_token(fields: &mut Fields, token: &Token) -> Result<(), AllocError>
     ensures { OnOk result (fields.new ≡ fields.old ++ token_record token.now) }
 {
-    fields.push(b"token")?;
-    fields.push(TOKEN_VERSION)?;
+    fields.push_plain(b"token")?;
+    fields.push_plain(TOKEN_VERSION)?;
     push_number(fields, u64::from(token.turn))?;
     push_number(fields, u64::from(token.to))?;
     push_number(fields, u64::from(token.issued))

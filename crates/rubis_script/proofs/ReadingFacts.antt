@@ -143,8 +143,3 @@ holds-takes rem a b true fields first reads rest h =
     )
 holds-takes rem a b false fields first reads rest h =
     h.records ∙ no-more h.fuel a.state h.bytes (rows-end rem a b fields default_config h.bytes h.config h.source (reads h.trim h.ready))
-
--- a read, once it is known whether it found a record and which
-pub takes-at : {R : Type 0} (rem : R → Option (List ℕ)) (a b : Reader R) (found v : Bool) (fields same : List (List ℕ)) → found ≡ v → fields ≡ same
-    → ReadsNext rem a b found fields → ReadsNext rem a b v same
-takes-at rem a b found v fields same e f t = subst (λ x. ReadsNext rem a b v x) f (subst (λ x. ReadsNext rem a b x fields) e t)

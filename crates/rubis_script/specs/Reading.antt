@@ -35,7 +35,7 @@ Gives rem records rest = HasToGive (metered rem) records.rows rest
 
 -- the record that was read last
 abbrev pub fields_now : {R : Type 0} → Records R → List (List ℕ)
-fields_now records = records.fields
+fields_now records = records.row
 
 -- to go on takes the first of the records to come, or there is none
 abbrev pub Advances : {R : Type 0} → (R → Option (List ℕ)) → Records R → Records R → Bool → Type 0

@@ -15,6 +15,7 @@ ghost use Rattle.rubis_script.specs.Inputs.{IsAnswered, answer_of};
 ghost use Rattle.rubis_script.specs.SiteRuns.{told_by};
 
 use crate::fault::OutOfMemory;
+use crate::input_record::InputRecord;
 use crate::replies::{
     write_arrival, write_listed_text, write_passed, write_refusal, write_sent, write_taken,
 };
@@ -210,7 +211,7 @@ impl<G: Gate> Desk<G> {
         &mut self,
         rt: &R,
         number: u64,
-        fields: &Fields,
+        fields: &InputRecord,
         sink: &mut Sink,
     ) -> Result<(), OutOfMemory>
         requires { packet_of self.old.site.place.sites fields.now ≡ None }
@@ -235,7 +236,7 @@ impl<G: Gate> Desk<G> {
         &mut self,
         rt: &R,
         number: u64,
-        fields: &Fields,
+        fields: &InputRecord,
         sink: &mut Sink,
     ) -> Result<(), OutOfMemory>
         ensures place { self.new.site.place ≡ self.old.site.place }

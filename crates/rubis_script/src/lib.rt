@@ -3,6 +3,7 @@
 
 mod desk;
 mod fault;
+mod input_record;
 mod meter;
 mod quoted_rows;
 mod record_list;
@@ -14,6 +15,7 @@ mod site_run;
 
 pub use desk::Desk;
 pub use fault::{Count, OutOfMemory, RunFault};
+pub use input_record::InputRecord;
 pub use record_list::Records;
 pub use replies::{
     write_arrival, write_handed_on, write_listed, write_refusal, write_sent, write_taken,

@@ -1,7 +1,8 @@
 // The records that answer a record.
 
-ghost use Rattle.std.specs.Prelude.{◌≡◌, ◌∷◌, ◌++◌, [], ℕ, List, Ok, OnOk, codes, decimal};
+ghost use Rattle.std.specs.Prelude.{◌≡◌, ◌∷◌, ◌++◌, [], ℕ, List, Ok, OnOk, codes, decimal, true};
 ghost use Rattle.rubis_message.specs.declared.answers.Arrival.TheVariants.{Released};
+ghost use Rattle.rubis_schema.specs.FieldList.{is_plain};
 ghost use Rattle.rubis_schema.specs.Ids.{id_text};
 ghost use Rattle.rubis_model.specs.Answers.{arrived_rows, asked_rows, listed_rows, passed_rows, refused_row, reply, took_rows};
 ghost use Rattle.rubis_script.specs.Replies.{HasRows};
@@ -15,12 +16,13 @@ use std::alloc::AllocError;
 
 // Begins the reply to the record with that number.
 fn begin(fields: &mut Fields, number: u64, word: &[u8]) -> Result<(), AllocError>
+    requires { is_plain word.now ≡ true }
     ensures { OnOk result (fields.new ≡ reply number (word.now ∷ [])) }
 {
     fields.clear();
-    fields.push(b"reply")?;
+    fields.push_plain(b"reply")?;
     push_number(fields, number)?;
-    fields.push(word)
+    fields.push_plain(word)
 }
 
 /// Says why a record is refused.
@@ -63,7 +65,7 @@ pub fn write_sent<S: RowSink>(
 {
     write_accepted(fields, sink, number, message)?;
     fields.clear();
-    fields.push(b"send")?;
+    fields.push_plain(b"send")?;
     append_message(fields, message)?;
     sink.put(fields)
 }
@@ -80,7 +82,7 @@ pub fn write_handed_on<S: RowSink>(
     begin(fields, number, b"passed")?;
     sink.put(fields)?;
     fields.clear();
-    fields.push(b"send")?;
+    fields.push_plain(b"send")?;
     append_token(fields, token)?;
     sink.put(fields)
 }
@@ -121,6 +123,7 @@ fn write_word<S: RowSink>(
     number: u64,
     word: &[u8],
 ) -> Result<(), AllocError>
+    requires { is_plain word.now ≡ true }
     ensures { OnOk result (S.adds (reply number (word.now ∷ []) ∷ []) sink.old sink.new) }
 {
     begin(fields, number, word)?;

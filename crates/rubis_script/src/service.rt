@@ -5,8 +5,8 @@ ghost use Rattle.rubis_script.specs.Accounts.{Account, AnswersRecord, Keeps};
 ghost use Rattle.rubis_script.specs.Accounts.Ending.{AtEnd, Cut};
 
 use super::fault::OutOfMemory;
+use super::input_record::InputRecord;
 use super::sink::Sink;
-use rubis_schema::Fields;
 
 /// Whether a run goes on behind a record.
 #[derive(Clone, Copy, PartialEq, Eq, Debug)]
@@ -45,7 +45,7 @@ pub trait Answering<T>: Service<T> {
         &mut self,
         rt: &T,
         number: u64,
-        fields: &Fields,
+        fields: &InputRecord,
         sink: &mut Sink,
     ) -> Result<Course, OutOfMemory>
         ensures { IfOk result (λ course. AnswersRecord course (Self.account self.old number) (Self.account self.new (number + 1)) sink.old sink.new fields.now) };

@@ -225,9 +225,7 @@ impl Sink {
         ensures empty { self.new ≡ [] }
         ensures faults { IfErr result (λ e. e ≡ RunFault.Write) }
     {
-        if let Err(fault) = self.drain(writer) {
-            return Err(fault);
-        }
+        self.drain(writer)?;
         match writer.flush() {
             Ok(()) => Ok(()),
             Err(_) => Err(RunFault::Write),

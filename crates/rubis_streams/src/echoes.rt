@@ -5,17 +5,19 @@ ghost use Rattle.std.specs.Option.{option_to_list};
 ghost use Rattle.rubis_script.specs.Text.{rows_text};
 
 use rubis_schema::Fields;
-use rubis_script::{Answering, Course, OutOfMemory, Service, Sink};
+use rubis_script::{Answering, Course, InputRecord, OutOfMemory, Service, Sink};
+use std::alloc::Global;
 
 /// Answers each record by itself behind `got`, one record late.
 #[derive(Drop)]
 pub struct Echo {
     last: Option<Fields>,
+    alloc: Global,
 }
 
 impl Echo {
-    pub fn new() -> Echo {
-        Echo { last: None }
+    pub fn new(alloc: Global) -> Echo {
+        Echo { last: None, alloc }
     }
 
     fn write_last(&mut self, sink: &mut Sink) -> Result<(), OutOfMemory>
@@ -51,10 +53,10 @@ impl<T> Answering<T> for Echo {
         &mut self,
         _rt: &T,
         _number: u64,
-        fields: &Fields,
+        fields: &InputRecord,
         sink: &mut Sink,
     ) -> Result<Course, OutOfMemory> {
-        let next = fields.copy()?;
+        let next = fields.to_fields(self.alloc)?;
         self.write_last(sink)?;
         self.last = Some(next);
         Ok(Course::GoesOn)

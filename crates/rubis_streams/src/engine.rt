@@ -16,7 +16,7 @@ fn answers_in_order(rt: HostRuntime) {
         rt.alloc(),
         INPUT.as_slice(),
         &mut out,
-        &mut Echo::new(),
+        &mut Echo::new(rt.alloc()),
         5,
     );
     assert!(rt; end == Ok(Count { records: 5 }));
@@ -31,7 +31,7 @@ fn stops_at_the_limit(rt: HostRuntime) {
         rt.alloc(),
         INPUT.as_slice(),
         &mut out,
-        &mut Echo::new(),
+        &mut Echo::new(rt.alloc()),
         1,
     );
     assert!(rt; end == Err(RunFault::TooLong));
@@ -47,7 +47,7 @@ fn a_failing_reader(rt: HostRuntime) {
             rt.alloc(),
             BrokenReader::new(&INPUT[..cut]),
             &mut out,
-            &mut Echo::new(),
+            &mut Echo::new(rt.alloc()),
             9,
         );
         assert!(rt; end == Err(RunFault::Read), "after {cut} bytes");
@@ -72,7 +72,7 @@ fn a_failing_writer(rt: HostRuntime) {
             rt.alloc(),
             INPUT.as_slice(),
             &mut writer,
-            &mut Echo::new(),
+            &mut Echo::new(rt.alloc()),
             9,
         );
         assert!(rt; end == Err(RunFault::Write), "at call {bad}");

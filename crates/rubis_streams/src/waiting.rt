@@ -71,7 +71,14 @@ fn answers_before_it_asks_for_more(rt: HostRuntime) {
             written: 0,
             flushed: &flushed,
         };
-        let end = run_upto(&(), rt.alloc(), reader, &mut writer, &mut Echo::new(), 9);
+        let end = run_upto(
+            &(),
+            rt.alloc(),
+            reader,
+            &mut writer,
+            &mut Echo::new(rt.alloc()),
+            9,
+        );
         assert!(rt; end == Ok(Count { records: 3 }));
         assert!(rt; !late.get());
     }

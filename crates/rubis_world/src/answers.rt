@@ -25,9 +25,9 @@ pub fn write_no_event(
     ensures { OnOk result (sink.new ≡ sink.old ++ rows_text (world_row number refusal ∷ [])) }
 {
     reply.clear();
-    reply.push(b"world")?;
+    reply.push_plain(b"world")?;
     push_number(reply, number)?;
-    reply.push(b"refused")?;
+    reply.push_plain(b"refused")?;
     push_number(reply, u64::from(refusal.code()))?;
     reply.push(refusal.name().as_bytes())?;
     sink.write_fields(reply)

@@ -18,7 +18,7 @@ use rubis_audit::write_verdict;
 use rubis_message::{Request, WorldInput, read_world_input};
 use rubis_replica::Fault;
 use rubis_schema::{Fields, Refusal};
-use rubis_script::{OutOfMemory, Service, Sink};
+use rubis_script::{InputRecord, OutOfMemory, Service, Sink};
 use std::alloc::{AllocError, Global};
 use std::sync::Wait;
 use std::thread::Threads;
@@ -112,7 +112,7 @@ impl WorldDesk {
         &mut self,
         rt: &R,
         number: u64,
-        fields: &Fields,
+        fields: &InputRecord,
         sink: &mut Sink,
     ) -> Result<(), OutOfMemory>
         ensures { OnOk result (IsTold self.old.world self.new.world

@@ -3,6 +3,6 @@ use Rattle.rubis_message.proofs.Cursor.{more_left}
 use Rattle.rubis_message.proofs.readers.Reader.end.Goals as goal
 
 pub returns-then-self-len : goal.returns-then-self-len
-returns-then-self-len c =
-    let lt : c.self.inside.next < length c.self.inside.fields.now = omega arith in
-    more_left c.self.inside.fields.now c.args.self.now c.self.inside.next lt c.self.view_is
+returns-then-self-len g c =
+    let lt : c.self.inside.next < length (g.F.Record.fields c.self.inside.fields.now) = omega arith in
+    more_left (g.F.Record.fields c.self.inside.fields.now) c.args.self.now c.self.inside.next lt c.self.view_is

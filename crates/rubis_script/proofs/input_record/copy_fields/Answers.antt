@@ -1,8 +1,8 @@
 use Rattle.std.proofs.Common.{◌∙◌, ◌++◌, ◌∷◌, [], ap, sym}
 use Rattle.csv.specs.Records.{fields_of}
 use Rattle.rubis_script.proofs.ListFacts.{field_at-slice_get, take-next, take-none}
-use Rattle.rubis_script.proofs.record_list.refill.Goals.{in-Some+in_ok-push_read, in_default}
-use Rattle.rubis_script.proofs.record_list.refill.Goals as goal
+use Rattle.rubis_script.proofs.input_record.copy_fields.Goals.{in-Some+in_ok-push_read, in_default}
+use Rattle.rubis_script.proofs.input_record.copy_fields.Goals as goal
 
 pub loop-place-preserved : goal.loop-place-preserved
 loop-place-preserved c =
