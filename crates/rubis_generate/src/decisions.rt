@@ -5,7 +5,7 @@ ghost use Rattle.rubis_generate.specs.Decision.{decision};
 
 use crate::standing::Standing;
 use rubis_schema::{
-    Boxed, CommentRow, Id, ItemRow, Nick, PurchaseRow, Refusal, Row, RowKey, Sale, View,
+    CommentRow, Id, ItemRow, Nick, PurchaseRow, Refusal, Row, RowKey, Sale, Shared, View,
 };
 use rubis_shadow::{Ask, AskedClose, NewBid, NewClose, NewItem, Shadow};
 
@@ -58,7 +58,7 @@ fn decide_user<V: View>(nick: Nick, view: &V, standing: &Standing) -> Result<Sha
 }
 
 fn decide_item<V: View>(
-    item: Boxed<NewItem>,
+    item: Shared<NewItem>,
     view: &V,
     standing: &Standing,
 ) -> Result<Shadow, Refusal>
@@ -173,7 +173,7 @@ fn decide_close<V: View>(
 }
 
 fn decide_comment<V: View>(
-    comment: Boxed<CommentRow>,
+    comment: Shared<CommentRow>,
     view: &V,
     standing: &Standing,
 ) -> Result<Shadow, Refusal>

@@ -5,14 +5,14 @@ ghost use Rattle.rubis_message.specs.Readings.{take_bid, take_comment, take_item
 
 use crate::faults::ReadFault;
 use crate::readers::Reader;
-use rubis_schema::{AMOUNT_MAX, Boxed, CAT_MAX, CommentRow, PurchaseRow, QUANTITY_MAX, Record};
+use rubis_schema::{AMOUNT_MAX, CAT_MAX, CommentRow, PurchaseRow, QUANTITY_MAX, Record, Shared};
 use rubis_shadow::{NewBid, NewItem};
 use std::alloc::Global;
 
 impl<'a, F: Record> Reader<'a, F> {
     /// A new item.
     #[tactic(auto, unfolding(crate::specs::Readings::take_item))]
-    pub fn new_item(&mut self, alloc: Global, sites: u8) -> Result<Boxed<NewItem>, ReadFault>
+    pub fn new_item(&mut self, alloc: Global, sites: u8) -> Result<Shared<NewItem>, ReadFault>
         ensures { Takes (take_item sites) self.old self.new result }
     {
         let seller = self.id(sites)?;
@@ -29,7 +29,7 @@ impl<'a, F: Record> Reader<'a, F> {
             start,
             price,
         };
-        Ok(Boxed::new(alloc, item)?)
+        Ok(Shared::new(alloc, item)?)
     }
 
     /// A bid.
@@ -64,7 +64,7 @@ impl<'a, F: Record> Reader<'a, F> {
 
     /// A comment.
     #[tactic(auto, unfolding(crate::specs::Readings::take_comment))]
-    pub fn comment(&mut self, alloc: Global, sites: u8) -> Result<Boxed<CommentRow>, ReadFault>
+    pub fn comment(&mut self, alloc: Global, sites: u8) -> Result<Shared<CommentRow>, ReadFault>
         ensures { Takes (take_comment sites) self.old self.new result }
     {
         let item = self.id(sites)?;
@@ -79,6 +79,6 @@ impl<'a, F: Record> Reader<'a, F> {
             rating,
             text,
         };
-        Ok(Boxed::new(alloc, comment)?)
+        Ok(Shared::new(alloc, comment)?)
     }
 }

@@ -1,7 +1,7 @@
 // Plain tables, and decisions over them.
 
 use rubis_generate::{Standing, decide};
-use rubis_schema::{Boxed, Id, Name, Nick, Refusal, Row, RowKey, Table, View};
+use rubis_schema::{Id, Name, Nick, Refusal, Row, RowKey, Shared, Table, View};
 use rubis_shadow::{Ask, MisfitKind, NewBid, NewClose, NewItem, PlainTables, Shadow};
 use std::alloc::Global;
 use std::process::Abort;
@@ -30,7 +30,7 @@ fn lamp(alloc: Global) -> Result<Shadow, Fail> {
         start: 100,
         price: 0,
     };
-    Ok(Shadow::Item(Boxed::new(alloc, lamp)?))
+    Ok(Shadow::Item(Shared::new(alloc, lamp)?))
 }
 
 // Applies all parts of a shadow, each of which fits.

@@ -31,11 +31,6 @@ impl<T> Boxed<T> {
         Ok(Boxed { inner })
     }
 
-    /// Where its memory is from.
-    pub fn allocator(&self) -> Global {
-        *Box::allocator(&self.inner)
-    }
-
     /// The value, to be changed.
     pub fn get_mut(&mut self) -> &mut T
         ensures* writes_back { sem 𝓛 (LendsValue T.row self.entry result) }

@@ -3,6 +3,7 @@ ghost use Rattle.std.specs.Prelude.{◌≡◌, IfOk};
 use crate::boxed::Boxed;
 use crate::ids::Id;
 use crate::nicks::Nick;
+use crate::shared::Shared;
 use crate::texts::{Name, Text};
 use std::alloc::AllocError;
 
@@ -83,14 +84,14 @@ pub struct CatRow {
 }
 
 /// A row of one of the seven tables. A nickname's row holds the id of its user. The larger rows are in boxes, so that tables
-/// stay small.
+/// stay small; a comment's, which nothing changes, is shared with the messages that brought it.
 #[derive(Drop, Clone, PartialEq, Eq, Debug)]
 pub enum Row {
     User(Boxed<UserRow>),
     Item(Boxed<ItemRow>),
     Bid(BidRow),
     Purchase(PurchaseRow),
-    Comment(Boxed<CommentRow>),
+    Comment(Shared<CommentRow>),
     Nick(Id),
     Cat(CatRow),
 }
@@ -98,15 +99,6 @@ pub enum Row {
 impl Row {
     /// An equal row.
     pub fn copy(&self) -> Result<Row, AllocError>
-        ensures { IfOk result (λ row. row ≡ self.now) }
-    {
-        self.clone()
-    }
-}
-
-impl CommentRow {
-    /// An equal row.
-    pub fn copy(&self) -> Result<CommentRow, AllocError>
         ensures { IfOk result (λ row. row ≡ self.now) }
     {
         self.clone()

@@ -1,5 +1,5 @@
 use crate::shadows::{NewBid, NewItem};
-use rubis_schema::{Boxed, CommentRow, Id, Nick, PurchaseRow};
+use rubis_schema::{CommentRow, Id, Nick, PurchaseRow, Shared};
 
 /// A seller who ends an item's sale.
 #[derive(Clone, Copy, PartialEq, Eq, Debug)]
@@ -12,9 +12,9 @@ pub struct AskedClose {
 #[derive(Drop, Clone, PartialEq, Eq, Debug)]
 pub enum Ask {
     User(Nick),
-    Item(Boxed<NewItem>),
+    Item(Shared<NewItem>),
     Bid(NewBid),
     Buy(PurchaseRow),
     Close(AskedClose),
-    Comment(Boxed<CommentRow>),
+    Comment(Shared<CommentRow>),
 }

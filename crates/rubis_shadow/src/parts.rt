@@ -10,7 +10,8 @@ ghost use Rattle.rubis_schema.specs.declared.rows.Row.TheVariants as rows;
 use crate::changes::{Change, Effect};
 use crate::shadows::{NewBid, NewClose, NewItem, Shadow};
 use rubis_schema::{
-    Best, BidRow, Boxed, CommentRow, Id, ItemRow, Nick, PurchaseRow, Row, RowKey, Sale, UserRow,
+    Best, BidRow, Boxed, CommentRow, Id, ItemRow, Nick, PurchaseRow, Row, RowKey, Sale, Shared,
+    UserRow,
 };
 use std::alloc::{AllocError, Global};
 use std::marker::Model;
@@ -18,15 +19,15 @@ use std::marker::Model;
 /// The most parts of a shadow.
 pub const PARTS_MAX: u8 = 3;
 
-// A change that borrows the boxes of its shadow.
+// A change that borrows what its shadow shares.
 #[derive(Clone, Copy)]
 enum ChangeRef<'a> {
     NewUser(Nick),
     NewNick(Id),
-    NewItem(&'a Boxed<NewItem>),
+    NewItem(&'a Shared<NewItem>),
     NewBid(BidRow),
     NewPurchase(PurchaseRow),
-    NewComment(&'a Boxed<CommentRow>),
+    NewComment(&'a Shared<CommentRow>),
     ItemListed,
     Bought(u64),
     Rated(i8),
@@ -37,7 +38,7 @@ enum ChangeRef<'a> {
     End(Option<Id>),
 }
 
-/// A part of a shadow that borrows the shadow's boxes. Contracts see the effect.
+/// A part of a shadow that borrows what the shadow shares. Contracts see the effect.
 #[derive(Drop)]
 pub struct EffectRef<'a> {
     key: RowKey,
@@ -100,13 +101,13 @@ impl Shadow {
         }
     }
 
-    /// The row that the first part inserts, where that is in a box.
+    /// The row that the first part inserts, where that is in a box or shared.
     pub fn boxed_row(&self, alloc: Global) -> Result<Option<Row>, AllocError>
         ensures { IfOk result (λ row. (id : Id) (red : ℕ) → HasBoxedRow (slice_get (parts id red self.now) 0) row) }
     {
         match self {
             Shadow::User(nick) => Ok(Some(user_row(alloc, *nick)?)),
-            Shadow::Item(item) => Ok(Some(item_row(item)?)),
+            Shadow::Item(item) => Ok(Some(item_row(alloc, item)?)),
             Shadow::Comment(comment) => Ok(Some(comment_row(comment)?)),
             _ => Ok(None),
         }
@@ -154,7 +155,7 @@ fn user_part<'a>(id: Id, nick: Nick, place: u8) -> Option<EffectRef<'a>>
 }
 
 #[inline(always)]
-fn item_part<'a>(id: Id, item: &'a Boxed<NewItem>, place: u8) -> Option<EffectRef<'a>>
+fn item_part<'a>(id: Id, item: &'a Shared<NewItem>, place: u8) -> Option<EffectRef<'a>>
     ensures { result ≡ slice_get (parts id 0 (Shadow.Item item.now)) place }
 {
     match place {
@@ -238,7 +239,7 @@ fn close_part<'a>(close: NewClose, place: u8) -> Option<EffectRef<'a>>
 }
 
 #[inline(always)]
-fn comment_part<'a>(id: Id, comment: &'a Boxed<CommentRow>, place: u8) -> Option<EffectRef<'a>>
+fn comment_part<'a>(id: Id, comment: &'a Shared<CommentRow>, place: u8) -> Option<EffectRef<'a>>
     ensures { result ≡ slice_get (parts id 0 (Shadow.Comment comment.now)) place }
 {
     match place {
@@ -283,7 +284,7 @@ fn user_row(alloc: Global, nick: Nick) -> Result<Row, AllocError>
 }
 
 // The row of an item that is offered.
-fn item_row(item: &Boxed<NewItem>) -> Result<Row, AllocError>
+fn item_row(alloc: Global, item: &NewItem) -> Result<Row, AllocError>
     ensures { IfOk result (λ row. row ≡ rows.Item (new_item item.now)) }
 {
     let row = ItemRow {
@@ -298,30 +299,29 @@ fn item_row(item: &Boxed<NewItem>) -> Result<Row, AllocError>
         best: None,
         sale: Sale::Open,
     };
-    Ok(Row::Item(Boxed::new(item.allocator(), row)?))
+    Ok(Row::Item(Boxed::new(alloc, row)?))
 }
 
 // The row of a comment.
-fn comment_row(comment: &Boxed<CommentRow>) -> Result<Row, AllocError>
+fn comment_row(comment: &Shared<CommentRow>) -> Result<Row, AllocError>
     ensures { IfOk result (λ row. row ≡ rows.Comment comment.now) }
 {
-    let row = comment.copy()?;
-    Ok(Row::Comment(Boxed::new(comment.allocator(), row)?))
+    Ok(Row::Comment(comment.clone()?))
 }
 
-// The row that the change inserts, where that is in a box.
+// The row that the change inserts, where that is in a box or shared.
 fn boxed_row(alloc: Global, change: &ChangeRef<'_>) -> Result<Option<Row>, AllocError>
     ensures { IfOk result (λ row. row ≡ boxed_row_in (change_of change.now)) }
 {
     match change {
         ChangeRef::NewUser(nick) => Ok(Some(user_row(alloc, *nick)?)),
-        ChangeRef::NewItem(item) => Ok(Some(item_row(item)?)),
+        ChangeRef::NewItem(item) => Ok(Some(item_row(alloc, item)?)),
         ChangeRef::NewComment(comment) => Ok(Some(comment_row(comment)?)),
         _ => Ok(None),
     }
 }
 
-// The change, with its row in a box, where it has one.
+// The change, with its row in a box or shared, where it has one.
 #[inline(always)]
 fn change_with(change: &ChangeRef<'_>, row: Option<Row>) -> Change
     requires { row ≡ boxed_row_in (change_of change.now) }
@@ -365,7 +365,7 @@ impl<'a> EffectRef<'a> {
         })
     }
 
-    /// An equal effect that borrows nothing, with the row in a box that it inserts, where it does. It takes no memory.
+    /// An equal effect that borrows nothing, with the row that it inserts, where that is in a box or shared. It takes no memory.
     #[inline(always)]
     pub fn own_with(&self, row: Option<Row>) -> Effect
         requires { row ≡ boxed_row_in self.now.change }

@@ -1,7 +1,7 @@
 ghost use Rattle.std.specs.Prelude.{◌≡◌, IfOk};
 ghost use Rattle.rubis_shadow.specs.Shadows.{colour_of};
 
-use rubis_schema::{Boxed, CommentRow, Id, Name, Nick, PurchaseRow};
+use rubis_schema::{CommentRow, Id, Name, Nick, PurchaseRow, Shared};
 use std::alloc::AllocError;
 
 /// An item that is offered: `stock` pieces of it, bids from `start` on, and `price` for a piece at once (0: no
@@ -32,16 +32,16 @@ pub struct NewClose {
     pub winner: Option<Id>,
 }
 
-/// What an accepted ask does, at every site. The larger ones are in boxes, so that a log stays
-/// small.
+/// What an accepted ask does, at every site. The larger ones are shared by their copies, so
+/// that logs stay small.
 #[derive(Drop, Clone, PartialEq, Eq, Debug)]
 pub enum Shadow {
     User(Nick),
-    Item(Boxed<NewItem>),
+    Item(Shared<NewItem>),
     Bid(NewBid),
     Buy(PurchaseRow),
     Close(NewClose),
-    Comment(Boxed<CommentRow>),
+    Comment(Shared<CommentRow>),
 }
 
 /// Red shadows are totally ordered, blue ones only follow causality.

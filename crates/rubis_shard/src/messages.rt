@@ -91,7 +91,7 @@ impl<'a> MessageParts<'a> {
         self.home_from(2, from, second)
     }
 
-    // The row in a box of the first part, where it has one, if its home is the shard.
+    // The row of the first part that is in a box or shared, where it has one, if its home is the shard.
     #[inline(always)]
     fn boxed_row(&self, alloc: Global, at: usize) -> Result<Option<Row>, AllocError>
         requires { at < self.now.shards }

@@ -104,7 +104,7 @@ impl PlaceLists {
         Ok(())
     }
 
-    // Makes the slot.
+    // Makes the slot, and 63 behind it, since ids mostly come one after the other.
     #[inline(never)]
     fn make_slot(&mut self, slot: Slot) -> Result<(), AllocError>
         requires { slot.list < LISTS }
@@ -115,7 +115,7 @@ impl PlaceLists {
         let list = &mut self.lists[slot.list];
         let at = slot.at as usize;
         if list.len() <= at {
-            list.resize(at + 1, 0)?;
+            list.resize(at + 64, 0)?;
         }
         Ok(())
     }

@@ -11,11 +11,11 @@ returns-in_ok-resize-clause-same c = λ other.
     let v = c.index_mut-list.result.now in
     let there : slice_get xs c.args.slot.list ≡ Some v =
     slice_get_read xs (length xs) c.args.slot.list v refl (omega (arith, c.in_ok-make_lists.ensures.there, c.requires)) c.index_mut-list.ensures.value in
-    let grown : c.resize.new.self.items ≡ v.items ++ replicate (c.args.slot.at + 1 - v.len) 0 =
+    let grown : c.resize.new.self.items ≡ v.items ++ replicate (c.args.slot.at + 64 - v.len) 0 =
     c.in_ok-resize.ensures.items
-    ∙ ap (λ ys. ys ++ replicate (c.args.slot.at + 1 - v.len) 0)
-    (take_all (c.args.slot.at + 1) v.items (omega (arith, v.ok.0, c.len.ensures, c.if-len-at.true))) in
-    longer_list xs c.args.slot.list v c.resize.new.self there (c.args.slot.at + 1 - v.len) grown other.list other.at
+    ∙ ap (λ ys. ys ++ replicate (c.args.slot.at + 64 - v.len) 0)
+    (take_all (c.args.slot.at + 64) v.items (omega (arith, v.ok.0, c.len.ensures, c.if-len-at.true))) in
+    longer_list xs c.args.slot.list v c.resize.new.self there (c.args.slot.at + 64 - v.len) grown other.list other.at
     ∙ c.in_ok-make_lists.ensures.same other
 
 pub returns-in_ok-resize-clause-there : goal.returns-in_ok-resize-clause-there
