@@ -1,6 +1,6 @@
 -- How a run goes on.
 use Rattle.std.proofs.Common.{◌≡◌, ◌≤◌, ◌<◌, ◌+◌, ◌∷◌, [], ◌++◌, ◌∙◌, ℕ, List, length, take, Option, Bool, true, false, sym, refl, ap, subst, arith, append_assoc, length-append}
-use Rattle.std.specs.Prelude.{IfNone, IfOk, IfSome, OnOk, None, Some, Result, Ok, Err}
+use Rattle.std.specs.Prelude.{IfNone, IfOk, IfSome, IsErr, IsErrAnd, IsErrOf, OnOk, None, Some, Result, Ok, Err}
 use Rattle.std.proofs.lemmas.List.{append-nil}
 use Rattle.std.proofs.Math.Seq.{take-append_seam}
 use Rattle.std.specs.Io.KnownBytes.{Appends}
@@ -173,6 +173,11 @@ pub progress-stays : {R : Type 0} (rem : R → Option (List ℕ)) (a : Records R
     (old now now2 : Option (List ℕ)) (sink : List ℕ) (n : ℕ) (input : List ℕ)
     → HasComeSoFar rem a all more old now sink n input → now2 ≡ now → WroteFront (all.text AtEnd) old now2 (input_records input)
 progress-stays rem a all more old now now2 sink n input p same = front-same (all.text AtEnd) old now now2 (input_records input) (progress-front rem a all more old now sink n input p) same
+
+-- an error that `?` hands on is the one that was met
+pub handed_on : {A E : Type 0} (r : Result A E) (met given : E) → IsErr r × IsErrAnd r (λ e. e ≡ met) → IsErrOf r given → met ≡ given
+handed_on (Ok x) met given h e = absurd cc
+handed_on (Err x) met given h e = let same : x ≡ given = cc in sym h.1 ∙ same
 
 -- ---- a record that was found
 

@@ -42,6 +42,17 @@ impl From<OutOfMemory> for RunFault {
     }
 }
 
+impl From<AllocError> for RunFault {
+    ghost use Rattle.std.specs.Prelude.{◌≡◌};
+    ghost use Rattle.rubis_script.specs.declared.fault.RunFault.TheVariants.{Memory};
+
+    ghost from_gives = { λ _ fault. fault ≡ Memory };
+
+    fn from(_error: AllocError) -> RunFault {
+        RunFault::Memory
+    }
+}
+
 /// How many records were answered.
 #[derive(Clone, Copy, PartialEq, Eq, Debug)]
 pub struct Count {

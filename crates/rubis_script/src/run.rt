@@ -92,14 +92,14 @@ pub fn next_record<T, S: Service<T>, R: Read, W: Write>(
 {
     match records.advance() {
         Ok(true) => Ok(None),
-        Ok(false) => match finish(rt, service, sink, writer) {
-            Ok(()) => Ok(Some(Count { records: answered })),
-            Err(fault) => Err(fault),
-        },
-        Err(fault) => match settle(rt, service, sink, writer) {
-            Ok(()) => Err(fault),
-            Err(worse) => Err(worse),
-        },
+        Ok(false) => {
+            finish(rt, service, sink, writer)?;
+            Ok(Some(Count { records: answered }))
+        }
+        Err(fault) => {
+            settle(rt, service, sink, writer)?;
+            Err(fault)
+        }
     }
 }
 
@@ -121,14 +121,11 @@ pub fn stop<T, S: Service<T>, R: Read, W: Write>(
     ensures memory { IsErrOf result RunFault.Memory → InEachRun R.remaining records.old (S.account service.old (answered + 1)) (W.contents writer.old) sink.old (answered + 1) (λ all old input.
         WroteFront (all.text AtEnd) old (W.contents writer.new) (input_records input)) }
 {
-    match next_record(rt, records, service, sink, writer, answered) {
-        Ok(None) => match settle(rt, service, sink, writer) {
-            Ok(()) => Err(RunFault::TooLong),
-            Err(fault) => Err(fault),
-        },
-        Ok(Some(count)) => Ok(count),
-        Err(fault) => Err(fault),
-    }
+    let Some(count) = next_record(rt, records, service, sink, writer, answered)? else {
+        settle(rt, service, sink, writer)?;
+        return Err(RunFault::TooLong);
+    };
+    Ok(count)
 }
 
 /// Answers the record behind so many, if there is one. `None` where the run goes on, and else how many records were
@@ -152,24 +149,19 @@ fn turn<T, S: Answering<T>, R: Read, W: Write>(
         WroteFront (all.text AtEnd) old (W.contents writer.new) (input_records input)) }
     ensures faults { IfErr result (λ e. (e ≡ RunFault.Read) ⊎ (e ≡ RunFault.Write) ⊎ (e ≡ RunFault.Memory)) }
 {
-    match next_record(rt, records, service, sink, writer, answered) {
-        Ok(None) => {}
-        Ok(Some(count)) => return Ok(Some(count)),
-        Err(fault) => return Err(fault),
+    if let Some(count) = next_record(rt, records, service, sink, writer, answered)? {
+        return Ok(Some(count));
     }
     let number = answered + 1;
-    let Ok(course) = service.answer(rt, number, records.fields(), sink) else {
-        return Err(RunFault::Memory);
-    };
-    match course {
-        Course::Ends => match sink.close(writer) {
-            Ok(()) => Ok(Some(Count { records: number })),
-            Err(fault) => Err(fault),
-        },
-        Course::GoesOn => match write_out(rt, records, service, sink, writer) {
-            Ok(()) => Ok(None),
-            Err(fault) => Err(fault),
-        },
+    match service.answer(rt, number, records.fields(), sink)? {
+        Course::Ends => {
+            sink.close(writer)?;
+            Ok(Some(Count { records: number }))
+        }
+        Course::GoesOn => {
+            write_out(rt, records, service, sink, writer)?;
+            Ok(None)
+        }
     }
 }
 
@@ -192,10 +184,8 @@ fn serve<T, S: Answering<T>, R: Read, W: Write>(
         → WroteFront ((S.account service.old 1).text AtEnd) (W.contents writer.old) (W.contents writer.new) (input_records input) }
 {
     'turns: for n in 0..limit {
-        match turn(rt, records, service, sink, writer, n) {
-            Ok(None) => {}
-            Ok(Some(count)) => return Ok(count),
-            Err(fault) => return Err(fault),
+        if let Some(count) = turn(rt, records, service, sink, writer, n)? {
+            return Ok(count);
         }
     }
     stop(rt, records, service, sink, writer, limit)

@@ -42,18 +42,12 @@ fn turn<G: Gate, T: Threads + Wait + Sync, R: Read, W: Write>(
         WroteFront (all.text AtEnd) old (W.contents writer.new) (input_records input)) }
     ensures faults { IfErr result (λ e. (e ≡ RunFault.Read) ⊎ (e ≡ RunFault.Write) ⊎ (e ≡ RunFault.Memory)) }
 {
-    match next_record(rt, records, desk, sink, writer, answered) {
-        Ok(None) => {}
-        Ok(Some(count)) => return Ok(Some(count)),
-        Err(fault) => return Err(fault),
+    if let Some(count) = next_record(rt, records, desk, sink, writer, answered)? {
+        return Ok(Some(count));
     }
-    let Ok(()) = desk.respond(rt, answered + 1, records.fields(), sink) else {
-        return Err(RunFault::Memory);
-    };
-    match write_out(rt, records, desk, sink, writer) {
-        Ok(()) => Ok(None),
-        Err(fault) => Err(fault),
-    }
+    desk.respond(rt, answered + 1, records.fields(), sink)?;
+    write_out(rt, records, desk, sink, writer)?;
+    Ok(None)
 }
 
 // Answers records until there are no more, or up to `limit` of them.
@@ -75,10 +69,8 @@ fn serve<G: Gate, T: Threads + Wait + Sync, R: Read, W: Write>(
         → WroteFront ((told_by desk.old.site 1).text AtEnd) (W.contents writer.old) (W.contents writer.new) (input_records input) }
 {
     'turns: for n in 0..limit {
-        match turn(rt, records, desk, sink, writer, n) {
-            Ok(None) => {}
-            Ok(Some(count)) => return Ok(count),
-            Err(fault) => return Err(fault),
+        if let Some(count) = turn(rt, records, desk, sink, writer, n)? {
+            return Ok(count);
         }
     }
     stop(rt, records, desk, sink, writer, limit)
@@ -141,9 +133,7 @@ pub fn run_site_upto<G: Gate + Drop, T: Threads + Wait + Sync, R: Read + Drop, W
     ensures memory { IsErrOf result RunFault.Memory → IfSome (R.remaining reader) (λ input.
         WroteFront (λ records. rows_text (output_of (setup_place config.now) records)) (W.contents writer.old) (W.contents writer.new) (input_records input)) }
 {
-    let Ok(mut desk) = Desk::new(alloc, config, gate) else {
-        return Err(RunFault::Memory);
-    };
+    let mut desk = Desk::new(alloc, config, gate)?;
     run_desk(rt, alloc, reader, writer, &mut desk, limit)
 }
 

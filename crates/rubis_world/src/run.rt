@@ -38,18 +38,12 @@ fn turn<T: Threads + Wait + Sync, R: Read, W: Write>(
         WroteFront (all.text AtEnd) old (W.contents writer.new) (input_records input)) }
     ensures faults { IfErr result (λ e. (e ≡ RunFault.Read) ⊎ (e ≡ RunFault.Write) ⊎ (e ≡ RunFault.Memory)) }
 {
-    match next_record(rt, records, desk, sink, writer, answered) {
-        Ok(None) => {}
-        Ok(Some(count)) => return Ok(Some(count)),
-        Err(fault) => return Err(fault),
+    if let Some(count) = next_record(rt, records, desk, sink, writer, answered)? {
+        return Ok(Some(count));
     }
-    let Ok(()) = desk.respond(rt, answered + 1, records.fields(), sink) else {
-        return Err(RunFault::Memory);
-    };
-    match write_out(rt, records, desk, sink, writer) {
-        Ok(()) => Ok(None),
-        Err(fault) => Err(fault),
-    }
+    desk.respond(rt, answered + 1, records.fields(), sink)?;
+    write_out(rt, records, desk, sink, writer)?;
+    Ok(None)
 }
 
 // Answers records until there are no more, or up to `limit` of them.
@@ -71,10 +65,8 @@ fn serve<T: Threads + Wait + Sync, R: Read, W: Write>(
         → WroteFront ((told_by_world desk.old.world 1).text AtEnd) (W.contents writer.old) (W.contents writer.new) (input_records input) }
 {
     'turns: for n in 0..limit {
-        match turn(rt, records, desk, sink, writer, n) {
-            Ok(None) => {}
-            Ok(Some(count)) => return Ok(count),
-            Err(fault) => return Err(fault),
+        if let Some(count) = turn(rt, records, desk, sink, writer, n)? {
+            return Ok(count);
         }
     }
     stop(rt, records, desk, sink, writer, limit)
@@ -135,8 +127,6 @@ pub fn run_world<T: Threads + Wait + Sync, R: Read + Drop, W: Write>(
     ensures memory { IsErrOf result RunFault.Memory → IfSome (R.remaining reader) (λ input.
         WroteFront (λ records. rows_text (world_output_of config.now.sites config.now.keep records)) (W.contents writer.old) (W.contents writer.new) (input_records input)) }
 {
-    let Ok(mut desk) = WorldDesk::new(alloc, config) else {
-        return Err(RunFault::Memory);
-    };
+    let mut desk = WorldDesk::new(alloc, config)?;
     run_world_desk(rt, alloc, reader, writer, &mut desk, RECORDS_MAX)
 }

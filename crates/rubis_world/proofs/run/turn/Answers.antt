@@ -1,39 +1,39 @@
-use Rattle.std.proofs.Common.{◌≡◌, ◌+◌, ◌∙◌, ap, refl, arith}
+use Rattle.std.proofs.Common.{◌+◌, ◌∙◌, ap, refl, arith}
 use Rattle.rubis_world.specs.Running.{told_by_world}
 use Rattle.rubis_script.specs.declared.fault.RunFault.TheVariants as fault
 use Rattle.rubis_world.proofs.Answering.{world_goes}
-use Rattle.rubis_script.proofs.RunFacts.{if_none, if_some, progress-moved, progress-stays, progress-step}
+use Rattle.rubis_script.proofs.RunFacts.{handed_on, if_none, if_some, progress-moved, progress-stays, progress-step}
 use Rattle.rubis_world.proofs.run.turn.Goals as goal
 
-pub returns-in-Ok-Some-clause-goes : goal.returns-in-Ok-Some-clause-goes
-returns-in-Ok-Some-clause-goes g c all old input p =
-    let done = if_some _ c.in-Ok-Some.field-0 c.in-Ok-Some.count c.in-Ok-Some.ensures.done c.in-Ok-Some.field-0-is all old input p in
+pub returns-in-Some-clause-goes : goal.returns-in-Some-clause-goes
+returns-in-Some-clause-goes g c all old input p =
+    let done = if_some _ c.in_ok-count.field-0 c.in-Some.count c.in_ok-count.ensures.done c.in-Some.is all old input p in
     (done.0, done.1, omega (arith, done.2))
 
-pub returns-in_default-clause-memory : goal.returns-in_default-clause-memory
-returns-in_default-clause-memory g c e all old input p =
-    let same = if_none c.in-Ok-None.field-0 c.in-Ok-None.ensures.same c.in-Ok-None.field-0-is in
+pub returns-in_err-respond-clause-memory : goal.returns-in_err-respond-clause-memory
+returns-in_err-respond-clause-memory g c e all old input p =
+    let same = if_none c.in_ok-count.field-0 c.in_ok-count.ensures.same c.in_default.is in
     progress-stays _ _ all _ old _ _ _ _ input p (ap g.W.Write.contents same.2)
 
-pub returns-in-Ok-write_out-clause-goes : goal.returns-in-Ok-write_out-clause-goes
-returns-in-Ok-write_out-clause-goes g c all old input p =
+pub returns-clause-goes : goal.returns-clause-goes
+returns-clause-goes g c all old input p =
     let n = c.args.answered + 1 in
-    let same = if_none c.in-Ok-None.field-0 c.in-Ok-None.ensures.same c.in-Ok-None.field-0-is in
-    let found = if_none c.in-Ok-None.field-0 c.in-Ok-None.ensures.found c.in-Ok-None.field-0-is in
+    let same = if_none c.in_ok-count.field-0 c.in_ok-count.ensures.same c.in_default.is in
+    let found = if_none c.in_ok-count.field-0 c.in_ok-count.ensures.found c.in_default.is in
     let before = c.next_record.new.service.world in
     let after = c.respond.new.self.world in
     let moved = progress-moved _ c.args.records.now all _ (told_by_world before n) old _ (g.W.Write.contents c.next_record.new.writer) _ c.next_record.new.sink n input p
     (ap (λ s. told_by_world s.world n) same.0) (ap g.W.Write.contents same.2) same.1 in
-    let answered = rw (c.fields.ensures) at c.in-Ok.ensures in
-    c.in-Ok-write_out.ensures.goes all old (n + 1) input
+    let answered = rw (c.fields.ensures) at c.in_ok-respond.ensures in
+    c.in_ok-write_out.ensures.goes all old (n + 1) input
     (progress-step _ c.args.records.now c.next_record.new.records all _ (told_by_world after (n + 1)) old _ _ c.respond.new.sink n input moved found
     (λ more. (
       λ ending. world_goes before after n _ c.next_record.new.sink c.respond.new.sink answered more,
       omega arith,
     )))
 
-pub returns-in-Err-write_out-clause-memory : goal.returns-in-Err-write_out-clause-memory
-returns-in-Err-write_out-clause-memory g c e all old input p =
-    let same = if_none c.in-Ok-None.field-0 c.in-Ok-None.ensures.same c.in-Ok-None.field-0-is in
-    let memory : c.in-Err-write_out.fault ≡ fault.Memory = cc e in
-    progress-stays _ _ all _ old _ _ _ _ input p (c.in-Err-write_out.ensures.memory (rw memory refl) ∙ ap g.W.Write.contents same.2)
+pub returns-in_err-write_out-clause-memory : goal.returns-in_err-write_out-clause-memory
+returns-in_err-write_out-clause-memory g c e all old input p =
+    let same = if_none c.in_ok-count.field-0 c.in_ok-count.ensures.same c.in_default.is in
+    let memory = handed_on c.from_residual-in_err-write_out.result c.in_err-write_out.field-0.0 fault.Memory c.from_residual-in_err-write_out.ensures e in
+    progress-stays _ _ all _ old _ _ _ _ input p (c.in_err-write_out.ensures.memory (rw memory refl) ∙ ap g.W.Write.contents same.2)
