@@ -63,8 +63,8 @@ pub fn split(
     requires entries { first + length batch.now ≤ 1000001 }
     ensures { IfOk result (λ shares. AreShares shards first (cores batch.now) shares.items) }
 {
-    // Most messages have two parts.
-    let room = batch.len() / shards * 2;
+    // Most messages have two parts, and their homes are spread unevenly.
+    let room = batch.len() / shards * 3;
     let mut list = Vec::with_capacity(alloc, shards)?;
     for number in 0..shards {
         list.push(Share {
