@@ -15,22 +15,23 @@ use Rattle.rubis_message.specs.Message.{IsMessage, Message, sites_of}
 use Rattle.rubis_message.specs.declared.answers.Kind.{Kind}
 use Rattle.rubis_message.specs.declared.answers.Kind.TheVariants as kind
 use Rattle.rubis_generate.specs.Lookup.{row_by_key}
-use Rattle.rubis_model.specs.Checks.{Checked, Follows, has_id}
+use Rattle.rubis_model.specs.Checks.{Checked, Follows, has_id, nick_taken, stock_short, wrong_winner}
 use Rattle.rubis_model.specs.Log.{core, cores}
 use Rattle.rubis_model.specs.Meaning.{count}
 use Rattle.rubis_model.specs.Order.{Released}
 use Rattle.rubis_model.specs.Settle.{Has, Ready, counted, reds}
-use Rattle.rubis_model.specs.Verdict.{checks, clash, first_of, is_early, is_not_next, last_red, nick_taken, out_of_order, comes_before, red_gap, stock_short, wrong_reference, wrong_winner}
+use Rattle.rubis_model.specs.Verdict.{checks, clash, first_of, is_early, is_not_next, last_red, comes_before, red_gap, wrong_reference}
 use Rattle.rubis_model.proofs.CoreLists.{cores_push}
 use Rattle.rubis_model.proofs.Lists.{has_reverse, has_right, push_cases}
 use Rattle.rubis_model.proofs.Settling.{counted_reverse, reds_reverse, reverse_push}
+use Rattle.rubis_laws.proofs.EntryContent.{fits}
 use Rattle.rubis_laws.proofs.LogsChecked.{checked_end, count_reds, new_here, number_is}
+use Rattle.rubis_laws.proofs.Verdicts.{AreClean}
 use Rattle.rubis_release.specs.Release.{IsAmong, clock_of}
 use Rattle.rubis_audit.specs.Contents.{nick_taken_in, stock_short_in, wrong_reference_in, wrong_winner_in}
 use Rattle.rubis_audit.specs.Lookups.{by_message_id, by_red, clash_by_id, taken_by_red}
 use Rattle.rubis_audit.specs.Past.{IsFaultless, Shows, checks_by}
 use Rattle.rubis_audit.proofs.Finding.{by_id_push, by_red_push}
-use Rattle.rubis_audit.proofs.Fitting.{fits}
 use Rattle.rubis_audit.proofs.Knowing.{clash_is, found_number, gap_is, not_false, or_parts, order_is, within}
 use Rattle.rubis_audit.proofs.Showing.{nick_is, reference_is, stock_is, winner_is}
 
@@ -55,39 +56,15 @@ checks_are sites site t others own v k s a f =
         ∙ ap (λ b. content b (nick_taken_in (row_by_key t) v.shadow) (stock_short_in (row_by_key t) v.shadow) (wrong_winner_in (row_by_key t) v.shadow)) (sym (reference_is t own v s))
 
 -- ---- where none finds a fault
-pub record Faultless (others : List Message) (site : ℕ) (own : List Message) (v : Message) : Type 0 where
-  pub clash : clash others own v ≡ false
-  pub order : out_of_order site own v ≡ false
-  pub gap : red_gap others own v ≡ false
-  pub refers : wrong_reference own v ≡ false
-  pub nick : nick_taken (cores own) v.shadow ≡ false
-  pub stock : stock_short (cores own) v.shadow ≡ false
-  pub winner : wrong_winner (cores own) v.shadow ≡ false
-
-cut : (a : Bool) (k : Kind) (r : Option Kind) → cond a (Some k) r ≡ None → (a ≡ false) × (r ≡ None)
-cut true k r e = absurd cc
-cut false k r e = (refl, e)
-
-pub faultless : (others : List Message) (site : ℕ) (own : List Message) (v : Message) → first_of (checks others site own v) ≡ None → Faultless others site own v
-faultless others site own v e =
-    let a = cut (clash others own v) kind.Clash _ e in
-    let b = cut (out_of_order site own v) kind.Order _ a.1 in
-    let c = cut (red_gap others own v) kind.RedGap _ b.1 in
-    let d = cut (wrong_reference own v) kind.Refers _ c.1 in
-    let n = cut (nick_taken (cores own) v.shadow) kind.Nick _ d.1 in
-    let s = cut (stock_short (cores own) v.shadow) kind.Stock _ n.1 in
-    let w = cut (wrong_winner (cores own) v.shadow) kind.Winner None s.1 in
-    record { clash = a.0; order = b.0; gap = c.0; refers = d.0; nick = n.0; stock = s.0; winner = w.0 }
-
 next_red : (own : List Message) (b rest : Bool) (n : ℕ) → b ≡ true → (b && (not (n == reds own + 1) || rest)) ≡ false → n ≡ reds own + 1
 next_red own true rest n e h = (Decides-eqb n (reds own + 1)).0 (not_false _ (or_parts _ _ h).0)
 next_red own false rest n e h = absurd (true≢false (sym e))
 
-pub ready : (others : List Message) (site : ℕ) (own : List Message) (v : Message) → IsMessage v → Faultless others site own v → Ready (reverse own) v
+pub ready : (others : List Message) (site : ℕ) (own : List Message) (v : Message) → IsMessage v → AreClean others site own v → Ready (reverse own) v
 ready others site own v f l = record {
   next = (Decides-eqb v.stamp.id.seq (counted v.stamp.id.site own + 1)).0 (not_false _ first) ∙ ap (λ n. n + 1) (sym (counted_reverse v.stamp.id.site own));
   released = λ j n. let w = within own v f first second j in let c = counted_reverse j own in omega (arith, w, c);
-  number = λ p. next_red own (is_red v.shadow) _ v.stamp.red (f.colour ∙ positive v.stamp.red p) l.gap ∙ ap (λ n. n + 1) (sym (reds_reverse own));
+  number = λ p. next_red own (is_red v.shadow) _ v.stamp.red (f.colour ∙ positive v.stamp.red p) l.red_gap ∙ ap (λ n. n + 1) (sym (reds_reverse own));
 }
   where
     first : is_not_next own v ≡ false
@@ -99,11 +76,11 @@ ready others site own v f l = record {
     positive : (n : ℕ) → 0 < n → nat_lt 0 n ≡ true
     positive n p = grind (arith, nat_tests)
 
-pub follows : (others : List Message) (site : ℕ) (own : List Message) (v : Message) → IsFaultless others own → IsMessage v → Faultless others site own v → Follows (cores own) (core v)
+pub follows : (others : List Message) (site : ℕ) (own : List Message) (v : Message) → IsFaultless others own → IsMessage v → AreClean others site own v → Follows (cores own) (core v)
 follows others site own v k f l = record {
   new_id = subst (λ xs. new xs) (reverse-reverse own) (new_here (reverse own) v k.released r);
   next_red = number_is v.stamp.red (count is_red (cores own)) (is_red v.shadow) f.colour (λ p. r.number p ∙ ap (λ n. n + 1) same);
-  fits = fits own v l.refers l.nick l.stock l.winner;
+  fits = (fits own v v.shadow l.content).0;
   limits = (sites_of v, f.shadow);
 }
   where
@@ -145,7 +122,7 @@ new_red all v one c e = by_red_push v.stamp.red all v ∙ at (by_red v.stamp.red
         let h : by_message_id v.stamp.id all ≡ Some u = ap (λ (j : Id). by_message_id j all) (sym i) ∙ one u f.0 in
         ap Some ((Decides-same_message u v).0 (not_false _ (sym (ap (λ o. option_map_or (λ w. not (same_message w v)) o false) h) ∙ c)))
 
-pub known_push : (others : List Message) (site : ℕ) (own : List Message) (v : Message) → IsFaultless others own → IsMessage v → Faultless others site own v
+pub known_push : (others : List Message) (site : ℕ) (own : List Message) (v : Message) → IsFaultless others own → IsMessage v → AreClean others site own v
     → IsFaultless others (own ++ v ∷ [])
 known_push others site own v k f l = record {
   formed = λ m h. ⊎_elim (λ a. k.formed m a) (λ e. subst IsMessage (sym e) f) (split m h);
@@ -166,7 +143,7 @@ known_push others site own v k f l = record {
     clear = sym (clash_is others own v k) ∙ l.clash
 
     free : 0 < v.stamp.red → taken_by_red (others ++ own) v ≡ false
-    free p = parts (is_red v.shadow) (not (v.stamp.red == reds own + 1)) (taken_by_red (others ++ own) v) (option_map_or (λ u. not (comes_before u v)) (last_red own) false) (f.colour ∙ positive v.stamp.red p) (sym (gap_is others own v k) ∙ l.gap)
+    free p = parts (is_red v.shadow) (not (v.stamp.red == reds own + 1)) (taken_by_red (others ++ own) v) (option_map_or (λ u. not (comes_before u v)) (last_red own) false) (f.colour ∙ positive v.stamp.red p) (sym (gap_is others own v k) ∙ l.red_gap)
       where
         positive : (n : ℕ) → 0 < n → nat_lt 0 n ≡ true
         positive n p = grind (arith, nat_tests)

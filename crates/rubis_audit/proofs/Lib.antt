@@ -3,7 +3,6 @@ pub mod Comparing
 pub mod Finding
 pub mod Showing
 pub mod Knowing
-pub mod Fitting
 pub mod Judging
 pub mod Walking
 pub mod LineFacts

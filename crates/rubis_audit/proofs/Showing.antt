@@ -20,9 +20,10 @@ use Rattle.rubis_shadow.specs.declared.shadows.Shadow.{Shadow}
 use Rattle.rubis_shadow.specs.declared.shadows.Shadow.TheVariants.{User, Item, Bid, Buy, Close, Comment}
 use Rattle.rubis_generate.specs.Lookup.{as_item_row, is_ended, item_in, row_by_key}
 use Rattle.rubis_message.specs.Message.{Message, dep}
+use Rattle.rubis_model.specs.Checks.{nick_taken, stock_short, wrong_category, wrong_winner}
 use Rattle.rubis_model.specs.Log.{Core, core, cores}
 use Rattle.rubis_model.specs.Meaning.{as_bid, as_item, as_user, at_id, best_bid, best_of, close_of, item_at, item_row, meaning_row, named, nick_at, sale_after, sold_of, supply, total, when}
-use Rattle.rubis_model.specs.Verdict.{is_known, nick_taken, comes_before, stock_short, wrong_category, wrong_reference, wrong_winner}
+use Rattle.rubis_model.specs.Verdict.{is_known, comes_before, wrong_reference}
 use Rattle.rubis_audit.specs.Contents.{closed_in, known_in, nick_taken_in, outbid_in, stock_short_in, wrong_category_in, wrong_reference_in, wrong_winner_in}
 use Rattle.rubis_audit.specs.Past.{Shows}
 

@@ -26,6 +26,7 @@ use Rattle.rubis_model.proofs.Settling.{counted_reverse, reds_reverse, reverse_p
 use Rattle.rubis_laws.proofs.FoldIsMeaning.{fold_is_meaning}
 use Rattle.rubis_laws.proofs.Invariants.{checked_holds}
 use Rattle.rubis_laws.proofs.Lengths.{log_small}
+use Rattle.rubis_laws.proofs.Verdicts.{clean}
 use Rattle.rubis_shard.specs.Holdings.{HoldsLog, TakesOn, union}
 use Rattle.rubis_shard.specs.States.{ShardState}
 use Rattle.rubis_shard.proofs.Unions.{union_of_log}
@@ -35,7 +36,7 @@ use Rattle.rubis_audit.specs.Past.{IsFaultless, Remembers, Shows, checks_by}
 use Rattle.rubis_audit.specs.Seen.{Sees}
 use Rattle.rubis_audit.specs.Walks.{HaveMessagesAmong, IsWalked, Walked, messages_of_logs}
 use Rattle.rubis_audit.specs.declared.seen.Seen.{Seen}
-use Rattle.rubis_audit.proofs.Judging.{checks_are, faultless, known_log, known_none, known_push, ready}
+use Rattle.rubis_audit.proofs.Judging.{checks_are, known_log, known_none, known_push, ready}
 
 -- ---- what stands before an entry
 
@@ -71,7 +72,7 @@ ready_forth own v r = record {
 pub ready_now : (sites site : ℕ) (seen : Seen) (clock : MessageCounts) (last : Option Message) (shards : List ShardState) (others own : List Message) (v : Message)
     → Remembers sites seen clock last shards others own → IsAmong sites v → IsMessage v → first_of (checks others site own v) ≡ None → IsReady clock v.stamp
 ready_now sites site seen clock last shards others own v s a f e =
-    subst (λ k. IsReady k v.stamp) (sym s.clock_is) (ready_by_clock sites own v a (ready_forth own v (ready others site own v f (faultless others site own v e))))
+    subst (λ k. IsReady k v.stamp) (sym s.clock_is) (ready_by_clock sites own v a (ready_forth own v (ready others site own v f (clean others site own v e))))
 
 last_push : (own : List Message) (v : Message) → last_red (own ++ v ∷ []) ≡ cond (is_red v.shadow) (Some v) (last_red own)
 last_push own v = ap (find (λ u. is_red u.shadow)) (reverse_push own v)
@@ -82,7 +83,7 @@ stands_push : (sites site : ℕ) (seen after : Seen) (clock clock2 : MessageCoun
     → TakesOn (core v) (length own + 1) shards shards2
     → Remembers sites after clock2 last2 shards2 others (own ++ v ∷ [])
 stands_push sites site seen after clock clock2 last last2 shards shards2 others own v s a f e more next red takes = record {
-  known = known_push others site own v s.known f (faultless others site own v e);
+  known = known_push others site own v s.known f (clean others site own v e);
   sees = subst (Sees after) (append_assoc others own (v ∷ [])) (more (others ++ own) s.sees);
   clock_is = next ∙ ap (λ k. advanced k v.stamp) s.clock_is ∙ clock_more sites own v a.id.site;
   last_is = red ∙ ap (cond (is_red v.shadow) (Some v)) s.last_is ∙ sym (last_push own v);

@@ -1,13 +1,11 @@
 -- Worked examples, computed on the definitions.
-use Rattle.std.proofs.Common.{ℕ, ◌≡◌, List, [], ◌∷◌, true, false, refl, Option, Some, None}
+use Rattle.std.proofs.Common.{ℕ, ◌≡◌, [], true, false, refl, Some, None}
 use Rattle.std.specs.Prelude.{pos, codes, Ok, Err, cond}
 use Rattle.rubis_schema.specs.Keys.{same_id}
 use Rattle.rubis_schema.specs.declared.ids.Id.{Id}
-use Rattle.rubis_schema.specs.declared.refusals.Refusal.TheVariants.{Full, NoToken, RedBehind, NickTaken, NoUser, NoItem, Closed, LowBid, StockShort, NotSeller, OwnItem, NoBuyNow, SelfComment}
-use Rattle.rubis_schema.specs.declared.row_keys.RowKey.{RowKey}
+use Rattle.rubis_schema.specs.declared.refusals.Refusal.TheVariants.{Full, NoToken, RedBehind, NickTaken, NoUser, NoItem, Closed, LowBid, NotSeller, OwnItem, NoBuyNow, SelfComment}
 use Rattle.rubis_schema.specs.declared.row_keys.RowKey.TheVariants as key
 use Rattle.rubis_schema.specs.declared.rows.ItemRow.{ItemRow}
-use Rattle.rubis_schema.specs.declared.rows.Row.{Row}
 use Rattle.rubis_schema.specs.declared.rows.Row.TheVariants as row
 use Rattle.rubis_schema.specs.declared.rows.Sale.{Sale}
 use Rattle.rubis_schema.specs.declared.rows.Sale.TheVariants.{Open, Ended}

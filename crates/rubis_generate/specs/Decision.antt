@@ -1,5 +1,5 @@
 -- The answer to an ask: the first of its refusals that holds, in their order, or its shadow.
-use Rattle.std.specs.Prelude.{ℕ, Bool, true, false, cond, not, nat_eq, nat_lt, List, [], ◌∷◌, Option, Some, None, Result, Ok, Err, is_some, is_none, option_map, option_and_then, find}
+use Rattle.std.specs.Prelude.{Bool, false, not, nat_eq, nat_lt, List, [], ◌∷◌, Option, Some, None, Result, Ok, Err, is_some, is_none, option_map, option_and_then, find}
 use Rattle.std.specs.Option.{option_map_or}
 use Rattle.std.specs.List.{list_any}
 use Rattle.rubis_schema.specs.Keys.{same_id}

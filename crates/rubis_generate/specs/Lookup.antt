@@ -1,6 +1,5 @@
 -- What decisions look up in the tables.
-use Rattle.std.specs.Prelude.{Bool, true, false, not, Option, Some, None, is_some, is_none, option_and_then}
-use Rattle.std.specs.Option.{option_map_or}
+use Rattle.std.specs.Prelude.{Bool, true, false, Option, Some, None, option_and_then}
 use Rattle.std.specs.FinMap as map
 use Rattle.rubis_schema.specs.Tables.{Tables}
 use Rattle.rubis_schema.specs.declared.ids.Id.{Id}

@@ -3,20 +3,22 @@ use Rattle.std.proofs.Common.{ℕ, ◌≡◌, ◌+◌, ◌^◌, ◌≤◌, ◌<�
 use Rattle.std.specs.Prelude.{reverse, IfSome}
 use Rattle.std.proofs.lemmas.Bool.{ltb-true}
 use Rattle.std.proofs.lemmas.List.{reverse-reverse}
+use Rattle.std.proofs.lemmas.List.Elements.{All-weaker}
 use Rattle.rubis_schema.specs.declared.ids.Id.{Id}
 use Rattle.rubis_schema.specs.declared.row_keys.RowKey.TheVariants as key
+use Rattle.rubis_shadow.specs.Parts.{refers_of}
 use Rattle.rubis_shadow.specs.Shadows.{is_red}
 use Rattle.rubis_shadow.specs.declared.shadows.Shadow.{Shadow}
-use Rattle.rubis_shadow.specs.declared.shadows.Shadow.TheVariants.{User, Item, Bid, Buy, Close, Comment}
+use Rattle.rubis_shadow.specs.declared.shadows.Shadow.TheVariants.{Close}
 use Rattle.rubis_message.specs.Message.{Message, IsMessage, sites_of}
 use Rattle.rubis_schema.specs.Tables.{Tables}
 use Rattle.rubis_schema.specs.declared.listings.Listing.TheVariants as listing
 use Rattle.rubis_model.specs.Log.{core, cores, fold_of}
-use Rattle.rubis_model.specs.Meaning.{IsMeaning, count}
+use Rattle.rubis_model.specs.Meaning.{IsMeaning, bids_on, count}
 use Rattle.rubis_model.specs.Checks.{Checked}
 use Rattle.rubis_model.specs.Settle.{Has}
 use Rattle.rubis_model.specs.Order.{Precedes, Released}
-use Rattle.rubis_model.specs.References.{Referred, RefersToPast}
+use Rattle.rubis_model.specs.References.{HasBidOnItem, IsMadeBy, Preceded, RefersToPast}
 use Rattle.rubis_model.specs.System.{World, site}
 use Rattle.rubis_model.specs.Sound.{Sound}
 use Rattle.rubis_model.specs.Laws.{Sent, IsLogOf}
@@ -62,24 +64,24 @@ checked_from i (v ∷ past) c h f =
     }))
 
 -- ---- references, among more messages
-refer_more : (all wide : Message → Type 0) (v : Message) (kind : Message → Type 0) (i : Id) → ((m : Message) → all m → Precedes m v → wide m)
-    → Referred all v kind i → Referred wide v kind i
-refer_more all wide v kind i f r = (r.0, f r.0 r.1 r.4, r.2, r.3, r.4)
+more_precede : (all wide : Message → Type 0) (v : Message) → ((m : Message) → all m → Precedes m v → wide m) → (kind : Message → Type 0)
+    → Preceded all v kind → Preceded wide v kind
+more_precede all wide v f kind r = (r.0, f r.0 r.1 r.3, r.2, r.3)
 
-if_more : (all wide : Message → Type 0) (v : Message) (kind : Message → Type 0) (o : Option Id) → ((m : Message) → all m → Precedes m v → wide m)
-    → IfSome o (Referred all v kind) → IfSome o (Referred wide v kind)
-if_more all wide v kind None f r = tt
-if_more all wide v kind (Some i) f r = refer_more all wide v kind i f r
+winner_more : (all wide : Message → Type 0) (v : Message) → ((m : Message) → all m → Precedes m v → wide m) → (x : Shadow) → HasBidOnItem all v x
+    → HasBidOnItem wide v x
+winner_more all wide v f (Close c) r = at c.winner r
+  where
+    at : (o : Option Id) → IfSome o (λ i. Preceded all v (λ m. (i ≡ m.stamp.id) × (bids_on c.item m.shadow ≡ true)))
+        → IfSome o (λ i. Preceded wide v (λ m. (i ≡ m.stamp.id) × (bids_on c.item m.shadow ≡ true)))
+    at None r = tt
+    at (Some i) r = more_precede all wide v f _ r
+winner_more all wide v f x r = tt
 
 pub refers_more : (all wide : Message → Type 0) (v : Message) → ((m : Message) → all m → Precedes m v → wide m) → (x : Shadow) → RefersToPast all v x
     → RefersToPast wide v x
-refers_more all wide v f (User n) r = tt
-refers_more all wide v f (Item n) r = refer_more all wide v _ n.seller f r
-refers_more all wide v f (Bid b) r = (refer_more all wide v _ b.item f r.0, refer_more all wide v _ b.bidder f r.1)
-refers_more all wide v f (Buy p) r = (refer_more all wide v _ p.item f r.0, refer_more all wide v _ p.buyer f r.1)
-refers_more all wide v f (Close c) r = (refer_more all wide v _ c.item f r.0, if_more all wide v _ c.winner f r.1)
-refers_more all wide v f (Comment c) r =
-    (refer_more all wide v _ c.item f r.0, refer_more all wide v _ c.from f r.1, refer_more all wide v _ c.to f r.2)
+refers_more all wide v f x r =
+    (All-weaker (λ k. Preceded all v (IsMadeBy k)) (λ k. Preceded wide v (IsMadeBy k)) (λ k. more_precede all wide v f (IsMadeBy k)) (refers_of x) r.0, winner_more all wide v f x r.1)
 
 refers_in : (past : List Message) → AllFitting past → (v : Message) → Has v past → RefersToPast (λ u. Has u past) v v.shadow
 refers_in [] h v k = absurd k

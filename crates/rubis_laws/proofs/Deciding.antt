@@ -1,22 +1,19 @@
 -- What is decided at a site of a sound world fits there, and is within the limits.
-use Rattle.std.proofs.Common.{ℕ, ◌≡◌, ◌+◌, ◌≤◌, ◌<◌, ◌^◌, List, [], ◌∷◌, length, Bool, true, false, refl, sym, ap, ◌∙◌, subst, arith, Option, Some, None}
-use Rattle.std.specs.Prelude.{reverse, nat_lt, nat_le, not, Ok, option_map, IfSome}
+use Rattle.std.proofs.Common.{ℕ, ◌≡◌, ◌+◌, ◌≤◌, ◌<◌, ◌^◌, List, [], ◌∷◌, length, false, refl, sym, ap, ◌∙◌, subst, arith, Option, Some, None}
+use Rattle.std.specs.Prelude.{reverse, nat_lt, nat_le, Ok, option_map, IfSome}
 use Rattle.std.proofs.lemmas.Bool.Decides.{nat_tests}
 use Rattle.std.proofs.lemmas.List.{reverse-reverse}
-use mathlib.Core.Bool.{true≢false}
 use Rattle.rubis_schema.specs.Ids.{IsId}
 use Rattle.rubis_schema.specs.declared.ids.Id.{Id}
 use Rattle.rubis_shadow.specs.Limits.{IsAsk, InLimits}
 use Rattle.rubis_shadow.specs.Shadows.{is_red}
 use Rattle.rubis_shadow.specs.declared.asks.Ask.{Ask}
-use Rattle.rubis_shadow.specs.declared.asks.Ask.TheVariants.{User, Item, Bid, Buy, Close, Comment}
 use Rattle.rubis_shadow.specs.declared.shadows.NewItem.{NewItem}
 use Rattle.rubis_shadow.specs.declared.shadows.Shadow.{Shadow}
 use Rattle.rubis_shadow.specs.declared.shadows.Shadow.TheVariants as shadow
 use Rattle.rubis_message.specs.Message.{Message}
-use Rattle.rubis_generate.specs.Lookup.{Rows}
-use Rattle.rubis_generate.specs.Decision.{decision, is_due, order_of, shadow_of}
-use Rattle.rubis_generate.specs.declared.standing.Standing.{Standing}
+use Rattle.rubis_generate.specs.Decision.{closing, decision, shadow_of}
+use Rattle.rubis_generate.proofs.Granted.{granted, not_full, shadow_limits}
 use Rattle.rubis_model.specs.Log.{Core, cores}
 use Rattle.rubis_model.specs.Meaning.{as_item, item_at, best_bid, bids_on, higher}
 use Rattle.rubis_model.specs.Checks.{Fits, IsLimited}
@@ -26,10 +23,11 @@ use Rattle.rubis_model.specs.Order.{Decided}
 use Rattle.rubis_model.specs.System.{World, site, place}
 use Rattle.rubis_model.specs.Sound.{Sound}
 use Rattle.rubis_model.specs.Laws.{Sent}
+use Rattle.rubis_laws.proofs.FitsByKind.{by_kind}
 use Rattle.rubis_laws.proofs.Choices.{IsChoice, choose_is, higher_ranks}
 use Rattle.rubis_laws.proofs.FoldIsMeaning.{fold_is_meaning}
 use Rattle.rubis_laws.proofs.Invariants.{checked_holds}
-use Rattle.rubis_laws.proofs.Decisions.{NoneHolds, not_refused, decided_fits}
+use Rattle.rubis_laws.proofs.Decisions.{decided_fits}
 use Rattle.rubis_model.proofs.Pasts.{seq_within}
 use Rattle.rubis_model.proofs.Settling.{counted_reverse}
 use Rattle.rubis_laws.proofs.RunsInOrder.{foundation}
@@ -38,36 +36,6 @@ use Rattle.rubis_laws.proofs.Cores.{core_of}
 use Rattle.rubis_model.proofs.CoreLists.{cores_length}
 use Rattle.rubis_laws.proofs.LogsChecked.{log_checked}
 use Rattle.rubis_model.proofs.Lists.{has_back}
-
--- ---- what an answer that isn't a refusal says
-pub allowed : (t : Rows) (s : Standing) (ask : Ask) (x : Shadow) → decision t s ask ≡ Ok x
-    → NoneHolds (is_due t s ask) (order_of ask) × (shadow_of t ask ≡ x)
-allowed t s ask x e = not_refused (is_due t s ask) (order_of ask) (shadow_of t ask) x e
-
-pub not_full : (t : Rows) (s : Standing) (ask : Ask) (x : Shadow) → decision t s ask ≡ Ok x → s.full ≡ false
-not_full t s (User n) x e = (allowed t s (User n) x e).0.0
-not_full t s (Item n) x e = (allowed t s (Item n) x e).0.0
-not_full t s (Bid n) x e = (allowed t s (Bid n) x e).0.0
-not_full t s (Buy n) x e = (allowed t s (Buy n) x e).0.0
-not_full t s (Close n) x e = (allowed t s (Close n) x e).0.0
-not_full t s (Comment n) x e = (allowed t s (Comment n) x e).0.0
-
-is_not : (b : Bool) → not b ≡ false → b ≡ true
-is_not true e = refl
-is_not false e = absurd (true≢false e)
-
-blue : (x y : Shadow) → is_red x ≡ false → x ≡ y → is_red y ≡ true → ⊥
-blue x y e p f = true≢false (sym f ∙ ap is_red (sym p) ∙ e)
-
--- a red shadow is made only where the site holds the token, and is up to date
-pub red_allowed : (t : Rows) (s : Standing) (ask : Ask) (x : Shadow) → decision t s ask ≡ Ok x → is_red x ≡ true
-    → (s.holds ≡ true) × (s.current ≡ true)
-red_allowed t s (User n) x e r = let w = allowed t s (User n) x e in (is_not s.holds w.0.1.0, is_not s.current w.0.1.1.0)
-red_allowed t s (Item n) x e r = absurd (blue (shadow_of t (Item n)) x refl (allowed t s (Item n) x e).1 r)
-red_allowed t s (Bid n) x e r = let w = allowed t s (Bid n) x e in (is_not s.holds w.0.1.0, is_not s.current w.0.1.1.0)
-red_allowed t s (Buy n) x e r = let w = allowed t s (Buy n) x e in (is_not s.holds w.0.1.0, is_not s.current w.0.1.1.0)
-red_allowed t s (Close n) x e r = let w = allowed t s (Close n) x e in (is_not s.holds w.0.1.0, is_not s.current w.0.1.1.0)
-red_allowed t s (Comment n) x e r = absurd (blue (shadow_of t (Comment n)) x refl (allowed t s (Comment n) x e).1 r)
 
 -- ---- limits
 item_limit : (x : Shadow) (n : NewItem) → as_item x ≡ Some n → IsLimited x → n.cat < 1000
@@ -137,15 +105,11 @@ module _ (keep : ℕ) (few : keep ≤ 1000000) (w : World) (i : ℕ) (s : Sound 
   pub in_limits : (ask : Ask) (x : Shadow) → IsAsk (length w.sites) ask → decision (rows_at (site w i).log) (standing_of keep (site w i)) ask ≡ Ok x
       → InLimits (length w.sites) x
   unfolding Allows
-  in_limits (User n) x l e = subst (InLimits (length w.sites)) (allowed (rows_at (site w i).log) (standing_of keep (site w i)) (User n) x e).1 l
-  in_limits (Item n) x l e = subst (InLimits (length w.sites)) (allowed (rows_at (site w i).log) (standing_of keep (site w i)) (Item n) x e).1 l
-  in_limits (Bid n) x l e = subst (InLimits (length w.sites)) (allowed (rows_at (site w i).log) (standing_of keep (site w i)) (Bid n) x e).1 l
-  in_limits (Buy n) x l e = subst (InLimits (length w.sites)) (allowed (rows_at (site w i).log) (standing_of keep (site w i)) (Buy n) x e).1 l
-  in_limits (Comment n) x l e = subst (InLimits (length w.sites)) (allowed (rows_at (site w i).log) (standing_of keep (site w i)) (Comment n) x e).1 l
-  in_limits (Close c) x l e =
-      let p = (allowed (rows_at (site w i).log) (standing_of keep (site w i)) (Close c) x e).1 in
-      let f = subst (Fits (cores (site w i).log)) (sym p) (fitting (Close c) x e) in
-      subst (InLimits (length w.sites)) p (l.0, cat_small w i c.item _ s f.0, subst (λ o. IfSome o (IsId (length w.sites))) (sym f.2) (bid_id w i c.item s (short (Close c) x e)))
+  in_limits ask x l e =
+      let p = (granted (rows_at (site w i).log) (standing_of keep (site w i)) ask x e).1 in
+      subst (InLimits (length w.sites)) p (shadow_limits (length w.sites) (rows_at (site w i).log) ask l (λ c same asks.
+      let f = by_kind (cores (site w i).log) (closing (rows_at (site w i).log) c.item) (subst (λ a. Fits (cores (site w i).log) (shadow_of (rows_at (site w i).log) a)) same (subst (Fits (cores (site w i).log)) (sym p) (fitting ask x e))) in
+      (asks.0, cat_small w i c.item _ s f.0, subst (λ o. IfSome o (IsId (length w.sites))) (sym f.2) (bid_id w i c.item s (short ask x e)))))
 
   pub decided : (ask : Ask) (x : Shadow) → IsAsk (length w.sites) ask → decision (rows_at (site w i).log) (standing_of keep (site w i)) ask ≡ Ok x
       → is_red x ≡ nat_lt 0 (red_for x (site w i).held)

@@ -19,6 +19,7 @@ use Rattle.rubis_shadow.specs.declared.asks.Ask.{Ask}
 use Rattle.rubis_shadow.specs.declared.asks.Ask.TheVariants.{User, Item, Bid, Buy, Close, Comment}
 use Rattle.rubis_model.specs.Meaning.{user_at, nick_at, item_at, user_row, item_row, meaning_row, close_of, best_bid, best_of, sale_after, named, total, sold_of, supply}
 use Rattle.rubis_model.specs.Checks.{Fits}
+use Rattle.rubis_laws.proofs.FitsByKind.{FitsByKind, from_kind}
 use Rattle.rubis_generate.specs.Lookup.{Rows, user_in, item_in, is_ended, as_item_row, as_user_row}
 use Rattle.rubis_generate.specs.Decision.{decision, is_due, order_of, shadow_of, refused_or, of_item}
 use Rattle.rubis_model.specs.Invariants.{Holds}
@@ -106,31 +107,34 @@ module _ (t : Rows) (a : List Core) (rows : (q : RowKey) → t q ≡ meaning_row
   winner_is None = refl
   winner_is (Some m) = refl
 
-  pub decided_fits : (s : Standing) (ask : Ask) (x : Shadow) → Holds a → decision t s ask ≡ Ok x → Fits a x
-  decided_fits s (User n) x h e =
+  decided_by_kind : (s : Standing) (ask : Ask) (x : Shadow) → Holds a → decision t s ask ≡ Ok x → FitsByKind a x
+  decided_by_kind s (User n) x h e =
       let w = not_refused (is_due t s (User n)) (order_of (User n)) (shadow_of t (User n)) x e in
-      subst (Fits a) w.1 (nick_free n w.0.1.1.1.0)
-  decided_fits s (Item n) x h e =
+      subst (FitsByKind a) w.1 (nick_free n w.0.1.1.1.0)
+  decided_by_kind s (Item n) x h e =
       let w = not_refused (is_due t s (Item n)) (order_of (Item n)) (shadow_of t (Item n)) x e in
-      subst (Fits a) w.1 (user_there n.seller (only _ w.0.1.0))
-  decided_fits s (Bid b) x h e =
+      subst (FitsByKind a) w.1 (user_there n.seller (only _ w.0.1.0))
+  decided_by_kind s (Bid b) x h e =
       let w = not_refused (is_due t s (Bid b)) (order_of (Bid b)) (shadow_of t (Bid b)) x e in
       let n = item_there b.item w.0.1.1.1.0 in
-      subst (Fits a) w.1 (ap is_some n.1, user_there b.bidder (only _ w.0.1.1.1.1.0), shut b.item n.0 n.1 w.0.1.1.1.1.1.0)
-  decided_fits s (Buy p) x h e =
+      subst (FitsByKind a) w.1 (ap is_some n.1, user_there b.bidder (only _ w.0.1.1.1.1.0), shut b.item n.0 n.1 w.0.1.1.1.1.1.0)
+  decided_by_kind s (Buy p) x h e =
       let w = not_refused (is_due t s (Buy p)) (order_of (Buy p)) (shadow_of t (Buy p)) x e in
       let n = item_there p.item w.0.1.1.1.0 in
-      subst (Fits a) w.1 (ap is_some n.1, user_there p.buyer (only _ w.0.1.1.1.1.0), shut p.item n.0 n.1 w.0.1.1.1.1.1.0, enough h p.item n.0 p.quantity n.1 w.0.1.1.1.1.1.1.1.1.0)
-  decided_fits s (Close c) x h e =
+      subst (FitsByKind a) w.1 (ap is_some n.1, user_there p.buyer (only _ w.0.1.1.1.1.0), shut p.item n.0 n.1 w.0.1.1.1.1.1.0, enough h p.item n.0 p.quantity n.1 w.0.1.1.1.1.1.1.1.1.0)
+  decided_by_kind s (Close c) x h e =
       let w = not_refused (is_due t s (Close c)) (order_of (Close c)) (shadow_of t (Close c)) x e in
       let n = item_there c.item w.0.1.1.1.0 in
-      subst (Fits a) w.1 (
+      subst (FitsByKind a) w.1 (
         ap (option_map (λ (n : NewItem). n.cat)) n.1 ∙ ap Some (sym (ap (λ o. option_map_or (λ (r : ItemRow). r.cat) o 0) (item_is c.item n.0 n.1))),
         shut c.item n.0 n.1 w.0.1.1.1.1.1.0,
         ap (λ o. option_and_then (λ (r : ItemRow). option_map (λ (b : Best). b.bid) r.best) o) (item_is c.item n.0 n.1) ∙ winner_is (best_bid c.item a),
       )
-  decided_fits s (Comment c) x h e =
+  decided_by_kind s (Comment c) x h e =
       let w = not_refused (is_due t s (Comment c)) (order_of (Comment c)) (shadow_of t (Comment c)) x e in
       let n = item_there c.item w.0.1.0 in
       let u = neither _ _ w.0.1.1.0 in
-      subst (Fits a) w.1 (ap is_some n.1, user_there c.from u.0, user_there c.to u.1)
+      subst (FitsByKind a) w.1 (ap is_some n.1, user_there c.from u.0, user_there c.to u.1)
+
+  pub decided_fits : (s : Standing) (ask : Ask) (x : Shadow) → Holds a → decision t s ask ≡ Ok x → Fits a x
+  decided_fits s ask x h e = from_kind a x (decided_by_kind s ask x h e)

@@ -1,5 +1,5 @@
 -- Checked logs with the same set fold to the same tables.
-use Rattle.std.proofs.Common.{ℕ, ◌≡◌, ◌+◌, ◌^◌, ◌≤◌, ◌<◌, List, [], ◌∷◌, ◌++◌, length, Bool, true, false, cond, refl, sym, ap, ◌∙◌, subst, arith, Option, Some, None, inl, inr, ⊎_elim, append_assoc}
+use Rattle.std.proofs.Common.{ℕ, ◌≡◌, ◌+◌, ◌^◌, ◌≤◌, List, [], ◌∷◌, ◌++◌, length, true, false, cond, refl, sym, ap, ◌∙◌, subst, arith, Option, Some, None, inl, ⊎_elim, append_assoc}
 use Rattle.std.specs.Prelude.{option_map, nat_lt, IsSome, pos, ◌-ℤ◌, ◌-◌, IsPermutation}
 use Rattle.std.specs.Option.{option_or}
 use mathlib.Core.Bool.{true≢false}

@@ -15,6 +15,7 @@ use Rattle.rubis_model.specs.Meaning.{when, at_id, as_item, user_at, item_at, to
 use Rattle.rubis_shadow.specs.Shadows.{is_red}
 use Rattle.rubis_model.specs.Checks.{Fits}
 use Rattle.rubis_schema.specs.KeyLaws.{Decides-same_id}
+use Rattle.rubis_laws.proofs.FitsByKind.{FitsByKind, by_kind, from_kind}
 use Rattle.rubis_laws.proofs.Sets.{Member, OneEach, member_append, member_left, member_right, apart, at_member, split_at, same_total}
 use Rattle.rubis_laws.proofs.Choices.{Ranks, IsChoice, choose_is, earlier_ranks, higher_ranks, earlier_apart, higher_apart}
 use Rattle.rubis_laws.proofs.EqualSets.{OneRed, bid_red, close_red, user_red, some_is}
@@ -139,12 +140,15 @@ module _ (a b : List Core) (within : (m : Core) → Member a m → Member b m) (
       at None e k = absurd cc
       at (Some n) e k = ap (option_map (λ (n : NewItem). n.cat)) (still (λ m. as_item m.shadow) i n e) ∙ k
 
-  pub fits_on : (x : Shadow) → (is_red x ≡ true → (m : Core) → Member b m → is_red m.shadow ≡ true → Member a m) → Fits a x → Fits b x
-  fits_on (User n) r f = sym (same_named (r refl) n) ∙ f
-  fits_on (Item n) r f = still_some _ n.seller f
-  fits_on (Bid x) r f = (still_some _ x.item f.0, still_some _ x.bidder f.1, sym (same_close (r refl) x.item) ∙ f.2)
-  fits_on (Buy p) r f =
+  on_kind : (x : Shadow) → (is_red x ≡ true → (m : Core) → Member b m → is_red m.shadow ≡ true → Member a m) → FitsByKind a x → FitsByKind b x
+  on_kind (User n) r f = sym (same_named (r refl) n) ∙ f
+  on_kind (Item n) r f = still_some _ n.seller f
+  on_kind (Bid x) r f = (still_some _ x.item f.0, still_some _ x.bidder f.1, sym (same_close (r refl) x.item) ∙ f.2)
+  on_kind (Buy p) r f =
       (still_some _ p.item f.0, still_some _ p.buyer f.1, sym (same_close (r refl) p.item) ∙ f.2, enough (r refl) p.item p.quantity f.0 f.3)
-  fits_on (Close c) r f =
+  on_kind (Close c) r f =
       (same_cat c.item c.cat f.0, sym (same_close (r refl) c.item) ∙ f.1, f.2 ∙ ap (option_map (λ (m : Core). m.id)) (same_best (r refl) c.item))
-  fits_on (Comment c) r f = (still_some _ c.item f.0, still_some _ c.from f.1, still_some _ c.to f.2)
+  on_kind (Comment c) r f = (still_some _ c.item f.0, still_some _ c.from f.1, still_some _ c.to f.2)
+
+  pub fits_on : (x : Shadow) → (is_red x ≡ true → (m : Core) → Member b m → is_red m.shadow ≡ true → Member a m) → Fits a x → Fits b x
+  fits_on x r f = from_kind b x (on_kind x r (by_kind a x f))

@@ -1,5 +1,5 @@
 -- The fold of a checked log has no misfit, and its tables are the meaning of the log's set.
-use Rattle.std.proofs.Common.{ℕ, ◌≡◌, ◌+◌, ◌-◌, ◌*◌, ◌^◌, ◌≤◌, ◌<◌, List, [], ◌∷◌, ◌++◌, length, Bool, true, false, cond, refl, sym, ap, ◌∙◌, subst, arith, Option, Some, None, append_assoc, length-append}
+use Rattle.std.proofs.Common.{ℕ, ◌≡◌, ◌+◌, ◌-◌, ◌^◌, ◌≤◌, ◌<◌, List, [], ◌∷◌, ◌++◌, length, Bool, true, false, cond, refl, sym, ap, ◌∙◌, subst, arith, Option, Some, None, append_assoc, length-append}
 use Rattle.std.specs.Prelude.{ℤ, zero, suc, fold, option_map, nat_lt, nat_eq, nat_le, ◌&&◌, ◌||◌, IsSome, IfSome, ⊤}
 use Rattle.std.proofs.lemmas.Bool.Decides.{nat_tests}
 use Rattle.std.proofs.lemmas.List.Sums.{fold-append}
@@ -7,6 +7,7 @@ use mathlib.Core.Bool.{true≢false}
 use Rattle.std.specs.FinMap as map
 use Rattle.std.specs.Cmp.{Equal-is}
 use Rattle.rubis_schema.specs.declared.ids.Id.{Id}
+use Rattle.rubis_laws.proofs.FitsByKind.{by_kind}
 use Rattle.rubis_laws.proofs.Heads.{Head, head_of, msg}
 use Rattle.rubis_shadow.specs.declared.shadows.Shadow.{Shadow}
 use Rattle.rubis_shadow.specs.declared.shadows.Shadow.TheVariants as shadow
@@ -166,29 +167,29 @@ unfolding meaning_row
 all_fit t a s (shadow.User n) r g f =
     fit_two t _ _ (λ e. cc)
     (fits_at t a (key.User s.id) _ (r _) (new_row a (key.User s.id) _ (ap (option_map (user_row a s.id)) (nick_none s.id a (none_at (λ m. as_user m.shadow) s.id a f.new_id)))))
-    (fits_at t a (key.Nick n) _ (r _) (new_row a (key.Nick n) _ (ap (option_map (λ (m : Core). row.Nick m.id)) f.fits)))
+    (fits_at t a (key.Nick n) _ (r _) (new_row a (key.Nick n) _ (ap (option_map (λ (m : Core). row.Nick m.id)) (by_kind a (shadow.User n) f.fits))))
 all_fit t a s (shadow.Item n) r g f =
     fit_three t _ _ _ (λ e. cc) (λ e. cc) (λ e. cc)
     (fits_at t a (key.Item s.id) _ (r _) (new_row a (key.Item s.id) _ (ap (option_map (item_row a s.id)) (none_at (λ m. as_item m.shadow) s.id a f.new_id))))
-    (fits_at t a (key.User n.seller) _ (r _) (user_fits a n.seller _ (listed_fits a n.seller) f.fits))
+    (fits_at t a (key.User n.seller) _ (r _) (user_fits a n.seller _ (listed_fits a n.seller) (by_kind a (shadow.Item n) f.fits)))
     (fits_at t a (key.Cat n.cat) _ (r _) (cat_fits a n.cat _ f.limits.1.cat (cat_listed a n.cat)))
 all_fit t a s (shadow.Bid b) r g f =
     fit_two t _ _ (λ e. cc)
     (fits_at t a (key.Bid s.id) _ (r _) (new_row a (key.Bid s.id) _ (no_row (λ m. as_bid m.red m.shadow) row.Bid s.id a f.new_id)))
-    (fits_at t a (key.Item b.item) _ (r _) (item_fits a b.item _ f.fits.0 f.fits.2 (λ n e. bid_fits _ (supply a b.item) (total (sold_of b.item) a) (count (bids_on b.item) a) (best_bid b.item a) n)))
+    (fits_at t a (key.Item b.item) _ (r _) (item_fits a b.item _ (by_kind a (shadow.Bid b) f.fits).0 (by_kind a (shadow.Bid b) f.fits).2 (λ n e. bid_fits _ (supply a b.item) (total (sold_of b.item) a) (count (bids_on b.item) a) (best_bid b.item a) n)))
 all_fit t a s (shadow.Buy p) r g f =
     fit_three t _ _ _ (λ e. cc) (λ e. cc) (λ e. cc)
     (fits_at t a (key.Purchase s.id) _ (r _) (new_row a (key.Purchase s.id) _ (no_row (λ m. as_purchase m.shadow) row.Purchase s.id a f.new_id)))
-    (fits_at t a (key.Item p.item) _ (r _) (item_fits a p.item _ f.fits.0 f.fits.2 (λ n e. sold_fits p.quantity (supply a p.item) (total (sold_of p.item) a) (count (bids_on p.item) a) (best_bid p.item a) n (subst (λ o. IfSome o (λ n. total (sold_of p.item) a + p.quantity ≤ supply a p.item n)) e f.fits.3))))
-    (fits_at t a (key.User p.buyer) _ (r _) (user_fits a p.buyer _ (bought_fits a p.buyer p.quantity) f.fits.1))
+    (fits_at t a (key.Item p.item) _ (r _) (item_fits a p.item _ (by_kind a (shadow.Buy p) f.fits).0 (by_kind a (shadow.Buy p) f.fits).2 (λ n e. sold_fits p.quantity (supply a p.item) (total (sold_of p.item) a) (count (bids_on p.item) a) (best_bid p.item a) n (subst (λ o. IfSome o (λ n. total (sold_of p.item) a + p.quantity ≤ supply a p.item n)) e (by_kind a (shadow.Buy p) f.fits).3))))
+    (fits_at t a (key.User p.buyer) _ (r _) (user_fits a p.buyer _ (bought_fits a p.buyer p.quantity) (by_kind a (shadow.Buy p) f.fits).1))
 all_fit t a s (shadow.Close c) r g f =
     fit_two t _ _ (λ e. cc)
-    (fits_at t a (key.Item c.item) _ (r _) (item_fits a c.item _ (of_mapped _ _ _ f.fits.0) f.fits.1 (λ n e. end_fits c.winner (supply a c.item) (total (sold_of c.item) a) (count (bids_on c.item) a) (best_bid c.item a) n)))
+    (fits_at t a (key.Item c.item) _ (r _) (item_fits a c.item _ (of_mapped _ _ _ (by_kind a (shadow.Close c) f.fits).0) (by_kind a (shadow.Close c) f.fits).1 (λ n e. end_fits c.winner (supply a c.item) (total (sold_of c.item) a) (count (bids_on c.item) a) (best_bid c.item a) n)))
     (fits_at t a (key.Cat c.cat) _ (r _) (cat_fits a c.cat _ f.limits.1.1 (cat_ended a c.cat)))
 all_fit t a s (shadow.Comment c) r g f =
     fit_two t _ _ (λ e. cc)
     (fits_at t a (key.Comment s.id) _ (r _) (new_row a (key.Comment s.id) _ (no_row (λ m. as_comment m.shadow) row.Comment s.id a f.new_id)))
-    (fits_at t a (key.User c.to) _ (r _) (user_fits a c.to _ (rated_fits a c.to c.rating) f.fits.2))
+    (fits_at t a (key.User c.to) _ (r _) (user_fits a c.to _ (rated_fits a c.to c.rating) (by_kind a (shadow.Comment c) f.fits).2))
 
 -- ---- one more message
 

@@ -1,6 +1,6 @@
 -- Each packet of a run can be taken in by each of its sites.
 use Rattle.std.proofs.Common.{ℕ, ◌≡◌, ◌+◌, ◌≤◌, ◌<◌, List, [], ◌∷◌, ◌++◌, length, Bool, true, false, cond, refl, sym, ap, ◌∙◌, subst, arith, Option, Some, None, ⊎_elim}
-use Rattle.std.specs.Prelude.{All, slice_get, nat_le, nat_lt, unwrap_or, is_some, ◌||◌, ◌==◌, Result, Ok, Err}
+use Rattle.std.specs.Prelude.{All, nat_le, nat_lt, unwrap_or, is_some, ◌||◌, ◌==◌, Result, Ok, Err}
 use Rattle.std.specs.Option.{option_map_or}
 use Rattle.std.proofs.lemmas.Bool.{cond_both, eqb-true, or_parts}
 use Rattle.std.proofs.lemmas.Bool.Decides.{nat_tests}
@@ -12,10 +12,9 @@ use Rattle.rubis_shadow.specs.Limits.{IsAsk, InLimits}
 use Rattle.rubis_shadow.specs.Shadows.{is_red}
 use Rattle.rubis_shadow.specs.declared.asks.Ask.{Ask}
 use Rattle.rubis_shadow.specs.declared.shadows.Shadow.{Shadow}
-use Rattle.rubis_message.specs.Message.{Message, IsMessage}
 use Rattle.rubis_message.specs.declared.tokens.Token.{Token}
 use Rattle.rubis_generate.specs.Decision.{decision}
-use Rattle.rubis_model.specs.Settle.{Has, counted, reds}
+use Rattle.rubis_model.specs.Settle.{counted, reds}
 use Rattle.rubis_model.specs.Site.{Replica, made, generating, passing, token_for, red_for, rows_at, standing_of}
 use Rattle.rubis_message.specs.declared.requests.Request.{Request}
 use Rattle.rubis_message.specs.declared.requests.Request.TheVariants as request
@@ -25,7 +24,8 @@ use Rattle.rubis_message.specs.declared.tokens.Packet.TheVariants as packet
 use Rattle.rubis_model.specs.System.Event.{At, Deliver}
 use Rattle.rubis_model.specs.Sound.{AllDeliverable, IsDeliverable, Sound}
 use Rattle.rubis_laws.proofs.Making.{made_dep}
-use Rattle.rubis_laws.proofs.Deciding.{not_full, red_allowed, counted_short, reds_short, in_limits}
+use Rattle.rubis_generate.proofs.Granted.{not_full, red_allowed}
+use Rattle.rubis_laws.proofs.Deciding.{counted_short, reds_short, in_limits}
 use Rattle.rubis_laws.proofs.Keeps.{at_one, event_keeps, event_sites}
 use Rattle.rubis_model.proofs.Lists.{has_append, push_cases}
 

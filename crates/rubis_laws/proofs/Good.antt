@@ -5,6 +5,7 @@ use Rattle.std.specs.Option.{option_or}
 use Rattle.std.proofs.lemmas.Int.{ints}
 use mathlib.Core.Bool.{true≢false}
 use Rattle.rubis_schema.specs.declared.ids.Id.{Id}
+use Rattle.rubis_laws.proofs.FitsByKind.{FitsByKind, by_kind}
 use Rattle.rubis_laws.proofs.Heads.{Head, head_of, msg}
 use Rattle.rubis_shadow.specs.declared.shadows.NewItem.{NewItem}
 use Rattle.rubis_shadow.specs.declared.shadows.Shadow.{Shadow}
@@ -13,7 +14,7 @@ use Rattle.rubis_model.specs.Log.{Core}
 use Rattle.rubis_schema.specs.Keys.{same_id}
 use Rattle.rubis_model.specs.Meaning.{count, total, int_sum_by, choose, choice, user_at, item_at, as_user, as_item, lists_item_of, bought_by, rates, rating_for, sold_of, bids_on, closes, when, supply, best_bid, close_of, higher, earlier, nick_at}
 use Rattle.rubis_shadow.specs.Shadows.{is_red}
-use Rattle.rubis_model.specs.Checks.{Follows, Fits, IsLimited}
+use Rattle.rubis_model.specs.Checks.{Follows, IsLimited}
 use Rattle.rubis_schema.specs.KeyLaws.{Decides-same_id}
 use Rattle.rubis_model.specs.Invariants.{Unique}
 use Rattle.rubis_laws.proofs.Pushes.{count_push, total_push, int_sum_push, choose_push, choice_not, at_id_push, at_id_push_not, none_at}
@@ -86,7 +87,7 @@ record SaysNothingOfItem (i : Id) (x : Shadow) : Type 0 where
   bids : bids_on i x ≡ false
   close : closes i x ≡ false
 
-nothing_of_user : (u : Id) (a : List Core) (x : Shadow) → Fits a x → user_at u a ≡ None → SaysNothingOfUser u x
+nothing_of_user : (u : Id) (a : List Core) (x : Shadow) → FitsByKind a x → user_at u a ≡ None → SaysNothingOfUser u x
 nothing_of_user u a (Item n) f e = record { items = other_user u n.seller a e f; bought = refl; rating = refl; comments = refl }
 nothing_of_user u a (Buy p) f e =
     record { items = refl; bought = ap (λ b. cond b p.quantity 0) (other_user u p.buyer a e f.1); rating = refl; comments = refl }
@@ -94,7 +95,7 @@ nothing_of_user u a (Comment c) f e =
     record { items = refl; bought = refl; rating = ap (λ b. cond b c.rating (pos 0)) (other_user u c.to a e f.2); comments = other_user u c.to a e f.2 }
 nothing_of_user u a x f e = record { items = refl; bought = refl; rating = refl; comments = refl }
 
-nothing_of_item : (i : Id) (a : List Core) (x : Shadow) → Fits a x → item_at i a ≡ None → SaysNothingOfItem i x
+nothing_of_item : (i : Id) (a : List Core) (x : Shadow) → FitsByKind a x → item_at i a ≡ None → SaysNothingOfItem i x
 nothing_of_item i a (Bid b) f e = record { sold = refl; bids = other_item i b.item a e f.0; close = refl }
 nothing_of_item i a (Buy p) f e = record { sold = ap (λ b. cond b p.quantity 0) (other_item i p.item a e f.0); bids = refl; close = refl }
 nothing_of_item i a (Close c) f e = record { sold = refl; bids = refl; close = other_item i c.item a e (mapped_some _ _ _ f.0) }
@@ -140,7 +141,7 @@ listed_stocked i a s n None l z h true =
     record { enough = (let e = z refl in let t = total_push (sold_of i) a (msg s (Item n)) in omega (arith, e, t)); opening = l }
 listed_stocked i a s n None l z h false = tt
 
-stock_push : (a : List Core) (s : Head) (x : Shadow) → Good a → Fits a x → IsLimited x → (i : Id)
+stock_push : (a : List Core) (s : Head) (x : Shadow) → Good a → FitsByKind a x → IsLimited x → (i : Id)
     → IfSome (item_at i (a ++ msg s x ∷ [])) (Stocked (a ++ msg s x ∷ []) i)
 stock_push a s (Buy p) g f l i = same_items i a (msg s (Buy p)) refl (at (same_id i p.item) refl)
   where
@@ -182,7 +183,7 @@ user_gives a s k g f v =
 
 nicks_push : (a : List Core) (s : Head) (x : Shadow) → Good a → Follows a (msg s x) → Unique (λ u. nick_at u (a ++ msg s x ∷ []))
 nicks_push a s (User k) g f =
-    unique_given (λ u. nick_at u a) (λ u. nick_at u (a ++ msg s (User k) ∷ [])) s.id k (user_gives a s k g f) g.nicks (not_named k a f.fits)
+    unique_given (λ u. nick_at u a) (λ u. nick_at u (a ++ msg s (User k) ∷ [])) s.id k (user_gives a s k g f) g.nicks (not_named k a (by_kind a (User k) f.fits))
 nicks_push a s x g f = λ n u v p q. g.nicks n u v (sym (nick_push_not u a (msg s x) refl) ∙ p) (sym (nick_push_not v a (msg s x) refl) ∙ q)
 
 -- ---- one more message
@@ -195,7 +196,7 @@ good_push a m g f = record {
   no_user = λ u e.
       let w = user_before u a m e in
       let z = g.no_user u w in
-      let x = nothing_of_user u a m.shadow f.fits w in
+      let x = nothing_of_user u a m.shadow (by_kind a m.shadow f.fits) w in
       record {
         items = count_push (lists_item_of u) a m ∙ none_more z.items x.items;
         bought = total_push (bought_by u) a m ∙ (λ i. z.bought i + x.bought i);
@@ -205,7 +206,7 @@ good_push a m g f = record {
   no_item = λ i e.
       let w = item_before i a m e in
       let z = g.no_item i w in
-      let x = nothing_of_item i a m.shadow f.fits w in
+      let x = nothing_of_item i a m.shadow (by_kind a m.shadow f.fits) w in
       record {
         sold = total_push (sold_of i) a m ∙ (λ j. z.sold j + x.sold j);
         bids = count_push (bids_on i) a m ∙ none_more z.bids x.bids;
@@ -224,7 +225,7 @@ good_push a m g f = record {
       let r = g.sold u in
       let l = length-append a (m ∷ []) in
       omega (arith, p, q, r, l);
-  stock = stock_push a (head_of m) m.shadow g f.fits f.limits;
+  stock = stock_push a (head_of m) m.shadow g (by_kind a m.shadow f.fits) f.limits;
   nicks = nicks_push a (head_of m) m.shadow g f;
   rating = λ u.
       let p = int_sum_push (λ n. rating_for u n.shadow) a m in

@@ -1,14 +1,15 @@
 -- Stock is never exceeded, a nickname has one user, and a closed item's winner is its highest bid.
-use Rattle.std.proofs.Common.{ℕ, ◌≡◌, ◌+◌, ◌≤◌, ◌<◌, List, [], ◌∷◌, ◌++◌, length, Bool, true, false, cond, refl, sym, ap, ◌∙◌, subst, arith, Option, Some, None, inl, inr, ⊎_elim, append_assoc}
+use Rattle.std.proofs.Common.{◌≡◌, ◌+◌, List, [], ◌∷◌, ◌++◌, Bool, true, false, cond, refl, sym, ap, ◌∙◌, subst, Some, None, append_assoc}
 use Rattle.std.specs.Prelude.{option_map, IfSome}
 use Rattle.rubis_schema.specs.declared.ids.Id.{Id}
+use Rattle.rubis_laws.proofs.FitsByKind.{FitsByKind, by_kind}
 use Rattle.rubis_laws.proofs.Heads.{Head, head_of, msg}
 use Rattle.rubis_shadow.specs.declared.shadows.Shadow.{Shadow}
 use Rattle.rubis_shadow.specs.declared.shadows.Shadow.TheVariants.{Bid, Close}
 use Rattle.rubis_model.specs.Log.{Core}
 use Rattle.rubis_schema.specs.Keys.{same_id}
 use Rattle.rubis_model.specs.Meaning.{item_at, choice, best_bid, close_of, winner_of, bids_on, closes, higher, earlier}
-use Rattle.rubis_model.specs.Checks.{Follows, Fits, CheckedFrom, Checked}
+use Rattle.rubis_model.specs.Checks.{Follows, CheckedFrom, Checked}
 use Rattle.rubis_schema.specs.KeyLaws.{Decides-same_id}
 use Rattle.rubis_laws.proofs.Pushes.{choose_push, choice_not}
 use Rattle.rubis_laws.proofs.Good.{Good, good_push, good_none, if_some_map}
@@ -23,7 +24,7 @@ still i a m p q h =
     subst (λ o. IfSome o (λ k. winner_of k.shadow ≡ option_map (λ (z : Core). z.id) (best_bid i (a ++ m ∷ [])))) (sym c)
     (subst (λ o. IfSome (close_of i a) (λ k. winner_of k.shadow ≡ option_map (λ (z : Core). z.id) o)) (sym b) h)
 
-winner_push : (a : List Core) (s : Head) (x : Shadow) → Fits a x
+winner_push : (a : List Core) (s : Head) (x : Shadow) → FitsByKind a x
     → ((i : Id) → IfSome (close_of i a) (λ m. winner_of m.shadow ≡ option_map (λ (b : Core). b.id) (best_bid i a))) →
     (i : Id) → IfSome (close_of i (a ++ msg s x ∷ [])) (λ m. winner_of m.shadow ≡ option_map (λ (b : Core). b.id) (best_bid i (a ++ msg s x ∷ [])))
 winner_push a s (Bid b) f h i = at (same_id i b.item) refl
@@ -52,7 +53,7 @@ holds_push : (a : List Core) (m : Core) → Good a → Follows a m → Holds a �
 holds_push a m g f h = record {
   stock = λ i. if_some_map (item_at i (a ++ m ∷ [])) (λ n s. s.enough) ((good_push a m g f).stock i);
   nicks = (good_push a m g f).nicks;
-  winner = winner_push a (head_of m) m.shadow f.fits h.winner;
+  winner = winner_push a (head_of m) m.shadow (by_kind a m.shadow f.fits) h.winner;
 }
 
 holds_from : (a rest : List Core) → Good a → Holds a → CheckedFrom a rest → Holds (a ++ rest)

@@ -1,5 +1,5 @@
 -- Every event keeps a world sound.
-use Rattle.std.proofs.Common.{◌≡◌, ℕ, ◌+◌, ◌<◌, ◌≤◌, zero, suc, Bool, true, false, ◌&&◌, cond, Option, Some, None, List, [], ◌∷◌, ◌++◌, length, get_or, set, refl, sym, ap, ◌∙◌, subst, inl, inr, ⊎_elim, arith}
+use Rattle.std.proofs.Common.{◌≡◌, ℕ, ◌+◌, ◌<◌, ◌≤◌, zero, suc, Bool, true, false, cond, Option, Some, None, List, [], ◌∷◌, ◌++◌, length, get_or, set, refl, sym, ap, ◌∙◌, subst, inl, inr, ⊎_elim, arith}
 use Rattle.std.specs.Prelude.{reverse, slice_set, slice_get, not, ◌||◌, ◌==◌, nat_lt, nat_le, Result, Ok, Err, option_map, is_some, unwrap_or}
 use Rattle.std.specs.List.{list_any}
 use Rattle.std.specs.Option.{option_map_or}
@@ -36,7 +36,8 @@ use Rattle.rubis_model.specs.Sound.{Good, HasOrigins, RedsInOrder, OneToken, Sou
 use Rattle.rubis_model.proofs.Settling.{good_settle, settle_grows, reverse_push}
 use Rattle.rubis_laws.proofs.Making.{set_at, good_more, good_make, IsMade, is_made, reds_blue, reds_red, reds_token, shadow_cases, not_shadow, not_right, red_count_blue, turns_shadow}
 use Rattle.rubis_laws.proofs.Tokens.{held_is, token_same, token_red, token_passed, token_taken}
-use Rattle.rubis_laws.proofs.Deciding.{decided, red_allowed}
+use Rattle.rubis_generate.proofs.Granted.{red_allowed}
+use Rattle.rubis_laws.proofs.Deciding.{decided}
 use Rattle.rubis_model.proofs.Lists.{has_left, push_cases, has_reverse}
 
 -- ---- a site that comes to the state it has

@@ -30,6 +30,7 @@ pub mod AuditedMeaning
 pub mod Audited
 pub mod Tests
 pub mod EntryOrder
+pub mod FitsByKind
 pub mod EntryContent
 pub mod Verdicts
 pub mod Refusing

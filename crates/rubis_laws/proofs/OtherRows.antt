@@ -5,6 +5,7 @@ use Rattle.std.specs.Option.{option_or}
 use Rattle.std.proofs.lemmas.Int.{ints}
 use Rattle.std.specs.Cmp.Lexicographic.{bytes_decides}
 use Rattle.rubis_schema.specs.declared.ids.Id.{Id}
+use Rattle.rubis_laws.proofs.FitsByKind.{by_kind}
 use Rattle.rubis_laws.proofs.Heads.{Head, msg}
 use Rattle.rubis_shadow.specs.declared.shadows.Shadow.{Shadow}
 use Rattle.rubis_shadow.specs.declared.shadows.Shadow.TheVariants as shadow
@@ -78,7 +79,7 @@ new_nick : (a : List Core) (s : Head) (k n : List ℕ) → Good a → Good (a ++
 unfolding change_row
 new_nick a s k n g h f true e =
     let same : n ≡ k = (bytes_decides n k).0 e in
-    ap (λ o. (change_row (Insert (row.Nick s.id)) (named_row o)).row) (subst (λ w. named w a ≡ None) (sym same) f.fits)
+    ap (λ o. (change_row (Insert (row.Nick s.id)) (named_row o)).row) (subst (λ w. named w a ≡ None) (sym same) (by_kind a (shadow.User k) f.fits))
     ∙ sym (named_is n (a ++ msg s (shadow.User k) ∷ []) s.id h.nicks (user_gives a s k g f s.id ∙ ap (λ b. cond b (Some k) (nick_at s.id a)) ((Decides-same_id s.id s.id).1 refl) ∙ ap Some (sym same)))
 new_nick a s k n g h f false e =
     let none : nick_at s.id a ≡ None = nick_none s.id a (none_at (λ m. as_user m.shadow) s.id a f.new_id) in

@@ -1,6 +1,6 @@
 -- A site never has more messages than it keeps.
 use Rattle.std.proofs.Common.{ℕ, ◌≡◌, ◌+◌, ◌≤◌, ◌<◌, List, [], ◌∷◌, ◌++◌, length, false, refl, sym, subst, arith, Option, Some, None, ⊎_elim, get_or, length-append}
-use Rattle.std.specs.Prelude.{slice_set, slice_get, nat_le, not, ◌||◌, ◌==◌, Result, Ok, Err}
+use Rattle.std.specs.Prelude.{slice_set, nat_le, not, ◌||◌, ◌==◌, Result, Ok, Err}
 use Rattle.std.proofs.lemmas.Bool.{cases_lt, cond_both}
 use Rattle.std.proofs.lemmas.Bool.Decides.{nat_tests}
 use Rattle.std.proofs.lemmas.List.{set_past}
@@ -25,7 +25,7 @@ use Rattle.rubis_model.specs.System.Event.{At, Deliver}
 use Rattle.rubis_model.specs.Sound.{Room}
 use Rattle.rubis_model.proofs.Settling.{settle_keeps}
 use Rattle.rubis_laws.proofs.Making.{set_at}
-use Rattle.rubis_laws.proofs.Deciding.{not_full}
+use Rattle.rubis_generate.proofs.Granted.{not_full}
 use Rattle.rubis_laws.proofs.Keeps.{at_one, start_at}
 
 -- the site has at most so many

@@ -4,6 +4,7 @@ use Rattle.std.specs.Prelude.{fold, option_map, min, ◌&&◌, ◌||◌, nat_lt,
 use Rattle.std.specs.Option.{option_or}
 use Rattle.std.proofs.lemmas.Bool.Decides.{nat_tests}
 use Rattle.rubis_schema.specs.declared.ids.Id.{Id}
+use Rattle.rubis_laws.proofs.FitsByKind.{by_kind}
 use Rattle.rubis_laws.proofs.Heads.{Head, msg}
 use Rattle.rubis_shadow.specs.declared.shadows.NewItem.{NewItem}
 use Rattle.rubis_shadow.specs.declared.shadows.NewClose.{NewClose}
@@ -250,14 +251,14 @@ pub row_of_item : (a : List Core) (s : Head) (x : Shadow) → Good a → Follows
 unfolding meaning_row
 row_of_item a s (shadow.Item n) g f h i = inserted a s n i _ refl g f
 row_of_item a s (shadow.Bid b) g f h i =
-    bid_taken (same_id i b.item) (count is_red a) _ _ _ _ _ i (msg s (shadow.Bid b)) (item_at i a) refl refl (at_named (λ k. close_of k a ≡ None) i b.item f.fits.2)
+    bid_taken (same_id i b.item) (count is_red a) _ _ _ _ _ i (msg s (shadow.Bid b)) (item_at i a) refl refl (at_named (λ k. close_of k a ≡ None) i b.item (by_kind a (shadow.Bid b) f.fits).2)
     (let r = f.next_red in omega (arith, r)) (g.reds higher (bids i)) (count_small (bids_on i) a h)
     ∙ sym (item_meaning_push a (msg s (shadow.Bid b)) i refl)
 row_of_item a s (shadow.Buy p) g f h i =
-    sold_more (same_id i p.item) p.quantity _ _ _ _ _ i (msg s (shadow.Buy p)) (item_at i a) refl refl (at_named (λ k. close_of k a ≡ None) i p.item f.fits.2)
-    (at_named (λ k. IfSome (item_at k a) (λ n. total (sold_of k) a + p.quantity ≤ supply a k n)) i p.item f.fits.3) (sold_small true _ _ _ (g.sold i) f.limits.1.quantity.small h)
+    sold_more (same_id i p.item) p.quantity _ _ _ _ _ i (msg s (shadow.Buy p)) (item_at i a) refl refl (at_named (λ k. close_of k a ≡ None) i p.item (by_kind a (shadow.Buy p) f.fits).2)
+    (at_named (λ k. IfSome (item_at k a) (λ n. total (sold_of k) a + p.quantity ≤ supply a k n)) i p.item (by_kind a (shadow.Buy p) f.fits).3) (sold_small true _ _ _ (g.sold i) f.limits.1.quantity.small h)
     ∙ sym (item_meaning_push a (msg s (shadow.Buy p)) i refl)
 row_of_item a s (shadow.Close c) g f h i =
-    closed (same_id i c.item) _ _ _ _ _ i s c (item_at i a) refl (at_named (λ k. close_of k a ≡ None) i c.item f.fits.1)
+    closed (same_id i c.item) _ _ _ _ _ i s c (item_at i a) refl (at_named (λ k. close_of k a ≡ None) i c.item (by_kind a (shadow.Close c) f.fits).1)
     ∙ sym (item_meaning_push a (msg s (shadow.Close c)) i refl)
 row_of_item a s x g f h i = still _ _ _ _ _ i (msg s x) (item_at i a) refl refl ∙ sym (item_meaning_push a (msg s x) i refl)

@@ -27,7 +27,7 @@ use Rattle.rubis_laws.proofs.Keeps.{run_keeps, start_sound, start_sites}
 use Rattle.rubis_laws.proofs.Room.{room_run, room_start}
 use Rattle.rubis_laws.proofs.Formed.{run_deliverable}
 use Rattle.rubis_laws.proofs.Winners.{Ground, one_nick, one_close, winner_is, row_winner, stock_left}
-use Rattle.rubis_laws.proofs.Referring.{refers_of}
+use Rattle.rubis_laws.proofs.Referring.{refers_past}
 use Rattle.rubis_model.proofs.Lists.{has_back, has_reverse}
 
 pub short : (keep : ℕ) (w : World) (i : ℕ) → keep ≤ 1000000 → Room keep w → length (cores (site w i).log) ≤ 2 ^ 32
@@ -49,7 +49,7 @@ module _ (w : World) (s : Sound w) where
 
   pub refers : (v : Message) → Sent w v → RefersToPast (Sent w) v v.shadow
   refers v b =
-      refers_of (Sent w) v (reverse (foundation w v s b).past) (λ u h. ((foundation w v s b).exactly u).0 (has_reverse u (foundation w v s b).past h)) v.shadow (foundation w v s b).decided.fits
+      refers_past (Sent w) v (reverse (foundation w v s b).past) (λ u h. ((foundation w v s b).exactly u).0 (has_reverse u (foundation w v s b).past h)) v.shadow (foundation w v s b).decided.fits
 
   pub logged : (i : ℕ) (m : Message) → Has m (site w i).log → Sent w m
   logged i m h = (s.good i).log_sent m (has_back m (site w i).log h)

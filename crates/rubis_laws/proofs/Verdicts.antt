@@ -11,13 +11,13 @@ use Rattle.rubis_message.specs.declared.answers.Kind.TheVariants as kind
 use Rattle.rubis_message.specs.declared.answers.Verdict.{Verdict}
 use Rattle.rubis_message.specs.declared.answers.Verdict.TheVariants.{Agree}
 use Rattle.rubis_model.specs.Audit.{Logged, AreAmong, IsOrdered, AllOrdered, AllFitting, AreFaultless}
-use Rattle.rubis_model.specs.Checks.{Fits}
+use Rattle.rubis_model.specs.Checks.{Fits, nick_taken, stock_short, wrong_category, wrong_winner}
 use Rattle.rubis_model.specs.Log.{cores}
 use Rattle.rubis_model.specs.Logs.{Log, shown_rows}
 use Rattle.rubis_model.specs.Order.{Released}
 use Rattle.rubis_model.specs.References.{RefersToPast}
 use Rattle.rubis_model.specs.Settle.{Has, Ready}
-use Rattle.rubis_model.specs.Verdict.{checks, clash, first_fault, first_of, found_or, log_fault, nick_taken, out_of_order, red_gap, same_rows, stock_short, verdict, verdict_from, wrong_category, wrong_reference, wrong_rows, wrong_winner}
+use Rattle.rubis_model.specs.Verdict.{checks, clash, first_fault, first_of, found_or, log_fault, out_of_order, red_gap, same_rows, verdict, verdict_from, wrong_reference, wrong_rows}
 use Rattle.rubis_model.proofs.Lists.{has_append, has_back, has_left, has_reverse, has_right, push_cases}
 use Rattle.rubis_model.proofs.Pasts.{red_within}
 use Rattle.rubis_model.proofs.Settling.{counted_reverse, reds_reverse, reverse_push}
@@ -25,8 +25,7 @@ use Rattle.rubis_laws.proofs.Audited.{message_formed, refers_more, released_all}
 use Rattle.rubis_laws.proofs.AuditedOrder.{IsFormed}
 use Rattle.rubis_laws.proofs.EntryContent.{Passes, fits, passes}
 use Rattle.rubis_laws.proofs.EntryOrder.{Same, carries, made, next, no_clash, no_gap, number, one_content, orderly, red_before, released, untaken}
-use Rattle.rubis_laws.proofs.LogsChecked.{one_each_back}
-use Rattle.rubis_laws.proofs.Sets.{OneEach, or_first}
+use Rattle.rubis_laws.proofs.Sets.{or_first}
 
 -- ---- one entry
 
@@ -35,13 +34,13 @@ cut true k rest e = absurd cc
 cut false k rest e = (refl, e)
 
 -- each check finds nothing
-record AreClean (others : List Message) (site : ℕ) (own : List Message) (v : Message) : Type 0 where
-  clash : clash others own v ≡ false
-  order : out_of_order site own v ≡ false
-  red_gap : red_gap others own v ≡ false
-  content : Passes own v v.shadow
+pub record AreClean (others : List Message) (site : ℕ) (own : List Message) (v : Message) : Type 0 where
+  pub clash : clash others own v ≡ false
+  pub order : out_of_order site own v ≡ false
+  pub red_gap : red_gap others own v ≡ false
+  pub content : Passes own v v.shadow
 
-clean : (others : List Message) (site : ℕ) (own : List Message) (v : Message) → first_of (checks others site own v) ≡ None → AreClean others site own v
+pub clean : (others : List Message) (site : ℕ) (own : List Message) (v : Message) → first_of (checks others site own v) ≡ None → AreClean others site own v
 clean others site own v e =
     let a = cut (clash others own v) kind.Clash _ e in
     let b = cut (out_of_order site own v) kind.Order _ a.1 in
@@ -115,7 +114,7 @@ module _ (sites site : ℕ) (others own : List Message) (v : Message) (w : Walke
   }
 
   content : Fits (cores own) v.shadow × RefersToPast (λ u. Has u own) v v.shadow
-  content = fits own v (subst (λ l. OneEach (cores l)) (reverse-reverse own) (one_each_back (reverse own) past)) v.shadow c.content
+  content = fits own v v.shadow c.content
 
   one_number : (u : Message) → Has u (others ++ own) → 0 < u.stamp.red → u.stamp.red ≡ v.stamp.red → u ≡ v
   one_number u h l q = ⊎_elim

@@ -19,6 +19,7 @@ use Rattle.rubis_model.specs.Meaning.{total, sold_of, meaning_row, item_row, sal
 use Rattle.rubis_shadow.specs.Shadows.{is_red}
 use Rattle.rubis_model.specs.Checks.{Fits}
 use Rattle.rubis_schema.specs.KeyLaws.{Decides-same_id}
+use Rattle.rubis_laws.proofs.FitsByKind.{by_kind}
 use Rattle.rubis_laws.proofs.Sets.{Member, OneEach, at_member}
 use Rattle.rubis_laws.proofs.Choices.{IsChoice, choose_is, earlier_ranks, higher_ranks}
 use Rattle.rubis_laws.proofs.EqualSets.{bid_red, close_red, user_red}
@@ -39,15 +40,15 @@ same_row a j n r e f = ap (λ o. option_map f (option_and_then item_in o)) e
 
 -- ---- what the checks say of one shadow
 open_for : (a : List Core) (j : Id) (x : Shadow) → Fits a x → bids_on j x ≡ true → close_of j a ≡ None
-open_for a j (Bid b) f e = subst (λ k. close_of k a ≡ None) (sym ((Decides-same_id j b.item).0 e)) f.2
+open_for a j (Bid b) f e = subst (λ k. close_of k a ≡ None) (sym ((Decides-same_id j b.item).0 e)) (by_kind a (Bid b) f).2
 open_for a j x f e = absurd (true≢false (sym e))
 
 open_before : (a : List Core) (j : Id) (x : Shadow) → Fits a x → closes j x ≡ true → close_of j a ≡ None
-open_before a j (Close b) f e = subst (λ k. close_of k a ≡ None) (sym ((Decides-same_id j b.item).0 e)) f.1
+open_before a j (Close b) f e = subst (λ k. close_of k a ≡ None) (sym ((Decides-same_id j b.item).0 e)) (by_kind a (Close b) f).1
 open_before a j x f e = absurd (true≢false (sym e))
 
 won_by : (a : List Core) (j : Id) (x : Shadow) → Fits a x → closes j x ≡ true → winner_of x ≡ option_map (λ (m : Core). m.id) (best_bid j a)
-won_by a j (Close b) f e = subst (λ k. b.winner ≡ option_map (λ (m : Core). m.id) (best_bid k a)) (sym ((Decides-same_id j b.item).0 e)) f.2
+won_by a j (Close b) f e = subst (λ k. b.winner ≡ option_map (λ (m : Core). m.id) (best_bid k a)) (sym ((Decides-same_id j b.item).0 e)) (by_kind a (Close b) f).2
 won_by a j x f e = absurd (true≢false (sym e))
 
 not_both : (j : Id) (x : Shadow) → bids_on j x ≡ true → closes j x ≡ true → ⊥
@@ -75,7 +76,7 @@ user_taken : (a : List Message) (u : Message) (n : List ℕ) (x : Shadow) → On
     → Fits (cores a) x → ⊥
 user_taken a u n (User k) ids h e f g =
     let same : k ≡ n = cc in
-    not_named n (cores a) (subst (λ z. named z (cores a) ≡ None) same g) u.stamp.id (nick_kept a u n ids h e)
+    not_named n (cores a) (subst (λ z. named z (cores a) ≡ None) same (by_kind (cores a) (User k) g)) u.stamp.id (nick_kept a u n ids h e)
 user_taken a u n x ids h e f g = absurd cc
 
 module _ (all : Message → Type 0) (ground : (v : Message) → all v → Ground all v)

@@ -1,13 +1,19 @@
 -- What each message of a log must meet, given those before it.
-use Rattle.std.specs.Prelude.{ℕ, ◌≡◌, ◌+◌, ◌≤◌, List, [], ◌∷◌, ◌++◌, cond, Option, Some, None, option_map, IsSome, IfSome, ⊤, Contains, ◌↔◌}
+use Rattle.std.specs.Prelude.{ℕ, ◌≡◌, ◌+◌, ◌==◌, List, [], ◌∷◌, ◌++◌, Bool, false, ◌||◌, not, cond, nat_lt, Option, Some, None, is_some, option_map, IsSome, ⊤, Contains, ◌↔◌}
+use Rattle.std.specs.List.{All}
+use Rattle.std.specs.Option.{option_eq, option_map_or}
+use Rattle.rubis_schema.specs.Keys.{same_id}
 use Rattle.rubis_schema.specs.declared.ids.Id.{Id}
+use Rattle.rubis_schema.specs.declared.row_keys.RowKey.{RowKey}
+use Rattle.rubis_schema.specs.declared.row_keys.RowKey.TheVariants as key
+use Rattle.rubis_shadow.specs.Parts.{refers_of}
 use Rattle.rubis_shadow.specs.Shadows.{is_red}
 use Rattle.rubis_shadow.specs.Limits.{InLimits}
 use Rattle.rubis_shadow.specs.declared.shadows.NewItem.{NewItem}
 use Rattle.rubis_shadow.specs.declared.shadows.Shadow.{Shadow}
-use Rattle.rubis_shadow.specs.declared.shadows.Shadow.TheVariants.{User, Item, Bid, Buy, Close, Comment}
+use Rattle.rubis_shadow.specs.declared.shadows.Shadow.TheVariants.{User, Bid, Buy, Close}
 use Rattle.rubis_model.specs.Log.{Core}
-use Rattle.rubis_model.specs.Meaning.{user_at, item_at, named, close_of, best_bid, total, sold_of, supply, count, at_id}
+use Rattle.rubis_model.specs.Meaning.{as_bid, user_at, item_at, named, close_of, best_bid, total, sold_of, supply, count, at_id}
 
 -- the message with that id
 abbrev pub has_id : Id → List Core → Option Core
@@ -17,17 +23,43 @@ has_id = at_id Some
 abbrev pub IsLimited : Shadow → Type 0
 IsLimited x = (sites : ℕ) × InLimits sites x
 
--- who and what the shadow names stands before it, and the item isn't closed; a nickname is new, no more is bought than
--- there is, and a close has the item's category and its highest bid
-abbrev pub Fits : List Core → Shadow → Type 0
-Fits before (User n) = named n before ≡ None
-Fits before (Item n) = IsSome (user_at n.seller before)
-Fits before (Bid b) = IsSome (item_at b.item before) × IsSome (user_at b.bidder before) × (close_of b.item before ≡ None)
-Fits before (Buy p) = IsSome (item_at p.item before) × IsSome (user_at p.buyer before) × (close_of p.item before ≡ None)
-    × IfSome (item_at p.item before) (λ n. total (sold_of p.item) before + p.quantity ≤ supply before p.item n)
-Fits before (Close c) = option_map (λ (n : NewItem). n.cat) (item_at c.item before) ≡ Some c.cat × (close_of c.item before ≡ None)
-    × (c.winner ≡ option_map (λ (m : Core). m.id) (best_bid c.item before))
-Fits before (Comment c) = IsSome (item_at c.item before) × IsSome (user_at c.from before) × IsSome (user_at c.to before)
+-- the row at that key is made before
+abbrev pub StandsIn : List Core → RowKey → Type 0
+StandsIn before (key.User i) = IsSome (user_at i before)
+StandsIn before (key.Item i) = IsSome (item_at i before)
+StandsIn before (key.Bid i) = IsSome (at_id (λ m. as_bid m.red m.shadow) i before)
+StandsIn before k = ⊥
+
+-- it is a close in another category than its item's
+abbrev pub wrong_category : List Core → Shadow → Bool
+wrong_category before (Close c) = option_map_or (λ (n : NewItem). not (n.cat == c.cat)) (item_at c.item before) false
+wrong_category before x = false
+
+-- the nickname has a user
+abbrev pub nick_taken : List Core → Shadow → Bool
+nick_taken before (User n) = is_some (named n before)
+nick_taken before x = false
+
+-- more is bought than there is
+abbrev pub stock_short : List Core → Shadow → Bool
+stock_short before (Buy p) = option_map_or (λ n. nat_lt (supply before p.item n) (total (sold_of p.item) before + p.quantity)) (item_at p.item before) false
+stock_short before x = false
+
+-- the item of a bid, a buy or a close is closed, or a close names another than the item's highest bid
+abbrev pub wrong_winner : List Core → Shadow → Bool
+wrong_winner before (Bid b) = is_some (close_of b.item before)
+wrong_winner before (Buy p) = is_some (close_of p.item before)
+wrong_winner before (Close c) =
+    is_some (close_of c.item before) || not (option_eq same_id c.winner (option_map (λ (m : Core). m.id) (best_bid c.item before)))
+wrong_winner before x = false
+
+-- who and what the shadow names stands before it, and none of these tests holds
+pub record Fits (before : List Core) (x : Shadow) : Type 0 where
+  pub known : All (StandsIn before) (refers_of x)
+  pub category : wrong_category before x ≡ false
+  pub nick : nick_taken before x ≡ false
+  pub stock : stock_short before x ≡ false
+  pub winner : wrong_winner before x ≡ false
 
 -- the message's id is new, a red one has the next red number and a blue one 0, and the shadow fits and is within limits
 pub record Follows (before : List Core) (m : Core) : Type 0 where

@@ -1,31 +1,31 @@
--- What a message refers to: messages of the right kind that precede it.
+-- What a message refers to: messages that made what it names, and precede it.
 use Rattle.std.specs.Prelude.{◌≡◌, true, IfSome, IsSome, ⊤}
-use Rattle.rubis_schema.specs.declared.ids.Id.{Id}
+use Rattle.std.specs.List.{All}
+use Rattle.rubis_schema.specs.declared.row_keys.RowKey.{RowKey}
+use Rattle.rubis_schema.specs.declared.row_keys.RowKey.TheVariants as key
+use Rattle.rubis_shadow.specs.Parts.{refers_of}
 use Rattle.rubis_shadow.specs.declared.shadows.Shadow.{Shadow}
-use Rattle.rubis_shadow.specs.declared.shadows.Shadow.TheVariants.{User, Item, Bid, Buy, Close, Comment}
+use Rattle.rubis_shadow.specs.declared.shadows.Shadow.TheVariants.{Close}
 use Rattle.rubis_message.specs.Message.{Message}
-use Rattle.rubis_model.specs.Meaning.{as_user, as_item, bids_on}
+use Rattle.rubis_model.specs.Meaning.{as_user, as_item, as_bid, bids_on}
 use Rattle.rubis_model.specs.Order.{Precedes}
 
--- the id is that of a message of this kind that precedes v
-abbrev pub Referred : (Message → Type 0) → Message → (Message → Type 0) → Id → Type 0
-Referred all v kind i = (m : Message) × (all m) × (i ≡ m.stamp.id) × (kind m) × (Precedes m v)
+-- one of these messages is of this kind, and precedes v
+abbrev pub Preceded : (Message → Type 0) → Message → (Message → Type 0) → Type 0
+Preceded all v kind = (m : Message) × (all m) × (kind m) × (Precedes m v)
 
-abbrev pub ToUser : (Message → Type 0) → Message → Id → Type 0
-ToUser all v = Referred all v (λ m. IsSome (as_user m.shadow))
+-- the row at that key is made by the message
+abbrev pub IsMadeBy : RowKey → Message → Type 0
+IsMadeBy (key.User i) m = (i ≡ m.stamp.id) × IsSome (as_user m.shadow)
+IsMadeBy (key.Item i) m = (i ≡ m.stamp.id) × IsSome (as_item m.shadow)
+IsMadeBy (key.Bid i) m = (i ≡ m.stamp.id) × IsSome (as_bid m.stamp.red m.shadow)
+IsMadeBy k m = ⊥
 
-abbrev pub ToItem : (Message → Type 0) → Message → Id → Type 0
-ToItem all v = Referred all v (λ m. IsSome (as_item m.shadow))
+-- the winner of a close is a bid on its item, and precedes v
+abbrev pub HasBidOnItem : (Message → Type 0) → Message → Shadow → Type 0
+HasBidOnItem all v (Close c) = IfSome c.winner (λ i. Preceded all v (λ m. (i ≡ m.stamp.id) × (bids_on c.item m.shadow ≡ true)))
+HasBidOnItem all v x = ⊤
 
-abbrev pub ToBid : (Message → Type 0) → Message → Id → Id → Type 0
-ToBid all v item = Referred all v (λ m. bids_on item m.shadow ≡ true)
-
--- each id that the shadow of v names is that of a message of the right kind that precedes v: a user, an item, or, for the
--- winner of a close, a bid on its item
+-- each row that the shadow of v names is made by a message that precedes v
 abbrev pub RefersToPast : (Message → Type 0) → Message → Shadow → Type 0
-RefersToPast all v (User n) = ⊤
-RefersToPast all v (Item n) = ToUser all v n.seller
-RefersToPast all v (Bid b) = ToItem all v b.item × ToUser all v b.bidder
-RefersToPast all v (Buy p) = ToItem all v p.item × ToUser all v p.buyer
-RefersToPast all v (Close c) = ToItem all v c.item × IfSome c.winner (ToBid all v c.item)
-RefersToPast all v (Comment c) = ToItem all v c.item × ToUser all v c.from × ToUser all v c.to
+RefersToPast all v x = All (λ k. Preceded all v (IsMadeBy k)) (refers_of x) × HasBidOnItem all v x

@@ -2,24 +2,23 @@
 use Rattle.std.specs.Prelude.{ℕ, ◌+◌, ◌==◌, List, [], ◌∷◌, ◌++◌, length, reverse, find, Bool, false, ◌&&◌, ◌||◌, not, cond, nat_lt, nat_le, bytes_eq, Option, Some, None, is_some, option_map}
 use Rattle.std.specs.Cmp.Lexicographic.{pointwise}
 use Rattle.std.specs.List.{list_any, range_with_len}
-use Rattle.std.specs.Option.{option_eq, option_map_or, option_or}
+use Rattle.std.specs.Option.{option_map_or, option_or}
 use Rattle.rubis_schema.specs.Keys.{same_id}
 use Rattle.rubis_schema.specs.declared.row_keys.RowKey.{RowKey}
 use Rattle.rubis_schema.specs.declared.row_keys.RowKey.TheVariants as key
 use Rattle.rubis_shadow.specs.Parts.{refers_of}
 use Rattle.rubis_shadow.specs.Shadows.{is_red}
-use Rattle.rubis_shadow.specs.declared.shadows.NewItem.{NewItem}
-use Rattle.rubis_shadow.specs.declared.shadows.Shadow.{Shadow}
-use Rattle.rubis_shadow.specs.declared.shadows.Shadow.TheVariants.{User, Bid, Buy, Close}
+use Rattle.rubis_shadow.specs.declared.shadows.Shadow.TheVariants.{User, Bid}
 use Rattle.rubis_message.specs.Equal.{same_message}
 use Rattle.rubis_message.specs.Message.{Message, dep, sites_of}
 use Rattle.rubis_message.specs.declared.answers.Kind.{Kind}
 use Rattle.rubis_message.specs.declared.answers.Kind.TheVariants as kind
 use Rattle.rubis_message.specs.declared.answers.Verdict.{Verdict}
 use Rattle.rubis_message.specs.declared.answers.Verdict.TheVariants.{Agree, Found}
-use Rattle.rubis_model.specs.Log.{Core, cores}
+use Rattle.rubis_model.specs.Checks.{nick_taken, stock_short, wrong_category, wrong_winner}
+use Rattle.rubis_model.specs.Log.{cores}
 use Rattle.rubis_model.specs.Logs.{Log, shown_rows}
-use Rattle.rubis_model.specs.Meaning.{as_bid, as_item, as_user, best_bid, close_of, item_at, named, sold_of, supply, total}
+use Rattle.rubis_model.specs.Meaning.{as_bid, as_item, as_user}
 use Rattle.rubis_model.specs.Settle.{counted, reds}
 
 -- ---- the checks of an entry v. `others` has the messages of the earlier logs, `own` those of this log before v
@@ -87,33 +86,10 @@ makes_row k u = false
 abbrev pub is_known : List Message → Message → RowKey → Bool
 is_known own v k = list_any (λ u. makes_row k u && comes_before u v) own
 
--- it is a close in another category than its item's
-abbrev pub wrong_category : List Core → Shadow → Bool
-wrong_category before (Close c) = option_map_or (λ (n : NewItem). not (n.cat == c.cat)) (item_at c.item before) false
-wrong_category before x = false
-
 -- Refers: what v names isn't there or doesn't precede it, or its category is wrong. Whether a winner is the right bid is
 -- left to Winner
 abbrev pub wrong_reference : List Message → Message → Bool
 wrong_reference own v = list_any (λ k. not (is_known own v k)) (refers_of v.shadow) || wrong_category (cores own) v.shadow
-
--- Nick: the nickname has a user
-abbrev pub nick_taken : List Core → Shadow → Bool
-nick_taken before (User n) = is_some (named n before)
-nick_taken before x = false
-
--- Stock: more is bought than there is
-abbrev pub stock_short : List Core → Shadow → Bool
-stock_short before (Buy p) = option_map_or (λ n. nat_lt (supply before p.item n) (total (sold_of p.item) before + p.quantity)) (item_at p.item before) false
-stock_short before x = false
-
--- Winner: the item of a bid, a buy or a close is closed, or a close names another than the item's highest bid
-abbrev pub wrong_winner : List Core → Shadow → Bool
-wrong_winner before (Bid b) = is_some (close_of b.item before)
-wrong_winner before (Buy p) = is_some (close_of p.item before)
-wrong_winner before (Close c) =
-    is_some (close_of c.item before) || not (option_eq same_id c.winner (option_map (λ (m : Core). m.id) (best_bid c.item before)))
-wrong_winner before x = false
 
 -- the checks, in order
 abbrev pub checks : List Message → ℕ → List Message → Message → List (Kind × Bool)

@@ -10,7 +10,6 @@ use Rattle.rubis_schema.specs.Ids.{IsId}
 use Rattle.rubis_shadow.specs.Limits.{InLimits}
 use Rattle.rubis_shadow.specs.Shadows.{is_red, colour_of}
 use Rattle.rubis_shadow.specs.declared.shadows.Shadow.{Shadow}
-use Rattle.rubis_shadow.specs.declared.shadows.Shadow.TheVariants.{User, Item, Bid, Buy, Close, Comment}
 use Rattle.rubis_shadow.specs.declared.shadows.Colour.TheVariants.{Red, Blue}
 use Rattle.rubis_clock.specs.Clocks.{MessageCounts}
 use Rattle.rubis_clock.specs.declared.stamps.Stamp.{Stamp}
@@ -44,21 +43,19 @@ pub room_left : (i : Intake) → IsIntake i → is_full i.place.keep i.state ≡
 room_left i h e = leb-false i.place.keep (length i.state.log + length i.state.waiting) e
 
 -- ---- red numbers
+red_by : (b : Bool) → cond b Red Blue ≡ Red → b ≡ true
+red_by true e = refl
+red_by false e = absurd cc
+
 red_colour : (x : Shadow) → colour_of x ≡ Red → is_red x ≡ true
-red_colour (User n) e = refl
-red_colour (Item n) e = absurd cc
-red_colour (Bid b) e = refl
-red_colour (Buy p) e = refl
-red_colour (Close c) e = refl
-red_colour (Comment c) e = absurd cc
+red_colour x e = red_by (is_red x) e
+
+blue_by : (b : Bool) → cond b Red Blue ≡ Blue → b ≡ false
+blue_by true e = absurd cc
+blue_by false e = refl
 
 blue_colour : (x : Shadow) → colour_of x ≡ Blue → is_red x ≡ false
-blue_colour (User n) e = absurd cc
-blue_colour (Item n) e = refl
-blue_colour (Bid b) e = absurd cc
-blue_colour (Buy p) e = absurd cc
-blue_colour (Close c) e = absurd cc
-blue_colour (Comment c) e = refl
+blue_colour x e = blue_by (is_red x) e
 
 current_held : (n : ℕ) (held : Option ℕ) → option_map_or (λ issued. n == issued) held false ≡ true → held ≡ Some n
 current_held n None e = absurd (true≢false (sym e))

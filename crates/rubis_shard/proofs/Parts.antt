@@ -1,13 +1,14 @@
 -- The parts of one message, shard by shard.
-use Rattle.std.proofs.Common.{◌≡◌, ℕ, ◌≤◌, List, [], ◌++◌, refl, sym, ap, ◌∙◌, arith}
+use Rattle.std.proofs.Common.{◌≡◌, ℕ, ◌≤◌, List, [], ◌∷◌, ◌++◌, length, refl, sym, ap, ◌∙◌, arith}
 use Rattle.std.specs.Prelude.{nat_eq, slice_get}
 use Rattle.std.proofs.lemmas.List.Elements.{filter-append}
 use Rattle.rubis_schema.specs.Keys.{home}
 use Rattle.rubis_schema.specs.declared.ids.Id.{Id}
 use Rattle.rubis_shadow.specs.Parts.{parts}
 use Rattle.rubis_shadow.specs.declared.numbered.Numbered.{Numbered}
-use Rattle.rubis_shadow.specs.declared.shadows.Shadow.{Shadow}
-use Rattle.rubis_shadow.specs.declared.shadows.Shadow.TheVariants as shadow
+use Rattle.rubis_shadow.specs.declared.changes.Effect.{Effect}
+use Rattle.rubis_shadow.specs.declared.parts.TheConstants.{PARTS_MAX}
+use Rattle.rubis_shadow.proofs.Lists.{few_parts}
 use Rattle.rubis_model.specs.Log.{Folded, fold_on, number_parts}
 use Rattle.rubis_model.specs.Shares.{part_of}
 use Rattle.rubis_model.proofs.Shares.{fold_on_is, share_tables, tables_after}
@@ -21,17 +22,14 @@ use Rattle.rubis_shard.proofs.Openings.{part_twice}
 pub less_room : (s : Store) (n m : ℕ) → n ≤ m → HasRoom s m → HasRoom s n
 less_room s n m l h = let r = h.rows in let f = h.misfits in record { rows = omega arith; misfits = omega arith }
 
--- a shadow has at most three parts
-three : (entry red : ℕ) (id : Id) (s : Shadow) → number_parts entry 1 id (parts id red s)
-    ≡ number_parts entry 1 id (list_of (slice_get (parts id red s) 0))
-    ++ (number_parts entry 2 id (list_of (slice_get (parts id red s) 1)) ++ number_parts entry 3 id (list_of (slice_get (parts
-    id red s) 2)))
-three entry red id (shadow.User n) = refl
-three entry red id (shadow.Item n) = refl
-three entry red id (shadow.Bid b) = refl
-three entry red id (shadow.Buy p) = refl
-three entry red id (shadow.Close c) = refl
-three entry red id (shadow.Comment c) = refl
+-- at most three parts, place by place
+by_place : (entry : ℕ) (id : Id) (es : List Effect) → length es ≤ PARTS_MAX → number_parts entry 1 id es
+    ≡ number_parts entry 1 id (list_of (slice_get es 0)) ++ (number_parts entry 2 id (list_of (slice_get es 1)) ++ number_parts entry 3 id (list_of (slice_get es 2)))
+by_place entry id [] few = refl
+by_place entry id (a ∷ []) few = refl
+by_place entry id (a ∷ b ∷ []) few = refl
+by_place entry id (a ∷ b ∷ c ∷ []) few = refl
+by_place entry id (a ∷ b ∷ c ∷ d ∷ es) few = absurd (omega (arith, few))
 
 pub parts_at_append : (shards k : ℕ) (a b : List Numbered)
     → parts_at shards k (a ++ b) ≡ parts_at shards k a ++ parts_at shards k b
@@ -41,7 +39,7 @@ pub none_at_all : (m : MessageParts) (shards k : ℕ) → parts_at shards k (at_
     → parts_at shards k (at_place m 1) ≡ []
     → parts_at shards k (at_place m 2) ≡ [] → parts_at shards k (numbered_of m) ≡ []
 none_at_all m shards k a b c =
-    ap (parts_at shards k) (three m.entry m.red m.id m.shadow.now)
+    ap (parts_at shards k) (by_place m.entry m.id (parts m.id m.red m.shadow.now) (few_parts m.id m.red m.shadow.now))
     ∙ parts_at_append shards k (at_place m 0) (at_place m 1 ++ at_place m 2)
     ∙ (λ i. a i ++ parts_at shards k (at_place m 1 ++ at_place m 2))
     ∙ parts_at_append shards k (at_place m 1) (at_place m 2) ∙ (λ i. b i ++ c i)
