@@ -9,6 +9,7 @@ ghost use Rattle.rubis_replica.specs.Progress.{BatchGoesOn, HasBegun, is_behind,
 ghost use Rattle.rubis_replica.specs.Setup.{IsCount};
 
 use crate::applying::{apply_upto, count_left, count_parts};
+use crate::pace::Pace;
 use rubis_message::Message;
 use rubis_pieces::{Left, finish};
 use rubis_shard::Tables;
@@ -26,6 +27,7 @@ pub struct Follower<G: Gate> {
     // How many workers apply a batch, at most WORKERS_MAX, and what is called between a worker's take and its work.
     workers: u8,
     gate: G,
+    pace: Pace,
     // How many messages are applied, those of the begun batch aside.
     applied: usize,
     // How many messages of the log end the begun batch.
@@ -68,6 +70,7 @@ impl<G: Gate + Drop> Follower<G> {
             tables: Tables::new(alloc, usize::from(shards))?,
             workers,
             gate,
+            pace: Pace::new(),
             applied: 0,
             upto: 0,
             at: 0,
@@ -145,12 +148,31 @@ impl<G: Gate> Follower<G> {
         ended
     }
 
-    // Applies as one batch all that is pending, by the workers.
+    // How many workers apply so many messages: no more than there are messages or shards, and one while the others aren't
+    // worth their threads.
+    fn team(&mut self, messages: usize) -> usize
+        ensures count { (0 < result) × (result ≤ 16) }
+        ensures few { 1 < result → result ≤ messages }
+        ensures same { self.new ≡ self.old }
+    {
+        let most = usize::from(self.workers)
+            .min(messages)
+            .min(self.tables.len());
+        if most <= 1 || self.pace.rests(messages) {
+            1
+        } else {
+            most
+        }
+    }
+
+    // Applies as one batch all that is pending, by so many workers, of whom the caller's thread is one.
     fn follow_by_workers<R: Threads + Wait + Sync>(
         &mut self,
         rt: &R,
         log: &[Message],
+        team: usize,
     ) -> Result<(), AllocError>
+        requires team { (0 < team) × (team ≤ 16) }
         requires few { length log.now ≤ 1000000 }
         requires rests { self.old.progress.left ≡ 0 }
         requires follows { FollowsLog log.now self.old }
@@ -162,19 +184,22 @@ impl<G: Gate> Follower<G> {
     {
         let batch = &log[self.at..];
         let parts = count_parts(batch);
-        let left = apply_batch(
+        let share = batch.len() / self.tables.len();
+        let applied = apply_batch(
             rt,
             self.alloc,
             &mut self.tables,
             batch,
             self.at as u32 + 1,
-            usize::from(self.workers),
+            team,
             &self.gate,
         )?;
-        if count_left(left.as_slice()) == parts {
+        self.pace
+            .learn(team - 1, share.saturating_mul(applied.beside));
+        if count_left(applied.left.as_slice()) == parts {
             return Err(AllocError);
         }
-        self.rest = left.into();
+        self.rest = applied.left.into();
         self.at = log.len();
         self.note(log, log.len());
         if self.left > 0 {
@@ -184,8 +209,8 @@ impl<G: Gate> Follower<G> {
     }
 
     // Applies as one batch all that is pending. Where memory runs out the batch has begun, or nothing of it is done. The
-    // workers are called where there are several of them and of the messages: starting a thread costs as much as some thirty
-    // messages.
+    // workers are called where there are several of them, and of the messages and shards, and while they are worth their
+    // threads.
     pub fn follow<R: Threads + Wait + Sync>(
         &mut self,
         rt: &R,
@@ -199,10 +224,11 @@ impl<G: Gate> Follower<G> {
         ensures ok { OnOk result (self.new.progress ≡ resting_at (length log.now)) }
         ensures err { OnErr result ((self.new.progress ≡ self.old.progress) ⊎ HasBegun log.now self.old.progress self.new.progress) }
     {
-        if self.workers == 1 || log.len() - self.at <= 1 {
+        let team = self.team(log.len() - self.at);
+        if team == 1 {
             self.follow_here(log)
         } else {
-            self.follow_by_workers(rt, log)
+            self.follow_by_workers(rt, log, team)
         }
     }
 

@@ -5,6 +5,7 @@ mod applying;
 mod config;
 mod faults;
 mod follower;
+mod pace;
 mod site;
 
 pub use config::Config;

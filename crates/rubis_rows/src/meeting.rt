@@ -92,6 +92,7 @@ fn two_workers_meet(rt: HostRuntime) -> Result<(), Fail> {
     let worked = apply_none(&rt, rt.alloc(), 2, 2, &meeting)?;
     assert!(rt; meeting.met());
     assert_eq!(rt; meeting.taken.load(Ordering::SeqCst), 2);
+    assert_eq!(rt; worked.beside, 1);
     assert!(rt; worked.left.is_empty());
     let numbers = worked.shards.as_slice().iter().map(Shard::number);
     assert!(rt; numbers.eq(0..2));
@@ -121,9 +122,9 @@ fn site_that_meets<'a>(
 }
 
 // Takes in the message that is written so.
-fn arrive<'a, R: Threads + Wait + Sync>(
+fn arrive<G: Gate, R: Threads + Wait + Sync>(
     rt: &R,
-    site: &mut Site<Holding<'a>>,
+    site: &mut Site<G>,
     alloc: Global,
     text: &str,
 ) -> Result<Arrival, Fail>
@@ -135,9 +136,9 @@ fn arrive<'a, R: Threads + Wait + Sync>(
 }
 
 // Takes in two users and an item.
-fn arrive_three<'a, R: Threads + Wait + Sync>(
+fn arrive_three<G: Gate, R: Threads + Wait + Sync>(
     rt: &R,
-    site: &mut Site<Holding<'a>>,
+    site: &mut Site<G>,
     alloc: Global,
 ) -> Result<Arrival, Fail>
     requires { site.old.place.sites ≡ 2 }
@@ -216,5 +217,48 @@ fn two_workers_meet_in_a_run(rt: HostRuntime) -> Result<(), Fail> {
     assert_eq!(rt; end, Ok(Count { records: 3 }));
     assert!(rt; out.as_slice() == HEARD.as_bytes());
     assert!(rt; meeting.met());
+    Ok(())
+}
+
+/// Counts the pieces that are taken.
+#[derive(Drop)]
+struct Counting<'a> {
+    taken: &'a AtomicU64,
+}
+
+impl<'a> Gate for Counting<'a> {
+    fn taken(&self, _piece: usize) {
+        self.taken.fetch_add(1, Ordering::SeqCst);
+    }
+}
+
+// Takes in three batches of three messages; how many pieces were taken after each.
+fn count_in_three_batches<G: Gate, R: Threads + Wait + Sync>(
+    rt: &R,
+    site: &mut Site<G>,
+    alloc: Global,
+    taken: &AtomicU64,
+) -> Result<[u64; 3], Fail>
+    requires { site.old.place.sites ≡ 2 }
+{
+    arrive_three(rt, site, alloc)?;
+    let first = taken.load(Ordering::SeqCst);
+    arrive(rt, site, alloc, "msg,1,0,4,0,3:0,comment,0.3,0.2,0.1,1,x")?;
+    arrive(rt, site, alloc, "msg,1,0,5,0,4:0,comment,0.3,0.2,0.1,1,x")?;
+    arrive(rt, site, alloc, "msg,1,0,6,0,5:0,comment,0.3,0.2,0.1,1,x")?;
+    let second = taken.load(Ordering::SeqCst);
+    arrive(rt, site, alloc, "msg,1,0,7,0,6:0,comment,0.3,0.2,0.1,1,x")?;
+    arrive(rt, site, alloc, "msg,1,0,8,0,7:0,comment,0.3,0.2,0.1,1,x")?;
+    arrive(rt, site, alloc, "msg,1,0,9,0,8:0,comment,0.3,0.2,0.1,1,x")?;
+    Ok([first, second, taken.load(Ordering::SeqCst)])
+}
+
+#[test]
+fn a_batch_too_small_for_threads_has_the_next_one_done_alone(rt: HostRuntime) -> Result<(), Fail> {
+    let taken = AtomicU64::new(0);
+    let config = Config::new(1, 2, 2, 2, 3, 100).ok_or("a configuration")?;
+    let mut site = Site::new(rt.alloc(), &config, Counting { taken: &taken })?;
+    let counts = count_in_three_batches(&rt, &mut site, rt.alloc(), &taken)?;
+    assert_eq!(rt; counts, [2, 2, 4]);
     Ok(())
 }

@@ -7,7 +7,7 @@ ghost use Rattle.rubis_workers.specs.Work.{AreWorked, AppliesBatch};
 
 use crate::gate::Gate;
 use crate::rooms::Rooms;
-use crate::team::fan_out;
+use crate::team::{Teamwork, fan_out};
 use rubis_board::Poster;
 use rubis_pieces::{Left, Piece, gather};
 use rubis_schema::Items;
@@ -21,6 +21,8 @@ use std::thread::Threads;
 pub struct Worked {
     pub shards: Items<Shard>,
     pub left: Items<Left>,
+    /// How many of the shards other threads than the caller's took. It depends on the schedule, and nothing else does.
+    pub beside: usize,
 }
 
 /// There was no room to begin. Both lists are as they came.
@@ -74,6 +76,8 @@ pub fn apply_all<G: Gate, R: Threads + Wait + Sync>(
     requires workers { (0 < workers) × (workers ≤ 16) }
     ensures folded { IfOk result (AreWorked shards.items shares.items) }
     ensures batch { IfOk result (AppliesBatch shards.items shares.items) }
+    ensures beside { IfOk result (λ worked. worked.beside ≤ length shards.items) }
+    ensures alone { workers ≡ 1 → IfOk result (λ worked. worked.beside ≡ 0) }
     ensures back { IfErr result (λ unstarted. (unstarted.shards ≡ shards.items) × (unstarted.shares ≡ shares.items)) }
 {
     let pieces = shards.len();
@@ -91,12 +95,13 @@ pub fn apply_all<G: Gate, R: Threads + Wait + Sync>(
     } = rooms;
     let poster = post_all(rt, poster, shards, shares);
     let (board, pass) = poster.open();
-    let (pass, list) = fan_out(rt, &board, pass, mine, others, gate);
+    let Teamwork { pass, list, beside } = fan_out(rt, &board, pass, mine, others, gate);
     board.close(pass);
     match gather(list, places) {
         Ok(gathered) => Ok(Worked {
             shards: gathered.shards,
             left: gathered.left,
+            beside,
         }),
         Err(_) => unreachable!(),
     }

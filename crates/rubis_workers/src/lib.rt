@@ -7,6 +7,6 @@ mod gate;
 mod rooms;
 mod team;
 
-pub use applying::apply_batch;
+pub use applying::{AppliedBatch, apply_batch};
 pub use batches::{Unstarted, Worked, apply_all};
 pub use gate::{Free, Gate};

@@ -37,6 +37,17 @@ pub fn work<G: Gate, R: Wait>(
     (pass, room)
 }
 
+/// What a team made of a board.
+#[derive(Drop)]
+pub struct Teamwork {
+    /// It has all parts, and all that was taken.
+    pub pass: Pass,
+    /// The pieces that were taken, as they were worked.
+    pub list: Vec<Done>,
+    /// How many of them other threads than the caller's took.
+    pub beside: usize,
+}
+
 /// The caller's thread and one more for each further room: starts a thread for one, goes on with the others, and joins it.
 /// What a thread that can't be started was to do is done by the others.
 pub fn fan_out<G: Gate, R: Threads + Wait + Sync>(
@@ -46,21 +57,28 @@ pub fn fan_out<G: Gate, R: Threads + Wait + Sync>(
     room: Vec<Done>,
     mut rooms: Vec<Vec<Done>>,
     gate: &G,
-) -> (Pass, Vec<Done>)
+) -> Teamwork
     requires board { pass.board ≡ board.now }
     requires pieces { All IsPiece pass.posted }
     requires room { (pass.taken ≡ []) × (room.items ≡ []) × (length pass.posted ≤ vec_capacity room) }
     requires rooms { All (IsRoom (length pass.posted)) rooms.items }
     requires parts { vec_len rooms < pass.parts }
-    ensures pass { result.0 ≡ having pass result.0.taken true }
-    ensures done { AllZip IsWorked result.0.taken result.1.items }
-    ensures room { length pass.posted ≤ vec_capacity result.1 }
+    ensures pass { result.pass ≡ having pass result.pass.taken true }
+    ensures done { AllZip IsWorked result.pass.taken result.list.items }
+    ensures room { length pass.posted ≤ vec_capacity result.list }
+    ensures beside { result.beside ≤ vec_len result.list }
+    ensures alone { vec_len rooms ≡ 0 → result.beside ≡ 0 }
 {
     let Some(theirs) = rooms.pop() else {
-        return work(rt, board, pass, room, gate);
+        let (pass, list) = work(rt, board, pass, room, gate);
+        return Teamwork {
+            pass,
+            list,
+            beside: 0,
+        };
     };
     let (mine, new) = board.split(pass);
-    let ((new, mut theirs), (mine, mut ours)) = thread::join(
+    let ((new, mut theirs), ours) = thread::join(
         rt,
         move || -> (Pass, Vec<Done>)
             requires board { new.board ≡ board.now }
@@ -69,21 +87,32 @@ pub fn fan_out<G: Gate, R: Threads + Wait + Sync>(
             ensures pass { result.0 ≡ having new result.0.taken true }
             ensures done { AllZip IsWorked result.0.taken result.1.items }
         { work(rt, board, new, theirs, gate) },
-        move || -> (Pass, Vec<Done>)
+        move || -> Teamwork
             requires sync { IsSync R.row }
             requires board { mine.board ≡ board.now }
             requires pieces { All IsPiece mine.posted }
             requires room { (mine.taken ≡ []) × (room.items ≡ []) × (length mine.posted ≤ vec_capacity room) }
             requires rooms { All (IsRoom (length mine.posted)) rooms.items }
             requires parts { vec_len rooms < mine.parts }
-            ensures pass { result.0 ≡ having mine result.0.taken true }
-            ensures done { AllZip IsWorked result.0.taken result.1.items }
-            ensures room { length mine.posted ≤ vec_capacity result.1 }
+            ensures pass { result.pass ≡ having mine result.pass.taken true }
+            ensures done { AllZip IsWorked result.pass.taken result.list.items }
+            ensures room { length mine.posted ≤ vec_capacity result.list }
+            ensures beside { result.beside ≤ vec_len result.list }
         { fan_out(rt, board, mine, room, rooms, gate) },
     );
+    let Teamwork {
+        pass: mine,
+        mut list,
+        beside,
+    } = ours;
     let pass = board.join(mine, new);
-    match ours.append(&mut theirs) {
-        Ok(()) => (pass, ours),
+    let more = theirs.len();
+    match list.append(&mut theirs) {
+        Ok(()) => Teamwork {
+            pass,
+            list,
+            beside: beside + more,
+        },
         Err(_) => unreachable!(),
     }
 }

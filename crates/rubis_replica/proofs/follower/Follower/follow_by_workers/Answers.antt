@@ -10,8 +10,8 @@ returns-then-self-gt0-clause-follows g c =
     let old : Follower = record { progress = record { applied = c.self.inside.applied; upto = c.self.inside.upto; left = c.self.inside.left }; at = c.self.inside.at; rest = c.self.inside.rest.items; tables = c.self.inside.tables } in
     let follows = subst (FollowsLog log) (sym c.self.view_is) c.requires.follows in
     let rests = ap (λ (f : Follower). f.progress.left) c.self.view_is ∙ c.requires.rests in
-    workers_follow log old c.note.new.self (c.self.inside.at + 1) c.apply_batch.new.tables c.in_ok-left.left follows rests (omega arith)
-    c.in_ok-left.ensures.begun.many c.in_ok-left.ensures.log c.in_ok-left.ensures.unfinished c.note.ensures.noted c.note.ensures.at
+    workers_follow log old c.note.new.self (c.self.inside.at + 1) c.apply_batch.new.tables c.in_ok-applied.applied.left follows rests (omega arith)
+    c.in_ok-applied.ensures.begun.many c.in_ok-applied.ensures.log c.in_ok-applied.ensures.unfinished c.note.ensures.noted c.note.ensures.at
     (c.note.ensures.rest ∙ c.into.ensures) c.note.ensures.tables
 
 pub returns-then-self-gt0-clause-limits : goal.returns-then-self-gt0-clause-limits
@@ -26,8 +26,8 @@ returns-clause-follows g c =
     let old : Follower = record { progress = record { applied = c.self.inside.applied; upto = c.self.inside.upto; left = c.self.inside.left }; at = c.self.inside.at; rest = c.self.inside.rest.items; tables = c.self.inside.tables } in
     let follows = subst (FollowsLog log) (sym c.self.view_is) c.requires.follows in
     let rests = ap (λ (f : Follower). f.progress.left) c.self.view_is ∙ c.requires.rests in
-    workers_follow log old c.note.new.self (c.self.inside.at + 1) c.apply_batch.new.tables c.in_ok-left.left follows rests (omega arith)
-    c.in_ok-left.ensures.begun.many c.in_ok-left.ensures.log c.in_ok-left.ensures.unfinished c.note.ensures.noted c.note.ensures.at
+    workers_follow log old c.note.new.self (c.self.inside.at + 1) c.apply_batch.new.tables c.in_ok-applied.applied.left follows rests (omega arith)
+    c.in_ok-applied.ensures.begun.many c.in_ok-applied.ensures.log c.in_ok-applied.ensures.unfinished c.note.ensures.noted c.note.ensures.at
     (c.note.ensures.rest ∙ c.into.ensures) c.note.ensures.tables
 
 pub returns-clause-limits : goal.returns-clause-limits
