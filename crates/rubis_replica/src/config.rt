@@ -5,7 +5,7 @@ ghost use Rattle.rubis_replica.specs.Setup.{IsCount, IsSetup, Setup};
 use rubis_schema::{BATCH_MAX, KEEP_MAX, SHARDS_MAX, SITES_MAX, WORKERS_MAX};
 use std::marker::Model;
 
-/// How a site is set up: which one it is, of how many; how many shards its tables have, how many workers apply
+/// How a site is set up: which one it is, of how many; how many shards its tables have, how many workers may apply
 /// shadows to them, and how many shadows make a batch; and how many messages it keeps.
 #[derive(Clone, Copy, PartialEq, Eq, Debug)]
 pub struct Config {
@@ -91,7 +91,7 @@ impl Config {
         self.shards
     }
 
-    /// How many workers apply shadows.
+    /// How many workers may apply shadows.
     pub fn workers(&self) -> u8
         ensures value { result ≡ self.now.workers }
         ensures limits { IsCount result WORKERS_MAX }

@@ -27,6 +27,7 @@ pub struct Follower<G: Gate> {
     // How many workers apply a batch, at most WORKERS_MAX, and what is called between a worker's take and its work.
     workers: u8,
     gate: G,
+    // When these workers are called.
     pace: Pace,
     // How many messages are applied, those of the begun batch aside.
     applied: usize,

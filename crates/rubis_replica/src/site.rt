@@ -47,9 +47,9 @@ impl<G: Gate> Model for Site<G> {
 }
 
 impl<G: Gate + Drop> Site<G> {
-    /// A site with nothing done, set up so. Each of its batches is applied under the gate: a worker calls it between its take
-    /// of a shard and its work on it. A batch of one message, and every batch where one worker is set up, is applied on the
-    /// caller's thread: there nothing is taken, and the gate isn't called.
+    /// A site with nothing done, set up so. Where workers apply a batch, each calls the gate between its take of a shard and
+    /// its work on it. A batch of one message, every batch where one worker is set up, and those for which several aren't
+    /// worth their threads are applied on the caller's thread: there nothing is taken, and the gate isn't called.
     pub fn new(alloc: Global, config: &Config, gate: G) -> Result<Site<G>, AllocError>
         ensures { IfOk result (λ site. site ≡ record { place = setup_place config.now; state = opening_at config.now.site; progress = resting_at 0; batch = config.now.batch }) }
     {
