@@ -3,14 +3,15 @@
 ghost use Rattle.std.specs.Prelude.{◌≡◌, ◌<◌, ◌≤◌, ◌*◌, nat_lt};
 ghost use Rattle.rubis_replica.specs.Pace.{longer, ready, shorter};
 
-// A thread's start costs as much as so many messages.
-pub const START: usize = 32;
+// A thread is worth its start where it does so many messages: the start costs as much as some thirty, and cutting the batch
+// into shares and waiting for the thread as much as the others.
+pub const WORTH: usize = 160;
 
 // The most messages that are done alone before the workers are called again.
 pub const ALONE_MAX: usize = 65_536;
 
 // Whether the workers are worth their threads, as far as the last batches tell. Where the threads beside the caller's did less
-// than their start costs, the next messages are done alone, twice as many each time.
+// than WORTH messages each, the next ones are done alone, twice as many each time.
 #[derive(Drop, Clone, Copy)]
 pub struct Pace {
     // How many messages are still done alone.
@@ -40,10 +41,10 @@ impl Pace {
     // The workers were called, with so many threads beside the caller's, which did so many messages.
     pub fn learn(&mut self, threads: usize, messages: usize)
         requires { threads ≤ 16 }
-        ensures worth { START * threads ≤ messages → self.new ≡ ready }
-        ensures not_worth { messages < START * threads → self.new ≡ longer self.old }
+        ensures worth { WORTH * threads ≤ messages → self.new ≡ ready }
+        ensures not_worth { messages < WORTH * threads → self.new ≡ longer self.old }
     {
-        if messages >= START * threads {
+        if messages >= WORTH * threads {
             *self = Pace::new();
             return;
         }
