@@ -1,19 +1,24 @@
 #!/usr/bin/env python3
 """Checks the pages against the sources.
 
-    scripts/check_pages.py
+    scripts/check_pages.py [--fix]
 
 - Each definition or type that docs/MODEL.md reads aloud stands in a crate's `specs` or `src`.
 - Each call, definition and wrong body that docs/PROMISES.md names stands in a crate's `src`, `specs` or `must-fail`.
 - Each statement that docs/PROMISES.md quotes is its source, word for word.
-- Each wrong body is named in docs/PROMISES.md.
+- Each wrong body is named in docs/PROMISES.md, in a row of a call of its own crate.
+- Each link of README.md and docs/ to lines of a source, as [`name`](crates/..#L1-L2), names the lines of that function with
+  its contract, or of that definition.
+- Each picture of docs/ is what scripts/picture.py draws of its conversation.
 
-Each fault is told by file and line; the last line says how many names and statements were looked at.
+With --fix, links are set to their lines and pictures are drawn anew first. Each fault is told by file and line; the last line says how many names and statements were looked at.
 """
 
 import pathlib
 import re
 import sys
+
+import picture
 
 TOP = pathlib.Path(__file__).resolve().parent.parent
 CRATES = TOP / "crates"
@@ -25,6 +30,15 @@ ITEM = re.compile(r"\b(?:fn|struct|enum|trait|const|mod|type)\s+(\w+)")
 VARIANT = re.compile(r"^\s+(\w+)(?:\(|,|\s\{)", re.M)
 CODE_SPAN = re.compile(r"`([^`]+)`")
 PATH_OR_NAME = re.compile(r"^[A-Za-z_]\w*(?:::\w+)*$")
+
+# A link to lines of a source.
+LINK = re.compile(r"\[`([\w:]+)`\]\(([^)#\s]*crates/[^)#\s]+)(?:#L(\d+)-L(\d+))?\)")
+
+# The pictures of docs/, each with the conversation that it is drawn of.
+PICTURES = {
+    "docs/two_sites.svg": "conversations/two_sites_and_the_token.txt",
+    "docs/two_holders.svg": "conversations/an_audit_finds_two_holders_of_the_token.txt",
+}
 
 # Words in code spans that are no names of ours: Rust's, the toolchain's and the crates' that we stand on.
 FOREIGN = {"Ok", "Err", "None", "Some", "true", "false", "clap", "csv", "deps", "none", "requires", "ensures"}
@@ -111,16 +125,122 @@ def check_quotes(page: pathlib.Path) -> tuple[int, list[str]]:
     return looked, faults
 
 
+def crates_by_name() -> dict[str, set[str]]:
+    """The crates in whose `src` a function or a type of that name stands."""
+    made: dict[str, set[str]] = {}
+    for path in files("src", ".rt"):
+        for name in ITEM.findall(path.read_text()):
+            made.setdefault(name, set()).add(path.relative_to(CRATES).parts[0])
+    return made
+
+
+def check_edits(page: pathlib.Path, edits: dict[str, set[str]]) -> tuple[int, list[str]]:
+    """A line that names wrong bodies names, before them, a call of the crate in which each stands."""
+    looked, faults = 0, []
+    crates = crates_by_name()
+    for at, line in enumerate(page.read_text().splitlines(), 1):
+        spans = CODE_SPAN.findall(line)
+        calls = set()
+        for span in spans:
+            if PATH_OR_NAME.match(span) and span not in edits:
+                calls |= set().union(*(crates.get(part, set()) for part in span.split("::")))
+        for span in (span for span in spans if span in edits):
+            looked += 1
+            if not edits[span] & calls:
+                faults.append(f"{page.relative_to(TOP)}:{at}: `{span}` stands in {', '.join(sorted(edits[span]))}, and no call of it is named here")
+    return looked, faults
+
+
+def lines_of_function(lines: list[str], name: str) -> tuple[int, int] | str:
+    """The lines from a public function's comment to its last clause, from 1; or what is wrong."""
+    at = next((at for at, line in enumerate(lines) if re.match(rf"\s*pub fn {name}\b", line)), None)
+    if at is None:
+        return "is no public function there"
+    first, last = at, at
+    while first > 0 and lines[first - 1].strip().startswith(("///", "#[")):
+        first -= 1
+    while lines[last].strip() not in ("{", "{}") and not lines[last].endswith((" {", ";")):
+        last += 1
+    if not any(line.strip().startswith("ensures") for line in lines[at:last]):
+        return "has no contract there"
+    return first + 1, last
+
+
+def lines_of_definition(lines: list[str], name: str) -> tuple[int, int] | str:
+    """The lines of a definition with the comment before it, from 1; or what is wrong."""
+    at = next((at for at, line in enumerate(lines) if (found := DEFINITION.match(line)) and found.group(1) == name), None)
+    if at is None:
+        return "is no definition there"
+    first, last = at, at
+    while first > 0 and lines[first - 1].startswith("-- "):
+        first -= 1
+    while last < len(lines) and lines[last].strip():
+        last += 1
+    return first + 1, last
+
+
+def check_links(page: pathlib.Path, fix: bool) -> tuple[int, list[str]]:
+    looked, faults, text = 0, [], page.read_text()
+
+    def lines_of(name: str, path: str) -> tuple[int, int] | str:
+        source = (page.parent / path).resolve()
+        if not source.is_file():
+            return "stands in a file that isn't there"
+        lines = source.read_text().splitlines()
+        return (lines_of_function if source.suffix == ".rt" else lines_of_definition)(lines, name.split("::")[-1])
+
+    def fixed(link: re.Match) -> str:
+        found = lines_of(link.group(1), link.group(2))
+        return link.group(0) if isinstance(found, str) else f"[`{link.group(1)}`]({link.group(2)}#L{found[0]}-L{found[1]})"
+
+    if fix:
+        new = LINK.sub(fixed, text)
+        if new != text:
+            page.write_text(new)
+            text = new
+    for at, line in enumerate(text.splitlines(), 1):
+        for name, path, first, last in LINK.findall(line):
+            looked += 1
+            found = lines_of(name, path)
+            if isinstance(found, str):
+                faults.append(f"{page.relative_to(TOP)}:{at}: `{name}` {found}: {path}")
+            elif (first, last) != (str(found[0]), str(found[1])):
+                faults.append(f"{page.relative_to(TOP)}:{at}: `{name}` stands in lines {found[0]} to {found[1]} of {path}; check_pages.py --fix writes that")
+    return looked, faults
+
+
+def check_callers(page: pathlib.Path) -> tuple[int, list[str]]:
+    """Each piece of code on the page for callers stands so in the tests, where it is proved."""
+    proved = squeezed((CRATES / "rubis_streams/src/callers.rt").read_text())
+    pieces = re.findall(r"```rust\n(.*?)```", page.read_text(), re.S)
+    return len(pieces), [f"{page.name}: no such code in rubis_streams: {piece.splitlines()[0]}" for piece in pieces if squeezed(piece) not in proved]
+
+
+def check_pictures(fix: bool) -> tuple[int, list[str]]:
+    faults = []
+    for name, conversation in PICTURES.items():
+        drawn = picture.drawn((TOP / conversation).read_text())
+        if fix:
+            (TOP / name).write_text(drawn)
+        if not (TOP / name).exists() or (TOP / name).read_text() != drawn:
+            faults.append(f"{name}:1: isn't what scripts/picture.py draws of {conversation}; check_pages.py --fix draws it")
+    return len(PICTURES), faults
+
+
 def main() -> int:
+    fix = sys.argv[1:] == ["--fix"]
     model, promises = TOP / "docs/MODEL.md", TOP / "docs/PROMISES.md"
     specs = spec_names()
-    edits = {path.stem: path for path in CRATES.glob("*/must-fail/*.edit")}
+    edits: dict[str, set[str]] = {}
+    for path in CRATES.glob("*/must-fail/*.edit"):
+        edits.setdefault(path.stem, set()).add(path.relative_to(CRATES).parts[0])
     everything = specs | code_names() | set(edits) | FOREIGN
-    found = [check_model(model, specs | code_names()), check_names(promises, everything), check_quotes(promises)]
+    found = [check_model(model, specs | code_names()), check_names(promises, everything), check_quotes(promises), check_edits(promises, edits), check_pictures(fix), check_callers(TOP / "docs/CALLING.md")]
+    found += [check_links(page, fix) for page in [TOP / "README.md", *sorted(TOP.glob("docs/*.md"))]]
     looked = sum(count for count, _ in found) + len(edits)
     faults = [fault for _, part in found for fault in part]
     named = {span for _, span in code_spans(promises)}
-    faults += [f"{path.relative_to(TOP)}: docs/PROMISES.md doesn't name it" for stem, path in sorted(edits.items()) if stem not in named]
+    faults += [f"crates/{'|'.join(sorted(where))}/must-fail/{stem}.edit: docs/PROMISES.md doesn't name it" for stem, where in sorted(edits.items()) if stem not in named]
     for fault in faults:
         print(fault)
     print(f"pages: {looked - len(faults)} passed, {len(faults)} failed")

@@ -6,17 +6,25 @@
 A conversation is a text file. Its first line is the command, `$ rubis site --sites 2`; a line that begins with `> ` is
 a record of the input, and the lines below it are the answers to it. Lines before the command that begin with `#` are
 notes. It is played under several settings of batch, shards and workers, which change no answer; what the command sets
-itself stays as it is. An example is a block of a page that begins with ```console: what follows `$ ` is run by a shell
-at a folder where `./rubis` is the program, and the lines below it are what it writes.
+itself stays as it is. Lines before the command that begin with `% ` give the settings in place of these, as
+`% --batch 1 7 64 --workers 1 16`: each choice of a value for each option.
+
+An example is a block of a page that begins with ```console: what follows `$ ` is run by a shell, and the lines below it
+are what it writes on standard output; its status has to be 0. The examples of a page are run one after the other in a new folder, which looks
+like the top of the repository: `./rubis` is the program, and `examples`, `scripts`, `conversations` and `docs` are there.
+`ssh` is a stand-in that runs the command on this machine. A block that begins with ```console NAME.. needs the programs
+of these names, and is skipped, aloud, where one is missing.
 
 With no FILE: all of conversations/, README.md and docs/. Each difference is told by file and line; the last line says
 how many were played. The status is 1 where something differed.
 """
 
+import itertools
 import os
 import pathlib
 import re
 import shlex
+import shutil
 import subprocess
 import sys
 import tempfile
@@ -73,18 +81,33 @@ def settings_of(words: list[str]) -> list[list[str]]:
     return made
 
 
+def settings_in(line: str) -> list[list[str]]:
+    """Each choice of a value for each option of a line as `--batch 1 7 64 --workers 1 16`."""
+    options: list[list[list[str]]] = []
+    for word in line.split():
+        if word.startswith("--"):
+            option = word
+            options.append([])
+        else:
+            options[-1].append([option, word])
+    return [[part for pair in chosen for part in pair] for chosen in itertools.product(*options)]
+
+
 def play_conversation(program: pathlib.Path, path: pathlib.Path, name: str) -> int:
     """Plays a conversation under each of its settings; how many those were."""
     numbered = list(enumerate(path.read_text().splitlines(), 1))
-    while numbered and numbered[0][1].startswith("#"):
-        numbered.pop(0)
+    own: list[list[str]] = []
+    while numbered and numbered[0][1].startswith(("#", "% ")):
+        line = numbered.pop(0)[1]
+        if line.startswith("% "):
+            own += settings_in(line[2:])
     if not numbered or not numbered[0][1].startswith("$ rubis "):
         raise Failed(f"{name}:1: the command is missing, as `$ rubis site`")
     words = shlex.split(numbered.pop(0)[1])[2:]
     said = "".join(text[2:] + "\n" for _, text in numbered if text.startswith("> "))
     heard = [(line, text) for line, text in numbered if not text.startswith("> ")]
     last = numbered[-1][0] if numbered else 1
-    commands = settings_of(words)
+    commands = [words + setting for setting in own] or settings_of(words)
     for command in commands:
         shown = shlex.join(["rubis", *command])
         done = subprocess.run([program, *command], input=said.encode(), capture_output=True, timeout=SECONDS)
@@ -94,40 +117,59 @@ def play_conversation(program: pathlib.Path, path: pathlib.Path, name: str) -> i
     return len(commands)
 
 
-def examples_of(path: pathlib.Path) -> list[tuple[int, str, list[tuple[int, str]], int]]:
-    """The examples of a page: line, command, the output's lines, and the last line."""
+def examples_of(path: pathlib.Path) -> list[tuple[int, list[str], str, list[tuple[int, str]], int]]:
+    """The examples of a page: line, programs that it needs, command, the output's lines, and the last line."""
     made = []
-    inside = False
+    inside, needs = False, []
     lines = path.read_text().splitlines()
     at = 0
     while at < len(lines):
         line = lines[at]
         at += 1
         if line.startswith("```"):
-            inside = line == "```console"
+            words = line[3:].split()
+            inside, needs = words[:1] == ["console"], words[1:]
         elif inside and line.startswith("$ "):
             start, command = at, line[2:]
             mark = re.search(r"<<'(\w+)'", command)
-            while mark and at < len(lines):
+            while at < len(lines) and (mark or command.endswith("\\")):
                 command += "\n" + lines[at]
                 at += 1
-                if lines[at - 1] == mark.group(1):
+                if mark and lines[at - 1] == mark.group(1):
                     break
             output = []
             while at < len(lines) and not lines[at].startswith(("```", "$ ")):
                 output.append((at + 1, lines[at]))
                 at += 1
-            made.append((start, command, output, at))
+            made.append((start, needs, command, output, at))
     return made
 
 
-def play_examples(folder: str, path: pathlib.Path, name: str) -> int:
-    """Runs the examples of a page; how many they were."""
+def play_examples(program: pathlib.Path, path: pathlib.Path, name: str) -> tuple[int, int]:
+    """Runs the examples of a page; how many were run, and how many were skipped."""
     examples = examples_of(path)
-    for start, command, output, last in examples:
-        done = subprocess.run(["sh", "-c", command], cwd=folder, capture_output=True, timeout=SECONDS)
-        compare(name, output, last, done.stdout.decode("utf-8", "replace"), f"the example of line {start}")
-    return len(examples)
+    skipped, told = 0, []
+    paths = os.pathsep.join([str(TOP / "scripts/stand_ins"), os.environ.get("PATH", os.defpath), "/usr/sbin"])
+    with tempfile.TemporaryDirectory() as folder, tempfile.TemporaryFile() as written:
+        os.symlink(program, pathlib.Path(folder) / "rubis")
+        for part in ("examples", "scripts", "conversations", "docs"):
+            os.symlink(TOP / part, pathlib.Path(folder) / part)
+        for start, needs, command, output, last in examples:
+            missing = [need for need in needs if not shutil.which(need, path=paths)]
+            if missing:
+                if needs is not told:
+                    print(f"{name}:{start}: the examples from here on are skipped: no {', '.join(missing)} on this machine")
+                skipped, told = skipped + 1, needs
+                continue
+            # A file, since what a command leaves running keeps its output open.
+            written.seek(0)
+            written.truncate()
+            done = subprocess.run(["sh", "-c", command], cwd=folder, env={**os.environ, "PATH": paths}, stdout=written, stderr=subprocess.DEVNULL, timeout=SECONDS)
+            written.seek(0)
+            compare(name, output, last, written.read().decode("utf-8", "replace"), f"the example of line {start}")
+            if done.returncode != 0:
+                raise Failed(f"{name}:{start}: the example ended with status {done.returncode}")
+    return len(examples) - skipped, skipped
 
 
 def main() -> int:
@@ -138,20 +180,19 @@ def main() -> int:
     paths = [pathlib.Path(word).resolve() for word in sys.argv[2:]]
     if not paths:
         paths = [*sorted(TOP.glob("conversations/**/*.txt")), TOP / "README.md", *sorted(TOP.glob("docs/*.md"))]
-    passed, failed = 0, 0
-    with tempfile.TemporaryDirectory() as folder:
-        os.symlink(program, pathlib.Path(folder) / "rubis")
-        for path in paths:
-            name = os.path.relpath(path, TOP)
-            try:
-                if path.suffix == ".md":
-                    passed += play_examples(folder, path, name)
-                else:
-                    passed += play_conversation(program, path, name)
-            except (Failed, subprocess.TimeoutExpired) as fault:
-                failed += 1
-                print(fault)
-    print(f"conversations: {passed} passed, {failed} failed")
+    passed, failed, skipped = 0, 0, 0
+    for path in paths:
+        name = os.path.relpath(path, TOP)
+        try:
+            if path.suffix == ".md":
+                run, left = play_examples(program, path, name)
+                passed, skipped = passed + run, skipped + left
+            else:
+                passed += play_conversation(program, path, name)
+        except (Failed, subprocess.TimeoutExpired) as fault:
+            failed += 1
+            print(fault)
+    print(f"conversations: {passed} passed, {failed} failed" + (f", {skipped} skipped" if skipped else ""))
     return 1 if failed else 0
 
 

@@ -2,19 +2,31 @@
 """Plays random conversations on a program: scripts/random_runs.py PROGRAM [HOW_MANY [SEED]]
 
 Each conversation is played with batches of one message, one shard and one worker, and then under random batches, shards and
-workers: the answers have to be the same, byte for byte. Half of the sites take packets of another site, out of order, some
-of them forged, lost or repeated; a listing may come at any record. A quarter as many conversations are those of a world of
-up to 8 sites: packets come in any order, again, or not at all, the token goes round, and after each hundred records an
-audit has to agree. At the end all packets are delivered to all sites, whose tables then have to be the same. The seed is
-fixed, so each run of this script plays the same conversations."""
+workers: the answers have to be the same, byte for byte. Half of the sites take packets of another site in long runs, out of
+order, some of them forged, lost or repeated; a listing may come at any record. Each tenth conversation is played over pipes
+too, where a record is only written once the one before it is answered. A quarter as many conversations are those of a world of
+up to 16 sites: packets come in any order, again, or not at all, the token goes round, and after each hundred records an
+audit has to agree. At the end all packets are delivered to all sites, whose tables then have to be the same. The logs of
+that world, whole and with a record left out, are then audited as they are and widened to more sites: the audits have to
+say the same. Nicknames are few, so that renames meet. The seed is fixed, so each run of this script plays the same
+conversations."""
 
 import random
 import subprocess
 import sys
+import threading
 
-NICKS = ["ann", "bob", "cat", "dan", "eve", "fay", "gus", "hal"]
+# For how many seconds a site may leave a record of a pipe without an answer.
+WAIT = 60
+
+NICKS = [f"{name}{digit}" for name in ["ann", "bob", "cat", "dan", "eve", "fay", "gus", "hal"] for digit in range(3)]
 
 LISTINGS = ["users", "items,7", "items,8", "bids,{id}", "purchases,{id}", "comments,{id}", "categories", "tables", "log", "misfits"]
+
+
+def version(shadow: str) -> int:
+    """The version of a message with this shadow."""
+    return 2 if shadow.startswith(("restock,", "rename,")) else 1
 
 
 def shadow_or_ask(dice: random.Random, made: int, is_shadow: bool) -> tuple[str, bool]:
@@ -22,9 +34,13 @@ def shadow_or_ask(dice: random.Random, made: int, is_shadow: bool) -> tuple[str,
     def row() -> str:
         return f"0.{dice.randint(1, max(1, made))}"
 
-    kind = dice.choice(["user", "item", "bid", "bid", "buy", "close", "comment", "comment"])
+    kind = dice.choice(["user", "user", "item", "bid", "bid", "buy", "close", "comment", "comment", "restock", "rename"])
     if kind == "user":
-        return f"user,{dice.choice(NICKS)}{dice.randint(0, 9)}", True
+        return f"user,{dice.choice(NICKS)}", True
+    if kind == "restock":
+        return (f"restock,{row()},{dice.randint(1, 5)}" if is_shadow else f"restock,{row()},{row()},{dice.randint(1, 5)}"), False
+    if kind == "rename":
+        return f"rename,{row()},{','.join(dice.sample(NICKS, 2)) if is_shadow else dice.choice(NICKS)}", True
     if kind == "item":
         return f"item,{row()},lamp,{dice.choice([7, 8])},{dice.randint(1, 9)},100,{dice.choice([0, 300])}", False
     if kind == "bid":
@@ -43,7 +59,7 @@ def packets(dice: random.Random, many: int) -> list[str]:
     for seq in range(1, many + 1):
         shadow, is_red = shadow_or_ask(dice, seq, True)
         red += is_red
-        sent.append(f"msg,1,0,{seq},{red if is_red else 0},{seq - 1}:0,{shadow}")
+        sent.append(f"msg,{version(shadow)},0,{seq},{red if is_red else 0},{seq - 1}:0,{shadow}")
     window = dice.choice([1, 4, 64])
     shuffled = []
     for start in range(0, many, window):
@@ -77,9 +93,13 @@ def world_records(dice: random.Random, sites: int, many: int) -> list[str]:
         return f"{site}.{dice.randint(1, made[site] + 1)}"
 
     def ask() -> str:
-        kind = dice.choice(["user", "user", "item", "bid", "bid", "buy", "close", "comment"])
+        kind = dice.choice(["user", "user", "item", "bid", "bid", "buy", "close", "comment", "restock", "rename"])
         if kind == "user":
-            return f"user,{dice.choice(NICKS)}{dice.randint(0, 9)}"
+            return f"user,{dice.choice(NICKS)}"
+        if kind == "restock":
+            return f"restock,{row()},{row()},{dice.randint(1, 5)}"
+        if kind == "rename":
+            return f"rename,{row()},{dice.choice(NICKS)}"
         if kind == "item":
             return f"item,{row()},lamp,{dice.choice([7, 8])},{dice.randint(1, 9)},100,{dice.choice([0, 300])}"
         if kind == "bid":
@@ -127,7 +147,7 @@ def tables_at_the_end(text: bytes, sites: int, last: int) -> list[list[bytes]]:
 
 def fault_in_world(program: str, dice: random.Random) -> str | None:
     """Plays a random world, and says what is wrong with its answers, if anything."""
-    sites = dice.randint(2, 8)
+    sites = dice.choice([2, 3, 4, 5, 6, 7, 8, 16])
     records = world_records(dice, sites, dice.choice([60, 250, 600]))
     command = ["world", "--sites", str(sites)]
     plain = command + ["--batch", "1", "--shards", "1", "--workers", "1"]
@@ -142,15 +162,39 @@ def fault_in_world(program: str, dice: random.Random) -> str | None:
     tables = tables_at_the_end(alone, sites, len(records))
     if any(rows != tables[0] for rows in tables):
         return "the sites' tables differ at the end"
+    return fault_in_audits(program, dice, sites, logs_of(alone, sites, tables[0]))
+
+
+def logs_of(text: bytes, sites: int, rows: list[bytes]) -> list[str]:
+    """The records of an audit of a world in which all sites released all messages and have these rows."""
+    sent = [line.split(b",send,", 1)[1].decode() for line in text.splitlines() if b",send,msg," in line]
+    return [record for site in range(sites) for record in (f"site,{site}", *sent, *(row.decode() for row in rows))]
+
+
+def fault_in_audits(program: str, dice: random.Random, sites: int, logs: list[str]) -> str | None:
+    """Audits logs as they are, with one record left out and with a bad one, and widened too; says if audits differ."""
+    lost = dice.randrange(1, len(logs))
+    for records in (logs, logs[:lost] + logs[lost + 1 :], [*logs, "token,1,1,0,0"]):
+        to = dice.randint(sites, 16)
+        widened = answers(program, ["widen", "--sites", str(sites), "--to", str(to)], records).decode().splitlines()
+        said = answers(program, ["audit", "--sites", str(sites)], records).decode()
+        if said.startswith("audit,BadRecord,"):
+            if widened[-1] != said.strip().replace("audit", "widen", 1):
+                return "a bad record isn't the last that is widened"
+        elif answers(program, ["audit", "--sites", str(to)], widened).decode() != said:
+            return "an audit of what was widened says otherwise"
     return None
 
 
-def fault_in_site(program: str, dice: random.Random) -> str | None:
+def fault_in_site(program: str, dice: random.Random, is_live: bool) -> str | None:
     """Plays a random conversation with one site, and says what is wrong with its answers, if anything."""
     command, records = conversation(dice)
     alone = answers(program, ["site", *command, "--batch", "1", "--shards", "1", "--workers", "1"], records)
-    if answers(program, ["site", *command, *settings(dice)], records) != alone:
+    many = settings(dice)
+    if answers(program, ["site", *command, *many], records) != alone:
         return "the answers differ"
+    if is_live and live_answers(program, ["site", *command, *many], records) != alone:
+        return "a record isn't answered before the next one is written"
     return None
 
 
@@ -165,14 +209,37 @@ def answers(program: str, command: list[str], records: list[str]) -> bytes:
     return subprocess.run([program, *command], input=text, capture_output=True, check=True).stdout
 
 
+def live_answers(program: str, command: list[str], records: list[str]) -> bytes:
+    """The answers to records of which each is written once the one before it is answered, or those so far where one isn't."""
+    text = b""
+    with subprocess.Popen([program, *command], stdin=subprocess.PIPE, stdout=subprocess.PIPE) as site:
+        waits_too_long = threading.Timer(WAIT, site.kill)
+        waits_too_long.start()
+        for record in records:
+            try:
+                site.stdin.write(f"{record}\n".encode())
+                site.stdin.flush()
+            except BrokenPipeError:
+                break
+            reply = site.stdout.readline()
+            text += reply
+            fields = reply.strip().split(b",")
+            more = int(fields[3]) if fields[2:3] == [b"rows"] else int(fields[2:3] in ([b"ok"], [b"passed"]))
+            for _ in range(more):
+                text += site.stdout.readline()
+        waits_too_long.cancel()
+        site.stdin.close()
+    return text
+
+
 def main() -> int:
     program = sys.argv[1]
     many = int(sys.argv[2]) if len(sys.argv) > 2 else 200
     seed = int(sys.argv[3]) if len(sys.argv) > 3 else 1
     worlds = many // 4
     for number in range(many + worlds):
-        play = fault_in_site if number < many else fault_in_world
-        fault = play(program, random.Random(f"{seed} {number}"))
+        dice = random.Random(f"{seed} {number}")
+        fault = fault_in_site(program, dice, number % 10 == 0) if number < many else fault_in_world(program, dice)
         if fault:
             print(f"random run {number} of seed {seed}: {fault}")
             return 1

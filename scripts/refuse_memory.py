@@ -1,7 +1,7 @@
 #!/usr/bin/env python3
 """Runs a program again and again, each time with one more call for memory refused:
 
-    scripts/refuse_memory.py PROGRAM [site OPTIONS..] [< RECORDS]
+    scripts/refuse_memory.py PROGRAM [COMMAND OPTIONS..] [< RECORDS]
 
 A small library, built with `cc` and loaded before the program, has malloc and its kin refuse their n-th call, for n from 1 on,
 until hundreds of runs met no refusal. Each run has to end with status 0 and the whole text, or with status 1, `run fault:

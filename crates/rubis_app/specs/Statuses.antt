@@ -18,6 +18,6 @@ IsStatusAmong [] s = ⊥
 IsStatusAmong (k ∷ ks) s = (s ≡ status_by k) ⊎ IsStatusAmong ks s
 
 -- the status of these words: that of a fault, as any run may end; that of a reason to refuse them; or, where there is
--- none, that of a run that went well, or of a site that isn't below `sites`
+-- none, that of a run that went well, or of a site that isn't below `sites` or logs widened to fewer sites
 abbrev pub IsStatusOf : List Text → ℕ → Type 0
 IsStatusOf words s = (s ≡ 1) ⊎ IsStatusAmong (fault_of command_line words) s ⊎ ((fault_of command_line words ≡ []) × ((s ≡ 0) ⊎ (s ≡ 2)))

@@ -1,4 +1,5 @@
-//! `rubis`: an auction site, several in one run, or an auditor of their logs, over standard input and output.
+//! `rubis`: an auction site, several in one run, an auditor of their logs, or what widens these, over standard input and
+//! output.
 #![tactic(auto)]
 
 ghost use Rattle.std.specs.Prelude.{◌≡◌, ◌⊎◌, ◌<◌, ◌≤◌, cond, is_ok, map, string_bytes};
@@ -12,17 +13,18 @@ ghost use Rattle.rubis_world.specs.Setup.{IsWorldSetup};
 ghost use Rattle.rubis_app.specs.Statuses.{IsStatusOf, status_by};
 
 use clap::Error;
-use rubis_audit::Auditor;
-use rubis_command::{OptionFault, Options, Run, Setup, read_options};
-use rubis_replica::{Config, Free};
-use rubis_schema::{RECORDS_MAX, SITES_MAX};
-use rubis_script::{Count, Desk, RunFault, run_desk, run_upto};
-use rubis_world::{WorldConfig, WorldDesk, run_world_desk};
+use rubis_audit::{run_audit_to_exit, run_widen};
+use rubis_command::{OptionFault, Options, Run, Setup, Widening, read_options};
+use rubis_replica::Config;
+use rubis_schema::{Hashes, SITES_MAX};
+use rubis_script::{Count, RunFault, run_site_to_exit};
+use rubis_world::{WorldConfig, run_world_to_exit};
 use std::io::ErrorKind;
 use std::process::ExitCode;
+use std::random::RandomSource;
 use std::sync::Wait;
 use std::thread::Threads;
-use std::{env, io, mem};
+use std::{env, io};
 
 /// The status of a run that a fault ended.
 const FAULT: u8 = 1;
@@ -83,7 +85,7 @@ fn config_of(options: &Options) -> Option<Config>
 }
 
 // Runs a site over standard input and output.
-fn run<R: Print + Eprint + Input + AllocGlobal + Threads + Wait + Sync>(
+fn run<R: Print + Eprint + Input + AllocGlobal + RandomSource + Threads + Wait + Sync>(
     rt: &R,
     options: &Options,
 ) -> ExitCode
@@ -93,20 +95,9 @@ fn run<R: Print + Eprint + Input + AllocGlobal + Threads + Wait + Sync>(
     let Some(config) = config_of(options) else {
         return misuse(rt, "site must be below sites");
     };
-    let Ok(mut desk) = Desk::new(rt.alloc(), &config, Free) else {
-        return fail(rt, RunFault::Memory);
-    };
+    let config = config.with_hashes(Hashes::random(rt));
     let mut writer = io::writer(rt);
-    let ended = run_desk(
-        rt,
-        rt.alloc(),
-        rt.reader(),
-        &mut writer,
-        &mut desk,
-        RECORDS_MAX,
-    );
-    // The process ends now, so its site needn't be taken apart.
-    mem::forget(desk);
+    let ended = run_site_to_exit(rt, rt.alloc(), rt.reader(), &mut writer, &config);
     end(rt, ended)
 }
 
@@ -124,7 +115,7 @@ fn world_config_of(setup: &Setup) -> Option<WorldConfig>
 }
 
 // Runs several sites over standard input and output.
-fn run_sites<R: Print + Eprint + Input + AllocGlobal + Threads + Wait + Sync>(
+fn run_sites<R: Print + Eprint + Input + AllocGlobal + RandomSource + Threads + Wait + Sync>(
     rt: &R,
     setup: &Setup,
 ) -> ExitCode
@@ -134,24 +125,13 @@ fn run_sites<R: Print + Eprint + Input + AllocGlobal + Threads + Wait + Sync>(
     let Some(config) = world_config_of(setup) else {
         return misuse(rt, "a number isn't within its limits");
     };
-    let Ok(mut desk) = WorldDesk::new(rt.alloc(), &config) else {
-        return fail(rt, RunFault::Memory);
-    };
+    let config = config.with_hashes(Hashes::random(rt));
     let mut writer = io::writer(rt);
-    let ended = run_world_desk(
-        rt,
-        rt.alloc(),
-        rt.reader(),
-        &mut writer,
-        &mut desk,
-        RECORDS_MAX,
-    );
-    // The process ends now, so its sites needn't be taken apart.
-    mem::forget(desk);
+    let ended = run_world_to_exit(rt, rt.alloc(), rt.reader(), &mut writer, &config);
     end(rt, ended)
 }
 
-// Audits the logs of so many sites, from standard input to standard output.
+// Audits the logs of `sites` sites, from standard input to standard output.
 fn run_auditor<R: Print + Eprint + Input + AllocGlobal>(rt: &R, sites: u8) -> ExitCode
     ensures misuse { SITES_MAX < sites → exit_status result ≡ 2 }
     ensures runs { sites ≤ SITES_MAX → (exit_status result ≡ 0) ⊎ (exit_status result ≡ 1) }
@@ -159,23 +139,35 @@ fn run_auditor<R: Print + Eprint + Input + AllocGlobal>(rt: &R, sites: u8) -> Ex
     if sites > SITES_MAX {
         return misuse(rt, "there are too many sites");
     }
-    let mut auditor = Auditor::new(rt.alloc(), sites);
     let mut writer = io::writer(rt);
-    let ended = run_upto(
-        &(),
+    let ended = run_audit_to_exit(rt.alloc(), rt.reader(), &mut writer, sites);
+    end(rt, ended)
+}
+
+// Widens logs to more sites, from standard input to standard output.
+fn run_widener<R: Print + Eprint + Input + AllocGlobal>(rt: &R, counts: &Widening) -> ExitCode
+    ensures misuse { (counts.now.to < counts.now.sites) ⊎ (SITES_MAX < counts.now.to) → exit_status result ≡ 2 }
+    ensures runs { counts.now.sites ≤ counts.now.to → counts.now.to ≤ SITES_MAX → (exit_status result ≡ 0) ⊎ (exit_status result ≡ 1) }
+{
+    if counts.to < counts.sites {
+        return misuse(rt, "to must not be below sites");
+    }
+    if counts.to > SITES_MAX {
+        return misuse(rt, "there are too many sites");
+    }
+    let mut writer = io::writer(rt);
+    let ended = run_widen(
         rt.alloc(),
         rt.reader(),
         &mut writer,
-        &mut auditor,
-        RECORDS_MAX,
+        counts.sites,
+        counts.to,
     );
-    // The process ends now, so the logs needn't be taken apart.
-    mem::forget(auditor);
     end(rt, ended)
 }
 
 // Does what the words of the command line ask for.
-fn start<R: Print + Eprint + Input + AllocGlobal + Threads + Wait + Sync>(
+fn start<R: Print + Eprint + Input + AllocGlobal + RandomSource + Threads + Wait + Sync>(
     rt: &R,
     words: &[String],
 ) -> ExitCode
@@ -185,6 +177,7 @@ fn start<R: Print + Eprint + Input + AllocGlobal + Threads + Wait + Sync>(
         Ok(Run::Site(options)) => run(rt, &options),
         Ok(Run::World(setup)) => run_sites(rt, &setup),
         Ok(Run::Audit(sites)) => run_auditor(rt, sites),
+        Ok(Run::Widen(counts)) => run_widener(rt, &counts),
         Err(OptionFault::Memory) => fail(rt, RunFault::Memory),
         Err(OptionFault::Words(error)) => tell(rt, &error),
     }

@@ -1,6 +1,6 @@
 -- How an auditor goes on with the records that it reads.
 use Rattle.std.proofs.Common.{ℕ, ◌≡◌, ◌∙◌, ◌+◌, ◌-◌, ◌≤◌, List, [], ◌∷◌, ◌++◌, length, Option, Some, None, refl, sym, ap, subst, ⊎_elim, arith}
-use Rattle.std.specs.Prelude.{OnErr, OnOk, Result, Ok, Err, option_and_then, reverse}
+use Rattle.std.specs.Prelude.{OnErr, OnOk, Result, Ok, Err, option_and_then, reverse, suc}
 use Rattle.rubis_message.specs.Message.{Message, sites_of}
 use Rattle.rubis_model.specs.AuditRecords.{Line, audit_record, line_of, logs_after, with_line}
 use Rattle.rubis_model.specs.Logs.{Log}
@@ -10,7 +10,7 @@ use Rattle.rubis_script.specs.Accounts.{AnswersRecord}
 use Rattle.rubis_script.specs.Accounts.Ending.{AtEnd}
 use Rattle.rubis_script.specs.Text.{rows_text}
 use Rattle.rubis_script.specs.declared.service.Course.TheVariants.{GoesOn, Ends}
-use Rattle.rubis_audit.specs.Running.{AreRead, HasMessagesAmong, IsCurrentAmong, account_from, audit_text, logs_so_far, read_of}
+use Rattle.rubis_audit.specs.Running.{AreRead, HasMessagesAmong, IsCurrentAmong, account_from, audit_text, logs_so_far, read_behind}
 use Rattle.rubis_audit.specs.Walks.{HaveMessagesAmong}
 
 some_same : {X : Type 0} (a b : X) → Some a ≡ Some b → a ≡ b
@@ -58,14 +58,9 @@ pub read_among : (sites : ℕ) (ended logs : List Log) (current : Option Log) �
 read_among sites ended logs current a e log h = all_among sites ended current a log (subst (Has log) e h)
 
 -- ---- what is made of the records
-late : (sites n : ℕ) (logs : List Log) (records : List (List (List ℕ))) (bad : ℕ) → logs_after sites n logs records ≡ Err bad → n ≤ bad
-late sites n logs [] bad e = absurd cc
-late sites n logs (fields ∷ rest) bad e = at (option_and_then (with_line logs) (line_of sites fields)) (λ more. late sites (n + 1) more rest bad) e
-  where
-    at : (o : Option (List Log)) → ((more : List Log) → logs_after sites (n + 1) more rest ≡ Err bad → n + 1 ≤ bad)
-        → ◌≡◌ {A = Result (List Log) ℕ} (elim o [ None ↦ Err n | Some more ↦ logs_after sites (n + 1) more rest ]) (Err bad) → n ≤ bad
-    at None h e = let same : n ≡ bad = cc in omega arith
-    at (Some more) h e = let l = h more e in omega (arith, l)
+read_next : (sites : ℕ) (logs : List Log) (fields : List (List ℕ)) (rest : List (List (List ℕ))) (o : Option (List Log)) → option_and_then (with_line logs) (line_of sites fields) ≡ o
+    → read_behind sites logs (fields ∷ rest) ≡ suc (elim o [ None ↦ 0 | Some more ↦ read_behind sites more rest ])
+read_next sites logs fields rest o e = ap (λ (p : Option (List Log)). suc (elim p as (λ _. ℕ) [ None ↦ 0 | Some more ↦ read_behind sites more rest ])) e
 
 after_goes : (sites n : ℕ) (logs more : List Log) (line : Line) (fields : List (List ℕ)) (rest : List (List (List ℕ))) → line_of sites fields ≡ Some line → with_line logs line ≡ Some more
     → logs_after sites n logs (fields ∷ rest) ≡ logs_after sites (n + 1) more rest
@@ -80,16 +75,12 @@ pub goes : (sites n : ℕ) (logs more : List Log) (line : Line) (fields : List (
     → sink2 ≡ sink → AnswersRecord GoesOn (account_from sites n logs) (account_from sites (n + 1) more) sink sink2 fields
 goes sites n logs more line fields sink sink2 l w s rest = (
   λ ending i. sym s i ++ audit_text ending (after_goes sites n logs more line fields rest l w i),
-  ap (read_of n (length (fields ∷ rest))) (after_goes sites n logs more line fields rest l w) ∙ at (logs_after sites (n + 1) more rest) (late sites (n + 1) more rest),
+  read_next sites logs fields rest (Some more) (ap (option_and_then (with_line logs)) l ∙ w) ∙ (let z : suc (read_behind sites more rest) ≡ read_behind sites more rest + 1 = omega arith in z),
 )
-  where
-    at : (r : Result (List Log) ℕ) → ((bad : ℕ) → r ≡ Err bad → n + 1 ≤ bad) → read_of n (length (fields ∷ rest)) r ≡ read_of (n + 1) (length rest) r + 1
-    at (Ok all) h = omega arith
-    at (Err bad) h = let l = h bad refl in omega (arith, l)
 
 pub ends : (sites n : ℕ) (logs more : List Log) (fields : List (List ℕ)) (sink sink2 : List ℕ) → option_and_then (with_line logs) (line_of sites fields) ≡ None
     → sink2 ≡ sink ++ rows_text (audit_record (Err n) ∷ []) → AnswersRecord Ends (account_from sites n logs) (account_from sites (n + 1) more) sink sink2 fields
 ends sites n logs more fields sink sink2 e s rest = (
   ap (λ r. sink ++ audit_text AtEnd r) (after_ends sites n logs fields rest e) ∙ sym s,
-  ap (read_of n (length (fields ∷ rest))) (after_ends sites n logs fields rest e) ∙ (let z : n + 1 - n ≡ 1 = omega arith in z),
+  read_next sites logs fields rest None e,
 )

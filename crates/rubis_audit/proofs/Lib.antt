@@ -7,3 +7,5 @@ pub mod Judging
 pub mod Walking
 pub mod LineFacts
 pub mod Collecting
+pub mod Placing
+pub mod Widened

@@ -1,6 +1,6 @@
 -- What the tables of the messages before an entry say of its content.
 use Rattle.std.proofs.Common.{ℕ, ◌≡◌, ◌+◌, ◌-◌, ◌≤◌, List, [], ◌∷◌, Bool, true, false, refl, sym, ap, ◌∙◌, arith, Option, Some, None}
-use Rattle.std.specs.Prelude.{◌&&◌, ◌||◌, ◌==◌, not, nat_lt, nat_le, IsSome, IfSome, is_some, option_map, option_and_then}
+use Rattle.std.specs.Prelude.{◌&&◌, ◌||◌, ◌==◌, not, bytes_eq, nat_lt, nat_le, IsSome, IfSome, is_some, option_map, option_and_then}
 use Rattle.std.specs.Option.{option_eq, option_map_or, option_or}
 use Rattle.std.specs.List.{list_any}
 use mathlib.Core.Bool.{true≢false}
@@ -14,15 +14,16 @@ use Rattle.rubis_schema.specs.declared.row_keys.RowKey.{RowKey}
 use Rattle.rubis_schema.specs.declared.row_keys.RowKey.TheVariants as key
 use Rattle.rubis_schema.specs.declared.rows.Best.{Best}
 use Rattle.rubis_schema.specs.declared.rows.ItemRow.{ItemRow}
+use Rattle.rubis_schema.specs.declared.rows.UserRow.{UserRow}
 use Rattle.rubis_shadow.specs.Parts.{refers_of}
 use Rattle.rubis_shadow.specs.declared.shadows.NewItem.{NewItem}
 use Rattle.rubis_shadow.specs.declared.shadows.Shadow.{Shadow}
-use Rattle.rubis_shadow.specs.declared.shadows.Shadow.TheVariants.{User, Item, Bid, Buy, Close, Comment}
-use Rattle.rubis_generate.specs.Lookup.{as_item_row, is_ended, item_in, row_by_key}
+use Rattle.rubis_shadow.specs.declared.shadows.Shadow.TheVariants.{User, Item, Bid, Buy, Close, Comment, Restock, Rename}
+use Rattle.rubis_generate.specs.Lookup.{as_item_row, as_user_row, is_ended, item_in, row_by_key}
 use Rattle.rubis_message.specs.Message.{Message, dep}
 use Rattle.rubis_model.specs.Checks.{nick_taken, stock_short, wrong_category, wrong_winner}
 use Rattle.rubis_model.specs.Log.{Core, core, cores}
-use Rattle.rubis_model.specs.Meaning.{as_bid, as_item, as_user, at_id, best_bid, best_of, close_of, item_at, item_row, meaning_row, named, nick_at, sale_after, sold_of, supply, total, when}
+use Rattle.rubis_model.specs.Meaning.{as_bid, as_item, as_user, at_id, best_bid, best_of, close_of, item_at, item_row, is_same_nick, meaning_row, named, nick_at, user_row, sale_after, sold_of, supply, total, user_at, when}
 use Rattle.rubis_model.specs.Verdict.{is_known, comes_before, wrong_reference}
 use Rattle.rubis_audit.specs.Contents.{closed_in, known_in, nick_taken_in, outbid_in, stock_short_in, wrong_category_in, wrong_reference_in, wrong_winner_in}
 use Rattle.rubis_audit.specs.Past.{Shows}
@@ -61,7 +62,7 @@ known_is : (t : Tables) (own : List Message) (v : Message) (k : RowKey) → Show
 unfolding meaning_row
 known_is t own v (key.User i) s =
     ap (λ o. is_some o && nat_le i.seq (dep v i.site)) (s.rows (key.User i))
-    ∙ ap (λ b. b && nat_le i.seq (dep v i.site)) (some_map _ (nick_at i (cores own))) ∙ sym (known_by (λ m. as_user m.shadow) i own v)
+    ∙ ap (λ b. b && nat_le i.seq (dep v i.site)) (some_map _ (nick_at i (cores own)) ∙ some_map _ (user_at i (cores own))) ∙ sym (known_by (λ m. as_user m.shadow) i own v)
 known_is t own v (key.Item i) s =
     ap (λ o. is_some o && nat_le i.seq (dep v i.site)) (s.rows (key.Item i))
     ∙ ap (λ b. b && nat_le i.seq (dep v i.site)) (some_map _ (item_at i (cores own))) ∙ sym (known_by (λ m. as_item m.shadow) i own v)
@@ -93,6 +94,8 @@ category_is t before (Item n) s = refl
 category_is t before (Bid n) s = refl
 category_is t before (Buy n) s = refl
 category_is t before (Comment n) s = refl
+category_is t before (Restock r) s = refl
+category_is t before (Rename r) s = refl
 
 pub reference_is : (t : Tables) (own : List Message) (v : Message) → Shows t (cores own) → wrong_reference_in (row_by_key t) v ≡ wrong_reference own v
 reference_is t own v s =
@@ -107,6 +110,14 @@ nick_is t before (Bid n) s = refl
 nick_is t before (Buy n) s = refl
 nick_is t before (Close n) s = refl
 nick_is t before (Comment n) s = refl
+nick_is t before (Restock r) s = refl
+nick_is t before (Rename r) s = λ j.
+    (ap is_some (s.rows (key.Nick r.to)) ∙ some_map _ (named r.to before)) j
+    || not ((ap (λ o. option_map_or (λ (u : UserRow). bytes_eq r.from u.nick) o false) (ap (option_and_then as_user_row) (s.rows (key.User r.user))) ∙ at (nick_at r.user before)) j)
+  where
+    at : (o : Option (List ℕ)) → option_map_or (λ (u : UserRow). bytes_eq r.from u.nick) (option_and_then as_user_row (option_map (user_row before r.user) o)) false ≡ is_same_nick r.from o
+    at None = refl
+    at (Some n) = refl
 
 short_is : (n t q : ℕ) → t ≤ n → nat_lt (n - t) q ≡ nat_lt n (t + q)
 short_is n t q h = grind (arith, nat_tests)
@@ -118,12 +129,14 @@ stock_is t before (Buy p) s = ap (λ o. option_map_or (λ (i : ItemRow). nat_lt 
         → option_map_or (λ (i : ItemRow). nat_lt i.stock p.quantity) (option_and_then as_item_row (option_map (item_row before p.item) o)) false
         ≡ option_map_or (λ n. nat_lt (supply before p.item n) (total (sold_of p.item) before + p.quantity)) o false
     at None h = refl
-    at (Some n) h = short_is n.stock (total (sold_of p.item) before) p.quantity h
+    at (Some n) h = short_is (supply before p.item n) (total (sold_of p.item) before) p.quantity h
 stock_is t before (User n) s = refl
 stock_is t before (Item n) s = refl
 stock_is t before (Bid n) s = refl
 stock_is t before (Close n) s = refl
 stock_is t before (Comment n) s = refl
+stock_is t before (Restock r) s = refl
+stock_is t before (Rename r) s = refl
 
 -- ---- the winner, where the item is there
 over_is : (before : List Core) (i : Id) (n : NewItem) → is_ended (sale_after (close_of i before)) ≡ is_some (close_of i before)
@@ -172,6 +185,8 @@ winner_by t own v (Close c) s e =
     let there = item_named own v c.item _ _ e in
     λ i. closed_is t (cores own) c.item s there i || outbid_is t (cores own) c.item c.winner s there i
 winner_by t own v (Comment c) s e = refl
+winner_by t own v (Restock r) s e = refl
+winner_by t own v (Rename r) s e = refl
 
 pub winner_is : (t : Tables) (own : List Message) (v : Message) → Shows t (cores own) → wrong_reference own v ≡ false
     → wrong_winner_in (row_by_key t) v.shadow ≡ wrong_winner (cores own) v.shadow

@@ -1,5 +1,5 @@
 -- How a walk goes on: over a log, and from log to log.
-use Rattle.std.proofs.Common.{ℕ, ◌≡◌, ◌+◌, ◌*◌, ◌^◌, ◌≤◌, ◌<◌, zero, suc, List, [], ◌∷◌, ◌++◌, length, get_or, take, drop, Bool, false, cond, replicate, refl, sym, ap, ◌∙◌, subst, arith, Option, Some, None, drop-cons, add-one, append_assoc}
+use Rattle.std.proofs.Common.{ℕ, ◌≡◌, ◌+◌, ◌*◌, ◌^◌, ◌≤◌, ◌<◌, zero, suc, List, [], ◌∷◌, ◌++◌, length, get_or, take, drop, Bool, false, cond, replicate, refl, sym, ap, ◌∙◌, subst, arith, Option, Some, None, inl, inr, drop-cons, add-one, append_assoc}
 use Rattle.std.specs.Prelude.{option_map, reverse, not, slice_get, find}
 use Rattle.std.specs.FinMap as map
 use Rattle.std.specs.Option.{option_or, option_map_or}
@@ -17,16 +17,18 @@ use Rattle.rubis_message.specs.declared.answers.Verdict.TheVariants.{Agree, Foun
 use Rattle.rubis_model.specs.Log.{core, cores}
 use Rattle.rubis_model.specs.Logs.{Log, shown_rows}
 use Rattle.rubis_model.specs.Listings.{table_rows}
-use Rattle.rubis_model.specs.Settle.{Ready}
+use Rattle.rubis_model.specs.Audit.{AreAmong, AreSound}
+use Rattle.rubis_model.specs.Settle.{Has, Ready}
 use Rattle.rubis_model.specs.Site.{counts}
 use Rattle.rubis_model.specs.Verdict.{checks, first_fault, first_of, found_or, last_red, log_fault, verdict, same_rows, verdict_from, wrong_rows}
 use Rattle.rubis_model.proofs.CoreLists.{cores_length, cores_push}
-use Rattle.rubis_model.proofs.Lists.{contained, has_reverse, has_right}
+use Rattle.rubis_model.proofs.Lists.{contained, has_left, has_reverse, has_right}
 use Rattle.rubis_model.proofs.Settling.{counted_reverse, reds_reverse, reverse_push}
 use Rattle.rubis_laws.proofs.FoldIsMeaning.{fold_is_meaning}
 use Rattle.rubis_laws.proofs.Invariants.{checked_holds}
 use Rattle.rubis_laws.proofs.Lengths.{log_small}
-use Rattle.rubis_laws.proofs.Verdicts.{clean}
+use Rattle.rubis_laws.proofs.Audited.{faultless_sound}
+use Rattle.rubis_laws.proofs.Verdicts.{agree_faultless, clean}
 use Rattle.rubis_shard.specs.Holdings.{HoldsLog, TakesOn, union}
 use Rattle.rubis_shard.specs.States.{ShardState}
 use Rattle.rubis_shard.proofs.Unions.{union_of_log}
@@ -181,6 +183,20 @@ over_found before after k logs p l o w =
 pub over_done : (seen : Seen) (k : ℕ) (logs : List Log) → length logs ≤ k → Over seen k logs → Agree ≡ verdict logs
 over_done seen k logs l o = sym (o.rest ∙ ap (verdict_from (k + 1) (messages_of_logs (take k logs))) (drop_all k logs l))
 
+-- a message of a log is among those of all
+logged_in : (logs : List Log) (log : Log) (m : Message) → Has log logs → Has m log.messages → Has m (messages_of_logs logs)
+logged_in [] log m h k = absurd h
+logged_in (x ∷ logs) log m (inl e) k = has_left m x.messages (messages_of_logs logs) (subst (λ (l : Log). Has m l.messages) e k)
+logged_in (x ∷ logs) log m (inr h) k = has_right m x.messages (messages_of_logs logs) (logged_in logs log m h k)
+
+-- the walk saw that each message meets the conditions of its type
+pub over_sound : (sites : ℕ) (seen : Seen) (k : ℕ) (logs : List Log) → length logs ≤ k → HaveMessagesAmong sites logs → Over seen k logs → AreSound logs
+over_sound sites seen k logs l among o =
+    let formed : (m : Message) → Has m (messages_of_logs logs) → IsMessage m = λ m h.
+    o.walked.known.formed m (has_left m (messages_of_logs (take k logs)) [] (subst (λ (ls : List Log). Has m (messages_of_logs ls)) (sym (take_all k logs l)) h)) in
+    let all : AreAmong sites logs = λ v a. (formed v (logged_in logs a.0.0 v a.0.1 a.1), among a.0.0 a.0.1 v a.1) in
+    faultless_sound sites logs all (agree_faultless sites logs all (sym (over_done seen k logs l o)))
+
 -- ---- what a walk over one log answers
 same_log : (logs : List Log) (at : ℕ) (log other : Log) → at < length logs → log ≡ get_or logs at log → slice_get logs at ≡ Some other → log ≡ other
 same_log logs at log other l e f = e ∙ get_or_from_slice_get logs at other log f
@@ -224,7 +240,7 @@ walked_end sites after clock last shards logs at log n wrong l e w m r other g =
     said_more : messages_of_logs (take (at + 1) logs) ≡ messages_of_logs (take at logs) ++ log.messages
     said_more = next_said at logs log l (g ∙ ap Some (sym same))
 
--- the messages of a log are of so many sites
+-- a message of a log counts `sites` sites and belongs to one of them
 pub among_at : (sites : ℕ) (logs : List Log) (at : ℕ) (log : Log) (n : ℕ) (v : Message) → HaveMessagesAmong sites logs → at < length logs → log ≡ get_or logs at log
     → n < length log.messages → v ≡ get_or log.messages n v → IsMessage v → IsAmong sites v
 among_at sites logs at log n v all l e m i f =

@@ -5,3 +5,5 @@ pub mod Past
 pub mod Walks
 pub mod Lines
 pub mod Running
+pub mod Places
+pub mod Widening

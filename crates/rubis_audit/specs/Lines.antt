@@ -23,7 +23,7 @@ line_as fields (read.Begin site) = Begin site
 line_as fields (read.Next m) = Next m
 line_as fields read.Claim = Claim fields
 
--- a message is of so many sites
+-- if the line is a message, it counts `sites` sites
 abbrev pub IsAmongLine : ℕ → Option Line → Type 0
 IsAmongLine sites (Some (read.Next m)) = sites_of m ≡ sites
 IsAmongLine sites line = ⊤

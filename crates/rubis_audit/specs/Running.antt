@@ -1,8 +1,8 @@
 -- An auditor that reads records.
-use Rattle.std.specs.Prelude.{◌≡◌, ℕ, ◌+◌, ◌-◌, ◌≤◌, List, [], ◌∷◌, length, reverse, Option, Some, None, Result, Ok, Err}
+use Rattle.std.specs.Prelude.{◌≡◌, ℕ, ◌+◌, ◌≤◌, suc, List, [], ◌∷◌, option_and_then, reverse, Option, Some, None, Result, Ok, Err}
 use Rattle.rubis_schema.specs.declared.limits.TheConstants.{COUNTED_MAX}
 use Rattle.rubis_message.specs.Message.{Message, sites_of}
-use Rattle.rubis_model.specs.AuditRecords.{audit_record, logs_after}
+use Rattle.rubis_model.specs.AuditRecords.{audit_record, line_of, logs_after, with_line}
 use Rattle.rubis_model.specs.Logs.{Log}
 use Rattle.rubis_model.specs.Settle.{Has}
 use Rattle.rubis_script.specs.Accounts.{Account, Ending}
@@ -19,14 +19,14 @@ abbrev pub logs_so_far : List Log → Option Log → List Log
 logs_so_far ended None = []
 logs_so_far ended (Some log) = log ∷ reverse ended
 
--- each message of the log is of so many sites
+-- each message of the log counts `sites` sites
 abbrev pub HasMessagesAmong : ℕ → Log → Type 0
 HasMessagesAmong sites log = (m : Message) → Has m log.messages → sites_of m ≡ sites
 
 abbrev pub IsCurrentAmong : ℕ → Option Log → Type 0
 IsCurrentAmong sites current = (log : Log) → current ≡ Some log → HasMessagesAmong sites log
 
--- what these are for an auditor among so many sites
+-- what these are for an auditor of `sites` sites
 pub record AreRead (sites : ℕ) (ended : List Log) (current : Option Log) : Type 0 where
   pub few : sites ≤ COUNTED_MAX
   pub ended_among : (log : Log) → Has log ended → HasMessagesAmong sites log
@@ -39,16 +39,19 @@ abbrev pub audit_text : Ending → Result (List Log) ℕ → List ℕ
 audit_text AtEnd logs = rows_text (audit_record logs ∷ [])
 audit_text Cut logs = []
 
--- all records are read, the first of which has the number n, or those up to the first that isn't so
-abbrev pub read_of : ℕ → ℕ → Result (List Log) ℕ → ℕ
-read_of n all (Ok logs) = all
-read_of n all (Err bad) = bad + 1 - n
+-- how many of the records behind these logs are read: all, or those up to the first that is malformed there
+abbrev pub read_behind : ℕ → List Log → List (List (List ℕ)) → ℕ
+read_behind sites logs [] = 0
+read_behind sites logs (fields ∷ rest) = suc (elim (option_and_then (with_line logs) (line_of sites fields)) [
+  | None ↦ 0
+  | Some more ↦ read_behind sites more rest
+])
 
 -- of the records behind these logs, newest first
 abbrev pub account_from : ℕ → ℕ → List Log → Account
 account_from sites n logs = record {
   text = λ ending records. audit_text ending (logs_after sites n logs records);
-  read = λ records. read_of n (length records) (logs_after sites n logs records);
+  read = λ records. read_behind sites logs records;
 }
 
 -- of all records of an input

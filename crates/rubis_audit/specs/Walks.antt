@@ -14,7 +14,7 @@ use Rattle.rubis_audit.specs.declared.seen.Seen.{Seen}
 abbrev pub messages_of_logs : List Log → List Message
 messages_of_logs logs = flat_map (λ log. log.messages) logs
 
--- each message of the logs is of so many sites
+-- each message of the logs counts `sites` sites
 abbrev pub HaveMessagesAmong : ℕ → List Log → Type 0
 HaveMessagesAmong sites logs = (log : Log) → Has log logs → (m : Message) → Has m log.messages → sites_of m ≡ sites
 

@@ -1,5 +1,6 @@
 // The auditor as a service: many records in, one out.
 
+ghost use Rattle.std.proofs.Common.{rules};
 ghost use Rattle.std.specs.Prelude.{◌≡◌, ◌≤◌, ℕ, List, [], IfOk, None, OnErr, OnOk, Some, refl, reverse};
 ghost use Rattle.rubis_message.specs.Message.{sites_of};
 ghost use Rattle.rubis_model.specs.Logs as logs;
@@ -20,7 +21,7 @@ use rubis_script::{Answering, Course, InputRecord, OutOfMemory, Service, Sink};
 use std::alloc::{AllocError, Global};
 use std::marker::Model;
 
-/// An auditor of the logs of so many sites, as far as it has read them. Contracts see the logs, newest first.
+/// An auditor of the logs of `sites` sites, as far as it has read them. Contracts see the logs, newest first.
 #[derive(Drop)]
 pub struct Auditor {
     // The logs before the one that is read, in order.
@@ -97,7 +98,7 @@ fn claim_row(
 }
 
 impl Auditor {
-    /// An auditor among so many sites that has read no log.
+    /// An auditor of the logs of `sites` sites that has read no log.
     pub fn new(alloc: Global, sites: u8) -> Auditor
         requires { sites ≤ COUNTED_MAX }
         ensures { result ≡ record { sites = sites; logs = [] } }
@@ -144,6 +145,8 @@ impl<T> Service<T> for Auditor {
     ghost account = { λ s n. account_from s.sites n s.logs };
 
     ghost reads_none = { λ s n. refl };
+
+    ghost reads_next = { Prim.search rules };
 
     fn settle(&mut self, _rt: &T, _sink: &mut Sink) -> Result<(), OutOfMemory> {
         Ok(())

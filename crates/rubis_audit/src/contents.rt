@@ -3,10 +3,11 @@
 ghost use Rattle.std.specs.Prelude.{◌≡◌, nat_le, option_copied};
 ghost use Rattle.rubis_message.specs.Message.{dep};
 ghost use Rattle.rubis_generate.specs.Lookup.{is_ended, item_in, row_by_key};
+ghost use Rattle.rubis_audit.specs.Contents as contents;
 ghost use Rattle.rubis_audit.specs.Contents.{closed_in, known_in, nick_taken_in, outbid_in, stock_short_in, wrong_category_in, wrong_reference_in, wrong_winner_in};
 
 use rubis_message::Message;
-use rubis_schema::{Id, ItemRow, Row, RowKey, Sale, View};
+use rubis_schema::{Id, ItemRow, Nick, Row, RowKey, Sale, View};
 use rubis_shadow::Shadow;
 
 // Whether `v` counts the message with that id.
@@ -61,12 +62,26 @@ pub fn wrong_reference<V: View>(view: &V, v: &Message) -> bool
     v.shadow().refers().any(|key| !is_known(view, v, &key)) || wrong_category(view, v.shadow())
 }
 
-/// Whether the nickname has a user.
+// Whether the user's row has the nickname.
+fn shows_nick<V: View>(view: &V, user: Id, nick: Nick) -> bool
+    ensures { result ≡ contents.shows_nick (row_by_key (V.tables view.now)) user nick }
+{
+    match view.row(&RowKey::User(user)) {
+        Some(Row::User(row)) => nick == row.nick,
+        _ => false,
+    }
+}
+
+/// Whether the new nickname has a user, or the old one isn't that of its user.
 pub fn nick_taken<V: View>(view: &V, shadow: &Shadow) -> bool
     ensures { result ≡ nick_taken_in (row_by_key (V.tables view.now)) shadow.now }
 {
     match shadow {
         Shadow::User(nick) => view.row(&RowKey::Nick(*nick)).is_some(),
+        Shadow::Rename(rename) => {
+            view.row(&RowKey::Nick(rename.to)).is_some()
+                || !shows_nick(view, rename.user, rename.from)
+        }
         _ => false,
     }
 }

@@ -12,15 +12,16 @@ use rubis_schema::RECORDS_MAX;
 use rubis_script::{Count, RunFault, run_upto};
 use std::alloc::Global;
 use std::io::{Read, Write};
+use std::mem;
 
-/// Audits the logs of so many sites: reads at most 4,000,000 records of `reader`, until its end or the first that isn't
-/// so, and appends the one record of the audit to `writer`.
+/// Audits the logs of `sites` sites: reads at most 4,000,000 records of `reader`, until its end or the first malformed
+/// record, and appends the one record of the audit to `writer`.
 ///
 /// # Errors
 ///
-/// `Read` where the reader failed, and `TooLong` where the input has more records and all of these are so: nothing is
-/// written then. `Write` where the writer failed. `Memory` where there was not enough: what was written is the front of
-/// the record.
+/// `Read` if the reader failed, and `TooLong` if the input has more records and none of the first 4,000,000 is
+/// malformed: nothing is written then. `Write` if the writer failed. `Memory` if memory ran out: what was written is a
+/// prefix of the record.
 pub fn run_audit<R: Read + Drop, W: Write>(
     alloc: Global,
     reader: R,
@@ -39,4 +40,32 @@ pub fn run_audit<R: Read + Drop, W: Write>(
 {
     let mut auditor = Auditor::new(alloc, sites);
     run_upto(&(), alloc, reader, writer, &mut auditor, RECORDS_MAX)
+}
+
+/// Audits logs as `run_audit`, for a program that ends with it: the logs aren't taken apart, since the process gives their
+/// memory back at once.
+///
+/// # Errors
+///
+/// Those of `run_audit`.
+pub fn run_audit_to_exit<R: Read + Drop, W: Write>(
+    alloc: Global,
+    reader: R,
+    writer: &mut W,
+    sites: u8,
+) -> Result<Count, RunFault>
+    requires { sites ≤ COUNTED_MAX }
+    ensures ok { IfOk result (λ count. IfSome (R.remaining reader) (λ input.
+        IsDone (audit_account sites) 4000000 (W.contents writer.old) (W.contents writer.new) (input_records input) count.records)) }
+    ensures too_long { IsErrOf result RunFault.TooLong → IfSome (R.remaining reader) (λ input.
+        IsTooLong (audit_account sites) 4000000 (W.contents writer.old) (W.contents writer.new) (input_records input)) }
+    ensures read { IsErrOf result RunFault.Read → IfSome (R.remaining reader) (λ input.
+        IsCut (audit_account sites) (W.contents writer.old) (W.contents writer.new) (input_records input)) }
+    ensures memory { IsErrOf result RunFault.Memory → IfSome (R.remaining reader) (λ input.
+        WroteFront ((audit_account sites).text AtEnd) (W.contents writer.old) (W.contents writer.new) (input_records input)) }
+{
+    let mut auditor = Auditor::new(alloc, sites);
+    let ended = run_upto(&(), alloc, reader, writer, &mut auditor, RECORDS_MAX);
+    mem::forget(auditor);
+    ended
 }

@@ -85,7 +85,7 @@ fn differs(counts: &[u32], v: &Message) -> bool
     false
 }
 
-/// Whether `v` isn't in order in a log of that site, of which so many messages are counted.
+/// Whether `v` isn't in order in a log of `site`, of which `clock` counts the messages so far.
 pub fn out_of_order(site: u8, seen: &Seen, clock: &Clock, v: &Message) -> bool
     requires { sites_of v.now ≡ length clock.now.counts }
     ensures { (all : List model.Message) → Sees seen.now all → result ≡ order_by site clock.now.counts all v.now }

@@ -6,6 +6,8 @@ ghost use Rattle.rubis_shadow.specs.Shadows.{is_red};
 ghost use Rattle.rubis_clock.specs.Clocks.{IsReady, advanced, opening_clock};
 ghost use Rattle.rubis_message.specs.Message as model;
 ghost use Rattle.rubis_message.specs.Message.{IsMessage, sites_of};
+ghost use Rattle.rubis_message.specs.declared.answers.Verdict.TheVariants.{Agree};
+ghost use Rattle.rubis_model.specs.Audit.{AreSound};
 ghost use Rattle.rubis_model.specs.Log.{core};
 ghost use Rattle.rubis_model.specs.Verdict.{first_of, log_fault, verdict, wrong_rows};
 ghost use Rattle.rubis_shard.specs.Holdings.{HoldsLog, TakesOn, union};
@@ -122,11 +124,17 @@ fn walk<'a>(
     Ok(None)
 }
 
-/// The first fault of these logs, in order, or Agree where there is none.
+/// The first fault of these logs, in order, or Agree if there is none. Logs of which it says Agree are sound: they causally
+/// serialize one RedBlue order, and the invariants hold over all of them.
+///
+/// # Errors
+///
+/// `AllocError` if memory runs out.
 pub fn audit(alloc: Global, logs: &[Log], sites: u8) -> Result<Verdict, AllocError>
     requires few { sites ≤ COUNTED_MAX }
     requires among { HaveMessagesAmong sites logs.now }
-    ensures { IfOk result (λ found. found ≡ verdict logs.now) }
+    ensures verdict { IfOk result (λ found. found ≡ verdict logs.now) }
+    ensures sound { IfOk result (λ found. found ≡ Agree → AreSound logs.now) }
 {
     let mut seen = Seen::new(alloc);
     for at in 0..logs.len() {

@@ -78,7 +78,7 @@ module _ {items : List Item} {views : List PassView} {place : ℕ} {v : PassView
         let whole = here.ruled.parts in
         omega arith
 
-    -- so many marks more
+    -- the pass has `more` further marks
     pub marks_more : (count more : ℕ) → w.marks ≡ v.marks + more → count ≤ marks_in items + more
         → count ≤ sum_over marks_of (set views place w)
     marks_more count more grown few =

@@ -40,7 +40,7 @@ impl Model for Poster {
 }
 
 impl Poster {
-    /// A board with room for so many pieces, and none posted.
+    /// A board with room for `capacity` pieces, and none posted.
     pub fn new(alloc: Global, capacity: usize) -> Result<Poster, AllocError>
         requires { 0 < capacity }
         ensures { IfOk result (λ poster. (poster.capacity ≡ capacity) × (poster.posted ≡ [])) }
@@ -53,7 +53,7 @@ impl Poster {
         })
     }
 
-    /// Posts the piece. It comes back just where as many were posted as there is room for.
+    /// Posts the piece. Returns it if and only if `capacity` pieces are already posted.
     pub fn post<R: Wait>(&mut self, rt: &R, piece: Piece) -> Result<(), Piece>
         ensures capacity { self.new.capacity ≡ self.old.capacity }
         ensures posted { OnOk result ((length self.old.posted < self.old.capacity) × (self.new.posted ≡ self.old.posted ++ piece ∷ [])) }
@@ -102,7 +102,7 @@ impl Model for Board {
     ghost view = { λ b. b.queue.table.shared.table_id };
 }
 
-/// What one thread knows of a board, and its leave to take from it. It has no bytes.
+/// What one thread knows of a board, and its permission to take from it. Zero-sized.
 #[derive(Drop)]
 pub struct Pass {
     seat: Seat,

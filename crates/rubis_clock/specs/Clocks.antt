@@ -18,7 +18,7 @@ same_counted = eq_of_both (on (λ c. c.counts) (pointwise nat_eq)) (on (λ c. c.
 pub same_counted_equiv : IsEquivalence same_counted
 same_counted_equiv = and_equiv (on_equiv (λ c. c.counts) nat_list_eq_equiv) (on_equiv (λ c. c.red) nat_eq_equiv)
 
--- nothing at so many sites
+-- nothing counted yet, at `sites` sites
 abbrev pub opening_clock : ℕ → MessageCounts
 opening_clock sites = record { counts = replicate sites 0; red = 0 }
 

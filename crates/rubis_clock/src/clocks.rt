@@ -38,7 +38,7 @@ fn others_released(deps: &[u32], counts: &[u32], origin: usize) -> bool
 }
 
 impl Clock {
-    /// Nothing is counted yet, at so many sites.
+    /// A clock for `sites` sites, with nothing counted yet.
     pub fn new(sites: u8) -> Clock
         requires { sites ≤ COUNTED_MAX }
         ensures { result ≡ opening_clock sites }

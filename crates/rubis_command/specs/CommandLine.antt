@@ -1,5 +1,5 @@
--- The command line: `rubis site`, with six options that take a number, `rubis world`, with five, and `rubis audit`, with
--- one.
+-- The command line: `rubis site`, with six options that take a number, `rubis world`, with five, `rubis audit`, with one,
+-- and `rubis widen`, with two.
 use Rattle.std.specs.Prelude.{◌≡◌, ◌≢◌, ℕ, ◌-◌, ◌<◌, ◌^◌, List, [], ◌∷◌, Option, Some, ⊤, true, codes}
 use Rattle.std.specs.Str.Parse.{IsNumeral, digits_value, without_leading_plus}
 use Rattle.clap.specs.Words.{App, IsAmong, Kinds, Row, Rule, Text, kind_of, new_app, new_rule, one_of, subcommand_of, with_rule, with_subcommand}
@@ -12,8 +12,9 @@ use Rattle.rubis_command.specs.declared.options.OptionFault.{OptionFault}
 use Rattle.rubis_command.specs.declared.options.OptionFault.TheVariants.{Memory, Words}
 use Rattle.rubis_command.specs.declared.options.Options.{Options}
 use Rattle.rubis_command.specs.declared.options.Run.{Run}
-use Rattle.rubis_command.specs.declared.options.Run.TheVariants.{Audit, Site, World}
+use Rattle.rubis_command.specs.declared.options.Run.TheVariants.{Audit, Site, Widen, World}
 use Rattle.rubis_command.specs.declared.options.Setup.{Setup}
+use Rattle.rubis_command.specs.declared.options.Widening.{Widening}
 
 -- an option that takes a number from `low` to `high`, and that has the value `default` where it isn't given
 abbrev pub number_option : Text → ℕ → ℕ → Text → Rule
@@ -40,14 +41,17 @@ world_command = with_setup (new_app (codes "world"))
 abbrev pub audit_command : App
 audit_command = with_rule (new_app (codes "audit")) sites_option
 
+abbrev pub widen_command : App
+widen_command = with_rule (with_rule (new_app (codes "widen")) sites_option) (number_option (codes "to") 1 SITES_MAX (codes "16"))
+
 -- the program has a version, and wants a command
 abbrev pub program_alone : App
 program_alone = let a = new_app (codes "rubis") in record a { top = record a.top { has_version = true; subcommand_required = true } }
 
 abbrev pub command_line : App
-command_line = with_subcommand (with_subcommand (with_subcommand program_alone site_command.top) world_command.top) audit_command.top
+command_line = with_subcommand (with_subcommand (with_subcommand (with_subcommand program_alone site_command.top) world_command.top) audit_command.top) widen_command.top
 
--- n is the number that a text of so many bits writes: decimal digits, before which a plus may stand
+-- n is the number of at most `bits` bits that the text writes: decimal digits, optionally after a plus sign
 abbrev pub IsNumberOf : ℕ → Option Text → ℕ → Type 0
 IsNumberOf bits text n = (t : Text) → text ≡ Some t → IsNumeral 10 (without_leading_plus t) → digits_value 10 (without_leading_plus t) < 2 ^ bits → n ≡ digits_value 10 (without_leading_plus t)
 
@@ -63,13 +67,18 @@ pub record AreOptionsIn (rows : List Row) (o : Options) : Type 0 where
   pub site : IsNumberOf 8 (one_of (codes "site") rows) o.site
   pub setup : IsSetupIn rows o.setup
 
--- what the words of a command line ask for: an audit or several sites where that is the command, or else a site, with the
--- options that stand after the command
+pub record AreCountsIn (rows : List Row) (w : Widening) : Type 0 where
+  pub sites : IsNumberOf 8 (one_of (codes "sites") rows) w.sites
+  pub to : IsNumberOf 8 (one_of (codes "to") rows) w.to
+
+-- what the words of a command line ask for: an audit, several sites or a widening where that is the command, or else a
+-- site, with the options that stand after the command
 abbrev pub IsAsked : List Text → Run → Type 0
 IsAsked words (Audit sites) = (rows : List Row) × (subcommand_of command_line words ≡ Some (codes "audit", rows)) × IsNumberOf 8 (one_of (codes "sites") rows) sites
 IsAsked words (World setup) = (rows : List Row) × (subcommand_of command_line words ≡ Some (codes "world", rows)) × IsSetupIn rows setup
+IsAsked words (Widen counts) = (rows : List Row) × (subcommand_of command_line words ≡ Some (codes "widen", rows)) × AreCountsIn rows counts
 IsAsked words (Site options) =
-    (name : Text) × (rows : List Row) × (subcommand_of command_line words ≡ Some (name, rows)) × (name ≢ codes "audit") × (name ≢ codes "world") × AreOptionsIn rows options
+    (name : Text) × (rows : List Row) × (subcommand_of command_line words ≡ Some (name, rows)) × (name ≢ codes "audit") × (name ≢ codes "world") × (name ≢ codes "widen") × AreOptionsIn rows options
 
 -- what an error of `clap` is called here
 abbrev pub fault_by : ErrorKind → Error → OptionFault

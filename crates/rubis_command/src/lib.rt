@@ -4,4 +4,4 @@
 
 mod options;
 
-pub use options::{OptionFault, Options, Run, Setup, read_options};
+pub use options::{OptionFault, Options, Run, Setup, Widening, read_options};

@@ -3,7 +3,7 @@
 ghost use Rattle.std.specs.Prelude.{◌≡◌, false, [], Some, codes, map, string_bytes, IfErr, IfOk};
 ghost use Rattle.rubis_schema.specs.declared.limits.TheConstants.{SITES_MAX};
 ghost use Rattle.clap.specs.Words.{app_of, fault_of, found_of, one_of, rows_of, rule_of};
-ghost use Rattle.rubis_command.specs.CommandLine.{AreOptionsIn, IsAsked, IsFaultAmong, IsNumberOf, IsSetupIn, command_line, number_option, with_setup};
+ghost use Rattle.rubis_command.specs.CommandLine.{AreCountsIn, AreOptionsIn, IsAsked, IsFaultAmong, IsNumberOf, IsSetupIn, command_line, number_option, widen_command, with_setup};
 
 use clap::builder::ValueParser;
 use clap::error::ErrorKind;
@@ -18,8 +18,10 @@ pub enum Run {
     Site(Options),
     /// Several sites in one run.
     World(Setup),
-    /// An audit of the logs of so many sites.
+    /// An audit of the logs of this many sites.
     Audit(u8),
+    /// The records of an audit, widened.
+    Widen(Widening),
 }
 
 /// Why nothing is run.
@@ -67,6 +69,13 @@ pub struct Setup {
     pub keep: u32,
 }
 
+/// How many sites the messages of logs count, and how many they are to count.
+#[derive(Clone, Copy)]
+pub struct Widening {
+    pub sites: u8,
+    pub to: u8,
+}
+
 /// The numbers of one site.
 #[derive(Clone, Copy)]
 pub struct Options {
@@ -106,7 +115,7 @@ fn sites<'a>(alloc: Global) -> Arg<'a>
         1,
         SITES_MAX as u64,
         "1",
-        "How many sites there are",
+        "How many sites there are, 1 to 16",
     )
 }
 
@@ -122,7 +131,7 @@ fn with_setup<'a>(alloc: Global, command: Command<'a>) -> Result<Command<'a>, Al
             1,
             SHARDS_MAX as u64,
             "4",
-            "How many shards the tables have",
+            "How many shards the tables have, 1 to 64; changes no answer",
         ))?
         .arg(number(
             alloc,
@@ -130,7 +139,7 @@ fn with_setup<'a>(alloc: Global, command: Command<'a>) -> Result<Command<'a>, Al
             1,
             WORKERS_MAX as u64,
             "2",
-            "How many workers apply shadows",
+            "How many threads may apply a batch, 1 to 16; changes no answer",
         ))?
         .arg(number(
             alloc,
@@ -138,7 +147,7 @@ fn with_setup<'a>(alloc: Global, command: Command<'a>) -> Result<Command<'a>, Al
             1,
             BATCH_MAX as u64,
             "64",
-            "How many pending shadows make a batch",
+            "How many released messages make a batch, 1 to 65536; changes no answer",
         ))?
         .arg(number(
             alloc,
@@ -146,7 +155,26 @@ fn with_setup<'a>(alloc: Global, command: Command<'a>) -> Result<Command<'a>, Al
             1,
             KEEP_MAX as u64,
             "1000000",
-            "How many messages a site keeps",
+            "How many messages a site keeps, released and held, 1 to 1000000",
+        ))
+}
+
+// The command that widens the records of an audit.
+fn widen<'a>(alloc: Global) -> Result<Command<'a>, AllocError>
+    ensures { IfOk result (λ made. app_of made ≡ widen_command) }
+{
+    Command::new(alloc, "widen")
+        .about(
+            "Rewrites logs for more sites, so that they can be audited with those of larger shops",
+        )
+        .arg(sites(alloc))?
+        .arg(number(
+            alloc,
+            "to",
+            1,
+            SITES_MAX as u64,
+            "16",
+            "How many sites the messages are to count, 1 to 16 and not below --sites",
         ))
 }
 
@@ -155,31 +183,33 @@ fn program<'a>(alloc: Global) -> Result<Command<'a>, AllocError>
     ensures { IfOk result (λ made. app_of made ≡ command_line) }
 {
     let site = Command::new(alloc, "site")
-        .about("Runs one site: records on standard input, answers on standard output")
+        .about("Runs one site: reads records on standard input, writes answers on standard output")
         .arg(number(
             alloc,
             "site",
             0,
             SITES_MAX as u64 - 1,
             "0",
-            "Which site it is, from 0",
+            "Which site this is, 0 to 15 and below --sites",
         ))?;
     let site = with_setup(alloc, site)?;
     let world = Command::new(alloc, "world").about(
-        "Runs several sites: records on standard input, answers on standard output",
+        "Runs several sites and their packets: reads records, writes answers",
     );
     let world = with_setup(alloc, world)?;
     let audit = Command::new(alloc, "audit")
-        .about("Audits logs: their records on standard input, the first fault on standard output")
+        .about("Audits the logs of several sites: writes the first fault, or Agree")
         .arg(sites(alloc))?;
+    let widen = widen(alloc)?;
     Command::new(alloc, "rubis")
         .bin_name("rubis")?
         .version("0.1.0")
-        .about("A replicated auction house whose answers are proved")
+        .about("A replicated auction store under RedBlue consistency, with proved contracts")
         .subcommand_required(true)
         .subcommand(site)?
         .subcommand(world)?
-        .subcommand(audit)
+        .subcommand(audit)?
+        .subcommand(widen)
 }
 
 // A number that `clap` has read and found in its range.
@@ -216,8 +246,17 @@ fn site_options(matches: &ArgMatches<'_>) -> Options
     }
 }
 
-/// What the words of a command line, the program's name first, ask for. Where they are refused, it is for a reason that
-/// this command line has to refuse them, or for want of memory.
+fn counts(matches: &ArgMatches<'_>) -> Widening
+    ensures { AreCountsIn (rows_of (found_of matches.now)) result }
+{
+    Widening {
+        sites: byte(matches, "sites"),
+        to: byte(matches, "to"),
+    }
+}
+
+/// What the words of a command line, the program's name first, ask for. If they are refused, it is for one of the
+/// reasons that this command line has to refuse them, or because memory ran out.
 pub fn read_options(alloc: Global, words: &[String]) -> Result<Run, OptionFault>
     ensures ok { IfOk result (IsAsked (map string_bytes words.now)) }
     ensures fits { IfOk result (λ run. fault_of command_line (map string_bytes words.now) ≡ []) }
@@ -230,6 +269,8 @@ pub fn read_options(alloc: Global, words: &[String]) -> Result<Run, OptionFault>
                 Ok(Run::Audit(byte(inner, "sites")))
             } else if name == "world" {
                 Ok(Run::World(read_setup(inner)))
+            } else if name == "widen" {
+                Ok(Run::Widen(counts(inner)))
             } else {
                 Ok(Run::Site(site_options(inner)))
             }

@@ -1,16 +1,23 @@
 -- What is known of an ask that isn't refused.
-use Rattle.std.proofs.Common.{◌≡◌, ℕ, Bool, true, false, cond, not, refl, sym, subst, Option, Some, None}
-use Rattle.std.specs.Prelude.{Ok, find}
+use Rattle.std.proofs.Common.{◌≡◌, ℕ, List, [], Bool, true, false, cond, not, refl, sym, subst, ◌∙◌, Option, Some, None}
+use Rattle.std.specs.Prelude.{Ok, bytes_eq, find, is_none, is_some}
+use Rattle.std.specs.Cmp.Lexicographic.{bytes_decides}
+use Rattle.std.specs.Option.{option_map_or}
+use Rattle.std.proofs.lemmas.Bool.{or_parts}
+use mathlib.Core.Bool.{true≢false}
+use Rattle.rubis_schema.specs.declared.row_keys.RowKey.TheVariants as key
+use Rattle.rubis_schema.specs.declared.rows.UserRow.{UserRow}
 use Rattle.rubis_schema.specs.declared.refusals.Refusal.{Refusal}
-use Rattle.rubis_schema.specs.declared.refusals.Refusal.TheVariants.{Full, NoToken, RedBehind}
+use Rattle.rubis_schema.specs.declared.refusals.Refusal.TheVariants.{Full, NoToken, RedBehind, NickTaken, NoUser}
 use Rattle.rubis_shadow.specs.Limits.{IsAsk, InLimits}
 use Rattle.rubis_shadow.specs.Shadows.{is_red}
 use Rattle.rubis_shadow.specs.declared.asks.Ask.{Ask}
-use Rattle.rubis_shadow.specs.declared.asks.Ask.TheVariants.{User, Item, Bid, Buy, Close, Comment}
+use Rattle.rubis_shadow.specs.declared.asks.Ask.TheVariants.{User, Item, Bid, Buy, Close, Comment, Restock, Rename}
 use Rattle.rubis_shadow.specs.declared.asks.AskedClose.{AskedClose}
+use Rattle.rubis_shadow.specs.declared.asks.AskedRename.{AskedRename}
 use Rattle.rubis_shadow.specs.declared.shadows.Shadow.{Shadow}
 use Rattle.rubis_generate.specs.Decision.{closing, decision, is_due, order_of, refused_or, shadow_of}
-use Rattle.rubis_generate.specs.Lookup.{Rows}
+use Rattle.rubis_generate.specs.Lookup.{Rows, user_in}
 use Rattle.rubis_generate.specs.declared.standing.Standing.{Standing}
 
 no_refusal : (o : Option Refusal) (x y : Shadow) → refused_or o x ≡ Ok y → (o ≡ None) × (x ≡ y)
@@ -38,6 +45,8 @@ room_by t s (Bid b) e = (past s.full Full _ e).0
 room_by t s (Buy p) e = (past s.full Full _ e).0
 room_by t s (Close c) e = (past s.full Full _ e).0
 room_by t s (Comment c) e = (past s.full Full _ e).0
+room_by t s (Restock r) e = (past s.full Full _ e).0
+room_by t s (Rename r) e = (past s.full Full _ e).0
 
 -- the first three refusals of a red ask
 first_three : (a b c : Bool) (o : Option Refusal) → cond a (Some Full) (cond (not b) (Some NoToken) (cond (not c) (Some RedBehind) o)) ≡ None
@@ -54,6 +63,8 @@ right_by t s (Bid b) e r = first_three s.full s.holds s.current _ e
 right_by t s (Buy p) e r = first_three s.full s.holds s.current _ e
 right_by t s (Close c) e r = first_three s.full s.holds s.current _ e
 right_by t s (Comment c) e r = absurd cc
+right_by t s (Restock c) e r = absurd cc
+right_by t s (Rename c) e r = first_three s.full s.holds s.current _ e
 
 -- the site isn't full where a shadow was decided
 pub not_full : (t : Rows) (s : Standing) (ask : Ask) (x : Shadow) → decision t s ask ≡ Ok x → s.full ≡ false
@@ -68,12 +79,28 @@ red_allowed t s ask x e r =
 
 -- ---- limits
 
--- the shadow of an ask within the limits is within them, if that of a close is
-pub shadow_limits : (sites : ℕ) (t : Rows) (ask : Ask) → IsAsk sites ask
+-- a rename that isn't refused gives another nickname
+unequal : (n : List ℕ) (o : Option UserRow) → is_none o ≡ false → option_map_or (λ (u : UserRow). bytes_eq u.nick n) o false ≡ false
+    → ¬ (option_map_or (λ (u : UserRow). u.nick) o [] ≡ n)
+unequal n None p q e = true≢false p
+unequal n (Some u) p q e = true≢false (sym ((bytes_decides u.nick n).1 e) ∙ q)
+
+renames : (t : Rows) (s : Standing) (r : AskedRename) → find (is_due t s (Rename r)) (order_of (Rename r)) ≡ None
+    → ¬ (option_map_or (λ (u : UserRow). u.nick) (user_in t r.user) [] ≡ r.nick)
+renames t s r e =
+    let behind = past (not s.current) RedBehind _ (past (not s.holds) NoToken _ (past s.full Full _ e).1).1 in
+    let user = past _ NoUser _ behind.1 in
+    let nick = past _ NickTaken _ user.1 in
+    unequal r.nick (user_in t r.user) (or_parts (is_none (user_in t r.user)) false user.0).0 (or_parts (is_some (t (key.Nick r.nick))) _ nick.0).1
+
+-- the shadow of an ask within the limits that isn't refused is within them, if that of a close is
+pub shadow_limits : (sites : ℕ) (t : Rows) (s : Standing) (ask : Ask) → find (is_due t s ask) (order_of ask) ≡ None → IsAsk sites ask
     → ((c : AskedClose) → ask ≡ Close c → IsAsk sites (Close c) → InLimits sites (closing t c.item)) → InLimits sites (shadow_of t ask)
-shadow_limits sites t (User n) g close = g
-shadow_limits sites t (Item n) g close = g
-shadow_limits sites t (Bid b) g close = g
-shadow_limits sites t (Buy p) g close = g
-shadow_limits sites t (Close c) g close = close c refl g
-shadow_limits sites t (Comment c) g close = g
+shadow_limits sites t s (User n) e g close = g
+shadow_limits sites t s (Item n) e g close = g
+shadow_limits sites t s (Bid b) e g close = g
+shadow_limits sites t s (Buy p) e g close = g
+shadow_limits sites t s (Close c) e g close = close c refl g
+shadow_limits sites t s (Comment c) e g close = g
+shadow_limits sites t s (Restock r) e g close = (g.0, g.2)
+shadow_limits sites t s (Rename r) e g close = (g, renames t s r e)

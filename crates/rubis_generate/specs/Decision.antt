@@ -1,16 +1,18 @@
 -- The answer to an ask: the first of its refusals that holds, in their order, or its shadow.
-use Rattle.std.specs.Prelude.{Bool, false, not, nat_eq, nat_lt, List, [], ◌∷◌, Option, Some, None, Result, Ok, Err, is_some, is_none, option_map, option_and_then, find}
+use Rattle.std.specs.Prelude.{Bool, false, ◌||◌, not, ℕ, bytes_eq, nat_eq, nat_lt, List, [], ◌∷◌, Option, Some, None, Result, Ok, Err, is_some, is_none, option_map, option_and_then, find}
 use Rattle.std.specs.Option.{option_map_or}
 use Rattle.std.specs.List.{list_any}
 use Rattle.rubis_schema.specs.Keys.{same_id}
 use Rattle.rubis_schema.specs.declared.ids.Id.{Id}
 use Rattle.rubis_schema.specs.declared.row_keys.RowKey.TheVariants as key
 use Rattle.rubis_schema.specs.declared.rows.ItemRow.{ItemRow}
+use Rattle.rubis_schema.specs.declared.rows.UserRow.{UserRow}
 use Rattle.rubis_schema.specs.declared.rows.Best.{Best}
 use Rattle.rubis_schema.specs.declared.refusals.Refusal.{Refusal}
 use Rattle.rubis_schema.specs.declared.refusals.Refusal.TheVariants.{BadRecord, Full, NoToken, RedBehind, NickTaken, NoUser, NoItem, Closed, LowBid, StockShort, NotSeller, OwnItem, NoBuyNow, SelfComment, BadTarget, LastTurn, NotOurs, NotForMe, BadEvent, NoSuchPacket}
 use Rattle.rubis_shadow.specs.declared.asks.Ask.{Ask}
-use Rattle.rubis_shadow.specs.declared.asks.Ask.TheVariants.{User, Item, Bid, Buy, Close, Comment}
+use Rattle.rubis_shadow.specs.declared.asks.AskedRename.{AskedRename}
+use Rattle.rubis_shadow.specs.declared.asks.Ask.TheVariants.{User, Item, Bid, Buy, Close, Comment, Restock, Rename}
 use Rattle.rubis_shadow.specs.declared.shadows.Shadow.{Shadow}
 use Rattle.rubis_shadow.specs.declared.shadows.Shadow.TheVariants as shadow
 use Rattle.rubis_generate.specs.declared.standing.Standing.{Standing}
@@ -24,6 +26,8 @@ order_of (Bid b) = Full ∷ NoToken ∷ RedBehind ∷ NoItem ∷ NoUser ∷ Clos
 order_of (Buy p) = Full ∷ NoToken ∷ RedBehind ∷ NoItem ∷ NoUser ∷ Closed ∷ OwnItem ∷ NoBuyNow ∷ StockShort ∷ []
 order_of (Close c) = Full ∷ NoToken ∷ RedBehind ∷ NoItem ∷ NotSeller ∷ Closed ∷ []
 order_of (Comment c) = Full ∷ NoItem ∷ NoUser ∷ SelfComment ∷ []
+order_of (Restock r) = Full ∷ NoItem ∷ NotSeller ∷ Closed ∷ []
+order_of (Rename r) = Full ∷ NoToken ∷ RedBehind ∷ NoUser ∷ NickTaken ∷ []
 
 -- the users that must be there
 abbrev pub users_of : Ask → List Id
@@ -33,6 +37,8 @@ users_of (Bid b) = b.bidder ∷ []
 users_of (Buy p) = p.buyer ∷ []
 users_of (Close c) = []
 users_of (Comment c) = c.from ∷ c.to ∷ []
+users_of (Restock r) = []
+users_of (Rename r) = r.user ∷ []
 
 -- a test of the item's row, which doesn't hold where there is none
 abbrev pub of_item : Rows → Id → (ItemRow → Bool) → Bool
@@ -46,45 +52,93 @@ item_of (Bid b) = Some b.item
 item_of (Buy p) = Some p.item
 item_of (Close c) = Some c.item
 item_of (Comment c) = Some c.item
+item_of (Restock r) = Some r.item
+item_of (Rename r) = None
 
 -- a test of the row of the item that the ask names
 abbrev pub at_item : Rows → Ask → (ItemRow → Bool) → Bool
 at_item t ask p = option_map_or (λ id. of_item t id p) (item_of ask) false
 
+-- the user's row has the nickname
+abbrev pub has_nick : Rows → Id → List ℕ → Bool
+has_nick t user n = option_map_or (λ (u : UserRow). bytes_eq u.nick n) (user_in t user) false
+
+-- the nickname has a row, or is the user's own
 abbrev pub asks_taken_nick : Rows → Ask → Bool
 asks_taken_nick t (User n) = is_some (t (key.Nick n))
-asks_taken_nick t ask = false
+asks_taken_nick t (Item n) = false
+asks_taken_nick t (Bid b) = false
+asks_taken_nick t (Buy p) = false
+asks_taken_nick t (Close c) = false
+asks_taken_nick t (Comment c) = false
+asks_taken_nick t (Restock r) = false
+asks_taken_nick t (Rename r) = is_some (t (key.Nick r.nick)) || has_nick t r.user r.nick
 
 -- the amount is below the start price
 abbrev pub low_bid : Ask → ItemRow → Bool
+low_bid (User n) i = false
+low_bid (Item n) i = false
 low_bid (Bid b) i = nat_lt b.amount i.start
-low_bid ask i = false
+low_bid (Buy p) i = false
+low_bid (Close c) i = false
+low_bid (Comment c) i = false
+low_bid (Restock r) i = false
+low_bid (Rename r) i = false
 
 -- the quantity is above the stock
 abbrev pub asks_above_stock : Ask → ItemRow → Bool
+asks_above_stock (User n) i = false
+asks_above_stock (Item n) i = false
+asks_above_stock (Bid b) i = false
 asks_above_stock (Buy p) i = nat_lt i.stock p.quantity
-asks_above_stock ask i = false
+asks_above_stock (Close c) i = false
+asks_above_stock (Comment c) i = false
+asks_above_stock (Restock r) i = false
+asks_above_stock (Rename r) i = false
 
 -- the named user isn't the item's seller
 abbrev pub not_seller : Ask → ItemRow → Bool
+not_seller (User n) i = false
+not_seller (Item n) i = false
+not_seller (Bid b) i = false
+not_seller (Buy p) i = false
 not_seller (Close c) i = not (same_id c.seller i.seller)
-not_seller ask i = false
+not_seller (Comment c) i = false
+not_seller (Restock r) i = not (same_id r.seller i.seller)
+not_seller (Rename r) i = false
 
 -- the bidder or buyer is the seller
 abbrev pub own_item : Ask → ItemRow → Bool
+own_item (User n) i = false
+own_item (Item n) i = false
 own_item (Bid b) i = same_id b.bidder i.seller
 own_item (Buy p) i = same_id p.buyer i.seller
-own_item ask i = false
+own_item (Close c) i = false
+own_item (Comment c) i = false
+own_item (Restock r) i = false
+own_item (Rename r) i = false
 
 -- the item can't be bought at once
 abbrev pub no_buy_now : Ask → ItemRow → Bool
+no_buy_now (User n) i = false
+no_buy_now (Item n) i = false
+no_buy_now (Bid b) i = false
 no_buy_now (Buy p) i = nat_eq i.price 0
-no_buy_now ask i = false
+no_buy_now (Close c) i = false
+no_buy_now (Comment c) i = false
+no_buy_now (Restock r) i = false
+no_buy_now (Rename r) i = false
 
 -- a comment from its own addressee
 abbrev pub self_comment : Ask → Bool
+self_comment (User n) = false
+self_comment (Item n) = false
+self_comment (Bid b) = false
+self_comment (Buy p) = false
+self_comment (Close c) = false
 self_comment (Comment c) = same_id c.from c.to
-self_comment ask = false
+self_comment (Restock r) = false
+self_comment (Rename r) = false
 
 -- whether a refusal holds, of each by itself
 abbrev pub is_due : Rows → Standing → Ask → Refusal → Bool
@@ -117,6 +171,10 @@ closing t id = shadow.Close (record {
   winner = option_and_then (λ (i : ItemRow). option_map (λ (b : Best). b.bid) i.best) (item_in t id);
 })
 
+-- another nickname in place of the one in the user's row
+abbrev pub renaming : Rows → AskedRename → Shadow
+renaming t r = shadow.Rename (record { user = r.user; from = option_map_or (λ (u : UserRow). u.nick) (user_in t r.user) []; to = r.nick })
+
 -- the shadow of an ask that isn't refused
 abbrev pub shadow_of : Rows → Ask → Shadow
 shadow_of t (User n) = shadow.User n
@@ -125,6 +183,8 @@ shadow_of t (Bid b) = shadow.Bid b
 shadow_of t (Buy p) = shadow.Buy p
 shadow_of t (Close c) = closing t c.item
 shadow_of t (Comment c) = shadow.Comment c
+shadow_of t (Restock r) = shadow.Restock (record { item = r.item; quantity = r.quantity })
+shadow_of t (Rename r) = renaming t r
 
 abbrev pub refused_or : Option Refusal → Shadow → Result Shadow Refusal
 refused_or None x = Ok x

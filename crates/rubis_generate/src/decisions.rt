@@ -5,9 +5,12 @@ ghost use Rattle.rubis_generate.specs.Decision.{decision};
 
 use crate::standing::Standing;
 use rubis_schema::{
-    CommentRow, Id, ItemRow, Nick, PurchaseRow, Refusal, Row, RowKey, Sale, Shared, View,
+    CommentRow, Id, ItemRow, Nick, PurchaseRow, Refusal, Row, RowKey, Sale, Shared, UserRow, View,
 };
-use rubis_shadow::{Ask, AskedClose, NewBid, NewClose, NewItem, Shadow};
+use rubis_shadow::{
+    Ask, AskedClose, AskedRename, AskedRestock, NewBid, NewClose, NewItem, NewRename, NewRestock,
+    Shadow,
+};
 
 // Whether the id has a user's row.
 fn has_user<V: View>(view: &V, user: Id) -> bool
@@ -16,6 +19,16 @@ fn has_user<V: View>(view: &V, user: Id) -> bool
     match view.row(&RowKey::User(user)) {
         Some(Row::User(_)) => true,
         _ => false,
+    }
+}
+
+// The user's row.
+fn user_row<V: View>(view: &V, user: Id) -> Option<&UserRow>
+    ensures { option_copied result ≡ user_in (row_by_key (V.tables view.now)) user }
+{
+    match view.row(&RowKey::User(user)) {
+        Some(Row::User(row)) => Some(row),
+        _ => None,
     }
 }
 
@@ -194,6 +207,60 @@ fn decide_comment<V: View>(
     Ok(Shadow::Comment(comment))
 }
 
+fn decide_restock<V: View>(
+    restock: AskedRestock,
+    view: &V,
+    standing: &Standing,
+) -> Result<Shadow, Refusal>
+    ensures { result ≡ decision (row_by_key (V.tables view.now)) standing.now (Ask.Restock restock) }
+{
+    if standing.full {
+        return Err(Refusal::Full);
+    }
+    let Some(item) = item_row(view, restock.item) else {
+        return Err(Refusal::NoItem);
+    };
+    if restock.seller != item.seller {
+        return Err(Refusal::NotSeller);
+    }
+    if is_over(&item.sale) {
+        return Err(Refusal::Closed);
+    }
+    Ok(Shadow::Restock(NewRestock {
+        item: restock.item,
+        quantity: restock.quantity,
+    }))
+}
+
+fn decide_rename<V: View>(
+    rename: AskedRename,
+    view: &V,
+    standing: &Standing,
+) -> Result<Shadow, Refusal>
+    ensures { result ≡ decision (row_by_key (V.tables view.now)) standing.now (Ask.Rename rename) }
+{
+    if standing.full {
+        return Err(Refusal::Full);
+    }
+    if !standing.holds {
+        return Err(Refusal::NoToken);
+    }
+    if !standing.current {
+        return Err(Refusal::RedBehind);
+    }
+    let Some(user) = user_row(view, rename.user) else {
+        return Err(Refusal::NoUser);
+    };
+    if view.row(&RowKey::Nick(rename.nick)).is_some() || user.nick == rename.nick {
+        return Err(Refusal::NickTaken);
+    }
+    Ok(Shadow::Rename(NewRename {
+        user: rename.user,
+        from: user.nick,
+        to: rename.nick,
+    }))
+}
+
 /// The shadow of the ask, or the first refusal that holds, in the order of the ask's tests. A close carries the item's
 /// category and its best bid.
 pub fn decide<V: View>(ask: Ask, view: &V, standing: &Standing) -> Result<Shadow, Refusal>
@@ -206,5 +273,7 @@ pub fn decide<V: View>(ask: Ask, view: &V, standing: &Standing) -> Result<Shadow
         Ask::Buy(purchase) => decide_buy(purchase, view, standing),
         Ask::Close(close) => decide_close(close, view, standing),
         Ask::Comment(comment) => decide_comment(comment, view, standing),
+        Ask::Restock(restock) => decide_restock(restock, view, standing),
+        Ask::Rename(rename) => decide_rename(rename, view, standing),
     }
 }

@@ -70,7 +70,7 @@ first_or (Some y) p x e = inl e
 few_sites : (sites : ℕ) → sites ≤ COUNTED_MAX → sites < 2 ^ 8
 few_sites sites top = omega (arith, top)
 
-line_only : (sites : ℕ) → sites ≤ COUNTED_MAX → (fields : List (List ℕ)) (x : Line) → line_of sites fields ≡ Some x
+pub line_only : (sites : ℕ) → sites ≤ COUNTED_MAX → (fields : List (List ℕ)) (x : Line) → line_of sites fields ≡ Some x
     → IsLine sites x × (fields ≡ line_record x)
 line_only sites top fields x e = ⊎_elim begins (λ f. ⊎_elim claims says (first_or (claim_of fields) (option_and_then next_of (packet_of sites fields)) x f))
     (first_or (whole (take_begin sites) fields) _ x e)
@@ -113,11 +113,11 @@ line_is sites top fields x = (line_only sites top fields x, (λ h. subst (λ f. 
 -- ---- all records of an audit
 
 -- the records of logs, the newest log in front
-written : List Log → List (List (List ℕ))
+pub written : List Log → List (List (List ℕ))
 written [] = []
 written (log ∷ logs) = written logs ++ log_records log
 
-AllAmong : ℕ → List Log → Type 0
+unfoldable pub AllAmong : ℕ → List Log → Type 0
 AllAmong sites logs = (log : Log) → Has log logs → IsLogAmong sites log
 
 written_is : (logs : List Log) → written logs ≡ flat_map log_records (reverse logs)
@@ -206,14 +206,14 @@ goes_on sites (log ∷ logs) more (Claim row) e h a =
     (newest sites log (record log { rows = Some (unwrap_or log.rows [] ++ row ∷ []) }) logs row a (with_claim sites log row h (first_among sites log logs a)) (claim_records log row))
 
 -- what is done with the logs after record n
-abbrev after_line : ℕ → ℕ → List (List (List ℕ)) → Option (List Log) → Result (List Log) ℕ
+abbrev pub after_line : ℕ → ℕ → List (List (List ℕ)) → Option (List Log) → Result (List Log) ℕ
 after_line sites n rest o = elim o as (λ _. Result (List Log) ℕ) [ None ↦ Err n | Some more ↦ logs_after sites (n + 1) more rest ]
 
 -- what is so of the records behind record n
 Rest : ℕ → ℕ → List (List (List ℕ)) → Type 0
 Rest sites n rest = (l k : List Log) → AllAmong sites l → logs_after sites (n + 1) l rest ≡ Ok k → AllAmong sites k × (written l ++ rest ≡ written k)
 
-logs_only : (sites : ℕ) → sites ≤ COUNTED_MAX → (records : List (List (List ℕ))) (n : ℕ) (logs last : List Log) → AllAmong sites logs
+pub logs_only : (sites : ℕ) → sites ≤ COUNTED_MAX → (records : List (List (List ℕ))) (n : ℕ) (logs last : List Log) → AllAmong sites logs
     → logs_after sites n logs records ≡ Ok last → AllAmong sites last × (written logs ++ records ≡ written last)
 unfolding Rest
 logs_only sites top [] n logs last a e =
@@ -240,7 +240,7 @@ logs_only sites top (fields ∷ rest) n logs last a e = line (line_of sites fiel
 Reaches : ℕ → List Log → List (List (List ℕ)) → List Log → Type 0
 Reaches sites logs records more = (n : ℕ) (rest : List (List (List ℕ))) → (m : ℕ) × (logs_after sites n logs (records ++ rest) ≡ logs_after sites m more rest)
 
-one_more : (sites : ℕ) → sites ≤ COUNTED_MAX → (logs more : List Log) (line : Line) (n : ℕ) (rest : List (List (List ℕ))) → IsLine sites line → with_line logs line ≡ Some more
+pub one_more : (sites : ℕ) → sites ≤ COUNTED_MAX → (logs more : List Log) (line : Line) (n : ℕ) (rest : List (List (List ℕ))) → IsLine sites line → with_line logs line ≡ Some more
     → logs_after sites n logs (line_record line ∷ rest) ≡ logs_after sites (n + 1) more rest
 one_more sites top logs more line n rest h e =
     ap (λ o. after_line sites n rest (option_and_then (with_line logs) o)) (line_back sites top line h) ∙ ap (after_line sites n rest) e

@@ -1,8 +1,8 @@
 -- Logs that pass the checks together are sound, and those of a run pass them.
-use Rattle.std.proofs.Common.{ℕ, ◌≡◌, ◌+◌, ◌^◌, ◌≤◌, ◌<◌, List, [], ◌∷◌, length, true, refl, sym, ap, ◌∙◌, subst, arith, Option, Some, None, inl, inr}
+use Rattle.std.proofs.Common.{ℕ, ◌≡◌, ◌+◌, ◌^◌, ◌≤◌, ◌<◌, List, [], ◌∷◌, ◌++◌, length, true, refl, sym, ap, ◌∙◌, subst, arith, Option, Some, None, inl, inr}
 use Rattle.std.specs.Prelude.{reverse, IfSome}
 use Rattle.std.proofs.lemmas.Bool.{ltb-true}
-use Rattle.std.proofs.lemmas.List.{reverse-reverse}
+use Rattle.std.proofs.lemmas.List.{reverse-append, reverse-reverse}
 use Rattle.std.proofs.lemmas.List.Elements.{All-weaker}
 use Rattle.rubis_schema.specs.declared.ids.Id.{Id}
 use Rattle.rubis_schema.specs.declared.row_keys.RowKey.TheVariants as key
@@ -21,7 +21,7 @@ use Rattle.rubis_model.specs.Order.{Precedes, Released}
 use Rattle.rubis_model.specs.References.{HasBidOnItem, IsMadeBy, Preceded, RefersToPast}
 use Rattle.rubis_model.specs.System.{World, site}
 use Rattle.rubis_model.specs.Sound.{Sound}
-use Rattle.rubis_model.specs.Laws.{Sent, IsLogOf}
+use Rattle.rubis_model.specs.Laws.{Sent, WasLogOf}
 use Rattle.rubis_model.specs.Listings.{table_rows}
 use Rattle.rubis_model.specs.Logs.{Log, shown_rows}
 use Rattle.rubis_model.specs.Claims.{KeepInvariants}
@@ -32,12 +32,12 @@ use Rattle.rubis_laws.proofs.RunsInOrder.{own, there, seen, unique, foundation}
 use Rattle.rubis_laws.proofs.Cores.{back_push}
 use Rattle.rubis_model.proofs.CoreLists.{cores_length}
 use Rattle.rubis_laws.proofs.LogsChecked.{new_here, count_reds, checked_end, number_is, follows, colour}
-use Rattle.rubis_laws.proofs.Winners.{one_nick, one_close, winner_is, row_winner, stock_left}
+use Rattle.rubis_laws.proofs.Winners.{one_close, winner_is, row_winner, stock_left}
 use Rattle.rubis_laws.proofs.Runs.{refers, logged}
 use Rattle.rubis_laws.proofs.Lengths.{log_short}
 use Rattle.rubis_laws.proofs.AuditedOrder.{IsFormed, sound_order, sound_log, run_ordered}
 use Rattle.rubis_laws.proofs.AuditedMeaning.{ground}
-use Rattle.rubis_model.proofs.Lists.{has_back, has_reverse}
+use Rattle.rubis_model.proofs.Lists.{has_back, has_left, has_reverse}
 
 -- a message that meets the conditions of its type
 pub message_formed : (m : Message) → IsMessage m → IsFormed m
@@ -126,7 +126,6 @@ module _ (sites : ℕ) (logs : List Log) (among : AreAmong sites logs) (f : AreF
         (sym ((is_meaning log h).rows (key.Item j)) ∙ g);
     ended = λ log h j r o e g. row_winner (Logged logs) (ground logs each once) once log.messages j r o (λ m x. ((log, h), x))
         (sym ((is_meaning log h).rows (key.Item j)) ∙ e) g;
-    nicks = one_nick (Logged logs) (ground logs each once) once;
     closed_once = one_close (Logged logs) (ground logs each once) once;
     winner = winner_is (Logged logs) (ground logs each once) once;
   }
@@ -156,19 +155,33 @@ run_fitting w (v ∷ past) s r all =
       run_fitting w past s r.1 older,
     )
 
--- logs of a run, with their tables or without
-module _ (w : World) (s : Sound w) (logs : List Log) (of : (log : Log) → Has log logs → IsLogOf w log) where
+-- what holds of entries newest first holds of the older ones among them
+ordered_before : (i : ℕ) (newer older : List Message) → AllOrdered i (newer ++ older) → AllOrdered i older
+ordered_before i [] older c = c
+ordered_before i (v ∷ newer) older c = ordered_before i newer older c.1
+
+fitting_before : (newer older : List Message) → AllFitting (newer ++ older) → AllFitting older
+fitting_before [] older h = h
+fitting_before (v ∷ newer) older h = fitting_before newer older h.1
+
+-- logs of a run, each as it was at some moment, with its tables then or without
+module _ (w : World) (s : Sound w) (logs : List Log) (of : (log : Log) → Has log logs → WasLogOf w log) where
+  -- the whole log of the site, newest first
+  newest : (log : Log) (h : Has log logs) → reverse (site w log.site).log ≡ reverse (of log h).later ++ reverse log.messages
+  newest log h = ap reverse (sym (of log h).messages) ∙ reverse-append log.messages (of log h).later
+
   sent : (v : Message) → Logged logs v → Sent w v
-  sent v a = logged w s a.0.0.site v (subst (Has v) (of a.0.0 a.0.1).messages a.1)
+  sent v a = logged w s a.0.0.site v (subst (Has v) (of a.0.0 a.0.1).messages (has_left v a.0.0.messages (of a.0.0 a.0.1).later a.1))
 
   pub run_faultless : AreFaultless logs
   run_faultless = record {
     clash = λ u v a b e f. unique w u v s (sent u a) (sent v b) e f;
-    ordered = λ log h. subst (λ m. AllOrdered log.site (reverse m)) (sym (of log h).messages)
-        (run_ordered w log.site (reverse (site w log.site).log) s (s.good log.site).released (s.good log.site).made (s.good log.site).log_sent);
+    ordered = λ log h. ordered_before log.site (reverse (of log h).later) (reverse log.messages)
+        (subst (AllOrdered log.site) (newest log h)
+        (run_ordered w log.site (reverse (site w log.site).log) s (s.good log.site).released (s.good log.site).made (s.good log.site).log_sent));
     red_once = λ u v a b l e. s.reds.single u v (sent u a) (sent v b) l e;
-    fitting = λ log h. subst (λ m. AllFitting (reverse m)) (sym (of log h).messages)
-        (run_fitting w (reverse (site w log.site).log) s (s.good log.site).released (s.good log.site).log_sent);
+    fitting = λ log h. fitting_before (reverse (of log h).later) (reverse log.messages)
+        (subst AllFitting (newest log h) (run_fitting w (reverse (site w log.site).log) s (s.good log.site).released (s.good log.site).log_sent));
     rows = λ log h. (of log h).rows;
   }
 

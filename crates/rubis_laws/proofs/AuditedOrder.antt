@@ -17,8 +17,8 @@ use Rattle.rubis_model.proofs.Pasts.{seq_within, found, found_red, red_within, m
 use Rattle.rubis_laws.proofs.RunsInOrder.{Behind, before_from, behind_from, own, there, causal_back, distinct_back}
 use Rattle.rubis_model.proofs.Lists.{has_back, has_reverse}
 
--- what the type of a message keeps: it counts all of its origin before it, it has a red number just where it is red, and
--- it is within the limits
+-- what the type of a message guarantees: it counts all of its origin before it, it has a red number if and only if it
+-- is red, and it is within the limits
 pub record IsFormed (v : Message) : Type 0 where
   pub own : v.stamp.id.seq ≡ dep v v.stamp.id.site + 1
   pub colour : is_red v.shadow ≡ nat_lt 0 v.stamp.red

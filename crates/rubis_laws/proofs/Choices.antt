@@ -4,7 +4,7 @@ use Rattle.std.specs.Prelude.{nat_lt, nat_eq, ◌&&◌, ◌||◌}
 use Rattle.std.proofs.lemmas.Bool.Decides.{nat_tests}
 use mathlib.Core.Bool.{true≢false}
 use Rattle.rubis_model.specs.Log.{Core}
-use Rattle.rubis_model.specs.Meaning.{choice, choose, earlier, higher, amount_of}
+use Rattle.rubis_model.specs.Meaning.{choice, choose, earlier, later, higher, amount_of}
 use Rattle.rubis_laws.proofs.Pushes.{by_pushes, choose_push}
 use Rattle.rubis_laws.proofs.Sets.{Member, Same, member_append, member_left, member_right}
 
@@ -39,6 +39,15 @@ earlier_apart m n p q = at m.red n.red p q
   where
     at : (a b : ℕ) → nat_lt a b ≡ false → nat_lt b a ≡ false → a ≡ b
     at a b p q = grind (arith, nat_tests)
+
+pub later_ranks : Ranks later
+later_ranks = record { keeps = λ n old m. gt_keeps n.red old.red m.red; itself = λ m. lt_itself m.red }
+  where
+    gt_keeps : (n o m : ℕ) → nat_lt o n ≡ false → nat_lt o m ≡ true → nat_lt m n ≡ false
+    gt_keeps n o m p q = grind (arith, nat_tests)
+
+pub later_apart : (m n : Core) → later m n ≡ false → later n m ≡ false → m.red ≡ n.red
+later_apart m n p q = earlier_apart m n q p
 
 pub higher_apart : (m n : Core) → higher m n ≡ false → higher n m ≡ false → m.red ≡ n.red
 higher_apart m n p q = at (amount_of m.shadow) m.red (amount_of n.shadow) n.red p q

@@ -107,7 +107,7 @@ module _ (keep : ℕ) (few : keep ≤ 1000000) (w : World) (i : ℕ) (s : Sound 
   unfolding Allows
   in_limits ask x l e =
       let p = (granted (rows_at (site w i).log) (standing_of keep (site w i)) ask x e).1 in
-      subst (InLimits (length w.sites)) p (shadow_limits (length w.sites) (rows_at (site w i).log) ask l (λ c same asks.
+      subst (InLimits (length w.sites)) p (shadow_limits (length w.sites) (rows_at (site w i).log) (standing_of keep (site w i)) ask (granted (rows_at (site w i).log) (standing_of keep (site w i)) ask x e).0 l (λ c same asks.
       let f = by_kind (cores (site w i).log) (closing (rows_at (site w i).log) c.item) (subst (λ a. Fits (cores (site w i).log) (shadow_of (rows_at (site w i).log) a)) same (subst (Fits (cores (site w i).log)) (sym p) (fitting ask x e))) in
       (asks.0, cat_small w i c.item _ s f.0, subst (λ o. IfSome o (IsId (length w.sites))) (sym f.2) (bid_id w i c.item s (short ask x e)))))
 

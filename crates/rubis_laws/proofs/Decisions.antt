@@ -9,6 +9,7 @@ use Rattle.rubis_schema.specs.declared.rows.Row.TheVariants as row
 use Rattle.rubis_schema.specs.declared.row_keys.RowKey.{RowKey}
 use Rattle.rubis_schema.specs.declared.row_keys.RowKey.TheVariants as key
 use Rattle.rubis_schema.specs.declared.rows.ItemRow.{ItemRow}
+use Rattle.rubis_schema.specs.declared.rows.UserRow.{UserRow}
 use Rattle.rubis_shadow.specs.declared.shadows.NewItem.{NewItem}
 use Rattle.rubis_schema.specs.declared.rows.Best.{Best}
 use Rattle.rubis_model.specs.Log.{Core}
@@ -16,9 +17,11 @@ use Rattle.rubis_shadow.specs.declared.shadows.Shadow.{Shadow}
 use Rattle.rubis_schema.specs.declared.refusals.Refusal.{Refusal}
 use Rattle.rubis_generate.specs.declared.standing.Standing.{Standing}
 use Rattle.rubis_shadow.specs.declared.asks.Ask.{Ask}
-use Rattle.rubis_shadow.specs.declared.asks.Ask.TheVariants.{User, Item, Bid, Buy, Close, Comment}
+use Rattle.rubis_shadow.specs.declared.asks.Ask.TheVariants.{User, Item, Bid, Buy, Close, Comment, Restock, Rename}
 use Rattle.rubis_model.specs.Meaning.{user_at, nick_at, item_at, user_row, item_row, meaning_row, close_of, best_bid, best_of, sale_after, named, total, sold_of, supply}
 use Rattle.rubis_model.specs.Checks.{Fits}
+use Rattle.std.proofs.lemmas.Bool.{or_parts}
+use Rattle.rubis_laws.proofs.Nicks.{nick_user}
 use Rattle.rubis_laws.proofs.FitsByKind.{FitsByKind, from_kind}
 use Rattle.rubis_generate.specs.Lookup.{Rows, user_in, item_in, is_ended, as_item_row, as_user_row}
 use Rattle.rubis_generate.specs.Decision.{decision, is_due, order_of, shadow_of, refused_or, of_item}
@@ -61,11 +64,19 @@ module _ (t : Rows) (a : List Core) (rows : (q : RowKey) → t q ≡ meaning_row
   get_nick n = rows (key.Nick n)
 
   user_there : (i : Id) → is_none (user_in t i) ≡ false → IsSome (user_at i a)
-  user_there i e = at (nick_at i a) (sym (ap (λ g. is_none (option_and_then as_user_row g)) (get_user i)) ∙ e)
+  user_there i e = nick_user i a (at (nick_at i a) (sym (ap (λ g. is_none (option_and_then as_user_row g)) (get_user i)) ∙ e))
     where
       at : (o : Option (List ℕ)) → is_none (option_and_then as_user_row (option_map (user_row a i) o)) ≡ false → IsSome o
       at None e = absurd (true≢false e)
       at (Some n) e = refl
+
+  nick_there : (i : Id) → is_none (user_in t i) ≡ false → nick_at i a ≡ Some (option_map_or (λ (u : UserRow). u.nick) (user_in t i) [])
+  nick_there i e = at (nick_at i a) refl (sym (ap (λ g. is_none (option_and_then as_user_row g)) (get_user i)) ∙ e)
+    where
+      at : (o : Option (List ℕ)) → nick_at i a ≡ o → is_none (option_and_then as_user_row (option_map (user_row a i) o)) ≡ false
+          → nick_at i a ≡ Some (option_map_or (λ (u : UserRow). u.nick) (user_in t i) [])
+      at None q e = absurd (true≢false e)
+      at (Some n) q e = q ∙ ap Some (sym (ap (λ g. option_map_or (λ (u : UserRow). u.nick) (option_and_then as_user_row g) []) (get_user i ∙ ap (option_map (user_row a i)) q)))
 
   item_there : (i : Id) → is_none (item_in t i) ≡ false → (n : NewItem) × (item_at i a ≡ Some n)
   item_there i e = at (item_at i a) refl (sym (ap (λ g. is_none (option_and_then as_item_row g)) (get_item i)) ∙ e)
@@ -135,6 +146,13 @@ module _ (t : Rows) (a : List Core) (rows : (q : RowKey) → t q ≡ meaning_row
       let n = item_there c.item w.0.1.0 in
       let u = neither _ _ w.0.1.1.0 in
       subst (FitsByKind a) w.1 (ap is_some n.1, user_there c.from u.0, user_there c.to u.1)
+  decided_by_kind s (Restock r) x h e =
+      let w = not_refused (is_due t s (Restock r)) (order_of (Restock r)) (shadow_of t (Restock r)) x e in
+      let n = item_there r.item w.0.1.0 in
+      subst (FitsByKind a) w.1 (ap is_some n.1)
+  decided_by_kind s (Rename r) x h e =
+      let w = not_refused (is_due t s (Rename r)) (order_of (Rename r)) (shadow_of t (Rename r)) x e in
+      subst (FitsByKind a) w.1 (nick_there r.user (only _ w.0.1.1.1.0), nick_free r.nick (or_parts (is_some (t (key.Nick r.nick))) _ w.0.1.1.1.1.0).0)
 
   pub decided_fits : (s : Standing) (ask : Ask) (x : Shadow) → Holds a → decision t s ask ≡ Ok x → Fits a x
   decided_fits s ask x h e = from_kind a x (decided_by_kind s ask x h e)

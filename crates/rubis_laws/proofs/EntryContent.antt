@@ -25,7 +25,7 @@ use Rattle.rubis_laws.proofs.Cores.{core_of, has_core}
 use Rattle.rubis_laws.proofs.FitsByKind.{by_kind, stands_at}
 use Rattle.rubis_laws.proofs.Tests.{any_has, has_any}
 
--- a message makes the row at the key just where it passes the test
+-- a message makes the row at the key if and only if it passes the test
 made : (k : RowKey) (u : Message) → makes_row k u ≡ true → IsMadeBy k u
 made (key.User i) u e = let s = and_parts (same_id i u.stamp.id) (is_some (as_user u.shadow)) e in ((Decides-same_id i u.stamp.id).0 s.0, s.1)
 made (key.Item i) u e = let s = and_parts (same_id i u.stamp.id) (is_some (as_item u.shadow)) e in ((Decides-same_id i u.stamp.id).0 s.0, s.1)

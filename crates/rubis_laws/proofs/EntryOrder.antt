@@ -41,15 +41,15 @@ no_clash others own v h = none_has (clashes v) (others ++ own) (λ u k. false_fr
 same_number : (a b : ℕ) → not (a == b) ≡ false → a ≡ b
 same_number a b e = eqb-true a b (not-false (a == b) e)
 
-number_same : (a b : ℕ) → a ≡ b → not (a == b) ≡ false
+pub number_same : (a b : ℕ) → a ≡ b → not (a == b) ≡ false
 number_same a b e = not_from_true (a == b) (eq-eqb a b e)
 
-counted_past : (own : List Message) (n j : ℕ) → n ≤ j → ((u : Message) → Has u own → u.stamp.id.site < n) → counted j own ≡ 0
+pub counted_past : (own : List Message) (n j : ℕ) → n ≤ j → ((u : Message) → Has u own → u.stamp.id.site < n) → counted j own ≡ 0
 counted_past [] n j l h = refl
 counted_past (m ∷ own) n j l h =
     counted_no j m own (λ e. let k = h m (inl refl) in absurd (omega (arith, e, k, l))) ∙ counted_past own n j l (λ u k. h u (inr k))
 
-nothing_past : (u : Message) (j : ℕ) → sites_of u ≤ j → dep u j ≡ 0
+pub nothing_past : (u : Message) (j : ℕ) → sites_of u ≤ j → dep u j ≡ 0
 nothing_past u j l = get_or_past u.stamp.deps j 0 l
 
 -- of messages that count the same sites
@@ -120,7 +120,7 @@ orderly site own v o =
 
 -- ---- red numbers
 
--- a message is red just where it has a red number
+-- a message is red if and only if it has a red number
 abbrev pub Coloured : Message → Type 0
 Coloured u = is_red u.shadow ≡ nat_lt 0 u.stamp.red
 

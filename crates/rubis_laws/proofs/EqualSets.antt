@@ -6,20 +6,21 @@ use mathlib.Core.Bool.{true≢false}
 use Rattle.rubis_schema.specs.declared.ids.Id.{Id}
 use Rattle.rubis_shadow.specs.declared.shadows.NewItem.{NewItem}
 use Rattle.rubis_shadow.specs.declared.shadows.Shadow.{Shadow}
-use Rattle.rubis_shadow.specs.declared.shadows.Shadow.TheVariants.{User, Bid, Close}
+use Rattle.rubis_shadow.specs.declared.shadows.Shadow.TheVariants.{User, Bid, Close, Rename}
 use Rattle.rubis_model.specs.Log.{Core, fold_of}
 use Rattle.rubis_schema.specs.declared.rows.Row.TheVariants as row
 use Rattle.rubis_schema.specs.declared.row_keys.RowKey.{RowKey}
 use Rattle.rubis_schema.specs.declared.row_keys.RowKey.TheVariants as key
 use Rattle.rubis_schema.specs.Keys.{same_id}
-use Rattle.rubis_model.specs.Meaning.{when, as_user, as_item, as_bid, as_purchase, as_comment, lists_item_of, bought_by, rating_for, rates, sold_of, supply, bids_on, closes, nick_at, is_same_nick, lists_in, closes_in, higher, earlier, choose, count, user_row, item_row, best_of, sale_after, meaning_row, named}
+use Rattle.rubis_model.specs.Meaning.{when, as_user, as_item, as_bid, as_purchase, as_comment, lists_item_of, bought_by, rating_for, rates, sold_of, restocked_of, bids_on, closes, last_rename, later, nick_after, nick_at, renames, is_same_nick, lists_in, closes_in, higher, earlier, choose, count, user_row, item_row, best_of, sale_after, meaning_row, named}
 use Rattle.rubis_shadow.specs.Shadows.{is_red}
 use Rattle.rubis_model.specs.Checks.{Follows, has_id, CheckedFrom, Checked, SameSet}
 use Rattle.rubis_model.proofs.Commute.{same_tables}
 use Rattle.rubis_laws.proofs.Pushes.{count_push, at_id_push}
 use Rattle.rubis_laws.proofs.Sets.{Member, Same, OneEach, member_of, contains_of, member_append, not_member, turned, at_member, same_at, same_permutation, same_count, same_total, same_int_sum}
-use Rattle.rubis_laws.proofs.Choices.{earlier_ranks, higher_ranks, earlier_apart, higher_apart, same_choice}
+use Rattle.rubis_laws.proofs.Choices.{earlier_ranks, later_ranks, higher_ranks, earlier_apart, later_apart, higher_apart, same_choice}
 use Rattle.rubis_laws.proofs.Good.{more_reds}
+use Rattle.rubis_laws.proofs.Nicks.{nick_user}
 use Rattle.rubis_laws.proofs.FoldIsMeaning.{fold_is_meaning}
 
 -- ---- what checked logs keep of ids and red numbers
@@ -84,6 +85,10 @@ pub close_red : (i : Id) (x : Shadow) → closes i x ≡ true → is_red x ≡ t
 close_red i (Close b) e = refl
 close_red i x e = absurd (true≢false (sym e))
 
+pub rename_red : (u : Id) (x : Shadow) → renames u x ≡ true → is_red x ≡ true
+rename_red u (Rename r) e = refl
+rename_red u x e = absurd (true≢false (sym e))
+
 pub user_red : (x : Shadow) → IsSome (as_user x) → is_red x ≡ true
 user_red (User b) e = refl
 user_red x e = absurd (true≢false (sym e))
@@ -113,8 +118,12 @@ module _ (a b : List Core) (u : Apart a) (v : Apart b) (s : Same a b) where
   same_close i =
       same_choice earlier_ranks (λ m. closes i m.shadow) a b s (λ m n h l p q f g. u.reds m n h l (close_red i m.shadow p) (close_red i n.shadow q) (earlier_apart m n f g))
 
+  same_rename : (i : Id) → last_rename i a ≡ last_rename i b
+  same_rename i =
+      same_choice later_ranks (λ m. renames i m.shadow) a b s (λ m n h l p q f g. u.reds m n h l (rename_red i m.shadow p) (rename_red i n.shadow q) (later_apart m n f g))
+
   pub same_nick : (i : Id) → nick_at i a ≡ nick_at i b
-  same_nick i = same_at (λ m. as_user m.shadow) i a b u.ids v.ids s
+  same_nick i = λ j. option_map (nick_after (same_rename i j)) (same_at (λ m. as_user m.shadow) i a b u.ids v.ids s j)
 
   pub same_named : (k : List ℕ) → named k a ≡ named k b
   same_named k =
@@ -122,14 +131,14 @@ module _ (a b : List Core) (u : Apart a) (v : Apart b) (s : Same a b) where
       ∙ (λ j. choose earlier (λ m. is_same_nick k (same_nick m.id j)) b)
     where
       holder_red : (m : Core) → Member a m → is_same_nick k (nick_at m.id a) ≡ true → is_red m.shadow ≡ true
-      holder_red m h p = user_red m.shadow (subst IsSome (at_member (λ n. as_user n.shadow) a m u.ids h) (some_is k (nick_at m.id a) p))
+      holder_red m h p = user_red m.shadow (subst IsSome (at_member (λ n. as_user n.shadow) a m u.ids h) (nick_user m.id a (some_is k (nick_at m.id a) p)))
 
   same_item_row : (i : Id) (n : NewItem) → item_row a i n ≡ item_row b i n
   same_item_row i n = λ j. row.Item (record {
     seller = n.seller;
     name = n.name;
     cat = n.cat;
-    stock = supply a i n - same_total (sold_of i) a b together j;
+    stock = n.stock + same_total (restocked_of i) a b together j - same_total (sold_of i) a b together j;
     sold = same_total (sold_of i) a b together j;
     start = n.start;
     price = n.price;

@@ -12,11 +12,12 @@ use Rattle.rubis_schema.specs.declared.row_keys.RowKey.TheVariants as key
 use Rattle.rubis_shadow.specs.Parts.{refers_of, winner_key}
 use Rattle.rubis_shadow.specs.declared.shadows.NewItem.{NewItem}
 use Rattle.rubis_shadow.specs.declared.shadows.Shadow.{Shadow}
-use Rattle.rubis_shadow.specs.declared.shadows.Shadow.TheVariants.{User, Item, Bid, Buy, Close, Comment}
+use Rattle.rubis_shadow.specs.declared.shadows.Shadow.TheVariants.{User, Item, Bid, Buy, Close, Comment, Restock, Rename}
 use Rattle.rubis_message.specs.Equal.{Decides-winner}
 use Rattle.rubis_model.specs.Checks.{Fits, StandsIn, nick_taken, stock_short, wrong_category, wrong_winner}
 use Rattle.rubis_model.specs.Log.{Core}
-use Rattle.rubis_model.specs.Meaning.{as_bid, at_id, best_bid, bids_on, close_of, higher, item_at, named, sold_of, supply, total, user_at, when}
+use Rattle.rubis_model.specs.Meaning.{as_bid, at_id, best_bid, bids_on, close_of, higher, is_same_nick, item_at, named, nick_at, sold_of, supply, total, user_at, when}
+use Rattle.rubis_laws.proofs.Nicks.{is_nick_at, is_nick_of, some_nick}
 use Rattle.rubis_laws.proofs.Choices.{IsChoice, choose_is, higher_ranks}
 use Rattle.rubis_laws.proofs.Sets.{Member, itself}
 
@@ -29,6 +30,8 @@ FitsByKind before (Buy p) = IsSome (item_at p.item before) × IsSome (user_at p.
 FitsByKind before (Close c) = option_map (λ (n : NewItem). n.cat) (item_at c.item before) ≡ Some c.cat × (close_of c.item before ≡ None)
     × (c.winner ≡ option_map (λ (m : Core). m.id) (best_bid c.item before))
 FitsByKind before (Comment c) = IsSome (item_at c.item before) × IsSome (user_at c.from before) × IsSome (user_at c.to before)
+FitsByKind before (Restock r) = IsSome (item_at r.item before)
+FitsByKind before (Rename r) = (nick_at r.user before ≡ Some r.from) × (named r.to before ≡ None)
 
 none_is : {X : Type 0} (o : Option X) → is_some o ≡ false → o ≡ None
 none_is None e = refl
@@ -103,6 +106,10 @@ module _ (a : List Core) where
       )
   by_kind (Comment c) f =
       (f.known 0 (key.Item c.item) (omega arith), f.known 1 (key.User c.from) (omega arith), f.known 2 (key.User c.to) (omega arith))
+  by_kind (Restock r) f = f.known 0 (key.Item r.item) (omega arith)
+  by_kind (Rename r) f =
+      let w = or_parts (is_some (named r.to a)) (not (is_same_nick r.from (nick_at r.user a))) f.nick in
+      (is_nick_of r.from (nick_at r.user a) (not-false (is_same_nick r.from (nick_at r.user a)) w.1), none_is (named r.to a) w.0)
 
   -- ---- to the tests
   and_stands : (k : RowKey) (ks : List RowKey) → StandsIn a k → All (StandsIn a) ks → All (StandsIn a) (k ∷ ks)
@@ -127,6 +134,8 @@ module _ (a : List Core) where
       and_stands (key.Item c.item) (winner_key c.winner) (has_cat (item_at c.item a) c.cat f.0) (winner_stands c.item c.winner f.2)
   known_by (Comment c) f =
       and_stands (key.Item c.item) (key.User c.from ∷ key.User c.to ∷ []) f.0 (and_stands (key.User c.from) (key.User c.to ∷ []) f.1 (one_stands (key.User c.to) f.2))
+  known_by (Restock r) f = one_stands (key.Item r.item) f
+  known_by (Rename r) f = one_stands (key.User r.user) (some_nick r.user a r.from f.0)
 
   right_category : (x : Shadow) → FitsByKind a x → wrong_category a x ≡ false
   right_category (Close c) f = right_cat c.cat (item_at c.item a) f.0
@@ -134,6 +143,9 @@ module _ (a : List Core) where
 
   nick_free : (x : Shadow) → FitsByKind a x → nick_taken a x ≡ false
   nick_free (User n) f = is_none (named n a) f
+  nick_free (Rename r) f =
+      or_from (is_some (named r.to a)) (not (is_same_nick r.from (nick_at r.user a))) (is_none (named r.to a) f.1)
+      (not_from_true (is_same_nick r.from (nick_at r.user a)) (is_nick_at r.from (nick_at r.user a) f.0))
   nick_free x f = refl
 
   stock_enough : (x : Shadow) → FitsByKind a x → stock_short a x ≡ false

@@ -15,7 +15,7 @@ use Rattle.rubis_model.specs.Log.{Core, Folded, parts_of, noted, number_parts, n
 use Rattle.rubis_shadow.specs.declared.shadows.NewItem.{NewItem}
 use Rattle.rubis_shadow.specs.declared.changes.Effect.{Effect}
 use Rattle.rubis_shadow.specs.declared.changes.Change.{Change}
-use Rattle.rubis_shadow.specs.declared.changes.Change.TheVariants.{Insert, ItemListed, Bought, Rated, CatListed, CatEnded, BidTaken, Sold, End}
+use Rattle.rubis_shadow.specs.declared.changes.Change.TheVariants.{Insert, ItemListed, Bought, Rated, CatListed, CatEnded, BidTaken, Sold, End, Restocked, Renamed}
 use Rattle.rubis_schema.specs.declared.rows.Best.{Best}
 use Rattle.rubis_shadow.specs.declared.changes.MisfitKind.TheVariants.{StockShort}
 use Rattle.rubis_schema.specs.declared.rows.Row.{Row}
@@ -36,8 +36,8 @@ use Rattle.rubis_laws.proofs.Pushes.{none_at}
 use Rattle.rubis_laws.proofs.Good.{Good, good_push, good_none}
 use Rattle.rubis_laws.proofs.RowsOfUser.{at_key, row_of_user}
 use Rattle.rubis_laws.proofs.RowsOfItem.{row_of_item, le_true, item_of}
-use Rattle.rubis_laws.proofs.OtherRows.{row_of_bid, row_of_purchase, row_of_comment, row_of_nick, row_of_cat}
-use Rattle.rubis_laws.proofs.Nicks.{nick_none, nick_some}
+use Rattle.rubis_laws.proofs.OtherRows.{row_of_bid, row_of_purchase, row_of_comment, row_of_nick, row_of_cat, freed_fits}
+use Rattle.rubis_laws.proofs.Nicks.{nick_none, nick_some, some_nick}
 
 -- ---- one message's parts, all fitting
 
@@ -116,6 +116,10 @@ rated_fits : (a : List Core) (u : Id) (z : ℤ) (n : List ℕ) → (change_row (
 unfolding change_row
 rated_fits a u z n = refl
 
+renamed_fits : (a : List Core) (u : Id) (k n : List ℕ) → (change_row (Renamed k) (Some (user_row a u n))).misfit ≡ None
+unfolding change_row
+renamed_fits a u k n = refl
+
 item_fits : (a : List Core) (i : Id) (c : Change) → IsSome (item_at i a) → close_of i a ≡ None →
     ((n : NewItem) → item_at i a ≡ Some n → (change_row c (Some (item_of (supply a i) (total (sold_of i) a) (count (bids_on i) a) (best_bid i a) None n))).misfit ≡ None) → (change_row c (meaning_row a (key.Item i))).misfit ≡ None
 unfolding meaning_row
@@ -141,6 +145,10 @@ sold_fits q w s c best n h = split (nat_le q (w n - s)) _ (le_true q (w n - s) (
     split : (b : Bool) (r : Row) → b ≡ true → (cond b (fits_as r) (misfits_as StockShort (Some (item_of w s c best None n)))).misfit ≡ None
     split true r e = refl
     split false r e = absurd (true≢false (sym e))
+
+restocked_fits : (a : List Core) (i : Id) (q : ℕ) → IsSome (item_at i a) → (change_row (Restocked q) (meaning_row a (key.Item i))).misfit ≡ None
+unfolding meaning_row change_row
+restocked_fits a i q s = let n = some_of (item_at i a) s in ap (λ o. (change_row (Restocked q) (option_map (item_row a i) o)).misfit) n.1
 
 cat_fits : (a : List Core) (k : ℕ) (c : Change) → k < 1000 → (change_row c (Some (category_row a k))).misfit ≡ None
     → (change_row c (meaning_row a (key.Cat k))).misfit ≡ None
@@ -190,6 +198,13 @@ all_fit t a s (shadow.Comment c) r g f =
     fit_two t _ _ (λ e. cc)
     (fits_at t a (key.Comment s.id) _ (r _) (new_row a (key.Comment s.id) _ (no_row (λ m. as_comment m.shadow) row.Comment s.id a f.new_id)))
     (fits_at t a (key.User c.to) _ (r _) (user_fits a c.to _ (rated_fits a c.to c.rating) (by_kind a (shadow.Comment c) f.fits).2))
+all_fit t a s (shadow.Restock k) r g f =
+    (fits_at t a (key.Item k.item) _ (r _) (restocked_fits a k.item k.quantity (by_kind a (shadow.Restock k) f.fits)), tt)
+all_fit t a s (shadow.Rename k) r g f =
+    fit_three t _ _ _ (λ e. cc) (λ e. cc) (λ e. f.limits.1.1 (let w : k.from ≡ k.to = cc in w))
+    (fits_at t a (key.User k.user) _ (r _) (user_fits a k.user _ (renamed_fits a k.user k.to) (some_nick k.user a k.from (by_kind a (shadow.Rename k) f.fits).0)))
+    (fits_at t a (key.Nick k.from) _ (r _) (freed_fits a s k g f))
+    (fits_at t a (key.Nick k.to) _ (r _) (new_row a (key.Nick k.to) _ (ap (option_map (λ (m : Core). row.Nick m.id)) (by_kind a (shadow.Rename k) f.fits).1)))
 
 -- ---- one more message
 

@@ -42,7 +42,7 @@ module _ (keep : ℕ) (few : keep ≤ 1000000) (w : World) (i : ℕ) (s : Sound 
       least : (k a b : ℕ) → k ≤ 1000000 → nat_le k (a + b) ≡ false → a < 1000000
       least k a b h e = grind (arith, nat_tests)
 
-  -- a red number is within the limit, and is positive just where the shadow is red
+  -- a red number is within the limit, and is positive if and only if the shadow is red
   red_small : (x : Shadow) → decision (rows_at (site w i).log) (standing_of keep (site w i)) ask ≡ Ok x → (b : Bool) → is_red x ≡ b → (o : Option ℕ)
       → (site w i).held ≡ o
       → (red_for x (site w i).held ≤ 1000000) × (is_red x ≡ nat_lt 0 (red_for x (site w i).held))

@@ -1,5 +1,5 @@
 -- What every checked log keeps: sums within the types, nothing said of a row that isn't there, red numbers that rise.
-use Rattle.std.proofs.Common.{ℕ, ◌≡◌, ◌+◌, ◌*◌, ◌≤◌, List, [], ◌∷◌, ◌++◌, length, Bool, true, false, cond, refl, sym, ap, ◌∙◌, subst, arith, Option, Some, None, length-append}
+use Rattle.std.proofs.Common.{ℕ, ◌≡◌, ◌+◌, ◌*◌, ◌≤◌, ◌<◌, List, [], ◌∷◌, ◌++◌, length, Bool, true, false, cond, refl, sym, ap, ◌∙◌, subst, arith, Option, Some, None, length-append}
 use Rattle.std.specs.Prelude.{ℤ, pos, ◌+ℤ◌, ◌&&◌, IfSome, IsSome, unsigned_abs, option_map}
 use Rattle.std.specs.Option.{option_or}
 use Rattle.std.proofs.lemmas.Int.{ints}
@@ -8,26 +8,29 @@ use Rattle.rubis_schema.specs.declared.ids.Id.{Id}
 use Rattle.rubis_laws.proofs.FitsByKind.{FitsByKind, by_kind}
 use Rattle.rubis_laws.proofs.Heads.{Head, head_of, msg}
 use Rattle.rubis_shadow.specs.declared.shadows.NewItem.{NewItem}
+use Rattle.rubis_shadow.specs.declared.shadows.NewRename.{NewRename}
 use Rattle.rubis_shadow.specs.declared.shadows.Shadow.{Shadow}
-use Rattle.rubis_shadow.specs.declared.shadows.Shadow.TheVariants.{User, Item, Bid, Buy, Close, Comment}
+use Rattle.rubis_shadow.specs.declared.shadows.Shadow.TheVariants.{User, Item, Bid, Buy, Close, Comment, Restock, Rename}
 use Rattle.rubis_model.specs.Log.{Core}
 use Rattle.rubis_schema.specs.Keys.{same_id}
-use Rattle.rubis_model.specs.Meaning.{count, total, int_sum_by, choose, choice, user_at, item_at, as_user, as_item, lists_item_of, bought_by, rates, rating_for, sold_of, bids_on, closes, when, supply, best_bid, close_of, higher, earlier, nick_at}
+use Rattle.rubis_model.specs.Meaning.{count, total, int_sum_by, choose, choice, user_at, item_at, as_user, as_item, lists_item_of, bought_by, rates, rating_for, sold_of, restocked_of, bids_on, closes, when, supply, best_bid, close_of, higher, earlier, later, last_rename, nick_at, renames}
 use Rattle.rubis_shadow.specs.Shadows.{is_red}
 use Rattle.rubis_model.specs.Checks.{Follows, IsLimited}
 use Rattle.rubis_schema.specs.KeyLaws.{Decides-same_id}
 use Rattle.rubis_model.specs.Invariants.{Unique}
 use Rattle.rubis_laws.proofs.Pushes.{count_push, total_push, int_sum_push, choose_push, choice_not, at_id_push, at_id_push_not, none_at}
-use Rattle.rubis_laws.proofs.Nicks.{nick_push_not, nick_push_user, unique_given, not_named}
+use Rattle.rubis_laws.proofs.Nicks.{keeps_nicks, last_push_not, nick_push_rename, nick_push_user, some_nick, unique_given, not_named}
 
 pub record NoneOfUser (u : Id) (a : List Core) : Type 0 where
   pub items : count (lists_item_of u) a ≡ 0
   pub bought : total (bought_by u) a ≡ 0
   pub rating : int_sum_by (λ m. rating_for u m.shadow) a ≡ pos 0
   pub comments : count (rates u) a ≡ 0
+  pub rename : last_rename u a ≡ None
 
 pub record NoneOfItem (i : Id) (a : List Core) : Type 0 where
   pub sold : total (sold_of i) a ≡ 0
+  pub restocked : total (restocked_of i) a ≡ 0
   pub bids : count (bids_on i) a ≡ 0
   pub best : best_bid i a ≡ None
   pub close : close_of i a ≡ None
@@ -42,6 +45,7 @@ pub record Good (a : List Core) : Type 0 where
   pub no_item : (i : Id) → item_at i a ≡ None → NoneOfItem i a
   pub bought : (u : Id) → total (bought_by u) a ≤ length a * 1000000
   pub sold : (i : Id) → total (sold_of i) a ≤ length a * 1000000
+  pub restocked : (i : Id) → total (restocked_of i) a ≤ length a * 1000000
   pub stock : (i : Id) → IfSome (item_at i a) (Stocked a i)
   pub nicks : Unique (λ u. nick_at u a)
   pub rating : (u : Id) → unsigned_abs (int_sum_by (λ m. rating_for u m.shadow) a) ≤ length a * 5
@@ -81,25 +85,31 @@ record SaysNothingOfUser (u : Id) (x : Shadow) : Type 0 where
   bought : bought_by u x ≡ 0
   rating : rating_for u x ≡ pos 0
   comments : rates u x ≡ false
+  rename : renames u x ≡ false
 
 record SaysNothingOfItem (i : Id) (x : Shadow) : Type 0 where
   sold : sold_of i x ≡ 0
+  restocked : restocked_of i x ≡ 0
   bids : bids_on i x ≡ false
   close : closes i x ≡ false
 
 nothing_of_user : (u : Id) (a : List Core) (x : Shadow) → FitsByKind a x → user_at u a ≡ None → SaysNothingOfUser u x
-nothing_of_user u a (Item n) f e = record { items = other_user u n.seller a e f; bought = refl; rating = refl; comments = refl }
+nothing_of_user u a (Item n) f e = record { items = other_user u n.seller a e f; bought = refl; rating = refl; comments = refl; rename = refl }
 nothing_of_user u a (Buy p) f e =
-    record { items = refl; bought = ap (λ b. cond b p.quantity 0) (other_user u p.buyer a e f.1); rating = refl; comments = refl }
+    record { items = refl; bought = ap (λ b. cond b p.quantity 0) (other_user u p.buyer a e f.1); rating = refl; comments = refl; rename = refl }
 nothing_of_user u a (Comment c) f e =
-    record { items = refl; bought = refl; rating = ap (λ b. cond b c.rating (pos 0)) (other_user u c.to a e f.2); comments = other_user u c.to a e f.2 }
-nothing_of_user u a x f e = record { items = refl; bought = refl; rating = refl; comments = refl }
+    record { items = refl; bought = refl; rating = ap (λ b. cond b c.rating (pos 0)) (other_user u c.to a e f.2); comments = other_user u c.to a e f.2; rename = refl }
+nothing_of_user u a (Rename r) f e =
+    record { items = refl; bought = refl; rating = refl; comments = refl; rename = other_user u r.user a e (some_nick r.user a r.from f.0) }
+nothing_of_user u a x f e = record { items = refl; bought = refl; rating = refl; comments = refl; rename = refl }
 
 nothing_of_item : (i : Id) (a : List Core) (x : Shadow) → FitsByKind a x → item_at i a ≡ None → SaysNothingOfItem i x
-nothing_of_item i a (Bid b) f e = record { sold = refl; bids = other_item i b.item a e f.0; close = refl }
-nothing_of_item i a (Buy p) f e = record { sold = ap (λ b. cond b p.quantity 0) (other_item i p.item a e f.0); bids = refl; close = refl }
-nothing_of_item i a (Close c) f e = record { sold = refl; bids = refl; close = other_item i c.item a e (mapped_some _ _ _ f.0) }
-nothing_of_item i a x f e = record { sold = refl; bids = refl; close = refl }
+nothing_of_item i a (Bid b) f e = record { sold = refl; restocked = refl; bids = other_item i b.item a e f.0; close = refl }
+nothing_of_item i a (Buy p) f e = record { sold = ap (λ b. cond b p.quantity 0) (other_item i p.item a e f.0); restocked = refl; bids = refl; close = refl }
+nothing_of_item i a (Close c) f e = record { sold = refl; restocked = refl; bids = refl; close = other_item i c.item a e (mapped_some _ _ _ f.0) }
+nothing_of_item i a (Restock r) f e =
+    record { sold = refl; restocked = ap (λ b. cond b r.quantity 0) (other_item i r.item a e f); bids = refl; close = refl }
+nothing_of_item i a x f e = record { sold = refl; restocked = refl; bids = refl; close = refl }
 
 -- ---- bounds
 
@@ -111,6 +121,10 @@ pub sold_in : (i : Id) (x : Shadow) → IsLimited x → sold_of i x ≤ 1000000
 sold_in i (Buy p) h = elim (same_id i p.item) as (λ b. cond b p.quantity 0 ≤ 1000000) [ true ↦ h.1.quantity.small | false ↦ omega arith ]
 sold_in i x h = omega arith
 
+pub restocked_in : (i : Id) (x : Shadow) → IsLimited x → restocked_of i x ≤ 1000000
+restocked_in i (Restock r) h = elim (same_id i r.item) as (λ b. cond b r.quantity 0 ≤ 1000000) [ true ↦ h.1.1.small | false ↦ omega arith ]
+restocked_in i x h = omega arith
+
 -- ---- stock
 
 pub if_some_map : {X : Type 0} {P Q : X → Type 0} (o : Option X) → ((x : X) → P x → Q x) → IfSome o P → IfSome o Q
@@ -121,10 +135,10 @@ if_some_both : {X : Type 0} {P Q R : X → Type 0} (o : Option X) → ((x : X) �
 if_some_both None f h k = tt
 if_some_both (Some x) f h k = f x h k
 
--- no other item, and so many pieces of this one bought
+-- no other item, and q pieces of this one bought
 stocked : (i : Id) (a : List Core) (m : Core) (q : ℕ) → sold_of i m.shadow ≡ q → (n : NewItem) → total (sold_of i) a + q ≤ supply a i n
     → Stocked a i n → Stocked (a ++ m ∷ []) i n
-stocked i a m q e n l h = record { enough = (let t = total_push (sold_of i) a m in omega (arith, t, e, l)); opening = h.opening }
+stocked i a m q e n l h = record { enough = (let t = total_push (sold_of i) a m in let k = total_push (restocked_of i) a m in omega (arith, t, k, e, l)); opening = h.opening }
 
 none_sold : (i : Id) (a : List Core) (n : NewItem) → Stocked a i n → total (sold_of i) a + 0 ≤ supply a i n
 none_sold i a n h = let e = h.enough in omega (arith, e)
@@ -179,12 +193,24 @@ choice_red n k beats p (Some x) m le r h =
 
 pub user_gives : (a : List Core) (s : Head) (k : List ℕ) → Good a → Follows a (msg s (User k)) → (v : Id) → nick_at v (a ++ msg s (User k) ∷ []) ≡ cond (same_id v s.id) (Some k) (nick_at v a)
 user_gives a s k g f v =
-    nick_push_user v a s k (none_at (λ m. as_user m.shadow) s.id a f.new_id)
+    let none : user_at s.id a ≡ None = none_at (λ m. as_user m.shadow) s.id a f.new_id in
+    nick_push_user v a s k none (g.no_user s.id none).rename
+
+red_above : (a : List Core) (s : Head) (x : Shadow) → Follows a (msg s x) → is_red x ≡ true → count is_red a < s.red
+red_above a s x f e = let r = f.next_red ∙ ap (λ b. cond b (count is_red a + 1) 0) e in omega (arith, r)
+
+pub rename_gives : (a : List Core) (s : Head) (r : NewRename) → Good a → Follows a (msg s (Rename r)) → (v : Id)
+    → nick_at v (a ++ msg s (Rename r) ∷ []) ≡ cond (same_id v r.user) (Some r.to) (nick_at v a)
+rename_gives a s r g f v =
+    nick_push_rename (count is_red a) v a s r (some_nick r.user a r.from (by_kind a (Rename r) f.fits).0) (red_above a s (Rename r) f refl)
+    (g.reds later (λ m. renames v m.shadow))
 
 nicks_push : (a : List Core) (s : Head) (x : Shadow) → Good a → Follows a (msg s x) → Unique (λ u. nick_at u (a ++ msg s x ∷ []))
 nicks_push a s (User k) g f =
     unique_given (λ u. nick_at u a) (λ u. nick_at u (a ++ msg s (User k) ∷ [])) s.id k (user_gives a s k g f) g.nicks (not_named k a (by_kind a (User k) f.fits))
-nicks_push a s x g f = λ n u v p q. g.nicks n u v (sym (nick_push_not u a (msg s x) refl) ∙ p) (sym (nick_push_not v a (msg s x) refl) ∙ q)
+nicks_push a s (Rename r) g f =
+    unique_given (λ u. nick_at u a) (λ u. nick_at u (a ++ msg s (Rename r) ∷ [])) r.user r.to (rename_gives a s r g f) g.nicks (not_named r.to a (by_kind a (Rename r) f.fits).1)
+nicks_push a s x g f = λ n u v p q. g.nicks n u v (sym (keeps_nicks u a (msg s x) refl) ∙ p) (sym (keeps_nicks v a (msg s x) refl) ∙ q)
 
 -- ---- one more message
 
@@ -202,6 +228,7 @@ good_push a m g f = record {
         bought = total_push (bought_by u) a m ∙ (λ i. z.bought i + x.bought i);
         rating = int_sum_push (λ n. rating_for u n.shadow) a m ∙ (λ i. z.rating i +ℤ x.rating i);
         comments = count_push (rates u) a m ∙ none_more z.comments x.comments;
+        rename = last_push_not u a m x.rename ∙ z.rename;
       };
   no_item = λ i e.
       let w = item_before i a m e in
@@ -209,6 +236,7 @@ good_push a m g f = record {
       let x = nothing_of_item i a m.shadow (by_kind a m.shadow f.fits) w in
       record {
         sold = total_push (sold_of i) a m ∙ (λ j. z.sold j + x.sold j);
+        restocked = total_push (restocked_of i) a m ∙ (λ j. z.restocked j + x.restocked j);
         bids = count_push (bids_on i) a m ∙ none_more z.bids x.bids;
         best = choose_push higher (λ n. bids_on i n.shadow) a m ∙ choice_not higher (λ n. bids_on i n.shadow) _ m x.bids ∙ z.best;
         close = choose_push earlier (λ n. closes i n.shadow) a m ∙ choice_not earlier (λ n. closes i n.shadow) _ m x.close ∙ z.close;
@@ -223,6 +251,12 @@ good_push a m g f = record {
       let p = total_push (sold_of u) a m in
       let q = sold_in u m.shadow f.limits in
       let r = g.sold u in
+      let l = length-append a (m ∷ []) in
+      omega (arith, p, q, r, l);
+  restocked = λ i.
+      let p = total_push (restocked_of i) a m in
+      let q = restocked_in i m.shadow f.limits in
+      let r = g.restocked i in
       let l = length-append a (m ∷ []) in
       omega (arith, p, q, r, l);
   stock = stock_push a (head_of m) m.shadow g (by_kind a m.shadow f.fits) f.limits;
@@ -243,10 +277,11 @@ good_push a m g f = record {
 
 pub good_none : Good []
 good_none = record {
-  no_user = λ u e. record { items = refl; bought = refl; rating = refl; comments = refl };
-  no_item = λ i e. record { sold = refl; bids = refl; best = refl; close = refl };
+  no_user = λ u e. record { items = refl; bought = refl; rating = refl; comments = refl; rename = refl };
+  no_item = λ i e. record { sold = refl; restocked = refl; bids = refl; best = refl; close = refl };
   bought = λ u. omega arith;
   sold = λ u. omega arith;
+  restocked = λ i. omega arith;
   stock = λ i. tt;
   nicks = λ n u v p q. absurd cc;
   rating = λ u. omega arith;

@@ -39,3 +39,8 @@ pub mod Forged
 pub mod AuditReadings
 pub mod Examples
 pub mod AuditExamples
+pub mod SecondExamples
+pub mod Widening
+pub mod WidenedRecords
+pub mod Recorded
+pub mod AgreedAudits

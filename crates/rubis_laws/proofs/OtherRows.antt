@@ -4,8 +4,9 @@ use Rattle.std.specs.Prelude.{pos, negsuc, ◌+ℤ◌, ◌-ℤ◌, fold, option_
 use Rattle.std.specs.Option.{option_or}
 use Rattle.std.proofs.lemmas.Int.{ints}
 use Rattle.std.specs.Cmp.Lexicographic.{bytes_decides}
+use mathlib.Core.Bool.{true≢false}
 use Rattle.rubis_schema.specs.declared.ids.Id.{Id}
-use Rattle.rubis_laws.proofs.FitsByKind.{by_kind}
+use Rattle.rubis_laws.proofs.FitsByKind.{FitsByKind, by_kind}
 use Rattle.rubis_laws.proofs.Heads.{Head, msg}
 use Rattle.rubis_shadow.specs.declared.shadows.Shadow.{Shadow}
 use Rattle.rubis_shadow.specs.declared.shadows.Shadow.TheVariants as shadow
@@ -13,17 +14,19 @@ use Rattle.rubis_model.specs.Log.{Core}
 use Rattle.rubis_schema.specs.declared.rows.Row.{Row}
 use Rattle.rubis_schema.specs.declared.rows.Row.TheVariants as row
 use Rattle.rubis_schema.specs.declared.row_keys.RowKey.TheVariants as key
-use Rattle.rubis_shadow.specs.declared.changes.Change.TheVariants.{Insert, CatListed, CatEnded}
+use Rattle.rubis_shadow.specs.declared.changes.Change.TheVariants.{Insert, CatListed, CatEnded, NickFreed}
+use Rattle.rubis_shadow.specs.declared.changes.MisfitKind.TheVariants.{OtherUser}
+use Rattle.rubis_shadow.specs.declared.shadows.NewRename.{NewRename}
 use Rattle.rubis_schema.specs.Keys.{same_id}
-use Rattle.rubis_shadow.specs.Changes.{change_row}
+use Rattle.rubis_shadow.specs.Changes.{change_row, misfits_as, removed}
 use Rattle.rubis_shadow.specs.Parts.{parts}
 use Rattle.rubis_model.specs.Meaning.{count, when, at_id, as_bid, as_purchase, as_comment, as_user, nick_at, is_same_nick, named, lists_in, closes_in, category_row, meaning_row}
 use Rattle.rubis_model.specs.Checks.{Follows, has_id}
 use Rattle.rubis_schema.specs.KeyLaws.{Decides-same_id}
 use Rattle.rubis_laws.proofs.Pushes.{count_push, or_none, at_id_push_not, at_id_push, none_at}
 use Rattle.std.proofs.lemmas.List.Sums.{count_by-le-length}
-use Rattle.rubis_laws.proofs.Good.{Good, user_gives}
-use Rattle.rubis_laws.proofs.Nicks.{nick_push_not, nick_none, named_is, named_same, named_row}
+use Rattle.rubis_laws.proofs.Good.{Good, rename_gives, user_gives}
+use Rattle.rubis_laws.proofs.Nicks.{Free, gives_nick, keeps_nicks, nick_none, not_named, named_none, named_is, named_same, named_row}
 use Rattle.rubis_laws.proofs.RowsOfUser.{at_key, small_sum, small_int}
 
 -- ---- rows that are only inserted
@@ -62,10 +65,10 @@ row_of_comment a s x f i = same_rows (λ m. as_comment m.shadow) row.Comment i a
 -- ---- nicknames
 
 -- a message that gives no nickname
-other_nick : (n : List ℕ) (a : List Core) (m : Core) → has_id m.id a ≡ None → as_user m.shadow ≡ None
+other_nick : (n : List ℕ) (a : List Core) (m : Core) → has_id m.id a ≡ None → gives_nick m.shadow ≡ false
     → named_row (named n a) ≡ named_row (named n (a ++ m ∷ []))
 other_nick n a m none e =
-    ap named_row (sym (named_same n a m (λ v. ap (is_same_nick n) (nick_push_not v a m e)) (nick_none m.id a (none_at (λ k. as_user k.shadow) m.id a none))))
+    ap named_row (sym (named_same n a m (λ v. ap (is_same_nick n) (keeps_nicks v a m e)) (nick_none m.id a (none_at (λ k. as_user k.shadow) m.id a none))))
 
 -- one that gives another
 not_given : (n k : List ℕ) (b : Bool) (o : Option (List ℕ)) → bytes_eq n k ≡ false → (b ≡ true → is_same_nick n o ≡ false)
@@ -85,10 +88,69 @@ new_nick a s k n g h f false e =
     let none : nick_at s.id a ≡ None = nick_none s.id a (none_at (λ m. as_user m.shadow) s.id a f.new_id) in
     ap named_row (sym (named_same n a (msg s (shadow.User k)) (λ v. ap (is_same_nick n) (user_gives a s k g f v) ∙ not_given n k (same_id v s.id) (nick_at v a) e (λ t. ap (is_same_nick n) (subst (λ w. nick_at w a ≡ None) (sym ((Decides-same_id v s.id).0 t)) none))) none))
 
+module _ (a : List Core) (s : Head) (r : NewRename) (g : Good a) (f : Follows a (msg s (shadow.Rename r))) where
+  abbrev x : Core
+  x = msg s (shadow.Rename r)
+
+  fit : FitsByKind a (shadow.Rename r)
+  fit = by_kind a (shadow.Rename r) f.fits
+
+  -- who has the old nickname before
+  had : named_row (named r.from a) ≡ Some (row.Nick r.user)
+  had = named_is r.from a r.user g.nicks fit.0
+
+  two_nicks : ¬ (r.from ≡ r.to)
+  two_nicks e = not_named r.to a fit.1 r.user (fit.0 ∙ ap Some e)
+
+  gone : Free r.from (λ v. nick_at v (a ++ x ∷ []))
+  gone v e = at (same_id v r.user) refl (sym (rename_gives a s r g f v) ∙ e)
+    where
+      at : (b : Bool) → same_id v r.user ≡ b → cond (same_id v r.user) (Some r.to) (nick_at v a) ≡ Some r.from → ⊥
+      at true t p =
+          let z : Some r.to ≡ Some r.from = ap (λ b. cond b (Some r.to) (nick_at v a)) (sym t) ∙ p in
+          two_nicks (let w : r.from ≡ r.to = cc in w)
+      at false t p =
+          let z : nick_at v a ≡ Some r.from = ap (λ b. cond b (Some r.to) (nick_at v a)) (sym t) ∙ p in
+          true≢false (sym ((Decides-same_id v r.user).1 (g.nicks r.from v r.user z fit.0)) ∙ t)
+
+  freed : (change_row (NickFreed r.user) (Some (row.Nick r.user))).row ≡ None
+  unfolding change_row
+  freed = ap (λ b. (cond b removed (misfits_as OtherUser (Some (row.Nick r.user)))).row) ((Decides-same_id r.user r.user).1 refl)
+
+  pub freed_fits : (change_row (NickFreed r.user) (named_row (named r.from a))).misfit ≡ None
+  unfolding change_row
+  freed_fits = ap (λ o. (change_row (NickFreed r.user) o).misfit) had ∙ ap (λ b. (cond b removed (misfits_as OtherUser (Some (row.Nick r.user)))).misfit) ((Decides-same_id r.user r.user).1 refl)
+
+  put : (change_row (Insert (row.Nick r.user)) None).row ≡ Some (row.Nick r.user)
+  unfolding change_row
+  put = refl
+
+  abbrev second : Bool → Option Row → Option Row
+  second b o = cond b (change_row (NickFreed r.user) o).row o
+
+  abbrev third : Bool → Option Row → Option Row
+  third b o = cond b (change_row (Insert (row.Nick r.user)) o).row o
+
+  pub renamed_nick : Good (a ++ x ∷ []) → (n : List ℕ) (b : Bool) → bytes_eq n r.from ≡ b → (c : Bool) → bytes_eq n r.to ≡ c → third c (second b (named_row (named n a))) ≡ named_row (named n (a ++ x ∷ []))
+  renamed_nick h n true p true q = absurd (two_nicks (sym ((bytes_decides n r.from).0 p) ∙ (bytes_decides n r.to).0 q))
+  renamed_nick h n true p false q =
+      let same : n ≡ r.from = (bytes_decides n r.from).0 p in
+      ap (λ o. (change_row (NickFreed r.user) o).row) (subst (λ w. named_row (named w a) ≡ Some (row.Nick r.user)) (sym same) had) ∙ freed
+      ∙ ap named_row (sym (subst (λ w. named w (a ++ x ∷ []) ≡ None) (sym same) (named_none r.from (a ++ x ∷ []) gone)))
+  renamed_nick h n false p true q =
+      let same : n ≡ r.to = (bytes_decides n r.to).0 q in
+      ap (λ o. (change_row (Insert (row.Nick r.user)) (named_row o)).row) (subst (λ w. named w a ≡ None) (sym same) fit.1) ∙ put
+      ∙ sym (named_is n (a ++ x ∷ []) r.user h.nicks (rename_gives a s r g f r.user ∙ ap (λ b. cond b (Some r.to) (nick_at r.user a)) ((Decides-same_id r.user r.user).1 refl) ∙ ap Some (sym same)))
+  renamed_nick h n false p false q =
+      ap named_row (sym (named_same n a x
+      (λ v. ap (is_same_nick n) (rename_gives a s r g f v) ∙ not_given n r.to (same_id v r.user) (nick_at v a) q (λ t. ap (is_same_nick n) (subst (λ w. nick_at w a ≡ Some r.from) (sym ((Decides-same_id v r.user).0 t)) fit.0) ∙ p))
+      (nick_none s.id a (none_at (λ m. as_user m.shadow) s.id a f.new_id))))
+
 pub row_of_nick : (a : List Core) (s : Head) (x : Shadow) → Good a → Good (a ++ msg s x ∷ []) → Follows a (msg s x) → (n : List ℕ) →
     fold (at_key (key.Nick n)) (meaning_row a (key.Nick n)) (parts s.id s.red x) ≡ meaning_row (a ++ msg s x ∷ []) (key.Nick n)
 unfolding meaning_row
 row_of_nick a s (shadow.User k) g h f n = new_nick a s k n g h f _ refl
+row_of_nick a s (shadow.Rename r) g h f n = renamed_nick a s r g f h n _ refl _ refl
 row_of_nick a s x g h f n = other_nick n a (msg s x) f.new_id refl
 
 -- ---- categories

@@ -28,7 +28,7 @@ use Rattle.rubis_laws.proofs.Making.{set_at}
 use Rattle.rubis_generate.proofs.Granted.{not_full}
 use Rattle.rubis_laws.proofs.Keeps.{at_one, start_at}
 
--- the site has at most so many
+-- the site holds at most `keep` messages, logged or waiting
 abbrev Holds : ℕ → Replica → Type 0
 Holds keep s = length s.log + length s.waiting ≤ keep
 

@@ -8,6 +8,7 @@ use Rattle.rubis_laws.proofs.FitsByKind.{by_kind}
 use Rattle.rubis_laws.proofs.Heads.{Head, msg}
 use Rattle.rubis_shadow.specs.declared.shadows.NewItem.{NewItem}
 use Rattle.rubis_shadow.specs.declared.shadows.NewClose.{NewClose}
+use Rattle.rubis_shadow.specs.declared.shadows.NewRestock.{NewRestock}
 use Rattle.rubis_shadow.specs.declared.shadows.Shadow.{Shadow}
 use Rattle.rubis_shadow.specs.declared.shadows.Shadow.TheVariants as shadow
 use Rattle.rubis_model.specs.Log.{Core}
@@ -15,17 +16,17 @@ use Rattle.rubis_schema.specs.declared.rows.Row.{Row}
 use Rattle.rubis_schema.specs.declared.rows.Row.TheVariants as row
 use Rattle.rubis_schema.specs.declared.row_keys.RowKey.TheVariants as key
 use Rattle.rubis_schema.specs.declared.rows.Sale.TheVariants.{Open}
-use Rattle.rubis_shadow.specs.declared.changes.Change.TheVariants.{Insert, BidTaken, Sold, End}
+use Rattle.rubis_shadow.specs.declared.changes.Change.TheVariants.{Insert, BidTaken, Sold, End, Restocked}
 use Rattle.rubis_schema.specs.Keys.{same_id}
 use Rattle.rubis_shadow.specs.Changes.{change_row, better, fits_as, misfits_as}
 use Rattle.rubis_shadow.specs.Parts.{parts, new_item}
 use Rattle.rubis_shadow.specs.declared.changes.MisfitKind.TheVariants.{StockShort}
-use Rattle.rubis_model.specs.Meaning.{count, total, choice, when, at_id, item_at, as_item, sold_of, bids_on, closes, best_bid, close_of, best_of, sale_after, supply, item_row, meaning_row, higher, earlier, amount_of}
+use Rattle.rubis_model.specs.Meaning.{count, total, choice, when, at_id, item_at, as_item, sold_of, restocked_of, bids_on, closes, best_bid, close_of, best_of, sale_after, supply, item_row, meaning_row, higher, earlier, amount_of}
 use Rattle.rubis_shadow.specs.Shadows.{is_red}
 use Rattle.rubis_model.specs.Checks.{Follows}
 use Rattle.rubis_schema.specs.KeyLaws.{Decides-same_id}
 use Rattle.rubis_laws.proofs.Pushes.{count_push, total_push, choose_push, choice_not, or_none, at_id_push_not, at_id_push, none_at}
-use Rattle.rubis_laws.proofs.Good.{Good}
+use Rattle.rubis_laws.proofs.Good.{Good, if_some_map}
 use Rattle.rubis_laws.proofs.RowsOfUser.{at_key, small_sum, count_small}
 
 abbrev pub item_of : (NewItem → ℕ) → ℕ → ℕ → Option Core → Option Core → NewItem → Row
@@ -52,18 +53,27 @@ bids i m = bids_on i m.shadow
 abbrev ends : Id → Core → Bool
 ends i m = closes i m.shadow
 
+abbrev grown_to : (NewItem → ℕ) → List Core → Core → Id → NewItem → Row
+grown_to w a m i =
+    item_of w (total (sold_of i) a + sold_of i m.shadow) (count (bids_on i) a + cond (bids i m) 1 0) (choice higher (bids i) (best_bid i a) m) (choice earlier (ends i) (close_of i a) m)
+
 abbrev grown : List Core → Core → Id → NewItem → Row
-grown a m i =
-    item_of (supply a i) (total (sold_of i) a + sold_of i m.shadow) (count (bids_on i) a + cond (bids i m) 1 0) (choice higher (bids i) (best_bid i a) m) (choice earlier (ends i) (close_of i a) m)
+grown a m i = grown_to (supply a i) a m i
 
-item_row_push : (a : List Core) (m : Core) (i : Id) (n : NewItem) → item_row (a ++ m ∷ []) i n ≡ grown a m i n
-item_row_push a m i n =
-    same_item (supply a i) n (total_push (sold_of i) a m) (count_push (bids_on i) a m) (choose_push higher (bids i) a m) (choose_push earlier (ends i) a m)
+item_row_to : (w : NewItem → ℕ) (a : List Core) (m : Core) (i : Id) (n : NewItem) → ((k : NewItem) → supply (a ++ m ∷ []) i k ≡ w k)
+    → item_row (a ++ m ∷ []) i n ≡ grown_to w a m i n
+item_row_to w a m i n e =
+    (λ j. item_of (λ k. e k j) (total (sold_of i) (a ++ m ∷ [])) (count (bids_on i) (a ++ m ∷ [])) (best_bid i (a ++ m ∷ [])) (close_of i (a ++ m ∷ [])) n)
+    ∙ same_item w n (total_push (sold_of i) a m) (count_push (bids_on i) a m) (choose_push higher (bids i) a m) (choose_push earlier (ends i) a m)
 
-item_meaning_push : (a : List Core) (m : Core) (i : Id) → as_item m.shadow ≡ None
+-- a message that adds nothing
+item_row_push : (a : List Core) (m : Core) (i : Id) (n : NewItem) → restocked_of i m.shadow ≡ 0 → item_row (a ++ m ∷ []) i n ≡ grown a m i n
+item_row_push a m i n e = item_row_to (supply a i) a m i n (λ k. let t = total_push (restocked_of i) a m in omega (arith, t, e))
+
+item_meaning_push : (a : List Core) (m : Core) (i : Id) → as_item m.shadow ≡ None → restocked_of i m.shadow ≡ 0
     → meaning_row (a ++ m ∷ []) (key.Item i) ≡ option_map (grown a m i) (item_at i a)
 unfolding meaning_row
-item_meaning_push a m i e = λ j. option_map (λ n. item_row_push a m i n j) (at_id_push_not (λ m. as_item m.shadow) i a m e j)
+item_meaning_push a m i e r = λ j. option_map (λ n. item_row_push a m i n r j) (at_id_push_not (λ m. as_item m.shadow) i a m e j)
 
 still : (w : NewItem → ℕ) (s b : ℕ) (best close : Option Core) (i : Id) (m : Core) (o : Option NewItem) → bids i m ≡ false → ends i m ≡ false →
     option_map (item_of w s b best close) o ≡ option_map (item_of w (s + 0) (b + 0) (choice higher (bids i) best m) (choice earlier (ends i) close m)) o
@@ -206,6 +216,45 @@ closed true w s c best close i st e (Some k) h shut =
     zero_more x = omega arith
 closed false w s c best close i st e o h shut = still w s c best close i (msg st (shadow.Close e)) o refl h
 
+-- more pieces
+plus_none : (x : ℕ) → x ≡ x + 0
+plus_none x = omega arith
+
+restocked_more : (t : Bool) (q : ℕ) (w : NewItem → ℕ) (s c : ℕ) (best close : Option Core) (i : Id) (m : Core) (o : Option NewItem) → bids i m ≡ false
+    → ends i m ≡ false → (t ≡ true → IfSome o (λ n. (s ≤ w n) × (w n + q < 2 ^ 63))) →
+    cond t (change_row (Restocked q) (option_map (item_of w s c best close) o)).row (option_map (item_of w s c best close) o)
+    ≡ option_map (item_of (λ n. w n + cond t q 0) (s + 0) (c + 0) (choice higher (bids i) best m) (choice earlier (ends i) close m)) o
+unfolding change_row
+restocked_more true q w s c best close i m None p e h = refl
+restocked_more true q w s c best close i m (Some k) p e h = λ j. Some (row.Item (record {
+  seller = k.seller;
+  name = k.name;
+  cat = k.cat;
+  stock = more (h refl).0 (h refl).1 j;
+  sold = plus_none s j;
+  start = k.start;
+  price = k.price;
+  bids = plus_none c j;
+  best = option_map best_of (sym (choice_not higher (bids i) best m p) j);
+  sale = sale_after (sym (choice_not earlier (ends i) close m e) j);
+}))
+  where
+    more : s ≤ w k → w k + q < 2 ^ 63 → min (w k - s + q) (2 ^ 64 - 1) ≡ w k + q - (s + 0)
+    more a b = omega arith
+restocked_more false q w s c best close i m o p e h =
+    still w s c best close i m o p e
+    ∙ (λ j. option_map (item_of (λ n. plus_none (w n) j) (s + 0) (c + 0) (choice higher (bids i) best m) (choice earlier (ends i) close m)) o)
+
+restocked_meaning : (a : List Core) (s : Head) (r : NewRestock) (i : Id) → meaning_row (a ++ msg s (shadow.Restock r) ∷ []) (key.Item i)
+    ≡ option_map (grown_to (λ n. supply a i n + cond (same_id i r.item) r.quantity 0) a (msg s (shadow.Restock r)) i) (item_at i a)
+unfolding meaning_row
+restocked_meaning a s r i = λ j. option_map
+    (λ n. item_row_to (λ n. supply a i n + cond (same_id i r.item) r.quantity 0) a (msg s (shadow.Restock r)) i n (λ k. let t = total_push (restocked_of i) a (msg s (shadow.Restock r)) in omega (arith, t)) j)
+    (at_id_push_not (λ m. as_item m.shadow) i a (msg s (shadow.Restock r)) refl j)
+
+restock_small : (l n t q : ℕ) → n ≤ 1000000 → t ≤ l * 1000000 → q ≤ 1000000 → l < 2 ^ 32 → n + t + q < 2 ^ 63
+restock_small l n t q a b c d = omega arith
+
 new_item_is : (n : NewItem) → row.Item (new_item n) ≡ item_of (λ n. n.stock) 0 0 None None n
 new_item_is n = λ j. row.Item (record {
   seller = n.seller;
@@ -223,6 +272,9 @@ new_item_is n = λ j. row.Item (record {
     all_of : n.stock ≡ n.stock - 0
     all_of = omega arith
 
+opening_supply : (a : List Core) (i : Id) (k : NewItem) → total (restocked_of i) a ≡ 0 → k.stock ≡ supply a i k
+opening_supply a i k e = omega (arith, e)
+
 -- a new item's row
 inserted : (a : List Core) (s : Head) (n : NewItem) (i : Id) (b : Bool) → same_id i s.id ≡ b → Good a → Follows a (msg s (shadow.Item n)) →
     cond b (change_row (Insert (row.Item (new_item n))) (meaning_row a (key.Item i))).row (meaning_row a (key.Item i)) ≡ meaning_row (a ++ msg s (shadow.Item n) ∷ []) (key.Item i)
@@ -232,11 +284,11 @@ inserted a s n i true e g f =
     let z = g.no_item i none in
     let there : item_at i (a ++ msg s (shadow.Item n) ∷ []) ≡ Some n = at_id_push (λ m. as_item m.shadow) i a (msg s (shadow.Item n)) ∙ (λ j. option_or (none j) (when (e j) (Some n))) in
     ap (λ o. (change_row (Insert (row.Item (new_item n))) (option_map (item_row a i) o)).row) none
-    ∙ ap Some (new_item_is n ∙ same_item (supply a i) {s = 0} {b = 0} {best = None} {close = None} n (sym (ap (λ k. k + 0) z.sold)) (sym (ap (λ k. k + 0) z.bids)) (sym (choice_not higher (bids i) _ (msg s (shadow.Item n)) refl ∙ z.best)) (sym (choice_not earlier (ends i) _ (msg s (shadow.Item n)) refl ∙ z.close)) ∙ sym (item_row_push a (msg s (shadow.Item n)) i n))
+    ∙ ap Some (new_item_is n ∙ (λ j. item_of (λ k. opening_supply a i k z.restocked j) 0 0 None None n) ∙ same_item (supply a i) {s = 0} {b = 0} {best = None} {close = None} n (sym (ap (λ k. k + 0) z.sold)) (sym (ap (λ k. k + 0) z.bids)) (sym (choice_not higher (bids i) _ (msg s (shadow.Item n)) refl ∙ z.best)) (sym (choice_not earlier (ends i) _ (msg s (shadow.Item n)) refl ∙ z.close)) ∙ sym (item_row_push a (msg s (shadow.Item n)) i n refl))
     ∙ ap (option_map (item_row (a ++ msg s (shadow.Item n) ∷ []) i)) (sym there)
 inserted a s n i false e g f =
     still _ _ _ _ _ i (msg s (shadow.Item n)) (item_at i a) refl refl
-    ∙ (λ j. option_map (λ k. sym (item_row_push a (msg s (shadow.Item n)) i k) j) (item_at i a))
+    ∙ (λ j. option_map (λ k. sym (item_row_push a (msg s (shadow.Item n)) i k refl) j) (item_at i a))
     ∙ ap (option_map (item_row (a ++ msg s (shadow.Item n) ∷ []) i)) (sym (at_id_push (λ m. as_item m.shadow) i a (msg s (shadow.Item n)) ∙ ap (λ b. option_or (item_at i a) (when b (Some n))) e ∙ or_none _))
 
 -- a fact of the named item, at an id that is that one's
@@ -253,12 +305,16 @@ row_of_item a s (shadow.Item n) g f h i = inserted a s n i _ refl g f
 row_of_item a s (shadow.Bid b) g f h i =
     bid_taken (same_id i b.item) (count is_red a) _ _ _ _ _ i (msg s (shadow.Bid b)) (item_at i a) refl refl (at_named (λ k. close_of k a ≡ None) i b.item (by_kind a (shadow.Bid b) f.fits).2)
     (let r = f.next_red in omega (arith, r)) (g.reds higher (bids i)) (count_small (bids_on i) a h)
-    ∙ sym (item_meaning_push a (msg s (shadow.Bid b)) i refl)
+    ∙ sym (item_meaning_push a (msg s (shadow.Bid b)) i refl refl)
 row_of_item a s (shadow.Buy p) g f h i =
     sold_more (same_id i p.item) p.quantity _ _ _ _ _ i (msg s (shadow.Buy p)) (item_at i a) refl refl (at_named (λ k. close_of k a ≡ None) i p.item (by_kind a (shadow.Buy p) f.fits).2)
     (at_named (λ k. IfSome (item_at k a) (λ n. total (sold_of k) a + p.quantity ≤ supply a k n)) i p.item (by_kind a (shadow.Buy p) f.fits).3) (sold_small true _ _ _ (g.sold i) f.limits.1.quantity.small h)
-    ∙ sym (item_meaning_push a (msg s (shadow.Buy p)) i refl)
+    ∙ sym (item_meaning_push a (msg s (shadow.Buy p)) i refl refl)
 row_of_item a s (shadow.Close c) g f h i =
     closed (same_id i c.item) _ _ _ _ _ i s c (item_at i a) refl (at_named (λ k. close_of k a ≡ None) i c.item (by_kind a (shadow.Close c) f.fits).1)
-    ∙ sym (item_meaning_push a (msg s (shadow.Close c)) i refl)
-row_of_item a s x g f h i = still _ _ _ _ _ i (msg s x) (item_at i a) refl refl ∙ sym (item_meaning_push a (msg s x) i refl)
+    ∙ sym (item_meaning_push a (msg s (shadow.Close c)) i refl refl)
+row_of_item a s (shadow.Restock r) g f h i =
+    restocked_more (same_id i r.item) r.quantity (supply a i) _ _ _ _ i (msg s (shadow.Restock r)) (item_at i a) refl refl
+    (λ e. if_some_map (item_at i a) (λ n k. (k.enough, restock_small (length a) n.stock (total (restocked_of i) a) r.quantity k.opening (g.restocked i) f.limits.1.1.small h)) (g.stock i))
+    ∙ sym (restocked_meaning a s r i)
+row_of_item a s x g f h i = still _ _ _ _ _ i (msg s x) (item_at i a) refl refl ∙ sym (item_meaning_push a (msg s x) i refl refl)

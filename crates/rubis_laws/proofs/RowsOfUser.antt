@@ -1,8 +1,10 @@
 -- What a message's parts do to a user's row is what it adds to the row's meaning.
 use Rattle.std.proofs.Common.{ℕ, ◌≡◌, ◌+◌, ◌-◌, ◌^◌, ◌<◌, List, [], ◌∷◌, ◌++◌, length, Bool, true, false, cond, refl, sym, ap, ◌∙◌, subst, arith, Option, Some, None}
-use Rattle.std.specs.Prelude.{ℤ, pos, negsuc, ◌+ℤ◌, fold, option_map, unsigned_abs, min}
+use Rattle.std.specs.Prelude.{ℤ, pos, negsuc, ◌+ℤ◌, fold, option_map, IsSome, is_some, unsigned_abs, min}
 use Rattle.std.proofs.lemmas.Int.{ints}
 use Rattle.rubis_schema.specs.declared.ids.Id.{Id}
+use mathlib.Core.Bool.{true≢false}
+use Rattle.rubis_laws.proofs.FitsByKind.{by_kind}
 use Rattle.rubis_laws.proofs.Heads.{Head, msg}
 use Rattle.rubis_shadow.specs.declared.shadows.Shadow.{Shadow}
 use Rattle.rubis_shadow.specs.declared.shadows.Shadow.TheVariants as shadow
@@ -12,7 +14,7 @@ use Rattle.rubis_schema.specs.declared.rows.Row.{Row}
 use Rattle.rubis_schema.specs.declared.rows.Row.TheVariants as row
 use Rattle.rubis_schema.specs.declared.row_keys.RowKey.{RowKey}
 use Rattle.rubis_schema.specs.declared.row_keys.RowKey.TheVariants as key
-use Rattle.rubis_shadow.specs.declared.changes.Change.TheVariants.{Insert, ItemListed, Bought, Rated}
+use Rattle.rubis_shadow.specs.declared.changes.Change.TheVariants.{Insert, ItemListed, Bought, Rated, Renamed}
 use Rattle.rubis_schema.specs.Keys.{same_id, key_eq}
 use Rattle.rubis_shadow.specs.Changes.{change_row, saturated}
 use Rattle.rubis_shadow.specs.Parts.{parts}
@@ -20,8 +22,8 @@ use Rattle.rubis_model.specs.Meaning.{count, total, int_sum_by, at_id, user_at, 
 use Rattle.rubis_model.specs.Checks.{Follows}
 use Rattle.rubis_schema.specs.KeyLaws.{Decides-same_id}
 use Rattle.rubis_laws.proofs.Pushes.{count_push, total_push, int_sum_push, none_at}
-use Rattle.rubis_laws.proofs.Good.{Good, abs_sum, user_gives}
-use Rattle.rubis_laws.proofs.Nicks.{nick_push_not, nick_none}
+use Rattle.rubis_laws.proofs.Good.{Good, abs_sum, rename_gives, user_gives}
+use Rattle.rubis_laws.proofs.Nicks.{gives_nick, keeps_nicks, nick_none}
 use Rattle.std.proofs.lemmas.List.Sums.{count_by-le-length}
 
 abbrev pub at_key : RowKey → Option Row → Effect → Option Row
@@ -51,10 +53,10 @@ user_row_push : (a : List Core) (m : Core) (u : Id) (n : List ℕ) → user_row 
 user_row_push a m u n =
     same_user n (count_push (lists_item_of u) a m) (total_push (bought_by u) a m) (int_sum_push (λ m. rating_for u m.shadow) a m) (count_push (rates u) a m)
 
-user_meaning_push : (a : List Core) (m : Core) (u : Id) → as_user m.shadow ≡ None
+user_meaning_push : (a : List Core) (m : Core) (u : Id) → gives_nick m.shadow ≡ false
     → meaning_row (a ++ m ∷ []) (key.User u) ≡ option_map (grown a m.shadow u) (nick_at u a)
 unfolding meaning_row
-user_meaning_push a m u e = λ i. option_map (λ n. user_row_push a m u n i) (nick_push_not u a m e i)
+user_meaning_push a m u e = λ i. option_map (λ n. user_row_push a m u n i) (keeps_nicks u a m e i)
 
 -- a message that says nothing of users
 still : (c s k : ℕ) (r : ℤ) (o : Option (List ℕ)) → option_map (user_of c s r k) o ≡ option_map (user_of (c + 0) (s + 0) (r +ℤ pos 0) (k + 0)) o
@@ -81,6 +83,14 @@ unfolding change_row
 rated true z c s k r None h g = refl
 rated true z c s k r (Some n) h g = ap Some (same_user n (omega arith) (omega arith) (small_int _ g) (small_sum k 1 (omega arith)))
 rated false z c s k r o h g = still c s k r o
+
+-- a rename
+renamed : (b : Bool) (n : List ℕ) (c s k : ℕ) (r : ℤ) (o : Option (List ℕ)) → (b ≡ true → IsSome o)
+    → cond b (change_row (Renamed n) (option_map (user_of c s r k) o)).row (option_map (user_of c s r k) o) ≡ option_map (user_of (c + 0) (s + 0) (r +ℤ pos 0) (k + 0)) (cond b (Some n) o)
+unfolding change_row
+renamed true n c s k r None h = absurd (true≢false (sym (h refl)))
+renamed true n c s k r (Some m) h = still c s k r (Some n)
+renamed false n c s k r o h = still c s k r o
 
 -- a new user's row
 inserted : (a : List Core) (s : Head) (n : List ℕ) (u : Id) (b : Bool) → same_id u s.id ≡ b → Good a → Follows a (msg s (shadow.User n)) →
@@ -113,4 +123,7 @@ row_of_user a s (shadow.Buy p) g f h u =
 row_of_user a s (shadow.Comment c) g f h u =
     rated (same_id u c.to) c.rating _ _ _ _ (nick_at u a) (count_small (rates u) a h) (let l = g.rating u in let q = f.limits.1.rating in let t = abs_sum (int_sum_by (λ m. rating_for u m.shadow) a) c.rating in omega (arith, l, q, t, h))
     ∙ sym (user_meaning_push a (msg s (shadow.Comment c)) u refl)
+row_of_user a s (shadow.Rename r) g f h u =
+    renamed (same_id u r.user) r.to _ _ _ _ (nick_at u a) (λ e. subst (λ w. IsSome (nick_at w a)) (sym ((Decides-same_id u r.user).0 e)) (ap is_some (by_kind a (shadow.Rename r) f.fits).0))
+    ∙ (λ i. option_map (λ k. sym (user_row_push a (msg s (shadow.Rename r)) u k) i) (sym (rename_gives a s r g f u) i))
 row_of_user a s x g f h u = still _ _ _ _ (nick_at u a) ∙ sym (user_meaning_push a (msg s x) u refl)

@@ -1,5 +1,5 @@
 -- The laws of every run.
-use Rattle.std.proofs.Common.{ℕ, ◌≡◌, ◌^◌, ◌≤◌, List, [], length, arith, sym, ap, ◌∙◌, subst, refl}
+use Rattle.std.proofs.Common.{ℕ, ◌≡◌, ◌+◌, ◌^◌, ◌≤◌, List, [], length, arith, sym, ap, ◌∙◌, subst, refl}
 use Rattle.std.specs.Prelude.{None, reverse, true}
 use Rattle.rubis_schema.specs.declared.row_keys.RowKey.TheVariants as key
 use Rattle.rubis_shadow.specs.Shadows.{is_red}
@@ -13,7 +13,7 @@ use Rattle.rubis_model.specs.Checks.{Checked}
 use Rattle.rubis_model.specs.Claims.{KeepInvariants}
 use Rattle.rubis_model.specs.Invariants.{Holds}
 use Rattle.rubis_model.specs.Logs.{Log}
-use Rattle.rubis_model.specs.Meaning.{IsMeaning, item_at}
+use Rattle.rubis_model.specs.Meaning.{IsMeaning, item_at, supply}
 use Rattle.rubis_model.specs.Site.{rows_at}
 use Rattle.rubis_model.specs.Laws.{Sent, IsLogOf, InRun, RunsAreInOrder, RunsKeepInvariants, RunsAgreeOnTables, RunsSendDeliverables}
 use Rattle.rubis_laws.proofs.FoldIsMeaning.{fold_is_meaning}
@@ -26,7 +26,7 @@ use Rattle.rubis_laws.proofs.LogsChecked.{log_checked, red_positive, one_each_ba
 use Rattle.rubis_laws.proofs.Keeps.{run_keeps, start_sound, start_sites}
 use Rattle.rubis_laws.proofs.Room.{room_run, room_start}
 use Rattle.rubis_laws.proofs.Formed.{run_deliverable}
-use Rattle.rubis_laws.proofs.Winners.{Ground, one_nick, one_close, winner_is, row_winner, stock_left}
+use Rattle.rubis_laws.proofs.Winners.{Ground, one_close, winner_is, row_winner, stock_left}
 use Rattle.rubis_laws.proofs.Referring.{refers_past}
 use Rattle.rubis_model.proofs.Lists.{has_back, has_reverse}
 
@@ -77,10 +77,10 @@ in_run keep w few room s = record { in_order = in_order w s; invariants = invari
       clean = λ log of. ap (λ l. (fold_of (cores l)).misfits) of.messages ∙ (means log.site).1;
       refers = refers w s;
       holds = λ log of. subst (λ l. Holds (cores l)) (sym of.messages) (checked_holds (cores (site w log.site).log) (at log.site));
-      stock = λ log of j n r e f. stock_left (cores (site w log.site).log) j n r (checked_holds (cores (site w log.site).log) (at log.site))
+      stock = λ log of j n r e f. subst (λ l. r.stock + r.sold ≡ supply (cores l) j n) (sym of.messages)
+          (stock_left (cores (site w log.site).log) j n r (checked_holds (cores (site w log.site).log) (at log.site))
           (ap (λ l. item_at j (cores l)) (sym of.messages) ∙ e)
-          (sym ((means log.site).0.rows (key.Item j)) ∙ ap (λ l. rows_at l (key.Item j)) (sym of.messages) ∙ f);
-      nicks = one_nick (Sent w) (ground w s) (single w s);
+          (sym ((means log.site).0.rows (key.Item j)) ∙ ap (λ l. rows_at l (key.Item j)) (sym of.messages) ∙ f));
       closed_once = one_close (Sent w) (ground w s) (single w s);
       winner = winner_is (Sent w) (ground w s) (single w s);
       ended = λ log of j r o e f. row_winner (Sent w) (ground w s) (single w s) (site w log.site).log j r o (logged w s log.site)

@@ -1,4 +1,4 @@
--- The verdict is Agree just where the logs pass all checks together.
+-- The verdict is Agree if and only if the logs pass every check.
 use Rattle.std.proofs.Common.{ℕ, ◌≡◌, ◌+◌, ◌≤◌, ◌<◌, List, [], ◌∷◌, ◌++◌, length, Bool, true, false, cond, refl, sym, ap, ◌∙◌, subst, Option, Some, None, inl, inr, ⊎_elim, arith, append_assoc}
 use Rattle.std.specs.Prelude.{◌↔◌, not, reverse, option_map, IfSome}
 use Rattle.std.specs.Cmp.Lexicographic.{bytes_decides, pointwise_decides}
@@ -78,7 +78,7 @@ one_push all v o id red = record {
       (push_cases u v all h);
 }
 
--- a message of so many sites
+-- a message that counts `sites` sites and belongs to one of them
 record IsOf (sites : ℕ) (v : Message) : Type 0 where
   formed : IsFormed v
   counts : sites_of v ≡ sites

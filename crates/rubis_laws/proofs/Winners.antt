@@ -1,11 +1,11 @@
--- Over all sites: one user a nickname, one close an item, and its winner is the highest of all its bids.
+-- Over all sites: one close an item, and its winner is the highest of all its bids.
 use Rattle.std.proofs.Common.{ℕ, ◌≡◌, ◌+◌, ◌≤◌, ◌<◌, List, true, sym, ap, ◌∙◌, subst, arith, Option, Some, None, inl, inr, ⊎_elim}
 use Rattle.std.specs.Prelude.{option_map, option_and_then, ◌⊎◌, ◌-◌, IfSome, is_some}
 use Rattle.std.proofs.lemmas.Bool.{cases_order}
 use mathlib.Core.Bool.{true≢false}
 use Rattle.rubis_schema.specs.declared.ids.Id.{Id}
 use Rattle.rubis_shadow.specs.declared.shadows.Shadow.{Shadow}
-use Rattle.rubis_shadow.specs.declared.shadows.Shadow.TheVariants.{User, Bid, Close}
+use Rattle.rubis_shadow.specs.declared.shadows.Shadow.TheVariants.{Bid, Close}
 use Rattle.rubis_message.specs.Message.{Message}
 use Rattle.std.proofs.lemmas.Option.{same_Some}
 use Rattle.rubis_model.specs.Invariants.{Holds}
@@ -15,19 +15,18 @@ use Rattle.rubis_schema.specs.declared.rows.Row.{Row}
 use Rattle.rubis_schema.specs.declared.rows.Row.TheVariants as row
 use Rattle.rubis_schema.specs.declared.row_keys.RowKey.TheVariants as key
 use Rattle.rubis_schema.specs.declared.rows.Sale.TheVariants.{Ended}
-use Rattle.rubis_model.specs.Meaning.{total, sold_of, meaning_row, item_row, sale_after, item_at, bids_on, closes, close_of, best_bid, winner_of, higher, earlier, nick_at, as_user, named}
+use Rattle.rubis_model.specs.Meaning.{total, sold_of, supply, meaning_row, item_row, sale_after, item_at, bids_on, closes, close_of, best_bid, winner_of, higher, earlier}
 use Rattle.rubis_shadow.specs.Shadows.{is_red}
 use Rattle.rubis_model.specs.Checks.{Fits}
 use Rattle.rubis_schema.specs.KeyLaws.{Decides-same_id}
 use Rattle.rubis_laws.proofs.FitsByKind.{by_kind}
-use Rattle.rubis_laws.proofs.Sets.{Member, OneEach, at_member}
+use Rattle.rubis_laws.proofs.Sets.{Member, OneEach}
 use Rattle.rubis_laws.proofs.Choices.{IsChoice, choose_is, earlier_ranks, higher_ranks}
-use Rattle.rubis_laws.proofs.EqualSets.{bid_red, close_red, user_red}
+use Rattle.rubis_laws.proofs.EqualSets.{bid_red, close_red}
 use Rattle.rubis_model.specs.Bids.{IsHighestBid}
 use Rattle.rubis_model.specs.Log.{Core, core, cores}
 use Rattle.rubis_model.specs.Settle.{Has}
 use Rattle.rubis_laws.proofs.Cores.{has_core, core_of}
-use Rattle.rubis_laws.proofs.Nicks.{not_named}
 
 abbrev item_in : Row → Option ItemRow
 item_in (row.Item r) = Some r
@@ -67,18 +66,6 @@ pub record Ground (all : Message → Type 0) (v : Message) : Type 0 where
   pub fits : Fits (cores past) v.shadow
   pub reds : (u : Message) → all u → is_red u.shadow ≡ true → is_red v.shadow ≡ true → u.stamp.red < v.stamp.red → Has u past
 
--- who has a nickname has it after each log with that message
-nick_kept : (a : List Message) (u : Message) (n : List ℕ) → OneEach (cores a) → Has u a → as_user u.shadow ≡ Some n
-    → nick_at u.stamp.id (cores a) ≡ Some n
-nick_kept a u n ids h e = at_member (λ m. as_user m.shadow) (cores a) (core u) ids (has_core u a h) ∙ e
-
-user_taken : (a : List Message) (u : Message) (n : List ℕ) (x : Shadow) → OneEach (cores a) → Has u a → as_user u.shadow ≡ Some n → as_user x ≡ Some n
-    → Fits (cores a) x → ⊥
-user_taken a u n (User k) ids h e f g =
-    let same : k ≡ n = cc in
-    not_named n (cores a) (subst (λ z. named z (cores a) ≡ None) same (by_kind (cores a) (User k) g)) u.stamp.id (nick_kept a u n ids h e)
-user_taken a u n x ids h e f g = absurd cc
-
 module _ (all : Message → Type 0) (ground : (v : Message) → all v → Ground all v)
     (single : (u v : Message) → all u → all v → is_red u.shadow ≡ true → is_red v.shadow ≡ true → u.stamp.red ≡ v.stamp.red → u ≡ v) where
   red_cases : (u v : Message) (a : all u) (b : all v) → is_red u.shadow ≡ true → is_red v.shadow ≡ true
@@ -87,12 +74,6 @@ module _ (all : Message → Type 0) (ground : (v : Message) → all v → Ground
       ⊎_elim (λ q. inl (single u v a b e f q))
       (λ o. inr (⊎_elim (λ q. inl ((ground v b).reds u a e f q)) (λ q. inr ((ground u a).reds v b f e q)) o))
       (cases_order u.stamp.red v.stamp.red)
-
-  pub one_nick : (n : List ℕ) (u v : Message) → all u → all v → as_user u.shadow ≡ Some n → as_user v.shadow ≡ Some n → u ≡ v
-  one_nick n u v a b e f = ⊎_elim (λ q. q) (λ o. absurd (⊎_elim
-      (λ h. user_taken (ground v b).past u n v.shadow (ground v b).ids h e f (ground v b).fits)
-      (λ h. user_taken (ground u a).past v n u.shadow (ground u a).ids h f e (ground u a).fits) o))
-      (red_cases u v a b (user_red u.shadow (ap is_some e)) (user_red v.shadow (ap is_some f)))
 
   pub one_close : (j : Id) (u v : Message) → all u → all v → closes j u.shadow ≡ true → closes j v.shadow ≡ true → u ≡ v
   one_close j u v a b e f = ⊎_elim (λ q. q) (λ o. absurd (⊎_elim
@@ -151,11 +132,11 @@ module _ (all : Message → Type 0) (ground : (v : Message) → all v → Ground
 
 -- what wasn't sold is what the item's row shows
 pub stock_left : (a : List Core) (j : Id) (n : NewItem) (r : ItemRow) → Holds a → item_at j a ≡ Some n
-    → meaning_row a (key.Item j) ≡ Some (row.Item r) → r.stock + r.sold ≡ n.stock
+    → meaning_row a (key.Item j) ≡ Some (row.Item r) → r.stock + r.sold ≡ supply a j n
 unfolding meaning_row
 stock_left a j n r h e g =
     let same : Some (item_row a j n) ≡ Some (row.Item r) = ap (option_map (item_row a j)) (sym e) ∙ g in
-    let stock : n.stock - total (sold_of j) a ≡ r.stock = same_Some _ _ (same_row a j n r same (λ (q : ItemRow). q.stock)) in
+    let stock : supply a j n - total (sold_of j) a ≡ r.stock = same_Some _ _ (same_row a j n r same (λ (q : ItemRow). q.stock)) in
     let sold : total (sold_of j) a ≡ r.sold = same_Some _ _ (same_row a j n r same (λ (q : ItemRow). q.sold)) in
-    let few : total (sold_of j) a ≤ n.stock = subst (λ o. IfSome o (λ n. total (sold_of j) a ≤ n.stock)) e (h.stock j) in
+    let few : total (sold_of j) a ≤ supply a j n = subst (λ o. IfSome o (λ n. total (sold_of j) a ≤ supply a j n)) e (h.stock j) in
     omega (arith, stock, sold, few)

@@ -1,7 +1,11 @@
 // The laws of runs and of logs, each with its statement in rubis_model/specs.
+ghost use Rattle.rubis_model.specs.AgreedAudits.{AgreedAuditsAreSound};
 ghost use Rattle.rubis_model.specs.AuditRecords.{LinesAreReadAsWritten, LogsAreReadAsWritten};
-ghost use Rattle.rubis_model.specs.Forged.{FirstKeepsTheName, StockIsKept};
+ghost use Rattle.rubis_model.specs.Forged.{NamesAreHeld, NamesStay, StockIsKept};
+ghost use Rattle.rubis_model.specs.Widening.{MeaningStays, VerdictStays, WidenedAreAmong};
+ghost use Rattle.rubis_model.specs.WidenedRecords.{AuditStays};
 ghost use Rattle.rubis_model.specs.Laws.{MeaningIsOne, FoldIsMeaning, CheckedLogsHold, DecidedShadowsFit, EqualSetsEqualTables, RunsAreInOrder, RunsKeepInvariants, RunsAgreeOnTables, RunsSendDeliverables, RefusalsChangeNothing, FaultlessLogsAreSound, RunsAreFaultless, AgreesWhereFaultless, AgreedLogsAreSound, RunsAgree};
+ghost use Rattle.rubis_model.specs.RecordedRuns.{AuditsAgree, RecordsAreARun, RecordsKeepInvariants};
 
 /// A log that passes the checks folds without misfit to the meaning of its set, and there is only one.
 pub fn fold_is_meaning()
@@ -55,12 +59,12 @@ pub fn faultless_logs_are_sound()
     ensures { FaultlessLogsAreSound }
 {}
 
-/// The logs of every run, with their tables or without, pass the checks together.
+/// The logs of every run, each as it was at any moment, with its tables then or without, pass the checks together.
 pub fn every_run_is_faultless()
     ensures { RunsAreFaultless }
 {}
 
-/// An auditor's verdict is Agree just where the logs pass the checks together.
+/// An auditor's verdict is Agree if and only if the logs pass the checks together.
 pub fn verdict_agrees_where_faultless()
     ensures { AgreesWhereFaultless }
 {}
@@ -70,7 +74,7 @@ pub fn agreed_logs_are_sound()
     ensures { AgreedLogsAreSound }
 {}
 
-/// Of the logs of every run, with their tables or without, the verdict is Agree.
+/// Of the logs of every run, each as it was at any moment, with its tables then or without, the verdict is Agree.
 pub fn every_run_is_agreed()
     ensures { RunsAgree }
 {}
@@ -81,8 +85,30 @@ pub fn audits_are_read_as_written()
     ensures logs { LogsAreReadAsWritten }
 {}
 
-/// In every log, forged ones too, no stock is below zero, and a nickname stays with the first user that has it.
+/// The logs that the records of an audit say are sound, if its answer is Agree.
+pub fn agreed_audits_are_sound()
+    ensures { AgreedAuditsAreSound }
+{}
+
+/// The records of several sites are a run of them: after any records the claims of every run hold, and an audit is answered
+/// Agree.
+pub fn records_are_a_run()
+    ensures run { RecordsAreARun }
+    ensures invariants { RecordsKeepInvariants }
+    ensures audits { AuditsAgree }
+{}
+
+/// In every log, forged ones too, no stock is below zero, and a nickname's row stays until its user is renamed.
 pub fn every_log_holds()
     ensures stock { StockIsKept }
-    ensures names { FirstKeepsTheName }
+    ensures names { NamesStay }
+    ensures held { NamesAreHeld }
+{}
+
+/// Logs whose messages were widened to a number of sites are of that number, and have the same meaning and verdict.
+pub fn widened_logs_agree()
+    ensures among { WidenedAreAmong }
+    ensures meaning { MeaningStays }
+    ensures verdict { VerdictStays }
+    ensures records { AuditStays }
 {}

@@ -8,8 +8,8 @@ use rubis_shard::{Shard, Share, Tables};
 use std::alloc::{AllocError, Global};
 use std::test::Fail;
 
-// The message that is written so, to a site of two.
-fn message(alloc: Global, text: &str) -> Result<Message, Fail> {
+/// The message that is written so, to a site of two.
+pub fn message(alloc: Global, text: &str) -> Result<Message, Fail> {
     let mut record = Fields::new(alloc);
     for field in text.split(',') {
         record.push(field.as_bytes())?;

@@ -30,6 +30,32 @@ fn a_message_is_read_back(rt: HostRuntime) -> Result<(), Fail> {
 }
 
 #[test]
+fn a_message_is_widened_to_no_fewer_and_at_most_sixteen_sites(rt: HostRuntime) -> Result<(), Fail> {
+    let words: [&[u8]; 8] = [b"msg", b"1", b"0", b"1", b"1", b"0:0", b"user", b"ann"];
+    let fields = record(rt.alloc(), &words)?;
+    for (sites, counts) in [
+        (1, b"0:0".as_slice()),
+        (2, b"0:0"),
+        (4, b"0:0:0:0"),
+        (17, b"0:0"),
+    ] {
+        let Packet::Msg(message) = read_packet(rt.alloc(), &fields, 2)? else {
+            return Err(Fail::from("no message"));
+        };
+        let (is_wide, message) = match message.widen(sites) {
+            Ok(wide) => (true, wide),
+            Err(same) => (false, same),
+        };
+        let written = write_message(rt.alloc(), &message)?;
+        assert_eq!(rt;
+            (is_wide, written.field(5)),
+            (sites == 2 || sites == 4, Some(counts))
+        );
+    }
+    Ok(())
+}
+
+#[test]
 fn a_token_is_read_back(rt: HostRuntime) -> Result<(), Fail> {
     let words: [&[u8]; 5] = [b"token", b"1", b"12", b"1", b"40"];
     let fields = record(rt.alloc(), &words)?;

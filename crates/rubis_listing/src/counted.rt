@@ -6,7 +6,7 @@ use crate::row_sinks::RowSink;
 use rubis_schema::Fields;
 use std::alloc::AllocError;
 
-/// What takes rows, and how many it took, at most 2^64 - 1. A row more is refused as want of memory.
+/// A row sink and the number of rows it took, at most 2^64 - 1. One row more is refused as out of memory.
 #[derive(Drop)]
 pub struct Counted<S: Drop> {
     pub rows: S,

@@ -40,7 +40,7 @@ fn list_table<S: RowSink>(
 {
     let mut record = Fields::new(alloc);
     for (key, row) in tables.listed(alloc, table, listing)? {
-        put_row(sink, &mut record, listing, key, row)?;
+        put_row(sink, &mut record, listing, &key, row)?;
     }
     Ok(())
 }

@@ -41,6 +41,7 @@ fn name_of(kind: MisfitKind) -> &'static [u8]
         MisfitKind::NoRow => b"NoRow",
         MisfitKind::ClosedItem => b"ClosedItem",
         MisfitKind::StockShort => b"StockShort",
+        MisfitKind::OtherUser => b"OtherUser",
     }
 }
 

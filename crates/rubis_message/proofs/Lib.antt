@@ -3,3 +3,4 @@ pub mod Counts
 pub mod Fields
 pub mod Forms
 pub mod Records
+pub mod Widening

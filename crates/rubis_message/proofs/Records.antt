@@ -1,10 +1,11 @@
 -- The forms of requests and packets: each reads back what is written so, and takes nothing else.
-use Rattle.std.proofs.Common.{◌≡◌, ℕ, ◌<◌, ◌≤◌, ◌^◌, Bool, true, false, cond, List, [], ◌∷◌, ◌++◌, refl, sym, ap, subst, ◌∙◌, arith, decimal}
+use Rattle.std.proofs.Common.{◌≡◌, ℕ, ◌<◌, ◌≤◌, ◌^◌, Bool, true, false, cond, not, List, [], ◌∷◌, ◌++◌, refl, sym, ap, subst, ◌∙◌, arith, decimal}
 use Rattle.std.specs.Prelude.{◌↔◌, ⊤, ◌==◌, nat_lt, Some, None, bytes_eq, codes, Decides, IfOk, IsErrOf, Result, Ok, Err}
 use Rattle.std.specs.Cmp.Lexicographic.{bytes_decides}
+use mathlib.Core.Bool.{true≢false}
 use Rattle.std.proofs.lemmas.Bool.Decides.{Decides-eqb, nat_tests}
 use Rattle.rubis_schema.specs.Ids.{IsId, id_text}
-use Rattle.rubis_schema.specs.Texts.{IsName, IsText}
+use Rattle.rubis_schema.specs.Texts.{IsName, IsNick, IsText}
 use Rattle.rubis_schema.specs.declared.limits.TheConstants.{AMOUNT_MAX, CATEGORIES, CAT_MAX, COUNTED_MAX, COUNT_MAX, PASS_MAX, QUANTITY_MAX, TURN_MAX}
 use Rattle.rubis_schema.specs.declared.listings.Listing.{Listing}
 use Rattle.rubis_schema.specs.declared.listings.Listing.TheVariants as listing
@@ -15,9 +16,9 @@ use Rattle.rubis_shadow.specs.declared.shadows.Shadow.{Shadow}
 use Rattle.rubis_shadow.specs.declared.shadows.Shadow.TheVariants as shadow
 use Rattle.rubis_clock.specs.declared.stamps.Stamp.{Stamp}
 use Rattle.rubis_message.specs.Message.{Message, IsMessage}
-use Rattle.rubis_message.specs.Grammar.{token_version, version_of, HasShadowTexts, IsListing, IsMessageAmong, IsPacket, IsRequest, IsStamp, IsToken, asked_close_fields, bid_fields, close_fields, comment_fields, item_fields, listing_fields, message_fields, message_record, packet_record, purchase_fields, request_record, shadow_fields, stamp_fields, token_fields, token_record}
+use Rattle.rubis_message.specs.Grammar.{token_version, version_of, HasShadowTexts, IsListing, IsMessageAmong, IsPacket, IsRequest, IsStamp, IsToken, asked_close_fields, asked_rename_fields, asked_restock_fields, bid_fields, close_fields, comment_fields, item_fields, listing_fields, message_fields, message_record, packet_record, purchase_fields, request_record, rename_fields, restock_fields, shadow_fields, stamp_fields, token_fields, token_record}
 use Rattle.rubis_message.specs.Forms.{followed_by, give, none, mapped, one, take_id, take_number, take_positive}
-use Rattle.rubis_message.specs.Readings.{agrees, listing_by, packet_of, request_by, request_of, shadow_by, take_asked_close, take_bid, take_close, take_comment, take_item, take_kind, take_listing, take_message, take_packet, take_purchase, take_request, take_shadow, take_shown, take_stamp, take_token}
+use Rattle.rubis_message.specs.Readings.{agrees, listing_by, packet_of, request_by, request_of, shadow_by, take_asked_close, take_asked_rename, take_asked_restock, take_bid, take_close, take_comment, take_item, take_kind, take_listing, take_message, take_packet, take_purchase, take_rename, take_request, take_restock, take_shadow, take_shown, take_stamp, take_token}
 use Rattle.rubis_message.specs.Words.{all_shown, kind_of, kind_text, kinds, shown_of, shown_text}
 use Rattle.rubis_message.specs.declared.faults.ReadFault.{ReadFault}
 use Rattle.rubis_message.specs.declared.faults.ReadFault.TheVariants.{BadRecord}
@@ -48,6 +49,8 @@ kind_form = one_is (said_is kind_text kinds
       | kind.Comment ↦ refl
       | kind.Pass ↦ refl
       | kind.List ↦ refl
+      | kind.Restock ↦ refl
+      | kind.Rename ↦ refl
     ]))
 
 pub shown_form : IsForm (λ _. ⊤) (λ s. shown_text s ∷ []) take_shown
@@ -190,6 +193,72 @@ module _ (sites : ℕ) (few : sites < 2 ^ 8) where
         ((record { item = h0; from = h1; to = h2; rating = h3 }, h4), cc))))));
   }
 
+  pub asked_restock_form : IsForm (λ r. IsId sites r.item × IsId sites r.seller × IsQuantity r.quantity) asked_restock_fields (take_asked_restock sites)
+  unfolding take_asked_restock
+  asked_restock_form = record {
+    back = λ r rest h.
+        then_back id_form r.item _ _ h.0
+        ∙ then_back id_form r.seller _ _ h.1
+        ∙ then_back quantity_form r.quantity _ _ h.2;
+    only = λ fields rest r e.
+        then_only id_form _ fields rest r e (λ item t0 h0 is0 e0.
+        then_only id_form _ t0 rest r e0 (λ seller t1 h1 is1 e1.
+        then_only quantity_form _ t1 rest r e1 (λ quantity t2 h2 is2 e2.
+        given (λ y more. (IsId sites y.item × IsId sites y.seller × IsQuantity y.quantity) × (fields ≡ asked_restock_fields y ++ more)) _ r t2 rest e2
+        ((h0, h1, h2), cc))));
+  }
+
+  pub restock_form : IsForm (λ r. IsId sites r.item × IsQuantity r.quantity) restock_fields (take_restock sites)
+  unfolding take_restock
+  restock_form = record {
+    back = λ r rest h.
+        then_back id_form r.item _ _ h.0
+        ∙ then_back quantity_form r.quantity _ _ h.1;
+    only = λ fields rest r e.
+        then_only id_form _ fields rest r e (λ item t0 h0 is0 e0.
+        then_only quantity_form _ t0 rest r e0 (λ quantity t1 h1 is1 e1.
+        given (λ y more. (IsId sites y.item × IsQuantity y.quantity) × (fields ≡ restock_fields y ++ more)) _ r t1 rest e1
+        ((h0, h1), cc)));
+  }
+
+  pub asked_rename_form : IsForm (λ r. IsId sites r.user × IsNick r.nick) asked_rename_fields (take_asked_rename sites)
+  unfolding take_asked_rename
+  asked_rename_form = record {
+    back = λ r rest h.
+        then_back id_form r.user _ _ h.0
+        ∙ then_back (one_is nick_is) r.nick _ _ h.1;
+    only = λ fields rest r e.
+        then_only id_form _ fields rest r e (λ user t0 h0 is0 e0.
+        then_only (one_is nick_is) _ t0 rest r e0 (λ nick t1 h1 is1 e1.
+        given (λ y more. (IsId sites y.user × IsNick y.nick) × (fields ≡ asked_rename_fields y ++ more)) _ r t1 rest e1
+        ((h0, h1), cc)));
+  }
+
+  differ : (a b : List ℕ) (t : Bool) → bytes_eq a b ≡ t → ¬ (a ≡ b) → not t ≡ true
+  differ a b true e n = absurd (n ((bytes_decides a b).0 e))
+  differ a b false e n = refl
+
+  differing : (a b : List ℕ) (t : Bool) → bytes_eq a b ≡ t → not t ≡ true → ¬ (a ≡ b)
+  differing a b true e n same = true≢false (sym n)
+  differing a b false e n same = true≢false (sym ((bytes_decides a b).1 same) ∙ e)
+
+  pub rename_form : IsForm (λ r. InLimits sites (shadow.Rename r) × (IsNick r.from × IsNick r.to)) rename_fields (take_rename sites)
+  unfolding take_rename
+  rename_form = record {
+    back = λ r rest h.
+        then_back id_form r.user _ _ h.0.0
+        ∙ then_back (one_is nick_is) r.from _ _ h.1.0
+        ∙ then_back (one_is nick_is) r.to _ _ h.1.1
+        ∙ check_back _ rest _ (differ r.from r.to _ refl h.0.1);
+    only = λ fields rest r e.
+        then_only id_form _ fields rest r e (λ user t0 h0 is0 e0.
+        then_only (one_is nick_is) _ t0 rest r e0 (λ from t1 h1 is1 e1.
+        then_only (one_is nick_is) _ t1 rest r e1 (λ to t2 h2 is2 e2.
+        let c = check_only _ t2 rest _ r e2 in
+        given (λ y more. (InLimits sites (shadow.Rename y) × (IsNick y.from × IsNick y.to)) × (fields ≡ rename_fields y ++ more)) _ r t2 rest c.1
+        (((h0, differing from to _ refl c.0), (h1, h2)), cc))));
+  }
+
   -- ---- requests
 
   listing_behind : (k : Shown) → IsBehind (IsListing sites) listing_fields (shown_text k) (listing_by sites k)
@@ -232,6 +301,8 @@ module _ (sites : ℕ) (few : sites < 2 ^ 8) where
   request_behind kind.Comment = behind comment_form (λ y. request.Ask (ask.Comment y)) _ _ _ (λ x h. (h.0, h.1)) (λ x more. refl)
   request_behind kind.Pass = behind pass_form request.Pass _ _ _ (λ x h. h) (λ x more. refl)
   request_behind kind.List = behind listing_form request.List _ _ _ (λ x h. h) (λ x more. refl)
+  request_behind kind.Restock = behind asked_restock_form (λ y. request.Ask (ask.Restock y)) _ _ _ (λ x h. (h, tt)) (λ x more. refl)
+  request_behind kind.Rename = behind asked_rename_form (λ y. request.Ask (ask.Rename y)) _ _ _ (λ x h. (h.0, h.1)) (λ x more. refl)
 
   request_back : (x : Request) (rest : List (List ℕ)) → IsRequest sites x
       → take_request sites (request_record x ++ rest) ≡ Some (x, rest)
@@ -242,6 +313,8 @@ module _ (sites : ℕ) (few : sites < 2 ^ 8) where
   request_back (request.Ask (ask.Buy x)) rest h = made_back purchase_form (λ y. request.Ask (ask.Buy y)) x rest h.0
   request_back (request.Ask (ask.Close x)) rest h = made_back asked_close_form (λ y. request.Ask (ask.Close y)) x rest h.0
   request_back (request.Ask (ask.Comment x)) rest h = made_back comment_form (λ y. request.Ask (ask.Comment y)) x rest (h.0, h.1)
+  request_back (request.Ask (ask.Restock x)) rest h = made_back asked_restock_form (λ y. request.Ask (ask.Restock y)) x rest h.0
+  request_back (request.Ask (ask.Rename x)) rest h = made_back asked_rename_form (λ y. request.Ask (ask.Rename y)) x rest (h.0, h.1)
   request_back (request.Pass to) rest h = made_back pass_form request.Pass to rest h
   request_back (request.List l) rest h = made_back listing_form request.List l rest h
 
@@ -260,6 +333,8 @@ module _ (sites : ℕ) (few : sites < 2 ^ 8) where
   shadow_behind kind.Comment = behind comment_form shadow.Comment _ _ _ (λ x h. (h.0, h.1)) (λ x more. refl)
   shadow_behind kind.Pass = λ fields rest x e. absurd cc
   shadow_behind kind.List = λ fields rest x e. absurd cc
+  shadow_behind kind.Restock = behind restock_form shadow.Restock _ _ _ (λ x h. (h, tt)) (λ x more. refl)
+  shadow_behind kind.Rename = behind rename_form shadow.Rename _ _ _ (λ x h. (h.0, h.1)) (λ x more. refl)
 
   shadow_back : (x : Shadow) (rest : List (List ℕ)) → InLimits sites x × HasShadowTexts x
       → take_shadow sites (shadow_fields x ++ rest) ≡ Some (x, rest)
@@ -270,6 +345,8 @@ module _ (sites : ℕ) (few : sites < 2 ^ 8) where
   shadow_back (shadow.Buy x) rest h = made_back purchase_form shadow.Buy x rest h.0
   shadow_back (shadow.Close x) rest h = made_back close_form shadow.Close x rest h.0
   shadow_back (shadow.Comment x) rest h = made_back comment_form shadow.Comment x rest (h.0, h.1)
+  shadow_back (shadow.Restock x) rest h = made_back restock_form shadow.Restock x rest h.0
+  shadow_back (shadow.Rename x) rest h = made_back rename_form shadow.Rename x rest (h.0, h.1)
 
   pub shadow_form : IsForm (λ s. InLimits sites s × HasShadowTexts s) shadow_fields (take_shadow sites)
   unfolding take_shadow
@@ -328,7 +405,7 @@ module _ (sites : ℕ) (few : sites < 2 ^ 8) where
     shadow = subst (λ n. InLimits n m.shadow) (sym s.counted) l;
   }
 
-  -- a message among so many sites whose version this is
+  -- a message among `sites` sites, of this version
   abbrev IsMessageIn : List ℕ → Message → Type 0
   IsMessageIn version m = IsMessageAmong sites m × (version ≡ version_of m.shadow)
 

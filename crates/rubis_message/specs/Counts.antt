@@ -3,7 +3,7 @@ use Rattle.std.specs.Prelude.{ℕ, zero, suc, List, [], ◌∷◌, Option, None,
 use Rattle.rubis_schema.specs.FieldForms.{◌>>=◌, cut_at, number_of}
 use Rattle.rubis_schema.specs.declared.limits.TheConstants.{COUNT_MAX}
 
--- the counts of so many sites, with `:` between them
+-- the counts of n sites, separated by `:`
 unfoldable pub deps_of : ℕ → List ℕ → Option (List ℕ)
 deps_of zero field = None
 deps_of (suc zero) field = option_map (λ n. n ∷ []) (number_of COUNT_MAX field)

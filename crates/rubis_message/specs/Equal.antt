@@ -1,4 +1,4 @@
--- Two messages are the same just where `==` says so.
+-- Two messages are the same if and only if `==` says so.
 use Rattle.std.specs.Prelude.{◌≡◌, ◌&&◌, Bool, Decides, Option, Some, None}
 use Rattle.std.specs.Option.{option_eq}
 use mathlib.Core.Bool.{true≢false}
@@ -16,11 +16,15 @@ use Rattle.rubis_schema.specs.contracts.rows.CommentRowPartialEq.TheImpl as comm
 use Rattle.rubis_shadow.specs.declared.shadows.NewItem.{NewItem}
 use Rattle.rubis_shadow.specs.declared.shadows.NewBid.{NewBid}
 use Rattle.rubis_shadow.specs.declared.shadows.NewClose.{NewClose}
+use Rattle.rubis_shadow.specs.declared.shadows.NewRename.{NewRename}
+use Rattle.rubis_shadow.specs.declared.shadows.NewRestock.{NewRestock}
 use Rattle.rubis_shadow.specs.declared.shadows.Shadow.{Shadow}
-use Rattle.rubis_shadow.specs.declared.shadows.Shadow.TheVariants.{User, Item, Bid, Buy, Close, Comment}
+use Rattle.rubis_shadow.specs.declared.shadows.Shadow.TheVariants.{User, Item, Bid, Buy, Close, Comment, Restock, Rename}
 use Rattle.rubis_shadow.specs.contracts.shadows.NewItemPartialEq.TheImpl as item
 use Rattle.rubis_shadow.specs.contracts.shadows.NewBidPartialEq.TheImpl as bid
 use Rattle.rubis_shadow.specs.contracts.shadows.NewClosePartialEq.TheImpl as close
+use Rattle.rubis_shadow.specs.contracts.shadows.NewRenamePartialEq.TheImpl as rename
+use Rattle.rubis_shadow.specs.contracts.shadows.NewRestockPartialEq.TheImpl as restock
 use Rattle.rubis_shadow.specs.contracts.shadows.ShadowPartialEq.TheImpl as shadow
 use Rattle.rubis_clock.specs.declared.stamps.Stamp.{Stamp}
 use Rattle.rubis_clock.specs.contracts.stamps.StampPartialEq.TheImpl as stamp
@@ -99,6 +103,19 @@ Decides-comment a b = Decides-like _
     (Decides-and _ _ (Decides-same_id a.to b.to)
     (Decides-and _ _ (Decides-int_eq a.rating b.rating) (bytes_decides a.text b.text)))))
 
+Decides-restock : (a b : NewRestock) → Decides ((restock.ghosts).eq a b) (a ≡ b)
+Decides-restock a b = Decides-like _
+    (λ h i. record { item = h.0 i; quantity = h.1 i })
+    (λ e. (ap (λ s. s.item) e, ap (λ s. s.quantity) e))
+    (Decides-and _ _ (Decides-same_id a.item b.item) (Decides-eqb a.quantity b.quantity))
+
+Decides-rename : (a b : NewRename) → Decides ((rename.ghosts).eq a b) (a ≡ b)
+Decides-rename a b = Decides-like _
+    (λ h i. record { user = h.0 i; from = h.1.0 i; to = h.1.1 i })
+    (λ e. (ap (λ s. s.user) e, (ap (λ s. s.from) e, ap (λ s. s.to) e)))
+    (Decides-and _ _ (Decides-same_id a.user b.user)
+    (Decides-and _ _ (bytes_decides a.from b.from) (bytes_decides a.to b.to)))
+
 Decides-shadow : (a b : Shadow) → Decides ((shadow.ghosts).eq a b) (a ≡ b)
 Decides-shadow (User a) (User b) = Decides-like _ (ap User) (λ e. cc) (bytes_decides a b)
 Decides-shadow (Item a) (Item b) = Decides-like _ (ap Item) (λ e. cc) (Decides-item a b)
@@ -106,6 +123,8 @@ Decides-shadow (Bid a) (Bid b) = Decides-like _ (ap Bid) (λ e. cc) (Decides-bid
 Decides-shadow (Buy a) (Buy b) = Decides-like _ (ap Buy) (λ e. cc) (Decides-purchase a b)
 Decides-shadow (Close a) (Close b) = Decides-like _ (ap Close) (λ e. cc) (Decides-close a b)
 Decides-shadow (Comment a) (Comment b) = Decides-like _ (ap Comment) (λ e. cc) (Decides-comment a b)
+Decides-shadow (Restock a) (Restock b) = Decides-like _ (ap Restock) (λ e. cc) (Decides-restock a b)
+Decides-shadow (Rename a) (Rename b) = Decides-like _ (ap Rename) (λ e. cc) (Decides-rename a b)
 Decides-shadow a b = (λ e. absurd (true≢false (sym e)), λ e. absurd cc)
 
 pub Decides-same_message : (m n : Message) → Decides (same_message m n) (m ≡ n)

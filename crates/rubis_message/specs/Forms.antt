@@ -78,15 +78,15 @@ take_number high = one (number_of high)
 unfoldable pub take_positive : ℕ → Form ℕ
 take_positive high = kept (nat_lt 0) (take_number high)
 
--- the number of one of so many sites
+-- the number of a site, below `sites`
 unfoldable pub take_site : ℕ → Form ℕ
 take_site sites = kept (λ n. nat_lt n sites) (take_number 255)
 
--- an id of one of so many sites
+-- an id whose site is below `sites`
 abbrev pub take_id : ℕ → Form Id
 take_id sites = one (id_of sites)
 
--- an id of one of so many sites, or `none`
+-- an id whose site is below `sites`, or `none`
 unfoldable pub id_or_none : ℕ → List ℕ → Option (Option Id)
 id_or_none sites field = cond (bytes_eq field (codes "none")) (Some None) (option_map Some (id_of sites field))
 
@@ -105,6 +105,6 @@ take_name = one name_of
 abbrev pub take_text : Form (List ℕ)
 take_text = one text_of
 
--- the counts of so many sites
+-- the counts of `sites` sites
 abbrev pub take_deps : ℕ → Form (List ℕ)
 take_deps sites = one (deps_of sites)

@@ -13,9 +13,13 @@ use Rattle.rubis_shadow.specs.Limits.{IsAsk}
 use Rattle.rubis_shadow.specs.declared.asks.Ask.{Ask}
 use Rattle.rubis_shadow.specs.declared.asks.Ask.TheVariants as ask
 use Rattle.rubis_shadow.specs.declared.asks.AskedClose.{AskedClose}
+use Rattle.rubis_shadow.specs.declared.asks.AskedRename.{AskedRename}
+use Rattle.rubis_shadow.specs.declared.asks.AskedRestock.{AskedRestock}
 use Rattle.rubis_shadow.specs.declared.shadows.NewItem.{NewItem}
 use Rattle.rubis_shadow.specs.declared.shadows.NewBid.{NewBid}
 use Rattle.rubis_shadow.specs.declared.shadows.NewClose.{NewClose}
+use Rattle.rubis_shadow.specs.declared.shadows.NewRename.{NewRename}
+use Rattle.rubis_shadow.specs.declared.shadows.NewRestock.{NewRestock}
 use Rattle.rubis_shadow.specs.declared.shadows.Shadow.{Shadow}
 use Rattle.rubis_shadow.specs.declared.shadows.Shadow.TheVariants as shadow
 use Rattle.rubis_clock.specs.declared.stamps.Stamp.{Stamp}
@@ -50,6 +54,18 @@ winner_text (Some id) = id_text id
 abbrev pub close_fields : NewClose → List (List ℕ)
 close_fields c = id_text c.item ∷ decimal c.cat ∷ winner_text c.winner ∷ []
 
+abbrev pub asked_restock_fields : AskedRestock → List (List ℕ)
+asked_restock_fields r = id_text r.item ∷ id_text r.seller ∷ decimal r.quantity ∷ []
+
+abbrev pub restock_fields : NewRestock → List (List ℕ)
+restock_fields r = id_text r.item ∷ decimal r.quantity ∷ []
+
+abbrev pub asked_rename_fields : AskedRename → List (List ℕ)
+asked_rename_fields r = id_text r.user ∷ r.nick ∷ []
+
+abbrev pub rename_fields : NewRename → List (List ℕ)
+rename_fields r = id_text r.user ∷ r.from ∷ r.to ∷ []
+
 -- ---- requests
 abbrev pub ask_record : Ask → List (List ℕ)
 ask_record (ask.User n) = codes "user" ∷ n ∷ []
@@ -58,6 +74,8 @@ ask_record (ask.Bid b) = codes "bid" ∷ bid_fields b
 ask_record (ask.Buy p) = codes "buy" ∷ purchase_fields p
 ask_record (ask.Close c) = codes "close" ∷ asked_close_fields c
 ask_record (ask.Comment c) = codes "comment" ∷ comment_fields c
+ask_record (ask.Restock r) = codes "restock" ∷ asked_restock_fields r
+ask_record (ask.Rename r) = codes "rename" ∷ asked_rename_fields r
 
 abbrev pub listing_fields : Listing → List (List ℕ)
 listing_fields Users = codes "users" ∷ []
@@ -83,6 +101,8 @@ HasTexts (ask.Bid b) = ⊤
 HasTexts (ask.Buy p) = ⊤
 HasTexts (ask.Close c) = ⊤
 HasTexts (ask.Comment c) = IsText c.text
+HasTexts (ask.Restock r) = ⊤
+HasTexts (ask.Rename r) = IsNick r.nick
 
 -- the category or the id of a listing is within its limits
 abbrev pub IsListing : ℕ → Listing → Type 0
@@ -96,7 +116,7 @@ IsListing sites Log = ⊤
 IsListing sites Misfits = ⊤
 IsListing sites Tables = ⊤
 
--- a request within the limits, among so many sites
+-- a request within the limits when there are `sites` sites
 abbrev pub IsRequest : ℕ → Request → Type 0
 IsRequest sites (request.Ask a) = IsAsk sites a × HasTexts a
 IsRequest sites (request.Pass to) = to ≤ PASS_MAX
@@ -114,6 +134,8 @@ shadow_fields (shadow.Bid b) = codes "bid" ∷ bid_fields b
 shadow_fields (shadow.Buy p) = codes "buy" ∷ purchase_fields p
 shadow_fields (shadow.Close c) = codes "close" ∷ close_fields c
 shadow_fields (shadow.Comment c) = codes "comment" ∷ comment_fields c
+shadow_fields (shadow.Restock r) = codes "restock" ∷ restock_fields r
+shadow_fields (shadow.Rename r) = codes "rename" ∷ rename_fields r
 
 abbrev pub stamp_fields : Stamp → List (List ℕ)
 stamp_fields s = decimal s.id.site ∷ decimal s.id.seq ∷ decimal s.red ∷ deps_text s.deps ∷ []
@@ -132,6 +154,8 @@ version_of (shadow.Bid b) = codes "1"
 version_of (shadow.Buy p) = codes "1"
 version_of (shadow.Close c) = codes "1"
 version_of (shadow.Comment c) = codes "1"
+version_of (shadow.Restock r) = codes "2"
+version_of (shadow.Rename r) = codes "2"
 
 -- the second field is the version
 abbrev pub message_record : Message → List (List ℕ)
@@ -155,8 +179,10 @@ HasShadowTexts (shadow.Bid b) = ⊤
 HasShadowTexts (shadow.Buy p) = ⊤
 HasShadowTexts (shadow.Close c) = ⊤
 HasShadowTexts (shadow.Comment c) = IsText c.text
+HasShadowTexts (shadow.Restock r) = ⊤
+HasShadowTexts (shadow.Rename r) = IsNick r.from × IsNick r.to
 
--- a stamp among so many sites
+-- a stamp among `sites` sites
 pub record IsStamp (sites : ℕ) (s : Stamp) : Type 0 where
   pub counted : length s.deps ≡ sites
   pub id : IsId sites s.id
@@ -164,17 +190,17 @@ pub record IsStamp (sites : ℕ) (s : Stamp) : Type 0 where
   pub counts : All (λ n. n ≤ COUNT_MAX) s.deps
   pub red : s.red ≤ COUNT_MAX
 
--- a message among so many sites, with its texts in their grammars
+-- a message among `sites` sites, with its texts in their grammars
 abbrev pub IsMessageAmong : ℕ → Message → Type 0
 IsMessageAmong sites m = IsMessage m × (sites_of m ≡ sites) × HasShadowTexts m.shadow
 
--- a token among so many sites
+-- a token among `sites` sites
 pub record IsToken (sites : ℕ) (t : Token) : Type 0 where
   pub turn : t.turn ≤ TURN_MAX
   pub to : t.to < sites
   pub issued : t.issued ≤ COUNT_MAX
 
--- a packet among so many sites
+-- a packet among `sites` sites
 abbrev pub IsPacket : ℕ → Packet → Type 0
 IsPacket sites (packet.Msg m) = IsMessageAmong sites m
 IsPacket sites (packet.Token t) = IsToken sites t

@@ -7,3 +7,4 @@ pub mod Counts
 pub mod Forms
 pub mod Readings
 pub mod WorldReadings
+pub mod Widening

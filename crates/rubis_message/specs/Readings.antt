@@ -1,5 +1,5 @@
 -- The request, and the packet, that the fields of a record are.
-use Rattle.std.specs.Prelude.{◌≡◌, ◌↔◌, ◌<◌, ◌≤◌, ◌^◌, ℕ, ◌+◌, ◌==◌, Bool, cond, nat_lt, bytes_eq, List, slice_index, Option, Some, codes}
+use Rattle.std.specs.Prelude.{◌≡◌, ◌↔◌, ◌<◌, ◌≤◌, ◌^◌, ℕ, ◌+◌, ◌==◌, Bool, cond, not, nat_lt, bytes_eq, List, slice_index, Option, Some, codes}
 use Rattle.rubis_schema.specs.declared.listings.Listing.{Listing}
 use Rattle.rubis_schema.specs.declared.listings.Listing.TheVariants as listing
 use Rattle.rubis_schema.specs.declared.limits.TheConstants.{AMOUNT_MAX, CAT_MAX, COUNTED_MAX, COUNT_MAX, PASS_MAX, QUANTITY_MAX, SEQ_MAX, TURN_MAX}
@@ -8,9 +8,13 @@ use Rattle.rubis_schema.specs.declared.rows.CommentRow.{CommentRow}
 use Rattle.rubis_shadow.specs.Shadows.{is_red}
 use Rattle.rubis_shadow.specs.declared.asks.Ask.TheVariants as ask
 use Rattle.rubis_shadow.specs.declared.asks.AskedClose.{AskedClose}
+use Rattle.rubis_shadow.specs.declared.asks.AskedRename.{AskedRename}
+use Rattle.rubis_shadow.specs.declared.asks.AskedRestock.{AskedRestock}
 use Rattle.rubis_shadow.specs.declared.shadows.NewItem.{NewItem}
 use Rattle.rubis_shadow.specs.declared.shadows.NewBid.{NewBid}
 use Rattle.rubis_shadow.specs.declared.shadows.NewClose.{NewClose}
+use Rattle.rubis_shadow.specs.declared.shadows.NewRename.{NewRename}
+use Rattle.rubis_shadow.specs.declared.shadows.NewRestock.{NewRestock}
 use Rattle.rubis_shadow.specs.declared.shadows.Shadow.{Shadow}
 use Rattle.rubis_shadow.specs.declared.shadows.Shadow.TheVariants as shadow
 use Rattle.rubis_clock.specs.declared.stamps.Stamp.{Stamp}
@@ -76,6 +80,34 @@ take_comment sites = do
   text ← take_text
   give (record { item = item; from = from; to = to; rating = rating; text = text })
 
+unfoldable pub take_asked_restock : ℕ → Form AskedRestock
+take_asked_restock sites = do
+  item ← take_id sites
+  seller ← take_id sites
+  quantity ← take_positive QUANTITY_MAX
+  give (record { item = item; seller = seller; quantity = quantity })
+
+unfoldable pub take_restock : ℕ → Form NewRestock
+take_restock sites = do
+  item ← take_id sites
+  quantity ← take_positive QUANTITY_MAX
+  give (record { item = item; quantity = quantity })
+
+unfoldable pub take_asked_rename : ℕ → Form AskedRename
+take_asked_rename sites = do
+  user ← take_id sites
+  nick ← take_nick
+  give (record { user = user; nick = nick })
+
+-- the two nicknames differ
+unfoldable pub take_rename : ℕ → Form NewRename
+take_rename sites = do
+  user ← take_id sites
+  from ← take_nick
+  to ← take_nick
+  check (not (bytes_eq from to))
+  give (record { user = user; from = from; to = to })
+
 -- ---- requests
 
 unfoldable pub take_kind : Form Kind
@@ -107,6 +139,8 @@ request_by sites kind.Close = mapped (λ c. request.Ask (ask.Close c)) (take_ask
 request_by sites kind.Comment = mapped (λ c. request.Ask (ask.Comment c)) (take_comment sites)
 request_by sites kind.Pass = mapped request.Pass (take_number PASS_MAX)
 request_by sites kind.List = mapped request.List (take_listing sites)
+request_by sites kind.Restock = mapped (λ r. request.Ask (ask.Restock r)) (take_asked_restock sites)
+request_by sites kind.Rename = mapped (λ r. request.Ask (ask.Rename r)) (take_asked_rename sites)
 
 unfoldable pub take_request : ℕ → Form Request
 take_request sites = take_kind >>= request_by sites
@@ -135,11 +169,13 @@ shadow_by sites kind.Close = mapped shadow.Close (take_close sites)
 shadow_by sites kind.Comment = mapped shadow.Comment (take_comment sites)
 shadow_by sites kind.Pass = none
 shadow_by sites kind.List = none
+shadow_by sites kind.Restock = mapped shadow.Restock (take_restock sites)
+shadow_by sites kind.Rename = mapped shadow.Rename (take_rename sites)
 
 unfoldable pub take_shadow : ℕ → Form Shadow
 take_shadow sites = take_kind >>= shadow_by sites
 
--- the red number is 0 just where the shadow is blue
+-- the red number is 0 if and only if the shadow is blue
 abbrev pub agrees : Shadow → ℕ → Bool
 agrees shadow red = cond (is_red shadow) (nat_lt 0 red) (red == 0)
 

@@ -1,7 +1,7 @@
 -- The words that say what a record is.
 use Rattle.std.specs.Prelude.{ℕ, List, [], ◌∷◌, find, Option, bytes_eq, codes}
 use Rattle.rubis_message.specs.declared.kinds.Kind.{Kind}
-use Rattle.rubis_message.specs.declared.kinds.Kind.TheVariants.{User, Item, Bid, Buy, Close, Comment, Pass, List as Listed}
+use Rattle.rubis_message.specs.declared.kinds.Kind.TheVariants.{User, Item, Bid, Buy, Close, Comment, Pass, List as Listed, Restock, Rename}
 use Rattle.rubis_message.specs.declared.kinds.Shown.{Shown}
 use Rattle.rubis_message.specs.declared.kinds.Shown.TheVariants as shown
 
@@ -19,9 +19,11 @@ kind_text Close = codes "close"
 kind_text Comment = codes "comment"
 kind_text Pass = codes "pass"
 kind_text Listed = codes "list"
+kind_text Restock = codes "restock"
+kind_text Rename = codes "rename"
 
 abbrev pub kinds : List Kind
-kinds = User ∷ Item ∷ Bid ∷ Buy ∷ Close ∷ Comment ∷ Pass ∷ Listed ∷ []
+kinds = User ∷ Item ∷ Bid ∷ Buy ∷ Close ∷ Comment ∷ Pass ∷ Listed ∷ Restock ∷ Rename ∷ []
 
 -- the kind that a word says
 unfoldable pub kind_of : List ℕ → Option Kind

@@ -14,7 +14,7 @@ use Rattle.rubis_message.specs.declared.world_inputs.WorldInput.TheVariants.{Ask
 abbrev pub take_word : List ℕ → Form (Unit {0})
 take_word word = one Some >>= (λ field. check (bytes_eq field word))
 
--- `at`, and one of so many sites
+-- `at`, then the number of a site, below `sites`
 unfoldable pub take_at : ℕ → Form ℕ
 take_at sites = take_word (codes "at") >> take_site sites
 
@@ -26,7 +26,7 @@ asked_with sites i (field ∷ rest) = Some (Asked i (request_of sites (field ∷
 unfoldable pub request_at : ℕ → List (List ℕ) → Option WorldInput
 request_at sites fields = option_and_then (λ p. asked_with sites p.0 p.1) (take_at sites fields)
 
--- `deliver`, one of so many sites, and the number of a packet
+-- `deliver`, then the number of a site, below `sites`, and the number of a packet
 unfoldable pub take_delivery : ℕ → Form WorldInput
 take_delivery sites = do
   take_word (codes "deliver")

@@ -6,7 +6,7 @@ use rubis_schema::{Fields, Items};
 /// What became of a message that arrived.
 #[derive(Clone, Copy, PartialEq, Eq, Debug)]
 pub enum Arrival {
-    /// So many messages were released, the one that arrived among them or not.
+    /// n messages were released, whether or not the one that arrived is among them.
     Released(u32),
     /// It waits, and none was released.
     Held,

@@ -14,6 +14,8 @@ pub enum Kind {
     Comment,
     Pass,
     List,
+    Restock,
+    Rename,
 }
 
 /// The second word of a `list` request.
@@ -60,6 +62,10 @@ impl Kind {
             Some(Kind::Pass)
         } else if says(word, b"list") {
             Some(Kind::List)
+        } else if says(word, b"restock") {
+            Some(Kind::Restock)
+        } else if says(word, b"rename") {
+            Some(Kind::Rename)
         } else {
             None
         }

@@ -11,7 +11,7 @@ pub fn records_have_one_reading()
     ensures apart { NoRequestIsAPacket }
 {}
 
-/// A record is read as a value just where the value is within its limits and the record is the one that is written
+/// A record is read as a value if and only if the value is within its limits and the record is the one written
 /// for it.
 pub fn records_are_read_as_written()
     ensures requests { RequestsAreReadAsWritten }

@@ -1,6 +1,7 @@
 ghost use Rattle.std.specs.Prelude.{◌≡◌, IfOk};
 ghost use Rattle.rubis_message.specs.Message as model;
 ghost use Rattle.rubis_message.specs.Message.{IsMessage};
+ghost use Rattle.rubis_message.specs.Widening.{widening};
 
 use rubis_clock::Stamp;
 use rubis_shadow::Shadow;
@@ -8,7 +9,7 @@ use std::alloc::AllocError;
 use std::marker::Model;
 
 /// A shadow with its stamp, which meets the conditions of its record: the stamp has a count for each site, that of
-/// the origin is one less than the message's number, the red number is 0 just where the shadow is blue, and all ids
+/// the origin is one less than the message's number, the red number is 0 if and only if the shadow is blue, and all ids
 /// and numbers are within their limits.
 #[derive(Drop, Clone, Debug)]
 pub struct Message {
@@ -58,6 +59,26 @@ impl Message {
         ensures conditions { IsMessage self }
     {
         (self.stamp, self.shadow)
+    }
+
+    /// The message with counts of 0 for the further sites, `sites` in all. It takes no memory.
+    ///
+    /// # Errors
+    ///
+    /// The message itself, if it counts more than `sites` or if `sites` is above 16.
+    pub fn widen(self, sites: u8) -> Result<Message, Message>
+        ensures { result ≡ widening sites self }
+    {
+        match self.stamp.widen(sites) {
+            Ok(stamp) => Ok(Message {
+                stamp,
+                shadow: self.shadow,
+            }),
+            Err(stamp) => Err(Message {
+                stamp,
+                shadow: self.shadow,
+            }),
+        }
     }
 
     /// An equal message.

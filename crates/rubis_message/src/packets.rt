@@ -17,7 +17,7 @@ use rubis_schema::{COUNT_MAX, COUNTED_MAX, Id, Record, SEQ_MAX, TURN_MAX};
 use rubis_shadow::{Colour, Shadow};
 use std::alloc::Global;
 
-// Whether the red number is 0 just where the shadow is blue.
+// Whether the red number agrees with the shadow's colour: it is 0 if and only if the shadow is blue.
 fn agree(shadow: &Shadow, red: u32) -> bool
     ensures { result ≡ agrees shadow.now red }
 {
@@ -28,7 +28,7 @@ fn agree(shadow: &Shadow, red: u32) -> bool
 }
 
 impl<'a, F: Record> Reader<'a, F> {
-    /// The number of one of so many sites.
+    /// The number of a site, below `sites`.
     #[tactic(auto, unfolding(crate::specs::Forms::take_site))]
     #[inline(always)]
     pub fn site(&mut self, sites: u8) -> Result<u8, ReadFault>
@@ -42,7 +42,7 @@ impl<'a, F: Record> Reader<'a, F> {
         Ok(site as u8)
     }
 
-    /// A count for each of so many sites.
+    /// A count for each of the `sites` sites.
     #[inline(always)]
     fn deps(&mut self, sites: u8) -> Result<Deps, ReadFault>
         requires some_sites { 0 < sites }
@@ -132,8 +132,8 @@ impl<'a, F: Record> Reader<'a, F> {
     }
 }
 
-/// Reads a packet to a site among so many. `BadRecord` only where no packet is written so; `Memory` where there is
-/// none for a name or a text.
+/// Reads a packet to one of `sites` sites. `BadRecord` only if `fields` aren't those of any such packet; `Memory` if
+/// out of memory for a name or a text.
 #[tactic(auto, unfolding(crate::specs::Readings::packet_of))]
 #[inline(always)]
 pub fn read_packet<F: Record>(alloc: Global, fields: &F, sites: u8) -> Result<Packet, ReadFault>

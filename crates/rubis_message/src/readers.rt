@@ -110,7 +110,7 @@ impl<'a, F: Record> Reader<'a, F> {
         read_rating(self.field()?).ok_or(ReadFault::BadRecord)
     }
 
-    /// An id of one of so many sites.
+    /// An id whose site is below `sites`.
     #[inline(always)]
     pub fn id(&mut self, sites: u8) -> Result<Id, ReadFault>
         ensures { Takes (take_id sites) self.old self.new result }
@@ -118,7 +118,7 @@ impl<'a, F: Record> Reader<'a, F> {
         Id::read(self.field()?, sites).ok_or(ReadFault::BadRecord)
     }
 
-    /// An id of one of so many sites, or `none`.
+    /// An id whose site is below `sites`, or `none`.
     #[tactic(auto, unfolding(crate::specs::Forms::id_or_none))]
     pub fn winner(&mut self, sites: u8) -> Result<Option<Id>, ReadFault>
         ensures { Takes (take_winner sites) self.old self.new result }

@@ -1,13 +1,13 @@
 ghost use Rattle.std.specs.Prelude.{◌≡◌, ◌≢◌, None, Some, IfOk, IsErrOf};
 ghost use Rattle.rubis_message.specs.Forms.{Takes};
 ghost use Rattle.rubis_message.specs.Grammar.{IsRequest, request_record};
-ghost use Rattle.rubis_message.specs.Readings.{request_of, take_asked_close, take_listing, take_request};
+ghost use Rattle.rubis_message.specs.Readings.{request_of, take_asked_close, take_asked_rename, take_asked_restock, take_listing, take_request};
 
 use crate::faults::ReadFault;
 use crate::kinds::{Kind, Shown};
 use crate::readers::Reader;
-use rubis_schema::{CAT_MAX, Listing, PASS_MAX, Record};
-use rubis_shadow::{Ask, AskedClose};
+use rubis_schema::{CAT_MAX, Listing, PASS_MAX, QUANTITY_MAX, Record};
+use rubis_shadow::{Ask, AskedClose, AskedRename, AskedRestock};
 use std::alloc::Global;
 
 /// What a user asks of a site.
@@ -28,6 +28,31 @@ impl<'a, F: Record> Reader<'a, F> {
         let item = self.id(sites)?;
         let seller = self.id(sites)?;
         Ok(AskedClose { item, seller })
+    }
+
+    /// The pieces that a seller asks to add.
+    #[tactic(auto, unfolding(crate::specs::Readings::take_asked_restock))]
+    fn asked_restock(&mut self, sites: u8) -> Result<AskedRestock, ReadFault>
+        ensures { Takes (take_asked_restock sites) self.old self.new result }
+    {
+        let item = self.id(sites)?;
+        let seller = self.id(sites)?;
+        let quantity = self.positive(QUANTITY_MAX)?;
+        Ok(AskedRestock {
+            item,
+            seller,
+            quantity,
+        })
+    }
+
+    /// The nickname that a user asks for.
+    #[tactic(auto, unfolding(crate::specs::Readings::take_asked_rename))]
+    fn asked_rename(&mut self, sites: u8) -> Result<AskedRename, ReadFault>
+        ensures { Takes (take_asked_rename sites) self.old self.new result }
+    {
+        let user = self.id(sites)?;
+        let nick = self.nick()?;
+        Ok(AskedRename { user, nick })
     }
 
     /// A listing.
@@ -62,12 +87,14 @@ impl<'a, F: Record> Reader<'a, F> {
             Kind::Comment => Ok(Request::Ask(Ask::Comment(self.comment(alloc, sites)?))),
             Kind::Pass => Ok(Request::Pass(self.number(PASS_MAX)? as u8)),
             Kind::List => Ok(Request::List(self.listing(sites)?)),
+            Kind::Restock => Ok(Request::Ask(Ask::Restock(self.asked_restock(sites)?))),
+            Kind::Rename => Ok(Request::Ask(Ask::Rename(self.asked_rename(sites)?))),
         }
     }
 }
 
 impl<'a, F: Record> Reader<'a, F> {
-    /// All that is left, as a request to a site among so many.
+    /// All remaining fields, as a request to one of `sites` sites.
     #[tactic(auto, unfolding(crate::specs::Readings::request_of))]
     pub fn request_left(&mut self, alloc: Global, sites: u8) -> Result<Request, ReadFault>
         ensures limits { IfOk result (IsRequest sites) }
@@ -80,8 +107,8 @@ impl<'a, F: Record> Reader<'a, F> {
     }
 }
 
-/// Reads a request to a site among so many. `BadRecord` only where no request is written so; `Memory` where there is
-/// none for a name or a text.
+/// Reads a request to one of `sites` sites. `BadRecord` only if `fields` aren't those of any such request; `Memory` if
+/// out of memory for a name or a text.
 pub fn read_request<F: Record>(alloc: Global, fields: &F, sites: u8) -> Result<Request, ReadFault>
     ensures ok { IfOk result (λ r. IsRequest sites r × (F.fields fields.now ≡ request_record r)) }
     ensures bad { IsErrOf result ReadFault.BadRecord → (r : Request) → IsRequest sites r → F.fields fields.now ≢ request_record r }

@@ -3,13 +3,13 @@
 ghost use Rattle.std.specs.Prelude.{◌≡◌};
 ghost use Rattle.rubis_message.specs.Forms.{Takes};
 ghost use Rattle.rubis_message.specs.Grammar as grammar;
-ghost use Rattle.rubis_message.specs.Readings.{take_close, take_shadow};
+ghost use Rattle.rubis_message.specs.Readings.{take_close, take_rename, take_restock, take_shadow};
 
 use crate::faults::ReadFault;
 use crate::kinds::Kind;
 use crate::readers::Reader;
-use rubis_schema::{CAT_MAX, Record};
-use rubis_shadow::{NewClose, Shadow};
+use rubis_schema::{CAT_MAX, QUANTITY_MAX, Record};
+use rubis_shadow::{NewClose, NewRename, NewRestock, Shadow};
 use std::alloc::Global;
 
 impl<'a, F: Record> Reader<'a, F> {
@@ -28,6 +28,30 @@ impl<'a, F: Record> Reader<'a, F> {
         })
     }
 
+    /// More pieces of an item.
+    #[tactic(auto, unfolding(crate::specs::Readings::take_restock))]
+    fn new_restock(&mut self, sites: u8) -> Result<NewRestock, ReadFault>
+        ensures { Takes (take_restock sites) self.old self.new result }
+    {
+        let item = self.id(sites)?;
+        let quantity = self.positive(QUANTITY_MAX)?;
+        Ok(NewRestock { item, quantity })
+    }
+
+    /// Another nickname in place of the one that a user has.
+    #[tactic(auto, unfolding(crate::specs::Readings::take_rename))]
+    fn new_rename(&mut self, sites: u8) -> Result<NewRename, ReadFault>
+        ensures { Takes (take_rename sites) self.old self.new result }
+    {
+        let user = self.id(sites)?;
+        let from = self.nick()?;
+        let to = self.nick()?;
+        if from == to {
+            return Err(ReadFault::BadRecord);
+        }
+        Ok(NewRename { user, from, to })
+    }
+
     /// A shadow.
     #[tactic(auto, unfolding(crate::specs::Readings::take_shadow))]
     pub fn shadow(&mut self, alloc: Global, sites: u8) -> Result<Shadow, ReadFault>
@@ -40,6 +64,8 @@ impl<'a, F: Record> Reader<'a, F> {
             Kind::Buy => Ok(Shadow::Buy(self.purchase(sites)?)),
             Kind::Close => Ok(Shadow::Close(self.new_close(sites)?)),
             Kind::Comment => Ok(Shadow::Comment(self.comment(alloc, sites)?)),
+            Kind::Restock => Ok(Shadow::Restock(self.new_restock(sites)?)),
+            Kind::Rename => Ok(Shadow::Rename(self.new_rename(sites)?)),
             Kind::Pass | Kind::List => Err(ReadFault::BadRecord),
         }
     }
@@ -56,5 +82,6 @@ pub fn version_of(shadow: &Shadow) -> &'static [u8]
         | Shadow::Buy(_)
         | Shadow::Close(_)
         | Shadow::Comment(_) => b"1",
+        Shadow::Restock(_) | Shadow::Rename(_) => b"2",
     }
 }

@@ -10,7 +10,7 @@ use rubis_schema::{
 };
 use std::alloc::AllocError;
 
-/// The counts of so many sites that are written so.
+/// Parses the counts of `sites` sites. `None` if `text` is malformed.
 pub fn read_deps(text: &[u8], sites: u8) -> Option<Deps>
     requires some_sites { 0 < sites }
     requires few_sites { sites ≤ COUNTED_MAX }

@@ -108,7 +108,7 @@ fn read_audit<F: Record>(fields: &F) -> Result<WorldInput, ReadFault>
     Ok(audit)
 }
 
-/// Reads what a record is to so many sites. `AllocError` where there is no memory for a name or a text.
+/// Reads a record as an input to `sites` sites. `AllocError` if out of memory for a name or a text.
 pub fn read_world_input<F: Record>(
     alloc: Global,
     fields: &F,

@@ -1,14 +1,14 @@
 // Records of what is sent.
 
 ghost use Rattle.std.specs.Prelude.{◌≡◌, ◌++◌, ◌∷◌, [], IfOk, OnErr, OnOk};
-ghost use Rattle.rubis_message.specs.Grammar.{bid_fields, close_fields, comment_fields, item_fields, message_record, purchase_fields, shadow_fields, token_record, winner_text};
+ghost use Rattle.rubis_message.specs.Grammar.{bid_fields, close_fields, comment_fields, item_fields, message_record, purchase_fields, rename_fields, restock_fields, shadow_fields, token_record, winner_text};
 
 use crate::messages::Message;
 use crate::shadows::version_of;
 use crate::stamps::push_deps;
 use crate::tokens::{TOKEN_VERSION, Token};
 use rubis_schema::{CommentRow, Fields, Id, PurchaseRow, push_int, push_number};
-use rubis_shadow::{NewBid, NewClose, NewItem, Shadow};
+use rubis_shadow::{NewBid, NewClose, NewItem, NewRename, NewRestock, Shadow};
 use std::alloc::{AllocError, Global};
 
 fn push_item(fields: &mut Fields, item: &NewItem) -> Result<(), AllocError>
@@ -65,6 +65,21 @@ fn push_comment(fields: &mut Fields, comment: &CommentRow) -> Result<(), AllocEr
     fields.push(comment.text.as_bytes())
 }
 
+fn push_restock(fields: &mut Fields, restock: &NewRestock) -> Result<(), AllocError>
+    ensures { OnOk result (fields.new ≡ fields.old ++ restock_fields restock.now) }
+{
+    restock.item.push_to(fields)?;
+    push_number(fields, restock.quantity)
+}
+
+fn push_rename(fields: &mut Fields, rename: &NewRename) -> Result<(), AllocError>
+    ensures { OnOk result (fields.new ≡ fields.old ++ rename_fields rename.now) }
+{
+    rename.user.push_to(fields)?;
+    fields.push(rename.from.as_bytes())?;
+    fields.push(rename.to.as_bytes())
+}
+
 fn push_shadow(fields: &mut Fields, shadow: &Shadow) -> Result<(), AllocError>
     ensures { OnOk result (fields.new ≡ fields.old ++ shadow_fields shadow.now) }
 {
@@ -92,6 +107,14 @@ fn push_shadow(fields: &mut Fields, shadow: &Shadow) -> Result<(), AllocError>
         Shadow::Comment(comment) => {
             fields.push_plain(b"comment")?;
             push_comment(fields, comment)
+        }
+        Shadow::Restock(restock) => {
+            fields.push_plain(b"restock")?;
+            push_restock(fields, restock)
+        }
+        Shadow::Rename(rename) => {
+            fields.push_plain(b"rename")?;
+            push_rename(fields, rename)
         }
     }
 }

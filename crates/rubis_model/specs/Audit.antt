@@ -21,7 +21,7 @@ OneOf logs = (log : Log) × Has log logs
 abbrev pub Logged : List Log → Message → Type 0
 Logged logs v = (log : OneOf logs) × Has v log.0.messages
 
--- each message is one of so many sites, as its type says
+-- each message meets the conditions of its type and counts `sites` sites
 abbrev pub AreAmong : ℕ → List Log → Type 0
 AreAmong sites logs = (v : Message) → Logged logs v → IsMessage v × (sites_of v ≡ sites)
 

@@ -23,7 +23,7 @@ pub data Line : Type 0 where
   Next : Message → Line
   Claim : List (List ℕ) → Line
 
--- `site` and the number of one of so many sites
+-- `site`, then the number of a site, below `sites`
 unfoldable pub take_begin : ℕ → Form Line
 take_begin sites = do
   word ← one Some
@@ -40,7 +40,7 @@ abbrev pub claim_of : List (List ℕ) → Option Line
 claim_of [] = None
 claim_of (word ∷ rest) = only_if (bytes_eq word (codes "row")) (Claim (word ∷ rest))
 
--- what the fields of a record say, among so many sites
+-- what the fields of a record say when there are `sites` sites
 abbrev pub line_of : ℕ → List (List ℕ) → Option Line
 line_of sites fields = option_or (whole (take_begin sites) fields) (option_or (claim_of fields) (option_and_then next_of (packet_of sites fields)))
 
@@ -84,7 +84,7 @@ line_record (Begin site) = codes "site" ∷ decimal site ∷ []
 line_record (Next m) = message_record m
 line_record (Claim row) = row
 
--- it can be said among so many sites
+-- it can be said when there are `sites` sites
 abbrev pub IsLine : ℕ → Line → Type 0
 IsLine sites (Begin site) = site < sites
 IsLine sites (Next m) = IsMessageAmong sites m
@@ -94,7 +94,7 @@ IsLine sites (Claim row) = (rest : List (List ℕ)) × (row ≡ codes "row" ∷ 
 abbrev pub log_records : Log → List (List (List ℕ))
 log_records log = line_record (Begin log.site) ∷ (map message_record log.messages ++ unwrap_or log.rows [])
 
--- a log that records can say, among so many sites; if it claims rows, it claims some
+-- a log that records can say when there are `sites` sites; if it claims rows, it claims at least one
 pub record IsLogAmong (sites : ℕ) (log : Log) : Type 0 where
   pub site : log.site < sites
   pub messages : (m : Message) → Has m log.messages → IsMessageAmong sites m

@@ -9,7 +9,7 @@ use Rattle.rubis_model.specs.Meaning.{bids_on, higher}
 abbrev pub IsAcceptedBid : (Message → Type 0) → Id → Message → Type 0
 IsAcceptedBid all item b = (all b) × (bids_on item b.shadow ≡ true)
 
--- the id of the accepted bid than which none is higher, and `none` just where there is no bid
+-- the id of an accepted bid such that no accepted bid is higher; `None` if and only if there is no accepted bid
 abbrev pub IsHighestBid : (Message → Type 0) → Id → Option Id → Type 0
 IsHighestBid all item None = (b : Message) → IsAcceptedBid all item b → ⊥
 IsHighestBid all item (Some id) =

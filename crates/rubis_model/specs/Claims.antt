@@ -12,7 +12,7 @@ use Rattle.rubis_model.specs.Checks.{Checked}
 use Rattle.rubis_model.specs.Invariants.{Holds}
 use Rattle.rubis_model.specs.Log.{cores, fold_of}
 use Rattle.rubis_model.specs.Logs.{Log}
-use Rattle.rubis_model.specs.Meaning.{IsMeaning, as_user, closes, item_at, supply, winner_of}
+use Rattle.rubis_model.specs.Meaning.{IsMeaning, closes, item_at, supply, winner_of}
 use Rattle.rubis_model.specs.Order.{IsRedBlueOrder, Serializes}
 use Rattle.rubis_model.specs.References.{RefersToPast}
 use Rattle.rubis_model.specs.Site.{rows_at}
@@ -37,8 +37,7 @@ pub record KeepInvariants (all : Message → Type 0) (IsLog : Log → Type 0) : 
   pub holds : (log : Log) → IsLog log → Holds (cores log.messages)
   pub stock : (log : Log) → IsLog log → (item : Id) (n : NewItem) (r : ItemRow) → item_at item (cores log.messages) ≡ Some n
       → rows_at log.messages (key.Item item) ≡ Some (row.Item r) → r.stock + r.sold ≡ supply (cores log.messages) item n
-  -- over all: a nickname has one user, and an item is closed once
-  pub nicks : (nick : List ℕ) (u v : Message) → all u → all v → as_user u.shadow ≡ Some nick → as_user v.shadow ≡ Some nick → u ≡ v
+  -- over all: an item is closed once
   pub closed_once : (item : Id) (u v : Message) → all u → all v → closes item u.shadow ≡ true → closes item v.shadow ≡ true → u ≡ v
   -- the winner is the highest of all bids; as the close says it, and as the tables of each log show it
   pub winner : (item : Id) (c : Message) → all c → closes item c.shadow ≡ true → IsHighestBid all item (winner_of c.shadow)

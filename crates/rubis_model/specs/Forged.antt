@@ -1,28 +1,61 @@
 -- What holds of every log, be its messages forged or not.
-use Rattle.std.specs.Prelude.{◌≡◌, ◌+◌, ◌^◌, ◌<◌, ℕ, List, Option, Some, None, option_map, IfSome}
+use Rattle.std.specs.Prelude.{◌≡◌, ◌+◌, ◌^◌, ◌<◌, ℕ, Bool, false, ◌&&◌, cond, bytes_eq, List, [], ◌∷◌, ◌++◌, fold, Option, Some, None, option_map, IfSome}
+use Rattle.std.specs.Option.{option_or}
 use Rattle.std.specs.FinMap as map
+use Rattle.rubis_schema.specs.Keys.{same_id}
 use Rattle.rubis_schema.specs.declared.ids.Id.{Id}
 use Rattle.rubis_schema.specs.declared.row_keys.RowKey.TheVariants as key
 use Rattle.rubis_schema.specs.declared.rows.ItemRow.{ItemRow}
 use Rattle.rubis_schema.specs.declared.rows.Row.{Row}
 use Rattle.rubis_schema.specs.declared.rows.Row.TheVariants as row
 use Rattle.rubis_shadow.specs.declared.shadows.NewItem.{NewItem}
+use Rattle.rubis_shadow.specs.declared.shadows.Shadow.{Shadow}
+use Rattle.rubis_shadow.specs.declared.shadows.Shadow.TheVariants.{User, Rename}
 use Rattle.rubis_model.specs.Log.{Core, fold_of}
-use Rattle.rubis_model.specs.Meaning.{as_user, first, is_same_nick, item_at, when}
+use Rattle.rubis_model.specs.Meaning.{as_item, restocked_of, when}
 
--- the first user of a log that has this nickname
-abbrev pub first_named : List ℕ → List Core → Option Id
-first_named n log = first (λ m. when (is_same_nick n (as_user m.shadow)) (Some m.id)) log
+-- a rename of that user from that nickname
+abbrev pub frees : List ℕ → Id → Shadow → Bool
+frees n user (Rename r) = bytes_eq n r.from && same_id r.user user
+frees n user x = false
 
--- a nickname has a row where a user of the log has it, and it names the first
-abbrev pub FirstKeepsTheName : Type 0
-FirstKeepsTheName = (log : List Core) (n : List ℕ) → map.get (fold_of log).tables (key.Nick n) ≡ option_map row.Nick (first_named n log)
+-- the row of a nickname stays until its user is renamed from it
+abbrev pub NamesStay : Type 0
+NamesStay = (log : List Core) (m : Core) (n : List ℕ) (user : Id) → frees n user m.shadow ≡ false
+    → map.get (fold_of log).tables (key.Nick n) ≡ Some (row.Nick user) → map.get (fold_of (log ++ m ∷ [])).tables (key.Nick n) ≡ Some (row.Nick user)
 
--- the row of an item that was listed so: what was sold and what is left are what there was; one that wasn't has none
-abbrev pub IsKept : Option NewItem → Option Row → Type 0
+-- who has a nickname after one more message, by the rows: who had it, unless the message frees it, and where nobody has it, to whom the
+-- message gives it
+abbrev pub still_named : List ℕ → Option Id → Shadow → Option Id
+still_named n None x = None
+still_named n (Some user) x = cond (frees n user x) None (Some user)
+
+abbrev pub named_by : List ℕ → Id → Shadow → Option Id
+named_by n id (User k) = when (bytes_eq n k) (Some id)
+named_by n id (Rename r) = when (bytes_eq n r.to) (Some r.user)
+named_by n id x = None
+
+abbrev pub holder : List ℕ → List Core → Option Id
+holder n log = fold (λ o m. option_or (still_named n o m.shadow) (named_by n m.id m.shadow)) None log
+
+-- a nickname has a row if and only if it has such a holder, and the row names it
+abbrev pub NamesAreHeld : Type 0
+NamesAreHeld = (log : List Core) (n : List ℕ) → map.get (fold_of log).tables (key.Nick n) ≡ option_map row.Nick (holder n log)
+
+-- what there was to sell of an item, once it was listed: the stock at its opening, and what was added from then on; after one more
+-- message, which is the item's own or not
+abbrev pub supplied : Id → Bool → Option ℕ → Shadow → Option ℕ
+supplied i own None x = when own (option_map (λ (n : NewItem). n.stock) (as_item x))
+supplied i own (Some s) x = Some (s + restocked_of i x)
+
+abbrev pub supply_at : Id → List Core → Option ℕ
+supply_at i log = fold (λ s m. supplied i (same_id i m.id) s m.shadow) None log
+
+-- the row of an item: what was sold and what is left are what there was to sell; one that wasn't listed has none
+abbrev pub IsKept : Option ℕ → Option Row → Type 0
 IsKept None r = r ≡ None
-IsKept (Some n) r = (x : ItemRow) × (r ≡ Some (row.Item x)) × (x.sold + x.stock ≡ n.stock)
+IsKept (Some s) r = (x : ItemRow) × (r ≡ Some (row.Item x)) × (x.sold + x.stock ≡ s)
 
 -- no stock is below zero: each item's row is one of these
 abbrev pub StockIsKept : Type 0
-StockIsKept = (log : List Core) (i : Id) → IfSome (item_at i log) (λ n. n.stock < 2 ^ 64) → IsKept (item_at i log) (map.get (fold_of log).tables (key.Item i))
+StockIsKept = (log : List Core) (i : Id) → IfSome (supply_at i log) (λ s. s < 2 ^ 64) → IsKept (supply_at i log) (map.get (fold_of log).tables (key.Item i))

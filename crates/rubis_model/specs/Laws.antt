@@ -104,6 +104,12 @@ pub record IsLogOf (w : World) (log : Log) : Type 0 where
   pub messages : log.messages ≡ (site w log.site).log
   pub rows : IfSome log.rows (λ rows. rows ≡ shown_rows log.messages)
 
+-- it is the log of a site as it was at some moment, with its tables as they were shown then, or without
+pub record WasLogOf (w : World) (log : Log) : Type 0 where
+  pub later : List Message
+  pub messages : log.messages ++ later ≡ (site w log.site).log
+  pub rows : IfSome log.rows (λ rows. rows ≡ shown_rows log.messages)
+
 -- all sites' logs causally serialize one RedBlue order
 pub record InOrder (w : World) : Type 0 where
   pub serial : SerializeOneOrder (Sent w) (IsLogOf w)
@@ -132,7 +138,7 @@ pub record InRun (w : World) : Type 0 where
   pub in_order : InOrder w
   pub invariants : KeepInvariants (Sent w) (IsLogOf w)
 
--- what any events at n sites lead to, where each site keeps at most so many messages
+-- what any events at n sites lead to, where each site keeps at most `keep` messages
 abbrev pub EveryRun : (World → Type 0) → Type 0
 EveryRun claim = (n keep : ℕ) (events : List Event) → 1 ≤ n → keep ≤ 1000000 → AreEvents n events → claim (run keep events (start n))
 
@@ -169,11 +175,11 @@ RefusalsChangeNothing = (keep : ℕ) (w : World) (e : Event) → ChangesNothing 
 abbrev pub FaultlessLogsAreSound : Type 0
 FaultlessLogsAreSound = (sites : ℕ) (logs : List Log) → AreAmong sites logs → AreFaultless logs → AreSound logs
 
--- logs of a run, with their tables or without, pass the checks together
+-- logs of a run, each as it was at any moment, with its tables then or without, pass the checks together
 abbrev pub RunsAreFaultless : Type 0
-RunsAreFaultless = EveryRun (λ w. (logs : List Log) → ((log : Log) → Has log logs → IsLogOf w log) → AreFaultless logs)
+RunsAreFaultless = EveryRun (λ w. (logs : List Log) → ((log : Log) → Has log logs → WasLogOf w log) → AreFaultless logs)
 
--- the verdict is Agree just where the logs pass the checks together
+-- the verdict is Agree if and only if the logs pass the checks together
 abbrev pub AgreesWhereFaultless : Type 0
 AgreesWhereFaultless = (sites : ℕ) (logs : List Log) → AreAmong sites logs → (verdict logs ≡ Agree) ↔ AreFaultless logs
 
@@ -181,6 +187,6 @@ AgreesWhereFaultless = (sites : ℕ) (logs : List Log) → AreAmong sites logs �
 abbrev pub AgreedLogsAreSound : Type 0
 AgreedLogsAreSound = (sites : ℕ) (logs : List Log) → AreAmong sites logs → verdict logs ≡ Agree → AreSound logs
 
--- of logs of a run, with their tables or without, the verdict is Agree
+-- of logs of a run, each as it was at any moment, with its tables then or without, the verdict is Agree
 abbrev pub RunsAgree : Type 0
-RunsAgree = EveryRun (λ w. (logs : List Log) → ((log : Log) → Has log logs → IsLogOf w log) → verdict logs ≡ Agree)
+RunsAgree = EveryRun (λ w. (logs : List Log) → ((log : Log) → Has log logs → WasLogOf w log) → verdict logs ≡ Agree)

@@ -21,3 +21,7 @@ pub mod System
 pub mod Sound
 pub mod WorldRecords
 pub mod Laws
+pub mod Widening
+pub mod WidenedRecords
+pub mod RecordedRuns
+pub mod AgreedAudits

@@ -20,7 +20,7 @@ use Rattle.rubis_schema.specs.declared.rows.Sale.{Sale}
 use Rattle.rubis_schema.specs.declared.rows.Sale.TheVariants.{Open, Ended}
 use Rattle.rubis_schema.specs.declared.rows.UserRow.{UserRow}
 use Rattle.rubis_shadow.specs.declared.changes.MisfitKind.{MisfitKind}
-use Rattle.rubis_shadow.specs.declared.changes.MisfitKind.TheVariants.{RowThere, NoRow, ClosedItem, StockShort}
+use Rattle.rubis_shadow.specs.declared.changes.MisfitKind.TheVariants.{RowThere, NoRow, ClosedItem, StockShort, OtherUser}
 use Rattle.rubis_shadow.specs.declared.numbered.Misfit.{Misfit}
 use Rattle.rubis_message.specs.Grammar.{comment_fields, message_record, purchase_fields, winner_text}
 use Rattle.rubis_message.specs.Message.{Message}
@@ -113,6 +113,7 @@ kind_name RowThere = codes "RowThere"
 kind_name NoRow = codes "NoRow"
 kind_name ClosedItem = codes "ClosedItem"
 kind_name StockShort = codes "StockShort"
+kind_name OtherUser = codes "OtherUser"
 
 abbrev pub misfit_record : Misfit → List (List ℕ)
 misfit_record m = codes "row" ∷ codes "misfit" ∷ decimal m.entry ∷ decimal m.part ∷ id_text m.id ∷ kind_name m.kind ∷ []

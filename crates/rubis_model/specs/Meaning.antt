@@ -1,5 +1,5 @@
 -- What a set of messages means, row by row. The set is given as a list of its members, whose order doesn't matter.
-use Rattle.std.specs.Prelude.{ℕ, ◌≡◌, ◌-◌, ℤ, pos, ◌+ℤ◌, ◌-ℤ◌, List, [], ◌∷◌, Bool, false, cond, ◌&&◌, ◌||◌, nat_eq, nat_lt, bytes_eq, fold, sum_by, count_by, Option, Some, None, option_map}
+use Rattle.std.specs.Prelude.{ℕ, ◌≡◌, ◌+◌, ◌-◌, ℤ, pos, ◌+ℤ◌, ◌-ℤ◌, List, [], ◌∷◌, Bool, false, cond, ◌&&◌, ◌||◌, nat_eq, nat_lt, bytes_eq, fold, sum_by, count_by, Option, Some, None, option_map}
 use Rattle.std.specs.Option.{option_or}
 use Rattle.std.specs.FinMap as map
 use Rattle.rubis_schema.specs.Keys.{same_id}
@@ -17,7 +17,7 @@ use Rattle.rubis_schema.specs.declared.rows.CommentRow.{CommentRow}
 use Rattle.rubis_schema.specs.declared.rows.Best.{Best}
 use Rattle.rubis_shadow.specs.declared.shadows.NewItem.{NewItem}
 use Rattle.rubis_shadow.specs.declared.shadows.Shadow.{Shadow}
-use Rattle.rubis_shadow.specs.declared.shadows.Shadow.TheVariants.{User, Item, Bid, Buy, Close, Comment}
+use Rattle.rubis_shadow.specs.declared.shadows.Shadow.TheVariants.{User, Item, Bid, Buy, Close, Comment, Restock, Rename}
 use Rattle.rubis_model.specs.Log.{Core}
 
 -- ---- what one shadow says of a row
@@ -27,7 +27,7 @@ abbrev pub lists_item_of : Id → Shadow → Bool
 lists_item_of u (Item n) = same_id u n.seller
 lists_item_of u s = false
 
--- so many pieces were bought by the user
+-- how many pieces the user bought
 abbrev pub bought_by : Id → Shadow → ℕ
 bought_by u (Buy p) = cond (same_id u p.buyer) p.quantity 0
 bought_by u s = 0
@@ -41,10 +41,15 @@ abbrev pub rating_for : Id → Shadow → ℤ
 rating_for u (Comment c) = cond (same_id u c.to) c.rating (pos 0)
 rating_for u s = pos 0
 
--- so many pieces of the item were bought
+-- how many pieces of the item were bought
 abbrev pub sold_of : Id → Shadow → ℕ
 sold_of i (Buy p) = cond (same_id i p.item) p.quantity 0
 sold_of i s = 0
+
+-- how many pieces of the item were added
+abbrev pub restocked_of : Id → Shadow → ℕ
+restocked_of i (Restock r) = cond (same_id i r.item) r.quantity 0
+restocked_of i s = 0
 
 -- it is a bid on the item
 abbrev pub bids_on : Id → Shadow → Bool
@@ -65,6 +70,16 @@ closes i s = false
 abbrev pub winner_of : Shadow → Option Id
 winner_of (Close c) = c.winner
 winner_of s = None
+
+-- it renames the user
+abbrev pub renames : Id → Shadow → Bool
+renames u (Rename r) = same_id u r.user
+renames u s = false
+
+-- the nickname that a rename gives
+abbrev pub new_nick : Shadow → List ℕ
+new_nick (Rename r) = r.to
+new_nick s = []
 
 -- it lists an item in the category, or closes one there
 abbrev pub lists_in : ℕ → Shadow → Bool
@@ -98,6 +113,10 @@ choose beats p a = fold (choice beats p) None a
 abbrev pub earlier : Core → Core → Bool
 earlier m old = nat_lt m.red old.red
 
+-- with the greater red number
+abbrev pub later : Core → Core → Bool
+later m old = nat_lt old.red m.red
+
 -- of the greater amount, or of an equal one with the smaller red number
 abbrev pub higher : Core → Core → Bool
 higher m old = nat_lt (amount_of old.shadow) (amount_of m.shadow) || (nat_eq (amount_of m.shadow) (amount_of old.shadow) && earlier m old)
@@ -108,6 +127,10 @@ best_bid i a = choose higher (λ m. bids_on i m.shadow) a
 
 abbrev pub close_of : Id → List Core → Option Core
 close_of i a = choose earlier (λ m. closes i m.shadow) a
+
+-- the last rename of the user
+abbrev pub last_rename : Id → List Core → Option Core
+last_rename u a = choose later (λ m. renames u m.shadow) a
 
 -- ---- the shadow of an id, by kind
 
@@ -147,9 +170,14 @@ user_at = at_id (λ m. as_user m.shadow)
 abbrev pub item_at : Id → List Core → Option NewItem
 item_at = at_id (λ m. as_item m.shadow)
 
--- the nickname of a user
+-- the nickname after the last rename, if there is one
+abbrev pub nick_after : Option Core → List ℕ → List ℕ
+nick_after None first = first
+nick_after (Some m) first = new_nick m.shadow
+
+-- the nickname of a user: that of its last rename, or else its first
 abbrev pub nick_at : Id → List Core → Option (List ℕ)
-nick_at u a = user_at u a
+nick_at u a = option_map (nick_after (last_rename u a)) (user_at u a)
 
 abbrev pub is_same_nick : List ℕ → Option (List ℕ) → Bool
 is_same_nick n None = false
@@ -178,9 +206,9 @@ abbrev pub sale_after : Option Core → Sale
 sale_after None = Open
 sale_after (Some m) = Ended (winner_of m.shadow)
 
--- what there was to sell of the item
+-- what there was to sell of the item: the stock at its opening, and what was added
 abbrev pub supply : List Core → Id → NewItem → ℕ
-supply a i n = n.stock
+supply a i n = n.stock + total (restocked_of i) a
 
 -- an item: what was sold, what is left, how many bids, the highest of them, and whether it was closed
 abbrev pub item_row : List Core → Id → NewItem → Row

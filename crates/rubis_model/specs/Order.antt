@@ -35,7 +35,7 @@ Released [] = ⊤
 Released (m ∷ past) = Ready past m × Released past
 
 -- what was found of the message when it was made after these, newest first: its shadow fits and is within the limits,
--- and it has a red number just where its shadow is red
+-- and it has a red number if and only if its shadow is red
 pub record Decided (past : List Message) (m : Message) : Type 0 where
   pub fits : Fits (cores (reverse past)) m.shadow
   pub limits : IsLimited m.shadow

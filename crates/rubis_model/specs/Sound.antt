@@ -84,8 +84,8 @@ pub record Sound (w : World) : Type 0 where
   pub reds : RedsInOrder w.sent
   pub token : OneToken (length w.sites) (λ i. (site w i).held) (λ i. (site w i).last) w.sent
 
--- what any of so many sites can take in: a message that meets the conditions of its type and counts just these sites, or a
--- token for one of them
+-- what any of `sites` sites can take in: a message that meets the conditions of its type and counts exactly these
+-- sites, or a token for one of them
 abbrev pub IsDeliverable : ℕ → Packet → Type 0
 IsDeliverable sites (packet.Msg m) = IsMessage m × (sites_of m ≡ sites)
 IsDeliverable sites (packet.Token t) = t.to < sites

@@ -26,7 +26,7 @@ pub data Event : Type 0 where
   At : (site : ℕ) (request : Request) → Event
   Deliver : (site which : ℕ) → Event
 
--- an ask is within the limits, among so many sites
+-- an ask is within the limits when there are `sites` sites
 abbrev pub IsEvent : ℕ → Event → Type 0
 IsEvent sites (At i (request.Ask ask)) = IsAsk sites ask
 IsEvent sites (At i (request.Pass to)) = ⊤
@@ -108,6 +108,6 @@ abbrev pub run : ℕ → List Event → World → World
 run keep [] w = w
 run keep (e ∷ es) w = run keep es (happens keep w e).0
 
--- so many sites with nothing done and nothing sent
+-- n sites with nothing done and nothing sent
 abbrev pub start : ℕ → World
 start n = record { sites = map opening_at (range_with_len 0 n); sent = [] }

@@ -82,6 +82,6 @@ world_answers keep w n [] = []
 world_answers keep w n (fields ∷ rest) =
     (world_step keep w n (world_input (length w.sites) fields)).1 ++ world_answers keep (world_step keep w n (world_input (length w.sites) fields)).0 (n + 1) rest
 
--- all that so many sites answer to a run of records, where each keeps at most so many messages
+-- everything that `sites` sites answer to a run of records, where each site keeps at most `keep` messages
 abbrev pub world_output_of : ℕ → ℕ → List (List (List ℕ)) → List (List (List ℕ))
 world_output_of sites keep records = world_answers keep (start sites) 1 records

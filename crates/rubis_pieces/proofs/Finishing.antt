@@ -1,11 +1,11 @@
 -- Shares that aren't folded whole, gone on with one after the other.
-use Rattle.std.proofs.Common.{◌≡◌, ℕ, zero, suc, ◌+◌, ◌-◌, ◌<◌, ◌≤◌, List, [], ◌∷◌, ◌++◌, length, drop, set, Bool, true, false}
+use Rattle.std.proofs.Common.{◌≡◌, ℕ, zero, suc, ◌+◌, ◌-◌, ◌<◌, ◌≤◌, List, [], ◌∷◌, ◌++◌, length, take, drop, set, Bool, true, false}
 use Rattle.std.proofs.Common.{cond, refl, sym, ap, ◌∙◌, subst, arith, ⊎_elim}
 use Rattle.std.specs.Prelude.{Some, ⊤, nat_eq, nat_lt, slice_get, slice_range, filter}
 use Rattle.std.specs.List.{All}
 use Rattle.std.proofs.lemmas.Bool.{cases_eq}
 use Rattle.std.proofs.lemmas.Bool.Decides.{Decides-eqb, nat_tests}
-use Rattle.std.proofs.lemmas.List.{drop_all, take-append-drop}
+use Rattle.std.proofs.lemmas.List.{drop_all, take-append-drop, take_all}
 use Rattle.std.proofs.lemmas.List.Sums.{sum_by-cons}
 use Rattle.std.proofs.lemmas.Option.{slice_get_within}
 use Rattle.rubis_schema.specs.Keys.{home}
@@ -15,7 +15,7 @@ use Rattle.rubis_shard.specs.States.{ShardState, with_parts}
 use Rattle.rubis_shard.specs.Holdings.{FoldsOn}
 use Rattle.rubis_shard.proofs.Folds.{not_equal, with_append}
 use Rattle.rubis_shard.proofs.Items.{written_here}
-use Rattle.rubis_pieces.specs.Batches.{rest_of, parts_left, AreUnfinished, HoldsBut}
+use Rattle.rubis_pieces.specs.Batches.{rest_of, parts_left, AreUnfinished, FoldsRests, HoldsBut}
 use Rattle.rubis_pieces.specs.declared.pieces.Left.{Left}
 
 -- as unfinished shares are, but that some may be whole
@@ -131,6 +131,48 @@ goes_on many log ls at l x old new shards h e s d further f holds = record {
         ls at l e))
         ∙ ap (λ g. drop x.done g.effects) s
 
+take_on : {X : Type 0} (i n : ℕ) (xs : List X) → take (i + n) xs ≡ take i xs ++ take n (drop i xs)
+take_on zero n xs = ap (λ m. take m xs) (omega arith)
+take_on (suc i) n [] = take_all (suc i + n) [] (omega arith) ∙ sym (take_all n [] (omega arith))
+take_on (suc i) n (x ∷ xs) = let z : suc i + n ≡ suc (i + n) = omega arith in ap (λ m. take m (x ∷ xs)) z ∙ ap (λ ys. x ∷ ys) (take_on i n xs)
+
+pub nothing_folded : (old : List ShardState) (left : List Left) → FoldsRests old left old left
+nothing_folded old left = record { each = λ k s e. (0, e, refl) }
+
+-- more of one share is folded
+pub folds_on : (ls left : List Left) (at : ℕ) (l x : Left) (old cur new : List ShardState) (shards : ℕ) → AreRests 0 shards ls
+    → slice_get ls at ≡ Some l → x.share ≡ l.share → x.done ≤ length x.share.effects → l.done ≤ x.done
+    → FoldsOn l.share.number (slice_range l.share.effects l.done x.done) cur new → FoldsRests old left cur ls → FoldsRests old left new (set ls at x)
+folds_on ls left at l x old cur new shards h e s d further f before = record { each = λ k t there. ⊎_elim (here k t there) (other k t there) (cases_eq l.share.number k) }
+  where
+    step : ℕ
+    step = x.done - l.done
+
+    here : (k : ℕ) (t : ShardState) → slice_get old k ≡ Some t → l.share.number ≡ k
+        → (more : ℕ) × (slice_get new k ≡ Some (with_parts t (take more (rest_of left k)))) × (rest_of (set ls at x) k ≡ drop more (rest_of left k))
+    here k t there is =
+        let w = before.each k t there in
+        let was : drop l.done l.share.effects ≡ drop w.0 (rest_of left k) = sym (rest_here 0 shards ls at l h e) ∙ ap (rest_of ls) is ∙ w.2 in (
+          w.0 + step,
+          ap (slice_get new) (sym is) ∙ f.here (with_parts t (take w.0 (rest_of left k))) (ap (slice_get cur) is ∙ w.1)
+              ∙ ap (λ xs. Some (with_parts (with_parts t (take w.0 (rest_of left k))) xs)) (ap (take step) was)
+              ∙ ap (λ y. Some y) (sym (with_append t (take w.0 (rest_of left k)) (take step (drop w.0 (rest_of left k)))))
+              ∙ ap (λ xs. Some (with_parts t xs)) (sym (take_on w.0 step (rest_of left k))),
+          ap (rest_of (set ls at x)) (sym is ∙ sym (ap (λ g. g.number) s))
+              ∙ rest_here 0 shards (set ls at x) at x (rests_set 0 shards ls at l x h e s d) (written_here ls at x (slice_get_within ls at l e))
+              ∙ ap (λ g. drop x.done g.effects) s
+              ∙ ap (λ n. drop n l.share.effects) (let z : x.done ≡ l.done + (x.done - l.done) = omega (arith, further) in z)
+              ∙ drop_on l.done step l.share.effects
+              ∙ ap (drop step) was
+              ∙ sym (drop_on w.0 step (rest_of left k)),
+        )
+
+    other : (k : ℕ) (t : ShardState) → slice_get old k ≡ Some t → ¬ (l.share.number ≡ k)
+        → (more : ℕ) × (slice_get new k ≡ Some (with_parts t (take more (rest_of left k)))) × (rest_of (set ls at x) k ≡ drop more (rest_of left k))
+    other k t there n =
+        let w = before.each k t there in
+        (w.0, f.others k (λ q. n (sym q)) ∙ w.1, rest_else ls at k l x e (ap (λ g. g.number) s) n ∙ w.2)
+
 -- fewer parts are left
 pub fewer_set : (ls : List Left) (at : ℕ) (l x : Left) → slice_get ls at ≡ Some l → x.share ≡ l.share → l.done ≤ x.done
     → parts_left (set ls at x) ≤ parts_left ls
@@ -213,3 +255,9 @@ holds_filtered n shards many log ls ts h holds = record {
   many = holds.many;
   each = λ k l. let w = holds.each k l in (w.0, w.1, ap (with_parts w.0) (rest_filter n shards ls h k) ∙ w.2);
 }
+
+-- what is whole has no part left
+pub folds_filtered : (ls left : List Left) (old new : List ShardState) (shards : ℕ) → AreRests 0 shards ls → FoldsRests old left new ls
+    → FoldsRests old left new (filter is_unfinished ls)
+folds_filtered ls left old new shards h f =
+    record { each = λ k s e. let w = f.each k s e in (w.0, w.1, rest_filter 0 shards ls h k ∙ w.2) }

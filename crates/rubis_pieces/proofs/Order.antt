@@ -15,7 +15,7 @@ use Rattle.rubis_shadow.specs.Parts.{parts}
 use Rattle.rubis_shadow.specs.Tables.{opening}
 use Rattle.rubis_shadow.specs.declared.changes.Effect.{Effect}
 use Rattle.rubis_shadow.specs.declared.changes.MisfitKind.{MisfitKind}
-use Rattle.rubis_shadow.specs.declared.changes.MisfitKind.TheVariants.{RowThere, NoRow, ClosedItem, StockShort}
+use Rattle.rubis_shadow.specs.declared.changes.MisfitKind.TheVariants.{RowThere, NoRow, ClosedItem, StockShort, OtherUser}
 use Rattle.rubis_shadow.specs.declared.numbered.Misfit.{Misfit}
 use Rattle.rubis_shadow.specs.declared.numbered.Numbered.{Numbered}
 use Rattle.rubis_shadow.proofs.Lists.{few_parts}
@@ -123,9 +123,10 @@ code RowThere = 0
 code NoRow = 1
 code ClosedItem = 2
 code StockShort = 3
+code OtherUser = 4
 
 decode : ℕ → MisfitKind
-decode n = cond (nat_eq n 0) RowThere (cond (nat_eq n 1) NoRow (cond (nat_eq n 2) ClosedItem StockShort))
+decode n = cond (nat_eq n 0) RowThere (cond (nat_eq n 1) NoRow (cond (nat_eq n 2) ClosedItem (cond (nat_eq n 3) StockShort OtherUser)))
 
 decoded : (k : MisfitKind) → decode (code k) ≡ k
 unfolding code decode
@@ -133,6 +134,7 @@ decoded RowThere = refl
 decoded NoRow = refl
 decoded ClosedItem = refl
 decoded StockShort = refl
+decoded OtherUser = refl
 
 tell_misfits : (x y : Misfit) → ((g : Misfit → ℕ) → g x ≡ g y) → x ≡ y
 tell_misfits x y h =

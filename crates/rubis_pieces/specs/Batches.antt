@@ -92,6 +92,12 @@ pub record LeavesNoMore (batch : List Core) (old new : List ShardState) (left : 
   pub few : parts_left left ≤ length (flat_map parts_of batch)
   pub none : parts_left left ≡ length (flat_map parts_of batch) → new ≡ old
 
+-- on each shard more of what was left of its share is folded, in order, and `rest` says how much is left now
+pub record FoldsRests (old : List ShardState) (left : List Left) (new : List ShardState) (rest : List Left) : Type 0 where
+  pub each : (k : ℕ) (s : ShardState) → slice_get old k ≡ Some s → (more : ℕ)
+      × (slice_get new k ≡ Some (with_parts s (take more (rest_of left k))))
+      × (rest_of rest k ≡ drop more (rest_of left k))
+
 -- shards that hold a log but for what is left, go on so
 abbrev pub GoesOn : List ShardState → List Left → List ShardState → List Left → Type 0
 GoesOn old left new rest = (shards : ℕ) (log : List Core) → HoldsBut shards log left old → HoldsBut shards log rest new

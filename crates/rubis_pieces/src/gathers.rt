@@ -53,7 +53,7 @@ impl Model for Places {
 }
 
 impl Places {
-    /// Room for so many shards.
+    /// Room for `shards` shards.
     pub fn new(alloc: Global, shards: usize) -> Result<Places, AllocError>
         ensures { IfOk result (λ places. places ≡ shards) }
     {

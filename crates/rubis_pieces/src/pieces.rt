@@ -7,7 +7,7 @@ pub struct Piece {
     pub share: Share,
 }
 
-/// A shard with its share of a batch, of which so many parts are folded on the shard.
+/// A shard with its share of a batch, of which `done` parts are folded on the shard.
 #[derive(Drop)]
 pub struct Done {
     pub shard: Shard,
@@ -15,7 +15,7 @@ pub struct Done {
     pub done: usize,
 }
 
-/// A share of which so many parts, but not all, are folded on its shard.
+/// A share of which `done` parts, but not all, are folded on its shard.
 #[derive(Drop)]
 pub struct Left {
     pub share: Share,

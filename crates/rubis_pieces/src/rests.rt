@@ -1,5 +1,5 @@
 ghost use Rattle.std.specs.Prelude.{◌≡◌, ◌≤◌, length};
-ghost use Rattle.rubis_pieces.specs.Batches.{AreUnfinished, EndsWhole, GoesOn, parts_left};
+ghost use Rattle.rubis_pieces.specs.Batches.{AreUnfinished, EndsWhole, FoldsRests, GoesOn, parts_left};
 
 use crate::pieces::Left;
 use rubis_shard::Tables;
@@ -10,6 +10,7 @@ pub fn finish(tables: &mut Tables, left: &mut Vec<Left>)
     requires { AreUnfinished 0 (length tables.old) left.old.items }
     ensures many { length tables.new ≡ length tables.old }
     ensures unfinished { AreUnfinished 0 (length tables.new) left.new.items }
+    ensures folded { FoldsRests tables.old left.old.items tables.new left.new.items }
     ensures fewer { parts_left left.new.items ≤ parts_left left.old.items }
     ensures log { GoesOn tables.old left.old.items tables.new left.new.items }
     ensures whole { EndsWhole tables.old left.old.items tables.new left.new.items }

@@ -51,8 +51,8 @@ fn deal_message(
     Ok(())
 }
 
-/// The shares of a batch, one for each of so many shards, in order of number: the parts whose home the shard is, in order
-/// of entry and part. The batch's first message is that entry of the log, from 1; no entry is above 1,000,000.
+/// The shares of a batch, one for each of `shards` shards, in order of number: the parts whose home the shard is, in
+/// order of entry and part. The batch's first message is entry `first` of the log, from 1; no entry is above 1,000,000.
 pub fn split(
     alloc: Global,
     batch: &[Message],

@@ -14,6 +14,7 @@ use Rattle.rubis_shard.specs.Holdings.{shard_of_log, HoldsLog}
 use Rattle.rubis_shard.specs.declared.shares.Share.{Share}
 use Rattle.rubis_shard.proofs.Logs.{shard_with_share}
 use Rattle.rubis_shard.proofs.Unions.{union_of_log}
+use Rattle.rubis_pieces.proofs.Order.{misfits_are}
 use Rattle.rubis_pieces.specs.Gathered.{IsInOrder, IsGathered, left_of}
 use Rattle.rubis_pieces.specs.declared.gathers.Gathered.{Gathered}
 use Rattle.rubis_pieces.specs.declared.pieces.Piece.{Piece}
@@ -126,6 +127,7 @@ module _ (shards : ℕ) (log batch : List Core) where
         record {
           holds = log_holds;
           tables = λ some. union_of_log shards (log ++ batch) g.shards some log_holds;
+          misfits = λ some ms moved sorted. misfits_are shards (log ++ batch) g.shards ms some log_holds moved sorted;
           none_left = left_is ∙ none_left ds (All-permutation IsWhole s.returned ds order.moved a.returned_whole);
         }
 

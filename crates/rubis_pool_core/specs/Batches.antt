@@ -1,12 +1,15 @@
 -- A batch, folded by any schedule.
 use Rattle.std.specs.Prelude.{◌≡◌, ℕ, ◌+◌, ◌<◌, List, [], ◌++◌, length, slice_get, Some}
+use Rattle.std.specs.List.Sorted.{IsNonDecreasingBy, IsPermutation}
+use Rattle.rubis_shadow.specs.declared.numbered.Misfit.{Misfit}
 use Rattle.rubis_model.specs.Log.{Core, fold_of}
 use Rattle.rubis_shard.specs.States.{ShardState}
-use Rattle.rubis_shard.specs.Holdings.{HoldsLog, union}
+use Rattle.rubis_shard.specs.Holdings.{HoldsLog, all_misfits, union}
 use Rattle.rubis_shard.specs.declared.shares.Share.{Share}
 use Rattle.rubis_pieces.specs.Shares.{AreShares}
 use Rattle.rubis_pieces.specs.Faults.{IsFault, numbers_of}
 use Rattle.rubis_pieces.specs.Gathered.{IsGathered}
+use Rattle.rubis_pieces.specs.Misfits.{misfit_order}
 use Rattle.rubis_pieces.specs.Work.{pieces_of}
 use Rattle.rubis_pieces.specs.declared.gathers.FaultKind.{FaultKind}
 use Rattle.rubis_pieces.specs.declared.gathers.Gathered.{Gathered}
@@ -19,11 +22,15 @@ pub record IsAtEnd (s : PoolState) : Type 0 where
   pub none_posted : s.posted ≡ []
   pub none_held : (w : ℕ) (d : Done) → slice_get s.held w ≡ Some (Some d) → ⊥
 
--- the gathered shards hold the log with the batch, together they have its tables, and nothing is left of their shares
+-- the gathered shards hold the log with the batch, together they have its tables and its misfits, and nothing is left of
+-- their shares
 pub record HoldsTheBatch (shards : ℕ) (log batch : List Core) (g : Gathered) : Type 0 where
   pub holds : HoldsLog shards (log ++ batch) g.shards
   pub tables : 0 < shards → union g.shards ≡ (fold_of (log ++ batch)).tables
   pub none_left : g.left ≡ []
+  -- their misfits, put in the order of entry and part, are those of the log with the batch
+  pub misfits : 0 < shards → (ms : List Misfit) → IsPermutation (all_misfits g.shards) ms → IsNonDecreasingBy misfit_order ms
+      → ms ≡ (fold_of (log ++ batch)).misfits
 
 -- the returned pieces can be gathered, and then hold the batch
 pub record FoldsTheBatch (shards : ℕ) (log batch : List Core) (returned : List Done) : Type 0 where

@@ -39,7 +39,7 @@ impl Model for Pool {
 }
 
 impl Pool {
-    /// A machine of so many workers, all free, to which so many pieces may be posted.
+    /// A machine of `workers` workers, all free, to which up to `capacity` pieces may be posted.
     pub fn new(alloc: Global, workers: usize, capacity: usize) -> Result<Pool, AllocError>
         ensures { IfOk result (λ pool. pool ≡ record { capacity = capacity; count = 0; state = opening_pool workers }) }
     {
@@ -70,7 +70,7 @@ impl Pool {
         })
     }
 
-    /// Posts the piece. It comes back, and nothing changes, just where as many were posted as may be.
+    /// Posts the piece. Hands it back and changes nothing if and only if `capacity` pieces were posted already.
     pub fn post(&mut self, piece: Piece) -> Result<(), Piece>
         requires { IsPiece piece }
         ensures posted { OnOk result ((self.old.count < self.old.capacity) × (self.new ≡ record { capacity = self.old.capacity; count = self.old.count + 1; state = with_posted self.old.state piece })) }
@@ -84,8 +84,8 @@ impl Pool {
         Ok(())
     }
 
-    /// Does one event. The answer is true just where the event is possible. One that isn't changes nothing, and nor does
-    /// one for which there is no memory.
+    /// Performs one event. Returns true if and only if the event is possible. An impossible event changes nothing, and
+    /// neither does one that runs out of memory.
     pub fn step(&mut self, event: Event) -> Result<bool, AllocError>
         ensures possible { IfOk result (λ did. did ≡ is_some (stepped self.old.state event)) }
         ensures next { OnOk result (self.new ≡ in_state self.old (after_event self.old.state event)) }

@@ -1,4 +1,4 @@
-ghost use Rattle.std.specs.Prelude.{◌≡◌, IfOk};
+ghost use Rattle.std.specs.Prelude.{◌≡◌, IfOk, length};
 ghost use Rattle.std.specs.List.{All};
 ghost use Rattle.rubis_pool_core.specs.Machine.{run_of};
 ghost use Rattle.rubis_pieces.specs.Work.{IsPiece};
@@ -9,7 +9,12 @@ use crate::pool::Pool;
 use rubis_pieces::Piece;
 use std::alloc::{AllocError, Global};
 
-/// The machine of so many workers after a post of each piece, in order, and then the events, whatever they are.
+/// The machine of `workers` workers after a post of each piece, in order, and then the events, whatever they are. No more
+/// pieces may be posted to it.
+///
+/// # Errors
+///
+/// `AllocError` if memory runs out.
 pub fn run(
     alloc: Global,
     pieces: Vec<Piece>,
@@ -17,7 +22,7 @@ pub fn run(
     events: &[Event],
 ) -> Result<Pool, AllocError>
     requires { All IsPiece pieces.items }
-    ensures run { IfOk result (λ pool. pool.state ≡ run_of workers pieces.items events.now) }
+    ensures run { IfOk result (λ pool. pool ≡ record { capacity = length pieces.items; count = length pieces.items; state = run_of workers pieces.items events.now }) }
     ensures once { IfOk result (λ pool. Accounted pieces.items pool.state) }
 {
     let mut pool = Pool::with_posted(alloc, workers, pieces)?;

@@ -135,7 +135,7 @@ same_tests true b f g = sym (f refl)
 same_tests false true f g = g refl
 same_tests false false f g = refl
 
--- the log has the id just where the number is within the count
+-- the log has the id if and only if the number is within the count
 pub is_released : (log : List Message) (m : Message) → Released (reverse log) → 1 ≤ m.stamp.id.seq → list_any (λ (u : Message). same_id m.stamp.id u.stamp.id) log ≡ nat_le m.stamp.id.seq (counted m.stamp.id.site log)
 is_released log m r one = same_tests _ _ forth back
   where

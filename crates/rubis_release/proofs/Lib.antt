@@ -4,3 +4,5 @@ pub mod Releasing
 pub mod Keeping
 pub mod Intakes
 pub mod Makes
+pub mod Slots
+pub mod Gaps

@@ -1,3 +1,4 @@
 pub mod Release
 pub mod Intake
 pub mod Answers
+pub mod Waiting

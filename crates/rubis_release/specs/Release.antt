@@ -1,8 +1,6 @@
 -- The messages that a site keeps, and the clock that counts the released ones.
 use Rattle.std.specs.Prelude.{◌≡◌, ◌≢◌, ℕ, ◌+◌, ◌<◌, ◌≤◌, ⊤, List, [], ◌∷◌, length, reverse, slice_index_or}
-use Rattle.std.specs.List.{list_any}
 use Rattle.rubis_schema.specs.Ids.{IsId}
-use Rattle.rubis_schema.specs.Keys.{same_id}
 use Rattle.rubis_schema.specs.declared.ids.Id.{Id}
 use Rattle.rubis_clock.specs.Clocks.{MessageCounts, IsReady}
 use Rattle.rubis_message.specs.Message.{Message, sites_of}
@@ -17,12 +15,12 @@ message_id m = m.stamp.id
 abbrev pub clock_of : ℕ → List Message → MessageCounts
 clock_of sites log = record { counts = counts sites log; red = reds log }
 
--- a message of one of so many sites
+-- a message that counts `sites` sites and belongs to one of them
 pub record IsAmong (sites : ℕ) (m : Message) : Type 0 where
   pub counts : sites_of m ≡ sites
   pub id : IsId sites m.stamp.id
 
--- each message is of one of so many sites
+-- each message counts `sites` sites and belongs to one of them
 abbrev pub AllAmong : ℕ → List Message → Type 0
 AllAmong sites messages = (m : Message) → Has m messages → IsAmong sites m
 
@@ -40,11 +38,6 @@ NoneReady clock waiting = (k : ℕ) (d : Message) → k < length waiting → IsR
 abbrev pub HaveOwnIds : List Message → Type 0
 HaveOwnIds [] = ⊤
 HaveOwnIds (m ∷ rest) = ((u : Message) → Has u rest → message_id u ≢ message_id m) × HaveOwnIds rest
-
--- the ids are just those of the messages, of which no two have one id
-pub record AreTheIds (ids : List Id) (messages : List Message) : Type 0 where
-  pub same : (i : Id) → list_any (same_id i) ids ≡ list_any (λ m. same_id i m.stamp.id) messages
-  pub own : HaveOwnIds messages
 
 -- what is so of the log and the waiting messages of a site
 pub record AreKept (p : Place) (log waiting : List Message) : Type 0 where

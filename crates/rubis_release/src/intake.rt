@@ -16,10 +16,11 @@ use crate::waiting::Waiting;
 use rubis_clock::{Clock, Stamp};
 use rubis_generate::Standing;
 use rubis_message::{Arrival, Message};
-use rubis_schema::{Id, Refusal};
+use rubis_schema::{Hashes, Id, Refusal};
 use rubis_shadow::{Colour, Shadow};
-use std::alloc::{AllocError, Global};
+use std::alloc::{AllocError, AllocFailed, Global};
 use std::marker::Model;
+use std::mem;
 pub use tokens::Held;
 
 /// Why an intake answers no more than that.
@@ -39,12 +40,22 @@ impl From<AllocError> for IntakeFault {
     }
 }
 
+impl From<AllocFailed<Message>> for IntakeFault {
+    ghost from_gives = { λ _ fault. fault ≡ Memory };
+
+    fn from(_failed: AllocFailed<Message>) -> IntakeFault {
+        IntakeFault::Memory
+    }
+}
+
 /// What a site has taken in: the log of released messages, those that wait, and the token.
 #[derive(Drop)]
 pub struct Intake {
     // It has room for all that wait.
     log: Vec<Message>,
     waiting: Waiting,
+    // What the waiting messages are hashed by.
+    hashes: Hashes,
     clock: Clock,
     // How many red numbers were issued, if the site holds the token.
     held: Option<u32>,
@@ -68,8 +79,26 @@ impl Model for Intake {
 }
 
 impl Intake {
-    /// A site with nothing done, of 1 to 16 sites, that keeps 1 to 1,000,000 messages.
+    /// A site with nothing done, of 1 to 16 sites, that keeps 1 to 1,000,000 messages. Its waiting messages are hashed alike in
+    /// each run.
     pub fn new(alloc: Global, site: u8, sites: u8, keep: u32) -> Result<Intake, AllocError>
+        requires sites { sites ≤ 16 }
+        requires site { site < sites }
+        requires some { 1 ≤ keep }
+        requires keep { keep ≤ 1000000 }
+        ensures { IfOk result (λ intake. intake ≡ record { place = record { site = site; sites = sites; keep = keep }; state = opening_at site }) }
+    {
+        Intake::hashed(alloc, site, sites, keep, Hashes::fixed())
+    }
+
+    /// The same, with these hashes for its waiting messages.
+    pub fn hashed(
+        alloc: Global,
+        site: u8,
+        sites: u8,
+        keep: u32,
+        hashes: Hashes,
+    ) -> Result<Intake, AllocError>
         requires sites { sites ≤ 16 }
         requires site { site < sites }
         requires some { 1 ≤ keep }
@@ -78,7 +107,8 @@ impl Intake {
     {
         Ok(Intake {
             log: Vec::new(alloc),
-            waiting: Waiting::new(alloc),
+            waiting: Waiting::new(alloc, hashes),
+            hashes,
             clock: Clock::new(sites),
             held: if site == 0 { Some(0) } else { None },
             last: 0,
@@ -123,6 +153,55 @@ impl Intake {
         }
     }
 
+    /// Takes the intake out, and leaves one with nothing done and the same hashes in its place.
+    pub fn take(&mut self) -> Intake
+        ensures taken { result ≡ self.old }
+        ensures left { self.new ≡ record { place = self.old.place; state = opening_at self.old.place.site } }
+    {
+        let alloc = *self.log.allocator();
+        let fresh = Intake {
+            log: Vec::new(alloc),
+            waiting: Waiting::new(alloc, self.hashes),
+            hashes: self.hashes,
+            clock: Clock::new(self.sites),
+            held: if self.site == 0 { Some(0) } else { None },
+            last: 0,
+            site: self.site,
+            sites: self.sites,
+            keep: self.keep,
+        };
+        mem::replace(self, fresh)
+    }
+
+    /// Takes a message in that arrived, as `arrive`, and hands it back where there is no memory for it.
+    #[inline(always)]
+    pub fn admit(
+        &mut self,
+        message: Message,
+    ) -> Result<Result<Arrival, Refusal>, AllocFailed<Message>>
+        requires { sites_of message ≡ self.old.place.sites }
+        ensures place { self.new.place ≡ self.old.place }
+        ensures step { IfOk result (λ answer. (self.new.state, answer) ≡ arrived self.old.place self.old.state message) }
+        ensures refused { IfOk result (λ answer. OnErr answer (self.new ≡ self.old)) }
+        ensures err { OnErr result (self.new ≡ self.old) }
+        ensures back { IfErr result (λ e. e.value ≡ message) }
+        ensures memory { OnErr result (IsAdmitted self.old.place self.old.state message) }
+    {
+        if self.is_not_ours(&message) {
+            return Ok(Err(Refusal::NotOurs));
+        }
+        if self.is_repeat(&message) {
+            return Ok(Ok(Arrival::Repeat));
+        }
+        if self.is_full() {
+            return Ok(Err(Refusal::Full));
+        }
+        match self.take_in(message)? {
+            0 => Ok(Ok(Arrival::Held)),
+            released => Ok(Ok(Arrival::Released(released))),
+        }
+    }
+
     /// Takes a message in that arrived. It waits until it is ready, and all that is ready then is released.
     ///
     /// A message that says that this site made it, and it didn't, is refused, and one that comes where the site is
@@ -135,18 +214,10 @@ impl Intake {
         ensures err { OnErr result (self.new ≡ self.old) }
         ensures fault { IfErr result (IsFaultOf self.old.place self.old.state message) }
     {
-        if self.is_not_ours(&message) {
-            return Err(IntakeFault::Refused(Refusal::NotOurs));
-        }
-        if self.is_repeat(&message) {
-            return Ok(Arrival::Repeat);
-        }
-        if self.is_full() {
-            return Err(IntakeFault::Refused(Refusal::Full));
-        }
-        match self.take_in(message)? {
-            0 => Ok(Arrival::Held),
-            released => Ok(Arrival::Released(released)),
+        match self.admit(message) {
+            Ok(Ok(arrival)) => Ok(arrival),
+            Ok(Err(refusal)) => Err(IntakeFault::Refused(refusal)),
+            Err(_) => Err(IntakeFault::Memory),
         }
     }
 
@@ -201,12 +272,13 @@ impl Intake {
 
     // Puts a new message last among those that wait, and releases what is ready; how many were released.
     #[inline(always)]
-    fn take_in(&mut self, message: Message) -> Result<u32, AllocError>
+    fn take_in(&mut self, message: Message) -> Result<u32, AllocFailed<Message>>
         requires site { IsAmong self.old.place.sites message }
         requires new { IsAdmitted self.old.place self.old.state message }
         ensures ok { OnOk result (self.new ≡ record { place = self.old.place; state = after_came self.old.state message }) }
         ensures released { IfOk result (λ n. n ≡ length (after_came self.old.state message).log - length self.old.state.log) }
         ensures err { OnErr result (self.new ≡ self.old) }
+        ensures back { IfErr result (λ e. e.value ≡ message) }
     {
         let before = self.log.len();
         take_in(&mut self.log, &mut self.waiting, &mut self.clock, message)?;

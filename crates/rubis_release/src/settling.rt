@@ -1,4 +1,4 @@
-ghost use Rattle.std.specs.Prelude.{◌≡◌, ◌+◌, ◌≤◌, ◌++◌, [], ◌∷◌, false, true, length, vec_len, vec_capacity, OnOk, OnErr};
+ghost use Rattle.std.specs.Prelude.{◌≡◌, ◌+◌, ◌≤◌, ◌++◌, [], ◌∷◌, false, true, length, vec_len, vec_capacity, IfErr, OnOk, OnErr};
 ghost use Rattle.std.specs.List.{list_any};
 ghost use Rattle.rubis_schema.specs.Keys.{same_id};
 ghost use Rattle.rubis_clock.specs.Clocks.{IsReady};
@@ -8,7 +8,7 @@ ghost use Rattle.rubis_release.specs.Release.{IsAmong, AllAmong, NoneReady, cloc
 use crate::waiting::Waiting;
 use rubis_clock::Clock;
 use rubis_message::Message;
-use std::alloc::AllocError;
+use std::alloc::AllocFailed;
 
 // Releases what is ready, the earliest first, until nothing is.
 #[inline(always)]
@@ -21,8 +21,7 @@ fn settle(log: &mut Vec<Message>, waiting: &mut Waiting, clock: &mut Clock)
     ensures room { vec_len log.new + length waiting.new ≤ vec_capacity log.new }
     ensures none { NoneReady clock.new waiting.new }
 {
-    while let Some(at) = waiting.first_ready(clock) {
-        let message = waiting.remove(at);
+    while let Some(message) = waiting.take_ready(clock) {
         clock.advance(message.stamp());
         log.push_reserved(message);
     }
@@ -46,7 +45,7 @@ pub fn take_in(
     waiting: &mut Waiting,
     clock: &mut Clock,
     message: Message,
-) -> Result<(), AllocError>
+) -> Result<(), AllocFailed<Message>>
     requires room { vec_len log.old + length waiting.old ≤ vec_capacity log.old }
     requires sites { AllAmong (length clock.old.counts) waiting.old }
     requires counts { clock.old ≡ clock_of (length clock.old.counts) log.old.items }
@@ -55,6 +54,7 @@ pub fn take_in(
     requires new { list_any (λ m. same_id message.stamp.id m.stamp.id) waiting.old ≡ false }
     ensures settles { OnOk result (Settles log.old.items (waiting.old ++ message ∷ []) log.new.items waiting.new) }
     ensures err { OnErr result ((log.new.items ≡ log.old.items) × (waiting.new ≡ waiting.old)) }
+    ensures back { IfErr result (λ e. e.value ≡ message) }
     ensures counts { clock.new ≡ clock_of (length clock.old.counts) log.new.items }
     ensures room { vec_len log.new + length waiting.new ≤ vec_capacity log.new }
     ensures none { NoneReady clock.new waiting.new }
@@ -62,7 +62,9 @@ pub fn take_in(
     if is_ready(clock, &message) {
         return release(log, waiting, clock, message);
     }
-    log.reserve(waiting.len() + 1)?;
+    if log.reserve(waiting.len() + 1).is_err() {
+        return Err(AllocFailed { value: message });
+    }
     waiting.push(message)?;
     Ok(())
 }
@@ -74,7 +76,7 @@ pub fn release(
     waiting: &mut Waiting,
     clock: &mut Clock,
     message: Message,
-) -> Result<(), AllocError>
+) -> Result<(), AllocFailed<Message>>
     requires room { vec_len log.old + length waiting.old ≤ vec_capacity log.old }
     requires sites { AllAmong (length clock.old.counts) waiting.old }
     requires counts { clock.old ≡ clock_of (length clock.old.counts) log.old.items }
@@ -83,11 +85,14 @@ pub fn release(
     requires none { NoneReady clock.old waiting.old }
     ensures settles { OnOk result (Settles (log.old.items ++ message ∷ []) waiting.old log.new.items waiting.new) }
     ensures err { OnErr result ((log.new.items ≡ log.old.items) × (waiting.new ≡ waiting.old)) }
+    ensures back { IfErr result (λ e. e.value ≡ message) }
     ensures counts { clock.new ≡ clock_of (length clock.old.counts) log.new.items }
     ensures room { vec_len log.new + length waiting.new ≤ vec_capacity log.new }
     ensures none { NoneReady clock.new waiting.new }
 {
-    log.reserve(waiting.len() + 1)?;
+    if log.reserve(waiting.len() + 1).is_err() {
+        return Err(AllocFailed { value: message });
+    }
     clock.advance(message.stamp());
     log.push_reserved(message);
     settle(log, waiting, clock);

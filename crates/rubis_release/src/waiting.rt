@@ -1,47 +1,46 @@
-ghost use Rattle.std.specs.Prelude.{◌≡◌, ◌<◌, ◌++◌, [], ◌∷◌, false, length, Some, slice_get, slice_index_or, MatchOption, OnOk, OnErr};
+ghost use Rattle.std.specs.Prelude.{◌≡◌, ◌<◌, ◌++◌, [], ◌∷◌, false, true, length, is_some, None, IfErr, MatchOption, OnOk, OnErr};
 ghost use Rattle.rubis_message.specs.Message as model;
-ghost use Rattle.std.specs.List.{list_any, remove};
+ghost use Rattle.std.specs.List.{list_any};
 ghost use Rattle.rubis_schema.specs.Keys.{same_id};
-ghost use Rattle.rubis_release.specs.Release.{AllAmong, IsFirst, NoneReady};
+ghost use Rattle.rubis_release.specs.Release.{AllAmong};
+ghost use Rattle.rubis_release.specs.Waiting.{NoneTaken, TakesFirst, IsFirstOf, HaveTheirIds, AreSlots, first_of, is_there, somes};
+ghost use Rattle.indexmap.specs.IndexMap.{get};
 
-use indexmap::IndexSet;
+use indexmap::IndexMap;
 use rubis_clock::Clock;
 use rubis_message::Message;
-use rubis_schema::Id;
-use std::alloc::{AllocError, Global};
+use rubis_schema::{Hashes, Id, KeyHashes};
+use std::alloc::{AllocFailed, Global};
 use std::marker::Model;
 
-// The messages that wait to be released, in arrival order.
-//
-// Their ids stand in a set beside them, so that one is found without a walk, and taking a message out moves no index.
+// The messages that wait to be released, by id, in arrival order; none where one was taken out.
 #[derive(Drop)]
 pub struct Waiting {
-    // The ids of those that wait, in any order.
-    ids: IndexSet<Id>,
-    // Those that wait, in arrival order.
-    list: Vec<Message>,
+    slots: IndexMap<Id, Option<Message>, KeyHashes>,
+    // How many were taken out and still have a slot.
+    gone: usize,
 }
 
 impl Model for Waiting {
     ghost use Rattle.std.specs.Prelude.{List};
     ghost use Rattle.rubis_message.specs.Message as model;
-    ghost use Rattle.rubis_release.specs.Release.{AreTheIds};
+    ghost use Rattle.rubis_release.specs.Waiting.{AreSlots, somes};
 
     ghost Value = { List model.Message };
 
-    ghost view = { λ w. w.list.items };
+    ghost view = { λ w. somes w.slots.entries };
 
-    ghost invariant = { λ w. AreTheIds w.ids.keys w.list.items };
+    ghost invariant = { λ w. AreSlots w.slots.entries w.gone };
 }
 
 impl Waiting {
-    // No messages.
-    pub fn new(alloc: Global) -> Waiting
+    // No messages, found by this.
+    pub fn new(alloc: Global, hashes: Hashes) -> Waiting
         ensures { result ≡ [] }
     {
         Waiting {
-            ids: IndexSet::new(alloc),
-            list: Vec::new(alloc),
+            slots: IndexMap::with_hasher(alloc, hashes.keys),
+            gone: 0,
         }
     }
 
@@ -50,61 +49,187 @@ impl Waiting {
     pub fn len(&self) -> usize
         ensures { result ≡ length self.now }
     {
-        self.list.len()
+        self.slots.len() - self.gone
     }
 
     // Whether a message with that id waits.
     pub fn has(&self, id: &Id) -> bool
         ensures { result ≡ list_any (λ m. same_id id.now m.stamp.id) self.now }
     {
-        self.ids.contains(id)
+        // For the clause that no two slots have one id.
+        let _many = self.slots.len();
+        has_message(&self.slots, id)
     }
 
-    // Puts a message last.
-    pub fn push(&mut self, message: Message) -> Result<(), AllocError>
+    // Puts a message last, or hands it back.
+    pub fn push(&mut self, message: Message) -> Result<(), AllocFailed<Message>>
         requires { list_any (λ m. same_id message.stamp.id m.stamp.id) self.old ≡ false }
         ensures ok { OnOk result (self.new ≡ self.old ++ message ∷ []) }
         ensures err { OnErr result (self.new ≡ self.old) }
+        ensures back { IfErr result (λ e. e.value ≡ message) }
     {
-        // The list has room before the set has the id, so that without memory nothing is half done.
         let id = message.stamp().id;
-        self.list.reserve(1)?;
-        self.ids.insert(id)?;
-        self.list.push_reserved(message);
+        self.gone = make_place(&mut self.slots, self.gone, &id);
+        if self.slots.reserve(1).is_err() {
+            return Err(AllocFailed { value: message });
+        }
+        let Ok(_) = self.slots.insert(id, Some(message)) else {
+            unreachable!()
+        };
         Ok(())
     }
 
-    // Takes the message at that place out. The others keep their order.
-    pub fn remove(&mut self, at: usize) -> Message
-        requires { at < length self.old }
-        ensures message { slice_get self.old at ≡ Some result }
-        ensures rest { self.new ≡ remove self.old at }
+    // Takes the earliest message that is ready out, if one is. The others keep their order.
+    #[inline(always)]
+    pub fn take_ready(&mut self, clock: &Clock) -> Option<Message>
+        requires { AllAmong (length clock.now.counts) self.old }
+        ensures { MatchOption result (NoneTaken clock.now self.old self.new) (λ m. TakesFirst clock.now self.old m self.new) }
     {
-        let message = self.list.remove(at);
-        self.ids.swap_remove(&message.stamp().id);
-        message
+        // For the clause that there are not too many.
+        let _many = self.slots.len();
+        let at = first_ready(&self.slots, clock)?;
+        let Some(slot) = self.slots.get_index_mut(at) else {
+            unreachable!()
+        };
+        let Some(message) = slot.take() else {
+            unreachable!()
+        };
+        self.gone += 1;
+        self.close_many_gaps();
+        Some(message)
     }
 
-    // The message at that place.
+    // Closes the gaps where they are more than half of the slots.
     #[inline(always)]
-    pub fn message_at(&self, at: usize) -> &Message
-        requires { at < length self.now }
-        ensures { (d : model.Message) → slice_index_or self.now at d ≡ result.now }
+    fn close_many_gaps(&mut self)
+        ensures { self.new ≡ self.old }
     {
-        &self.list[at]
-    }
-
-    // The place of the earliest message that is ready.
-    #[inline(always)]
-    pub fn first_ready(&self, clock: &Clock) -> Option<usize>
-        requires { AllAmong (length clock.now.counts) self.now }
-        ensures { MatchOption result (NoneReady clock.now self.now) (IsFirst clock.now self.now) }
-    {
-        for at in 0..self.len() {
-            if clock.ready(self.message_at(at).stamp()) {
-                return Some(at);
-            }
+        if self.gone > self.slots.len() / 2 {
+            self.close_gaps();
         }
-        None
     }
+
+    // Lets the slots of those that were taken out go.
+    #[inline(never)]
+    fn close_gaps(&mut self)
+        ensures { self.new ≡ self.old }
+    {
+        let none = self.gone == self.slots.len();
+        close(&mut self.slots, none);
+        self.gone = 0;
+    }
+}
+
+// Whether the slot of an id has a message.
+#[inline(always)]
+fn has_message(slots: &IndexMap<Id, Option<Message>, KeyHashes>, id: &Id) -> bool
+    ensures { result ≡ is_there (get same_id slots.now id.now) }
+{
+    match slots.get(id) {
+        Some(slot) => slot.is_some(),
+        None => false,
+    }
+}
+
+// Lets an empty slot of that id go, with all others. Answers how many empty slots there are.
+fn make_place(slots: &mut IndexMap<Id, Option<Message>, KeyHashes>, gone: usize, id: &Id) -> usize
+    requires none { list_any (λ m. same_id id.now m.stamp.id) (somes slots.old.entries) ≡ false }
+    requires slots { AreSlots slots.old.entries gone }
+    ensures same { somes slots.new.entries ≡ somes slots.old.entries }
+    ensures slots { AreSlots slots.new.entries result }
+    ensures absent { get same_id slots.new id.now ≡ None }
+{
+    if !slots.contains_key(id) {
+        return gone;
+    }
+    let none = gone == slots.len();
+    close(slots, none);
+    // For the clause that no two slots have one id.
+    let _many = slots.len();
+    0
+}
+
+// Gives room back where there is much more than is used.
+fn give_room_back(slots: &mut IndexMap<Id, Option<Message>, KeyHashes>)
+    ensures { slots.new.entries ≡ slots.old.entries }
+{
+    let len = slots.len();
+    if slots.capacity() > 1024 && slots.capacity() / 8 > len {
+        slots.shrink_to(2 * len);
+    }
+}
+
+// Lets empty slots go: all slots, where none has a message.
+fn close(slots: &mut IndexMap<Id, Option<Message>, KeyHashes>, none: bool)
+    requires { none ≡ true → somes slots.old.entries ≡ [] }
+    ensures same { somes slots.new.entries ≡ somes slots.old.entries }
+    ensures own { HaveTheirIds slots.old.entries → HaveTheirIds slots.new.entries }
+    ensures full { length (somes slots.new.entries) ≡ length slots.new.entries }
+{
+    if none {
+        // In the time of what is removed, where `clear` and `retain` clear the whole table.
+        slots.truncate(0);
+        return;
+    }
+    slots.retain(
+        |_id: &Id, slot: &mut Option<Message>| -> bool
+            ensures { (result ≡ is_some slot.old) × (slot.new ≡ slot.old) }
+        { slot.is_some() },
+    );
+    give_room_back(slots);
+}
+
+// The slot of the message of a site that is ready, if one is.
+#[inline(always)]
+fn ready_of(
+    slots: &IndexMap<Id, Option<Message>, KeyHashes>,
+    clock: &Clock,
+    site: u8,
+) -> Option<usize>
+    requires site { site < length clock.now.counts }
+    requires among { AllAmong (length clock.now.counts) (somes slots.now.entries) }
+    requires own { HaveTheirIds slots.now.entries }
+    ensures { IsFirstOf clock.now slots.now.entries (λ j. j ≡ site) result }
+{
+    let id = Id {
+        site,
+        seq: clock.count(site).saturating_add(1),
+    };
+    // For the clause that no two slots have one id.
+    let _many = slots.len();
+    let Some((at, _key, slot)) = slots.get_full(&id) else {
+        return None;
+    };
+    let Some(message) = slot else {
+        return None;
+    };
+    if !clock.ready(message.stamp()) {
+        return None;
+    }
+    Some(at)
+}
+
+// The lesser of two places, where there are two.
+#[inline(always)]
+fn earlier(a: Option<usize>, b: Option<usize>) -> Option<usize>
+    ensures { result ≡ first_of a b }
+{
+    match (a, b) {
+        (Some(i), Some(j)) => Some(i.min(j)),
+        (Some(i), None) => Some(i),
+        (None, other) => other,
+    }
+}
+
+// The slot of the earliest message that is ready, if one is.
+fn first_ready(slots: &IndexMap<Id, Option<Message>, KeyHashes>, clock: &Clock) -> Option<usize>
+    requires among { AllAmong (length clock.now.counts) (somes slots.now.entries) }
+    requires own { HaveTheirIds slots.now.entries }
+    ensures { IsFirstOf clock.now slots.now.entries (λ j. j < length clock.now.counts) result }
+{
+    let mut first = None;
+    for site in 0..clock.deps().len() {
+        first = earlier(first, ready_of(slots, clock, site as u8));
+    }
+    first
 }

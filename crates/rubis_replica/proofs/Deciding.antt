@@ -61,7 +61,7 @@ winner_fits sites (Some i) h = best_fits sites i.best h.1
 -- the shadow of an ask within the limits is within them
 pub decided_fits : (sites : ℕ) (t : Tables) (s : Standing) (ask : Ask) (x : Shadow) → AllInLimits sites t → IsAsk sites ask → decision (row_by_key t) s ask ≡ Ok x → InLimits sites x
 decided_fits sites t s ask x h g e =
-    subst (InLimits sites) (granted (row_by_key t) s ask x e).1 (shadow_limits sites (row_by_key t) ask g (λ c same asks.
+    subst (InLimits sites) (granted (row_by_key t) s ask x e).1 (shadow_limits sites (row_by_key t) s ask (granted (row_by_key t) s ask x e).0 g (λ c same asks.
     let item = row_fits sites (map.get t (key.Item c.item)) (h (key.Item c.item)) in
     (asks.0, cat_fits sites (item_in (row_by_key t) c.item) item, winner_fits sites (item_in (row_by_key t) c.item) item)))
 

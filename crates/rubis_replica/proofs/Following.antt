@@ -2,8 +2,7 @@
 use Rattle.std.proofs.Common.{◌≡◌, ℕ, ◌+◌, ◌-◌, ◌<◌, ◌≤◌, List, [], ◌∷◌, ◌++◌, length, length-append, take, drop, refl, sym, ap, ◌∙◌, subst, arith, inl, inr}
 use Rattle.std.specs.Prelude.{◌⊎◌, OnErr, OnOk, Result, Ok, Err, is_ok, slice_range, true}
 use Rattle.std.specs.declared.alloc.AllocError.{AllocError}
-use Rattle.std.proofs.Math.Seq.{take-length}
-use Rattle.std.proofs.lemmas.List.{length-map, length-take-le, take-append-drop, take-append-le}
+use Rattle.std.proofs.lemmas.List.{length-map, length-take-le, take-append-le}
 use Rattle.std.proofs.lemmas.List.Sums.{sum_by-cons}
 use Rattle.rubis_shadow.specs.declared.changes.Effect.{Effect}
 use Rattle.rubis_message.specs.Message.{Message}
@@ -12,13 +11,15 @@ use Rattle.rubis_model.proofs.CoreLists.{cores_append}
 use Rattle.rubis_shard.specs.Holdings.{HoldsLog}
 use Rattle.rubis_shard.specs.States.{ShardState}
 use Rattle.rubis_pieces.specs.Batches.{AreUnfinished, EndsWhole, GoesOn as GoesOnBy, HoldsBut, TakesBatch, parts_left}
+use Rattle.rubis_pieces.specs.Shares.{AreShares}
 use Rattle.rubis_pieces.specs.declared.pieces.Left.{Left}
 use Rattle.rubis_pieces.proofs.Folded.{holds_all}
 use Rattle.rubis_replica.specs.Follow.{Follower, FollowsLog, IsNoted, parts_to_do}
-use Rattle.rubis_replica.specs.Progress.{BatchGoesOn, HasBegun, IsProgress, Progress, parts_between, resting_at}
-use Rattle.rubis_replica.proofs.Between.{below_or, between_inside, between_meets, few_between, nothing_between, some_between, to_the_end}
+use Rattle.rubis_workers.specs.Logs.{parts_between}
+use Rattle.rubis_replica.specs.Progress.{BatchBegins, BatchGoesOn, IsProgress, Progress, resting_at}
+use Rattle.rubis_workers.proofs.Between.{below_or, between_inside, between_meets, few_between, front_meets, nothing_between, slice_inside, some_between}
 
-zero_or : (n : ℕ) → (n ≡ 0) ⊎ (0 < n)
+pub zero_or : (n : ℕ) → (n ≡ 0) ⊎ (0 < n)
 zero_or ℕ.zero = inl refl
 zero_or (ℕ.suc n) = inr (omega arith)
 
@@ -58,51 +59,55 @@ pub all_done : (log : List Message) (rest : List Left) (at upto : ℕ) → rest 
 all_done log rest at upto none same =
     omega (arith, ap parts_left none, ap length (nothing_between log at upto (omega (arith, same))))
 
-noted_on : (log : List Message) (applied : ℕ) (f : Follower) → IsNoted log applied f → AreUnfinished 0 (length f.tables) f.rest → f.progress.applied ≤ f.at
-noted_on log applied f n h = elim (zero_or f.progress.left) [
+noted_on : (log : List Message) (old : Progress) (f : Follower) → IsNoted log old f → AreUnfinished 0 (length f.tables) f.rest → f.progress.applied ≤ f.at
+noted_on log old f n h = elim (zero_or f.progress.left) [
   | inl z ↦ omega (arith, n.rests z, (none_to_do log (length f.tables) f f.progress.upto h n.inside n.within (sym n.left ∙ z)).1)
   | inr l ↦ omega (arith, n.begun l, n.on)
 ]
 
-noted_progress : (log : List Message) (applied : ℕ) (f : Follower) → IsNoted log applied f → AreUnfinished 0 (length f.tables) f.rest → IsProgress log f.progress
-noted_progress log applied f n h = record {
-  on = omega (arith, noted_on log applied f n h, n.inside);
+noted_ahead : (log : List Message) (old : Progress) (f : Follower) → IsNoted log old f → (f.progress.applied ≤ f.progress.kept) × (f.progress.kept ≤ length log)
+noted_ahead log old f n = elim (zero_or f.progress.left) [
+  | inl z ↦ (omega (arith, n.rests z, n.none_kept z), omega (arith, n.none_kept z, n.within))
+  | inr l ↦ (omega (arith, n.begun l, n.kept l, n.ahead), omega (arith, n.kept l, n.cut))
+]
+
+noted_progress : (log : List Message) (old : Progress) (f : Follower) → IsNoted log old f → AreUnfinished 0 (length f.tables) f.rest → IsProgress log f.progress
+noted_progress log old f n h = record {
+  on = omega (arith, noted_on log old f n h, n.inside);
   inside = n.within;
+  ahead = (noted_ahead log old f n).0;
+  within = (noted_ahead log old f n).1;
   rests = n.rests;
   begun = λ l. (
-    omega (arith, n.begun l, begins_before log applied f.progress.upto f.progress.left (n.some l)),
+    omega (arith, n.begun l, begins_before log old.applied f.progress.upto f.progress.left (n.some l)),
     subst (λ a. f.progress.left < length (parts_between log a f.progress.upto)) (sym (n.begun l)) (n.some l),
   );
 }
 
-pub noted_follows : (log : List Message) (applied : ℕ) (f : Follower) → IsNoted log applied f → 0 < length f.tables
+pub noted_follows : (log : List Message) (old : Progress) (f : Follower) → IsNoted log old f → 0 < length f.tables → f.shares ≡ []
     → AreUnfinished 0 (length f.tables) f.rest → HoldsBut (length f.tables) (cores (take f.at log)) f.rest f.tables → FollowsLog log f
-noted_follows log applied f n some unfinished holds = record {
-  progress = noted_progress log applied f n unfinished;
-  on = noted_on log applied f n unfinished;
+noted_follows log old f n some none unfinished holds = record {
+  progress = noted_progress log old f n unfinished;
+  on = noted_on log old f n unfinished;
   inside = n.inside;
   left = n.left;
   some = some;
   unfinished = unfinished;
   holds = holds;
+  next = inl none;
 }
 
--- all of the batch is done, so it is whole
-pub noted_whole : (log : List Message) (applied : ℕ) (f : Follower) → IsNoted log applied f → f.rest ≡ [] → f.at ≡ f.progress.upto
-    → f.progress ≡ resting_at f.progress.upto
-noted_whole log applied f n none e =
-    let left : f.progress.left ≡ 0 = n.left ∙ all_done log f.rest f.at f.progress.upto none e in
-    λ i. record { applied = n.rests left i; upto = f.progress.upto; left = left i }
-
 -- not all messages stand, so parts are left
-pub noted_left : (log : List Message) (applied : ℕ) (f : Follower) → IsNoted log applied f → f.at < f.progress.upto → 0 < f.progress.left
-noted_left log applied f n l = omega (arith, n.left, some_between log f.at f.progress.upto l n.within)
+pub noted_left : (log : List Message) (old : Progress) (f : Follower) → IsNoted log old f → f.at < f.progress.upto → 0 < f.progress.left
+noted_left log old f n l = omega (arith, n.left, some_between log f.at f.progress.upto l n.within)
 
--- a batch of all that was pending, of which parts are left, has begun
-pub noted_begun : (log : List Message) (old : Progress) (f : Follower) → IsNoted log old.applied f → f.progress.upto ≡ length log → 0 < f.progress.left
-    → HasBegun log old f.progress
-noted_begun log old f n e left = record {
-  batch = λ i. record { applied = n.begun left i; upto = e i; left = f.progress.left };
+-- a batch of which parts are left has begun
+pub noted_begun : (log : List Message) (upto : ℕ) (old : Progress) (f : Follower) → IsNoted log old f → f.progress.upto ≡ upto → 0 < f.progress.left
+    → BatchBegins log upto old f.progress
+noted_begun log upto old f n e left = record {
+  applied = n.begun left;
+  kept = n.kept left;
+  ends = e;
   some_left = left;
   some_done = subst (λ a. f.progress.left < length (parts_between log a f.progress.upto)) (sym (n.begun left)) (n.some left);
 }
@@ -132,45 +137,14 @@ pub on_err : {P Q : Type 0} (r : Result (Unit {0}) AllocError) → OnErr r P →
 on_err (Ok x) h f = tt
 on_err (Err e) h f = f h
 
-pub by_ok : {P : Type 0} (r : Result (Unit {0}) AllocError) → OnOk r P → is_ok r ≡ true → P
-by_ok (Ok x) h e = h
-by_ok (Err x) h e = absurd cc
-
 -- the tables hold what stands, and no share is unfinished
-pub noted_stands : (log : List Message) (applied : ℕ) (new : Follower) (at : ℕ) (t : List ShardState) → IsNoted log applied new → new.rest ≡ []
+pub noted_stands : (log : List Message) (old : Progress) (new : Follower) (at : ℕ) (t : List ShardState) → IsNoted log old new → new.shares ≡ [] → new.rest ≡ []
     → new.at ≡ at → new.tables ≡ t → 0 < length t → HoldsLog (length t) (cores (take at log)) t → FollowsLog log new
-noted_stands log applied new at t noted none same_at same some holds =
-    noted_follows log applied new noted (omega (arith, some, ap length same)) (subst (AreUnfinished 0 (length new.tables)) (sym none) tt)
+noted_stands log old new at t noted none_kept none same_at same some holds =
+    noted_follows log old new noted (omega (arith, some, ap length same)) none_kept (subst (AreUnfinished 0 (length new.tables)) (sym none) tt)
     (holds_none (length new.tables) log new.at new.rest new.tables none
     (subst (λ n. HoldsLog (length new.tables) (cores (take n log)) new.tables) (sym same_at)
     (subst (λ ts. HoldsLog (length ts) (cores (take at log)) ts) (sym same) holds)))
-
--- where nothing was done, the tables follow as before
-pub stays : (log : List Message) (old : Follower) (at : ℕ) (t : List ShardState) → FollowsLog log old → old.progress.left ≡ 0 → at ≡ old.at → 0 < length t
-    → HoldsLog (length t) (cores (take at log)) t → FollowsLog log (record { progress = old.progress; at = at; rest = old.rest; tables = t })
-stays log old at t h z same some holds =
-    let none = rests_whole log old h z in
-    record {
-      progress = h.progress;
-      on = omega (arith, h.on, same);
-      inside = omega (arith, h.inside, same);
-      left = h.left ∙ ap (λ n. parts_to_do log old.rest n old.progress.upto) (sym same);
-      some = some;
-      unfinished = subst (AreUnfinished 0 (length t)) (sym none) tt;
-      holds = holds_none (length t) log at old.rest t none holds;
-    }
-
--- some of the batch is done where a message more stands
-pub some_stand : (log : List Message) (rest : List Left) (applied at upto : ℕ) → rest ≡ [] → applied < at → at ≤ upto → upto ≤ length log
-    → parts_to_do log rest at upto < length (parts_between log applied upto)
-some_stand log rest applied at upto none l on inside =
-    omega (
-      arith,
-      ap parts_left none,
-      some_between log applied at l (omega (arith, on, inside)),
-      ap length (between_meets log applied at upto (omega (arith, l)) on),
-      length-append (parts_between log applied at) (parts_between log at upto),
-    )
 
 -- some of a batch that has begun stays done
 pub stays_begun : (log : List Message) (p : Progress) (n : ℕ) → IsProgress log p → n ≤ p.left → 0 < n → n < length (parts_between log p.applied p.upto)
@@ -193,26 +167,26 @@ pub fewer_to_do : (log : List Message) (old : Follower) (rest : List Left) (at :
     → at ≤ old.progress.upto → parts_to_do log rest at old.progress.upto ≤ old.progress.left
 fewer_to_do log old rest at h fewer on inside = omega (arith, h.left, fewer, fewer_left log old.at at old.progress.upto on inside)
 
-pub noted_fewer : (log : List Message) (applied : ℕ) (new : Follower) (rest : List Left) (at upto n : ℕ) → IsNoted log applied new → new.rest ≡ rest
+pub noted_fewer : (log : List Message) (old : Progress) (new : Follower) (rest : List Left) (at upto n : ℕ) → IsNoted log old new → new.rest ≡ rest
     → new.at ≡ at → new.progress.upto ≡ upto → parts_to_do log rest at upto ≤ n → new.progress.left ≤ n
-noted_fewer log applied new rest at upto n noted same_rest same_at same_upto h =
+noted_fewer log old new rest at upto n noted same_rest same_at same_upto h =
     omega (arith, h, noted.left ∙ (λ i. parts_to_do log (same_rest i) (same_at i) (same_upto i)))
 
 -- where shares are unfinished, parts are left
-pub noted_some : (log : List Message) (applied : ℕ) (new : Follower) (rest : List Left) (shards : ℕ) → IsNoted log applied new → new.rest ≡ rest
+pub noted_some : (log : List Message) (old : Progress) (new : Follower) (rest : List Left) (shards : ℕ) → IsNoted log old new → new.rest ≡ rest
     → AreUnfinished 0 shards rest → (rest ≡ [] → ⊥) → 0 < new.progress.left
-noted_some log applied new rest shards noted same_rest h some = elim (zero_or (parts_left rest)) [
+noted_some log old new rest shards noted same_rest h some = elim (zero_or (parts_left rest)) [
   | inl z ↦ absurd (some (none_unfinished 0 shards rest h z))
   | inr more ↦ omega (arith, more, noted.left, ap parts_left same_rest)
 ]
 
 -- the shares were gone on with, and some are unfinished still
 pub part_finished : (log : List Message) (old new : Follower) (t : List ShardState) (rest : List Left) → FollowsLog log old → length t ≡ length old.tables
-    → AreUnfinished 0 (length t) rest → GoesOnBy old.tables old.rest t rest → IsNoted log old.progress.applied new
+    → AreUnfinished 0 (length t) rest → GoesOnBy old.tables old.rest t rest → IsNoted log old.progress new → new.shares ≡ []
     → new.at ≡ old.at → new.rest ≡ rest → new.tables ≡ t → FollowsLog log new
-part_finished log old new t rest h many unfinished goes noted same_at same_rest same =
+part_finished log old new t rest h many unfinished goes noted none same_at same_rest same =
     let all : length new.tables ≡ length old.tables = ap length same ∙ many in
-    noted_follows log old.progress.applied new noted (omega (arith, all, h.some))
+    noted_follows log old.progress new noted (omega (arith, all, h.some)) none
     (subst (λ r. AreUnfinished 0 (length new.tables) r) (sym same_rest) (subst (λ ts. AreUnfinished 0 (length ts) rest) (sym same) unfinished))
     (subst (λ n. HoldsBut n (cores (take new.at log)) new.rest new.tables) (sym all)
     (subst (λ n. HoldsBut (length old.tables) (cores (take n log)) new.rest new.tables) (sym same_at)
@@ -226,41 +200,82 @@ all_finished log old t rest h many ends none =
     subst (λ n. HoldsLog n (cores (take old.at log)) t) (sym many) (ends none (length old.tables) (cores (take old.at log)) h.holds)
 
 -- it isn't whole, and no more is left than before
-pub goes_on : (log : List Message) (old new : Follower) → IsNoted log old.progress.applied new → new.progress.upto ≡ old.progress.upto
+pub goes_on : (log : List Message) (old new : Follower) → IsNoted log old.progress new → new.progress.upto ≡ old.progress.upto
     → 0 < new.progress.left → new.progress.left ≤ old.progress.left → BatchGoesOn old.progress new.progress
 goes_on log old new noted same left fewer = record {
-  batch = λ i. record { applied = noted.begun left i; upto = same i; left = new.progress.left };
+  batch = λ i. record { applied = noted.begun left i; kept = noted.kept left i; upto = same i; left = new.progress.left };
   some_left = left;
   fewer = fewer;
 }
 
 -- ---- a batch that the workers applied
 
--- the tables hold the whole log, but for what the workers left
-pub holds_batch : (log : List Message) (f : Follower) (first : ℕ) (new : List ShardState) (rest : List Left) → first ≡ f.at + 1 → f.at ≤ length log
-    → length new ≡ length f.tables → TakesBatch first (cores (drop f.at log)) f.tables new rest → HoldsLog (length f.tables) (cores (take f.at log)) f.tables
-    → HoldsBut (length new) (cores (take (length log) log)) rest new
-holds_batch log f first new rest at inside many takes holds =
-    let count : first ≡ 1 + length (cores (take f.at log)) = omega (arith, at, length-map (take f.at log) core, length-take-le f.at log inside) in
-    let all : cores (take f.at log) ++ cores (drop f.at log) ≡ cores (take (length log) log) =
-    sym (cores_append (take f.at log) (drop f.at log)) ∙ ap cores (take-append-drop f.at log ∙ sym (take-length log)) in
-    subst (λ n. HoldsBut n (cores (take (length log) log)) rest new) (sym many)
-    (subst (λ xs. HoldsBut (length f.tables) xs rest new) all (takes (length f.tables) (cores (take f.at log)) count holds))
+-- what the workers left, noted
+pub rest_noted : (log : List Message) (old : Progress) (f : Follower) (upto : ℕ) → old.applied ≤ upto → upto ≤ length log → old.applied ≤ old.kept → old.kept ≤ length log
+    → f.at ≡ upto → (parts_left f.rest ≡ 0 → f.progress ≡ resting_at upto)
+    → (0 < parts_left f.rest → f.progress ≡ record old { upto = upto; left = parts_left f.rest })
+    → parts_left f.rest < length (parts_between log old.applied upto) ⊎ (parts_left f.rest ≡ 0) → IsNoted log old f
+rest_noted log old f upto on within ahead cut at whole begun some = elim (zero_or (parts_left f.rest)) [
+  | inl z ↦
+      let e = whole z in
+      let left : f.progress.left ≡ 0 = ap (λ (p : Progress). p.left) e in
+      let ends : f.progress.upto ≡ upto = ap (λ (p : Progress). p.upto) e in
+      record {
+        on = omega (arith, on, at);
+        inside = omega (arith, at, ends);
+        within = omega (arith, ends, within);
+        ahead = ahead;
+        cut = cut;
+        left = left ∙ sym (omega (arith, z, ap length (nothing_between log f.at f.progress.upto (omega (arith, at, ends)))));
+        rests = λ x. ap (λ (p : Progress). p.applied) e ∙ sym ends;
+        none_kept = λ x. ap (λ (p : Progress). p.kept) e ∙ sym ends;
+        begun = λ l. absurd (omega (arith, l, left));
+        kept = λ l. absurd (omega (arith, l, left));
+        some = λ l. absurd (omega (arith, l, left));
+      }
+  | inr l ↦
+      let e = begun l in
+      let left : f.progress.left ≡ parts_left f.rest = ap (λ (p : Progress). p.left) e in
+      let ends : f.progress.upto ≡ upto = ap (λ (p : Progress). p.upto) e in
+      record {
+        on = omega (arith, on, at);
+        inside = omega (arith, at, ends);
+        within = omega (arith, ends, within);
+        ahead = ahead;
+        cut = cut;
+        left = omega (arith, left, ap length (nothing_between log f.at f.progress.upto (omega (arith, at, ends))));
+        rests = λ z. absurd (omega (arith, z, left, l));
+        none_kept = λ z. absurd (omega (arith, z, left, l));
+        begun = λ x. ap (λ (p : Progress). p.applied) e;
+        kept = λ x. ap (λ (p : Progress). p.kept) e;
+        some = λ x. subst (λ u. f.progress.left < length (parts_between log old.applied u)) (sym ends) (elim some [
+          | inl s ↦ omega (arith, s, left)
+          | inr z ↦ absurd (omega (arith, z, l))
+        ]);
+      }
+]
 
-pub workers_follow : (log : List Message) (old new : Follower) (first : ℕ) (t : List ShardState) (rest : List Left) → FollowsLog log old
-    → old.progress.left ≡ 0 → first ≡ old.at + 1 → length t ≡ length old.tables → TakesBatch first (cores (slice_range log old.at (length log))) old.tables t rest
-    → AreUnfinished 0 (length old.tables) rest → IsNoted log old.progress.applied new
-    → new.at ≡ length log → new.rest ≡ rest → new.tables ≡ t → FollowsLog log new
-workers_follow log old new first t rest h z next many takes unfinished noted same_at same_rest same =
-    let inside : old.at ≤ length log = omega (arith, h.inside, h.progress.inside) in
-    let all = subst (λ (xs : List Message). TakesBatch first (cores xs) old.tables t rest) (to_the_end log old.at) takes in
-    let holds = holds_batch log old first t rest next inside many all (rests_holds log old h z) in
-    noted_follows log old.progress.applied new noted (omega (arith, ap length same, many, h.some))
-    (subst (λ r. AreUnfinished 0 (length new.tables) r) (sym same_rest)
-    (subst (λ ts. AreUnfinished 0 (length ts) rest) (sym same) (subst (λ n. AreUnfinished 0 n rest) (sym many) unfinished)))
-    (subst (λ n. HoldsBut (length new.tables) (cores (take n log)) new.rest new.tables) (sym same_at)
-    (subst (λ r. HoldsBut (length new.tables) (cores (take (length log) log)) r new.tables) (sym same_rest)
-    (subst (λ ts. HoldsBut (length ts) (cores (take (length log) log)) rest ts) (sym same) holds)))
+-- ---- a batch that is kept
+
+-- shares are let go of
+pub without_shares : (log : List Message) (f : Follower) → FollowsLog log f → FollowsLog log (record f { shares = [] })
+without_shares log f h = record {
+  progress = h.progress;
+  on = h.on;
+  inside = h.inside;
+  left = h.left;
+  some = h.some;
+  unfinished = h.unfinished;
+  holds = h.holds;
+  next = inl refl;
+}
+
+-- a batch that has begun is followed by none that is kept with its shares
+pub begun_without : (log : List Message) (f : Follower) → FollowsLog log f → 0 < f.progress.left → f.shares ≡ []
+begun_without log f h l = elim h.next [
+  | inl none ↦ none
+  | inr next ↦ absurd (omega (arith, l, next.0))
+]
 
 -- ---- a log that grows
 
@@ -273,6 +288,8 @@ follows_more log more f h =
       progress = record {
         on = h.progress.on;
         inside = omega (arith, inside, length-append log more);
+        ahead = h.progress.ahead;
+        within = omega (arith, h.progress.within, length-append log more);
         rests = h.progress.rests;
         begun = λ l. ((h.progress.begun l).0, subst (λ (es : List Effect). f.progress.left < length es) batch (h.progress.begun l).1);
       };
@@ -283,4 +300,12 @@ follows_more log more f h =
       unfinished = h.unfinished;
       holds = subst (λ (xs : List Message). HoldsBut (length f.tables) (cores xs) f.rest f.tables)
           (sym (take-append-le f.at log more (omega (arith, h.inside, inside)))) h.holds;
+      next = elim h.next [
+        | inl none ↦ inl none
+        | inr next ↦ inr (
+          next.0,
+          subst (λ (xs : List Message). AreShares (length f.tables) (f.at + 1) (cores xs) f.shares)
+              (sym (slice_inside f.at f.progress.kept log more (omega (arith, next.0, rests_at log f h next.0, h.progress.ahead)) h.progress.within)) next.1,
+        )
+      ];
     }

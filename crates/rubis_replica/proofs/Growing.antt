@@ -1,5 +1,5 @@
 -- A site's log grows at its end, and the tables that follow it follow it still.
-use Rattle.std.proofs.Common.{◌≡◌, ℕ, zero, suc, ◌<◌, ◌≤◌, Bool, true, false, cond, List, [], ◌∷◌, ◌++◌, length, take, sym, ap, ◌∙◌, subst, append_assoc, refl, arith}
+use Rattle.std.proofs.Common.{◌≡◌, ℕ, zero, suc, ◌<◌, ◌≤◌, Bool, true, false, cond, List, [], ◌∷◌, ◌++◌, length, take, sym, ap, ◌∙◌, subst, append_assoc, refl, arith, inl}
 use Rattle.std.specs.Prelude.{◌==◌, ◌||◌, Option, Some, None, All, Result, nat_le}
 use Rattle.std.proofs.Math.Seq.{take-length}
 use Rattle.std.proofs.lemmas.List.{append-nil, take-append-le}
@@ -15,7 +15,8 @@ use Rattle.rubis_model.specs.Site.{Place, Replica, after_made, arrived, is_full,
 use Rattle.rubis_shard.specs.Holdings.{HoldsLog, union}
 use Rattle.rubis_pieces.specs.Batches.{AreUnfinished}
 use Rattle.rubis_shard.proofs.Unions.{union_of_log}
-use Rattle.rubis_replica.specs.Follow.{AreWithin, Follower, FollowsAt, FollowsLog, StaysWithin}
+use Rattle.rubis_workers.specs.Logs.{AreWithin, StaysWithin}
+use Rattle.rubis_replica.specs.Follow.{Follower, FollowsAt, FollowsLog}
 use Rattle.rubis_replica.specs.Progress.{IsProgress, Progress, resting_at}
 use Rattle.rubis_replica.proofs.Following.{all_done, follows_more, holds_none, rests_at, rests_holds}
 
@@ -31,7 +32,7 @@ settle_extends (suc n) log waiting =
       | Some p ↦ let r = settle_extends n (log ++ p.0 ∷ []) p.1 in (p.0 ∷ r.0, r.1 ∙ append_assoc log (p.0 ∷ []) r.0)
     ]
 
-follows_extended : (p q : Place) (log new : List Message) (f : Follower) → q ≡ p → Extends log new → FollowsAt p.sites log f → FollowsAt q.sites new f
+pub follows_extended : (p q : Place) (log new : List Message) (f : Follower) → q ≡ p → Extends log new → FollowsAt p.sites log f → FollowsAt q.sites new f
 follows_extended p q log new f same e h =
     let inside : f.at ≤ length log = omega (arith, h.follows.inside, h.follows.progress.inside) in
     let front : take f.at log ≡ take f.at new = sym (take-append-le f.at log e.0 inside) ∙ ap (take f.at) (sym e.1) in
@@ -61,7 +62,7 @@ one_of : {A : Type 0} (b : Bool) (log : List Message) (x y : Replica × A) → E
 one_of true log x y h g = h
 one_of false log x y h g = g
 
-arrived_extends : (p : Place) (s : Replica) (m : Message) → Extends s.log (arrived p s m).0.log
+pub arrived_extends : (p : Place) (s : Replica) (m : Message) → Extends s.log (arrived p s m).0.log
 arrived_extends p s m =
     one_of (not_ours p s m) s.log _ _ (none_more s)
     (one_of (is_repeat s m) s.log _ _ (none_more s)
@@ -91,12 +92,12 @@ follows_passed p q s new to a f same e h = follows_same p q s new f same (ap (λ
 
 -- ---- the opening tables
 
-pub follows_opening : (sites : ℕ) (log : List Message) (f : Follower) → log ≡ [] → (f.progress ≡ resting_at 0) × (f.at ≡ 0) × (f.rest ≡ []) → 0 < length f.tables
+pub follows_opening : (sites : ℕ) (log : List Message) (f : Follower) → log ≡ [] → (f.progress ≡ resting_at 0) × (f.at ≡ 0) × (f.rest ≡ []) × (f.shares ≡ []) → 0 < length f.tables
     → HoldsLog (length f.tables) [] f.tables → FollowsAt sites log f
 follows_opening sites log f e p some holds =
     subst (λ (l : List Message). FollowsAt sites l f) (sym e) (record {
       follows = record {
-        progress = subst (IsProgress []) (sym p.0) (record { on = omega arith; inside = omega arith; rests = λ z. refl; begun = λ l. absurd (omega (arith, l)) });
+        progress = subst (IsProgress []) (sym p.0) (record { on = omega arith; inside = omega arith; ahead = omega arith; within = omega arith; rests = λ z. refl; begun = λ l. absurd (omega (arith, l)) });
         on = omega (arith, p.1, ap (λ (x : Progress). x.applied) p.0);
         inside = omega (arith, p.1);
         left = ap (λ (x : Progress). x.left) p.0 ∙ sym (all_done [] f.rest f.at f.progress.upto p.2 (omega (arith, p.1, ap (λ (x : Progress). x.upto) p.0)));
@@ -104,6 +105,7 @@ follows_opening sites log f e p some holds =
         unfinished = subst (AreUnfinished 0 (length f.tables)) (sym p.2) tt;
         holds = holds_none (length f.tables) [] f.at f.rest f.tables p.2
             (subst (λ (xs : List Message). HoldsLog (length f.tables) (cores xs) f.tables) (sym (none_taken f.at)) holds);
+        next = inl p.3;
       };
       limits = subst (λ (xs : List Message). AllInLimits sites (fold_of (cores xs)).tables) (sym (none_taken f.at)) (opening_in_limits sites);
     })

@@ -1,6 +1,7 @@
+pub mod Ahead
+pub mod Arrivals
 pub mod Faults
 pub mod Follow
-pub mod Pace
 pub mod Progress
 pub mod Setup
 pub mod State

@@ -28,6 +28,10 @@ pending s = length s.state.log - s.progress.applied
 abbrev pub with_all_applied : SiteState → SiteState
 with_all_applied s = record s { progress = resting_at (length s.state.log) }
 
+-- the site with what was kept applied, and no more
+abbrev pub with_kept_applied : SiteState → SiteState
+with_kept_applied s = record s { progress = resting_at s.progress.kept }
+
 -- the call answers as the step says; where it doesn't, the site's state is as it was
 abbrev pub AnswersAsTheStep : {A : Type 0} → SiteState → SiteState → Replica × Result A Refusal → Result A Fault → Type 0
 AnswersAsTheStep old new step (Ok a) = (new.state ≡ step.0) × (step.1 ≡ Ok a)
@@ -74,21 +78,21 @@ TakesIn old new (Err (Refused r)) = new ≡ old
 TakesIn old new (Err Behind) = 0 < old.progress.left
 TakesIn old new (Err Memory) = new ≡ old
 
--- why what was pending isn't applied: some but not all of it is, or nothing
+-- why what was pending isn't applied: a batch of it has begun and isn't whole, or nothing of the next one is done
 abbrev pub IsCutFault : SiteState → SiteState → Fault → Type 0
 IsCutFault old new (Refused r) = ⊥
 IsCutFault old new Behind = old.progress.left ≡ 0 → HasBegun old.state.log old.progress new.progress
-IsCutFault old new Memory = new ≡ old
+IsCutFault old new Memory = (new ≡ old) ⊎ (new ≡ with_kept_applied old)
 
--- why a call that reads the tables gives no answer. It applies all that is pending first: without memory for that nothing
--- is applied, or some but not all; where it comes to nothing later, all stays applied
+-- why a call that reads the tables gives no answer. It applies all that is pending first: without memory for that a batch of it
+-- has begun and isn't whole, or nothing of the next one is done; where it comes to nothing later, all stays applied
 abbrev pub IsReadFault : SiteState → SiteState → Fault → Type 0
 IsReadFault old new (Refused r) = new ≡ with_all_applied old
 IsReadFault old new Behind = old.progress.left ≡ 0 → HasBegun old.state.log old.progress new.progress
-IsReadFault old new Memory = (new ≡ old) ⊎ (new ≡ with_all_applied old)
+IsReadFault old new Memory = (new ≡ old) ⊎ (new ≡ with_kept_applied old) ⊎ (new ≡ with_all_applied old)
 
--- a listing of the log reads no tables and changes nothing, and nothing but a site that was behind and want of memory
--- keeps it from its rows
+-- a listing of the log reads no tables and changes nothing, and it yields its rows unless the site was behind or memory
+-- ran out
 abbrev pub ListsTheLog : {A : Type 0} → SiteState → SiteState → Result A Fault → Type 0
 ListsTheLog old new (Ok rows) = new ≡ old
 ListsTheLog old new (Err (Refused r)) = ⊥

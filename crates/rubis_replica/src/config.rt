@@ -2,12 +2,13 @@ ghost use Rattle.std.specs.Prelude.{◌≡◌, ◌≤◌, ◌<◌, ◌↔◌, Is
 ghost use Rattle.std.specs.Option.{SomeIff};
 ghost use Rattle.rubis_replica.specs.Setup.{IsCount, IsSetup, Setup};
 
-use rubis_schema::{BATCH_MAX, KEEP_MAX, SHARDS_MAX, SITES_MAX, WORKERS_MAX};
+use rubis_schema::{BATCH_MAX, Hashes, KEEP_MAX, SHARDS_MAX, SITES_MAX, WORKERS_MAX};
 use std::marker::Model;
 
 /// How a site is set up: which one it is, of how many; how many shards its tables have, how many workers may apply
-/// shadows to them, and how many shadows make a batch; and how many messages it keeps.
-#[derive(Clone, Copy, PartialEq, Eq, Debug)]
+/// shadows to them, and how many shadows make a batch; how many messages it keeps; and what its maps hash by, which no answer
+/// depends on and no contract sees.
+#[derive(Drop)]
 pub struct Config {
     site: u8,
     sites: u8,
@@ -15,6 +16,7 @@ pub struct Config {
     workers: u8,
     batch: u32,
     keep: u32,
+    hashes: Hashes,
 }
 
 impl Model for Config {
@@ -25,8 +27,6 @@ impl Model for Config {
     ghost view = { λ c. record { site = c.site; sites = c.sites; shards = c.shards; workers = c.workers; batch = c.batch; keep = c.keep } };
 
     ghost invariant = { λ c. IsSetup (record { site = c.site; sites = c.sites; shards = c.shards; workers = c.workers; batch = c.batch; keep = c.keep }) };
-
-    ghost inverse = { λ s. record { site = s.site; sites = s.sites; shards = s.shards; workers = s.workers; batch = s.batch; keep = s.keep } };
 }
 
 // Whether a number is from 1 to `most`.
@@ -37,7 +37,8 @@ fn is_count(number: u32, most: u32) -> bool
 }
 
 impl Config {
-    /// The configuration with these numbers, if each is within its limits and the site is below `sites`: 1 to 8 sites,
+    /// The configuration with these numbers and hashes that are the same in each run, if each number is within its limits and
+    /// the site is below `sites`: 1 to 16 sites,
     /// 1 to 64 shards, 1 to 16 workers, batches of 1 to 65,536, and 1 to 1,000,000 messages kept.
     pub fn new(
         site: u8,
@@ -64,7 +65,20 @@ impl Config {
             workers,
             batch,
             keep,
+            hashes: Hashes::fixed(),
         })
+    }
+
+    /// The same configuration, with these hashes.
+    pub fn with_hashes(self, hashes: Hashes) -> Config
+        ensures { result ≡ self }
+    {
+        Config { hashes, ..self }
+    }
+
+    /// What the maps of the site hash by.
+    pub(crate) fn hashes(&self) -> Hashes {
+        self.hashes
     }
 
     /// Which site it is, from 0.

@@ -1,13 +1,13 @@
 //! One site: its configuration, and its calls.
 #![tactic(auto)]
 
-mod applying;
+mod arriving;
 mod config;
 mod faults;
 mod follower;
-mod pace;
 mod site;
 
+pub use arriving::Arrived;
 pub use config::Config;
 pub use faults::Fault;
 pub use rubis_workers::{Free, Gate};

@@ -1,14 +1,17 @@
-ghost use Rattle.std.specs.Prelude.{◌≡◌, ◌≤◌, ◌<◌, All, IfOk, IfErr, IsErrOf, Ok, OnOk, length};
+ghost use Rattle.std.specs.Prelude.{◌≡◌, ◌≤◌, ◌<◌, [], All, IfOk, IfErr, IfNone, IfSome, IsErrOf, Ok, OnOk, Some, length};
 ghost use Rattle.rubis_shadow.specs.Limits.{InLimits, IsAsk};
 ghost use Rattle.rubis_message.specs.Message.{sites_of};
 ghost use Rattle.rubis_model.specs.Log.{cores, fold_of};
 ghost use Rattle.rubis_model.specs.Runs.{listed, listing_rows};
 ghost use Rattle.rubis_model.specs.Site.{arrived, asked, opening_at, passed, took};
-ghost use Rattle.rubis_replica.specs.Progress.{BatchGoesOn, IsBatched, IsProgress, is_behind, resting_at};
+ghost use Rattle.rubis_replica.specs.Progress.{BatchGoesOn, IsAhead, IsBatched, IsProgress, is_behind, resting_at};
 ghost use Rattle.rubis_release.specs.Answers.{IsAdmitted};
+ghost use Rattle.rubis_replica.specs.Ahead.{TakesAhead};
+ghost use Rattle.rubis_replica.specs.Arrivals.{IsStop, TakesFirst};
 ghost use Rattle.rubis_replica.specs.Setup.{setup_place};
 ghost use Rattle.rubis_replica.specs.State.{AddsRows, AnswersAsTheStep, IsDecision, IsCutFault, IsReadFault, Lists, NeedsNoTables, TakesIn, WaitsBehind, pending, with_all_applied};
 
+use crate::arriving::{Ahead, Arrived, take_ahead};
 use crate::config::Config;
 use crate::faults::Fault;
 use crate::follower::Follower;
@@ -26,7 +29,7 @@ use std::sync::Wait;
 use std::thread::Threads;
 
 /// One site: what it has taken in, and its tables, which follow its log. Released shadows are pending until they are
-/// applied to the tables: as one batch where so many are pending, and before any decision or listing.
+/// applied to the tables: as one batch once at least `batch` are pending, and before any decision or listing.
 #[derive(Drop)]
 pub struct Site<G: Gate = Free> {
     intake: Intake,
@@ -47,15 +50,27 @@ impl<G: Gate> Model for Site<G> {
 }
 
 impl<G: Gate + Drop> Site<G> {
-    /// A site with nothing done, set up so. Where workers apply a batch, each calls the gate between its take of a shard and
-    /// its work on it. A batch of one message, every batch where one worker is set up, and those for which several aren't
-    /// worth their threads are applied on the caller's thread: there nothing is taken, and the gate isn't called.
+    /// A site with nothing done and this configuration. Whenever a batch is applied, the gate is called for each shard, by the
+    /// worker that takes it and before it folds the shard's part of the batch. The caller's thread is the only worker of a
+    /// batch of one message, where one worker is configured, and where several weren't worth their threads of late.
     pub fn new(alloc: Global, config: &Config, gate: G) -> Result<Site<G>, AllocError>
         ensures { IfOk result (λ site. site ≡ record { place = setup_place config.now; state = opening_at config.now.site; progress = resting_at 0; batch = config.now.batch }) }
     {
         Ok(Site {
-            intake: Intake::new(alloc, config.site(), config.sites(), config.keep())?,
-            follower: Follower::new(alloc, config.shards(), config.workers(), gate)?,
+            intake: Intake::hashed(
+                alloc,
+                config.site(),
+                config.sites(),
+                config.keep(),
+                config.hashes(),
+            )?,
+            follower: Follower::new(
+                alloc,
+                config.shards(),
+                config.hashes(),
+                config.workers(),
+                gate,
+            )?,
             batch: config.batch(),
             alloc,
         })
@@ -158,6 +173,59 @@ impl<G: Gate> Site<G> {
         Ok(arrival)
     }
 
+    /// Takes messages in that arrived from other sites, one after the other, each as `arrive` does. What is pending before is
+    /// applied, by the workers meanwhile; what is released by the messages is kept as the next batch, where all before it is
+    /// applied.
+    pub fn arrive_all<R: Threads + Wait + Sync>(
+        &mut self,
+        rt: &R,
+        messages: Vec<Message>,
+    ) -> Arrived
+        requires { All (λ m. sites_of m ≡ self.old.place.sites) messages.items }
+        ensures place { self.new.place ≡ self.old.place }
+        ensures batch { self.new.batch ≡ self.old.batch }
+        ensures waits { 0 < self.old.progress.left → (self.new ≡ self.old) × (result.answers ≡ []) × (result.rest ≡ messages.items) × (result.fault ≡ Some Fault.Behind) }
+        ensures first { TakesFirst self.old.place self.old.state self.new.state messages.items result.answers result.rest }
+        ensures none { IfNone result.fault (result.rest ≡ []) }
+        ensures fault { IfSome result.fault (IsStop self.old.progress.left result.rest) }
+        ensures progress { self.old.progress.left ≡ 0 → IsAhead self.old.state.log self.new.state.log self.old.progress self.new.progress }
+    {
+        if self.follower.is_behind() {
+            return Arrived {
+                answers: Items::new(self.alloc),
+                rest: messages.into(),
+                fault: Some(Fault::Behind),
+            };
+        }
+        let alloc = self.alloc;
+        let before = self.intake.log().len();
+        let shards = self.follower.shards();
+        let workers = self.follower.workers();
+        let pace = self.follower.pace();
+        let last = self.follower.follow_to_last(rt, self.intake.log());
+        let intake = self.intake.take();
+        let ahead = self.follower.follow_last(
+            rt,
+            last,
+            move || -> Ahead
+                requires sites { All (λ m. sites_of m ≡ intake.place.sites) messages.items }
+                requires shards { 0 < shards }
+                requires workers { 0 < workers }
+                ensures ahead { TakesAhead shards intake messages.items result }
+            { take_ahead(alloc, intake, messages, shards, workers, pace) },
+        );
+        let Ahead {
+            intake,
+            arrived,
+            shares,
+        } = ahead;
+        self.intake = intake;
+        if let Some(shares) = shares {
+            self.follower.keep(self.intake.log(), before, shares);
+        }
+        arrived
+    }
+
     /// Takes a token that arrived.
     pub fn token(&mut self, token: Token) -> Result<Taken, Fault>
         ensures place { self.new.place ≡ self.old.place }
@@ -224,6 +292,7 @@ impl<G: Gate> Site<G> {
             return Ok(list_log(self.alloc, sink, self.intake.log())?);
         }
         self.refresh(rt)?;
+        self.follower.link_rows(listing)?;
         Ok(self.add_rows(listing, sink)?)
     }
 
@@ -266,9 +335,12 @@ impl<G: Gate> Site<G> {
         ensures batch { self.new.batch ≡ self.old.batch }
         ensures state { self.new.state ≡ self.old.state }
         ensures ready { self.old.progress.left ≡ 0 → (result ≡ Ok 0) × (self.new ≡ self.old) }
-        ensures ok { IfOk result (λ parts. (parts ≡ self.old.progress.left) × (self.new.progress ≡ resting_at self.old.progress.upto)) }
+        ensures ok { 0 < self.old.progress.left → IfOk result (λ parts. (parts ≡ self.old.progress.left) × (self.new.progress ≡ resting_at self.old.progress.upto)) }
         ensures fault { IfErr result (λ fault. (fault ≡ Fault.Behind) × BatchGoesOn self.old.progress self.new.progress) }
     {
+        if !self.follower.is_behind() {
+            return Ok(0);
+        }
         let left = self.follower.left();
         if self.follower.finish(self.intake.log()).is_err() {
             return Err(Fault::Behind);

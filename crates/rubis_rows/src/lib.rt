@@ -1,12 +1,16 @@
-//! The tests that cross crates: a site's calls, tables and decisions, each call that takes memory, readers and writers
-//! that fail, and inputs that no line of text can write down. Whole conversations are no code: they lie in
+//! The tests that cross crates: a site's calls, tables and decisions, workers and their gate, each call that takes memory,
+//! readers and writers that fail, and inputs that no line of text can write down. Whole conversations are no code: they lie in
 //! `conversations/`.
 #![tactic(auto)]
 
 #[cfg(test)]
+mod arrivals;
+#[cfg(test)]
 mod calls;
 #[cfg(test)]
 mod failing;
+#[cfg(test)]
+mod gates;
 #[cfg(test)]
 mod inputs;
 #[cfg(test)]
@@ -19,5 +23,7 @@ mod records;
 mod sites;
 #[cfg(test)]
 mod tables;
+#[cfg(test)]
+mod threads;
 #[cfg(test)]
 mod transcripts;

@@ -1,111 +1,113 @@
-// Two workers that really work at once, in each call that applies a batch.
+// Workers that really work at once, in each call that applies a batch.
 
-ghost use Rattle.std.specs.Prelude.{◌≡◌, ◌<◌, ◌≤◌, IfOk};
+ghost use Rattle.std.specs.Prelude.{◌≡◌, ◌<◌, ◌≤◌, All, IfOk};
 ghost use Rattle.rubis_shadow.specs.Limits.{IsAsk};
+ghost use Rattle.rubis_message.specs.Message.{sites_of};
 
-use crate::records::{message, request};
-use rubis_message::{Arrival, Request};
+use crate::arrivals::{add_message, arrive_three, comment_behind};
+use crate::gates::{Halves, Holding, HoldsTwo, Meeting, Numbers, Waiting};
+use crate::records::request;
+use rubis_message::{Arrival, Message, Request};
 use rubis_pieces::split;
 use rubis_replica::{Config, Gate, Site};
 use rubis_schema::Listing;
 use rubis_script::{Count, run_site_upto};
 use rubis_shadow::Ask;
 use rubis_shard::{Shard, Tables};
-use rubis_workers::{Worked, apply_all};
+use rubis_workers::{Worked, apply_beside};
 use std::alloc::Global;
 use std::sync::Wait;
-use std::sync::atomic::{AtomicBool, AtomicU64, Ordering};
 use std::test::Fail;
-use std::thread;
 use std::thread::Threads;
 
-/// For how many loads of a flag the first worker waits for a second one.
-const TURNS: u64 = 50_000_000;
-
-/// Whether the first piece that was taken was held until another was taken.
-#[derive(Drop)]
-struct Meeting {
-    taken: AtomicU64,
-    second: AtomicBool,
-    met: AtomicBool,
-}
-
-impl Meeting {
-    fn new() -> Meeting {
-        Meeting {
-            taken: AtomicU64::new(0),
-            second: AtomicBool::new(false),
-            met: AtomicBool::new(false),
-        }
-    }
-
-    fn met(&self) -> bool {
-        self.met.load(Ordering::SeqCst)
-    }
-}
-
-/// Holds the first piece that is taken until another is taken.
-#[derive(Drop)]
-struct Holding<'a> {
-    meeting: &'a Meeting,
-}
-
-impl<'a> Gate for Holding<'a> {
-    fn taken(&self, _piece: usize) {
-        if self.meeting.taken.fetch_add(1, Ordering::SeqCst) > 0 {
-            self.meeting.second.store(true, Ordering::SeqCst);
-            return;
-        }
-        for _ in 0..TURNS {
-            if self.meeting.second.load(Ordering::SeqCst) {
-                self.meeting.met.store(true, Ordering::SeqCst);
-                return;
-            }
-            thread::yield_now();
-        }
-    }
-}
-
-// Applies a batch of no messages on so many shards, by so many workers.
-fn apply_none<'a, R: Threads + Wait + Sync>(
+// Applies an empty batch to `shards` shards with `workers` workers, while the caller's thread runs `beside`.
+fn apply_none_beside<G: Gate, R: Threads + Wait + Sync, A: Drop, F: FnOnce() -> A + Drop>(
     rt: &R,
     alloc: Global,
     shards: usize,
     workers: usize,
-    meeting: &'a Meeting,
+    gate: &G,
+    beside: F,
+) -> Result<(Worked, A), Fail>
+    requires shards { 0 < shards }
+    requires workers { (0 < workers) × (workers ≤ 16) }
+    requires beside { F.pre beside }
+{
+    let tables = Tables::new(alloc, shards)?;
+    let shares = split(alloc, &[], 1, shards)?;
+    let (worked, answer) = apply_beside(
+        rt,
+        alloc,
+        tables.into_shards(),
+        shares,
+        workers,
+        gate,
+        beside,
+    );
+    match worked {
+        Ok(worked) => Ok((worked, answer)),
+        Err(_) => Err(Fail::from("no room")),
+    }
+}
+
+// Applies an empty batch to `shards` shards with `workers` workers.
+fn apply_none<G: Gate, R: Threads + Wait + Sync>(
+    rt: &R,
+    alloc: Global,
+    shards: usize,
+    workers: usize,
+    gate: &G,
 ) -> Result<Worked, Fail>
     requires shards { 0 < shards }
     requires workers { (0 < workers) × (workers ≤ 16) }
 {
-    let tables = Tables::new(alloc, shards)?;
-    let shares = split(alloc, &[], 1, shards)?;
-    let gate = Holding { meeting };
-    match apply_all(rt, alloc, tables.into_shards(), shares, workers, &gate) {
-        Ok(worked) => Ok(worked),
-        Err(_) => Err(Fail::from("no room")),
-    }
+    let (worked, ()) = apply_none_beside(rt, alloc, shards, workers, gate, || ())?;
+    Ok(worked)
+}
+
+// Whether all of `shards` shards came back, in order of number, with no share left.
+fn are_whole(worked: &Worked, shards: usize) -> bool {
+    let numbers = worked.shards.as_slice().iter().map(Shard::number);
+    worked.left.is_empty() && numbers.eq(0..shards)
 }
 
 #[test]
 fn two_workers_meet(rt: HostRuntime) -> Result<(), Fail> {
     let meeting = Meeting::new();
-    let worked = apply_none(&rt, rt.alloc(), 2, 2, &meeting)?;
+    let gate = Holding { meeting: &meeting };
+    let worked = apply_none(&rt, rt.alloc(), 2, 2, &gate)?;
     assert!(rt; meeting.met());
-    assert_eq!(rt; meeting.taken.load(Ordering::SeqCst), 2);
-    assert_eq!(rt; worked.beside, 1);
-    assert!(rt; worked.left.is_empty());
-    let numbers = worked.shards.as_slice().iter().map(Shard::number);
-    assert!(rt; numbers.eq(0..2));
+    assert_eq!(rt; meeting.taken(), 2);
+    assert!(rt; are_whole(&worked, 2));
     Ok(())
 }
 
 #[test]
 fn sixteen_workers_take_each_shard_once(rt: HostRuntime) -> Result<(), Fail> {
-    let meeting = Meeting::new();
-    let worked = apply_none(&rt, rt.alloc(), 64, 16, &meeting)?;
-    assert_eq!(rt; meeting.taken.load(Ordering::SeqCst), 64);
-    let numbers = worked.shards.as_slice().iter().map(Shard::number);
-    assert!(rt; numbers.eq(0..64));
+    let gate = Numbers::new();
+    let worked = apply_none(&rt, rt.alloc(), 64, 16, &gate)?;
+    assert!(rt; gate.are_all_seen_once());
+    assert!(rt; are_whole(&worked, 64));
+    Ok(())
+}
+
+#[test]
+fn two_workers_take_no_third_piece(rt: HostRuntime) -> Result<(), Fail> {
+    let gate = HoldsTwo::new();
+    let worked = apply_none(&rt, rt.alloc(), 64, 2, &gate)?;
+    assert_eq!(rt; gate.held(), 2);
+    assert!(rt; are_whole(&worked, 64));
+    Ok(())
+}
+
+#[test]
+fn intake_meets_workers(rt: HostRuntime) -> Result<(), Fail> {
+    let halves = Halves::new();
+    let gate = Waiting { halves: &halves };
+    let (worked, met) = apply_none_beside(&rt, rt.alloc(), 2, 2, &gate, || halves.run())?;
+    assert!(rt; met);
+    assert!(rt; !halves.is_late());
+    assert!(rt; are_whole(&worked, 2));
     Ok(())
 }
 
@@ -119,34 +121,6 @@ fn site_that_meets<'a>(
 {
     let config = Config::new(1, 2, 2, 2, batch, 100).ok_or("a configuration")?;
     Ok(Site::new(alloc, &config, Holding { meeting })?)
-}
-
-// Takes in the message that is written so.
-fn arrive<G: Gate, R: Threads + Wait + Sync>(
-    rt: &R,
-    site: &mut Site<G>,
-    alloc: Global,
-    text: &str,
-) -> Result<Arrival, Fail>
-    requires { site.old.place.sites ≡ 2 }
-    ensures { site.new.place ≡ site.old.place }
-{
-    let message = message(alloc, text, 2)?;
-    Ok(site.arrive(rt, message)?)
-}
-
-// Takes in two users and an item.
-fn arrive_three<G: Gate, R: Threads + Wait + Sync>(
-    rt: &R,
-    site: &mut Site<G>,
-    alloc: Global,
-) -> Result<Arrival, Fail>
-    requires { site.old.place.sites ≡ 2 }
-    ensures { site.new.place ≡ site.old.place }
-{
-    arrive(rt, site, alloc, "msg,1,0,1,1,0:0,user,ann")?;
-    arrive(rt, site, alloc, "msg,1,0,2,2,1:0,user,bob")?;
-    arrive(rt, site, alloc, "msg,1,0,3,0,2:0,item,0.1,cup,9,3,50,80")
 }
 
 // The ask that is written so, among two sites.
@@ -201,6 +175,7 @@ fn two_workers_meet_in_the_third_arrival(rt: HostRuntime) -> Result<(), Fail> {
     Ok(())
 }
 
+// A message that waits for the one behind it, and a listing.
 const SAID: &str = "msg,1,0,2,2,1:0,user,bob\nmsg,1,0,1,1,0:0,user,ann\nlist,users\n";
 
 const HEARD: &str = "reply,1,held\nreply,2,released,2\nreply,3,rows,2\n\
@@ -220,45 +195,53 @@ fn two_workers_meet_in_a_run(rt: HostRuntime) -> Result<(), Fail> {
     Ok(())
 }
 
-/// Counts the pieces that are taken.
-#[derive(Drop)]
-struct Counting<'a> {
-    taken: &'a AtomicU64,
+#[test]
+fn two_workers_meet_in_arrivals(rt: HostRuntime) -> Result<(), Fail> {
+    let meeting = Meeting::new();
+    let mut site = site_that_meets(rt.alloc(), 64, &meeting)?;
+    arrive_three(&rt, &mut site, rt.alloc())?;
+    let arrived = site.arrive_all(&rt, Vec::new(rt.alloc()));
+    assert!(rt; arrived.fault.is_none());
+    assert!(rt; meeting.met());
+    Ok(())
 }
 
-impl<'a> Gate for Counting<'a> {
-    fn taken(&self, _piece: usize) {
-        self.taken.fetch_add(1, Ordering::SeqCst);
-    }
+// Two comments that follow the three messages that the site has.
+fn two_comments<G: Gate>(alloc: Global, site: &Site<G>) -> Result<Vec<Message>, Fail>
+    requires { site.now.place.sites ≡ 2 }
+    ensures { IfOk result (λ window. All (λ m. sites_of m ≡ site.now.place.sites) window.items) }
+{
+    let first = comment_behind(alloc, 3)?;
+    let second = comment_behind(alloc, 4)?;
+    let mut window = Vec::new(alloc);
+    add_message(alloc, site, &mut window, &first)?;
+    add_message(alloc, site, &mut window, &second)?;
+    Ok(window)
 }
 
-// Takes in three batches of three messages; how many pieces were taken after each.
-fn count_in_three_batches<G: Gate, R: Threads + Wait + Sync>(
+// Has three messages arrive, then a window of two while those are applied, and cuts. Returns the number of answers to the
+// window, and the number of messages that the cut applied.
+fn window_and_cut<G: Gate, R: Threads + Wait + Sync>(
     rt: &R,
     site: &mut Site<G>,
     alloc: Global,
-    taken: &AtomicU64,
-) -> Result<[u64; 3], Fail>
+) -> Result<(usize, u32), Fail>
     requires { site.old.place.sites ≡ 2 }
 {
     arrive_three(rt, site, alloc)?;
-    let first = taken.load(Ordering::SeqCst);
-    arrive(rt, site, alloc, "msg,1,0,4,0,3:0,comment,0.3,0.2,0.1,1,x")?;
-    arrive(rt, site, alloc, "msg,1,0,5,0,4:0,comment,0.3,0.2,0.1,1,x")?;
-    arrive(rt, site, alloc, "msg,1,0,6,0,5:0,comment,0.3,0.2,0.1,1,x")?;
-    let second = taken.load(Ordering::SeqCst);
-    arrive(rt, site, alloc, "msg,1,0,7,0,6:0,comment,0.3,0.2,0.1,1,x")?;
-    arrive(rt, site, alloc, "msg,1,0,8,0,7:0,comment,0.3,0.2,0.1,1,x")?;
-    arrive(rt, site, alloc, "msg,1,0,9,0,8:0,comment,0.3,0.2,0.1,1,x")?;
-    Ok([first, second, taken.load(Ordering::SeqCst)])
+    let window = two_comments(alloc, site)?;
+    let arrived = site.arrive_all(rt, window);
+    let pending = site.cut(rt)?;
+    Ok((arrived.answers.len(), pending))
 }
 
 #[test]
-fn a_batch_too_small_for_threads_has_the_next_one_done_alone(rt: HostRuntime) -> Result<(), Fail> {
-    let taken = AtomicU64::new(0);
-    let config = Config::new(1, 2, 2, 2, 3, 100).ok_or("a configuration")?;
-    let mut site = Site::new(rt.alloc(), &config, Counting { taken: &taken })?;
-    let counts = count_in_three_batches(&rt, &mut site, rt.alloc(), &taken)?;
-    assert_eq!(rt; counts, [2, 2, 4]);
+fn two_workers_meet_while_a_window_arrives(rt: HostRuntime) -> Result<(), Fail> {
+    let meeting = Meeting::new();
+    let mut site = site_that_meets(rt.alloc(), 64, &meeting)?;
+    let counts = window_and_cut(&rt, &mut site, rt.alloc())?;
+    assert_eq!(rt; counts, (2, 2));
+    assert!(rt; meeting.met());
+    assert_eq!(rt; meeting.taken(), 4);
     Ok(())
 }

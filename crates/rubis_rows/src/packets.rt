@@ -1,11 +1,13 @@
 // Messages that arrive at a site.
 
-ghost use Rattle.std.specs.Prelude.{◌≡◌, IfOk};
+ghost use Rattle.std.specs.Prelude.{◌≡◌, All, IfOk};
+ghost use Rattle.rubis_message.specs.Message.{sites_of};
 
+use crate::arrivals::{ANN, BOB, CUP, add_message, arrive};
 use crate::records::message;
-use rubis_message::Arrival;
-use rubis_replica::{Config, Free, Site};
-use rubis_schema::Nick;
+use rubis_message::{Arrival, Message};
+use rubis_replica::{Arrived, Config, Free, Site};
+use rubis_schema::{Nick, Refusal};
 use rubis_shadow::Ask;
 use std::alloc::{AllocError, Global};
 use std::process::Abort;
@@ -15,32 +17,12 @@ use std::thread::Threads;
 
 const ONE: Arrival = Arrival::Released(1);
 
-const ANN: &str = "msg,1,0,1,1,0:0,user,ann";
-
-const BOB: &str = "msg,1,0,2,2,1:0,user,bob";
-
-const CUP: &str = "msg,1,0,3,0,2:0,item,0.1,cup,9,3,50,80";
-
-// Site 1 of 2, which keeps so many messages.
+// Site 1 of 2, which keeps `keep` messages.
 fn second_of_two(alloc: Global, keep: u32) -> Result<Site, Fail>
     ensures { IfOk result (λ site. site.place.sites ≡ 2) }
 {
     let config = Config::new(1, 2, 4, 2, 64, keep).ok_or("a configuration")?;
     Ok(Site::new(alloc, &config, Free)?)
-}
-
-// Takes in the message that is written so.
-fn arrive<R: Threads + Wait + Sync>(
-    rt: &R,
-    site: &mut Site,
-    alloc: Global,
-    text: &str,
-) -> Result<Arrival, Fail>
-    requires { site.old.place.sites ≡ 2 }
-    ensures { site.new.place ≡ site.old.place }
-{
-    let message = message(alloc, text, 2)?;
-    Ok(site.arrive(rt, message)?)
 }
 
 // Takes in two users and an item, each of which is released.
@@ -70,6 +52,51 @@ fn three_messages_are_cut_at_once(rt: HostRuntime) -> Result<(), Fail> {
     let mut site = second_of_two(rt.alloc(), 1_000_000)?;
     release_three(&rt, &mut site, rt.alloc())?;
     assert_eq!(rt; cut_twice(&rt, &mut site)?, (3, 0, 0));
+    Ok(())
+}
+
+const CAT: &str = "msg,1,0,3,3,2:0,user,cat";
+
+// Messages for the site: bob, ann, cat, and ann again.
+fn four_users(alloc: Global, site: &Site) -> Result<Vec<Message>, Fail>
+    requires { site.now.place.sites ≡ 2 }
+    ensures { IfOk result (λ window. All (λ m. sites_of m ≡ site.now.place.sites) window.items) }
+{
+    let mut window = Vec::new(alloc);
+    add_message(alloc, site, &mut window, BOB)?;
+    add_message(alloc, site, &mut window, ANN)?;
+    add_message(alloc, site, &mut window, CAT)?;
+    add_message(alloc, site, &mut window, ANN)?;
+    Ok(window)
+}
+
+// Has the four arrive as one window, and cuts. Returns what became of them, and the number of messages that the cut applied.
+fn take_four_and_cut<R: Threads + Wait + Sync>(
+    rt: &R,
+    site: &mut Site,
+    alloc: Global,
+) -> Result<(Arrived, u32), Fail>
+    requires { site.old.place.sites ≡ 2 }
+{
+    let window = four_users(alloc, site)?;
+    let arrived = site.arrive_all(rt, window);
+    let pending = site.cut(rt)?;
+    Ok((arrived, pending))
+}
+
+#[test]
+fn four_messages_arrive_together_where_two_are_kept(rt: HostRuntime) -> Result<(), Fail> {
+    let mut site = second_of_two(rt.alloc(), 2)?;
+    let (arrived, pending) = take_four_and_cut(&rt, &mut site, rt.alloc())?;
+    let answers = [
+        Ok(Arrival::Held),
+        Ok(Arrival::Released(2)),
+        Err(Refusal::Full),
+        Ok(Arrival::Repeat),
+    ];
+    assert!(rt; arrived.answers.as_slice() == answers.as_slice());
+    assert!(rt; arrived.rest.is_empty() && arrived.fault.is_none());
+    assert_eq!(rt; pending, 2);
     Ok(())
 }
 

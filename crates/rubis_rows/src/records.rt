@@ -18,7 +18,7 @@ fn record(alloc: Global, text: &str) -> Result<Fields, AllocError> {
     Ok(fields)
 }
 
-/// The message that is written so, to a site among so many.
+/// The message written as `text`, to one of `sites` sites.
 pub fn message(alloc: Global, text: &str, sites: u8) -> Result<Message, Fail>
     requires { sites ≤ 16 }
     ensures { IfOk result (λ message. sites_of message ≡ sites) }
@@ -29,7 +29,7 @@ pub fn message(alloc: Global, text: &str, sites: u8) -> Result<Message, Fail>
     }
 }
 
-/// The request that is written so, to a site among so many.
+/// The request written as `text`, to one of `sites` sites.
 pub fn request(alloc: Global, text: &str, sites: u8) -> Result<Request, Fail>
     ensures { IfOk result (IsRequest sites) }
 {

@@ -66,11 +66,11 @@ fn a_listing_has_a_row_for_each_user(rt: HostRuntime) -> Result<(), Fail> {
 
 #[test]
 fn configurations_at_their_limits(rt: HostRuntime) {
-    assert!(rt; Config::new(7, 8, 64, 16, 65_536, 1_000_000).is_some());
+    assert!(rt; Config::new(15, 16, 64, 16, 65_536, 1_000_000).is_some());
     for (site, sites, shards, workers, batch, keep) in [
         (1, 1, 1, 1, 1, 1),
         (0, 0, 1, 1, 1, 1),
-        (0, 9, 1, 1, 1, 1),
+        (0, 17, 1, 1, 1, 1),
         (0, 1, 0, 1, 1, 1),
         (0, 1, 65, 1, 1, 1),
         (0, 1, 1, 0, 1, 1),

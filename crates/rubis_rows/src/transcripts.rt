@@ -15,8 +15,8 @@ pub(crate) struct Talk {
     pub heard: String,
 }
 
-// Adds a line.
-fn add_line(text: &mut String, line: &str) -> Result<(), AllocError> {
+/// Adds a line.
+pub(crate) fn add_line(text: &mut String, line: &str) -> Result<(), AllocError> {
     text.push_str(line)?;
     text.push_str("\n")
 }
@@ -34,12 +34,12 @@ pub(crate) fn take_apart(alloc: Global, transcript: &str) -> Result<Talk, AllocE
     Ok(Talk { said, heard })
 }
 
-/// A site of so many, with all else as the program has it where no option says otherwise.
+/// The configuration of `site`, one of `sites`, with the program's defaults for everything else.
 pub(crate) fn usual<R: Abort>(rt: &R, site: u8, sites: u8) -> Config {
     Config::new(site, sites, 4, 2, 64, 1_000_000).expect(rt, "a configuration")
 }
 
-/// Runs a site on an input, which must end well, after so many records, with this output.
+/// Runs a site on `input`. The run must succeed after `records` records, with the output `want`.
 pub(crate) fn run_whole<R: Abort + AllocGlobal + Threads + Wait + Sync>(
     rt: &R,
     config: &Config,

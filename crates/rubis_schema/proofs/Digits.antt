@@ -2,9 +2,11 @@
 use Rattle.std.proofs.Common.{◌≡◌, ◌≤◌, ◌<◌, ◌+◌, ◌*◌, ◌-◌, ◌^◌, ℕ, zero, suc, true, false, ◌&&◌, ◌⊎◌, inl, inr, List, [], ◌∷◌, length, get_or, drop, decimal, refl, ap, sym, ◌∙◌, arith, rules, tests, add-one}
 use Rattle.std.specs.Str.{all_ascii_digits}
 use Rattle.std.specs.Char.{is_ascii_digit}
+use Rattle.std.proofs.Math.Nat.{pow-le-pow_right}
 use Rattle.std.proofs.Math.Seq.{drop-cons}
 use Rattle.std.proofs.Math.ListN.{drop_of_length-le}
 use Rattle.std.proofs.lemmas.Bool.{false≢true}
+use Rattle.std.proofs.lemmas.Grind.{pow_more}
 use Rattle.std.proofs.lemmas.Fmt.{decimal_nonempty, first_decimal, decimal_digit, digits_decimal, digits_value-decimal, decimal-digits_value}
 use Rattle.std.proofs.lemmas.Str.Parse.{IsNumeralModel, numerals_by_fold}
 
@@ -88,3 +90,10 @@ read_all bytes at number some lone fits past h =
     let all = ends_with bytes at number past h in
     let whole = decimal-digits_value own bytes all.1 some lone (omega (arith, all.0, fits)) in
     sym whole ∙ ap decimal (sym all.0)
+
+-- nineteen digits fit
+pub one_more_fits : (number at digit : ℕ) → number < 10 ^ at → at < 19 → digit ≤ 9 → (number * 10 + digit < 10 ^ (at + 1)) × (number * 10 + digit < 2 ^ 64)
+one_more_fits number at digit small short one =
+    let up = pow_more 10 at in
+    let top : 10 ^ at ≤ 10 ^ 18 = pow-le-pow_right {n = 10} (omega arith) {i = at} {j = 18} (omega arith) in
+    (omega (arith, up, small, one), omega (arith, small, top, one))

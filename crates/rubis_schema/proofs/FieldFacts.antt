@@ -1,10 +1,10 @@
 -- How the pieces of a buffer follow its ends.
-use Rattle.std.proofs.Common.{◌≡◌, ◌≤◌, ◌<◌, ◌-◌, ◌+◌, ◌∙◌, ℕ, zero, suc, Some, get_or, List, [], ◌∷◌, ◌++◌, take, drop, length, refl, ap, arith}
+use Rattle.std.proofs.Common.{◌≡◌, ◌≤◌, ◌<◌, ◌-◌, ◌+◌, ◌∙◌, ℕ, zero, suc, Some, get_or, List, [], ◌∷◌, ◌++◌, take, drop, length, refl, ap, sym, arith, length-append}
 use Rattle.std.proofs.lemmas.Grind.{flat_map-append}
 use Rattle.std.proofs.lemmas.List.{append-nil, drop-append-le, length-drop, take-append-le, take_all}
 use Rattle.std.proofs.Math.Seq.{drop-append-add}
 use Rattle.std.specs.List.{slice_get}
-use Rattle.rubis_schema.specs.FieldList.{Fills, comma, joined, pieces}
+use Rattle.rubis_schema.specs.FieldList.{Fills, IsLaidOut, comma, joined, pieces}
 
 -- one piece for each end
 pub pieces-length : (before : ℕ) (ends bytes : List ℕ) → length (pieces before ends bytes) ≡ length ends
@@ -51,3 +51,16 @@ piece-within before (end ∷ ends) size (suc i) h lt = piece-within end ends siz
 -- the fields with one more, each with a comma before it
 pub joined-push : (fields : List (List ℕ)) (field : List ℕ) → joined (fields ++ field ∷ []) ≡ joined fields ++ comma ∷ field
 joined-push fields field = flat_map-append (λ f. comma ∷ f) fields (field ∷ []) ∙ ap (λ t. joined fields ++ comma ∷ t) (append-nil field)
+
+-- a buffer with one more field is laid out, and has its pieces
+pub laid-push : (ends bytes field : List ℕ) (more : ℕ) → IsLaidOut ends bytes → more ≡ length bytes + 1 + length field
+    → IsLaidOut (ends ++ more ∷ []) (bytes ++ comma ∷ field) × (pieces 0 (ends ++ more ∷ []) (bytes ++ comma ∷ field) ≡ pieces 0 ends bytes ++ field ∷ [])
+laid-push ends bytes field more laid size =
+    let parts = pieces-push 0 ends bytes field more laid.fills size in
+    let all : length (bytes ++ comma ∷ field) ≡ more = omega (arith, size, length-append bytes (comma ∷ field)) in (
+      record {
+        fills = rw all (fills-push 0 ends (length bytes) more laid.fills (omega (arith, size)));
+        commas = rw parts (ap (λ t. t ++ comma ∷ field) laid.commas ∙ sym (joined-push (pieces 0 ends bytes) field));
+      },
+      parts,
+    )

@@ -6,3 +6,5 @@ pub mod IdTexts
 pub mod Digits
 pub mod FieldLaws
 pub mod PlainTexts
+pub mod Words
+pub mod NumberTexts

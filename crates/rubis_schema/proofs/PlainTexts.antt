@@ -1,12 +1,12 @@
 -- Numbers and ids call for no quotes.
-use Rattle.std.proofs.Common.{◌≡◌, ◌∙◌, ◌<◌, ◌^◌, ◌||◌, ℕ, true, false, ap, arith, decimal, refl}
+use Rattle.std.proofs.Common.{◌≡◌, ◌∙◌, ◌<◌, ◌^◌, ◌||◌, ◌++◌, ◌∷◌, ℕ, true, false, List, [], ap, arith, decimal, refl}
 use Rattle.std.specs.Prelude.{not}
 use Rattle.std.specs.Int.{IsInRange}
 use Rattle.std.specs.List.{list_any}
 use Rattle.std.proofs.lemmas.Bool.{ne_eqb, not-true}
 use Rattle.std.proofs.lemmas.List.Elements.{All-from_get_or}
-use Rattle.std.proofs.lemmas.List.Folds.{list_any-append, list_any_none}
-use Rattle.rubis_schema.specs.FieldList.{comma, is_mark, is_plain}
+use Rattle.std.proofs.lemmas.List.Folds.{list_all-append, list_any-append, list_any_none}
+use Rattle.rubis_schema.specs.FieldList.{all_plain, comma, is_mark, is_plain}
 use Rattle.rubis_schema.specs.Ids.{id_text}
 use Rattle.rubis_schema.specs.declared.ids.Id.{Id}
 use Rattle.rubis_schema.proofs.Decimals.{decimal_at}
@@ -23,3 +23,10 @@ decimal_plain n h = ap not (unmarked n h)
 
 pub id_plain : (id : Id) → is_plain (decimal id.site) ≡ true → is_plain (decimal id.seq) ≡ true → is_plain (id_text id) ≡ true
 id_plain id site seq = ap not (list_any-append is_mark (decimal id.site) _ ∙ (λ i. not-true _ site i || not-true _ seq i))
+
+pub pair_plain : (first second : ℕ) → first < 2 ^ 64 → second < 2 ^ 64 → is_plain (decimal first ++ 46 ∷ decimal second) ≡ true
+pair_plain first second a b = ap not (list_any-append is_mark (decimal first) _ ∙ (λ i. not-true _ (decimal_plain first a) i || not-true _ (decimal_plain second b) i))
+
+-- one more field that calls for no quotes
+pub plain_more : (fields : List (List ℕ)) (field : List ℕ) → all_plain fields ≡ true → is_plain field ≡ true → all_plain (fields ++ field ∷ []) ≡ true
+plain_more fields field all one = rw (list_all-append is_plain fields (field ∷ []), all, one) refl

@@ -26,7 +26,7 @@ number_of high field = only_if (nat_le (digits_value 10 field) high && bytes_eq 
 abbrev pub cut_at : ℕ → List ℕ → Option (List ℕ × List ℕ)
 cut_at mark field = option_map (λ place. (take place field, drop (place + 1) field)) (position (λ b. b == mark) field)
 
--- an id of one of so many sites: its site and its number, with a point between
+-- an id whose site is below `sites`: its site and its number, separated by a point
 unfoldable pub id_of : ℕ → List ℕ → Option Id
 id_of sites field = do
   parts ← cut_at 46 field

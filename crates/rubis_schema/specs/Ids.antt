@@ -3,7 +3,7 @@ use Rattle.std.specs.Prelude.{ℕ, ◌<◌, ◌≤◌, ◌+◌, ℤ, pos, negsuc
 use Rattle.rubis_schema.specs.declared.ids.Id.{Id}
 use Rattle.rubis_schema.specs.declared.limits.TheConstants.{SEQ_MAX}
 
--- an id of one of so many sites
+-- a valid id when there are `sites` sites
 pub record IsId (sites : ℕ) (id : Id) : Type 0 where
   pub site : id.site < sites
   pub positive : 1 ≤ id.seq

@@ -28,7 +28,7 @@ key_order = on key_code (slice_cmp nat_cmp)
 abbrev pub tied : RowKey → RowKey → Bool
 tied = eq_by_cmp key_order
 
--- the home shard of a key, of so many shards
+-- the home shard of a key, among `shards` shards
 unfoldable pub home : ℕ → RowKey → ℕ
 home shards (User i) = (0 * 7 + i.site * 31 + i.seq) % shards
 home shards (Item i) = (1 * 7 + i.site * 31 + i.seq) % shards

@@ -7,3 +7,6 @@ pub mod Refusals
 pub mod Tables
 pub mod FieldList
 pub mod Lending
+pub mod IdKeys
+pub mod IdKeyLaws
+pub mod KeyHashes

@@ -1,10 +1,12 @@
 // One record: a list of fields, each of any bytes.
 
-ghost use Rattle.std.specs.Prelude.{◌≡◌, ◌==◌, ◌<◌, ◌≤◌, ◌+◌, ◌++◌, ◌∷◌, [], IfOk, IfSome, OnErr, OnOk, get_or, length, option_map, slice_get, true};
+ghost use Rattle.std.specs.Prelude.{◌≡◌, ◌==◌, ◌<◌, ◌≤◌, ◌+◌, ◌++◌, ◌∷◌, [], IfOk, IfSome, OnErr, OnOk, decimal, get_or, length, option_map, slice_get, true};
 ghost use Rattle.std.specs.Vec.{vec_capacity, vec_len};
 ghost use Rattle.rubis_schema.specs.FieldList.{IsLaidOut, all_plain, joined, pieces};
 ghost use Rattle.rubis_schema.specs.FieldList as model;
 
+use crate::limits::{NUMBER_TEXT_MAX, NUMBERS_TEXT_MAX};
+use crate::number_texts::{push_digits, push_numbers};
 use std::alloc::{AllocError, Global};
 use std::marker::Model;
 
@@ -63,7 +65,7 @@ pub fn is_plain(field: &[u8]) -> bool
     true
 }
 
-// Makes room for so many more, which is mostly there.
+// Makes room for `more` further elements; usually the capacity is already there.
 #[inline(always)]
 fn make_room<T>(list: &mut Vec<T>, more: usize) -> Result<(), AllocError>
     ensures items { list.new.items ≡ list.old.items }
@@ -89,6 +91,43 @@ fn add(text: &mut Vec<u8>, ends: &mut Vec<usize>, field: &[u8]) -> Result<(), Al
     let Ok(()) = text.extend_from_slice(field) else {
         unreachable!()
     };
+    ends.push_reserved(text.len());
+    Ok(())
+}
+
+// Adds a number as a field at the end. Without memory for it nothing changes.
+#[inline(always)]
+fn add_number(text: &mut Vec<u8>, ends: &mut Vec<usize>, number: u64) -> Result<(), AllocError>
+    requires { IsLaidOut ends.old.items text.old.items }
+    ensures laid { OnOk result (IsLaidOut ends.new.items text.new.items) }
+    ensures ok { OnOk result (pieces 0 ends.new.items text.new.items ≡ pieces 0 ends.old.items text.old.items ++ decimal number ∷ []) }
+    ensures err { OnErr result ((ends.new.items ≡ ends.old.items) × (text.new.items ≡ text.old.items)) }
+{
+    make_room(ends, 1)?;
+    make_room(text, NUMBER_TEXT_MAX + 1)?;
+    text.push_reserved(b',');
+    push_digits(text, number);
+    ends.push_reserved(text.len());
+    Ok(())
+}
+
+// Adds two numbers with a point between them as a field at the end. Without memory for it nothing changes.
+#[inline(always)]
+fn add_numbers(
+    text: &mut Vec<u8>,
+    ends: &mut Vec<usize>,
+    first: u64,
+    second: u64,
+) -> Result<(), AllocError>
+    requires { IsLaidOut ends.old.items text.old.items }
+    ensures laid { OnOk result (IsLaidOut ends.new.items text.new.items) }
+    ensures ok { OnOk result (pieces 0 ends.new.items text.new.items ≡ pieces 0 ends.old.items text.old.items ++ (decimal first ++ 46 ∷ decimal second) ∷ []) }
+    ensures err { OnErr result ((ends.new.items ≡ ends.old.items) × (text.new.items ≡ text.old.items)) }
+{
+    make_room(ends, 1)?;
+    make_room(text, NUMBERS_TEXT_MAX + 1)?;
+    text.push_reserved(b',');
+    push_numbers(text, first, second);
     ends.push_reserved(text.len());
     Ok(())
 }
@@ -125,6 +164,24 @@ impl Fields {
         ensures err { OnErr result (self.new ≡ self.old) }
     {
         add(&mut self.text, &mut self.ends, field)
+    }
+
+    /// Adds a number as a field at the end. Without memory for it the record stays as it was.
+    pub fn push_number(&mut self, number: u64) -> Result<(), AllocError>
+        ensures ok { OnOk result (self.new ≡ self.old ++ decimal number ∷ []) }
+        ensures err { OnErr result (self.new ≡ self.old) }
+    {
+        add_number(&mut self.text, &mut self.ends, number)?;
+        Ok(())
+    }
+
+    /// Adds two numbers with a point between them as a field at the end. Without memory for it the record stays as it was.
+    pub fn push_numbers(&mut self, first: u64, second: u64) -> Result<(), AllocError>
+        ensures ok { OnOk result (self.new ≡ self.old ++ (decimal first ++ 46 ∷ decimal second) ∷ []) }
+        ensures err { OnErr result (self.new ≡ self.old) }
+    {
+        add_numbers(&mut self.text, &mut self.ends, first, second)?;
+        Ok(())
     }
 
     /// Adds a field of a record that is read, and so not to be written, at the end: it isn't looked at. Without memory for it the

@@ -30,7 +30,7 @@ fn id_sum(table: u64, id: Id) -> u64
     table * 7 + u64::from(id.site) * 31 + u64::from(id.seq)
 }
 
-/// The home shard of a key, of so many shards.
+/// The home shard of a key, among `shards` shards.
 #[tactic(auto, unfolding(crate::specs::Keys::home))]
 #[inline(always)]
 pub fn shard_of(key: &RowKey, shards: usize) -> usize

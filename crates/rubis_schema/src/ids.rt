@@ -9,16 +9,33 @@ use crate::numbers::read_number;
 use crate::short_texts::ShortText;
 use crate::splits::split_once;
 use std::alloc::{AllocError, Global};
+use std::hash::{Hash, Hasher};
 
 /// The id of a shadow, and of the row that it inserts: the site that made it, and its number there, from 1.
-#[derive(Clone, Copy, PartialEq, Eq, PartialOrd, Ord, Hash, Debug)]
+#[derive(Clone, Copy, PartialEq, Eq, PartialOrd, Ord, Debug)]
 pub struct Id {
     pub site: u8,
     pub seq: u32,
 }
 
+impl Hash for Id {
+    ghost use Rattle.std.specs.Hash.{same_Alike};
+    ghost use Rattle.std.specs.Hash as fed;
+    ghost use Rattle.rubis_schema.specs.IdKeys.{id_word};
+    ghost use Rattle.rubis_schema.specs.KeyLaws.{Decides-same_id};
+
+    ghost hash_input = { λ i. fed.u64 (id_word i) };
+
+    ghost respects_eq = { (same_Alike (λ i. fed.u64 (id_word i)) Decides-same_id).fed };
+
+    #[inline(always)]
+    fn hash<H: Hasher>(&self, state: &mut H) {
+        state.write_u64(u64::from(self.site) * (1 << 32) + u64::from(self.seq));
+    }
+}
+
 impl Id {
-    /// The id of one of so many sites that is written so.
+    /// Parses an id whose site is below `sites`. `None` if `bytes` isn't one.
     #[tactic(auto, unfolding(crate::specs::FieldForms::id_of))]
     pub fn read(bytes: &[u8], sites: u8) -> Option<Id>
         ensures { result ≡ id_of sites bytes.now }
@@ -58,6 +75,6 @@ impl Id {
         ensures ok { OnOk result (fields.new ≡ fields.old ++ id_text self.now ∷ []) }
         ensures err { OnErr result (fields.new ≡ fields.old) }
     {
-        fields.push_plain(self.text().as_bytes())
+        fields.push_numbers(u64::from(self.site), u64::from(self.seq))
     }
 }

@@ -5,12 +5,15 @@
 mod boxed;
 mod field_list;
 mod homes;
+mod id_keys;
 mod ids;
+mod key_hashes;
 mod laws;
 mod limits;
 mod listings;
 mod lists;
 mod nicks;
+mod number_texts;
 mod numbers;
 mod records;
 mod refusals;
@@ -25,16 +28,19 @@ mod views;
 pub use boxed::Boxed;
 pub use field_list::{Fields, is_plain};
 pub use homes::shard_of;
+pub use id_keys::{IdKey, IdTable};
 pub use ids::Id;
+pub use key_hashes::{Hashes, KeyHasher, KeyHashes, NickHashes};
 pub use laws::fields_have_one_reading;
 pub use limits::{
     AMOUNT_MAX, BATCH_MAX, CAT_MAX, CATEGORIES, COUNT_MAX, COUNTED_MAX, COUNTS_TEXT_MAX, KEEP_MAX,
-    NAME_MAX, NICK_MAX, PASS_MAX, QUANTITY_MAX, RATING_MAX, RECORDS_MAX, SEQ_MAX, SHARDS_MAX,
-    SITES_MAX, TEXT_MAX, TURN_MAX, WORKERS_MAX,
+    NAME_MAX, NICK_MAX, NUMBER_TEXT_MAX, PASS_MAX, QUANTITY_MAX, RATING_MAX, RECORDS_MAX, SEQ_MAX,
+    SHARDS_MAX, SITES_MAX, TEXT_MAX, TURN_MAX, WORKERS_MAX,
 };
 pub use listings::Listing;
 pub use lists::Items;
 pub use nicks::Nick;
+pub use number_texts::push_digits;
 pub use numbers::{push_int, push_number, read_number, read_rating};
 pub use records::Record;
 pub use refusals::Refusal;

@@ -1,10 +1,10 @@
 // Every limit of the records, of the tables and of a run, once.
 
 /// The most sites.
-pub const SITES_MAX: u8 = 8;
+pub const SITES_MAX: u8 = 16;
 
 /// The most sites that a message counts.
-pub const COUNTED_MAX: usize = 16;
+pub const COUNTED_MAX: usize = SITES_MAX as usize;
 
 /// The most shards of the tables.
 pub const SHARDS_MAX: u8 = 64;
@@ -56,6 +56,12 @@ pub const NAME_MAX: usize = 64;
 
 /// The most bytes of a comment's text.
 pub const TEXT_MAX: usize = 200;
+
+/// The most digits of a number of 64 bits.
+pub const NUMBER_TEXT_MAX: usize = 20;
+
+/// The most bytes of two such numbers with a point between them.
+pub const NUMBERS_TEXT_MAX: usize = 41;
 
 /// The most bytes of an id as it is written: ten digits, a mark and ten digits.
 pub const ID_TEXT_MAX: usize = 21;

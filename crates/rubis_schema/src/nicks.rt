@@ -5,6 +5,7 @@ ghost use Rattle.rubis_schema.specs.Texts.{IsNick, is_nick, is_nick_byte, is_sma
 
 use crate::limits::NICK_MAX;
 use std::cmp::Ordering;
+use std::hash::{Hash, Hasher};
 use std::marker::Model;
 
 /// A nickname: 1 to 20 of `a-z`, `0-9` and `_`, the first a letter. Contracts see its bytes, by which nicknames are
@@ -104,6 +105,20 @@ impl Eq for Nick {
     ghost use Rattle.std.specs.Cmp.Lexicographic.{nat_list_eq_equiv};
 
     ghost laws = { nat_list_eq_equiv };
+}
+
+impl Hash for Nick {
+    ghost use Rattle.std.specs.Prelude.{[], ◌∷◌};
+    ghost use Rattle.std.specs.Hash.{same_Alike};
+    ghost use Rattle.std.specs.Cmp.Lexicographic.{bytes_decides};
+
+    ghost hash_input = { λ n. n ∷ [] };
+
+    ghost respects_eq = { (same_Alike (λ n. n ∷ []) bytes_decides).fed };
+
+    fn hash<H: Hasher>(&self, state: &mut H) {
+        state.write(self.as_bytes());
+    }
 }
 
 impl PartialOrd for Nick {

@@ -16,12 +16,13 @@ fn has_leading_zero(bytes: &[u8]) -> bool
     bytes.len() > 1 && bytes[0] == b'0'
 }
 
-/// The number up to `max` that is written so, without leading zeros.
-pub fn read_number(bytes: &[u8], max: u64) -> Option<u64>
+// The number up to `max` that is written so by more than 19 digits: it may be too great for its type.
+fn read_long_number(bytes: &[u8], max: u64) -> Option<u64>
+    requires { 19 < length bytes.now }
     ensures value { result ≡ number_of max bytes.now }
     ensures small { IfSome result (λ n. n ≤ max) }
 {
-    if bytes.is_empty() || has_leading_zero(bytes) {
+    if has_leading_zero(bytes) {
         return None;
     }
     let mut number: u64 = 0;
@@ -31,6 +32,28 @@ pub fn read_number(bytes: &[u8], max: u64) -> Option<u64>
         }
         let digit = u64::from(*byte - b'0');
         number = number.checked_mul(10)?.checked_add(digit)?;
+    }
+    if number <= max { Some(number) } else { None }
+}
+
+/// The number up to `max` that is written so, without leading zeros.
+#[inline(always)]
+pub fn read_number(bytes: &[u8], max: u64) -> Option<u64>
+    ensures value { result ≡ number_of max bytes.now }
+    ensures small { IfSome result (λ n. n ≤ max) }
+{
+    if bytes.len() > 19 {
+        return read_long_number(bytes, max);
+    }
+    if bytes.is_empty() || has_leading_zero(bytes) {
+        return None;
+    }
+    let mut number: u64 = 0;
+    for byte in bytes {
+        if *byte < b'0' || *byte > b'9' {
+            return None;
+        }
+        number = number * 10 + u64::from(*byte - b'0');
     }
     if number <= max { Some(number) } else { None }
 }
@@ -62,17 +85,11 @@ pub fn read_rating(bytes: &[u8]) -> Option<i8>
 }
 
 /// Adds a number as a field. Without memory for it the record stays as it was.
-#[tactic(auto, using(crate::proofs::PlainTexts::decimal_plain, std::proofs::lemmas::Fmt::decimal_digit))]
 pub fn push_number(fields: &mut Fields, number: u64) -> Result<(), AllocError>
     ensures ok { OnOk result (fields.new ≡ fields.old ++ decimal number ∷ []) }
     ensures err { OnErr result (fields.new ≡ fields.old) }
 {
-    if number < 10 {
-        // Most numbers have one digit.
-        return fields.push_plain(&[b'0' + number as u8]);
-    }
-    let mut digits = Buffer::new();
-    fields.push_plain(digits.format(number).as_bytes())
+    fields.push_number(number)
 }
 
 /// Adds a number, with `-` in front where it is below 0, as a field. Without memory for it the record stays as it was.

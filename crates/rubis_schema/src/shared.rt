@@ -5,8 +5,8 @@ use std::marker::Model;
 use std::ops::Deref;
 use std::sync::Arc;
 
-/// A value that nothing changes, in memory of its own. A copy is one more owner of that memory, so it takes none; it is
-/// refused only where so many owners can't be counted. Contracts see the value.
+/// An immutable value in its own allocation. A clone is one more owner of that allocation, so it allocates nothing; it
+/// fails only if the owner count is at its limit. Contracts see the value.
 #[derive(Drop, Debug)]
 pub struct Shared<T> {
     inner: Arc<T>,

@@ -5,3 +5,6 @@ pub mod RunFacts
 pub mod TextFacts
 pub mod SiteAnswers
 pub mod OneReading
+pub mod ReadBack
+pub mod WindowFacts
+pub mod ReplayFacts

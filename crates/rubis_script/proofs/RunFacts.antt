@@ -1,13 +1,13 @@
 -- How a run goes on.
 use Rattle.std.proofs.Common.{◌≡◌, ◌≤◌, ◌<◌, ◌+◌, ◌∷◌, [], ◌++◌, ◌∙◌, ℕ, List, length, take, Option, Bool, true, false, sym, refl, ap, subst, arith, append_assoc, length-append}
-use Rattle.std.specs.Prelude.{IfNone, IfOk, IfSome, IsErr, IsErrAnd, IsErrOf, OnOk, None, Some, Result, Ok, Err}
+use Rattle.std.specs.Prelude.{IfNone, IfOk, IfSome, IsErr, IsErrAnd, IsErrOf, OnOk, None, Some, Result, Ok, Err, is_some}
 use Rattle.std.proofs.lemmas.List.{append-nil}
 use Rattle.std.proofs.Math.Seq.{take-append_seam}
 use Rattle.std.specs.Io.KnownBytes.{Appends}
 use Rattle.rubis_script.specs.declared.record_list.Records.{Records}
 use Rattle.rubis_script.specs.declared.service.Course.TheVariants.{GoesOn, Ends}
 use Rattle.csv.proofs.WriteFacts.{appends-more, appends-none}
-use Rattle.rubis_script.specs.Accounts.{Account, AnswersRecord}
+use Rattle.rubis_script.specs.Accounts.{Account, AnswersRecord, Keeps}
 use Rattle.rubis_script.specs.Accounts.Ending.{AtEnd, Cut}
 use Rattle.rubis_script.specs.Reading.{Advances, Gives, fields_now}
 use Rattle.rubis_script.specs.Text.{input_records}
@@ -67,6 +67,22 @@ progress-drained rem a all more more2 old now now2 sink n input p d = record {
   counted = λ m. p.counted m ∙ ap (λ k. length p.done + k) (d.counted m);
 }
 
+-- something was written or came to be held, and the text stays what it was
+pub progress-kept : {R : Type 0} (rem : R → Option (List ℕ)) (a : Records R) (all more more2 : Account)
+    (old now : Option (List ℕ)) (sink sink2 : List ℕ) (n : ℕ) (input : List ℕ)
+    → HasComeSoFar rem a all more old now sink n input → Keeps more more2 sink sink2 → HasComeSoFar rem a all more2 old now sink2 n input
+progress-kept rem a all more more2 old now sink sink2 n input p keeps = record {
+  done = p.done;
+  rest = p.rest;
+  front = p.front;
+  parts = p.parts;
+  count = p.count;
+  gives = p.gives;
+  appended = p.appended;
+  told = λ e m. p.told e m ∙ ap (λ t. p.front ++ t) ((keeps m).0 e);
+  counted = λ m. p.counted m ∙ ap (λ k. length p.done + k) (keeps m).1;
+}
+
 -- the input ends
 pub progress-end : {R : Type 0} (rem : R → Option (List ℕ)) (a b : Records R) (all more : Account)
     (old now now2 : Option (List ℕ)) (sink : List ℕ) (n k limit : ℕ) (input : List ℕ)
@@ -121,12 +137,20 @@ progress-cut rem a all more old now n k input p none e =
 -- there is another record, and no more are taken
 pub progress-too_long : {R : Type 0} (rem : R → Option (List ℕ)) (a b : Records R) (all more : Account)
     (old now : Option (List ℕ)) (n k : ℕ) (input : List ℕ)
-    → HasComeSoFar rem a all more old now [] n input → more.text Cut [] ≡ [] → more.read [] ≡ 0 → n ≡ k + 1 → k < length (input_records input)
+    → HasComeSoFar rem a all more old now [] n input → more.text Cut [] ≡ []
+    → ((fields : List (List ℕ)) (rest : List (List (List ℕ))) → 0 < more.read (fields ∷ rest)) → n ≡ k + 1 → k < length (input_records input)
     → IsTooLong all k old now (input_records input)
-progress-too_long rem a b all more old now n k input p none zero e next =
-    let read : all.read (take k (input_records input)) ≡ length p.done + more.read [] = ap all.read (before-next rem a all more old now [] n k input e p) ∙ p.counted [] in
+progress-too_long rem a b all more old now n k input p none some e next =
     let count = p.count in
-    (progress-cut rem a all more old now n k input p none e, next, omega (arith, read, zero, count, e))
+    let whole : length (input_records input) ≡ length p.done + length p.rest = ap length p.parts ∙ length-append p.done p.rest in
+    let left : 0 < length p.rest = omega (arith, whole, count, e, next) in
+    let read : all.read (input_records input) ≡ length p.done + more.read p.rest = ap all.read p.parts ∙ p.counted p.rest in
+    let more_read : 0 < more.read p.rest = at p.rest left in
+    (progress-cut rem a all more old now n k input p none e, next, omega (arith, read, more_read, count, e))
+  where
+    at : (rest : List (List (List ℕ))) → 0 < length rest → 0 < more.read rest
+    at [] l = absurd (omega (arith, l))
+    at (fields ∷ rest) l = some fields rest
 
 -- there is another record
 pub progress-more : {R : Type 0} (rem : R → Option (List ℕ)) (a b : Records R) (all more : Account)
@@ -168,6 +192,12 @@ pub if_ok_so : {T E : Type 0} (P Q : T → Type 0) (r : Result T E) → ((x : T)
 if_ok_so P Q (Ok v) f p = f v p
 if_ok_so P Q (Err e) f p = tt
 
+-- what follows from what is so of what was found
+pub if_ended : {A E : Type 0} (P Q : A → Type 0) (r : Result (Option A) E) → ((x : A) → P x → Q x) → IfOk r (λ o. IfSome o P) → IfOk r (λ o. IfSome o Q)
+if_ended P Q (Ok (Some x)) f p = f x p
+if_ended P Q (Ok None) f p = tt
+if_ended P Q (Err e) f p = tt
+
 -- the same front, where nothing more was written
 pub progress-stays : {R : Type 0} (rem : R → Option (List ℕ)) (a : Records R) (all more : Account)
     (old now now2 : Option (List ℕ)) (sink : List ℕ) (n : ℕ) (input : List ℕ)
@@ -188,6 +218,11 @@ if_none (Some x) h e = absurd cc
 pub if_some : {A : Type 0} (P : A → Type 0) (o : Option A) (x : A) → IfSome o P → o ≡ Some x → P x
 if_some P None x h e = absurd cc
 if_some P (Some y) x h e = let same : y ≡ x = cc in subst P same h
+
+-- what holds where there is nothing, where none was found
+pub if_not_some : {A P : Type 0} (o : Option A) → IfNone o P → is_some o ≡ false → P
+if_not_some None h e = h
+if_not_some (Some x) h e = absurd cc
 
 -- nothing was written and nothing answered
 pub progress-moved : {R : Type 0} (rem : R → Option (List ℕ)) (a : Records R) (all more more2 : Account)

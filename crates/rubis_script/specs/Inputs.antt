@@ -1,6 +1,11 @@
 -- What a record is to a site, and what the site answers to it.
-use Rattle.std.specs.Prelude.{◌≡◌, ◌++◌, ℕ, List, Result, Ok, Err}
+use Rattle.std.specs.Prelude.{◌≡◌, ◌++◌, ℕ, List, None, Result, Some, Ok, Err}
 use Rattle.rubis_schema.specs.declared.refusals.Refusal.{Refusal}
+use Rattle.rubis_message.specs.Grammar.{IsPacket, packet_record}
+use Rattle.rubis_message.specs.Readings.{packet_of}
+use Rattle.rubis_message.specs.declared.faults.ReadFault.{ReadFault}
+use Rattle.rubis_message.specs.declared.faults.ReadFault.TheVariants.{BadRecord}
+use Rattle.rubis_message.specs.declared.tokens.Packet.{Packet}
 use Rattle.rubis_model.specs.Runs.{Input as Meant, input_step}
 use Rattle.rubis_replica.specs.State.{SiteState}
 use Rattle.rubis_replica.specs.declared.faults.Fault.{Fault}
@@ -18,3 +23,8 @@ abbrev pub answer_of : {A : Type 0} → Result A Fault → Result (Result A Refu
 answer_of (Ok a) = Ok (Ok a)
 answer_of (Err (Refused r)) = Ok (Err r)
 answer_of (Err fault) = Err (record {})
+
+-- what a record was read as: the packet that it is, or that it is none
+abbrev pub IsReadOf : ℕ → List (List ℕ) → Result Packet ReadFault → Type 0
+IsReadOf sites fields (Ok packet) = IsPacket sites packet × (fields ≡ packet_record packet) × (packet_of sites fields ≡ Some packet)
+IsReadOf sites fields (Err fault) = fault ≡ BadRecord → packet_of sites fields ≡ None

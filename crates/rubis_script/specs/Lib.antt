@@ -7,3 +7,5 @@ pub mod Inputs
 pub mod Replies
 pub mod SiteRuns
 pub mod Adding
+pub mod Windows
+pub mod Replays

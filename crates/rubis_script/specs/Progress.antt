@@ -36,19 +36,23 @@ abbrev pub InEachRun : {R : Type 0} → (R → Option (List ℕ)) → Records R 
 InEachRun rem records more now sink number holds = (all : Account) (old : Option (List ℕ)) (input : List ℕ)
     → HasComeSoFar rem records all more old now sink number input → holds all old input
 
+-- of every reader that has come to this one this holds
+abbrev pub BeforeEach : {R : Type 0} → (R → Option (List ℕ)) → Records R → (Records R → Type 0) → Type 0
+BeforeEach {R} rem now holds = (before : Records R) → holds before
+
 -- the run is done: the text of all records was written, and as many were read as there are to read, at most `limit`
 abbrev pub IsDone : Account → ℕ → Option (List ℕ) → Option (List ℕ) → List (List (List ℕ)) → ℕ → Type 0
 IsDone all limit old now records count = Appends old now (all.text AtEnd records) × (count ≡ all.read records) × (count ≤ limit)
 
--- there are more records than `limit`, and the first `limit` of them don't end the run: their text was written
+-- there are more records than `limit`, and the first `limit` of them don't end the run, since more would be read: their text
+-- was written
 abbrev pub IsTooLong : Account → ℕ → Option (List ℕ) → Option (List ℕ) → List (List (List ℕ)) → Type 0
-IsTooLong all limit old now records =
-    Appends old now (all.text Cut (take limit records)) × (limit < length records) × (all.read (take limit records) ≡ limit)
+IsTooLong all limit old now records = Appends old now (all.text Cut (take limit records)) × (limit < length records) × (limit < all.read records)
 
 -- the run was cut short: the text of some first records was written
 abbrev pub IsCut : Account → Option (List ℕ) → Option (List ℕ) → List (List (List ℕ)) → Type 0
 IsCut all old now records = (k : ℕ) × Appends old now (all.text Cut (take k records))
 
--- what was written is the front of the text of all records
+-- what was written is a prefix of the text of all records
 abbrev pub WroteFront : (List (List (List ℕ)) → List ℕ) → Option (List ℕ) → Option (List ℕ) → List (List (List ℕ)) → Type 0
 WroteFront all old now records = (front back : List ℕ) × Appends old now front × (front ++ back ≡ all records)

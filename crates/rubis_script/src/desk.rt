@@ -1,6 +1,7 @@
 // A site as a service: a record in, its answers out.
 
-ghost use Rattle.std.specs.Prelude.{◌≡◌, ◌≤◌, IfOk, None, OnOk, refl};
+ghost use Rattle.std.proofs.Common.{rules};
+ghost use Rattle.std.specs.Prelude.{◌≡◌, ◌≤◌, ◌<◌, ◌+◌, ◌++◌, ◌∷◌, ◌^◌, [], IfOk, None, OnOk, length, refl};
 ghost use Rattle.rubis_shadow.specs.Limits.{IsAsk};
 ghost use Rattle.rubis_message.specs.Grammar.{IsPacket, IsRequest};
 ghost use Rattle.rubis_message.specs.Message.{sites_of};
@@ -11,13 +12,17 @@ ghost use Rattle.rubis_model.specs.Runs.Input.{Asked, Came};
 ghost use Rattle.rubis_message.specs.Readings.{packet_of};
 ghost use Rattle.rubis_model.specs.Site.{opening_at};
 ghost use Rattle.rubis_replica.specs.Setup.{setup_place};
-ghost use Rattle.rubis_script.specs.Inputs.{IsAnswered, answer_of};
+ghost use Rattle.rubis_script.specs.Accounts.{AnswersRecord, Keeps};
+ghost use Rattle.rubis_script.specs.Inputs.{IsAnswered, IsReadOf, answer_of};
 ghost use Rattle.rubis_script.specs.SiteRuns.{told_by};
+ghost use Rattle.rubis_script.specs.Windows.{AreHeld, held_by};
+ghost use Rattle.rubis_script.specs.declared.service.Course.TheVariants as Course;
 
 use crate::fault::OutOfMemory;
 use crate::input_record::InputRecord;
 use crate::replies::{
-    write_arrival, write_listed_text, write_passed, write_refusal, write_sent, write_taken,
+    write_arrival, write_arrivals, write_listed_text, write_passed, write_refusal, write_sent,
+    write_taken,
 };
 use crate::service::Service;
 use crate::sink::Sink;
@@ -27,6 +32,7 @@ use rubis_replica::{Config, Fault, Free, Gate, Site};
 use rubis_schema::{Fields, Listing, Refusal};
 use rubis_shadow::Ask;
 use std::alloc::{AllocError, Global};
+use std::mem;
 use std::sync::Wait;
 use std::thread::Threads;
 
@@ -178,12 +184,34 @@ fn answer_packet<G: Gate, R: Threads + Wait + Sync>(
     }
 }
 
+// Holds one more message.
+fn hold(window: &mut Vec<Message>, message: Message) -> Result<(), OutOfMemory>
+    ensures { OnOk result (window.new.items ≡ window.old.items ++ message ∷ []) }
+{
+    match window.push(message) {
+        Ok(()) => Ok(()),
+        Err(_) => Err(OutOfMemory),
+    }
+}
+
+// How many messages are taken in together: as many as a batch has, where workers apply the batch before meanwhile. With one
+// worker each is taken in as it comes, since nobody would work meanwhile.
+fn window_of(config: &Config) -> usize {
+    if config.workers() > 1 {
+        config.batch() as usize
+    } else {
+        1
+    }
+}
+
 /// A site with what it needs to read records and to write its answers.
 #[derive(Drop)]
 pub struct Desk<G: Gate = Free> {
     pub site: Site<G>,
     sites: u8,
     reply: Fields,
+    // How many messages are taken in together.
+    window: usize,
     alloc: Global,
     ghost same: { sites ≡ site.place.sites },
     ghost few: { sites ≤ 16 },
@@ -198,6 +226,7 @@ impl<G: Gate + Drop> Desk<G> {
             site: Site::new(alloc, config, gate)?,
             sites: config.sites(),
             reply: Fields::new(alloc),
+            window: window_of(config),
             alloc,
         })
     }
@@ -229,9 +258,33 @@ impl<G: Gate> Desk<G> {
         }
     }
 
-    /// Answers the record with this number. No record is both a request and a packet, and most records of a busy site are
-    /// packets.
+    // Answers the record with this number, of which it is known whether it is a packet. No record is both a request and a
+    // packet, and most records of a busy site are packets.
     #[tactic(auto, using(crate::proofs::OneReading::came))]
+    #[inline(always)]
+    fn respond_to<R: Threads + Wait + Sync>(
+        &mut self,
+        rt: &R,
+        number: u64,
+        fields: &InputRecord,
+        read: Result<Packet, ReadFault>,
+        sink: &mut Sink,
+    ) -> Result<(), OutOfMemory>
+        requires { IsReadOf self.old.site.place.sites fields.now read }
+        ensures place { self.new.site.place ≡ self.old.site.place }
+        ensures answered { OnOk result (IsAnswered number (input_of self.old.site.place.sites fields.now) self.old.site self.new.site sink.old sink.new) }
+    {
+        match read {
+            Ok(packet) => {
+                let reply = &mut self.reply;
+                answer_packet(rt, &mut self.site, reply, sink, number, packet)
+            }
+            Err(ReadFault::BadRecord) => self.respond_to_request(rt, number, fields, sink),
+            Err(ReadFault::Memory) => Err(OutOfMemory),
+        }
+    }
+
+    /// Answers the record with this number.
     pub fn respond<R: Threads + Wait + Sync>(
         &mut self,
         rt: &R,
@@ -242,13 +295,81 @@ impl<G: Gate> Desk<G> {
         ensures place { self.new.site.place ≡ self.old.site.place }
         ensures answered { OnOk result (IsAnswered number (input_of self.old.site.place.sites fields.now) self.old.site self.new.site sink.old sink.new) }
     {
+        let read = read_packet(self.alloc, fields, self.sites);
+        self.respond_to(rt, number, fields, read, sink)
+    }
+
+    // Whether one more message is held before these are taken in. It decides when messages are taken in, and not what is answered.
+    pub(crate) fn has_room(&self, window: &Vec<Message>) -> bool {
+        window.len() < self.window
+    }
+
+    // Takes in the messages that are held, the last of the records so far, and answers them, if there are any.
+    #[inline(always)]
+    pub(crate) fn flush<R: Threads + Wait + Sync>(
+        &mut self,
+        rt: &R,
+        answered: u64,
+        window: &mut Vec<Message>,
+        sink: &mut Sink,
+    ) -> Result<(), OutOfMemory>
+        requires held { AreHeld self.old.site.place window.old.items answered }
+        ensures place { self.new.site.place ≡ self.old.site.place }
+        ensures empty { window.new.items ≡ [] }
+        ensures flushed { OnOk result (Keeps (held_by self.old.site window.old.items (answered + 1)) (told_by self.new.site (answered + 1)) sink.old sink.new) }
+    {
+        if window.is_empty() {
+            return Ok(());
+        }
+        self.take_in(rt, answered, window, sink)
+    }
+
+    // Takes in the messages that are held, the last of the records so far, and answers them.
+    #[inline(never)]
+    fn take_in<R: Threads + Wait + Sync>(
+        &mut self,
+        rt: &R,
+        answered: u64,
+        window: &mut Vec<Message>,
+        sink: &mut Sink,
+    ) -> Result<(), OutOfMemory>
+        requires held { AreHeld self.old.site.place window.old.items answered }
+        requires some { 0 < length window.old.items }
+        ensures place { self.new.site.place ≡ self.old.site.place }
+        ensures empty { window.new.items ≡ [] }
+        ensures flushed { OnOk result (Keeps (held_by self.old.site window.old.items (answered + 1)) (told_by self.new.site (answered + 1)) sink.old sink.new) }
+    {
+        let first = answered - window.len() as u64 + 1;
+        let messages = mem::replace(window, Vec::new(self.alloc));
+        let arrived = self.site.arrive_all(rt, messages);
+        write_arrivals(&mut self.reply, sink, first, arrived.answers.as_slice())?;
+        if arrived.fault.is_some() {
+            return Err(OutOfMemory);
+        }
+        Ok(())
+    }
+
+    // Holds the next record, if it is a message and messages are held at all; otherwise takes in those that are held, and
+    // answers it.
+    pub(crate) fn take<R: Threads + Wait + Sync>(
+        &mut self,
+        rt: &R,
+        answered: u64,
+        fields: &InputRecord,
+        window: &mut Vec<Message>,
+        sink: &mut Sink,
+    ) -> Result<(), OutOfMemory>
+        requires held { AreHeld self.old.site.place window.old.items answered }
+        requires room { answered + 1 < 2 ^ 64 }
+        ensures held { OnOk result (AreHeld self.new.site.place window.new.items (answered + 1)) }
+        ensures goes { OnOk result (AnswersRecord Course.GoesOn (held_by self.old.site window.old.items (answered + 1)) (held_by self.new.site window.new.items (answered + 1 + 1)) sink.old sink.new fields.now) }
+    {
         match read_packet(self.alloc, fields, self.sites) {
-            Ok(packet) => {
-                let reply = &mut self.reply;
-                answer_packet(rt, &mut self.site, reply, sink, number, packet)
+            Ok(Packet::Msg(message)) if self.window > 1 => hold(window, message),
+            read => {
+                self.flush(rt, answered, window, sink)?;
+                self.respond_to(rt, answered + 1, fields, read, sink)
             }
-            Err(ReadFault::BadRecord) => self.respond_to_request(rt, number, fields, sink),
-            Err(ReadFault::Memory) => Err(OutOfMemory),
         }
     }
 }
@@ -257,6 +378,8 @@ impl<G: Gate, T> Service<T> for Desk<G> {
     ghost account = { λ s n. told_by s.site n };
 
     ghost reads_none = { λ s n. refl };
+
+    ghost reads_next = { Prim.search rules };
 
     fn settle(&mut self, _rt: &T, _sink: &mut Sink) -> Result<(), OutOfMemory> {
         Ok(())

@@ -9,7 +9,7 @@ use csv::{Writer, WriterBuilder};
 use rubis_schema::{Boxed, Fields};
 use std::alloc::{AllocError, Global};
 
-// With so many bytes of text a writer isn't used again.
+// A writer that holds at least this many bytes of text isn't used again.
 const MUCH: usize = 65_536;
 
 // Goes on with a row by one field.

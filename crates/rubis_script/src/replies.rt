@@ -1,12 +1,13 @@
 // The records that answer a record.
 
-ghost use Rattle.std.specs.Prelude.{◌≡◌, ◌∷◌, ◌++◌, [], ℕ, List, Ok, OnOk, codes, decimal, true};
+ghost use Rattle.std.specs.Prelude.{◌≡◌, ◌≤◌, ◌∷◌, ◌+◌, ◌++◌, ◌^◌, [], ℕ, List, Ok, OnOk, codes, decimal, length, true};
 ghost use Rattle.rubis_message.specs.declared.answers.Arrival.TheVariants.{Released};
 ghost use Rattle.rubis_schema.specs.FieldList.{is_plain};
 ghost use Rattle.rubis_schema.specs.Ids.{id_text};
 ghost use Rattle.rubis_model.specs.Answers.{arrived_rows, asked_rows, listed_rows, passed_rows, refused_row, reply, took_rows};
 ghost use Rattle.rubis_script.specs.Replies.{HasRows};
 ghost use Rattle.rubis_script.specs.Text.{rows_text};
+ghost use Rattle.rubis_script.specs.Windows.{arrivals_rows};
 
 use crate::sink::Sink;
 use rubis_listing::{Counted, RowSink};
@@ -145,6 +146,22 @@ pub fn write_arrival<S: RowSink>(
         Ok(Arrival::Repeat) => write_word(fields, sink, number, b"repeat"),
         Err(refusal) => write_refusal(fields, sink, number, *refusal),
     }
+}
+
+/// Says what became of messages that arrived together, the first of which is the record with that number.
+pub(crate) fn write_arrivals(
+    fields: &mut Fields,
+    sink: &mut Sink,
+    first: u64,
+    answers: &[Result<Arrival, Refusal>],
+) -> Result<(), AllocError>
+    requires { first + length answers.now ≤ 2 ^ 64 }
+    ensures { OnOk result (sink.new ≡ sink.old ++ rows_text (arrivals_rows first answers.now)) }
+{
+    for (at, answer) in answers.iter().enumerate() {
+        write_arrival(fields, sink, first + at as u64, answer)?;
+    }
+    Ok(())
 }
 
 /// Says what became of a token that arrived, or why it is refused.

@@ -1,10 +1,10 @@
 // The run from bytes to bytes.
 
-ghost use Rattle.std.specs.Prelude.{◌≡◌, ◌<◌, ◌+◌, ◌++◌, ◌^◌, ◌⊎◌, [], ℕ, List, Option, IfErr, IfNone, IfOk, IfSome, IsErrOf, OnOk, MatchOption, true};
+ghost use Rattle.std.specs.Prelude.{◌≡◌, ◌<◌, ◌+◌, ◌++◌, ◌^◌, ◌⊎◌, [], ℕ, List, Option, IfErr, IfNone, IfOk, IfSome, IsErrOf, OnOk, MatchOption, false, true};
 ghost use Rattle.std.specs.Io.KnownBytes.{Appends};
 ghost use Rattle.rubis_script.specs.Accounts.{Account};
 ghost use Rattle.rubis_script.specs.Accounts.Ending.{AtEnd, Cut};
-ghost use Rattle.rubis_script.specs.Progress.{Drained, HasComeSoFar, InEachRun, IsCut, IsDone, IsTooLong, WroteFront};
+ghost use Rattle.rubis_script.specs.Progress.{BeforeEach, Drained, HasComeSoFar, InEachRun, IsCut, IsDone, IsTooLong, WroteFront};
 ghost use Rattle.rubis_script.specs.Reading.{Advances, Gives};
 ghost use Rattle.rubis_script.specs.Text.{input_records};
 
@@ -70,8 +70,45 @@ pub fn write_out<T, S: Service<T>, R: Read, W: Write>(
     Ok(())
 }
 
-/// Reads the next record, behind so many that were answered. Where there is none the rest of the text is written: the
-/// answer says then how many records were read, and is `None` where one was found.
+/// Ends a run behind `answered` records, where no other was found: writes the rest of the text, and returns how many records
+/// were read, or the fault with which the next one was to be read.
+pub(crate) fn end_run<T, S: Service<T>, R: Read, W: Write>(
+    rt: &T,
+    records: &Records<R>,
+    service: &mut S,
+    sink: &mut Sink,
+    writer: &mut W,
+    answered: u64,
+    found: Result<(), RunFault>,
+) -> Result<Option<Count>, RunFault>
+    requires { IfErr found (λ e. (e ≡ RunFault.Read) ⊎ (e ≡ RunFault.Memory)) }
+    ensures ends { IfOk result (λ over. IfNone over ⊥) }
+    ensures fails { IfErr found (λ fault. IfOk result (λ over. ⊥)) }
+    ensures done { IfOk result (λ over. IfSome over (λ count. BeforeEach R.remaining records.now (λ before. Advances R.remaining before records.now false
+        → InEachRun R.remaining before (S.account service.old (answered + 1)) (W.contents writer.old) sink.old (answered + 1) (λ all old input.
+        IsDone all answered old (W.contents writer.new) (input_records input) count.records)))) }
+    ensures read { IsErrOf result RunFault.Read → BeforeEach R.remaining records.now (λ before.
+        InEachRun R.remaining before (S.account service.old (answered + 1)) (W.contents writer.old) sink.old (answered + 1) (λ all old input.
+        IsCut all old (W.contents writer.new) (input_records input))) }
+    ensures memory { IsErrOf result RunFault.Memory → BeforeEach R.remaining records.now (λ before.
+        InEachRun R.remaining before (S.account service.old (answered + 1)) (W.contents writer.old) sink.old (answered + 1) (λ all old input.
+        WroteFront (all.text AtEnd) old (W.contents writer.new) (input_records input))) }
+    ensures faults { IfErr result (λ e. (e ≡ RunFault.Read) ⊎ (e ≡ RunFault.Write) ⊎ (e ≡ RunFault.Memory)) }
+{
+    match found {
+        Ok(()) => {
+            finish(rt, service, sink, writer)?;
+            Ok(Some(Count { records: answered }))
+        }
+        Err(fault) => {
+            settle(rt, service, sink, writer)?;
+            Err(fault)
+        }
+    }
+}
+
+/// Reads the next record, after `answered` that were answered. `None` if there is one. Otherwise writes the rest of the
+/// text and returns how many records were read.
 pub fn next_record<T, S: Service<T>, R: Read, W: Write>(
     rt: &T,
     records: &mut Records<R>,
@@ -92,18 +129,12 @@ pub fn next_record<T, S: Service<T>, R: Read, W: Write>(
 {
     match records.advance() {
         Ok(true) => Ok(None),
-        Ok(false) => {
-            finish(rt, service, sink, writer)?;
-            Ok(Some(Count { records: answered }))
-        }
-        Err(fault) => {
-            settle(rt, service, sink, writer)?;
-            Err(fault)
-        }
+        Ok(false) => end_run(rt, records, service, sink, writer, answered, Ok(())),
+        Err(fault) => end_run(rt, records, service, sink, writer, answered, Err(fault)),
     }
 }
 
-/// Ends a run behind so many records that were answered, which is as many as it takes: well where there are no more.
+/// Ends a run that has answered `answered` records, the most it takes: with success if there are no more.
 pub fn stop<T, S: Service<T>, R: Read, W: Write>(
     rt: &T,
     records: &mut Records<R>,
@@ -128,8 +159,7 @@ pub fn stop<T, S: Service<T>, R: Read, W: Write>(
     Ok(count)
 }
 
-/// Answers the record behind so many, if there is one. `None` where the run goes on, and else how many records were
-/// read.
+/// Answers record `answered + 1`, if there is one. `None` if the run goes on, otherwise how many records were read.
 fn turn<T, S: Answering<T>, R: Read, W: Write>(
     rt: &T,
     records: &mut Records<R>,
@@ -197,9 +227,9 @@ fn serve<T, S: Answering<T>, R: Read, W: Write>(
 ///
 /// # Errors
 ///
-/// `Read` where the reader failed: the first records are answered then, as if there were no more. `Write` where the
-/// writer failed. `Memory` where there was not enough: what was written is the front of the whole text. `TooLong`
-/// where the input has more than `limit` records and none of the first `limit` ends the run: these are answered then.
+/// `Read` if the reader failed: the first records are answered then, as if there were no more. `Write` if the writer
+/// failed. `Memory` if memory ran out: what was written is a prefix of the whole text. `TooLong` if the input has more
+/// than `limit` records and none of the first `limit` ends the run: these are answered then.
 pub fn run_upto<T, S: Answering<T>, R: Read + Drop, W: Write>(
     rt: &T,
     alloc: Global,

@@ -1,6 +1,6 @@
 // What answers records.
 
-ghost use Rattle.std.specs.Prelude.{◌≡◌, ◌++◌, ◌+◌, [], ℕ, IfOk, OnOk};
+ghost use Rattle.std.specs.Prelude.{◌≡◌, ◌<◌, ◌++◌, ◌+◌, ◌∷◌, [], ℕ, List, IfOk, OnOk};
 ghost use Rattle.rubis_script.specs.Accounts.{Account, AnswersRecord, Keeps};
 ghost use Rattle.rubis_script.specs.Accounts.Ending.{AtEnd, Cut};
 
@@ -33,6 +33,9 @@ pub trait Service<T> {
 
     // Of no records none is read.
     ghost reads_none: { (s : Self) (number : ℕ) → (account s number).read [] ≡ 0 };
+
+    // Of some records at least one is read.
+    ghost reads_next: { (s : Self) (number : ℕ) (fields : List (List ℕ)) (more : List (List (List ℕ))) → 0 < (account s number).read (fields ∷ more) };
 }
 
 /// A service that `run_upto` asks for its answers. One whose work goes to other threads isn't one: a bound of a trait's

@@ -8,10 +8,10 @@ use Rattle.rubis_schema.specs.declared.rows.ItemRow.{ItemRow}
 use Rattle.rubis_schema.specs.declared.rows.Row.TheVariants as row
 use Rattle.rubis_schema.specs.declared.rows.Sale.TheVariants.{Open, Ended}
 use Rattle.rubis_schema.specs.declared.rows.UserRow.{UserRow}
-use Rattle.rubis_shadow.specs.Changes.{change_row, fits_as, int_up, misfits_as}
+use Rattle.rubis_shadow.specs.Changes.{change_row, fits_as, int_up, misfits_as, removed}
 use Rattle.rubis_shadow.specs.Parts.{key_of, parts, refers_of}
-use Rattle.rubis_shadow.specs.declared.changes.Change.TheVariants.{Insert, ItemListed, Rated, BidTaken, Sold, End}
-use Rattle.rubis_shadow.specs.declared.changes.MisfitKind.TheVariants.{RowThere, NoRow, ClosedItem, StockShort}
+use Rattle.rubis_shadow.specs.declared.changes.Change.TheVariants.{Insert, ItemListed, Rated, BidTaken, Sold, End, Restocked, NickFreed}
+use Rattle.rubis_shadow.specs.declared.changes.MisfitKind.TheVariants.{RowThere, NoRow, ClosedItem, StockShort, OtherUser}
 use Rattle.rubis_shadow.specs.declared.shadows.Shadow.TheVariants.{Buy, Close}
 
 abbrev id : ℕ → Id
@@ -74,6 +74,24 @@ rated : change_row (Rated (negsuc 4)) (Some (row.User (record ann { rating = pos
     ≡ fits_as (row.User (record ann { rating = negsuc 1; comments = 2 }))
 unfolding change_row
 rated = refl
+
+-- an ended item is restocked too
+restocked_after_the_end : change_row (Restocked 4) (Some (row.Item (record cups { sale = Ended None })))
+    ≡ fits_as (row.Item (record cups { stock = 7; sale = Ended None }))
+unfolding change_row
+restocked_after_the_end = refl
+
+nick_given_up : change_row (NickFreed (id 1)) (Some (row.Nick (id 1))) ≡ removed
+unfolding change_row
+nick_given_up = refl
+
+nick_of_another : change_row (NickFreed (id 2)) (Some (row.Nick (id 1))) ≡ misfits_as OtherUser (Some (row.Nick (id 1)))
+unfolding change_row
+nick_of_another = refl
+
+nick_of_nobody : change_row (NickFreed (id 2)) None ≡ misfits_as NoRow None
+unfolding change_row
+nick_of_nobody = refl
 
 -- ---- sums stop at the ends of their types
 

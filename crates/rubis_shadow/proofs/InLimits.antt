@@ -4,7 +4,7 @@ use Rattle.std.specs.Prelude.{Some, None, Option, IfSome, ⊤, nat_lt, nat_le}
 use Rattle.std.specs.FinMap as map
 use Rattle.rubis_schema.specs.declared.limits.TheConstants.{CATEGORIES}
 use Rattle.rubis_schema.specs.Ids.{IsId}
-use Rattle.rubis_schema.specs.Keys.{key_order, tied}
+use Rattle.rubis_schema.specs.Keys.{key_order, same_id, tied}
 use Rattle.rubis_schema.specs.KeyLaws.{key_total}
 use Rattle.rubis_schema.specs.Tables.{Tables}
 use Rattle.rubis_schema.specs.declared.ids.Id.{Id}
@@ -16,12 +16,12 @@ use Rattle.rubis_schema.specs.declared.rows.Best.{Best}
 use Rattle.rubis_schema.specs.declared.rows.Sale.{Sale}
 use Rattle.rubis_schema.specs.declared.rows.Sale.TheVariants.{Open, Ended}
 use Rattle.rubis_schema.specs.declared.rows.ItemRow.{ItemRow}
-use Rattle.rubis_shadow.specs.Changes.{Done, change_row, after_part, with_row, better, if_open, misfits_as}
+use Rattle.rubis_shadow.specs.Changes.{Done, change_row, after_part, with_row, better, if_open, misfits_as, removed}
 use Rattle.rubis_shadow.specs.Limits.{RowInLimits, AllInLimits, InLimits}
 use Rattle.rubis_shadow.specs.Parts.{parts}
 use Rattle.rubis_shadow.specs.Tables.{categories_from, new_category, opening}
 use Rattle.rubis_shadow.specs.declared.changes.Change.{Change}
-use Rattle.rubis_shadow.specs.declared.changes.Change.TheVariants.{Insert, ItemListed, Bought, Rated, CatListed, CatEnded, BidTaken, Sold, End}
+use Rattle.rubis_shadow.specs.declared.changes.Change.TheVariants.{Insert, ItemListed, Bought, Rated, CatListed, CatEnded, BidTaken, Sold, End, Restocked, Renamed, NickFreed}
 use Rattle.rubis_shadow.specs.declared.changes.Effect.{Effect}
 use Rattle.rubis_shadow.specs.declared.changes.MisfitKind.{MisfitKind}
 use Rattle.rubis_shadow.specs.declared.shadows.Shadow.{Shadow}
@@ -49,6 +49,10 @@ module _ (sites : ℕ) where
   stock_kept i true d h g = g
   stock_kept i false d h g = h
 
+  freed_kept : (b : Bool) (i : Id) → Kept (cond b removed (misfits_as MisfitKind.OtherUser (Some (row.Nick i)))).row
+  freed_kept true i = tt
+  freed_kept false i = tt
+
   change_kept : (c : Change) (o : Option Row) → ChangeInLimits sites c → Kept o → Kept (change_row c o).row
   unfolding change_row
   change_kept (Insert r) None g h = g
@@ -56,6 +60,9 @@ module _ (sites : ℕ) where
   change_kept (BidTaken b) (Some (row.Item i)) g h = open_kept i i.sale _ h (h.0, best_kept i.best b h.1 g)
   change_kept (Sold q) (Some (row.Item i)) g h = open_kept i i.sale _ h (stock_kept i (nat_le q i.stock) _ h h)
   change_kept (End w) (Some (row.Item i)) g h = open_kept i i.sale _ h h
+  change_kept (Restocked q) (Some (row.Item i)) g h = h
+  change_kept (Renamed n) (Some (row.User u)) g h = tt
+  change_kept (NickFreed u) (Some (row.Nick i)) g h = freed_kept (same_id u i) i
   change_kept ItemListed (Some (row.User u)) g h = tt
   change_kept (Bought q) (Some (row.User u)) g h = tt
   change_kept (Rated r) (Some (row.User u)) g h = tt
@@ -87,6 +94,8 @@ parts_in_limits sites id red (shadow.Bid b) i h = (tt, (i, tt))
 parts_in_limits sites id red (shadow.Buy p) i h = (tt, (tt, (tt, tt)))
 parts_in_limits sites id red (shadow.Close c) i h = (tt, (tt, tt))
 parts_in_limits sites id red (shadow.Comment c) i h = (tt, (tt, tt))
+parts_in_limits sites id red (shadow.Restock r) i h = (tt, tt)
+parts_in_limits sites id red (shadow.Rename r) i h = (tt, (tt, (tt, tt)))
 
 module _ (sites : ℕ) where
   empty_in_limits : AllInLimits sites map.empty

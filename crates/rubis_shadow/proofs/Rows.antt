@@ -39,12 +39,38 @@ tables_of_update es fs k v h = map.same_map key_total key_antisymmetric _ _ (λ 
     ∙ ap (cond (tied q k) (Some v)) (sym (get_tables_of es q))
     ∙ sym (map.get-insert key_total (tables_of es) k v q))
 
+-- entries that have nothing at k, and at each other key what es has
+pub tables_of_remove : (es fs : List (RowKey × Row)) (k : RowKey) → ((q : RowKey) → lookup (key_eq q) fs ≡ cond (key_eq k q) None (lookup (key_eq q) es)) → tables_of fs ≡ map.remove (tables_of es) k
+tables_of_remove es fs k h = map.same_map key_total key_antisymmetric _ _ (λ q.
+    get_tables_of fs q ∙ h q
+    ∙ ap (λ b. cond b None (lookup (key_eq q) es)) (key_eq_equiv.symm k q ∙ sym (tied-key_eq q k))
+    ∙ ap (cond (tied q k) None) (sym (get_tables_of es q))
+    ∙ sym (map.get-remove key_total (tables_of es) k q))
+
 -- a change in place of a row that is there
-pub after_alter : (t : Tables) (e : Effect) (old new : Row) → map.get t e.key ≡ Some old → (change_row e.change (Some old)).row ≡ Some new → map.insert t e.key new ≡ after_part t e
+pub after_alter : (t : Tables) (e : Effect) (old : Row) (new : Option Row) → map.get t e.key ≡ Some old → (change_row e.change (Some old)).row ≡ new → with_row t e.key new ≡ after_part t e
 after_alter t e old new g r = ap (with_row t e.key) (sym r ∙ ap (λ (o : Option Row). (change_row e.change o).row) (sym g))
 
 pub misfit_alter : (t : Tables) (e : Effect) (old : Row) (m : Option MisfitKind) → map.get t e.key ≡ Some old → (change_row e.change (Some old)).misfit ≡ m → m ≡ misfit_of t e
 misfit_alter t e old m g r = sym r ∙ ap (λ (o : Option Row). (change_row e.change o).misfit) (sym g)
+
+pub row_stays : (b : Bool) (row : Row) → b ≡ true → cond b (Some row) None ≡ Some row
+row_stays b row e = ap (λ c. cond c (Some row) None) e
+
+pub row_goes : (b : Bool) (row : Row) → b ≡ false → cond b (Some row) None ≡ None
+row_goes b row e = ap (λ c. cond c (Some row) None) e
+
+-- a row that was changed and then removed
+none_twice : (b : Bool) (row : Row) (o : Option Row) → cond b None (cond b (Some row) o) ≡ cond b None o
+none_twice true row o = refl
+none_twice false row o = refl
+
+pub remove_put : (t : Tables) (k : RowKey) (row : Row) → map.remove (map.insert t k row) k ≡ map.remove t k
+remove_put t k row = map.same_map key_total key_antisymmetric _ _ (λ q.
+    map.get-remove key_total (map.insert t k row) k q
+    ∙ ap (cond (eq_by_cmp key_order q k) None) (map.get-insert key_total t k row q)
+    ∙ none_twice (eq_by_cmp key_order q k) row (map.get t q)
+    ∙ sym (map.get-remove key_total t k q))
 
 -- no row is there
 pub after_none : (t : Tables) (e : Effect) (d : Done) → map.get t e.key ≡ None → change_row e.change None ≡ d → with_row t e.key d.row ≡ after_part t e

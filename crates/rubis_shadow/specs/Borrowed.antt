@@ -3,7 +3,7 @@ use Rattle.rubis_schema.specs.declared.rows.Row.TheVariants as row
 use Rattle.rubis_shadow.specs.declared.changes.Change.{Change}
 use Rattle.rubis_shadow.specs.declared.changes.Change.TheVariants as change
 use Rattle.rubis_shadow.specs.declared.parts.ChangeRef.{ChangeRef}
-use Rattle.rubis_shadow.specs.declared.parts.ChangeRef.TheVariants.{NewUser, NewNick, NewItem, NewBid, NewPurchase, NewComment, ItemListed, Bought, Rated, CatListed, CatEnded, BidTaken, Sold, End}
+use Rattle.rubis_shadow.specs.declared.parts.ChangeRef.TheVariants.{NewUser, NewNick, NewItem, NewBid, NewPurchase, NewComment, ItemListed, Bought, Rated, CatListed, CatEnded, BidTaken, Sold, End, Restocked, Renamed, NickFreed}
 use Rattle.rubis_shadow.specs.Parts.{new_item, new_user}
 
 abbrev pub change_of : ChangeRef → Change
@@ -21,3 +21,6 @@ change_of CatEnded = change.CatEnded
 change_of (BidTaken b) = change.BidTaken b
 change_of (Sold q) = change.Sold q
 change_of (End w) = change.End w
+change_of (Restocked q) = change.Restocked q
+change_of (Renamed n) = change.Renamed n
+change_of (NickFreed u) = change.NickFreed u

@@ -1,19 +1,20 @@
 -- What one part does: to the row of its key, and so to the tables.
 use Rattle.std.specs.Prelude.{Bool, true, false, ℕ, ◌+◌, ◌-◌, ◌^◌, min, ℤ, pos, negsuc, ◌+ℤ◌, cond, nat_lt, nat_le, Option, Some, None}
 use Rattle.std.specs.FinMap as map
+use Rattle.rubis_schema.specs.Keys.{same_id}
 use Rattle.rubis_schema.specs.Tables.{Tables}
 use Rattle.rubis_schema.specs.declared.row_keys.RowKey.{RowKey}
 use Rattle.rubis_schema.specs.declared.rows.Row.{Row}
-use Rattle.rubis_schema.specs.declared.rows.Row.TheVariants.{User, Item, Cat}
+use Rattle.rubis_schema.specs.declared.rows.Row.TheVariants.{User, Item, Nick, Cat}
 use Rattle.rubis_schema.specs.declared.rows.ItemRow.{ItemRow}
 use Rattle.rubis_schema.specs.declared.rows.Best.{Best}
 use Rattle.rubis_schema.specs.declared.rows.Sale.{Sale}
 use Rattle.rubis_schema.specs.declared.rows.Sale.TheVariants.{Open, Ended}
 use Rattle.rubis_shadow.specs.declared.changes.Change.{Change}
-use Rattle.rubis_shadow.specs.declared.changes.Change.TheVariants.{Insert, ItemListed, Bought, Rated, CatListed, CatEnded, BidTaken, Sold, End}
+use Rattle.rubis_shadow.specs.declared.changes.Change.TheVariants.{Insert, ItemListed, Bought, Rated, CatListed, CatEnded, BidTaken, Sold, End, Restocked, Renamed, NickFreed}
 use Rattle.rubis_shadow.specs.declared.changes.Effect.{Effect}
 use Rattle.rubis_shadow.specs.declared.changes.MisfitKind.{MisfitKind}
-use Rattle.rubis_shadow.specs.declared.changes.MisfitKind.TheVariants.{RowThere, NoRow, ClosedItem, StockShort}
+use Rattle.rubis_shadow.specs.declared.changes.MisfitKind.TheVariants.{RowThere, NoRow, ClosedItem, StockShort, OtherUser}
 
 -- sums stop at the ends of their types
 abbrev pub count_up : ℕ → ℕ → ℕ
@@ -37,6 +38,10 @@ fits_as row = record { row = Some row; misfit = None }
 abbrev pub misfits_as : MisfitKind → Option Row → Done
 misfits_as kind row = record { row = row; misfit = Some kind }
 
+-- the row goes
+abbrev pub removed : Done
+removed = record { row = None; misfit = None }
+
 -- the best bid after one more: only a greater amount takes its place
 abbrev pub better : Option Best → Best → Option Best
 better None new = Some new
@@ -51,7 +56,7 @@ abbrev pub if_open : ItemRow → Sale → Done → Done
 if_open item Open done = done
 if_open item (Ended winner) done = misfits_as ClosedItem (Some (Item item))
 
--- an insert wants a free key, and each other change a row of its table; else the row stays as it is
+-- an insert wants a free key, and each other change a row of its table, a nickname's that of its user; else the row stays as it is
 unfoldable pub change_row : Change → Option Row → Done
 change_row (Insert row) None = fits_as row
 change_row (Insert row) (Some old) = misfits_as RowThere (Some old)
@@ -64,6 +69,9 @@ change_row (BidTaken b) (Some (Item i)) = if_open i i.sale (fits_as (Item (recor
 change_row (Sold q) (Some (Item i)) =
     if_open i i.sale (cond (nat_le q i.stock) (fits_as (Item (record i { stock = i.stock - q; sold = count_up i.sold q }))) (misfits_as StockShort (Some (Item i))))
 change_row (End w) (Some (Item i)) = if_open i i.sale (fits_as (Item (record i { sale = Ended w })))
+change_row (Restocked q) (Some (Item i)) = fits_as (Item (record i { stock = count_up i.stock q }))
+change_row (Renamed n) (Some (User u)) = fits_as (User (record u { nick = n }))
+change_row (NickFreed u) (Some (Nick i)) = cond (same_id u i) removed (misfits_as OtherUser (Some (Nick i)))
 change_row change row = misfits_as NoRow row
 
 -- the tables with that row at the key, or with none

@@ -1,5 +1,5 @@
--- The limits on the ids and numbers of asks and shadows, among so many sites.
-use Rattle.std.specs.Prelude.{ℕ, ◌<◌, ◌≤◌, ⊤, IfSome, unsigned_abs}
+-- The limits on the ids and numbers of asks and shadows when there are `sites` sites.
+use Rattle.std.specs.Prelude.{ℕ, ◌≡◌, ◌<◌, ◌≤◌, ⊤, IfSome, unsigned_abs}
 use Rattle.std.specs.FinMap as map
 use Rattle.rubis_schema.specs.Ids.{IsId}
 use Rattle.rubis_schema.specs.Tables.{Tables}
@@ -57,6 +57,8 @@ IsAsk sites (ask.Bid b) = IsNewBid sites b
 IsAsk sites (ask.Buy p) = IsPurchase sites p
 IsAsk sites (ask.Close c) = IsId sites c.item × IsId sites c.seller
 IsAsk sites (ask.Comment c) = IsComment sites c
+IsAsk sites (ask.Restock r) = IsId sites r.item × IsId sites r.seller × IsQuantity r.quantity
+IsAsk sites (ask.Rename r) = IsId sites r.user
 
 -- a shadow within the limits
 abbrev pub InLimits : ℕ → Shadow → Type 0
@@ -66,6 +68,8 @@ InLimits sites (shadow.Bid b) = IsNewBid sites b
 InLimits sites (shadow.Buy p) = IsPurchase sites p
 InLimits sites (shadow.Close c) = IsId sites c.item × (c.cat < CATEGORIES) × IfSome c.winner (IsId sites)
 InLimits sites (shadow.Comment c) = IsComment sites c
+InLimits sites (shadow.Restock r) = IsId sites r.item × IsQuantity r.quantity
+InLimits sites (shadow.Rename r) = IsId sites r.user × ¬ (r.from ≡ r.to)
 
 -- what is known of every row: an item is in a category, and the id of its best bid is within the limits
 abbrev pub RowInLimits : ℕ → Row → Type 0

@@ -8,11 +8,11 @@ use Rattle.rubis_schema.specs.declared.rows.ItemRow.{ItemRow}
 use Rattle.rubis_schema.specs.declared.rows.UserRow.{UserRow}
 use Rattle.rubis_schema.specs.declared.rows.Sale.TheVariants.{Open}
 use Rattle.rubis_shadow.specs.declared.changes.Change.{Change}
-use Rattle.rubis_shadow.specs.declared.changes.Change.TheVariants.{Insert, ItemListed, Bought, Rated, CatListed, CatEnded, BidTaken, Sold, End}
+use Rattle.rubis_shadow.specs.declared.changes.Change.TheVariants.{Insert, ItemListed, Bought, Rated, CatListed, CatEnded, BidTaken, Sold, End, Restocked, Renamed, NickFreed}
 use Rattle.rubis_shadow.specs.declared.changes.Effect.{Effect}
 use Rattle.rubis_shadow.specs.declared.shadows.NewItem.{NewItem}
 use Rattle.rubis_shadow.specs.declared.shadows.Shadow.{Shadow}
-use Rattle.rubis_shadow.specs.declared.shadows.Shadow.TheVariants.{User, Item, Bid, Buy, Close, Comment}
+use Rattle.rubis_shadow.specs.declared.shadows.Shadow.TheVariants.{User, Item, Bid, Buy, Close, Comment, Restock, Rename}
 
 abbrev pub part : RowKey → Change → Effect
 part k c = record { key = k; change = c }
@@ -41,6 +41,10 @@ parts id red (Buy p) =
     ∷ part (key.Item p.item) (Sold p.quantity) ∷ part (key.User p.buyer) (Bought p.quantity) ∷ []
 parts id red (Close c) = part (key.Item c.item) (End c.winner) ∷ part (key.Cat c.cat) CatEnded ∷ []
 parts id red (Comment c) = part (key.Comment id) (Insert (row.Comment c)) ∷ part (key.User c.to) (Rated c.rating) ∷ []
+parts id red (Restock r) = part (key.Item r.item) (Restocked r.quantity) ∷ []
+parts id red (Rename r) =
+    part (key.User r.user) (Renamed r.to) ∷ part (key.Nick r.from) (NickFreed r.user)
+    ∷ part (key.Nick r.to) (Insert (row.Nick r.user)) ∷ []
 
 abbrev pub key_of : Effect → RowKey
 key_of e = e.key
@@ -61,3 +65,5 @@ refers_of (Bid b) = key.Item b.item ∷ key.User b.bidder ∷ []
 refers_of (Buy p) = key.Item p.item ∷ key.User p.buyer ∷ []
 refers_of (Close c) = key.Item c.item ∷ winner_key c.winner
 refers_of (Comment c) = key.Item c.item ∷ key.User c.from ∷ key.User c.to ∷ []
+refers_of (Restock r) = key.Item r.item ∷ []
+refers_of (Rename r) = key.User r.user ∷ []

@@ -14,7 +14,7 @@ use Rattle.rubis_schema.specs.declared.rows.Row.TheVariants as row
 abbrev pub new_category : Row
 new_category = row.Cat (record { items = 0; live = pos 0 })
 
--- so many categories from k on, without items
+-- n categories from k on, without items
 unfoldable pub categories_from : ℕ → ℕ → List (RowKey × Row)
 categories_from k ℕ.zero = []
 categories_from k (ℕ.suc n) = (key.Cat k, new_category) ∷ categories_from (k + 1) n

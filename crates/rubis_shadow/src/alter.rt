@@ -1,14 +1,13 @@
-ghost use Rattle.std.specs.Prelude.{◌≡◌, Some};
+ghost use Rattle.std.specs.Prelude.{◌≡◌, Some, None, cond, true};
 ghost use Rattle.rubis_schema.specs.declared.rows.Row.TheVariants as rows;
 ghost use Rattle.rubis_schema.specs.declared.rows.BidRow.{BidRow};
 ghost use Rattle.rubis_schema.specs.declared.rows.PurchaseRow.{PurchaseRow};
 ghost use Rattle.rubis_schema.specs.declared.rows.CommentRow.{CommentRow};
-ghost use Rattle.rubis_schema.specs.declared.ids.Id.{Id};
 ghost use Rattle.rubis_shadow.specs.Changes.{change_row, is_open};
 ghost use Rattle.rubis_shadow.specs.declared.changes.Change.TheVariants.{BidTaken, Sold};
 
-use crate::changes::{Change, MisfitKind};
-use rubis_schema::{Best, CatRow, ItemRow, Row, Sale, UserRow};
+use crate::changes::{Change, Fate, MisfitKind};
+use rubis_schema::{Best, CatRow, Id, ItemRow, Row, Sale, UserRow};
 
 // Whether an item can still be bid for.
 fn can_be_bid_for(sale: &Sale) -> bool
@@ -39,6 +38,10 @@ fn alter_user(change: &Change, user: &mut UserRow) -> Option<MisfitKind>
         Change::Rated(rating) => {
             user.rating = user.rating.saturating_add(i64::from(*rating));
             user.comments = user.comments.saturating_add(1);
+            None
+        }
+        Change::Renamed(nick) => {
+            user.nick = *nick;
             None
         }
         _ => Some(MisfitKind::NoRow),
@@ -123,6 +126,10 @@ fn alter_item(change: &Change, item: &mut ItemRow) -> Option<MisfitKind>
             item.sale = Sale::Ended(*winner);
             None
         }
+        Change::Restocked(quantity) => {
+            item.stock = item.stock.saturating_add(*quantity);
+            None
+        }
         _ => Some(MisfitKind::NoRow),
     }
 }
@@ -133,7 +140,6 @@ fn alter_fixed(change: &Change) -> MisfitKind
     ensures bid { (b : BidRow) → change_row change.now (Some (rows.Bid b)) ≡ record { row = Some (rows.Bid b); misfit = Some result } }
     ensures purchase { (p : PurchaseRow) → change_row change.now (Some (rows.Purchase p)) ≡ record { row = Some (rows.Purchase p); misfit = Some result } }
     ensures comment { (c : CommentRow) → change_row change.now (Some (rows.Comment c)) ≡ record { row = Some (rows.Comment c); misfit = Some result } }
-    ensures nick { (i : Id) → change_row change.now (Some (rows.Nick i)) ≡ record { row = Some (rows.Nick i); misfit = Some result } }
 {
     match change {
         Change::Insert(_) => MisfitKind::RowThere,
@@ -141,21 +147,56 @@ fn alter_fixed(change: &Change) -> MisfitKind
     }
 }
 
+// The row stays, changed or not.
+#[inline(always)]
+fn kept(misfit: Option<MisfitKind>) -> Fate
+    ensures { result ≡ record { stays = true; misfit = misfit } }
+{
+    Fate {
+        stays: true,
+        misfit,
+    }
+}
+
+// Whether the user's nickname stays with it, and why the change doesn't fit, if it doesn't.
+#[tactic(auto, unfolding(crate::specs::Changes::change_row))]
+#[inline(always)]
+fn alter_nick(change: &Change, user: Id) -> Fate
+    ensures row { (change_row change.now (Some (rows.Nick user))).row ≡ cond result.stays (Some (rows.Nick user)) None }
+    ensures misfit { (change_row change.now (Some (rows.Nick user))).misfit ≡ result.misfit }
+{
+    match change {
+        Change::Insert(_) => kept(Some(MisfitKind::RowThere)),
+        Change::NickFreed(id) => {
+            if *id == user {
+                Fate {
+                    stays: false,
+                    misfit: None,
+                }
+            } else {
+                kept(Some(MisfitKind::OtherUser))
+            }
+        }
+        _ => kept(Some(MisfitKind::NoRow)),
+    }
+}
+
 impl Change {
-    /// Changes a row that is there, or leaves it and says why the change doesn't fit.
+    /// Changes a row that is there, or leaves it and says why the change doesn't fit. Where the row doesn't stay, the caller
+    /// removes it.
     #[inline(always)]
-    pub fn alter(&self, row: &mut Row) -> Option<MisfitKind>
-        ensures row { (change_row self.now (Some row.old)).row ≡ Some row.new }
-        ensures misfit { (change_row self.now (Some row.old)).misfit ≡ result }
+    pub fn alter(&self, row: &mut Row) -> Fate
+        ensures row { (change_row self.now (Some row.old)).row ≡ cond result.stays (Some row.new) None }
+        ensures misfit { (change_row self.now (Some row.old)).misfit ≡ result.misfit }
     {
         match row {
-            Row::User(user) => alter_user(self, user.get_mut()),
-            Row::Item(item) => alter_item(self, item.get_mut()),
-            Row::Cat(category) => alter_category(self, category),
-            Row::Bid(_) => Some(alter_fixed(self)),
-            Row::Purchase(_) => Some(alter_fixed(self)),
-            Row::Comment(_) => Some(alter_fixed(self)),
-            Row::Nick(_) => Some(alter_fixed(self)),
+            Row::User(user) => kept(alter_user(self, user.get_mut())),
+            Row::Item(item) => kept(alter_item(self, item.get_mut())),
+            Row::Cat(category) => kept(alter_category(self, category)),
+            Row::Bid(_) => kept(Some(alter_fixed(self))),
+            Row::Purchase(_) => kept(Some(alter_fixed(self))),
+            Row::Comment(_) => kept(Some(alter_fixed(self))),
+            Row::Nick(user) => alter_nick(self, *user),
         }
     }
 }

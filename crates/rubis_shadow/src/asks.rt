@@ -8,6 +8,21 @@ pub struct AskedClose {
     pub seller: Id,
 }
 
+/// A seller who has more pieces of an item.
+#[derive(Clone, Copy, PartialEq, Eq, Debug)]
+pub struct AskedRestock {
+    pub item: Id,
+    pub seller: Id,
+    pub quantity: u64,
+}
+
+/// A user who wants another nickname.
+#[derive(Clone, Copy, PartialEq, Eq, Debug)]
+pub struct AskedRename {
+    pub user: Id,
+    pub nick: Nick,
+}
+
 /// What a user asks of a site.
 #[derive(Drop, Clone, PartialEq, Eq, Debug)]
 pub enum Ask {
@@ -17,4 +32,6 @@ pub enum Ask {
     Buy(PurchaseRow),
     Close(AskedClose),
     Comment(Shared<CommentRow>),
+    Restock(AskedRestock),
+    Rename(AskedRename),
 }

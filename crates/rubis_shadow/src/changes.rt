@@ -1,6 +1,6 @@
 ghost use Rattle.std.specs.Prelude.{◌≡◌, IfOk};
 
-use rubis_schema::{Best, Id, Row, RowKey};
+use rubis_schema::{Best, Id, Nick, Row, RowKey};
 use std::alloc::AllocError;
 
 /// What a part does to the row of its key.
@@ -10,7 +10,7 @@ pub enum Change {
     Insert(Row),
     /// A user listed one more item.
     ItemListed,
-    /// A user bought so many pieces.
+    /// A user bought n pieces.
     Bought(u64),
     /// A user got a comment with this rating.
     Rated(i8),
@@ -20,10 +20,16 @@ pub enum Change {
     CatEnded,
     /// An item got a bid.
     BidTaken(Best),
-    /// So many pieces of an item were bought.
+    /// n pieces of an item were bought.
     Sold(u64),
     /// An item's sale ended, with this winner.
     End(Option<Id>),
+    /// n pieces were added to an item's stock.
+    Restocked(u64),
+    /// A user has this nickname from now on.
+    Renamed(Nick),
+    /// A nickname is given up by this user.
+    NickFreed(Id),
 }
 
 impl Change {
@@ -65,4 +71,13 @@ pub enum MisfitKind {
     ClosedItem,
     /// A buy of more than the stock.
     StockShort,
+    /// A nickname is given up, and another user has it.
+    OtherUser,
+}
+
+/// What a change does with a row that is there: whether the row stays, and why the change doesn't fit, if it doesn't.
+#[derive(Clone, Copy, PartialEq, Eq, Debug)]
+pub struct Fate {
+    pub stays: bool,
+    pub misfit: Option<MisfitKind>,
 }

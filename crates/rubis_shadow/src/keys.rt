@@ -94,6 +94,12 @@ impl Shadow {
             ),
             Shadow::Close(close) => two_keys(RowKey::Item(close.item), RowKey::Cat(close.cat)),
             Shadow::Comment(comment) => two_keys(RowKey::Comment(id), RowKey::User(comment.to)),
+            Shadow::Restock(restock) => one_key(RowKey::Item(restock.item)),
+            Shadow::Rename(rename) => three_keys(
+                RowKey::User(rename.user),
+                RowKey::Nick(rename.from),
+                RowKey::Nick(rename.to),
+            ),
         }
     }
 
@@ -116,6 +122,10 @@ impl Shadow {
             (Shadow::Close(close), 1) => Some(RowKey::Cat(close.cat)),
             (Shadow::Comment(_), 0) => Some(RowKey::Comment(id)),
             (Shadow::Comment(comment), 1) => Some(RowKey::User(comment.to)),
+            (Shadow::Restock(restock), 0) => Some(RowKey::Item(restock.item)),
+            (Shadow::Rename(rename), 0) => Some(RowKey::User(rename.user)),
+            (Shadow::Rename(rename), 1) => Some(RowKey::Nick(rename.from)),
+            (Shadow::Rename(rename), 2) => Some(RowKey::Nick(rename.to)),
             _ => None,
         }
     }
@@ -137,6 +147,8 @@ impl Shadow {
                 RowKey::User(comment.from),
                 RowKey::User(comment.to),
             ),
+            Shadow::Restock(restock) => one_key(RowKey::Item(restock.item)),
+            Shadow::Rename(rename) => one_key(RowKey::User(rename.user)),
         }
     }
 }

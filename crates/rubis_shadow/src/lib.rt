@@ -11,11 +11,11 @@ mod parts;
 mod plain;
 mod shadows;
 
-pub use asks::{Ask, AskedClose};
-pub use changes::{Change, Effect, MisfitKind};
+pub use asks::{Ask, AskedClose, AskedRename, AskedRestock};
+pub use changes::{Change, Effect, Fate, MisfitKind};
 pub use keys::Keys;
 pub use listing::{put_in_order, rows_in_order};
 pub use numbered::{Misfit, Numbered};
 pub use parts::{EffectRef, Effects, PARTS_MAX};
 pub use plain::PlainTables;
-pub use shadows::{Colour, NewBid, NewClose, NewItem, Shadow};
+pub use shadows::{Colour, NewBid, NewClose, NewItem, NewRename, NewRestock, Shadow};

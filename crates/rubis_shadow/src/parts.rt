@@ -8,7 +8,7 @@ ghost use Rattle.rubis_shadow.specs.BoxedRows.{HasBoxedRow, boxed_row_in};
 ghost use Rattle.rubis_schema.specs.declared.rows.Row.TheVariants as rows;
 
 use crate::changes::{Change, Effect};
-use crate::shadows::{NewBid, NewClose, NewItem, Shadow};
+use crate::shadows::{NewBid, NewClose, NewItem, NewRename, NewRestock, Shadow};
 use rubis_schema::{
     Best, BidRow, Boxed, CommentRow, Id, ItemRow, Nick, PurchaseRow, Row, RowKey, Sale, Shared,
     UserRow,
@@ -36,6 +36,9 @@ enum ChangeRef<'a> {
     BidTaken(Best),
     Sold(u64),
     End(Option<Id>),
+    Restocked(u64),
+    Renamed(Nick),
+    NickFreed(Id),
 }
 
 /// A part of a shadow that borrows what the shadow shares. Contracts see the effect.
@@ -78,7 +81,7 @@ impl<'a> Model for Effects<'a> {
 }
 
 impl Shadow {
-    /// The parts of the shadow with that id and red number, in order: two or three.
+    /// The parts of the shadow with that id and red number, in order: one to three.
     pub fn effects(&self, id: Id, red: u32) -> Effects<'_>
         ensures { result ≡ parts id red self.now }
     {
@@ -97,7 +100,8 @@ impl Shadow {
     {
         match self {
             Shadow::User(_) | Shadow::Bid(_) | Shadow::Close(_) | Shadow::Comment(_) => 2,
-            Shadow::Item(_) | Shadow::Buy(_) => 3,
+            Shadow::Item(_) | Shadow::Buy(_) | Shadow::Rename(_) => 3,
+            Shadow::Restock(_) => 1,
         }
     }
 
@@ -134,6 +138,8 @@ fn part_at<'a>(id: Id, red: u32, shadow: &'a Shadow, place: u8) -> Option<Effect
         Shadow::Buy(purchase) => buy_part(id, *purchase, place),
         Shadow::Close(close) => close_part(*close, place),
         Shadow::Comment(comment) => comment_part(id, comment, place),
+        Shadow::Restock(restock) => restock_part(*restock, place),
+        Shadow::Rename(rename) => rename_part(*rename, place),
     }
 }
 
@@ -255,6 +261,40 @@ fn comment_part<'a>(id: Id, comment: &'a Shared<CommentRow>, place: u8) -> Optio
     }
 }
 
+#[inline(always)]
+fn restock_part<'a>(restock: NewRestock, place: u8) -> Option<EffectRef<'a>>
+    ensures { result ≡ slice_get (parts restock.item 0 (Shadow.Restock restock)) place }
+{
+    match place {
+        0 => Some(EffectRef {
+            key: RowKey::Item(restock.item),
+            change: ChangeRef::Restocked(restock.quantity),
+        }),
+        _ => None,
+    }
+}
+
+#[inline(always)]
+fn rename_part<'a>(rename: NewRename, place: u8) -> Option<EffectRef<'a>>
+    ensures { result ≡ slice_get (parts rename.user 0 (Shadow.Rename rename)) place }
+{
+    match place {
+        0 => Some(EffectRef {
+            key: RowKey::User(rename.user),
+            change: ChangeRef::Renamed(rename.to),
+        }),
+        1 => Some(EffectRef {
+            key: RowKey::Nick(rename.from),
+            change: ChangeRef::NickFreed(rename.user),
+        }),
+        2 => Some(EffectRef {
+            key: RowKey::Nick(rename.to),
+            change: ChangeRef::NewNick(rename.user),
+        }),
+        _ => None,
+    }
+}
+
 impl<'a> Iterator for Effects<'a> {
     type Item = EffectRef<'a>;
 
@@ -343,6 +383,9 @@ fn change_with(change: &ChangeRef<'_>, row: Option<Row>) -> Change
         ChangeRef::BidTaken(best) => Change::BidTaken(*best),
         ChangeRef::Sold(quantity) => Change::Sold(*quantity),
         ChangeRef::End(winner) => Change::End(*winner),
+        ChangeRef::Restocked(quantity) => Change::Restocked(*quantity),
+        ChangeRef::Renamed(nick) => Change::Renamed(*nick),
+        ChangeRef::NickFreed(id) => Change::NickFreed(*id),
     }
 }
 

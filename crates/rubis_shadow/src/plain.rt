@@ -58,6 +58,14 @@ fn put_new(rows: &mut IndexMap<RowKey, Row>, key: RowKey, row: Row) -> Result<bo
     }
 }
 
+// Removes the row at the key.
+#[tactic(auto, using(crate::proofs::Rows::tables_of_remove))]
+fn remove_row(rows: &mut IndexMap<RowKey, Row>, key: &RowKey)
+    ensures { map.from_entries {R = key_order} rows.new.entries ≡ map.remove (map.from_entries rows.old.entries) key.now }
+{
+    rows.swap_remove(key);
+}
+
 impl PlainTables {
     /// The tables before any message: the categories, without items.
     pub fn new(alloc: Global) -> Result<PlainTables, AllocError>
@@ -93,7 +101,12 @@ impl PlainTables {
         let Some(row) = self.rows.get_mut(&effect.key) else {
             return Ok(Some(MisfitKind::NoRow));
         };
-        Ok(effect.change.alter(row))
+        let fate = effect.change.alter(row);
+        if !fate.stays {
+            remove_row(&mut self.rows, &effect.key);
+            return Ok(fate.misfit);
+        }
+        Ok(fate.misfit)
     }
 }
 

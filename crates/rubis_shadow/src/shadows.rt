@@ -32,6 +32,21 @@ pub struct NewClose {
     pub winner: Option<Id>,
 }
 
+/// More pieces of an item.
+#[derive(Clone, Copy, PartialEq, Eq, Debug)]
+pub struct NewRestock {
+    pub item: Id,
+    pub quantity: u64,
+}
+
+/// Another nickname of a user, in place of the one that it has.
+#[derive(Clone, Copy, PartialEq, Eq, Debug)]
+pub struct NewRename {
+    pub user: Id,
+    pub from: Nick,
+    pub to: Nick,
+}
+
 /// What an accepted ask does, at every site. The larger ones are shared by their copies, so
 /// that logs stay small.
 #[derive(Drop, Clone, PartialEq, Eq, Debug)]
@@ -42,6 +57,8 @@ pub enum Shadow {
     Buy(PurchaseRow),
     Close(NewClose),
     Comment(Shared<CommentRow>),
+    Restock(NewRestock),
+    Rename(NewRename),
 }
 
 /// Red shadows are totally ordered, blue ones only follow causality.
@@ -63,6 +80,8 @@ impl Shadow {
             Shadow::Buy(_) => Colour::Red,
             Shadow::Close(_) => Colour::Red,
             Shadow::Comment(_) => Colour::Blue,
+            Shadow::Restock(_) => Colour::Blue,
+            Shadow::Rename(_) => Colour::Red,
         }
     }
 

@@ -184,6 +184,26 @@ module _ {E : Type 0} (ts mid : List ShardState) (shards at from : ℕ) (ns : Li
           (λ i. set (h i) at (put_is z new x.folded put (undone (asked ∙ ap is_ok e) ∙ was) i))
           ∙ put_back ts at x (emptied x) there
 
+-- ---- from an earlier shard on, where no part has its home in between
+folds_sooner : (from next shards : ℕ) (old new : List ShardState) (ns : List Numbered) → shards ≡ length old → from ≤ next
+    → ((k : ℕ) → from ≤ k → k < next → parts_at shards k ns ≡ []) → FoldsFrom next old ns new → FoldsFrom from old ns new
+folds_sooner from next shards old new ns many low none h = record {
+  many = h.many;
+  before = λ k l. h.before k (omega (arith, l, low));
+  behind = λ k s l e. ⊎_elim
+      (λ high.
+      h.before k high ∙ e
+      ∙ ap (λ ps. Some (with_parts s ps)) (sym (ap (λ n. parts_at n k ns) (sym many) ∙ none k l high)))
+      (λ high. h.behind k s high e)
+      (cases_lt k next);
+}
+
+pub folds_sooner_ok : {E : Type 0} (r : Result (Unit {0}) E) (from next shards : ℕ) (old new : List ShardState) (ns : List Numbered)
+    → shards ≡ length old → from ≤ next → ((k : ℕ) → from ≤ k → k < next → parts_at shards k ns ≡ [])
+    → OnOk r (FoldsFrom next old ns new) → OnOk r (FoldsFrom from old ns new)
+folds_sooner_ok (Ok u) from next shards old new ns many low none h = folds_sooner from next shards old new ns many low none h
+folds_sooner_ok (Err u) from next shards old new ns many low none h = tt
+
 -- ---- all shards
 pub order_kept : {E : Type 0} (old new : List ShardState) (ns : List Numbered) (r : Result (Unit {0}) E) → AreInOrder old
     → OnOk r (FoldsFrom 0 old ns new) → OnErr r (new ≡ old) → AreInOrder new

@@ -1,9 +1,7 @@
 pub mod Openings
 pub mod Folds
 pub mod Items
-pub mod Slots
-pub mod Finding
-pub mod FoundRows
+pub mod InMaps
 pub mod Logs
 pub mod Unions
 pub mod Parts
@@ -12,3 +10,8 @@ pub mod Listing
 pub mod Picked
 pub mod Linking
 pub mod Walking
+pub mod Distinct
+pub mod OneTable
+pub mod Shown
+pub mod Changed
+pub mod Grouped

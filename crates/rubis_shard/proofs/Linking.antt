@@ -1,10 +1,10 @@
 -- Rows in chains: one more row, and that no row of a chain stands between two that are linked.
-use Rattle.std.proofs.Common.{◌≡◌, ℕ, zero, suc, ◌+◌, ◌-◌, ◌<◌, ◌≤◌, Bool, true, false, cond, List, [], ◌∷◌, ◌++◌, length, get_or, refl, sym, ap, ◌∙◌, arith, length-append}
-use Rattle.std.specs.Prelude.{nat_eq, slice_index, slice_set}
+use Rattle.std.proofs.Common.{◌≡◌, ℕ, zero, suc, ◌+◌, ◌-◌, ◌<◌, ◌≤◌, Bool, true, false, cond, List, [], ◌∷◌, ◌++◌, length, take, get_or, refl, sym, ap, ◌∙◌, subst, arith, length-append}
+use Rattle.std.specs.Prelude.{option_map, slice_get, slice_index}
+use Rattle.std.specs.Option.{unwrap_or}
 use Rattle.std.proofs.Common.{inl, inr}
-use Rattle.std.proofs.lemmas.Bool.{cases_lt}
-use Rattle.std.proofs.lemmas.Bool.Decides.{Decides-eqb}
-use Rattle.std.proofs.lemmas.List.{get_or_append_left, get_or-set_same, get_or-set_other}
+use Rattle.std.proofs.lemmas.Bool.{cases_lt, false≢true}
+use Rattle.std.proofs.lemmas.List.{get_or_append_left, length-take-le, take-append-le}
 use Rattle.std.specs.Prelude.{Option, None, Some, nat_le}
 use Rattle.std.specs.Map.{lookup, set_value}
 use Rattle.rubis_schema.specs.declared.row_keys.RowKey.{RowKey}
@@ -13,141 +13,154 @@ use Rattle.rubis_schema.specs.declared.rows.Row.{Row}
 use Rattle.rubis_schema.specs.declared.rows.Row.TheVariants as row
 use Rattle.rubis_schema.specs.declared.rows.Sale.{Sale}
 use Rattle.rubis_schema.specs.declared.rows.Sale.TheVariants as sale
-use Rattle.rubis_shadow.specs.Changes.{change_row, count_up, fits_as, if_open, misfits_as, Done}
+use Rattle.rubis_shadow.specs.Changes.{change_row, count_up, fits_as, if_open, misfits_as, removed, Done}
+use Rattle.rubis_schema.specs.Keys.{same_id}
 use Rattle.rubis_shadow.specs.declared.changes.Change.{Change}
 use Rattle.rubis_shadow.specs.declared.changes.Change.TheVariants as change
-use Rattle.rubis_shadow.specs.declared.changes.MisfitKind.TheVariants.{StockShort}
-use Rattle.rubis_shard.specs.Chains.{chain_of, chains_of, last_among, Links}
+use Rattle.rubis_shadow.specs.declared.changes.MisfitKind.TheVariants.{OtherUser, StockShort}
+use Rattle.rubis_schema.specs.IdKeyLaws.{same_id_key, Decides-same_id_key}
+use Rattle.rubis_schema.specs.declared.id_keys.IdKey.{IdKey}
+use Rattle.rubis_shard.specs.Chains.{chain_of, chains_of, is_in, last_among, last_before, last_noted, IsLinkedSoFar, Links}
+use Rattle.rubis_shard.specs.Written.{written}
 use Rattle.rubis_shard.specs.declared.chains.Chains.{Chains}
-use Rattle.rubis_shard.specs.declared.chains.TheConstants.{CHAINS}
 
-at_end : (cs : List ℕ) (c : ℕ) → get_or (cs ++ c ∷ []) (length cs) 0 ≡ c
-at_end [] c = refl
-at_end (x ∷ xs) c = at_end xs c
+at_end : {A : Type 0} (cs : List A) (c d : A) → get_or (cs ++ c ∷ []) (length cs) d ≡ c
+at_end [] c d = refl
+at_end (x ∷ xs) c d = at_end xs c d
 
-pub same_number : (n : ℕ) → nat_eq n n ≡ true
-same_number n = (Decides-eqb n n).1 refl
+pub in_itself : (k : IdKey) → is_in (Some k) k ≡ true
+in_itself k = (Decides-same_id_key k k).1 refl
 
-pub other_number : (a b : ℕ) → ¬ (a ≡ b) → nat_eq a b ≡ false
-other_number a b apart = at (nat_eq a b) refl
-  where
-    at : (x : Bool) → nat_eq a b ≡ x → nat_eq a b ≡ false
-    at true e = absurd (apart ((Decides-eqb a b).0 e))
-    at false e = e
+pub in_chain : (o : Option IdKey) (k : IdKey) → is_in o k ≡ true → o ≡ Some k
+in_chain None k e = absurd (false≢true e)
+in_chain (Some chain) k e = ap (λ (l : IdKey). Some l) ((Decides-same_id_key chain k).0 e)
 
-module _ (chain : ℕ) where
+module _ (k : IdKey) where
   -- a row that comes doesn't change what is the last of those before it
-  last_more : (cs : List ℕ) (c n : ℕ) → n ≤ length cs → last_among chain (cs ++ c ∷ []) n ≡ last_among chain cs n
+  last_more : (cs : List (Option IdKey)) (c : Option IdKey) (n : ℕ) → n ≤ length cs → last_among k (cs ++ c ∷ []) n ≡ last_among k cs n
   unfolding last_among
   last_more cs c zero h = refl
   last_more cs c (suc n) h =
       let before = last_more cs c n (omega arith) in
-      let here = get_or_append_left cs (c ∷ []) 0 n (omega arith) in
-      λ i. cond (nat_eq (here i) chain) (suc n) (before i)
+      let here = get_or_append_left cs (c ∷ []) None n (omega arith) in
+      λ i. cond (is_in (here i) k) (suc n) (before i)
 
-  pub last_small : (cs : List ℕ) (n : ℕ) → last_among chain cs n ≤ n
+  pub last_small : (cs : List (Option IdKey)) (n : ℕ) → last_among k cs n ≤ n
   unfolding last_among
   last_small cs zero = omega arith
   last_small cs (suc n) =
       let before = last_small cs n in
-      elim (nat_eq (slice_index cs n) chain) as (λ b. cond b (suc n) (last_among chain cs n) ≤ suc n) [
+      elim (is_in (get_or cs n None) k) as (λ b. cond b (suc n) (last_among k cs n) ≤ suc n) [
         | true ↦ omega arith
         | false ↦ omega arith
       ]
 
-  last_pushed : (cs : List ℕ) (c : ℕ) → last_among chain (cs ++ c ∷ []) (suc (length cs))
-      ≡ cond (nat_eq c chain) (suc (length cs)) (last_among chain cs (length cs))
+  last_pushed : (cs : List (Option IdKey)) (c : Option IdKey) → last_among k (cs ++ c ∷ []) (suc (length cs))
+      ≡ cond (is_in c k) (suc (length cs)) (last_among k cs (length cs))
   unfolding last_among
   last_pushed cs c =
       let before = last_more cs c (length cs) (omega arith) in
-      λ i. cond (nat_eq (at_end cs c i) chain) (suc (length cs)) (before i)
+      λ i. cond (is_in (at_end cs c None i) k) (suc (length cs)) (before i)
+
+before_more : (o : Option IdKey) (cs : List (Option IdKey)) (c : Option IdKey) (n : ℕ) → n ≤ length cs → last_before o (cs ++ c ∷ []) n ≡ last_before o cs n
+before_more None cs c n h = refl
+before_more (Some k) cs c n h = last_more k cs c n h
 
 -- ---- one row more
-links_last : (cs : List ℕ) (chain : ℕ) (last : List ℕ) → chain < length last
-    → ((k : ℕ) → k ≤ CHAINS → slice_index last k ≡ last_among k cs (length cs))
-    → (k : ℕ) → k ≤ CHAINS → slice_index (slice_set last chain (suc (length cs))) k ≡ last_among k (cs ++ chain ∷ []) (suc (length cs))
-links_last cs chain last inside held k top = at (nat_eq chain k) refl
-  where
-    at : (b : Bool) → nat_eq chain k ≡ b
-        → slice_index (slice_set last chain (suc (length cs))) k ≡ last_among k (cs ++ chain ∷ []) (suc (length cs))
-    at true e =
-        ap (slice_index (slice_set last chain (suc (length cs)))) (sym ((Decides-eqb chain k).0 e))
-        ∙ get_or-set_same last chain (suc (length cs)) 0 inside
-        ∙ ap (λ b. cond b (suc (length cs)) (last_among k cs (length cs))) (sym e) ∙ sym (last_pushed k cs chain)
-    at false e =
-        get_or-set_other last chain k (suc (length cs)) 0 (λ same. absurd (apart e (sym same)))
-        ∙ held k top
-        ∙ ap (λ b. cond b (suc (length cs)) (last_among k cs (length cs))) (sym e) ∙ sym (last_pushed k cs chain)
-      where
-        apart : nat_eq chain k ≡ false → ¬ (chain ≡ k)
-        apart f same = let yes = (Decides-eqb chain k).1 same in absurd cc
+noted_or : (b : Bool) (place : ℕ) (o : Option ℕ) → unwrap_or (cond b (Some place) o) 0 ≡ cond b place (unwrap_or o 0)
+noted_or true place o = refl
+noted_or false place o = refl
 
-links_before : (cs before : List ℕ) (chain last : ℕ) → length before ≡ length cs → last ≡ last_among chain cs (length cs)
-    → ((i : ℕ) → i < length cs → slice_index before i ≡ last_among (slice_index cs i) cs i)
+noted_before : (chain : Option IdKey) (cs : List (Option IdKey)) (c : Chains) → Links cs c → last_noted chain c.last.entries ≡ last_before chain cs (length cs)
+noted_before None cs c links = refl
+noted_before (Some k) cs c links = links.last k
+
+links_before : (cs : List (Option IdKey)) (before : List ℕ) (chain : Option IdKey) (last : ℕ) → length before ≡ length cs → last ≡ last_before chain cs (length cs)
+    → ((i : ℕ) → i < length cs → slice_index before i ≡ last_before (get_or cs i None) cs i)
     → (i : ℕ) → i < length cs + 1
-    → slice_index (before ++ last ∷ []) i ≡ last_among (slice_index (cs ++ chain ∷ []) i) (cs ++ chain ∷ []) i
+    → slice_index (before ++ last ∷ []) i ≡ last_before (get_or (cs ++ chain ∷ []) i None) (cs ++ chain ∷ []) i
 links_before cs before chain last many ends held i inside = elim (cases_lt i (length cs)) [
   | inl low ↦
       get_or_append_left before (last ∷ []) 0 i (omega arith) ∙ held i low
-      ∙ sym (last_more (slice_index cs i) cs chain i (omega arith))
-      ∙ ap (λ k. last_among k (cs ++ chain ∷ []) i) (sym (get_or_append_left cs (chain ∷ []) 0 i low))
+      ∙ sym (before_more (get_or cs i None) cs chain i (omega arith))
+      ∙ ap (λ o. last_before o (cs ++ chain ∷ []) i) (sym (get_or_append_left cs (chain ∷ []) None i low))
   | inr high ↦
       let here : i ≡ length cs = omega arith in
-      ap (slice_index (before ++ last ∷ [])) (here ∙ sym many) ∙ at_end before last ∙ ends
-      ∙ sym (last_more chain cs chain (length cs) (omega arith))
-      ∙ ap (λ k. last_among k (cs ++ chain ∷ []) (length cs)) (sym (at_end cs chain))
-      ∙ ap (λ n. last_among (slice_index (cs ++ chain ∷ []) n) (cs ++ chain ∷ []) n) (sym here)
+      ap (slice_index (before ++ last ∷ [])) (here ∙ sym many) ∙ at_end before last 0 ∙ ends
+      ∙ sym (before_more chain cs chain (length cs) (omega arith))
+      ∙ ap (λ o. last_before o (cs ++ chain ∷ []) (length cs)) (sym (at_end cs chain None))
+      ∙ ap (λ n. last_before (get_or (cs ++ chain ∷ []) n None) (cs ++ chain ∷ []) n) (sym here)
 ]
 
-pub links_push : (cs : List ℕ) (chain : ℕ) (old new : Chains) → chain ≤ CHAINS → CHAINS < length old.last.items
-    → new.before.items ≡ old.before.items ++ slice_index old.last.items chain ∷ []
-    → new.last.items ≡ slice_set old.last.items chain (suc (length cs)) → Links cs old → Links (cs ++ chain ∷ []) new
-links_push cs chain old new top ready before last links =
-    let more = length-append cs (chain ∷ []) in
-    let grown = length-append old.before.items (slice_index old.last.items chain ∷ []) in
-    let size : length (cs ++ chain ∷ []) ≡ suc (length cs) = omega (arith, more) in
+pub links_push : (cs : List (Option IdKey)) (chain : Option IdKey) (last : ℕ) (old new : Chains) → last ≡ last_noted chain old.last.entries
+    → new.before.items ≡ old.before.items ++ last ∷ []
+    → ((k : IdKey) → lookup (same_id_key k) new.last.entries ≡ cond (is_in chain k) (Some (length old.before.items + 1)) (lookup (same_id_key k) old.last.entries))
+    → Links cs old → Links (cs ++ chain ∷ []) new
+links_push cs chain last old new noted before more links =
+    let size = length-append cs (chain ∷ []) in
+    let grown = length-append old.before.items (last ∷ []) in
+    let place : length old.before.items + 1 ≡ suc (length cs) = omega (arith, links.many) in
+    let all : suc (length cs) ≡ length (cs ++ chain ∷ []) = omega (arith, size) in
     record {
-      many = omega (arith, more, grown, ap length before, links.many);
-      last = λ k within. ap (λ xs. slice_index xs k) last ∙ links_last cs chain old.last.items (omega arith) links.last k within
-          ∙ ap (last_among k (cs ++ chain ∷ [])) (sym size);
+      many = omega (arith, size, grown, ap length before, links.many);
+      last = λ k. ap (λ (o : Option ℕ). unwrap_or o 0) (more k) ∙ noted_or (is_in chain k) (length old.before.items + 1) (lookup (same_id_key k) old.last.entries)
+          ∙ (λ i. cond (is_in chain k) (place i) (links.last k i)) ∙ sym (last_pushed k cs chain) ∙ ap (last_among k (cs ++ chain ∷ [])) all;
       before = λ i within. ap (λ xs. slice_index xs i) before
-          ∙ links_before cs old.before.items chain _ links.many (links.last chain top) links.before i (omega (arith, size, within));
+          ∙ links_before cs old.before.items chain last links.many (noted ∙ noted_before chain cs old links) links.before i (omega (arith, size, within));
     }
 
--- ---- the list of the last rows in other clothes
-padded : (xs : List ℕ) (k : ℕ) → slice_index (xs ++ 0 ∷ []) k ≡ slice_index xs k
-padded [] zero = refl
-padded [] (suc k) = refl
-padded (x ∷ xs) zero = refl
-padded (x ∷ xs) (suc k) = padded xs k
-
-pub links_padded : (cs : List ℕ) (old new : Chains) → new.before.items ≡ old.before.items
-    → new.last.items ≡ old.last.items ++ 0 ∷ [] → Links cs old → Links cs new
-links_padded cs old new before last links = record {
-  many = ap length before ∙ links.many;
-  last = λ k top. ap (λ xs. slice_index xs k) last ∙ padded old.last.items k ∙ links.last k top;
-  before = λ i inside. ap (λ xs. slice_index xs i) before ∙ links.before i inside;
-}
-
-pub links_same : (cs : List ℕ) (old new : Chains) → new.before.items ≡ old.before.items → new.last.items ≡ old.last.items
+pub links_same : (cs : List (Option IdKey)) (old new : Chains) → new.before.items ≡ old.before.items → new.last.entries ≡ old.last.entries
     → Links cs old → Links cs new
 links_same cs old new before last links = record {
   many = ap length before ∙ links.many;
-  last = λ k top. ap (λ xs. slice_index xs k) last ∙ links.last k top;
+  last = λ k. ap (last_noted (Some k)) last ∙ links.last k;
   before = λ i inside. ap (λ xs. slice_index xs i) before ∙ links.before i inside;
 }
 
-pub links_none : (c : Chains) → c.before.items ≡ [] → c.last.items ≡ [] → Links [] c
+pub links_none : (c : Chains) → c.before.items ≡ [] → c.last.entries ≡ [] → Links [] c
 unfolding last_among
 links_none c before last = record {
   many = ap length before;
-  last = λ k top. ap (λ xs. slice_index xs k) last;
+  last = λ k. ap (last_noted (Some k)) last;
   before = λ i inside. absurd (omega arith);
 }
 
+-- ---- the first of the rows
+pub take_next : (cs : List (Option IdKey)) (n : ℕ) (x : Option IdKey) → slice_get cs n ≡ Some x → take (suc n) cs ≡ take n cs ++ x ∷ []
+take_next [] n x e = absurd cc
+take_next (c ∷ cs) zero x e = ap (λ y. y ∷ []) (let same : c ≡ x = cc in same)
+take_next (c ∷ cs) (suc n) x e = ap (λ ys. c ∷ ys) (take_next cs n x e)
+
+pub chains_length : {K : Type 0} (f : K → RowKey) (es : List (K × Row)) → length (chains_of (written f es)) ≡ length es
+chains_length f [] = refl
+chains_length f (e ∷ es) = ap suc (chains_length f es)
+
+pub chain_at : {K : Type 0} (f : K → RowKey) (es : List (K × Row)) (i : ℕ) (k : K) (row : Row) → slice_get es i ≡ Some (k, row)
+    → slice_get (chains_of (written f es)) i ≡ Some (chain_of row)
+chain_at f [] i k row e = absurd cc
+chain_at f (x ∷ es) zero k row e = ap (option_map (λ y. chain_of y.1)) e
+chain_at f (x ∷ es) (suc i) k row e = chain_at f es i k row e
+
+pub linked_none : (cs : List (Option IdKey)) (c : Chains) → Links [] c → IsLinkedSoFar cs c
+linked_none cs c links = record {
+  many = omega (arith, links.many);
+  links = subst (λ n. Links (take n cs) c) (sym links.many) links;
+}
+
+pub linked_links : (cs : List (Option IdKey)) (n : ℕ) (c : Chains) → Links (take n cs) c → n ≤ length cs → IsLinkedSoFar cs c
+linked_links cs n c links few =
+    let size : length c.before.items ≡ n = links.many ∙ length-take-le n cs few in
+    record { many = omega (arith, size); links = subst (λ k. Links (take k cs) c) (sym size) links }
+
+pub linked_more : (cs ds : List (Option IdKey)) (c : Chains) → IsLinkedSoFar cs c → IsLinkedSoFar (cs ++ ds) c
+linked_more cs ds c linked = record {
+  many = omega (arith, linked.many, length-append cs ds);
+  links = subst (λ xs. Links xs c) (sym (take-append-le (length c.before.items) cs ds linked.many)) linked.links;
+}
+
 -- ---- what a change does to a row
-chain_or : Option Row → ℕ
-chain_or None = CHAINS
+chain_or : Option Row → Option IdKey
+chain_or None = None
 chain_or (Some row) = chain_of row
 
 if_open_kept : (i : ItemRow) (sale : Sale) (d : Done) → chain_or d.row ≡ chain_of (row.Item i) → chain_or (if_open i sale d).row ≡ chain_of (row.Item i)
@@ -166,6 +179,9 @@ stays change.CatEnded (row.Cat k) = refl
 stays (change.BidTaken b) (row.Item i) = if_open_kept i i.sale _ refl
 stays (change.Sold q) (row.Item i) = if_open_kept i i.sale _ (elim (nat_le q i.stock) as (λ b. chain_or (cond b (fits_as (row.Item (record i { stock = i.stock - q; sold = count_up i.sold q }))) (misfits_as StockShort (Some (row.Item i)))).row ≡ chain_of (row.Item i)) [ true ↦ refl | false ↦ refl ])
 stays (change.End w) (row.Item i) = if_open_kept i i.sale _ refl
+stays (change.Restocked q) (row.Item i) = refl
+stays (change.Renamed n) (row.User u) = refl
+stays (change.NickFreed u) (row.Nick i) = elim (same_id u i) as (λ b. chain_or (cond b removed (misfits_as OtherUser (Some (row.Nick i)))).row ≡ None) [ true ↦ refl | false ↦ refl ]
 stays c r = refl
 
 pub chain_stays : (c : Change) (old new : Row) → (change_row c (Some old)).row ≡ Some new → chain_of new ≡ chain_of old
@@ -173,16 +189,22 @@ unfolding chain_or
 chain_stays c old new e = ap chain_or (sym e) ∙ stays c old
 
 -- a row in the place of one that is in the same chain
-pub chains_set : (test : RowKey → Bool) (es : List (RowKey × Row)) (old new : Row) → lookup test es ≡ Some old → chain_of new ≡ chain_of old
-    → chains_of (set_value test es new) ≡ chains_of es
+pub chains_set : {K : Type 0} (f : K → RowKey) (test : K → Bool) (es : List (K × Row)) (old new : Row) → lookup test es ≡ Some old → chain_of new ≡ chain_of old
+    → chains_of (written f (set_value test es new)) ≡ chains_of (written f es)
 unfolding chain_or
-chains_set test [] old new found same = refl
-chains_set test (e ∷ es) old new found same =
-    at (test e.0) refl (λ is. chains_set test es old new (ap (λ b. cond b (Some e.1) (lookup test es)) (sym is) ∙ found) same)
+chains_set f test [] old new found same = refl
+chains_set f test (e ∷ es) old new found same =
+    at (test e.0) refl (λ is. chains_set f test es old new (ap (λ b. cond b (Some e.1) (lookup test es)) (sym is) ∙ found) same)
   where
-    at : (b : Bool) → test e.0 ≡ b → (test e.0 ≡ false → chains_of (set_value test es new) ≡ chains_of es)
-        → chains_of (cond (test e.0) ((e.0, new) ∷ es) (e ∷ set_value test es new)) ≡ chains_of (e ∷ es)
-    at true is rest = ap (λ b. chains_of (cond b ((e.0, new) ∷ es) (e ∷ set_value test es new))) is
-        ∙ ap (λ n. n ∷ chains_of es) (same ∙ ap chain_or (sym found ∙ ap (λ b. cond b (Some e.1) (lookup test es)) is))
-    at false is rest = ap (λ b. chains_of (cond b ((e.0, new) ∷ es) (e ∷ set_value test es new))) is
+    at : (b : Bool) → test e.0 ≡ b → (test e.0 ≡ false → chains_of (written f (set_value test es new)) ≡ chains_of (written f es))
+        → chains_of (written f (cond (test e.0) ((e.0, new) ∷ es) (e ∷ set_value test es new))) ≡ chains_of (written f (e ∷ es))
+    at true is rest = ap (λ b. chains_of (written f (cond b ((e.0, new) ∷ es) (e ∷ set_value test es new)))) is
+        ∙ ap (λ n. n ∷ chains_of (written f es)) (same ∙ ap chain_or (sym found ∙ ap (λ b. cond b (Some e.1) (lookup test es)) is))
+    at false is rest = ap (λ b. chains_of (written f (cond b ((e.0, new) ∷ es) (e ∷ set_value test es new)))) is
         ∙ ap (λ cs. chain_of e.1 ∷ cs) (rest is)
+
+-- one row more
+pub chains_pushed : {K : Type 0} (f : K → RowKey) (es : List (K × Row)) (k : K) (row : Row)
+    → chains_of (written f (es ++ (k, row) ∷ [])) ≡ chains_of (written f es) ++ chain_of row ∷ []
+chains_pushed f [] k row = refl
+chains_pushed f (e ∷ es) k row = ap (λ cs. chain_of e.1 ∷ cs) (chains_pushed f es k row)

@@ -17,7 +17,14 @@ use Rattle.rubis_model.proofs.Commute.{same_tables}
 use Rattle.rubis_model.proofs.Shares.{get-part_of, part_with_row}
 use Rattle.rubis_shard.specs.Listed.{listed_of, picked_by}
 use Rattle.rubis_shard.proofs.Items.{no_items}
-use Rattle.rubis_shard.proofs.Linking.{other_number}
+use Rattle.std.proofs.lemmas.Bool.Decides.{Decides-eqb}
+
+other_number : (a b : ℕ) → ¬ (a ≡ b) → nat_eq a b ≡ false
+other_number a b apart = at (nat_eq a b) refl
+  where
+    at : (x : Bool) → nat_eq a b ≡ x → nat_eq a b ≡ false
+    at true e = absurd (apart ((Decides-eqb a b).0 e))
+    at false e = e
 
 neither : (b : Bool) → ◌≡◌ {A = Option Row} (cond b None None) None
 neither true = refl

@@ -14,13 +14,8 @@ use Rattle.rubis_model.specs.Shares.{part_of}
 use Rattle.rubis_model.proofs.Shares.{fold_on_is, share_tables, tables_after}
 use Rattle.rubis_shard.specs.Holdings.{parts_at}
 use Rattle.rubis_shard.specs.Messages.{numbered_of, at_place, list_of}
-use Rattle.rubis_shard.specs.Stores.{HasRoom}
 use Rattle.rubis_shard.specs.declared.message_parts.MessageParts.{MessageParts}
-use Rattle.rubis_shard.specs.declared.stores.Store.{Store}
 use Rattle.rubis_shard.proofs.Openings.{part_twice}
-
-pub less_room : (s : Store) (n m : ℕ) → n ≤ m → HasRoom s m → HasRoom s n
-less_room s n m l h = let r = h.rows in let f = h.misfits in record { rows = omega arith; misfits = omega arith }
 
 -- at most three parts, place by place
 by_place : (entry : ℕ) (id : Id) (es : List Effect) → length es ≤ PARTS_MAX → number_parts entry 1 id es

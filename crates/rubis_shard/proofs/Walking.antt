@@ -1,12 +1,14 @@
 -- The rows that a listing is of are found along their chain, the last one first.
 use Rattle.std.proofs.Common.{◌≡◌, ℕ, zero, suc, ◌+◌, ◌-◌, ◌<◌, ◌≤◌, Bool, true, false, cond, ◌&&◌, List, [], ◌∷◌, ◌++◌, length, take, get_or, refl, sym, ap, subst, ◌∙◌, arith, reverse, append_assoc}
-use Rattle.std.specs.Prelude.{IfOk, Result, Ok, Err, Some, ◌%◌, filter, nat_eq, slice_get, slice_index}
+use Rattle.std.specs.Prelude.{IfOk, Result, Ok, Err, None, Some, filter, slice_get}
 use Rattle.std.proofs.lemmas.Bool.{false≢true}
 use Rattle.std.proofs.lemmas.Bool.Decides.{Decides-eqb}
-use Rattle.std.proofs.lemmas.List.{append-nil, take_all, get_or-map, length-map, reverse-append}
+use Rattle.std.proofs.lemmas.List.{append-nil, take_all, take-map, get_or-map, length-map, length-take-le, reverse-append}
 use Rattle.std.proofs.lemmas.List.Elements.{filter-append, filter_more}
 use Rattle.std.proofs.lemmas.Option.{get_or_from_slice_get}
-use Rattle.rubis_schema.specs.Keys.{holds, same_id}
+use Rattle.rubis_schema.specs.Keys.{holds}
+use Rattle.rubis_schema.specs.declared.id_keys.IdKey.{IdKey}
+use Rattle.rubis_schema.specs.declared.id_keys.IdTable.TheVariants as table
 use Rattle.rubis_schema.specs.KeyLaws.{Decides-same_id}
 use Rattle.rubis_schema.specs.declared.ids.Id.{Id}
 use Rattle.rubis_schema.specs.declared.listings.Listing.{Listing}
@@ -18,49 +20,49 @@ use Rattle.rubis_schema.specs.declared.rows.Row.{Row}
 use Rattle.rubis_schema.specs.declared.rows.Row.TheVariants as row
 use Rattle.rubis_shadow.specs.Tables.{new_category}
 use Rattle.rubis_model.specs.Listings.{is_of}
-use Rattle.rubis_shard.specs.Chains.{chain_of, chain_with, chains_of, last_among}
+use Rattle.rubis_shard.specs.Chains.{chain_by, chain_of, chain_of_items, chain_with, chains_of, is_in, last_among, Links}
+use Rattle.rubis_shard.specs.Rows.{kept_of, linked_of}
+use Rattle.rubis_shard.specs.declared.row_map.Rows.{Rows}
 use Rattle.rubis_shard.specs.Listed.{listed_among}
-use Rattle.rubis_shard.specs.declared.chains.TheConstants.{CHAINS}
+use Rattle.rubis_shard.proofs.Linking.{in_chain, in_itself}
+
+-- the chains of the linked rows
+pub linked_chains : (r : Rows) → Links (chains_of (linked_of r)) r.chains
+linked_chains r = subst (λ cs. Links cs r.chains) (take-map _ (length r.chains.before.items) (kept_of r)) r.linked.links
+
+pub linked_few : (r : Rows) → length r.chains.before.items ≤ length (kept_of r)
+linked_few r = omega (arith, length-map (kept_of r) (λ (e : RowKey × Row). chain_of e.1), r.linked.many)
+
+pub linked_length : (r : Rows) → length (linked_of r) ≡ length r.chains.before.items
+linked_length r =
+    length-take-le (length r.chains.before.items) (kept_of r) (linked_few r)
 
 abbrev Entry : Type 0
 Entry = RowKey × Row
 
-same_seq : (a b : Id) → same_id a b ≡ true → a.seq ≡ b.seq
-same_seq a b e = ap (λ (i : Id). i.seq) ((Decides-same_id a b).0 e)
-
-of_items : (cat : ℕ) (k : RowKey) (r : Row) → is_of (listing.Items cat) k r ≡ true → chain_of r ≡ cat % CHAINS
-of_items cat (key.Item id) (row.Item i) e = ap (λ n. n % CHAINS) ((Decides-eqb _ _).0 e)
+of_items : (cat : ℕ) (k : RowKey) (r : Row) → is_of (listing.Items cat) k r ≡ true → chain_of r ≡ Some (chain_of_items cat)
+of_items cat (key.Item id) (row.Item i) e = ap (λ n. Some (chain_of_items n)) ((Decides-eqb _ _).0 e)
 of_items cat k r e = absurd (false≢true e)
 
-of_bids : (item : Id) (k : RowKey) (r : Row) → is_of (listing.Bids item) k r ≡ true → chain_of r ≡ item.seq % CHAINS
-of_bids item (key.Bid id) (row.Bid b) e = ap (λ n. n % CHAINS) (same_seq b.item item e)
+of_bids : (item : Id) (k : RowKey) (r : Row) → is_of (listing.Bids item) k r ≡ true → chain_of r ≡ Some (chain_by table.Bid item)
+of_bids item (key.Bid id) (row.Bid b) e = ap (λ (i : Id). Some (chain_by table.Bid i)) ((Decides-same_id b.item item).0 e)
 of_bids item k r e = absurd (false≢true e)
 
-of_purchases : (item : Id) (k : RowKey) (r : Row) → is_of (listing.Purchases item) k r ≡ true → chain_of r ≡ item.seq % CHAINS
-of_purchases item (key.Purchase id) (row.Purchase p) e = ap (λ n. n % CHAINS) (same_seq p.item item e)
+of_purchases : (item : Id) (k : RowKey) (r : Row) → is_of (listing.Purchases item) k r ≡ true → chain_of r ≡ Some (chain_by table.Purchase item)
+of_purchases item (key.Purchase id) (row.Purchase p) e = ap (λ (i : Id). Some (chain_by table.Purchase i)) ((Decides-same_id p.item item).0 e)
 of_purchases item k r e = absurd (false≢true e)
 
-of_comments : (user : Id) (k : RowKey) (r : Row) → is_of (listing.Comments user) k r ≡ true → chain_of r ≡ user.seq % CHAINS
-of_comments user (key.Comment id) (row.Comment c) e = ap (λ n. n % CHAINS) (same_seq c.to user e)
+of_comments : (user : Id) (k : RowKey) (r : Row) → is_of (listing.Comments user) k r ≡ true → chain_of r ≡ Some (chain_by table.Comment user)
+of_comments user (key.Comment id) (row.Comment c) e = ap (λ (i : Id). Some (chain_by table.Comment i)) ((Decides-same_id c.to user).0 e)
 of_comments user k r e = absurd (false≢true e)
 
-one_value : (a b : ℕ) → Some a ≡ Some b → a ≡ b
-one_value a b e = cc
-
-pub small_chain : (l : Listing) (chain : ℕ) → chain_with l ≡ Some chain → chain ≤ CHAINS
-small_chain (listing.Items cat) chain w = let e = one_value _ _ w in omega (arith, e)
-small_chain (listing.Bids item) chain w = let e = one_value _ _ w in omega (arith, e)
-small_chain (listing.Purchases item) chain w = let e = one_value _ _ w in omega (arith, e)
-small_chain (listing.Comments user) chain w = let e = one_value _ _ w in omega (arith, e)
-small_chain l chain w = absurd cc
-
 -- a row that a listing is of is in the listing's chain
-in_chain : (l : Listing) (k : RowKey) (r : Row) (chain : ℕ) → chain_with l ≡ Some chain → is_of l k r ≡ true → chain_of r ≡ chain
-in_chain (listing.Items cat) k r chain w e = of_items cat k r e ∙ one_value _ _ w
-in_chain (listing.Bids item) k r chain w e = of_bids item k r e ∙ one_value _ _ w
-in_chain (listing.Purchases item) k r chain w e = of_purchases item k r e ∙ one_value _ _ w
-in_chain (listing.Comments user) k r chain w e = of_comments user k r e ∙ one_value _ _ w
-in_chain l k r chain w e = absurd cc
+of_chain : (l : Listing) (k : RowKey) (r : Row) (chain : IdKey) → chain_with l ≡ Some chain → is_of l k r ≡ true → chain_of r ≡ Some chain
+of_chain (listing.Items cat) k r chain w e = of_items cat k r e ∙ w
+of_chain (listing.Bids item) k r chain w e = of_bids item k r e ∙ w
+of_chain (listing.Purchases item) k r chain w e = of_purchases item k r e ∙ w
+of_chain (listing.Comments user) k r chain w e = of_comments user k r e ∙ w
+of_chain l k r chain w e = absurd cc
 
 default : Entry
 default = (key.Cat 0, new_category)
@@ -85,7 +87,7 @@ listed_more l t es n e b within read test =
     ∙ ap (λ xs. listed_among l t (take n es) ++ xs) (one_picked (p e) (h e) e h refl)
     ∙ ap (λ c. listed_among l t (take n es) ++ cond c (e ∷ []) []) (sym test)
 
-module _ (l : Listing) (t : Table) (chain : ℕ) (with_chain : chain_with l ≡ Some chain) (es : List Entry) where
+module _ (l : Listing) (t : Table) (chain : IdKey) (with_chain : chain_with l ≡ Some chain) (es : List Entry) where
   is_picked : Entry → Bool
   is_picked e = is_of l e.0 e.1 && holds t e.0
 
@@ -102,26 +104,30 @@ module _ (l : Listing) (t : Table) (chain : ℕ) (with_chain : chain_with l ≡ 
       ∙ filter-append (λ (x : Entry). holds t x.0) (filter (λ (x : Entry). is_of l x.0 x.1) (take n es)) (cond (is_of l e.0 e.1) (e ∷ []) [])
       ∙ ap (λ xs. listed_among l t (take n es) ++ xs) (one_picked (is_of l e.0 e.1) (holds t e.0) e (λ (x : Entry). holds t x.0) refl)
 
+  -- the row at a place is in the chain
+  here : ℕ → Bool
+  here n = is_in (get_or (chains_of es) n None) chain
+
   -- a row of another chain isn't picked
-  not_picked : (n : ℕ) → n < length es → nat_eq (slice_index (chains_of es) n) chain ≡ false → is_picked (get_or es n default) ≡ false
-  unfolding is_picked
+  not_picked : (n : ℕ) → n < length es → here n ≡ false → is_picked (get_or es n default) ≡ false
+  unfolding is_picked here
   not_picked n within other = at (is_of l (get_or es n default).0 (get_or es n default).1) refl
     where
       at : (b : Bool) → is_of l (get_or es n default).0 (get_or es n default).1 ≡ b → is_picked (get_or es n default) ≡ false
       at false e = ap (λ b. b && holds t (get_or es n default).0) e
       at true e =
-          let here : slice_index (chains_of es) n ≡ chain = get_or-map (λ (x : Entry). chain_of x.1) es n default 0 within
-          ∙ in_chain l (get_or es n default).0 (get_or es n default).1 chain with_chain e in
-          let yes = (Decides-eqb (slice_index (chains_of es) n) chain).1 here in absurd cc
+          let own : get_or (chains_of es) n None ≡ Some chain = get_or-map (λ (x : Entry). chain_of x.1) es n default None within
+          ∙ of_chain l (get_or es n default).0 (get_or es n default).1 chain with_chain e in
+          absurd (false≢true (sym other ∙ ap (λ o. is_in o chain) own ∙ in_itself chain))
 
   -- no row is picked between two that are linked
   between : (n : ℕ) → n ≤ length es → among n ≡ among (last_among chain (chains_of es) n)
-  unfolding last_among
+  unfolding last_among here
   between zero within = refl
-  between (suc n) within = at (nat_eq (slice_index (chains_of es) n) chain) refl (between n (omega arith))
+  between (suc n) within = at (here n) refl (between n (omega arith))
     where
-      at : (b : Bool) → nat_eq (slice_index (chains_of es) n) chain ≡ b → among n ≡ among (last_among chain (chains_of es) n)
-          → among (suc n) ≡ among (cond (nat_eq (slice_index (chains_of es) n) chain) (suc n) (last_among chain (chains_of es) n))
+      at : (b : Bool) → here n ≡ b → among n ≡ among (last_among chain (chains_of es) n)
+          → among (suc n) ≡ among (cond (here n) (suc n) (last_among chain (chains_of es) n))
       at true e before = ap (λ b. among (cond b (suc n) (last_among chain (chains_of es) n))) (sym e)
       at false e before =
           let next : suc n ≡ n + 1 = omega arith in
@@ -130,21 +136,20 @@ module _ (l : Listing) (t : Table) (chain : ℕ) (with_chain : chain_with l ≡ 
           ∙ append-nil (among n) ∙ before
           ∙ ap (λ b. among (cond b (suc n) (last_among chain (chains_of es) n))) (sym e)
 
-  last_own : (n : ℕ) → 0 < last_among chain (chains_of es) n → slice_index (chains_of es) (last_among chain (chains_of es) n - 1) ≡ chain
-  unfolding last_among
+  last_own : (n : ℕ) → 0 < last_among chain (chains_of es) n → here (last_among chain (chains_of es) n - 1) ≡ true
+  unfolding last_among here
   last_own zero some = absurd (omega arith)
-  last_own (suc n) some = at (nat_eq (slice_index (chains_of es) n) chain) refl (last_own n) some
+  last_own (suc n) some = at (here n) refl (last_own n) some
     where
-      at : (b : Bool) → nat_eq (slice_index (chains_of es) n) chain ≡ b
-          → (0 < last_among chain (chains_of es) n → slice_index (chains_of es) (last_among chain (chains_of es) n - 1) ≡ chain)
-          → 0 < cond (nat_eq (slice_index (chains_of es) n) chain) (suc n) (last_among chain (chains_of es) n)
-          → slice_index (chains_of es) (cond (nat_eq (slice_index (chains_of es) n) chain) (suc n) (last_among chain (chains_of es) n) - 1) ≡ chain
+      at : (b : Bool) → here n ≡ b
+          → (0 < last_among chain (chains_of es) n → here (last_among chain (chains_of es) n - 1) ≡ true)
+          → 0 < cond (here n) (suc n) (last_among chain (chains_of es) n)
+          → here (cond (here n) (suc n) (last_among chain (chains_of es) n) - 1) ≡ true
       at true e before some =
           let one : suc n - 1 ≡ n = omega arith in
-          ap (λ b. slice_index (chains_of es) (cond b (suc n) (last_among chain (chains_of es) n) - 1)) e
-          ∙ ap (slice_index (chains_of es)) one ∙ (Decides-eqb _ _).0 e
+          ap (λ b. here (cond b (suc n) (last_among chain (chains_of es) n) - 1)) e ∙ ap here one ∙ e
       at false e before some =
-          ap (λ b. slice_index (chains_of es) (cond b (suc n) (last_among chain (chains_of es) n) - 1)) e
+          ap (λ b. here (cond b (suc n) (last_among chain (chains_of es) n) - 1)) e
           ∙ before (subst (λ b. 0 < cond b (suc n) (last_among chain (chains_of es) n)) e some)
 
   -- the walk begins at the last row of the chain, and goes on to the row that is linked before
@@ -172,8 +177,9 @@ module _ (l : Listing) (t : Table) (chain : ℕ) (with_chain : chain_with l ≡ 
       ∙ ap (λ n. among n ++ (x ++ reverse picked)) is ∙ ap (λ xs. xs ++ (x ++ reverse picked)) (sym (between at (omega arith)))
       ∙ sym (append_assoc (among at) x (reverse picked)) ∙ ap (λ xs. xs ++ reverse picked) (sym grown) ∙ walked
 
-  pub own_last : (n last : ℕ) → last ≡ last_among chain (chains_of es) n → 0 < last → slice_index (chains_of es) (last - 1) ≡ chain
-  own_last n last is some = ap (λ k. slice_index (chains_of es) (k - 1)) is ∙ last_own n (omega (arith, is))
+  pub own_last : (n last : ℕ) → last ≡ last_among chain (chains_of es) n → 0 < last → get_or (chains_of es) (last - 1) None ≡ Some chain
+  unfolding here
+  own_last n last is some = in_chain _ chain (ap (λ k. here (k - 1)) is ∙ last_own n (omega (arith, is)))
 
 -- a fact of what was made, from another one
 pub if_made : {A E : Type 0} (P Q : A → Type 0) → ((x : A) → P x → Q x) → (r : Result A E) → IfOk r P → IfOk r Q

@@ -1,47 +1,74 @@
 -- Rows in chains, each linked to the one before it in its chain.
-use Rattle.std.specs.Prelude.{ℕ, zero, suc, ◌≡◌, ◌+◌, ◌<◌, ◌≤◌, ◌%◌, List, length, map as each, Option, Some, None, cond, nat_eq, slice_index}
-use Rattle.std.specs.Vec.{vec_len, vec_capacity}
+use Rattle.std.specs.Prelude.{ℕ, zero, suc, ◌≡◌, ◌<◌, ◌≤◌, Bool, false, List, length, get_or, take, map as each, Option, Some, None, cond, slice_index}
+use Rattle.std.specs.Map.{lookup}
+use Rattle.std.specs.Option.{unwrap_or}
+use Rattle.rubis_schema.specs.IdKeys.{same_id_key}
+use Rattle.rubis_schema.specs.declared.id_keys.IdKey.{IdKey}
+use Rattle.rubis_schema.specs.declared.id_keys.IdTable.{IdTable}
+use Rattle.rubis_schema.specs.declared.id_keys.IdTable.TheVariants as table
+use Rattle.rubis_schema.specs.declared.ids.Id.{Id}
 use Rattle.rubis_schema.specs.declared.listings.Listing.{Listing}
 use Rattle.rubis_schema.specs.declared.listings.Listing.TheVariants as listing
 use Rattle.rubis_schema.specs.declared.row_keys.RowKey.{RowKey}
 use Rattle.rubis_schema.specs.declared.rows.Row.{Row}
 use Rattle.rubis_schema.specs.declared.rows.Row.TheVariants as row
 use Rattle.rubis_shard.specs.declared.chains.Chains.{Chains}
-use Rattle.rubis_shard.specs.declared.chains.TheConstants.{CHAINS, PLACE_MAX}
 
--- the chain of a row: by the item, the user or the category by which it is listed; the other rows are in the last
-abbrev pub chain_of : Row → ℕ
-chain_of (row.Item i) = i.cat % CHAINS
-chain_of (row.Bid b) = b.item.seq % CHAINS
-chain_of (row.Purchase p) = p.item.seq % CHAINS
-chain_of (row.Comment c) = c.to.seq % CHAINS
-chain_of r = CHAINS
+-- the chain of the rows of a table that are listed by that id
+abbrev pub chain_by : IdTable → Id → IdKey
+chain_by t id = record { seq = id.seq; site = id.site; table = t }
 
--- the chain that has all rows of a listing, if it is of a few rows of a table
-abbrev pub chain_with : Listing → Option ℕ
-chain_with (listing.Items cat) = Some (cat % CHAINS)
-chain_with (listing.Bids item) = Some (item.seq % CHAINS)
-chain_with (listing.Purchases item) = Some (item.seq % CHAINS)
-chain_with (listing.Comments user) = Some (user.seq % CHAINS)
+-- the chain of the items of a category
+abbrev pub chain_of_items : ℕ → IdKey
+chain_of_items cat = record { seq = cat; site = 0; table = table.Item }
+
+-- the chain of a row: by the item, the user or the category by which it is listed; other rows are in none
+abbrev pub chain_of : Row → Option IdKey
+chain_of (row.Item i) = Some (chain_of_items i.cat)
+chain_of (row.Bid b) = Some (chain_by table.Bid b.item)
+chain_of (row.Purchase p) = Some (chain_by table.Purchase p.item)
+chain_of (row.Comment c) = Some (chain_by table.Comment c.to)
+chain_of r = None
+
+-- the chain that has all rows of a listing, if it is of rows that belong together
+abbrev pub chain_with : Listing → Option IdKey
+chain_with (listing.Items cat) = Some (chain_of_items cat)
+chain_with (listing.Bids item) = Some (chain_by table.Bid item)
+chain_with (listing.Purchases item) = Some (chain_by table.Purchase item)
+chain_with (listing.Comments user) = Some (chain_by table.Comment user)
 chain_with l = None
 
 -- the chain of each row
-abbrev pub chains_of : List (RowKey × Row) → List ℕ
+abbrev pub chains_of : List (RowKey × Row) → List (Option IdKey)
 chains_of es = each (λ e. chain_of e.1) es
 
+-- a row in that chain, or in none, is in chain k
+abbrev pub is_in : Option IdKey → IdKey → Bool
+is_in None k = false
+is_in (Some chain) k = same_id_key chain k
+
 -- the place of the last of the first n rows that is in the chain, counted from 1, or 0
-unfoldable pub last_among : ℕ → List ℕ → ℕ → ℕ
-last_among chain cs zero = 0
-last_among chain cs (suc n) = cond (nat_eq (slice_index cs n) chain) (suc n) (last_among chain cs n)
+unfoldable pub last_among : IdKey → List (Option IdKey) → ℕ → ℕ
+last_among k cs zero = 0
+last_among k cs (suc n) = cond (is_in (get_or cs n None) k) (suc n) (last_among k cs n)
+
+-- the same for the chain of a row, which may be in none
+abbrev pub last_before : Option IdKey → List (Option IdKey) → ℕ → ℕ
+last_before None cs n = 0
+last_before (Some k) cs n = last_among k cs n
+
+-- the place that is noted as the last one of the chain of a row, or 0
+abbrev pub last_noted : Option IdKey → List (IdKey × ℕ) → ℕ
+last_noted None noted = 0
+last_noted (Some k) noted = unwrap_or (lookup (same_id_key k) noted) 0
 
 -- rows in these chains are linked so
-pub record Links (cs : List ℕ) (c : Chains) : Type 0 where
+pub record Links (cs : List (Option IdKey)) (c : Chains) : Type 0 where
   pub many : length c.before.items ≡ length cs
-  pub last : (chain : ℕ) → chain ≤ CHAINS → slice_index c.last.items chain ≡ last_among chain cs (length cs)
-  pub before : (i : ℕ) → i < length cs → slice_index c.before.items i ≡ last_among (slice_index cs i) cs i
+  pub last : (k : IdKey) → last_noted (Some k) c.last.entries ≡ last_among k cs (length cs)
+  pub before : (i : ℕ) → i < length cs → slice_index c.before.items i ≡ last_before (get_or cs i None) cs i
 
--- there is room for so many rows more
-pub record HasPlaces (c : Chains) (rows : ℕ) : Type 0 where
-  pub ready : CHAINS < length c.last.items
-  pub room : vec_len c.before + rows ≤ vec_capacity c.before
-  pub few : vec_len c.before + rows ≤ PLACE_MAX
+-- the first of the rows in these chains are linked so, as many as there are links
+pub record IsLinkedSoFar (cs : List (Option IdKey)) (c : Chains) : Type 0 where
+  pub many : length c.before.items ≤ length cs
+  pub links : Links (take (length c.before.items) cs) c

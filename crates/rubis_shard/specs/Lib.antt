@@ -1,9 +1,12 @@
 pub mod States
 pub mod Chains
-pub mod Places
+pub mod Written
+pub mod MapKeys
+pub mod Rows
 pub mod Stores
 pub mod StateCode
 pub mod Holdings
 pub mod Laws
 pub mod Messages
 pub mod Listed
+pub mod Groups

@@ -1,40 +1,54 @@
-// Rows in chains, so that a listing of a few rows of a large table needn't look at the others.
+// Rows in chains, so that a listing of rows that belong together needn't look at the others.
 
-ghost use Rattle.std.specs.Prelude.{◌≡◌, ◌<◌, ◌≤◌, ◌+◌, ◌++◌, ◌∷◌, [], ℕ, List, OnOk, length, slice_index};
-ghost use Rattle.rubis_shard.specs.Chains.{HasPlaces, Links};
+ghost use Rattle.std.specs.Prelude.{◌≡◌, ◌<◌, ◌++◌, ◌∷◌, [], None, Some, cond, List, IfOk, OnOk, OnErr, length, slice_index};
+ghost use Rattle.rubis_schema.specs.IdKeys.{row_key, same_id_key};
+ghost use Rattle.rubis_schema.specs.declared.id_keys.IdKey.{IdKey};
+ghost use Rattle.indexmap.specs.IndexMap.{get};
+ghost use Rattle.rubis_shard.specs.Chains.{chains_of, is_in, last_noted, IsLinkedSoFar, Links};
 ghost use Rattle.rubis_shard.specs.Chains as model;
+ghost use Rattle.rubis_shard.specs.Written.{written};
 
-use rubis_schema::{Listing, Row};
+use indexmap::IndexMap;
+use rubis_schema::{IdKey, IdTable, KeyHashes, Listing, Row};
 use std::alloc::{AllocError, Global};
 
-/// How many chains there are, but for that of the rows that are listed only with their whole table.
-pub const CHAINS: usize = 1024;
-
 /// The greatest place that a row can have.
-pub const PLACE_MAX: usize = 4294967295;
+const PLACE_MAX: usize = 4294967295;
 
-/// The chain of a row: by the item, the user or the category by which it is listed.
-pub fn chain_of(row: &Row) -> usize
-    ensures value { result ≡ model.chain_of row.now }
-    ensures within { result ≤ CHAINS }
+// The chain of the items of a category: the category's number stands in the place of an id.
+fn chain_of_items(cat: u16) -> IdKey
+    ensures { result ≡ model.chain_of_items cat }
 {
-    match row {
-        Row::Item(item) => usize::from(item.cat) % CHAINS,
-        Row::Bid(bid) => bid.item.seq as usize % CHAINS,
-        Row::Purchase(purchase) => purchase.item.seq as usize % CHAINS,
-        Row::Comment(comment) => comment.to.seq as usize % CHAINS,
-        Row::User(_) | Row::Nick(_) | Row::Cat(_) => CHAINS,
+    IdKey {
+        seq: u32::from(cat),
+        site: 0,
+        table: IdTable::Item,
     }
 }
 
-/// The chain that has all rows of a listing, if it is of a few rows of a table.
-pub fn chain_with(listing: &Listing) -> Option<usize>
+/// The chain of a row, named by its table and by the item, the user or the category by which the row is listed. Other rows
+/// are in no chain.
+pub fn chain_of(row: &Row) -> Option<IdKey>
+    ensures { result ≡ model.chain_of row.now }
+{
+    match row {
+        Row::Item(item) => Some(chain_of_items(item.cat)),
+        Row::Bid(bid) => Some(IdKey::new(IdTable::Bid, bid.item)),
+        Row::Purchase(purchase) => Some(IdKey::new(IdTable::Purchase, purchase.item)),
+        Row::Comment(comment) => Some(IdKey::new(IdTable::Comment, comment.to)),
+        Row::User(_) | Row::Nick(_) | Row::Cat(_) => None,
+    }
+}
+
+/// The chain that has all rows of a listing, if it is of rows that belong together.
+pub fn chain_with(listing: &Listing) -> Option<IdKey>
     ensures { result ≡ model.chain_with listing.now }
 {
     match listing {
-        Listing::Items(cat) => Some(usize::from(*cat) % CHAINS),
-        Listing::Bids(item) | Listing::Purchases(item) => Some(item.seq as usize % CHAINS),
-        Listing::Comments(user) => Some(user.seq as usize % CHAINS),
+        Listing::Items(cat) => Some(chain_of_items(*cat)),
+        Listing::Bids(item) => Some(IdKey::new(IdTable::Bid, *item)),
+        Listing::Purchases(item) => Some(IdKey::new(IdTable::Purchase, *item)),
+        Listing::Comments(user) => Some(IdKey::new(IdTable::Comment, *user)),
         _ => None,
     }
 }
@@ -43,61 +57,89 @@ pub fn chain_with(listing: &Listing) -> Option<usize>
 /// 0 is none.
 #[derive(Drop)]
 pub struct Chains {
-    /// The place of the last row of each chain. The list is empty until there is room for a row.
-    pub last: Vec<u32>,
+    /// The place of the last row of each chain.
+    pub last: IndexMap<IdKey, u32, KeyHashes>,
     /// For each row the place of the one before it in its chain.
     pub before: Vec<u32>,
 }
 
+// Notes a place as the last one of its chain, and answers the one that was noted before, or 0. Where there is no chain, it
+// notes nothing.
+fn note_last(
+    last: &mut IndexMap<IdKey, u32, KeyHashes>,
+    chain: Option<IdKey>,
+    place: u32,
+) -> Result<u32, AllocError>
+    ensures before { IfOk result (λ before. before ≡ last_noted chain last.old.entries) }
+    ensures noted { OnOk result ((k : IdKey) → get same_id_key last.new k ≡ cond (is_in chain k) (Some place) (get same_id_key last.old k)) }
+    ensures err { OnErr result (last.new.entries ≡ last.old.entries) }
+{
+    let Some(chain) = chain else {
+        return Ok(0);
+    };
+    let before = last.insert(chain, place)?;
+    Ok(before.unwrap_or(0))
+}
+
 impl Chains {
     /// The chains of no rows. They take no memory yet.
-    pub fn new(alloc: Global) -> Chains
+    pub fn new(alloc: Global, hashes: KeyHashes) -> Chains
         ensures { Links [] result }
     {
         Chains {
-            last: Vec::new(alloc),
+            last: IndexMap::with_hasher(alloc, hashes),
             before: Vec::new(alloc),
         }
     }
 
-    // Makes the list of the chains' last rows, if it isn't there yet.
-    fn make_ends(&mut self) -> Result<(), AllocError>
-        ensures links { (cs : List ℕ) → Links cs self.old → Links cs self.new }
-        ensures ready { OnOk result (CHAINS < length self.new.last.items) }
+    // Puts a row behind the others, in that chain. When out of memory, nothing changes.
+    fn push(&mut self, chain: Option<IdKey>) -> Result<(), AllocError>
+        ensures ok { OnOk result ((cs : List _) → Links cs self.old → Links (cs ++ chain ∷ []) self.new) }
+        ensures err { OnErr result ((cs : List _) → Links cs self.old → Links cs self.new) }
     {
-        for _chain in self.last.len()..CHAINS + 1 {
-            self.last.push(0)?;
-        }
-        Ok(())
-    }
-
-    /// Makes room for so many rows more.
-    pub fn make_room(&mut self, rows: usize) -> Result<(), AllocError>
-        ensures links { (cs : List ℕ) → Links cs self.old → Links cs self.new }
-        ensures room { OnOk result (HasPlaces self.new rows) }
-    {
-        self.make_ends()?;
-        self.before.reserve(rows)?;
-        if self.before.len().saturating_add(rows) > PLACE_MAX {
+        let rows = self.before.len();
+        if rows >= PLACE_MAX {
             return Err(AllocError);
         }
+        self.before.reserve(1)?;
+        let before = note_last(&mut self.last, chain, rows as u32 + 1)?;
+        self.before.push_reserved(before);
         Ok(())
     }
 
-    /// Puts a row behind the others, in that chain.
-    pub fn push(&mut self, chain: usize)
-        requires chain { chain ≤ CHAINS }
-        requires room { HasPlaces self.old 1 }
-        ensures links { (cs : List ℕ) → Links cs self.old → Links (cs ++ chain ∷ []) self.new }
-        ensures room { (n : ℕ) → HasPlaces self.old (n + 1) → HasPlaces self.new n }
+    /// How many rows are linked.
+    pub fn len(&self) -> usize
+        ensures { result ≡ length self.now.before.items }
     {
-        self.before.push_reserved(self.last[chain]);
-        self.last[chain] = self.before.len() as u32;
+        self.before.len()
+    }
+
+    /// Links no row any more.
+    pub fn clear(&mut self)
+        ensures { (cs : List _) → IsLinkedSoFar cs self.new }
+    {
+        self.last.clear();
+        self.before.clear();
+    }
+
+    /// Links the rows behind those that are linked. When out of memory, some of them may be linked.
+    pub fn link(&mut self, rows: &IndexMap<IdKey, Row, KeyHashes>) -> Result<(), AllocError>
+        requires { IsLinkedSoFar (chains_of (written row_key rows.now.entries)) self.old }
+        ensures linked { IsLinkedSoFar (chains_of (written row_key rows.now.entries)) self.new }
+        ensures all { OnOk result (length self.new.before.items ≡ length rows.now.entries) }
+    {
+        for at in self.len()..rows.len() {
+            let Some((_, row)) = rows.get_index(at) else {
+                unreachable!()
+            };
+            self.push(chain_of(row))?;
+        }
+        Ok(())
     }
 
     /// The place of the last row of a chain, or 0.
-    pub fn last(&self, chain: usize) -> usize
-        ensures { result ≡ slice_index self.now.last.items chain }
+    pub fn last(&self, chain: &IdKey) -> usize
+        ensures { result ≡ last_noted (Some chain.now) self.now.last.entries }
     {
         match self.last.get(chain) {
             Some(place) => *place as usize,

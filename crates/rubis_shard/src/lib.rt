@@ -2,21 +2,25 @@
 #![tactic(auto)]
 
 mod chains;
+mod groups;
 mod laws;
+mod map_keys;
 mod message_parts;
 mod messages;
+mod orders;
 mod picks;
-mod place_lists;
-mod places;
 mod row_map;
 mod rows;
 mod selections;
+mod shard_store;
 mod shards;
 mod shares;
 mod stores;
 mod tables;
 
+pub use groups::Group;
 pub use laws::shards_hold_logs;
+pub use rubis_shadow::{Misfit, Numbered};
 pub use selections::selects;
 pub use shards::{Applied, Shard};
 pub use shares::Share;

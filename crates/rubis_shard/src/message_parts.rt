@@ -7,8 +7,8 @@ ghost use Rattle.rubis_shard.specs.Holdings.{home_or};
 use rubis_schema::Id;
 use rubis_shadow::Shadow;
 
-/// A message at its entry of the log, to be folded on so many shards, with the home of each of its parts, which is the
-/// number of shards where there is no part.
+/// A message at its entry of the log, to be folded on `shards` shards, with the home of each of its parts. Where there
+/// is no part, the home is `shards`.
 #[derive(Clone, Copy)]
 pub struct MessageParts<'a> {
     pub entry: u32,

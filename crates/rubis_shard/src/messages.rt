@@ -7,8 +7,8 @@ ghost use Rattle.rubis_shard.specs.Messages.{numbered_of, at_place, FoldsFrom};
 ghost use Rattle.rubis_shard.specs.Stores.{held_by, HasRoom};
 
 use crate::message_parts::MessageParts;
+use crate::shard_store::Store;
 use crate::shards::Shard;
-use crate::stores::Store;
 use rubis_schema::{Id, Row, shard_of};
 use rubis_shadow::{Numbered, Shadow};
 use std::alloc::{AllocError, Global};
@@ -127,8 +127,9 @@ impl<'a> MessageParts<'a> {
         });
     }
 
-    /// Folds the parts on whose home is the shard, with that row for the first.
-    #[inline(always)]
+    /// Folds the parts on whose home is the shard, with that row for the first. It is long, and one copy of it serves both of its
+    /// callers: a second one would no longer fit a processor's first cache.
+    #[inline(never)]
     pub fn fold_at(&self, store: &mut Store, at: usize, row: Option<Row>)
         requires at { at < self.now.shards }
         requires room { HasRoom store.old 3 }
@@ -141,6 +142,7 @@ impl<'a> MessageParts<'a> {
     }
 
     // Folds the parts on whose home is the shard, if they are wanted.
+    #[inline(always)]
     fn fold_if(&self, store: &mut Store, at: usize, row: Option<Row>, wanted: bool)
         requires at { at < self.now.shards }
         requires room { HasRoom store.old 3 }
@@ -154,7 +156,33 @@ impl<'a> MessageParts<'a> {
     }
 }
 
+// Folds the parts whose home is the shard `at` or one behind it. No shard changes before each has room.
+fn fold_homes(
+    alloc: Global,
+    list: &mut [Shard],
+    message: &MessageParts<'_>,
+    at: usize,
+) -> Result<(), AllocError>
+    requires shards { message.now.shards ≡ length list.old }
+    requires order { AreInOrder list.old }
+    requires within { at < length list.old }
+    ensures ok { OnOk result (FoldsFrom at list.old (numbered_of message.now) list.new) }
+    ensures err { OnErr result (list.new ≡ list.old) }
+{
+    let row = message.boxed_row(alloc, at)?;
+    let next = message.next_home(at + 1);
+    if next == list.len() {
+        return list[at].fold_message(message, row);
+    }
+    let mut store = list[at].take_store(3)?;
+    let folded = fold_homes(alloc, list, message, next);
+    message.fold_if(store.get_mut(), at, row, folded.is_ok());
+    list[at].put_store(store);
+    folded
+}
+
 /// Folds the parts whose home is the shard `from` or one behind it. No shard changes before each has room.
+#[inline(always)]
 pub fn fold_from(
     alloc: Global,
     list: &mut [Shard],
@@ -172,13 +200,5 @@ pub fn fold_from(
     if at == list.len() {
         return Ok(());
     }
-    let row = message.boxed_row(alloc, at)?;
-    if message.next_home(at + 1) == list.len() {
-        return list[at].fold_message(message, row);
-    }
-    let mut store = list[at].take_store(3)?;
-    let folded = fold_from(alloc, list, message, at + 1);
-    message.fold_if(store.get_mut(), at, row, folded.is_ok());
-    list[at].put_store(store);
-    folded
+    fold_homes(alloc, list, message, at)
 }

@@ -1,20 +1,23 @@
 // The rows of a shard that a listing is of.
 
 ghost use Rattle.std.specs.Prelude.{◌≡◌, ◌&&◌, Some, IfOk, map as each};
-ghost use Rattle.std.specs.FinMap as map;
 ghost use Rattle.std.specs.List.Sorted.{IsPermutation};
-ghost use Rattle.std.specs.Map.Iter.{deref_pair};
 ghost use Rattle.rubis_schema.specs.Keys.{holds};
 ghost use Rattle.rubis_model.specs.Listings.{is_of};
 ghost use Rattle.rubis_shard.specs.Chains.{chain_with};
 ghost use Rattle.rubis_shard.specs.Listed.{listed_among, listed_of};
+ghost use Rattle.rubis_shard.specs.Rows.{entries_of, kept_of, linked_of, tables_in};
+ghost use Rattle.rubis_shard.specs.Written.{shown, written};
 
 use crate::chains::chain_with;
+use crate::map_keys::MapKey;
+use crate::orders::put_in_order;
 use crate::row_map::Rows;
 use crate::selections::selects;
-use rubis_schema::{Listing, Row, RowKey, Table};
-use rubis_shadow::put_in_order;
+use indexmap::IndexMap;
+use rubis_schema::{IdKey, Listing, Row, RowKey, Table};
 use std::alloc::{AllocError, Global};
+use std::hash::BuildHasher;
 
 // Whether the listing is of the row, and the row is one of the table's.
 fn picks(listing: &Listing, table: Table, key: &RowKey, row: &Row) -> bool
@@ -23,43 +26,89 @@ fn picks(listing: &Listing, table: Table, key: &RowKey, row: &Row) -> bool
     selects(listing, key, row) && table.holds(key)
 }
 
-// Those rows of one table that the listing is of, looked for among all rows.
-fn picked_of_all<'a>(
+// Those rows of one table that the listing is of, looked for among all rows of a map.
+fn picked_among<'a, K: MapKey, S: BuildHasher>(
     alloc: Global,
-    all: &'a [(RowKey, Row)],
+    all: &'a IndexMap<K, Row, S>,
     table: Table,
     listing: &Listing,
-) -> Result<Vec<(&'a RowKey, &'a Row)>, AllocError>
-    ensures { IfOk result (λ rows. each deref_pair rows.items ≡ listed_among listing.now table all.now) }
+) -> Result<Vec<(RowKey, &'a Row)>, AllocError>
+    ensures { IfOk result (λ rows. each shown rows.items ≡ listed_among listing.now table (written K.row_key all.now.entries)) }
 {
     let mut rows = Vec::new(alloc);
-    for (key, row) in all {
-        if picks(listing, table, key, row) {
-            rows.push((key, row))?;
+    for (key, row) in all.iter() {
+        let key = key.row_key();
+        if picks(listing, table, &key, row) {
+            rows.reserve(1)?;
+            rows.push_reserved((key, row));
         }
     }
     Ok(rows)
 }
 
-// Those rows of one table that the listing is of, looked for in the chain that has them, from its last row on.
+// Those rows of one table that the listing is of, in any order, looked for in the map that has the table's.
+fn picked_of_all<'a>(
+    alloc: Global,
+    rows: &'a Rows,
+    table: Table,
+    listing: &Listing,
+) -> Result<Vec<(RowKey, &'a Row)>, AllocError>
+    ensures { IfOk result (λ picked. each shown picked.items ≡ listed_among listing.now table (entries_of rows.now)) }
+{
+    match table {
+        Table::Nicks => picked_among(alloc, &rows.nicks, table, listing),
+        Table::Cats => picked_among(alloc, &rows.cats, table, listing),
+        _ => picked_among(alloc, &rows.kept, table, listing),
+    }
+}
+
+// Those of the linked rows of one table that match the listing, found along the chain that has them, from its last row on.
 fn picked_of_chain<'a>(
     alloc: Global,
     rows: &'a Rows,
-    chain: usize,
+    chain: &IdKey,
     table: Table,
     listing: &Listing,
-) -> Result<Vec<(&'a RowKey, &'a Row)>, AllocError>
-    requires { chain_with listing.now ≡ Some chain }
-    ensures { IfOk result (λ picked. IsPermutation (listed_among listing.now table rows.now.all.items) (each deref_pair picked.items)) }
+) -> Result<Vec<(RowKey, &'a Row)>, AllocError>
+    requires { chain_with listing.now ≡ Some chain.now }
+    ensures { IfOk result (λ picked. IsPermutation (listed_among listing.now table (linked_of rows.now)) (each shown picked.items)) }
 {
     let mut picked = Vec::new(alloc);
     let mut place = rows.chains.last(chain);
     while place > 0 {
-        let (key, row) = &rows.all[place - 1];
-        if picks(listing, table, key, row) {
-            picked.push((key, row))?;
+        let Some((key, row)) = rows.kept.get_index(place - 1) else {
+            unreachable!()
+        };
+        let key = key.row_key();
+        if picks(listing, table, &key, row) {
+            picked.reserve(1)?;
+            picked.push_reserved((key, row));
         }
         place = rows.chains.before(place - 1);
+    }
+    Ok(picked)
+}
+
+// Adds to those of the linked rows of one table that match the listing those of the rows behind.
+fn with_unlinked<'a>(
+    rows: &'a Rows,
+    table: Table,
+    listing: &Listing,
+    linked: Vec<(RowKey, &'a Row)>,
+) -> Result<Vec<(RowKey, &'a Row)>, AllocError>
+    requires { IsPermutation (listed_among listing.now table (linked_of rows.now)) (each shown linked.items) }
+    ensures { IfOk result (λ picked. IsPermutation (listed_among listing.now table (kept_of rows.now)) (each shown picked.items)) }
+{
+    let mut picked = linked;
+    for at in rows.chains.len()..rows.kept.len() {
+        let Some((key, row)) = rows.kept.get_index(at) else {
+            unreachable!()
+        };
+        let key = key.row_key();
+        if picks(listing, table, &key, row) {
+            picked.reserve(1)?;
+            picked.push_reserved((key, row));
+        }
     }
     Ok(picked)
 }
@@ -70,12 +119,15 @@ fn picked<'a>(
     rows: &'a Rows,
     table: Table,
     listing: &Listing,
-) -> Result<Vec<(&'a RowKey, &'a Row)>, AllocError>
-    ensures { IfOk result (λ picked. IsPermutation (listed_among listing.now table rows.now.all.items) (each deref_pair picked.items)) }
+) -> Result<Vec<(RowKey, &'a Row)>, AllocError>
+    ensures { IfOk result (λ picked. IsPermutation (listed_among listing.now table (entries_of rows.now)) (each shown picked.items)) }
 {
     match chain_with(listing) {
-        Some(chain) => picked_of_chain(alloc, rows, chain, table, listing),
-        None => picked_of_all(alloc, &rows.all, table, listing),
+        Some(chain) => {
+            let linked = picked_of_chain(alloc, rows, &chain, table, listing)?;
+            with_unlinked(rows, table, listing, linked)
+        }
+        None => picked_of_all(alloc, rows, table, listing),
     }
 }
 
@@ -85,9 +137,10 @@ pub fn picked_in_order<'a>(
     rows: &'a Rows,
     table: Table,
     listing: &Listing,
-) -> Result<Vec<(&'a RowKey, &'a Row)>, AllocError>
-    ensures { IfOk result (λ picked. each deref_pair picked.items ≡ listed_of listing.now table (map.from_entries rows.now.all.items)) }
+) -> Result<Vec<(RowKey, &'a Row)>, AllocError>
+    ensures { IfOk result (λ picked. each shown picked.items ≡ listed_of listing.now table (tables_in rows.now)) }
 {
+    let _lens = rows.lens();
     let mut picked = picked(alloc, rows, table, listing)?;
     put_in_order(alloc, &mut picked)?;
     Ok(picked)

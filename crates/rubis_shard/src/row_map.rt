@@ -1,22 +1,18 @@
-ghost use Rattle.std.proofs.Props.{props};
-ghost use Rattle.std.specs.List.{IsDistinct};
-ghost use Rattle.std.specs.Map.{keys_of};
-ghost use Rattle.rubis_schema.specs.Keys.{key_eq};
-ghost use Rattle.rubis_shard.specs.Chains.{chains_of, Links};
-ghost use Rattle.rubis_shard.specs.Places.{Finds};
+ghost use Rattle.rubis_schema.specs.IdKeys.{row_key};
+ghost use Rattle.rubis_shard.specs.Chains.{chains_of, IsLinkedSoFar};
+ghost use Rattle.rubis_shard.specs.Written.{written};
 
 use crate::chains::Chains;
-use crate::places::Places;
-use rubis_schema::{Row, RowKey};
+use indexmap::IndexMap;
+use rubis_schema::{IdKey, KeyHashes, Nick, NickHashes, Row};
 
-/// The rows of a shard with their keys, in the order in which they came: where each key's row is, and the rows in chains
-/// by what they are listed by.
+/// The rows of a shard: those with ids, the first of them in chains by what they are listed by; those of nicknames; and
+/// those of categories.
 #[derive(Drop)]
 pub struct Rows {
-    pub all: Vec<(RowKey, Row)>,
-    pub places: Places,
+    pub kept: IndexMap<IdKey, Row, KeyHashes>,
+    pub nicks: IndexMap<Nick, Row, NickHashes>,
+    pub cats: IndexMap<u16, Row>,
     pub chains: Chains,
-    ghost linked: { Links (chains_of all.items) chains },
-    ghost found: { Finds (keys_of all.items) places },
-    ghost distinct: { IsDistinct key_eq (keys_of all.items) } by { Prim.hlevel props },
+    ghost linked: { IsLinkedSoFar (chains_of (written row_key kept.entries)) chains },
 }

@@ -1,103 +1,206 @@
-ghost use Rattle.std.specs.Prelude.{◌≡◌, ◌≢◌, ℕ, ◌+◌, ◌≤◌, [], is_none, option_copied, vec_len, OnOk};
+ghost use Rattle.std.specs.Prelude.{◌≡◌, ◌≢◌, ℕ, ◌+◌, ◌++◌, ◌∷◌, [], ◌<◌, ◌≤◌, Some, None, is_none, option_copied, cond, true, false, OnOk};
 ghost use Rattle.std.specs.Bool.{MatchBool};
 ghost use Rattle.std.specs.FinMap as map;
+ghost use Rattle.std.specs.List.{IsDistinct};
 ghost use Rattle.std.specs.Map.{keys_of};
-ghost use Rattle.rubis_schema.specs.Keys.{key_order};
+ghost use Rattle.indexmap.specs.IndexMap.{get, insert_entry, spare};
+ghost use Rattle.rubis_schema.specs.IdKeys.{same_id_key};
+ghost use Rattle.rubis_schema.specs.Keys.{key_eq};
+ghost use Rattle.rubis_schema.specs.declared.id_keys.IdKey.{IdKey};
 ghost use Rattle.rubis_schema.specs.declared.rows.Row.{Row};
 ghost use Rattle.rubis_shadow.specs.Changes.{after_part, misfit_of};
 ghost use Rattle.rubis_shadow.specs.declared.changes.Change.TheVariants.{Insert};
-ghost use Rattle.rubis_shard.specs.Places.{place_among};
-ghost use Rattle.rubis_shard.specs.Stores.{HasRoomForRows};
+ghost use Rattle.rubis_shard.specs.Rows.{entries_of, kept_of, linked_of, no_row, tables_in, HasRoomForRows, IsAltered, IsChanged};
 
-use crate::chains::{Chains, chain_of};
-use crate::places::Places;
+use crate::chains::Chains;
+use crate::map_keys::{Place, place_of};
 use crate::row_map::Rows;
-use rubis_schema::{Row, RowKey};
-use rubis_shadow::{Change, Effect, MisfitKind};
+use indexmap::IndexMap;
+use indexmap::map::Entry;
+use rubis_schema::{Hashes, IdKey, KeyHashes, Row, RowKey};
+use rubis_shadow::{Change, Effect, Fate, MisfitKind};
 use std::alloc::{AllocError, Global};
+use std::hash::{BuildHasher, Hash};
+
+// Puts the row at the key where none is there, and says whether it did. There is room for it.
+#[inline(always)]
+fn put_in<K: Eq + Hash + Drop, S: BuildHasher>(
+    rows: &mut IndexMap<K, Row, S>,
+    key: K,
+    row: Row,
+) -> bool
+    requires { 0 < spare rows.old }
+    ensures free { result ≡ is_none (get K.eq rows.old key) }
+    ensures put { result ≡ true → rows.new.entries ≡ insert_entry K.eq rows.old.entries key row }
+    ensures found { result ≡ true → (q : K) → get K.eq rows.new q ≡ cond (K.eq key q) (Some row) (get K.eq rows.old q) }
+    ensures same { result ≡ false → rows.new.entries ≡ rows.old.entries }
+    ensures room { spare rows.old ≤ spare rows.new + 1 }
+{
+    if rows.contains_key(&key) {
+        return false;
+    }
+    let Ok(_) = rows.insert(key, row) else {
+        unreachable!()
+    };
+    true
+}
+
+// The same for the rows with ids, which come most: it looks for the key only once.
+#[inline(always)]
+fn put_kept(rows: &mut IndexMap<IdKey, Row, KeyHashes>, key: IdKey, row: Row) -> bool
+    requires { 0 < spare rows.old }
+    ensures free { result ≡ is_none (get same_id_key rows.old key) }
+    ensures put { result ≡ true → rows.new.entries ≡ insert_entry same_id_key rows.old.entries key row }
+    ensures found { result ≡ true → (q : IdKey) → get same_id_key rows.new q ≡ cond (same_id_key key q) (Some row) (get same_id_key rows.old q) }
+    ensures same { result ≡ false → rows.new.entries ≡ rows.old.entries }
+    ensures room { spare rows.old ≤ spare rows.new + 1 }
+{
+    let Ok(entry) = rows.entry(key) else {
+        unreachable!()
+    };
+    match entry {
+        Entry::Occupied(_) => false,
+        Entry::Vacant(vacant) => {
+            vacant.insert(row);
+            true
+        }
+    }
+}
+
+// Changes the row at the key where it stands, if there is one. Where the row doesn't stay, the caller removes it.
+#[inline(always)]
+fn alter_in<K: Eq + Hash + Drop, S: BuildHasher>(
+    rows: &mut IndexMap<K, Row, S>,
+    key: &K,
+    change: &Change,
+) -> Fate
+    ensures none { get K.eq rows.old key.now ≡ None → (rows.new.entries ≡ rows.old.entries) × (result ≡ no_row) }
+    ensures some { (was : Row) → get K.eq rows.old key.now ≡ Some was → IsAltered K.eq rows.old.entries rows.new.entries key.now change.now was result }
+    ensures room { spare rows.new ≡ spare rows.old }
+{
+    let Some(row) = rows.get_mut(key) else {
+        return Fate {
+            stays: true,
+            misfit: Some(MisfitKind::NoRow),
+        };
+    };
+    change.alter(row)
+}
+
+// Does a change of the row at the key, if there is one, and says whether it removed the row.
+#[inline(always)]
+fn change_in<K: Eq + Hash + Drop, S: BuildHasher>(
+    rows: &mut IndexMap<K, Row, S>,
+    key: &K,
+    change: &Change,
+) -> Fate
+    ensures none { get K.eq rows.old key.now ≡ None → (rows.new.entries ≡ rows.old.entries) × (result ≡ no_row) }
+    ensures some { (was : Row) → get K.eq rows.old key.now ≡ Some was → IsChanged K.eq rows.old.entries rows.new.entries key.now change.now was result }
+    ensures room { spare rows.old ≤ spare rows.new }
+{
+    let fate = alter_in(rows, key, change);
+    if !fate.stays {
+        rows.swap_remove(key);
+    }
+    fate
+}
 
 impl Rows {
-    /// No rows, of one of so many shards.
-    pub fn new(alloc: Global, shards: usize) -> Rows
-        ensures { result.all.items ≡ [] }
+    /// No rows.
+    pub fn new(alloc: Global, hashes: Hashes) -> Rows
+        ensures { entries_of result ≡ [] }
     {
         Rows {
-            all: Vec::new(alloc),
-            places: Places::new(alloc, shards),
-            chains: Chains::new(alloc),
+            kept: IndexMap::with_hasher(alloc, hashes.keys),
+            nicks: IndexMap::with_hasher(alloc, hashes.nicks),
+            cats: IndexMap::new(alloc),
+            chains: Chains::new(alloc, hashes.keys),
         }
     }
 
-    /// Makes room for so many rows more.
-    pub fn make_room(&mut self, rows: usize) -> Result<(), AllocError>
-        ensures same { self.new.all.items ≡ self.old.all.items }
-        ensures room { OnOk result (HasRoomForRows self.new rows) }
+    /// Makes room for n rows more.
+    pub fn make_room(&mut self, n: usize) -> Result<(), AllocError>
+        ensures same { entries_of self.new ≡ entries_of self.old }
+        ensures room { OnOk result (HasRoomForRows self.new n) }
     {
-        self.all.reserve(rows)?;
-        self.places.make_room(rows)?;
-        self.chains.make_room(rows)?;
+        self.kept.reserve(n)?;
+        self.nicks.reserve(n)?;
+        self.cats.reserve(n)?;
         Ok(())
     }
 
-    // The place of the row at the key, counted from 1, or 0.
-    #[inline(always)]
-    fn place(&self, key: &RowKey) -> usize
-        ensures place { result ≡ place_among key.now (keys_of self.now.all.items) }
-        ensures within { result ≤ vec_len self.now.all }
+    /// Links the rows behind those that are linked, so that a listing needn't look at each of them. When out of memory, some
+    /// of them may be linked.
+    pub fn link(&mut self) -> Result<(), AllocError>
+        ensures same { entries_of self.new ≡ entries_of self.old }
+        ensures all { OnOk result (linked_of self.new ≡ kept_of self.new) }
+        ensures room { (n : ℕ) → HasRoomForRows self.old n → HasRoomForRows self.new n }
     {
-        self.places.find(key, &self.all)
+        self.chains.link(&self.kept)?;
+        Ok(())
+    }
+
+    /// How many rows there are in each map.
+    pub fn lens(&self) -> (usize, usize, usize)
+        ensures { IsDistinct key_eq (keys_of (entries_of self.now)) }
+    {
+        (self.kept.len(), self.nicks.len(), self.cats.len())
     }
 
     /// The row at the key, if there is one.
     pub fn row(&self, key: &RowKey) -> Option<&Row>
-        ensures { option_copied result ≡ map.get (map.from_entries {R = key_order} self.now.all.items) key.now }
+        ensures { option_copied result ≡ map.get (tables_in self.now) key.now }
     {
-        let place = self.place(key);
-        if place == 0 {
-            return None;
+        match place_of(key) {
+            Place::Kept(id) => self.kept.get(&id),
+            Place::Nick(nick) => self.nicks.get(&nick),
+            Place::Cat(cat) => self.cats.get(&cat),
         }
-        Some(&self.all[place - 1].1)
     }
 
     /// Puts the row at the key where none is there, and says whether it did. There is room for it.
     #[inline(always)]
     pub fn put_new(&mut self, key: RowKey, row: Row) -> bool
         requires { HasRoomForRows self.old 1 }
-        ensures free { result ≡ is_none (map.get (map.from_entries {R = key_order} self.old.all.items) key) }
-        ensures put { MatchBool result (map.from_entries {R = key_order} self.new.all.items ≡ map.insert (map.from_entries self.old.all.items) key row) (self.new.all.items ≡ self.old.all.items) }
+        ensures free { result ≡ is_none (map.get (tables_in self.old) key) }
+        ensures put { MatchBool result (tables_in self.new ≡ map.insert (tables_in self.old) key row) (entries_of self.new ≡ entries_of self.old) }
         ensures room { (n : ℕ) → HasRoomForRows self.old (n + 1) → HasRoomForRows self.new n }
     {
-        if self.place(&key) != 0 {
-            return false;
+        match place_of(&key) {
+            Place::Kept(id) => put_kept(&mut self.kept, id, row),
+            Place::Nick(nick) => put_in(&mut self.nicks, nick, row),
+            Place::Cat(cat) => put_in(&mut self.cats, cat, row),
         }
-        let chain = chain_of(&row);
-        self.all.push_reserved((key, row));
-        self.chains.push(chain);
-        self.places.put(key, self.all.len());
-        true
     }
 
-    // Does a change of a row, where the row is.
+    // Does a change of a row, where the row is. Where one of the first map is removed, another takes its place, and no row
+    // stays linked; no shadow has such a part.
     #[inline(always)]
     fn change_row(&mut self, key: &RowKey, change: &Change) -> Option<MisfitKind>
         requires { (row : Row) → change.now ≢ Insert row }
-        ensures tables { map.from_entries {R = key_order} self.new.all.items ≡ after_part (map.from_entries self.old.all.items) (record { key = key.now; change = change.now }) }
-        ensures misfit { result ≡ misfit_of (map.from_entries self.old.all.items) (record { key = key.now; change = change.now }) }
+        ensures tables { tables_in self.new ≡ after_part (tables_in self.old) (record { key = key.now; change = change.now }) }
+        ensures misfit { result ≡ misfit_of (tables_in self.old) (record { key = key.now; change = change.now }) }
         ensures room { (n : ℕ) → HasRoomForRows self.old n → HasRoomForRows self.new n }
     {
-        let place = self.place(key);
-        if place == 0 {
-            return Some(MisfitKind::NoRow);
+        match place_of(key) {
+            Place::Kept(id) => {
+                let fate = change_in(&mut self.kept, &id, change);
+                if !fate.stays {
+                    self.chains.clear();
+                }
+                fate.misfit
+            }
+            Place::Nick(nick) => change_in(&mut self.nicks, &nick, change).misfit,
+            Place::Cat(cat) => change_in(&mut self.cats, &cat, change).misfit,
         }
-        change.alter(&mut self.all[place - 1].1)
     }
 
     /// Does one part, for which there is room.
     #[inline(always)]
     pub fn put_effect(&mut self, effect: Effect) -> Option<MisfitKind>
         requires { HasRoomForRows self.old 1 }
-        ensures tables { map.from_entries {R = key_order} self.new.all.items ≡ after_part (map.from_entries self.old.all.items) effect }
-        ensures misfit { result ≡ misfit_of (map.from_entries self.old.all.items) effect }
+        ensures tables { tables_in self.new ≡ after_part (tables_in self.old) effect }
+        ensures misfit { result ≡ misfit_of (tables_in self.old) effect }
         ensures room { (n : ℕ) → HasRoomForRows self.old (n + 1) → HasRoomForRows self.new n }
     {
         let Effect { key, change } = effect;

@@ -2,7 +2,6 @@ ghost use Rattle.std.specs.Prelude.{◌≡◌, ◌<◌, ◌≤◌, ◌∷◌, []
 ghost use Rattle.std.specs.List.{All};
 ghost use Rattle.std.specs.FinMap as map;
 ghost use Rattle.std.specs.Map.{keys_of};
-ghost use Rattle.std.specs.Map.Iter.{deref_pair};
 ghost use Rattle.rubis_schema.specs.Keys.{key_order};
 ghost use Rattle.rubis_shadow.specs.Tables.{opening, rows_of};
 ghost use Rattle.rubis_model.specs.Shares.{part_of};
@@ -13,14 +12,16 @@ ghost use Rattle.rubis_shard.specs.Messages.{emptied, numbered_of};
 ghost use Rattle.rubis_shard.specs.Holdings.{parts_at};
 ghost use Rattle.rubis_shadow.specs.BoxedRows.{HasBoxedRow};
 ghost use Rattle.rubis_shadow.specs.Parts.{parts};
+ghost use Rattle.rubis_shard.specs.Rows.{tables_in};
 ghost use Rattle.rubis_shard.specs.Stores.{held_by, HasRoom};
+ghost use Rattle.rubis_shard.specs.Written.{shown};
 
 use crate::message_parts::MessageParts;
 use crate::picks::picked_in_order;
 use crate::row_map::Rows;
+use crate::shard_store::Store;
 use crate::shares::Share;
-use crate::stores::Store;
-use rubis_schema::{Boxed, CATEGORIES, CatRow, Listing, Row, RowKey, Table, shard_of};
+use rubis_schema::{Boxed, CATEGORIES, CatRow, Hashes, Listing, Row, RowKey, Table, shard_of};
 use rubis_shadow::Misfit;
 use std::alloc::{AllocError, Global};
 use std::marker::Model;
@@ -33,6 +34,7 @@ pub struct Shard {
     shards: usize,
     // In a box, so that it is taken out and put back at no cost. While it is out there are no rows and no misfits.
     store: Option<Boxed<Store>>,
+    hashes: Hashes,
     alloc: Global,
 }
 
@@ -59,19 +61,31 @@ pub struct Applied {
 }
 
 impl Shard {
-    /// The shard of this number among so many, with the opening rows whose home it is and no misfit.
+    /// Shard `number` of `shards`, with the opening rows whose home it is and no misfits, hashed the same way in every
+    /// run.
     pub fn new(alloc: Global, number: usize, shards: usize) -> Result<Shard, AllocError>
         requires { number < shards }
         ensures { IfOk result (λ shard. shard ≡ opening_shard shards number) }
     {
-        let store = Store {
-            rows: opening_rows(alloc, number, shards)?,
-            misfits: Vec::new(alloc),
-        };
+        Shard::hashed(alloc, number, shards, Hashes::fixed())
+    }
+
+    /// The same, which hashes by this.
+    pub fn hashed(
+        alloc: Global,
+        number: usize,
+        shards: usize,
+        hashes: Hashes,
+    ) -> Result<Shard, AllocError>
+        requires { number < shards }
+        ensures { IfOk result (λ shard. shard ≡ opening_shard shards number) }
+    {
+        let store = Store::of(alloc, opening_rows(alloc, number, shards, hashes)?);
         Ok(Shard {
             number,
             shards,
             store: Some(Boxed::new(alloc, store)?),
+            hashes,
             alloc,
         })
     }
@@ -101,6 +115,16 @@ impl Shard {
         }
     }
 
+    /// Links the rows that came since the last call into their chains. Contracts see nothing of it.
+    pub fn link_rows(&mut self) -> Result<(), AllocError>
+        ensures { self.new ≡ self.old }
+    {
+        let mut store = self.take_store(0)?;
+        let linked = store.get_mut().link_rows();
+        self.put_store(store);
+        linked
+    }
+
     /// The parts that didn't fit, in the order in which they were met.
     pub fn misfits(&self) -> &[Misfit]
         ensures { result.now ≡ self.now.folded.misfits }
@@ -112,8 +136,8 @@ impl Shard {
     }
 
     /// The rows of one table with their keys, in key order.
-    pub fn rows(&self, alloc: Global, table: Table) -> Result<Vec<(&RowKey, &Row)>, AllocError>
-        ensures rows { IfOk result (λ rows. each deref_pair rows.items ≡ rows_of table self.now.folded.tables) }
+    pub fn rows(&self, alloc: Global, table: Table) -> Result<Vec<(RowKey, &Row)>, AllocError>
+        ensures rows { IfOk result (λ rows. each shown rows.items ≡ rows_of table self.now.folded.tables) }
         ensures own { HoldsOwnRows self.now }
     {
         match &self.store {
@@ -128,8 +152,8 @@ impl Shard {
         alloc: Global,
         table: Table,
         listing: &Listing,
-    ) -> Result<Vec<(&RowKey, &Row)>, AllocError>
-        ensures rows { IfOk result (λ rows. each deref_pair rows.items ≡ listed_of listing.now table self.now.folded.tables) }
+    ) -> Result<Vec<(RowKey, &Row)>, AllocError>
+        ensures rows { IfOk result (λ rows. each shown rows.items ≡ listed_of listing.now table self.now.folded.tables) }
         ensures own { HoldsOwnRows self.now }
     {
         match &self.store {
@@ -145,7 +169,7 @@ impl Shard {
         let rows = self.rows(alloc, table)?;
         let mut keys = Vec::new(alloc);
         for row in &rows {
-            keys.push(*row.0)?;
+            keys.push(row.0)?;
         }
         Ok(keys)
     }
@@ -186,6 +210,7 @@ impl Shard {
 
     // Folds those parts of a message on whose home it is, with that row for the first. Without memory nothing
     // changes.
+    #[inline(always)]
     pub(crate) fn fold_message(
         &mut self,
         message: &MessageParts<'_>,
@@ -204,6 +229,7 @@ impl Shard {
     }
 
     // What is held, or what holds nothing where it is out.
+    #[inline(always)]
     fn store_or_none(&mut self) -> Result<Boxed<Store>, AllocError>
         ensures taken { IfOk result (λ store. held_by store ≡ self.old.folded) }
         ensures own { HoldsOwnRows self.old }
@@ -212,11 +238,12 @@ impl Shard {
     {
         match self.store.take() {
             Some(store) => Ok(store),
-            None => Boxed::new(self.alloc, Store::new(self.alloc, self.shards)),
+            None => Boxed::new(self.alloc, Store::new(self.alloc, self.hashes)),
         }
     }
 
-    // Takes the rows and misfits out, with room for so many parts more, and leaves none.
+    // Takes the rows and misfits out, with room for `parts` more parts, and leaves none.
+    #[inline(always)]
     pub(crate) fn take_store(&mut self, parts: usize) -> Result<Boxed<Store>, AllocError>
         ensures taken { IfOk result (λ store. held_by store ≡ self.old.folded) }
         ensures room { IfOk result (λ store. HasRoom store parts) }
@@ -233,6 +260,7 @@ impl Shard {
     }
 
     // Puts rows and misfits in the place of what is there.
+    #[inline(always)]
     pub(crate) fn put_store(&mut self, store: Boxed<Store>)
         requires { part_of self.old.shards self.old.number (held_by store).tables ≡ (held_by store).tables }
         ensures { self.new ≡ record { number = self.old.number; shards = self.old.shards; folded = held_by store } }
@@ -242,11 +270,16 @@ impl Shard {
 }
 
 // The opening rows whose home is the shard.
-fn opening_rows(alloc: Global, number: usize, shards: usize) -> Result<Rows, AllocError>
+fn opening_rows(
+    alloc: Global,
+    number: usize,
+    shards: usize,
+    hashes: Hashes,
+) -> Result<Rows, AllocError>
     requires { number < shards }
-    ensures { IfOk result (λ rows. map.from_entries {R = key_order} rows.all.items ≡ part_of shards number opening) }
+    ensures { IfOk result (λ rows. tables_in rows ≡ part_of shards number opening) }
 {
-    let mut rows = Rows::new(alloc, shards);
+    let mut rows = Rows::new(alloc, hashes);
     for cat in (0..CATEGORIES).rev() {
         let key = RowKey::Cat(cat);
         if shard_of(&key, shards) != number {

@@ -1,38 +1,89 @@
-ghost use Rattle.std.specs.Prelude.{◌≡◌, ℕ, ◌+◌, ◌<◌, [], OnOk};
+ghost use Rattle.std.specs.Prelude.{◌≡◌, ℕ, ◌+◌, ◌≤◌, [], OnOk};
 ghost use Rattle.rubis_model.specs.Log.{Folded, step};
+ghost use Rattle.rubis_shard.specs.Rows.{tables_in};
 ghost use Rattle.rubis_shard.specs.Stores.{held_by, HasRoom};
 ghost use Rattle.std.specs.FinMap as map;
 
 use crate::row_map::Rows;
+use crate::shard_store::Store;
+use rubis_schema::Hashes;
 use rubis_shadow::{Misfit, Numbered};
 use std::alloc::{AllocError, Global};
 
-/// The rows and misfits of a shard.
-#[derive(Drop)]
-pub struct Store {
-    pub rows: Rows,
-    pub misfits: Vec<Misfit>,
+// For how many parts a store makes room at a time, so that it seldom has to.
+const PARTS_AT_A_TIME: usize = 64;
+
+// For how many parts to make room where these are to be folded on.
+fn at_a_time(parts: usize) -> usize
+    ensures { parts ≤ result }
+{
+    if parts < PARTS_AT_A_TIME {
+        PARTS_AT_A_TIME
+    } else {
+        parts
+    }
 }
 
 impl Store {
-    /// No rows and no misfits, of one of so many shards.
-    pub fn new(alloc: Global, shards: usize) -> Store
+    /// No rows and no misfits.
+    pub fn new(alloc: Global, hashes: Hashes) -> Store
         ensures { held_by result ≡ record { tables = map.from_entries []; misfits = [] } }
     {
+        Store::of(alloc, Rows::new(alloc, hashes))
+    }
+
+    /// These rows and no misfits.
+    pub fn of(alloc: Global, rows: Rows) -> Store
+        ensures { held_by result ≡ record { tables = tables_in rows; misfits = [] } }
+    {
         Store {
-            rows: Rows::new(alloc, shards),
+            rows,
             misfits: Vec::new(alloc),
+            spare: 0,
         }
     }
 
-    /// Makes room for so many parts more.
+    /// Makes room for `parts` more parts.
+    #[inline(always)]
     pub fn make_room(&mut self, parts: usize) -> Result<(), AllocError>
         ensures same { held_by self.new ≡ held_by self.old }
         ensures room { OnOk result (HasRoom self.new parts) }
     {
+        if parts <= self.spare {
+            return Ok(());
+        }
+        self.make_more_room(parts)
+    }
+
+    // Makes room for many parts, or at least for `parts` where there isn't memory for many.
+    #[inline(never)]
+    fn make_more_room(&mut self, parts: usize) -> Result<(), AllocError>
+        ensures same { held_by self.new ≡ held_by self.old }
+        ensures room { OnOk result (HasRoom self.new parts) }
+    {
+        match self.reserve(at_a_time(parts)) {
+            Ok(()) => Ok(()),
+            Err(_) => self.reserve(parts),
+        }
+    }
+
+    // Makes room for `parts` parts, and counts it. When out of memory, no room is counted.
+    fn reserve(&mut self, parts: usize) -> Result<(), AllocError>
+        ensures same { held_by self.new ≡ held_by self.old }
+        ensures room { OnOk result (HasRoom self.new parts) }
+    {
+        self.spare = 0;
         self.rows.make_room(parts)?;
         self.misfits.reserve(parts)?;
+        self.spare = parts;
         Ok(())
+    }
+
+    /// Links the rows that came since the last call into their chains.
+    pub fn link_rows(&mut self) -> Result<(), AllocError>
+        ensures { held_by self.new ≡ held_by self.old }
+    {
+        self.rows.link()
     }
 
     /// Folds a part on, for which there is room.
@@ -48,6 +99,7 @@ impl Store {
             id,
             effect,
         } = part;
+        self.spare -= 1;
         if let Some(kind) = self.rows.put_effect(effect) {
             self.misfits.push_reserved(Misfit {
                 entry,

@@ -1,4 +1,3 @@
-ghost use Rattle.std.specs.Map.Iter.{deref_pair};
 ghost use Rattle.std.specs.Prelude.{◌≡◌, ◌<◌, ◌≤◌, [], map as each, length, slice_range, nat_eq, true, false, IfOk, IfErr, OnOk, OnErr};
 ghost use Rattle.std.specs.List.{All};
 ghost use Rattle.rubis_schema.specs.Keys.{home};
@@ -6,14 +5,19 @@ ghost use Rattle.rubis_shadow.specs.Parts.{parts};
 ghost use Rattle.rubis_shadow.specs.Tables.{rows_of};
 ghost use Rattle.rubis_model.specs.Log.{number_parts};
 ghost use Rattle.rubis_shard.specs.Holdings.{AreInOrder, FoldsAtHome, FoldsOn, HoldsLog, IsSet, TakesOn, union};
+ghost use Rattle.rubis_shard.specs.Groups.{group_of};
 ghost use Rattle.rubis_shard.specs.Listed.{listed_of};
+ghost use Rattle.rubis_shard.specs.Written.{shown};
 
+use crate::chains::chain_with;
+use crate::groups::Group;
 use crate::message_parts::MessageParts;
 use crate::messages::fold_from;
+use crate::orders::put_in_order;
 use crate::shards::{Applied, Shard};
 use crate::shares::Share;
-use rubis_schema::{Id, Listing, Row, RowKey, Table, View, shard_of};
-use rubis_shadow::{Shadow, put_in_order};
+use rubis_schema::{Hashes, Id, Items, Listing, Row, RowKey, Table, View, shard_of};
+use rubis_shadow::Shadow;
 use std::alloc::{AllocError, Global};
 use std::marker::Model;
 use std::mem;
@@ -55,15 +59,33 @@ fn is_set(shards: &[Shard]) -> bool
     !shards.is_empty()
 }
 
+// Links the rows of each shard that came since the last call.
+fn link_all(shards: &mut [Shard]) -> Result<(), AllocError>
+    ensures { shards.new ≡ shards.old }
+{
+    for at in 0..shards.len() {
+        shards[at].link_rows()?;
+    }
+    Ok(())
+}
+
 impl Tables {
-    /// So many shards, with the opening rows.
+    /// Tables of `shards` shards, with the opening rows, hashed the same way in every run.
     pub fn new(alloc: Global, shards: usize) -> Result<Tables, AllocError>
+        requires { 0 < shards }
+        ensures { IfOk result (λ tables. HoldsLog shards [] tables) }
+    {
+        Tables::hashed(alloc, shards, Hashes::fixed())
+    }
+
+    /// Tables of `shards` shards, with the opening rows, hashed by `hashes`.
+    pub fn hashed(alloc: Global, shards: usize, hashes: Hashes) -> Result<Tables, AllocError>
         requires { 0 < shards }
         ensures { IfOk result (λ tables. HoldsLog shards [] tables) }
     {
         let mut list = Vec::new(alloc);
         for number in 0..shards {
-            list.push(Shard::new(alloc, number, shards)?)?;
+            list.push(Shard::hashed(alloc, number, shards, hashes)?)?;
         }
         Ok(Tables { shards: list })
     }
@@ -94,7 +116,8 @@ impl Tables {
         ensures list { result.items ≡ self }
         ensures order { AreInOrder self }
     {
-        self.shards
+        let Tables { shards } = self;
+        shards
     }
 
     /// Takes the shards out, and leaves none.
@@ -107,8 +130,8 @@ impl Tables {
         mem::replace(&mut self.shards, Vec::new(alloc))
     }
 
-    /// Tables of these shards. Refused, with the shards back, just where they aren't all the shards of one set, in order
-    /// of number.
+    /// Tables of these shards. Fails, and returns the shards, if and only if they aren't all the shards of one set, in
+    /// order of number.
     pub fn from_shards(shards: Vec<Shard>) -> Result<Tables, Vec<Shard>>
         ensures ok { IfOk result (λ tables. tables ≡ shards.items) }
         ensures set { IfOk result (λ tables. IsSet shards.items) }
@@ -122,9 +145,20 @@ impl Tables {
         }
     }
 
+    /// Links the rows that came since the last call into their chains, where a listing is found along one. Without it, the
+    /// listing has the same rows, and looks at each row that isn't linked. Contracts see nothing of it.
+    pub fn link_rows(&mut self, listing: &Listing) -> Result<(), AllocError>
+        ensures { self.new ≡ self.old }
+    {
+        if chain_with(listing).is_some() {
+            return link_all(&mut self.shards);
+        }
+        Ok(())
+    }
+
     /// The rows of one table of all shards with their keys, in key order.
-    pub fn rows(&self, alloc: Global, table: Table) -> Result<Vec<(&RowKey, &Row)>, AllocError>
-        ensures { IfOk result (λ rows. each deref_pair rows.items ≡ rows_of table (union self.now)) }
+    pub fn rows(&self, alloc: Global, table: Table) -> Result<Vec<(RowKey, &Row)>, AllocError>
+        ensures { IfOk result (λ rows. each shown rows.items ≡ rows_of table (union self.now)) }
     {
         let mut all = Vec::new(alloc);
         for shard in &self.shards {
@@ -141,8 +175,8 @@ impl Tables {
         alloc: Global,
         table: Table,
         listing: &Listing,
-    ) -> Result<Vec<(&RowKey, &Row)>, AllocError>
-        ensures { IfOk result (λ rows. each deref_pair rows.items ≡ listed_of listing.now table (union self.now)) }
+    ) -> Result<Vec<(RowKey, &Row)>, AllocError>
+        ensures { IfOk result (λ rows. each shown rows.items ≡ listed_of listing.now table (union self.now)) }
     {
         let mut picked = Vec::new(alloc);
         for shard in &self.shards {
@@ -151,6 +185,18 @@ impl Tables {
         }
         put_in_order(alloc, &mut picked)?;
         Ok(picked)
+    }
+
+    /// The keys of the rows of a group, in key order.
+    pub fn group(&self, alloc: Global, group: &Group) -> Result<Items<RowKey>, AllocError>
+        ensures { IfOk result (λ keys. keys ≡ group_of group.now (union self.now)) }
+    {
+        let rows = self.listed(alloc, group.table(), &group.listing())?;
+        let mut keys = Vec::new(alloc);
+        for row in &rows {
+            keys.push(row.0)?;
+        }
+        Ok(Items::from(keys))
     }
 
     /// Folds the parts of a share from `from` on, on the shard of its number, until one finds no room. The answer says how

@@ -1,5 +1,6 @@
 // A service that says what it hears.
 
+ghost use Rattle.std.proofs.Common.{rules};
 ghost use Rattle.std.specs.Prelude.{◌≡◌, ◌∷◌, ◌++◌, None, OnOk, codes, length, map, refl};
 ghost use Rattle.std.specs.Option.{option_to_list};
 ghost use Rattle.rubis_script.specs.Text.{rows_text};
@@ -38,6 +39,8 @@ impl<T> Service<T> for Echo {
     } };
 
     ghost reads_none = { λ s n. refl };
+
+    ghost reads_next = { Prim.search rules };
 
     fn settle(&mut self, _rt: &T, sink: &mut Sink) -> Result<(), OutOfMemory> {
         self.write_last(sink)

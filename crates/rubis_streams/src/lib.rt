@@ -1,4 +1,4 @@
-//! The tests of runs over streams: the engine, the auditor, and several sites. They stand here since a crate with tests is
+//! The tests of runs over streams: the engine, the auditor, what widens logs, and several sites. They stand here since a crate with tests is
 //! proved twice.
 #![tactic(auto)]
 
@@ -7,10 +7,14 @@ mod audits;
 #[cfg(test)]
 mod broken;
 #[cfg(test)]
+mod callers;
+#[cfg(test)]
 mod echoes;
 #[cfg(test)]
 mod engine;
 #[cfg(test)]
 mod waiting;
+#[cfg(test)]
+mod widenings;
 #[cfg(test)]
 mod worlds;

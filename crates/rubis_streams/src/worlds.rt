@@ -3,15 +3,16 @@
 use rubis_message::{Arrival, Request, Taken};
 use rubis_replica::Fault;
 use rubis_schema::{Listing, Nick, Refusal};
+use rubis_script::Count;
 use rubis_shadow::Ask;
-use rubis_world::{Happened, World, WorldConfig, WorldFault};
+use rubis_world::{Happened, World, WorldConfig, WorldFault, run_world};
 use std::alloc::Global;
 use std::sync::Wait;
 use std::test::Fail;
 use std::thread::Threads;
 
-// Two sites with nothing done.
-fn two_sites(alloc: Global) -> Result<World, Fail> {
+/// Two sites with nothing done.
+pub fn two_sites(alloc: Global) -> Result<World, Fail> {
     let config = WorldConfig::new(2, 4, 2, 64, 1_000_000).ok_or("a configuration")?;
     Ok(World::new(alloc, &config)?)
 }
@@ -109,5 +110,21 @@ fn what_is_no_event_is_refused(rt: HostRuntime) -> Result<(), Fail> {
     let refused = Some(WorldFault::Site(Fault::Refused(Refusal::NoToken)));
     assert_eq!(rt; deliver_wrongly(&rt, &mut world), (unsent, unsent, nowhere));
     assert_eq!(rt; pass_wrongly(&rt, &mut world), (nowhere, refused));
+    Ok(())
+}
+
+// A user of two sites, who comes to the second.
+const RECORDS: &[u8] = b"at,0,user,ann\ndeliver,1,1\naudit\n";
+
+const ANSWERS: &[u8] =
+    b"at,0,reply,1,ok,0.1\nat,0,send,msg,1,0,1,1,0:0,user,ann\nat,1,reply,2,released,1\naudit,Agree\n";
+
+#[test]
+fn a_run_of_two_sites(rt: HostRuntime) -> Result<(), Fail> {
+    let config = WorldConfig::new(2, 4, 2, 64, 1_000_000).ok_or("a configuration")?;
+    let mut out = Vec::new(rt.alloc());
+    let end = run_world(&rt, rt.alloc(), RECORDS, &mut out, &config);
+    assert!(rt; end == Ok(Count { records: 3 }));
+    assert!(rt; out.as_slice() == ANSWERS);
     Ok(())
 }

@@ -1,5 +1,6 @@
 -- What the workers give back, whoever took what, gathered by number.
-use Rattle.std.proofs.Common.{◌≡◌, ℕ, suc, List, [], ◌∷◌, length, refl, sym, ap, ◌∙◌, subst}
+use Rattle.std.proofs.Common.{◌≡◌, ◌<◌, ℕ, suc, List, [], ◌∷◌, length, refl, sym, ap, ◌∙◌, subst}
+use Rattle.std.specs.Prelude.{IfOk, Result, Ok, Err}
 use Rattle.std.specs.List.{AllZip}
 use Rattle.std.specs.List.Sorted.{IsPermutation}
 use Rattle.std.proofs.lemmas.List.{length-map}
@@ -16,7 +17,8 @@ use Rattle.rubis_pieces.specs.declared.gathers.FaultKind.{FaultKind}
 use Rattle.rubis_pieces.specs.declared.gathers.Gathered.{Gathered}
 use Rattle.rubis_pieces.specs.declared.pieces.Piece.{Piece}
 use Rattle.rubis_pieces.specs.declared.pieces.Done.{Done}
-use Rattle.rubis_pieces.proofs.Folded.{folded_numbers, order_folded, begun, takes_batch, takes_whole}
+use Rattle.rubis_pieces.proofs.Counting.{leaves_no_more}
+use Rattle.rubis_pieces.proofs.Folded.{folded_numbers, order_folded, begun, begun_unfinished, takes_batch, takes_whole}
 use Rattle.rubis_board.specs.Passes.{PassState}
 use Rattle.rubis_pieces.specs.Work.{IsWorked, pieces_of}
 use Rattle.rubis_workers.specs.Work.{AreWorked, AppliesBatch}
@@ -79,13 +81,17 @@ module _ (ss : List ShardState) (hs : List Share) (taken : List Piece) (list : L
       (ds, subst (AreFolded ss hs) (sym same) folded, shards_are, left_is)
 
 -- where the shares are those of a batch, it is applied as on one thread
-pub applies : (ss : List ShardState) (hs : List Share) (worked : Worked) → AreWorked ss hs worked → AppliesBatch ss hs worked
-applies ss hs worked (ds, folded, shards_are, left_is) =
-    let is : (first : ℕ) (batch : List Core) → AreShares (length ss) first batch hs → IsBegun first batch ss worked.shards
-    worked.left =
-    λ first batch dealt. begun first batch ss hs ds dealt folded worked.shards worked.left shards_are left_is in
+pub applies : (ss : List ShardState) (hs : List Share) (worked : Worked) → 0 < length ss → AreWorked ss hs worked → AppliesBatch ss hs worked
+applies ss hs worked some (ds, folded, shards_are, left_is) first batch dealt =
+    let is : IsBegun first batch ss worked.shards worked.left = begun first batch ss hs ds dealt folded worked.shards worked.left shards_are left_is in
     record {
       begun = is;
-      log = λ first batch dealt. takes_batch first batch ss worked.shards worked.left (is first batch dealt);
-      whole = λ first batch dealt. takes_whole first batch ss worked.shards worked.left (is first batch dealt);
+      unfinished = begun_unfinished first batch ss worked.shards worked.left is;
+      log = takes_batch first batch ss worked.shards worked.left is;
+      whole = takes_whole first batch ss worked.shards worked.left is;
+      count = leaves_no_more first batch ss worked.shards worked.left some is;
     }
+
+pub if_ok_so : {A E : Type 0} (P Q : A → Type 0) (r : Result A E) → ((x : A) → P x → Q x) → IfOk r P → IfOk r Q
+if_ok_so P Q (Ok x) so h = so x h
+if_ok_so P Q (Err e) so h = tt

@@ -2,3 +2,6 @@ mod Lists
 mod Moved
 mod Numbers
 mod Folded
+pub mod Between
+pub mod NextMessage
+pub mod Applied

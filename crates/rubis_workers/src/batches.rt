@@ -21,8 +21,16 @@ use std::thread::Threads;
 pub struct Worked {
     pub shards: Items<Shard>,
     pub left: Items<Left>,
-    /// How many of the shards other threads than the caller's took. It depends on the schedule, and nothing else does.
-    pub beside: usize,
+}
+
+/// What a team made of a batch, and who took the shards. The latter depends on the schedule, and nothing else does.
+#[derive(Drop)]
+pub struct TeamResult {
+    pub worked: Worked,
+    /// How many threads there were to take shards, the caller's included.
+    pub team: usize,
+    /// How many of the shards threads other than the caller's took.
+    pub others: usize,
 }
 
 /// There was no room to begin. Both lists are as they came.
@@ -58,10 +66,103 @@ fn post_all<R: Wait>(
     poster
 }
 
-/// Folds each share on its shard, as far as memory goes, by at most so many workers, from 1 to 16, and no more than there are
-/// shards. The caller's thread is one of them. Each shard goes over the board, one with an empty share too, and the gate is
-/// called for each that is taken. Where there is no room to begin, nothing is posted and both lists come back. A thread that
-/// the system refuses leaves its work to the others. The answer is that of one thread, whoever took what.
+/// Folds each share on its shard as `apply_beside` does, and tells who took the shards.
+pub fn apply_by_team<G: Gate, R: Threads + Wait + Sync, A, F: FnOnce() -> A>(
+    rt: &R,
+    alloc: Global,
+    shards: Vec<Shard>,
+    shares: Vec<Share>,
+    workers: usize,
+    gate: &G,
+    beside: F,
+) -> (Result<TeamResult, Unstarted>, A)
+    requires some { 0 < length shards.items }
+    requires order { AreInOrder shards.items }
+    requires belong { Belong shards.items shares.items }
+    requires workers { (0 < workers) × (workers ≤ 16) }
+    requires beside { F.pre beside }
+    ensures folded { IfOk result.0 (λ r. AreWorked shards.items shares.items r.worked) }
+    ensures batch { IfOk result.0 (λ r. AppliesBatch shards.items shares.items r.worked) }
+    ensures others { IfOk result.0 (λ r. r.others ≤ length shards.items) }
+    ensures alone { workers ≡ 1 → IfOk result.0 (λ r. r.others ≡ 0) }
+    ensures back { IfErr result.0 (λ unstarted. (unstarted.shards ≡ shards.items) × (unstarted.shares ≡ shares.items)) }
+    ensures answer { F.post beside result.1 }
+    ensures team { IfOk result.0 (λ r. (0 < r.team) × (r.team ≤ workers)) }
+{
+    let pieces = shards.len();
+    let Ok(rooms) = Rooms::new(alloc, pieces, workers.min(pieces)) else {
+        let unstarted = Unstarted {
+            shards: shards.into(),
+            shares: shares.into(),
+        };
+        return (Err(unstarted), beside());
+    };
+    let Rooms {
+        poster,
+        places,
+        mine,
+        others,
+    } = rooms;
+    let poster = post_all(rt, poster, shards, shares);
+    let (board, pass) = poster.open();
+    let Teamwork {
+        pass,
+        list,
+        others,
+        answer,
+        team,
+    } = fan_out(rt, &board, pass, mine, others, gate, beside);
+    board.close(pass);
+    match gather(list, places) {
+        Ok(gathered) => {
+            let worked = Worked {
+                shards: gathered.shards,
+                left: gathered.left,
+            };
+            let result = TeamResult {
+                worked,
+                team,
+                others,
+            };
+            (Ok(result), answer)
+        }
+        Err(_) => unreachable!(),
+    }
+}
+
+/// Folds each share on its shard, as far as memory goes, by at most `workers` threads, from 1 to 16, and no more than there
+/// are shards. The caller's thread is one of them: once it has started the others it calls `beside`, and then takes shards
+/// too. Each shard goes over the board, one with an empty share too, and the gate is called for each that is taken. Where
+/// there is no room to begin, nothing is posted and both lists come back. `beside` is called once in either case, and its
+/// answer is returned. A thread that the system refuses to start leaves its work to the others. The shards and what is left
+/// are those of one thread, whoever took what.
+pub fn apply_beside<G: Gate, R: Threads + Wait + Sync, A, F: FnOnce() -> A>(
+    rt: &R,
+    alloc: Global,
+    shards: Vec<Shard>,
+    shares: Vec<Share>,
+    workers: usize,
+    gate: &G,
+    beside: F,
+) -> (Result<Worked, Unstarted>, A)
+    requires some { 0 < length shards.items }
+    requires order { AreInOrder shards.items }
+    requires belong { Belong shards.items shares.items }
+    requires workers { (0 < workers) × (workers ≤ 16) }
+    requires beside { F.pre beside }
+    ensures folded { IfOk result.0 (AreWorked shards.items shares.items) }
+    ensures batch { IfOk result.0 (AppliesBatch shards.items shares.items) }
+    ensures back { IfErr result.0 (λ unstarted. (unstarted.shards ≡ shards.items) × (unstarted.shares ≡ shares.items)) }
+    ensures answer { F.post beside result.1 }
+{
+    let (result, answer) = apply_by_team(rt, alloc, shards, shares, workers, gate, beside);
+    match result {
+        Ok(result) => (Ok(result.worked), answer),
+        Err(unstarted) => (Err(unstarted), answer),
+    }
+}
+
+/// Folds each share on its shard as `apply_beside` does, with nothing to do meanwhile.
 pub fn apply_all<G: Gate, R: Threads + Wait + Sync>(
     rt: &R,
     alloc: Global,
@@ -76,33 +177,8 @@ pub fn apply_all<G: Gate, R: Threads + Wait + Sync>(
     requires workers { (0 < workers) × (workers ≤ 16) }
     ensures folded { IfOk result (AreWorked shards.items shares.items) }
     ensures batch { IfOk result (AppliesBatch shards.items shares.items) }
-    ensures beside { IfOk result (λ worked. worked.beside ≤ length shards.items) }
-    ensures alone { workers ≡ 1 → IfOk result (λ worked. worked.beside ≡ 0) }
     ensures back { IfErr result (λ unstarted. (unstarted.shards ≡ shards.items) × (unstarted.shares ≡ shares.items)) }
 {
-    let pieces = shards.len();
-    let Ok(rooms) = Rooms::new(alloc, pieces, workers.min(pieces)) else {
-        return Err(Unstarted {
-            shards: shards.into(),
-            shares: shares.into(),
-        });
-    };
-    let Rooms {
-        poster,
-        places,
-        mine,
-        others,
-    } = rooms;
-    let poster = post_all(rt, poster, shards, shares);
-    let (board, pass) = poster.open();
-    let Teamwork { pass, list, beside } = fan_out(rt, &board, pass, mine, others, gate);
-    board.close(pass);
-    match gather(list, places) {
-        Ok(gathered) => Ok(Worked {
-            shards: gathered.shards,
-            left: gathered.left,
-            beside,
-        }),
-        Err(_) => unreachable!(),
-    }
+    let (worked, ()) = apply_beside(rt, alloc, shards, shares, workers, gate, || ());
+    worked
 }

@@ -1,7 +1,7 @@
-//! What a test may hang between a take and the work.
+//! What a test may use to hold a worker up between a take and the work.
 
-/// Called by a worker after each take from the board, with the number of the shard that it took, and where no board is used
-/// not at all. It may hold the worker up; it has no hand in what is done.
+/// Called by a worker with the number of each shard that it takes, before it folds the shard's share: each shard of a batch
+/// is taken once. It may hold the worker up; it has no part in what is done.
 pub trait Gate: Sync {
     fn taken(&self, piece: usize);
 }
@@ -12,4 +12,11 @@ pub struct Free;
 
 impl Gate for Free {
     fn taken(&self, _piece: usize) {}
+}
+
+// The caller's thread takes each of the shards, as the one worker of a batch.
+pub(crate) fn take_each<G: Gate>(gate: &G, shards: usize) {
+    for number in 0..shards {
+        gate.taken(number);
+    }
 }

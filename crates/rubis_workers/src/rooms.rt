@@ -18,7 +18,7 @@ pub struct Rooms {
 }
 
 impl Rooms {
-    /// Room for so many pieces, so many of which each of the workers may take.
+    /// Room for `pieces` pieces, with `workers` workers, any one of which may take all of the pieces.
     pub fn new(alloc: Global, pieces: usize, workers: usize) -> Result<Rooms, AllocError>
         requires { (0 < pieces) × (0 < workers) }
         ensures poster { IfOk result (λ rooms. (rooms.poster.capacity ≡ pieces) × (rooms.poster.posted ≡ [])) }

@@ -37,44 +37,54 @@ pub fn work<G: Gate, R: Wait>(
     (pass, room)
 }
 
-/// What a team made of a board.
-#[derive(Drop)]
-pub struct Teamwork {
+/// What a team made of a board, and what the caller's thread answered before it began.
+pub struct Teamwork<A> {
     /// It has all parts, and all that was taken.
     pub pass: Pass,
     /// The pieces that were taken, as they were worked.
     pub list: Vec<Done>,
-    /// How many of them other threads than the caller's took.
-    pub beside: usize,
+    /// How many of them threads other than the caller's took.
+    pub others: usize,
+    pub answer: A,
+    /// How many threads there were to take them, the caller's included.
+    pub team: usize,
 }
 
 /// The caller's thread and one more for each further room: starts a thread for one, goes on with the others, and joins it.
-/// What a thread that can't be started was to do is done by the others.
-pub fn fan_out<G: Gate, R: Threads + Wait + Sync>(
+/// What a thread that can't be started was to do is done by the others. Once all others are started the caller's thread
+/// calls `first`, and then works too.
+pub fn fan_out<G: Gate, R: Threads + Wait + Sync, A, F: FnOnce() -> A>(
     rt: &R,
     board: &Board,
     pass: Pass,
     room: Vec<Done>,
     mut rooms: Vec<Vec<Done>>,
     gate: &G,
-) -> Teamwork
+    first: F,
+) -> Teamwork<A>
     requires board { pass.board ≡ board.now }
     requires pieces { All IsPiece pass.posted }
     requires room { (pass.taken ≡ []) × (room.items ≡ []) × (length pass.posted ≤ vec_capacity room) }
     requires rooms { All (IsRoom (length pass.posted)) rooms.items }
     requires parts { vec_len rooms < pass.parts }
+    requires first { F.pre first }
     ensures pass { result.pass ≡ having pass result.pass.taken true }
     ensures done { AllZip IsWorked result.pass.taken result.list.items }
     ensures room { length pass.posted ≤ vec_capacity result.list }
-    ensures beside { result.beside ≤ vec_len result.list }
-    ensures alone { vec_len rooms ≡ 0 → result.beside ≡ 0 }
+    ensures others { result.others ≤ vec_len result.list }
+    ensures alone { vec_len rooms ≡ 0 → result.others ≡ 0 }
+    ensures answer { F.post first result.answer }
+    ensures team { result.team ≡ vec_len rooms + 1 }
 {
     let Some(theirs) = rooms.pop() else {
+        let answer = first();
         let (pass, list) = work(rt, board, pass, room, gate);
         return Teamwork {
             pass,
             list,
-            beside: 0,
+            others: 0,
+            answer,
+            team: 1,
         };
     };
     let (mine, new) = board.split(pass);
@@ -87,23 +97,28 @@ pub fn fan_out<G: Gate, R: Threads + Wait + Sync>(
             ensures pass { result.0 ≡ having new result.0.taken true }
             ensures done { AllZip IsWorked result.0.taken result.1.items }
         { work(rt, board, new, theirs, gate) },
-        move || -> Teamwork
+        move || -> Teamwork<A>
             requires sync { IsSync R.row }
             requires board { mine.board ≡ board.now }
             requires pieces { All IsPiece mine.posted }
             requires room { (mine.taken ≡ []) × (room.items ≡ []) × (length mine.posted ≤ vec_capacity room) }
             requires rooms { All (IsRoom (length mine.posted)) rooms.items }
             requires parts { vec_len rooms < mine.parts }
+            requires first { F.pre first }
             ensures pass { result.pass ≡ having mine result.pass.taken true }
             ensures done { AllZip IsWorked result.pass.taken result.list.items }
             ensures room { length mine.posted ≤ vec_capacity result.list }
-            ensures beside { result.beside ≤ vec_len result.list }
-        { fan_out(rt, board, mine, room, rooms, gate) },
+            ensures others { result.others ≤ vec_len result.list }
+            ensures answer { F.post first result.answer }
+            ensures team { result.team ≡ vec_len rooms + 1 }
+        { fan_out(rt, board, mine, room, rooms, gate, first) },
     );
     let Teamwork {
         pass: mine,
         mut list,
-        beside,
+        others,
+        answer,
+        team,
     } = ours;
     let pass = board.join(mine, new);
     let more = theirs.len();
@@ -111,7 +126,9 @@ pub fn fan_out<G: Gate, R: Threads + Wait + Sync>(
         Ok(()) => Teamwork {
             pass,
             list,
-            beside: beside + more,
+            others: others + more,
+            answer,
+            team: team + 1,
         },
         Err(_) => unreachable!(),
     }

@@ -22,7 +22,7 @@ told s h = in_run s.keep s.world h.keep h.room h.sound
 -- what a world is kept by is how much it keeps and the world
 moved : (old new : WorldState) (w : World) → ComesTo old new w → IsWorld (record old { world = w }) → IsWorld new
 moved old new w t h = record {
-  sites = subst (λ (v : World). length v.sites ≤ 8) (sym t.1) h.sites;
+  sites = subst (λ (v : World). length v.sites ≤ 16) (sym t.1) h.sites;
   keep = subst (λ n. n ≤ 1000000) (sym t.0) h.keep;
   sound = subst Sound (sym t.1) h.sound;
   room = subst (λ n. Room n new.world) (sym t.0) (subst (Room old.keep) (sym t.1) h.room);
@@ -31,7 +31,7 @@ moved old new w t h = record {
 
 kept : (s : WorldState) (e : Event) → IsEvent (length s.world.sites) e → IsWorld s → IsWorld (record s { world = (happens s.keep s.world e).0 })
 kept s e a h = let same = event_sites s.keep s.world e in record {
-  sites = subst (λ n. n ≤ 8) (sym same) h.sites;
+  sites = subst (λ n. n ≤ 16) (sym same) h.sites;
   keep = h.keep;
   sound = event_keeps s.keep h.keep s.world e a h.sound;
   room = room_event s.keep s.world e h.room;
@@ -54,9 +54,9 @@ answered old new e (Err (Site fault.Memory)) a t h = absurd t
 answered old new e (Err Memory) a t h = stayed old new t h
 
 -- the start
-pub begun : (s : WorldState) (sites keep : ℕ) → IsCount sites 8 × IsCount keep 1000000 → s ≡ opening_world keep sites → IsWorld s
+pub begun : (s : WorldState) (sites keep : ℕ) → IsCount sites 16 × IsCount keep 1000000 → s ≡ opening_world keep sites → IsWorld s
 begun s sites keep limits e = subst IsWorld (sym e) (record {
-  sites = subst (λ n. n ≤ 8) (sym (start_sites sites)) limits.0.small;
+  sites = subst (λ n. n ≤ 16) (sym (start_sites sites)) limits.0.small;
   keep = limits.1.small;
   sound = start_sound sites limits.0.positive;
   room = room_start keep sites;

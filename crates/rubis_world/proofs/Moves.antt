@@ -141,6 +141,11 @@ module _ (keep : ℕ) (sites : List SiteState) (sent : List Packet) (i : ℕ) (s
         (says (sym left_is ∙ none) e);
   }
 
+  -- the site had nothing left, and so doesn't say that it is behind
+  pub never_behind : (result : Result Happened WorldFault) → left_at old i ≡ 0 → (s.progress.left ≡ 0 → result ≡ Err (world.Site fault.Behind) → ⊥)
+      → result ≡ Err (world.Site fault.Behind) → ⊥
+  never_behind result none says = says (sym left_is ∙ none)
+
   -- ---- what is sent
   module _ {A : Type 0} (pack : A → Packet) (step : Place → Replica → Replica × Result A Refusal) (sent' : List Packet) where
     pub sends_fault : (f : Fault) (result : Result Happened WorldFault) → IsErr result × IsErrAnd result (λ g. g ≡ fault_at_site f)
@@ -215,7 +220,7 @@ is_below keep sites sent old view i j n l e f = let g = length-map sites (λ (y 
 -- ---- when a site says that it is behind
 module _ (s x : SiteState) (f : Fault) (result : Result Happened WorldFault) (said : IsErr result × IsErrAnd result (λ g. g ≡ fault_at_site f)) where
   -- what the site says is what is told
-  told_behind : (f ≡ fault.Behind → s.progress.left ≡ 0 → 0 < x.progress.left) → s.progress.left ≡ 0 → result ≡ Err (world.Site fault.Behind) → 0 < x.progress.left
+  told_behind : {P : Type 0} → (f ≡ fault.Behind → s.progress.left ≡ 0 → P) → s.progress.left ≡ 0 → result ≡ Err (world.Site fault.Behind) → P
   told_behind so none e = so (is_behind f (fault_is result e said)) none
     where
       fault_is : (r : Result Happened WorldFault) → r ≡ Err (world.Site fault.Behind) → IsErr r × IsErrAnd r (λ g. g ≡ fault_at_site f) → fault_at_site f ≡ world.Site fault.Behind
@@ -230,11 +235,18 @@ module _ (s x : SiteState) (f : Fault) (result : Result Happened WorldFault) (sa
   pub read_behind : IsReadFault s x f → s.progress.left ≡ 0 → result ≡ Err (world.Site fault.Behind) → 0 < x.progress.left
   read_behind h = told_behind (λ e none. (subst (IsReadFault s x) e h none).some_left)
 
+  -- a call without tables, and an arrival, find a site behind only where it was
+  pub needs_none_never : (A : Type 0) → NeedsNoTables {A = A} s x (Err f) → s.progress.left ≡ 0 → result ≡ Err (world.Site fault.Behind) → ⊥
+  needs_none_never A h = told_behind (λ e none. let some = subst (λ g. NeedsNoTables {A = A} s x (Err g)) e h in omega (arith, some, none))
+
+  pub takes_in_never : TakesIn s x (Err f) → s.progress.left ≡ 0 → result ≡ Err (world.Site fault.Behind) → ⊥
+  takes_in_never h = told_behind (λ e none. let some = subst (λ g. TakesIn s x (Err g)) e h in omega (arith, some, none))
+
   pub needs_none_behind : (A : Type 0) → NeedsNoTables {A = A} s x (Err f) → s.progress.left ≡ 0 → result ≡ Err (world.Site fault.Behind) → 0 < x.progress.left
-  needs_none_behind A h = told_behind (λ e none. let some = subst (λ g. NeedsNoTables {A = A} s x (Err g)) e h in absurd (omega (arith, some, none)))
+  needs_none_behind A h none e = absurd (needs_none_never A h none e)
 
   pub takes_in_behind : TakesIn s x (Err f) → s.progress.left ≡ 0 → result ≡ Err (world.Site fault.Behind) → 0 < x.progress.left
-  takes_in_behind h = told_behind (λ e none. let some = subst (λ g. TakesIn s x (Err g)) e h in absurd (omega (arith, some, none)))
+  takes_in_behind h none e = absurd (takes_in_never h none e)
 
   pub lists_behind : (A : Type 0) (l : Listing) → Lists {A = A} l s x (Err f) → s.progress.left ≡ 0 → result ≡ Err (world.Site fault.Behind) → 0 < x.progress.left
   lists_behind A shown_listing.Log h = told_behind (λ e none. let some = (subst (λ g. ListsTheLog {A = A} s x (Err g)) e h).0 in absurd (omega (arith, some, none)))

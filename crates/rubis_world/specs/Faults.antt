@@ -4,7 +4,7 @@ use Rattle.rubis_replica.specs.declared.faults.Fault.TheVariants as site
 use Rattle.rubis_world.specs.declared.faults.WorldFault.{WorldFault}
 use Rattle.rubis_world.specs.declared.faults.WorldFault.TheVariants.{Site, Memory}
 
--- a site's want of memory is the world's
+-- where a site is out of memory, so is the world
 abbrev pub fault_at_site : Fault → WorldFault
 fault_at_site (site.Refused r) = Site (site.Refused r)
 fault_at_site site.Behind = Site site.Behind

@@ -19,7 +19,7 @@ pub record WorldState : Type 0 where
   pub world : World
   pub left : List ℕ
 
--- so many sites with nothing done
+-- `sites` sites with nothing done
 abbrev pub opening_world : ℕ → ℕ → WorldState
 opening_world keep sites = record { keep = keep; world = start sites; left = map (λ i. 0) (range_with_len 0 sites) }
 

@@ -5,17 +5,20 @@ ghost use Rattle.rubis_schema.specs.declared.limits.TheConstants.{KEEP_MAX, SITE
 ghost use Rattle.rubis_world.specs.Setup.{IsWorldSetup, WorldSetup, setup_at};
 
 use rubis_replica::Config;
+use rubis_schema::Hashes;
 use std::marker::Model;
 
 /// How the sites of a world are set up: how many they are; and of each, how many shards its tables have, how many workers
-/// apply shadows to them, how many shadows make a batch, and how many messages it keeps.
-#[derive(Clone, Copy, PartialEq, Eq, Debug)]
+/// apply shadows to them, how many shadows make a batch, and how many messages it keeps; and what the maps of all hash by, which
+/// no answer depends on and no contract sees.
+#[derive(Drop)]
 pub struct WorldConfig {
     sites: u8,
     shards: u8,
     workers: u8,
     batch: u32,
     keep: u32,
+    hashes: Hashes,
 }
 
 impl Model for WorldConfig {
@@ -26,12 +29,11 @@ impl Model for WorldConfig {
     ghost view = { λ c. record { sites = c.sites; shards = c.shards; workers = c.workers; batch = c.batch; keep = c.keep } };
 
     ghost invariant = { λ c. IsWorldSetup (record { sites = c.sites; shards = c.shards; workers = c.workers; batch = c.batch; keep = c.keep }) };
-
-    ghost inverse = { λ s. record { sites = s.sites; shards = s.shards; workers = s.workers; batch = s.batch; keep = s.keep } };
 }
 
 impl WorldConfig {
-    /// The configuration with these numbers, if each is within its limits: 1 to 8 sites, 1 to 64 shards, 1 to 16 workers,
+    /// The configuration with these numbers and hashes that are the same in each run, if each number is within its limits: 1 to
+    /// 16 sites, 1 to 64 shards, 1 to 16 workers,
     /// batches of 1 to 65,536, and 1 to 1,000,000 messages kept at each site.
     pub fn new(sites: u8, shards: u8, workers: u8, batch: u32, keep: u32) -> Option<WorldConfig>
         ensures { let setup : WorldSetup = record { sites = sites; shards = shards; workers = workers; batch = batch; keep = keep } in SomeIff result (IsWorldSetup setup) setup }
@@ -43,7 +45,15 @@ impl WorldConfig {
             workers,
             batch,
             keep,
+            hashes: Hashes::fixed(),
         })
+    }
+
+    /// The same configuration, with these hashes.
+    pub fn with_hashes(self, hashes: Hashes) -> WorldConfig
+        ensures { result ≡ self }
+    {
+        WorldConfig { hashes, ..self }
     }
 
     /// How many sites there are.
@@ -76,5 +86,6 @@ impl WorldConfig {
             self.keep,
         )
         .unwrap()
+        .with_hashes(self.hashes)
     }
 }

@@ -1,8 +1,10 @@
 // Several sites as a service: a record in, its answers out.
 
+ghost use Rattle.std.proofs.Common.{rules};
 ghost use Rattle.std.specs.Prelude.{◌≡◌, ◌≤◌, ◌∷◌, [], IfOk, OnOk, length, refl};
 ghost use Rattle.rubis_message.specs.WorldReadings.{world_input};
 ghost use Rattle.rubis_model.specs.AuditRecords.{verdict_record};
+ghost use Rattle.rubis_model.specs.Laws.{InRun};
 ghost use Rattle.rubis_model.specs.System.{IsEvent, happens};
 ghost use Rattle.rubis_model.specs.System.Event.{At, Deliver};
 ghost use Rattle.rubis_model.specs.Verdict.{verdict};
@@ -107,8 +109,26 @@ impl WorldDesk {
         })
     }
 
-    /// Answers the record with this number.
+    /// Answers the record with this number. Whatever becomes of it, the claims of every run hold of the sites.
     pub fn respond<R: Threads + Wait + Sync>(
+        &mut self,
+        rt: &R,
+        number: u64,
+        fields: &InputRecord,
+        sink: &mut Sink,
+    ) -> Result<(), OutOfMemory>
+        ensures told { OnOk result (IsTold self.old.world self.new.world
+            (world_step self.old.world.keep self.old.world.world number (world_input (length self.old.world.world.sites) fields.now)) sink.old sink.new) }
+        ensures run { InRun self.new.world.world }
+    {
+        let answered = self.answer(rt, number, fields, sink);
+        // For the clause on what the sites keep.
+        let _sent = self.world.packets();
+        answered
+    }
+
+    // Answers the record with this number.
+    fn answer<R: Threads + Wait + Sync>(
         &mut self,
         rt: &R,
         number: u64,
@@ -141,6 +161,8 @@ impl<T> Service<T> for WorldDesk {
     ghost account = { λ s n. told_by_world s.world n };
 
     ghost reads_none = { λ s n. refl };
+
+    ghost reads_next = { Prim.search rules };
 
     fn settle(&mut self, _rt: &T, _sink: &mut Sink) -> Result<(), OutOfMemory> {
         Ok(())

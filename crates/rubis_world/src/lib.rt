@@ -14,5 +14,5 @@ pub use config::WorldConfig;
 pub use desk::WorldDesk;
 pub use faults::WorldFault;
 pub use rubis_message::Happened;
-pub use run::{run_world, run_world_desk};
+pub use run::{run_world, run_world_desk, run_world_to_exit};
 pub use world::World;

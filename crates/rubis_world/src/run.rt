@@ -2,6 +2,7 @@
 
 ghost use Rattle.std.specs.Prelude.{◌≡◌, ◌≤◌, ◌<◌, ◌+◌, ◌^◌, ◌⊎◌, [], ℕ, List, IfErr, IfOk, IfSome, IsErrOf, MatchOption, length, take};
 ghost use Rattle.std.specs.Io.KnownBytes.{Appends};
+ghost use Rattle.rubis_model.specs.Laws.{InRun};
 ghost use Rattle.rubis_model.specs.WorldRecords.{world_output_of};
 ghost use Rattle.rubis_script.specs.Accounts.Ending.{AtEnd};
 ghost use Rattle.rubis_script.specs.Progress.{HasComeSoFar, InEachRun, IsCut, IsDone, IsTooLong, WroteFront};
@@ -15,10 +16,11 @@ use rubis_schema::RECORDS_MAX;
 use rubis_script::{Count, Records, RunFault, Sink, next_record, stop, write_out};
 use std::alloc::Global;
 use std::io::{Read, Write};
+use std::mem;
 use std::sync::Wait;
 use std::thread::Threads;
 
-// Answers the record behind so many, if there is one. `None` where the run goes on, and else how many records were read.
+// Answers record `answered + 1`, if there is one. `None` if the run goes on, otherwise how many records were read.
 fn turn<T: Threads + Wait + Sync, R: Read, W: Write>(
     rt: &T,
     records: &mut Records<R>,
@@ -94,10 +96,14 @@ pub fn run_world_desk<T: Threads + Wait + Sync, R: Read + Drop, W: Write>(
         IsCut (told_by_world desk.old.world 1) (W.contents writer.old) (W.contents writer.new) (input_records input)) }
     ensures memory { IsErrOf result RunFault.Memory → IfSome (R.remaining reader) (λ input.
         WroteFront ((told_by_world desk.old.world 1).text AtEnd) (W.contents writer.old) (W.contents writer.new) (input_records input)) }
+    ensures run { InRun desk.new.world.world }
 {
     let mut records = Records::new(alloc, reader);
     let mut sink = Sink::new(alloc);
-    serve(rt, &mut records, desk, &mut sink, writer, limit)
+    let ended = serve(rt, &mut records, desk, &mut sink, writer, limit);
+    // For the clause on what the sites keep.
+    let _sent = desk.world.packets();
+    ended
 }
 
 /// Runs several sites over at most 4,000,000 records of `reader`: appends the text of their answers to `writer`. The answers
@@ -106,9 +112,9 @@ pub fn run_world_desk<T: Threads + Wait + Sync, R: Read + Drop, W: Write>(
 ///
 /// # Errors
 ///
-/// `Read` where the reader failed: the first records are answered then, as if there were no more. `Write` where the
-/// writer failed. `Memory` where there was not enough, or a site came to be behind: what was written is the front of the
-/// whole text. `TooLong` where the input has more records: the first 4,000,000 are answered then.
+/// `Read` if the reader failed: the first records are answered then, as if there were no more. `Write` if the writer
+/// failed. `Memory` if memory ran out, or a site came to be behind: what was written is a prefix of the whole text.
+/// `TooLong` if the input has more records: the first 4,000,000 are answered then.
 pub fn run_world<T: Threads + Wait + Sync, R: Read + Drop, W: Write>(
     rt: &T,
     alloc: Global,
@@ -129,4 +135,34 @@ pub fn run_world<T: Threads + Wait + Sync, R: Read + Drop, W: Write>(
 {
     let mut desk = WorldDesk::new(alloc, config)?;
     run_world_desk(rt, alloc, reader, writer, &mut desk, RECORDS_MAX)
+}
+
+/// Runs several sites as `run_world`, for a program that ends with it: the sites aren't taken apart, since the process gives
+/// their memory back at once.
+///
+/// # Errors
+///
+/// Those of `run_world`.
+pub fn run_world_to_exit<T: Threads + Wait + Sync, R: Read + Drop, W: Write>(
+    rt: &T,
+    alloc: Global,
+    reader: R,
+    writer: &mut W,
+    config: &WorldConfig,
+) -> Result<Count, RunFault>
+    ensures ok { IfOk result (λ count. IfSome (R.remaining reader) (λ input.
+        Appends (W.contents writer.old) (W.contents writer.new) (rows_text (world_output_of config.now.sites config.now.keep (input_records input)))
+        × (count.records ≡ length (input_records input)) × (count.records ≤ 4000000))) }
+    ensures too_long { IsErrOf result RunFault.TooLong → IfSome (R.remaining reader) (λ input.
+        Appends (W.contents writer.old) (W.contents writer.new) (rows_text (world_output_of config.now.sites config.now.keep (take 4000000 (input_records input))))
+        × (4000000 < length (input_records input))) }
+    ensures read { IsErrOf result RunFault.Read → IfSome (R.remaining reader) (λ input.
+        (k : ℕ) × Appends (W.contents writer.old) (W.contents writer.new) (rows_text (world_output_of config.now.sites config.now.keep (take k (input_records input))))) }
+    ensures memory { IsErrOf result RunFault.Memory → IfSome (R.remaining reader) (λ input.
+        WroteFront (λ records. rows_text (world_output_of config.now.sites config.now.keep records)) (W.contents writer.old) (W.contents writer.new) (input_records input)) }
+{
+    let mut desk = WorldDesk::new(alloc, config)?;
+    let ended = run_world_desk(rt, alloc, reader, writer, &mut desk, RECORDS_MAX);
+    mem::forget(desk);
+    ended
 }

@@ -152,6 +152,7 @@ impl Sites {
         requires ready { left_at self.old site ≡ 0 }
         ensures step { Steps self.old self.new (requested self.old.keep self.old.world site (Request.Pass to)) result }
         ensures tables { Asks site self.old self.new result }
+        ensures never { result ≡ Err (WorldFault.Site Fault.Behind) → ⊥ }
     {
         self.packets.reserve(1)?;
         let token = self.sites[site].pass(to)?;
@@ -266,6 +267,8 @@ impl Sites {
         requires { IsEvent (length self.old.world.sites) (At site request) }
         ensures step { Steps self.old self.new (happens self.old.keep self.old.world (At site request)) result }
         ensures tables { site < length self.old.world.sites → Asks site self.old self.new result }
+        ensures absent { length self.old.world.sites ≤ site → (result ≡ Err WorldFault.BadEvent) × (self.new ≡ self.old) }
+        ensures pass { (to : ℕ) → request ≡ Request.Pass to → result ≡ Err (WorldFault.Site Fault.Behind) → 0 < left_at self.old site }
     {
         let site = usize::from(site);
         if site >= self.sites.len() {
@@ -293,6 +296,7 @@ impl Sites {
         requires sites { sites_of message ≡ length self.old.world.sites }
         ensures step { Steps self.old self.new (coming self.old.keep self.old.world site (Some (Packet.Msg message))) result }
         ensures tables { Asks site self.old self.new result }
+        ensures never { result ≡ Err (WorldFault.Site Fault.Behind) → ⊥ }
     {
         let arrival = self.sites[site].arrive(rt, message)?;
         Ok(Happened::Came(arrival))
@@ -304,6 +308,7 @@ impl Sites {
         requires ready { left_at self.old site ≡ 0 }
         ensures step { Steps self.old self.new (coming self.old.keep self.old.world site (Some (Packet.Token token))) result }
         ensures tables { Asks site self.old self.new result }
+        ensures never { result ≡ Err (WorldFault.Site Fault.Behind) → ⊥ }
     {
         let taken = self.sites[site].token(token)?;
         Ok(Happened::Token(taken))
@@ -321,6 +326,7 @@ impl Sites {
         requires fits { IsDeliverable (length self.old.world.sites) packet }
         ensures step { Steps self.old self.new (coming self.old.keep self.old.world site (Some packet)) result }
         ensures tables { Asks site self.old self.new result }
+        ensures never { result ≡ Err (WorldFault.Site Fault.Behind) → ⊥ }
     {
         match packet {
             Packet::Msg(message) => self.arrive(rt, site, message),
@@ -338,6 +344,9 @@ impl Sites {
         requires { AllDeliverable (length self.old.world.sites) self.old.world.sent }
         ensures step { Steps self.old self.new (happens self.old.keep self.old.world (Deliver site number)) result }
         ensures tables { site < length self.old.world.sites → (p : Sent) → packet_at self.old.world.sent number ≡ Some p → Asks site self.old self.new result }
+        ensures absent { length self.old.world.sites ≤ site → (result ≡ Err WorldFault.BadEvent) × (self.new ≡ self.old) }
+        ensures unsent { site < length self.old.world.sites → packet_at self.old.world.sent number ≡ None → (result ≡ Err WorldFault.NoSuchPacket) × (self.new ≡ self.old) }
+        ensures behind { result ≡ Err (WorldFault.Site Fault.Behind) → 0 < left_at self.old site }
     {
         let site = usize::from(site);
         if site >= self.sites.len() {

@@ -1,4 +1,5 @@
-ghost use Rattle.std.specs.Prelude.{◌≡◌, ◌<◌, ◌≤◌, Err, IfErr, IfOk, Some, ℕ, length};
+ghost use Rattle.std.specs.Prelude.{◌≡◌, ◌<◌, ◌≤◌, Err, IfErr, IfOk, None, Some, ℕ, length};
+ghost use Rattle.rubis_message.specs.declared.requests.Request.TheVariants as Request;
 ghost use Rattle.rubis_message.specs.declared.tokens.Packet.{Packet as Sent};
 ghost use Rattle.rubis_model.specs.Laws.{InRun};
 ghost use Rattle.rubis_model.specs.System.{IsEvent, happens, packet_at};
@@ -48,7 +49,7 @@ impl World {
         })
     }
 
-    /// How many sites there are, 1 to 8.
+    /// How many sites there are, 1 to 16.
     pub fn sites(&self) -> u8
         ensures value { result ≡ length self.now.world.sites }
         ensures few { result ≤ SITES_MAX }
@@ -67,6 +68,8 @@ impl World {
         requires { IsEvent (length self.old.world.sites) (At site request) }
         ensures step { Steps self.old self.new (happens self.old.keep self.old.world (At site request)) result }
         ensures tables { site < length self.old.world.sites → Asks site self.old self.new result }
+        ensures absent { length self.old.world.sites ≤ site → (result ≡ Err WorldFault.BadEvent) × (self.new ≡ self.old) }
+        ensures pass { (to : ℕ) → request ≡ Request.Pass to → result ≡ Err (WorldFault.Site Fault.Behind) → 0 < left_at self.old site }
         ensures run { InRun self.new.world }
     {
         self.sites.at(rt, site, request)
@@ -82,6 +85,9 @@ impl World {
     ) -> Result<Happened, WorldFault>
         ensures step { Steps self.old self.new (happens self.old.keep self.old.world (Deliver site number)) result }
         ensures tables { site < length self.old.world.sites → (p : Sent) → packet_at self.old.world.sent number ≡ Some p → Asks site self.old self.new result }
+        ensures absent { length self.old.world.sites ≤ site → (result ≡ Err WorldFault.BadEvent) × (self.new ≡ self.old) }
+        ensures unsent { site < length self.old.world.sites → packet_at self.old.world.sent number ≡ None → (result ≡ Err WorldFault.NoSuchPacket) × (self.new ≡ self.old) }
+        ensures behind { result ≡ Err (WorldFault.Site Fault.Behind) → 0 < left_at self.old site }
         ensures run { InRun self.new.world }
     {
         self.sites.deliver(rt, site, number)

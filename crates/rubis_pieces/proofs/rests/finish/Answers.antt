@@ -5,11 +5,11 @@ use Rattle.std.proofs.lemmas.List.Elements.{filter_from_retain}
 use Rattle.std.proofs.lemmas.Option.{slice_get_read}
 use Rattle.rubis_schema.specs.Keys.{home}
 use Rattle.rubis_shadow.specs.declared.numbered.Numbered.{Numbered}
-use Rattle.rubis_pieces.specs.Batches.{AreUnfinished, HoldsBut, parts_left}
+use Rattle.rubis_pieces.specs.Batches.{AreUnfinished, FoldsRests, HoldsBut, parts_left}
 use Rattle.rubis_pieces.specs.declared.pieces.Left.{Left}
 use Rattle.rubis_pieces.proofs.Folded.{holds_all}
 use Rattle.rubis_pieces.proofs.Finishing.{are_rests, rest_at, rests_set, goes_on, fewer_set, is_unfinished, unfinished_filter}
-use Rattle.rubis_pieces.proofs.Finishing.{fewer_filter, holds_filtered}
+use Rattle.rubis_pieces.proofs.Finishing.{fewer_filter, folds_filtered, folds_on, holds_filtered, nothing_folded}
 use Rattle.rubis_pieces.proofs.rests.finish.Goals as goal
 
 pub loop-at-init : goal.loop-at-init
@@ -18,6 +18,7 @@ loop-at-init c = record {
   many = refl;
   rests = are_rests 0 (length c.args.tables.now) c.args.left.now.items c.requires;
   fewer = omega arith;
+  folded = nothing_folded c.args.tables.now c.args.left.now.items;
   goes_on = λ shards log h. h;
 }
 
@@ -57,6 +58,8 @@ loop-at-preserved c =
       rests = rests_set 0 (length c.args.tables.now) ls at l x c.loop-at.invariant.rests there refl c.apply.ensures.to;
       fewer = (let more = fewer_set ls at l x there refl c.apply.ensures.from in let before = c.loop-at.invariant.fewer in
           omega (arith, more, before));
+      folded = folds_on ls c.args.left.now.items at l x c.args.tables.now c.loop-at.tables c.apply.new.self (length c.args.tables.now)
+          c.loop-at.invariant.rests there refl c.apply.ensures.to c.apply.ensures.from c.apply.ensures.folded c.loop-at.invariant.folded;
       goes_on = λ shards log h. goes_on shards log ls at l x c.loop-at.tables c.apply.new.self (length c.args.tables.now)
           c.loop-at.invariant.rests there refl c.apply.ensures.to c.apply.ensures.from
           c.apply.ensures.folded (c.loop-at.invariant.goes_on shards log h);
@@ -70,6 +73,14 @@ returns-clause-unfinished c =
     subst (λ n. AreUnfinished 0 n c.retain.new.self.items) (sym c.loop-at.invariant.shards)
     (subst (AreUnfinished 0 (length c.args.tables.now)) (sym kept) (unfinished_filter 0 (length c.args.tables.now)
     c.loop-at.left.items c.loop-at.invariant.rests))
+
+pub returns-clause-folded : goal.returns-clause-folded
+returns-clause-folded c =
+    let kept : c.retain.new.self.items ≡ filter is_unfinished c.loop-at.left.items =
+    filter_from_retain _ is_unfinished (λ p x b q r. search rules) _ c.loop-at.left.items c.retain.new.self.items
+    c.retain.ensures.filtered in
+    subst (FoldsRests c.args.tables.now c.args.left.now.items c.loop-at.tables) (sym kept)
+    (folds_filtered c.loop-at.left.items c.args.left.now.items c.args.tables.now c.loop-at.tables (length c.args.tables.now) c.loop-at.invariant.rests c.loop-at.invariant.folded)
 
 pub returns-clause-fewer : goal.returns-clause-fewer
 returns-clause-fewer c =

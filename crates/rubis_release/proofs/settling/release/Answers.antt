@@ -10,4 +10,4 @@ settle-requires-clause-sites c = subst (λ n. AllAmong n c.args.waiting.now) (sy
 pub settle-requires-clause-counts : goal.settle-requires-clause-counts
 settle-requires-clause-counts c =
     counts_more c.args.clock.now c.advance.new.self c.args.log.now.items c.push_reserved.new.self.items c.args.message c.stamp.result.now c.requires.counts c.requires.site c.stamp.ensures.value c.advance.ensures
-    (c.push_reserved.ensures.items ∙ ap (λ (xs : List Message). xs ++ c.args.message ∷ []) c.in_ok-reserve.ensures.items)
+    (c.push_reserved.ensures.items ∙ ap (λ (xs : List Message). xs ++ c.args.message ∷ []) c.reserve.ensures.items)

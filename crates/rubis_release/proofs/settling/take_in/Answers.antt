@@ -28,5 +28,5 @@ returns-clause-settles c =
     let waiting : List Message = c.args.waiting.now ++ c.args.message ∷ [] in
     let none = subst (λ (k : MessageCounts). NoneReady k waiting) c.requires.counts
     (none_more c.args.clock.now c.args.waiting.now c.args.message c.requires.none (c.is_ready.ensures.waits c.if-is_ready.false)) in
-    subst₂ (Settles log waiting) (sym c.in_ok-reserve.ensures.items) (sym c.in_ok-push.ensures.ok)
+    subst₂ (Settles log waiting) (sym c.reserve.ensures.items) (sym c.in_ok-push.ensures.ok)
     (at_rest n log waiting (among_more n c.args.waiting.now c.args.message c.requires.sites c.requires.site) none)

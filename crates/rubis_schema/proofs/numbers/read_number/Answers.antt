@@ -1,7 +1,7 @@
 use Rattle.std.proofs.Common.{◌≡◌, ◌<◌, ◌≤◌, ◌^◌, ◌==◌, ℕ, zero, suc, List, false, length, get_or, refl, inl, inr, sym, ◌∙◌, arith, rules}
 use Rattle.std.proofs.lemmas.Bool.{cases_lt, false≢true}
 use Rattle.std.proofs.lemmas.Bool.Decides.{Decides-eqb}
-use Rattle.rubis_schema.proofs.Digits.{no_zero_in_front, not_empty, overflows, read_all, stops_at, ends_with, too_great}
+use Rattle.rubis_schema.proofs.Digits.{no_zero_in_front, not_empty, one_more_fits, read_all, stops_at, ends_with, too_great}
 use Rattle.rubis_schema.proofs.FieldLaws.{found, refused, number_is}
 use Rattle.rubis_schema.proofs.numbers.read_number.Goals as goal
 use Rattle.rubis_schema.proofs.numbers.read_number.Goals.{then-is_empty-via-then-is_empty, then-is_empty-via-else-is_empty+then-has_leading_zero, then-byte-lt48-via-then-byte-lt48, then-byte-lt48-via-else-byte-lt48+then-byte-gt57}
@@ -30,28 +30,28 @@ pub returns-then-byte-lt48-clause-value : goal.returns-then-byte-lt48-clause-val
 returns-then-byte-lt48-clause-value c = refused (number_is c.args.max (search rules)) c.args.bytes.now (λ n h e.
     let small = fits n c.args.max (search rules) h in
     elim c.then-byte-lt48.branch [
-      | then-byte-lt48-via-then-byte-lt48 w ↦ stops_at c.args.bytes.now c.loop-byte.byte-index c.loop-byte.number n small (omega arith) c.loop-byte.invariant (inl (omega arith)) e
-      | then-byte-lt48-via-else-byte-lt48+then-byte-gt57 w ↦ stops_at c.args.bytes.now c.loop-byte.byte-index c.loop-byte.number n small (omega arith) c.loop-byte.invariant (inr (omega arith)) e
+      | then-byte-lt48-via-then-byte-lt48 w ↦ stops_at c.args.bytes.now c.loop-byte.byte-index c.loop-byte.number n small (omega arith) c.loop-byte.invariant.0 (inl (omega arith)) e
+      | then-byte-lt48-via-else-byte-lt48+then-byte-gt57 w ↦ stops_at c.args.bytes.now c.loop-byte.byte-index c.loop-byte.number n small (omega arith) c.loop-byte.invariant.0 (inr (omega arith)) e
     ])
-
-pub returns-in_err-checked_mul-clause-value : goal.returns-in_err-checked_mul-clause-value
-returns-in_err-checked_mul-clause-value c = c.from_residual.ensures ∙ refused (number_is c.args.max (search rules)) c.args.bytes.now (λ n h e.
-    let small = fits n c.args.max (search rules) h in
-    overflows c.args.bytes.now c.loop-byte.byte-index c.loop-byte.number n small (omega arith) c.loop-byte.invariant (omega (arith, c.in_err-checked_mul.ensures)) e)
-
-pub returns-in_err-number-clause-value : goal.returns-in_err-number-clause-value
-returns-in_err-number-clause-value c = c.from_residual-in_err-number.ensures ∙ refused (number_is c.args.max (search rules)) c.args.bytes.now (λ n h e.
-    let small = fits n c.args.max (search rules) h in
-    overflows c.args.bytes.now c.loop-byte.byte-index c.loop-byte.number n small (omega arith) c.loop-byte.invariant (omega (arith, c.in_err-number.ensures, c.in_ok-checked_mul.ensures)) e)
 
 pub returns-then-number-max-clause-value : goal.returns-then-number-max-clause-value
 returns-then-number-max-clause-value c =
     let some = some_bytes (length c.args.bytes.now) (sym c.is_empty.ensures ∙ c.if-is_empty.false) in
     let lone = lone_zero c.args.bytes.now some (λ front. false≢true (c.if-has_leading_zero.ensures.1 front)) in
     found (number_is c.args.max (search rules)) c.args.bytes.now c.loop-byte.number c.if-number-max.true
-    (read_all c.args.bytes.now c.loop-byte.byte-index c.loop-byte.number some lone (fits c.loop-byte.number c.args.max (search rules) c.if-number-max.true) (omega arith) c.loop-byte.invariant)
+    (read_all c.args.bytes.now c.loop-byte.byte-index c.loop-byte.number some lone (fits c.loop-byte.number c.args.max (search rules) c.if-number-max.true) (omega arith) c.loop-byte.invariant.0)
 
 pub returns-else-number-max-clause-value : goal.returns-else-number-max-clause-value
 returns-else-number-max-clause-value c = refused (number_is c.args.max (search rules)) c.args.bytes.now (λ n h e.
-    let all = ends_with c.args.bytes.now c.loop-byte.byte-index c.loop-byte.number (omega arith) c.loop-byte.invariant in
+    let all = ends_with c.args.bytes.now c.loop-byte.byte-index c.loop-byte.number (omega arith) c.loop-byte.invariant.0 in
     too_great c.args.bytes.now n c.loop-byte.number (fits n c.args.max (search rules) h) (omega (arith, all.0)) (omega arith) e)
+
+pub overflow_mul-number : goal.overflow_mul-number
+overflow_mul-number c =
+    let next = one_more_fits c.loop-byte.number c.loop-byte.byte-index 0 c.loop-byte.invariant.1 (omega (arith, c.if-bytes-gt19.false, c.loop-byte-test.true)) (omega arith) in
+    omega (arith, next.1)
+
+pub overflow_add-number : goal.overflow_add-number
+overflow_add-number c =
+    let next = one_more_fits c.loop-byte.number c.loop-byte.byte-index c.from.result c.loop-byte.invariant.1 (omega (arith, c.if-bytes-gt19.false, c.loop-byte-test.true)) (omega (arith, c.from.ensures)) in
+    omega (arith, next.1)

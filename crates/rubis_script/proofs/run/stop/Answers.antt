@@ -13,7 +13,7 @@ returns-in_default-clause-too_long g c e all old input p =
     let next = progress-more _ c.args.records.now c.next_record.new.records all _ old _ _ n input p found in
     progress-too_long _ c.args.records.now c.next_record.new.records all (g.S.Service.account c.settle.new.service n) old _ n c.args.answered input
     (progress-drained _ _ all _ _ old _ _ _ n input moved (c.in_ok-settle.ensures.drains n))
-    (c.in_ok-settle.ensures.none n) (g.met.S.Service.reads_none c.settle.new.service n) refl (omega (arith, next))
+    (c.in_ok-settle.ensures.none n) (g.met.S.Service.reads_next c.settle.new.service n) refl (omega (arith, next))
 
 pub returns-in_err-settle-clause-memory : goal.returns-in_err-settle-clause-memory
 returns-in_err-settle-clause-memory g c e all old input p =

@@ -1,7 +1,6 @@
 use Rattle.std.proofs.Common.{◌+◌, ◌∙◌, ap, refl, arith}
-use Rattle.rubis_script.specs.SiteRuns.{told_by}
+use Rattle.rubis_script.specs.Windows.{held_by}
 use Rattle.rubis_script.specs.declared.fault.RunFault.TheVariants as fault
-use Rattle.rubis_script.proofs.SiteAnswers.{site_goes}
 use Rattle.rubis_script.proofs.RunFacts.{handed_on, if_none, if_some, progress-moved, progress-stays, progress-step}
 use Rattle.rubis_script.proofs.site_run.turn.Goals as goal
 
@@ -10,30 +9,31 @@ returns-in-Some-clause-goes g c all old input p =
     let done = if_some _ c.in_ok-count.field-0 c.in-Some.count c.in_ok-count.ensures.done c.in-Some.is all old input p in
     (done.0, done.1, omega (arith, done.2))
 
-pub returns-in_err-respond-clause-memory : goal.returns-in_err-respond-clause-memory
-returns-in_err-respond-clause-memory g c e all old input p =
+pub take-requires-clause-held : goal.take-requires-clause-held
+take-requires-clause-held g c κs within =
     let same = if_none c.in_ok-count.field-0 c.in_ok-count.ensures.same c.in_default.is in
-    progress-stays _ _ all _ old _ _ _ _ input p (ap g.W.Write.contents same.2)
+    rw (same.0, same.1) c.requires.held
+
+pub returns-in_err-take-clause-memory : goal.returns-in_err-take-clause-memory
+returns-in_err-take-clause-memory g c e all old input p =
+    let same = if_none c.in_ok-count.field-0 c.in_ok-count.ensures.same c.in_default.is in
+    progress-stays _ _ all _ old _ _ _ _ input p (ap g.W.Write.contents same.3)
 
 pub returns-clause-goes : goal.returns-clause-goes
 returns-clause-goes g c all old input p =
     let n = c.args.answered + 1 in
     let same = if_none c.in_ok-count.field-0 c.in_ok-count.ensures.same c.in_default.is in
     let found = if_none c.in_ok-count.field-0 c.in_ok-count.ensures.found c.in_default.is in
-    let before = c.next_record.new.service.site in
-    let after = c.respond.new.self.site in
-    let moved = progress-moved _ c.args.records.now all _ (told_by before n) old _ (g.W.Write.contents c.next_record.new.writer) _ c.next_record.new.sink n input p
-    (ap (λ s. told_by s.site n) same.0) (ap g.W.Write.contents same.2) same.1 in
-    let answered = rw (c.fields.ensures) at c.in_ok-respond.ensures.answered in
-    c.in_ok-write_out.ensures.goes all old (n + 1) input
-    (progress-step _ c.args.records.now c.next_record.new.records all _ (told_by after (n + 1)) old _ _ c.respond.new.sink n input moved found
-    (λ more. (
-      λ ending. site_goes before after n _ c.next_record.new.sink c.respond.new.sink c.respond.ensures.place answered more,
-      omega arith,
-    )))
+    let before = held_by c.next_or_end.new.desk.site c.next_or_end.new.window.items n in
+    let after = held_by c.take.new.self.site c.take.new.window.items (n + 1) in
+    let moved = progress-moved _ c.args.records.now all _ before old _ (g.W.Write.contents c.next_or_end.new.writer) _ c.next_or_end.new.sink n input p
+    (λ i. held_by (same.0 i).site (same.1 i).items n) (ap g.W.Write.contents same.3) same.2 in
+    let answered = rw (c.fields.ensures) at c.in_ok-take.ensures.goes in
+    c.in_ok-pass_on.ensures.goes all old input
+    (progress-step _ c.args.records.now c.next_or_end.new.records all before after old _ _ c.take.new.sink n input moved found answered)
 
-pub returns-in_err-write_out-clause-memory : goal.returns-in_err-write_out-clause-memory
-returns-in_err-write_out-clause-memory g c e all old input p =
+pub returns-in_err-pass_on-clause-memory : goal.returns-in_err-pass_on-clause-memory
+returns-in_err-pass_on-clause-memory g c e all old input p =
     let same = if_none c.in_ok-count.field-0 c.in_ok-count.ensures.same c.in_default.is in
-    let memory = handed_on c.from_residual-in_err-write_out.result c.in_err-write_out.field-0.0 fault.Memory c.from_residual-in_err-write_out.ensures e in
-    progress-stays _ _ all _ old _ _ _ _ input p (c.in_err-write_out.ensures.memory (rw memory refl) ∙ ap g.W.Write.contents same.2)
+    let memory = handed_on c.from_residual-in_err-pass_on.result c.in_err-pass_on.field-0.0 fault.Memory c.from_residual-in_err-pass_on.ensures e in
+    progress-stays _ _ all _ old _ _ _ _ input p (c.in_err-pass_on.ensures.memory (rw memory refl) ∙ ap g.W.Write.contents same.3)

@@ -1,25 +1,34 @@
-use Rattle.std.proofs.Common.{◌≡◌, ◌∷◌, [], ◌++◌, List, cond, sym, ap, ◌∙◌, map as each}
-use Rattle.std.specs.Map.Iter.{deref_pair}
-use Rattle.std.proofs.lemmas.List.{append-nil, map-append}
-use Rattle.rubis_schema.specs.declared.row_keys.RowKey.{RowKey}
-use Rattle.rubis_schema.specs.declared.rows.Row.{Row}
-use Rattle.rubis_shard.proofs.Walking.{listed_more}
-use Rattle.rubis_shard.proofs.picks.picked_of_all.Goals.{then-picks+in_ok-push, else-picks}
+use Rattle.std.proofs.Common.{◌≡◌, sym, ap, subst, ◌∙◌, map as each}
+use Rattle.std.specs.Prelude.{IfOk}
+use Rattle.rubis_schema.specs.declared.row_keys.Table.{Table}
+use Rattle.rubis_schema.specs.declared.row_keys.RowKey.TheVariants as key
+use Rattle.rubis_shard.specs.Listed.{listed_among}
+use Rattle.rubis_shard.specs.Rows.{entries_of}
+use Rattle.rubis_shard.specs.Written.{shown, written}
+use Rattle.rubis_shard.proofs.InMaps.{Entries}
+use Rattle.rubis_shard.proofs.OneTable.{nicks_listed, cats_listed, kept_listed}
 use Rattle.rubis_shard.proofs.picks.picked_of_all.Goals as goal
 
-pub loop-key-preserved : goal.loop-key-preserved
-loop-key-preserved c =
-    let e : RowKey × Row = c.loop-key-item.result in
-    let old : List (RowKey × Row) = each deref_pair c.loop-key.rows.items in
-    let pushed : each deref_pair c.if-picks.rows.items ≡ old ++ cond c.picks.result (e ∷ []) [] = elim c.if-picks.branch [
-      | then-picks+in_ok-push w ↦
-          ap (λ v. each deref_pair v.items) w.rows-is ∙ ap (each deref_pair) w.in_ok-push.ensures.items
-          ∙ map-append deref_pair c.loop-key.rows.items (_ ∷ [])
-          ∙ ap (λ b. old ++ cond b (e ∷ []) []) (sym w.if-picks.true)
-      | else-picks w ↦
-          ap (λ v. each deref_pair v.items) w.rows-is ∙ sym (append-nil old)
-          ∙ ap (λ b. old ++ cond b (e ∷ []) []) (sym w.if-picks.false)
-    ] in
-    pushed ∙ ap (λ xs. xs ++ cond c.picks.result (e ∷ []) []) c.loop-key.invariant
-    ∙ sym (listed_more c.args.listing.now c.args.table c.args.all.now c.loop-key.key-index e c.picks.result c.loop-key-test.true c.loop-key-item.is
-    c.picks.ensures)
+pub returns-in-Nicks : goal.returns-in-Nicks
+returns-in-Nicks c =
+    let l = c.args.listing.now in
+    let r = c.args.rows.now in
+    subst (λ (es : Entries). IfOk c.picked_among.result (λ rows. each shown rows.items ≡ es))
+    (ap (λ (t : Table). listed_among l t (written key.Nick r.nicks.entries)) c.in-Nicks.is ∙ nicks_listed l r ∙ ap (λ (t : Table). listed_among l t (entries_of r)) (sym c.in-Nicks.is))
+    c.picked_among.ensures
+
+pub returns-in-Cats : goal.returns-in-Cats
+returns-in-Cats c =
+    let l = c.args.listing.now in
+    let r = c.args.rows.now in
+    subst (λ (es : Entries). IfOk c.picked_among-in-Cats.result (λ rows. each shown rows.items ≡ es))
+    (ap (λ (t : Table). listed_among l t (written key.Cat r.cats.entries)) c.in-Cats.is ∙ cats_listed l r ∙ ap (λ (t : Table). listed_among l t (entries_of r)) (sym c.in-Cats.is))
+    c.picked_among-in-Cats.ensures
+
+pub returns-in_default : goal.returns-in_default
+returns-in_default c =
+    let l = c.args.listing.now in
+    let r = c.args.rows.now in
+    subst (λ (es : Entries). IfOk c.picked_among-in_default.result (λ rows. each shown rows.items ≡ es))
+    (kept_listed l c.args.table r c.in_default.not-Nicks c.in_default.not-Cats)
+    c.picked_among-in_default.ensures

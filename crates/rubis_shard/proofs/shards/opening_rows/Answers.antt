@@ -7,7 +7,8 @@ use Rattle.rubis_schema.specs.Tables.{Tables}
 use Rattle.rubis_schema.specs.declared.row_keys.RowKey.TheVariants as key
 use Rattle.rubis_shadow.specs.Tables.{categories_from, new_category, opening}
 use Rattle.rubis_shadow.proofs.Categories.{categories_more}
-use Rattle.rubis_shadow.proofs.Rows.{put_then, tables_of}
+use Rattle.rubis_shadow.proofs.Rows.{put_then}
+use Rattle.rubis_shard.specs.Rows.{tables_in}
 use Rattle.rubis_model.specs.Shares.{part_of}
 use Rattle.rubis_shard.proofs.Folds.{not_equal}
 use Rattle.rubis_shard.proofs.Openings.{not_open, part_empty, part_here, part_elsewhere}
@@ -15,7 +16,7 @@ use Rattle.rubis_shard.proofs.shards.opening_rows.Goals as goal
 
 pub loop-cat-init : goal.loop-cat-init
 unfolding categories_from
-loop-cat-init c = ap tables_of c.new-rows.ensures ∙ sym (part_empty c.args.shards c.args.number)
+loop-cat-init c = ap map.from_entries c.new-rows.ensures ∙ sym (part_empty c.args.shards c.args.number)
 
 pub loop-cat-preserved : goal.loop-cat-preserved
 loop-cat-preserved c =
@@ -23,9 +24,9 @@ loop-cat-preserved c =
     let high : c.loop-cat.cat ≤ 1000 = omega arith in
     let here : nat_eq (home c.args.shards (key.Cat (c.loop-cat.cat - 1))) c.args.number ≡ true =
     (Decides-eqb _ _).1 (sym c.shard_of.ensures.home ∙ c.if-shard_of-number.false) in
-    let before : tables_of c.make_room.new.self.all.items ≡ part_of c.args.shards c.args.number (map.from_entries (categories_from c.loop-cat.cat (1000 - c.loop-cat.cat))) =
-    ap tables_of c.in_ok-make_room.ensures.same ∙ c.loop-cat.invariant in
-    let free : map.get (tables_of c.make_room.new.self.all.items) (key.Cat (c.loop-cat.cat - 1)) ≡ None =
+    let before : tables_in c.make_room.new.self ≡ part_of c.args.shards c.args.number (map.from_entries (categories_from c.loop-cat.cat (1000 - c.loop-cat.cat))) =
+    ap map.from_entries c.in_ok-make_room.ensures.same ∙ c.loop-cat.invariant in
+    let free : map.get (tables_in c.make_room.new.self) (key.Cat (c.loop-cat.cat - 1)) ≡ None =
     ap (λ (t : Tables). map.get t (key.Cat (c.loop-cat.cat - 1))) before ∙ not_open c.args.shards c.args.number c.loop-cat.cat _ _ (omega arith) in
     put_then _ _ _ (c.put_new.ensures.free ∙ ap is_none free) c.put_new.ensures.put
     ∙ ap (λ (t : Tables). map.insert t (key.Cat (c.loop-cat.cat - 1)) new_category) before

@@ -1,10 +1,10 @@
 use Rattle.std.proofs.Common.{◌≡◌, ◌-◌}
 use Rattle.std.specs.FinMap as map
 use Rattle.rubis_shadow.specs.Tables.{categories_from}
-use Rattle.rubis_shadow.proofs.Rows.{tables_of}
+use Rattle.rubis_shard.specs.Rows.{tables_in}
 use Rattle.rubis_model.specs.Shares.{part_of}
 use Rattle.rubis_shard.proofs.shards.opening_rows.Given as goal
 
 abbrev pub invariant-loop-cat : goal.invariant-loop-cat
-invariant-loop-cat l = tables_of l.rows.all.items ≡ part_of l.shards l.number (map.from_entries (categories_from l.cat (1000 -
+invariant-loop-cat l = tables_in l.rows ≡ part_of l.shards l.number (map.from_entries (categories_from l.cat (1000 -
     l.cat)))

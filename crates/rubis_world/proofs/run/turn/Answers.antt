@@ -24,7 +24,7 @@ returns-clause-goes g c all old input p =
     let after = c.respond.new.self.world in
     let moved = progress-moved _ c.args.records.now all _ (told_by_world before n) old _ (g.W.Write.contents c.next_record.new.writer) _ c.next_record.new.sink n input p
     (ap (λ s. told_by_world s.world n) same.0) (ap g.W.Write.contents same.2) same.1 in
-    let answered = rw (c.fields.ensures) at c.in_ok-respond.ensures in
+    let answered = rw (c.fields.ensures) at c.in_ok-respond.ensures.told in
     c.in_ok-write_out.ensures.goes all old (n + 1) input
     (progress-step _ c.args.records.now c.next_record.new.records all _ (told_by_world after (n + 1)) old _ _ c.respond.new.sink n input moved found
     (λ more. (

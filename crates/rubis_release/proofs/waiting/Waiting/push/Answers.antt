@@ -1,16 +1,31 @@
 use Rattle.std.proofs.Common.{List, [], ◌∷◌, ◌++◌, ap, ◌∙◌, sym, subst}
+use Rattle.std.specs.Prelude.{Some}
 use Rattle.std.specs.List.{list_any}
+use Rattle.indexmap.specs.IndexMap.{insert_entry}
 use Rattle.rubis_schema.specs.Keys.{same_id}
+use Rattle.rubis_schema.specs.declared.ids.Id.{Id}
 use Rattle.rubis_clock.specs.declared.stamps.Stamp.{Stamp}
 use Rattle.rubis_message.specs.Message.{Message}
-use Rattle.rubis_release.specs.Release.{AreTheIds}
-use Rattle.rubis_release.proofs.Waiters.{put}
+use Rattle.rubis_release.specs.Waiting.{AreSlots, somes}
+use Rattle.rubis_release.proofs.Gaps.{new_last, slots_more, somes_append}
 use Rattle.rubis_release.proofs.waiting.Waiting.push.Goals as goal
+
+pub make_place-self-inside-requires-clause-none : goal.make_place-self-inside-requires-clause-none
+make_place-self-inside-requires-clause-none c =
+    ap (λ (i : Id). list_any (λ (m : Message). same_id i m.stamp.id) (somes c.self.inside.slots.entries)) (ap (λ (s : Stamp). s.id) c.stamp.ensures.value)
+    ∙ ap (list_any (λ (m : Message). same_id c.args.message.stamp.id m.stamp.id)) c.self.view_is ∙ c.requires
 
 pub invariant_of-self-2 : goal.invariant_of-self-2
 invariant_of-self-2 c =
-    subst (AreTheIds c.insert.new.self.keys) (ap (λ (xs : List Message). xs ++ c.args.message ∷ []) (sym c.reserve.ensures.items) ∙ sym c.push_reserved.ensures.items)
-    (put c.self.inside.ids.keys c.insert.new.self.keys c.self.inside.list.items c.stamp.result.now.id c.args.message c.self.invariant
-    (ap (λ (s : Stamp). s.id) c.stamp.ensures.value)
-    (ap (list_any (λ (m : Message). same_id c.args.message.stamp.id m.stamp.id)) c.self.view_is ∙ c.requires)
-    c.in_ok-insert.ensures.updates.0)
+    let k = c.stamp.result.now.id in
+    let es = c.make_place-self-inside.new.slots.entries in
+    subst (λ fs. AreSlots fs c.make_place-self-inside.result) (sym (c.in-Ok.ensures.entries ∙ ap (λ fs. insert_entry same_id fs k (Some c.args.message)) c.reserve.ensures.entries ∙ new_last k (Some c.args.message) es c.make_place-self-inside.ensures.absent))
+    (slots_more es c.make_place-self-inside.result k c.args.message c.make_place-self-inside.ensures.slots (sym (ap (λ (s : Stamp). s.id) c.stamp.ensures.value)))
+
+pub returns-clause-ok : goal.returns-clause-ok
+returns-clause-ok c =
+    let k = c.stamp.result.now.id in
+    let es = c.make_place-self-inside.new.slots.entries in
+    ap somes (c.in-Ok.ensures.entries ∙ ap (λ fs. insert_entry same_id fs k (Some c.args.message)) c.reserve.ensures.entries ∙ new_last k (Some c.args.message) es c.make_place-self-inside.ensures.absent)
+    ∙ somes_append es ((k, Some c.args.message) ∷ [])
+    ∙ ap (λ (ms : List Message). ms ++ c.args.message ∷ []) (c.make_place-self-inside.ensures.same ∙ c.self.view_is)

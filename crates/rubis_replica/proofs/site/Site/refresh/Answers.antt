@@ -7,3 +7,6 @@ invariant_of-self g c = follows_on c.self.inside.intake.place.sites c.self.insid
 
 pub invariant_of-self-then-is_behind-2 : goal.invariant_of-self-then-is_behind-2
 invariant_of-self-then-is_behind-2 g c = follows_on c.self.inside.intake.place.sites c.self.inside.intake.state.log c.log.result.now c.self.inside.follower c.follow.new.self c.log.ensures.value (log_counts c.self.inside.intake c.log.ensures.conditions) c.self.invariant c.follow.ensures.follows c.follow.ensures.limits
+
+pub invariant_of-self-2 : goal.invariant_of-self-2
+invariant_of-self-2 g c = follows_on c.self.inside.intake.place.sites c.self.inside.intake.state.log c.log.result.now c.self.inside.follower c.follow.new.self c.log.ensures.value (log_counts c.self.inside.intake c.log.ensures.conditions) c.self.invariant c.follow.ensures.follows c.follow.ensures.limits

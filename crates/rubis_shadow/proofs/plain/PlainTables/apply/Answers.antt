@@ -3,7 +3,7 @@ use Rattle.std.specs.Prelude.{Some, None}
 use Rattle.std.specs.FinMap as map
 use Rattle.rubis_schema.specs.Tables.{Tables}
 use Rattle.rubis_shadow.specs.Changes.{fits_as}
-use Rattle.rubis_shadow.proofs.Rows.{tables_of, get_tables_of, tables_of_update, after_alter, misfit_alter, after_none, misfit_none, remove_none, none_of, some_of, after_refused, misfit_refused, inserted, not_insert, put_then, put_else}
+use Rattle.rubis_shadow.proofs.Rows.{tables_of, get_tables_of, tables_of_update, after_alter, misfit_alter, after_none, misfit_none, remove_none, none_of, some_of, after_refused, misfit_refused, inserted, not_insert, put_then, put_else, row_stays, row_goes, remove_put}
 use Rattle.rubis_shadow.proofs.plain.PlainTables.apply.Goals as goal
 
 pub returns-then-branch-clause-tables : goal.returns-then-branch-clause-tables
@@ -48,14 +48,28 @@ returns-in_default-get_mut c =
       err = tt;
     }
 
+pub returns-then-not-fate : goal.returns-then-not-fate
+returns-then-not-fate c =
+    let k = c.args.effect.now.key in
+    let row = c.alter-fate.new.row in
+    let g : map.get c.args.self.now k ≡ Some c.in-Some.row.now = ap (λ t. map.get t k) (sym c.self.view_is) ∙ get_tables_of _ k ∙ sym c.in-Some.ensures.value in
+    record {
+      tables = c.remove_row.ensures
+          ∙ ap (λ (t : Tables). map.remove t k) (tables_of_update _ _ k row ((c.get_mut.follows.holds row).3 (search rules)).0 ∙ ap (λ (t : Tables). map.insert t k row) c.self.view_is)
+          ∙ remove_put c.args.self.now k row
+          ∙ after_alter c.args.self.now c.args.effect.now c.in-Some.row.now None g (c.alter-fate.ensures.row ∙ row_goes _ row c.if-not-fate.true);
+      misfit = misfit_alter c.args.self.now c.args.effect.now c.in-Some.row.now c.alter-fate.result.misfit g c.alter-fate.ensures.misfit;
+      err = tt;
+    }
+
 pub returns : goal.returns
 returns c =
     let k = c.args.effect.now.key in
-    let row = c.alter.new.row in
+    let row = c.alter-fate.new.row in
     let g : map.get c.args.self.now k ≡ Some c.in-Some.row.now = ap (λ t. map.get t k) (sym c.self.view_is) ∙ get_tables_of _ k ∙ sym c.in-Some.ensures.value in
     record {
       tables = tables_of_update _ _ k row ((c.get_mut.follows.holds row).3 (search rules)).0 ∙ ap (λ (t : Tables). map.insert t k row) c.self.view_is
-          ∙ after_alter c.args.self.now c.args.effect.now c.in-Some.row.now row g c.alter.ensures.row;
-      misfit = misfit_alter c.args.self.now c.args.effect.now c.in-Some.row.now c.alter.result g c.alter.ensures.misfit;
+          ∙ after_alter c.args.self.now c.args.effect.now c.in-Some.row.now (Some row) g (c.alter-fate.ensures.row ∙ row_stays _ row c.if-not-fate.false);
+      misfit = misfit_alter c.args.self.now c.args.effect.now c.in-Some.row.now c.alter-fate.result.misfit g c.alter-fate.ensures.misfit;
       err = tt;
     }

@@ -1,67 +1,91 @@
-use Rattle.std.proofs.Common.{◌≡◌, sym, subst, ◌∙◌}
-use Rattle.std.specs.Prelude.{None, Some}
+use Rattle.std.proofs.Common.{sym, ap, subst, ◌∙◌, refl}
 use Rattle.std.specs.FinMap as map
-use Rattle.std.specs.List.{IsDistinct}
-use Rattle.rubis_schema.specs.Keys.{key_eq}
-use Rattle.rubis_schema.specs.Tables.{Tables}
+use Rattle.std.specs.Prelude.{bytes_eq, nat_eq}
+use Rattle.rubis_schema.specs.IdKeys.{row_key, same_id_key}
 use Rattle.rubis_shadow.specs.declared.changes.Effect.{Effect}
-use Rattle.rubis_shadow.proofs.Rows.{tables_of, after_alter, misfit_alter, after_none, misfit_none, remove_none, not_insert}
-use Rattle.rubis_shard.specs.Chains.{Links}
-use Rattle.rubis_shard.specs.Places.{Finds}
-use Rattle.rubis_shard.proofs.FoundRows.{none_found, row_found, chains_written, keys_written, tables_written}
-use Rattle.rubis_shard.proofs.Linking.{chain_stays}
+use Rattle.rubis_shard.specs.Chains.{IsLinkedSoFar}
+use Rattle.rubis_shard.proofs.Changed.{changed_tables, changed_misfit, changed_chains, not_false}
+use Rattle.rubis_shard.proofs.InMaps.{found_at, found_there, kept_with, nick_with, cat_with, same_entries, three}
 use Rattle.rubis_shard.proofs.row_map.Rows.change_row.Goals as goal
 
-pub returns-then-place-eq0-clause-tables : goal.returns-then-place-eq0-clause-tables
-returns-then-place-eq0-clause-tables c =
-    let t : Tables = tables_of c.args.self.now.all.items in
-    let e : Effect = record { key = c.args.key.now; change = c.args.change.now } in
-    let g : map.get t c.args.key.now ≡ None =
-    none_found c.args.self.now.all.items c.args.key.now c.place-place.result c.place-place.ensures.place c.if-place-eq0.true in
-    sym (remove_none t c.args.key.now g) ∙ after_none t e _ g (not_insert c.args.change.now c.requires)
-
-pub returns-then-place-eq0-clause-misfit : goal.returns-then-place-eq0-clause-misfit
-returns-then-place-eq0-clause-misfit c =
-    let t : Tables = tables_of c.args.self.now.all.items in
-    let e : Effect = record { key = c.args.key.now; change = c.args.change.now } in
-    let g : map.get t c.args.key.now ≡ None =
-    none_found c.args.self.now.all.items c.args.key.now c.place-place.result c.place-place.ensures.place c.if-place-eq0.true in
-    misfit_none t e _ g (not_insert c.args.change.now c.requires)
-
-pub invariant_of-self : goal.invariant_of-self
-invariant_of-self c =
+pub invariant_of-self-else-not-fate : goal.invariant_of-self-else-not-fate
+invariant_of-self-else-not-fate c =
     let s = c.args.self.now in
-    let n = c.place-place.result in
-    let place = c.place-place.ensures.place in
-    let e = c.index_mut.result.now in
-    let read = c.index_mut.ensures.value in
-    let row = c.alter.new.row in
-    let keys = keys_written s.all.items c.args.key.now n place e c.if-place-eq0.false read row in
-    let chains = chains_written s.all.items c.args.key.now n place e c.if-place-eq0.false read row
-    (chain_stays c.args.change.now e.1 row c.alter.ensures.row) in
+    let e : Effect = record { key = c.args.key.now; change = c.args.change.now } in
     record {
-      linked = subst (λ cs. Links cs s.chains) (sym chains) s.linked;
-      found = subst (λ ks. Finds ks s.places) (sym keys) s.found;
-      distinct = subst (IsDistinct key_eq) (sym keys) s.distinct;
+      linked = subst (λ cs. IsLinkedSoFar cs s.chains)
+          (sym (changed_chains same_id_key s.kept.entries c.change_in-fate.new.rows.entries c.in-Kept.id e c.change_in-fate.result c.change_in-fate.ensures.none c.change_in-fate.ensures.some row_key (not_false _ c.if-not-fate.false)))
+          s.linked;
     }
 
-pub returns-clause-tables : goal.returns-clause-tables
-returns-clause-tables c =
-    let es = c.args.self.now.all.items in
+pub returns-then-not-fate-clause-tables : goal.returns-then-not-fate-clause-tables
+unfolding found_at
+returns-then-not-fate-clause-tables c =
+    let s = c.args.self.now in
     let e : Effect = record { key = c.args.key.now; change = c.args.change.now } in
-    let old = c.index_mut.result.now in
-    let row = c.alter.new.row in
-    let place = c.place-place.ensures.place in
-    let g : map.get (tables_of es) c.args.key.now ≡ Some old.1 =
-    row_found es c.args.key.now c.place-place.result place old c.if-place-eq0.false c.index_mut.ensures.value in
-    tables_written es c.args.key.now c.place-place.result place old c.if-place-eq0.false c.index_mut.ensures.value row
-    ∙ after_alter (tables_of es) e old.1 row g c.alter.ensures.row
+    changed_tables same_id_key s.kept.entries c.change_in-fate.new.rows.entries c.in-Kept.id e c.change_in-fate.result c.change_in-fate.ensures.none c.change_in-fate.ensures.some _ _
+    (found_there (three s) c.args.key.now c.place_of.result c.place_of.ensures ∙ ap (found_at (three s)) c.in-Kept.is) c.requires
+    (λ stays. ap map.from_entries (same_entries (three s) (record { kept = c.change_in-fate.new.rows.entries; nicks = s.nicks.entries; cats = s.cats.entries }) stays refl refl))
+    (λ v. kept_with (three s) (record { kept = c.change_in-fate.new.rows.entries; nicks = s.nicks.entries; cats = s.cats.entries }) c.args.key.now v c.in-Kept.id (c.in-Kept.ensures) refl refl)
 
-pub returns-clause-misfit : goal.returns-clause-misfit
-returns-clause-misfit c =
-    let es = c.args.self.now.all.items in
+pub returns-then-not-fate-clause-misfit : goal.returns-then-not-fate-clause-misfit
+unfolding found_at
+returns-then-not-fate-clause-misfit c =
+    let s = c.args.self.now in
     let e : Effect = record { key = c.args.key.now; change = c.args.change.now } in
-    let old = c.index_mut.result.now in
-    let g : map.get (tables_of es) c.args.key.now ≡ Some old.1 =
-    row_found es c.args.key.now c.place-place.result c.place-place.ensures.place old c.if-place-eq0.false c.index_mut.ensures.value in
-    misfit_alter (tables_of es) e old.1 c.alter.result g c.alter.ensures.misfit
+    changed_misfit same_id_key s.kept.entries c.change_in-fate.new.rows.entries c.in-Kept.id e c.change_in-fate.result c.change_in-fate.ensures.none c.change_in-fate.ensures.some _
+    (found_there (three s) c.args.key.now c.place_of.result c.place_of.ensures ∙ ap (found_at (three s)) c.in-Kept.is) c.requires
+
+pub returns-else-not-fate-clause-tables : goal.returns-else-not-fate-clause-tables
+unfolding found_at
+returns-else-not-fate-clause-tables c =
+    let s = c.args.self.now in
+    let e : Effect = record { key = c.args.key.now; change = c.args.change.now } in
+    changed_tables same_id_key s.kept.entries c.change_in-fate.new.rows.entries c.in-Kept.id e c.change_in-fate.result c.change_in-fate.ensures.none c.change_in-fate.ensures.some _ _
+    (found_there (three s) c.args.key.now c.place_of.result c.place_of.ensures ∙ ap (found_at (three s)) c.in-Kept.is) c.requires
+    (λ stays. ap map.from_entries (same_entries (three s) (record { kept = c.change_in-fate.new.rows.entries; nicks = s.nicks.entries; cats = s.cats.entries }) stays refl refl))
+    (λ v. kept_with (three s) (record { kept = c.change_in-fate.new.rows.entries; nicks = s.nicks.entries; cats = s.cats.entries }) c.args.key.now v c.in-Kept.id (c.in-Kept.ensures) refl refl)
+
+pub returns-else-not-fate-clause-misfit : goal.returns-else-not-fate-clause-misfit
+unfolding found_at
+returns-else-not-fate-clause-misfit c =
+    let s = c.args.self.now in
+    let e : Effect = record { key = c.args.key.now; change = c.args.change.now } in
+    changed_misfit same_id_key s.kept.entries c.change_in-fate.new.rows.entries c.in-Kept.id e c.change_in-fate.result c.change_in-fate.ensures.none c.change_in-fate.ensures.some _
+    (found_there (three s) c.args.key.now c.place_of.result c.place_of.ensures ∙ ap (found_at (three s)) c.in-Kept.is) c.requires
+
+pub returns-in-Nick-clause-tables : goal.returns-in-Nick-clause-tables
+unfolding found_at
+returns-in-Nick-clause-tables c =
+    let s = c.args.self.now in
+    let e : Effect = record { key = c.args.key.now; change = c.args.change.now } in
+    changed_tables bytes_eq s.nicks.entries c.change_in.new.rows.entries c.in-Nick.nick e c.change_in.result c.change_in.ensures.none c.change_in.ensures.some _ _
+    (found_there (three s) c.args.key.now c.place_of.result c.place_of.ensures ∙ ap (found_at (three s)) c.in-Nick.is) c.requires
+    (λ stays. ap map.from_entries (same_entries (three s) (record { kept = s.kept.entries; nicks = c.change_in.new.rows.entries; cats = s.cats.entries }) refl stays refl))
+    (λ v. nick_with (three s) (record { kept = s.kept.entries; nicks = c.change_in.new.rows.entries; cats = s.cats.entries }) c.args.key.now v c.in-Nick.nick (c.in-Nick.ensures) refl refl)
+
+pub returns-in-Nick-clause-misfit : goal.returns-in-Nick-clause-misfit
+unfolding found_at
+returns-in-Nick-clause-misfit c =
+    let s = c.args.self.now in
+    let e : Effect = record { key = c.args.key.now; change = c.args.change.now } in
+    changed_misfit bytes_eq s.nicks.entries c.change_in.new.rows.entries c.in-Nick.nick e c.change_in.result c.change_in.ensures.none c.change_in.ensures.some _
+    (found_there (three s) c.args.key.now c.place_of.result c.place_of.ensures ∙ ap (found_at (three s)) c.in-Nick.is) c.requires
+
+pub returns-in-Cat-clause-tables : goal.returns-in-Cat-clause-tables
+unfolding found_at
+returns-in-Cat-clause-tables c =
+    let s = c.args.self.now in
+    let e : Effect = record { key = c.args.key.now; change = c.args.change.now } in
+    changed_tables nat_eq s.cats.entries c.change_in-in-Cat.new.rows.entries c.in-Cat.cat e c.change_in-in-Cat.result c.change_in-in-Cat.ensures.none c.change_in-in-Cat.ensures.some _ _
+    (found_there (three s) c.args.key.now c.place_of.result c.place_of.ensures ∙ ap (found_at (three s)) c.in-Cat.is) c.requires
+    (λ stays. ap map.from_entries (same_entries (three s) (record { kept = s.kept.entries; nicks = s.nicks.entries; cats = c.change_in-in-Cat.new.rows.entries }) refl refl stays))
+    (λ v. cat_with (three s) (record { kept = s.kept.entries; nicks = s.nicks.entries; cats = c.change_in-in-Cat.new.rows.entries }) c.args.key.now v c.in-Cat.cat (c.in-Cat.ensures) refl refl)
+
+pub returns-in-Cat-clause-misfit : goal.returns-in-Cat-clause-misfit
+unfolding found_at
+returns-in-Cat-clause-misfit c =
+    let s = c.args.self.now in
+    let e : Effect = record { key = c.args.key.now; change = c.args.change.now } in
+    changed_misfit nat_eq s.cats.entries c.change_in-in-Cat.new.rows.entries c.in-Cat.cat e c.change_in-in-Cat.result c.change_in-in-Cat.ensures.none c.change_in-in-Cat.ensures.some _
+    (found_there (three s) c.args.key.now c.place_of.result c.place_of.ensures ∙ ap (found_at (three s)) c.in-Cat.is) c.requires

@@ -3,12 +3,13 @@ use Rattle.std.specs.Prelude.{None}
 use Rattle.std.specs.FinMap as map
 use Rattle.rubis_schema.specs.Tables.{Tables}
 use Rattle.rubis_shadow.specs.Changes.{fits_as}
-use Rattle.rubis_shadow.proofs.Rows.{tables_of, after_none, misfit_none, none_of, some_of, after_refused, misfit_refused, inserted, put_then, put_else}
+use Rattle.rubis_shadow.proofs.Rows.{after_none, misfit_none, none_of, some_of, after_refused, misfit_refused, inserted, put_then, put_else}
+use Rattle.rubis_shard.specs.Rows.{tables_in}
 use Rattle.rubis_shard.proofs.row_map.Rows.put_effect.Goals as goal
 
 pub returns-then-put_new-clause-tables : goal.returns-then-put_new-clause-tables
 returns-then-put_new-clause-tables c =
-    let t : Tables = tables_of c.args.self.now.all.items in
+    let t : Tables = tables_in c.args.self.now in
     let row = c.in-Insert.row in
     let g : map.get t c.args.effect.key ≡ None = none_of _ (sym c.if-put_new.true ∙ c.put_new.ensures.free) in
     put_then _ _ _ c.if-put_new.true c.put_new.ensures.put
@@ -16,21 +17,21 @@ returns-then-put_new-clause-tables c =
 
 pub returns-then-put_new-clause-misfit : goal.returns-then-put_new-clause-misfit
 returns-then-put_new-clause-misfit c =
-    let t : Tables = tables_of c.args.self.now.all.items in
+    let t : Tables = tables_in c.args.self.now in
     let row = c.in-Insert.row in
     let g : map.get t c.args.effect.key ≡ None = none_of _ (sym c.if-put_new.true ∙ c.put_new.ensures.free) in
     misfit_none t c.args.effect (fits_as row) g (inserted c.args.effect.change row row c.in-Insert.is refl)
 
 pub returns-in-Insert-clause-tables : goal.returns-in-Insert-clause-tables
 returns-in-Insert-clause-tables c =
-    let t : Tables = tables_of c.args.self.now.all.items in
+    let t : Tables = tables_in c.args.self.now in
     let there = some_of _ (sym c.if-put_new.false ∙ c.put_new.ensures.free) in
-    ap tables_of (put_else _ _ _ c.if-put_new.false c.put_new.ensures.put)
+    ap map.from_entries (put_else _ _ _ c.if-put_new.false c.put_new.ensures.put)
     ∙ after_refused t c.args.effect c.in-Insert.row there.0 there.1 c.in-Insert.is
 
 pub returns-in-Insert-clause-misfit : goal.returns-in-Insert-clause-misfit
 returns-in-Insert-clause-misfit c =
-    let t : Tables = tables_of c.args.self.now.all.items in
+    let t : Tables = tables_in c.args.self.now in
     let there = some_of _ (sym c.if-put_new.false ∙ c.put_new.ensures.free) in
     misfit_refused t c.args.effect c.in-Insert.row there.0 there.1 c.in-Insert.is
 
@@ -39,12 +40,8 @@ returns c = record {
   tables = c.change_row.ensures.tables;
   misfit = c.change_row.ensures.misfit;
   room = λ n room. c.change_row.ensures.room n (record {
-    all = omega (arith, room.all);
-    keys = record { named = omega (arith, room.keys.named); strays = omega (arith, room.keys.strays) };
-    chains = record {
-      ready = room.chains.ready;
-      room = omega (arith, room.chains.room);
-      few = omega (arith, room.chains.few);
-    };
+    kept = omega (arith, room.kept);
+    nicks = omega (arith, room.nicks);
+    cats = omega (arith, room.cats);
   });
 }

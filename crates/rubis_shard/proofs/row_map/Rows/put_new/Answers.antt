@@ -1,51 +1,46 @@
-use Rattle.std.proofs.Common.{◌≡◌, ◌+◌, ◌++◌, ◌∷◌, [], length, sym, ap, subst, ◌∙◌, arith}
-use Rattle.std.specs.Prelude.{is_none}
-use Rattle.std.specs.List.{IsDistinct}
-use Rattle.std.specs.Map.{keys_of}
-use Rattle.std.proofs.lemmas.List.{length-map}
-use Rattle.rubis_schema.specs.Keys.{key_eq}
-use Rattle.rubis_shadow.proofs.Rows.{tables_of}
-use Rattle.rubis_shard.specs.Chains.{chains_of, Links}
-use Rattle.rubis_shard.specs.Places.{place_among, Finds}
-use Rattle.rubis_shard.proofs.FoundRows.{Entries, none_found, some_found, chains_pushed, distinct_pushed, keys_pushed, tables_pushed}
+use Rattle.std.proofs.Common.{refl, sym, ap, ◌∙◌}
+use Rattle.std.specs.Prelude.{is_none, Some}
+use Rattle.rubis_shard.proofs.Changed.{linked_put}
+use Rattle.rubis_shard.proofs.InMaps.{found_at, found_there, kept_with, nick_with, cat_with, same_entries, match_put, three}
 use Rattle.rubis_shard.proofs.row_map.Rows.put_new.Goals as goal
-
-pub returns-then-place-ne0-clause-free : goal.returns-then-place-ne0-clause-free
-returns-then-place-ne0-clause-free c =
-    some_found c.args.self.now.all.items c.args.key c.place.result c.place.ensures.place c.if-place-ne0.true
 
 pub invariant_of-self : goal.invariant_of-self
 invariant_of-self c =
     let s = c.args.self.now in
-    let es = s.all.items in
-    let key = c.args.key in
-    let items = c.push_reserved.ensures.items in
-    let none : place_among key (keys_of es) ≡ 0 = sym c.place.ensures.place ∙ c.if-place-ne0.false in
-    let last : c.len.result ≡ length (keys_of es) + 1 =
-    omega (arith, c.len.ensures, c.push_reserved.ensures.len, s.all.ok.0, length-map es (λ (e : _). e.0)) in
     record {
-      linked = subst (λ cs. Links cs c.push.new.self)
-          (ap (λ n. chains_of es ++ n ∷ []) c.chain_of-chain.ensures.value ∙ sym (chains_pushed es key c.args.row) ∙ ap chains_of (sym items))
-          (c.push.ensures.links (chains_of es) s.linked);
-      found = subst (λ ks. Finds ks c.put.new.self)
-          (sym (keys_pushed es key c.args.row) ∙ ap keys_of (sym items))
-          (c.put.ensures.finds (keys_of es) last none s.found);
-      distinct = subst (λ (xs : Entries). IsDistinct key_eq (keys_of xs)) (sym items)
-          (distinct_pushed es key c.args.row none s.distinct);
+      linked = linked_put c.put_kept.result s.kept.entries c.put_kept.new.rows.entries c.in-Kept.id c.args.row s.chains c.put_kept.ensures.free
+          c.put_kept.ensures.put c.put_kept.ensures.same s.linked;
     }
 
-pub returns-clause-free : goal.returns-clause-free
-returns-clause-free c =
-    sym (ap is_none (none_found c.args.self.now.all.items c.args.key c.place.result c.place.ensures.place c.if-place-ne0.false))
+pub returns-in-Kept-clause-free : goal.returns-in-Kept-clause-free
+unfolding found_at
+returns-in-Kept-clause-free c =
+    c.put_kept.ensures.free
+    ∙ ap is_none (ap (found_at (three c.args.self.now)) (sym c.in-Kept.is) ∙ sym (found_there (three c.args.self.now) c.args.key c.place_of.result c.place_of.ensures))
 
-pub returns-clause-put : goal.returns-clause-put
-returns-clause-put c =
-    ap tables_of c.push_reserved.ensures.items
-    ∙ tables_pushed c.args.self.now.all.items c.args.key c.args.row (sym c.place.ensures.place ∙ c.if-place-ne0.false)
+pub returns-in-Kept-clause-put : goal.returns-in-Kept-clause-put
+returns-in-Kept-clause-put c = match_put _ _ c.put_kept.result
+    (λ yes. kept_with (three c.args.self.now) (record { kept = c.put_kept.new.rows.entries; nicks = c.args.self.now.nicks.entries; cats = c.args.self.now.cats.entries }) c.args.key (Some c.args.row) c.in-Kept.id (c.in-Kept.ensures) refl refl (c.put_kept.ensures.found yes))
+    (λ no. same_entries (three c.args.self.now) (record { kept = c.put_kept.new.rows.entries; nicks = c.args.self.now.nicks.entries; cats = c.args.self.now.cats.entries }) (c.put_kept.ensures.same no) refl refl)
 
-pub returns-clause-room : goal.returns-clause-room
-returns-clause-room c = λ n room. record {
-  all = omega (arith, c.push_reserved.ensures.len, c.push_reserved.ensures.capacity, room.all);
-  keys = c.put.ensures.room n room.keys;
-  chains = c.push.ensures.room n room.chains;
-}
+pub returns-in-Nick-clause-free : goal.returns-in-Nick-clause-free
+unfolding found_at
+returns-in-Nick-clause-free c =
+    c.put_in.ensures.free
+    ∙ ap is_none (ap (found_at (three c.args.self.now)) (sym c.in-Nick.is) ∙ sym (found_there (three c.args.self.now) c.args.key c.place_of.result c.place_of.ensures))
+
+pub returns-in-Nick-clause-put : goal.returns-in-Nick-clause-put
+returns-in-Nick-clause-put c = match_put _ _ c.put_in.result
+    (λ yes. nick_with (three c.args.self.now) (record { kept = c.args.self.now.kept.entries; nicks = c.put_in.new.rows.entries; cats = c.args.self.now.cats.entries }) c.args.key (Some c.args.row) c.in-Nick.nick (c.in-Nick.ensures) refl refl (c.put_in.ensures.found yes))
+    (λ no. same_entries (three c.args.self.now) (record { kept = c.args.self.now.kept.entries; nicks = c.put_in.new.rows.entries; cats = c.args.self.now.cats.entries }) refl (c.put_in.ensures.same no) refl)
+
+pub returns-in-Cat-clause-free : goal.returns-in-Cat-clause-free
+unfolding found_at
+returns-in-Cat-clause-free c =
+    c.put_in-in-Cat.ensures.free
+    ∙ ap is_none (ap (found_at (three c.args.self.now)) (sym c.in-Cat.is) ∙ sym (found_there (three c.args.self.now) c.args.key c.place_of.result c.place_of.ensures))
+
+pub returns-in-Cat-clause-put : goal.returns-in-Cat-clause-put
+returns-in-Cat-clause-put c = match_put _ _ c.put_in-in-Cat.result
+    (λ yes. cat_with (three c.args.self.now) (record { kept = c.args.self.now.kept.entries; nicks = c.args.self.now.nicks.entries; cats = c.put_in-in-Cat.new.rows.entries }) c.args.key (Some c.args.row) c.in-Cat.cat (c.in-Cat.ensures) refl refl (c.put_in-in-Cat.ensures.found yes))
+    (λ no. same_entries (three c.args.self.now) (record { kept = c.args.self.now.kept.entries; nicks = c.args.self.now.nicks.entries; cats = c.put_in-in-Cat.new.rows.entries }) refl refl (c.put_in-in-Cat.ensures.same no))

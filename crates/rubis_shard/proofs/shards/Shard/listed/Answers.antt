@@ -1,15 +1,15 @@
 use Rattle.std.proofs.Common.{sym, ap, ◌∙◌, map as each}
 use Rattle.std.specs.Prelude.{Option}
-use Rattle.std.specs.Map.Iter.{deref_pair}
+use Rattle.rubis_shard.specs.Written.{shown}
 use Rattle.rubis_shard.specs.Listed.{listed_of}
 use Rattle.rubis_shard.specs.States.{ShardState}
 use Rattle.rubis_shard.specs.Stores.{held_in}
-use Rattle.rubis_shard.specs.declared.stores.Store.{Store}
+use Rattle.rubis_shard.specs.declared.shard_store.Store.{Store}
 use Rattle.rubis_shard.proofs.Openings.{none_listed}
 use Rattle.rubis_shard.proofs.shards.Shard.listed.Goals as goal
 
 pub returns-in-None-clause-rows : goal.returns-in-None-clause-rows
 returns-in-None-clause-rows c =
-    ap (each deref_pair) c.new.ensures.items ∙ sym (none_listed c.args.listing.now c.args.table)
+    ap (each shown) c.new.ensures.items ∙ sym (none_listed c.args.listing.now c.args.table)
     ∙ ap (λ (o : Option Store). listed_of c.args.listing.now c.args.table (held_in o).tables) (sym c.in-None.is)
     ∙ ap (λ (s : ShardState). listed_of c.args.listing.now c.args.table s.folded.tables) c.self.view_is

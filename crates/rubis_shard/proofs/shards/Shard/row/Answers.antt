@@ -4,7 +4,7 @@ use Rattle.rubis_schema.specs.Keys.{key_order}
 use Rattle.std.specs.Prelude.{Option}
 use Rattle.rubis_shard.specs.States.{ShardState}
 use Rattle.rubis_shard.specs.Stores.{held_by, held_in}
-use Rattle.rubis_shard.specs.declared.stores.Store.{Store}
+use Rattle.rubis_shard.specs.declared.shard_store.Store.{Store}
 use Rattle.rubis_shard.proofs.shards.Shard.row.Goals as goal
 
 pub returns-in-Some-clause-row : goal.returns-in-Some-clause-row

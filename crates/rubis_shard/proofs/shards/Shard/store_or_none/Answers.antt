@@ -2,7 +2,7 @@ use Rattle.std.proofs.Common.{◌≡◌, sym, ap, ◌∙◌}
 use Rattle.std.specs.Prelude.{Option}
 use Rattle.rubis_model.specs.Shares.{part_of}
 use Rattle.rubis_shard.specs.Stores.{held_in, nothing_held}
-use Rattle.rubis_shard.specs.declared.stores.Store.{Store}
+use Rattle.rubis_shard.specs.declared.shard_store.Store.{Store}
 use Rattle.rubis_shard.proofs.Openings.{part_empty}
 use Rattle.rubis_shard.proofs.shards.Shard.store_or_none.Goals as goal
 

@@ -1,7 +1,7 @@
 use Rattle.std.specs.Prelude.{Ok}
 use Rattle.rubis_message.specs.declared.answers.Happened.TheVariants as happened
 use Rattle.rubis_model.specs.Site.{arrived}
-use Rattle.rubis_world.proofs.Moves.{are_at_places, asked_alone, takes_in_behind, takes_fault, takes_on}
+use Rattle.rubis_world.proofs.Moves.{are_at_places, asked_alone, never_behind, takes_in_behind, takes_in_never, takes_fault, takes_on}
 use Rattle.rubis_world.proofs.sites.Sites.arrive.Goals as goal
 
 pub returns-in_err-arrival-clause-step : goal.returns-in_err-arrival-clause-step
@@ -27,3 +27,8 @@ pub returns-clause-tables : goal.returns-clause-tables
 returns-clause-tables g c =
     asked_alone c.self.inside.keep c.self.inside.sites.items c.self.inside.packets.items c.args.site c.index_mut.result.now c.arrive.new.self c.args.self.now c.self.view_is c.requires.site c.index_mut.ensures.value c.self.invariant
     c.self.inside.packets.items (Ok (happened.Came c.in_ok-arrival.arrival)) c.requires.ready (λ none e. absurd cc)
+
+pub returns-in_err-arrival-clause-never : goal.returns-in_err-arrival-clause-never
+returns-in_err-arrival-clause-never g c =
+    never_behind c.self.inside.keep c.self.inside.sites.items c.self.inside.packets.items c.args.site c.index_mut.result.now c.arrive.new.self c.args.self.now c.self.view_is c.requires.site c.index_mut.ensures.value c.self.invariant
+    c.from_residual.result c.requires.ready (takes_in_never c.index_mut.result.now c.arrive.new.self c.in_err-arrival.field-0.0 c.from_residual.result c.from_residual.ensures c.in_err-arrival.ensures.progress)

@@ -1,0 +1,98 @@
+-- How a widener goes on with the records that it reads: what is written behind some logs depends only on where the last of
+-- their records stands.
+use Rattle.std.proofs.Common.{ℕ, ◌≡◌, ◌∙◌, ◌+◌, List, [], ◌∷◌, ◌++◌, length, Option, Some, None, refl, sym, ap, arith}
+use Rattle.std.specs.Prelude.{option_and_then, option_map}
+use Rattle.rubis_model.specs.AuditRecords.{Line, line_of, line_record, with_line}
+use Rattle.rubis_model.specs.AuditRecords.Line.{Begin, Claim, Next}
+use Rattle.rubis_model.specs.Logs.{Log}
+use Rattle.rubis_model.specs.WidenedRecords.{widened_line, widened_record}
+use Rattle.rubis_script.specs.Accounts.{AnswersRecord}
+use Rattle.rubis_script.specs.Adding.{more_written}
+use Rattle.rubis_script.specs.Text.{rows_text}
+use Rattle.rubis_script.specs.declared.service.Course.TheVariants.{GoesOn}
+use Rattle.rubis_audit.specs.Places.{logs_at, place_after, place_in, place_of}
+use Rattle.rubis_audit.specs.Widening.{bad_record, widened_rows, widening_from}
+use Rattle.rubis_audit.specs.declared.widener.Place.{Place}
+use Rattle.rubis_audit.specs.declared.widener.Place.TheVariants.{BeforeLogs, InMessages, InRows}
+
+begins : (p : Place) (site : ℕ) → place_after p (Begin site) ≡ Some InMessages
+begins BeforeLogs site = refl
+begins InMessages site = refl
+begins InRows site = refl
+
+-- where a record may stand, and where the next one then does
+places : (logs : List Log) (x : Line) → option_map place_of (with_line logs x) ≡ place_after (place_of logs) x
+places logs (Begin site) = sym (begins (place_of logs) site)
+places [] (Next m) = refl
+places [] (Claim row) = refl
+places (log ∷ logs) (Next m) = at log.rows
+  where
+    at : (o : Option (List (List (List ℕ)))) → option_map place_of (with_line (record log { rows = o } ∷ logs) (Next m)) ≡ place_after (place_in o) (Next m)
+    at None = refl
+    at (Some rows) = refl
+places (log ∷ logs) (Claim row) = at log.rows
+  where
+    at : (o : Option (List (List (List ℕ)))) → option_map place_of (with_line (record log { rows = o } ∷ logs) (Claim row)) ≡ place_after (place_in o) (Claim row)
+    at None = refl
+    at (Some rows) = refl
+
+pub place_at : (p : Place) → place_of (logs_at p) ≡ p
+place_at BeforeLogs = refl
+place_at InMessages = refl
+place_at InRows = refl
+
+-- what is written for a record and those behind it
+abbrev pub rows_after : ℕ → ℕ → ℕ → List (List ℕ) → List (List (List ℕ)) → Option (List Log) → List (List (List ℕ))
+rows_after from to n fields rest o =
+    elim o as (λ _. List (List ℕ)) [ None ↦ bad_record n | Some more ↦ widened_record from to fields ]
+    ∷ elim o as (λ _. List (List (List ℕ))) [ None ↦ [] | Some more ↦ widened_rows from to (n + 1) more rest ]
+
+-- what is so of the records behind a record
+abbrev pub Alike : ℕ → ℕ → ℕ → List (List (List ℕ)) → Type 0
+Alike from to n rest = (a b : List Log) → place_of a ≡ place_of b → widened_rows from to n a rest ≡ widened_rows from to n b rest
+
+some_same : {X : Type 0} (x y : X) → Some x ≡ Some y → x ≡ y
+some_same x y e = cc
+
+after_alike : (from to n : ℕ) (fields : List (List ℕ)) (rest : List (List (List ℕ))) (p q : Option (List Log)) → option_map place_of p ≡ option_map place_of q → Alike from to (n + 1) rest
+    → rows_after from to n fields rest p ≡ rows_after from to n fields rest q
+after_alike from to n fields rest None None e ih = refl
+after_alike from to n fields rest None (Some y) e ih = absurd cc
+after_alike from to n fields rest (Some x) None e ih = absurd cc
+after_alike from to n fields rest (Some x) (Some y) e ih = ap (λ rows. widened_record from to fields ∷ rows) (ih x y (some_same (place_of x) (place_of y) e))
+
+pub alike : (from to : ℕ) (records : List (List (List ℕ))) (n : ℕ) → Alike from to n records
+alike from to [] n a b e = refl
+alike from to (fields ∷ rest) n a b e = line (line_of from fields) (alike from to rest (n + 1))
+  where
+    line : (o : Option Line) → Alike from to (n + 1) rest → rows_after from to n fields rest (option_and_then (with_line a) o) ≡ rows_after from to n fields rest (option_and_then (with_line b) o)
+    line None ih = refl
+    line (Some x) ih = after_alike from to n fields rest (with_line a x) (with_line b x) (places a x ∙ ap (λ p. place_after p x) e ∙ sym (places b x)) ih
+
+-- ---- a record is answered
+one_row : (row : List (List ℕ)) (rows : List (List (List ℕ))) (sink : List ℕ) → sink ++ rows_text (row ∷ rows) ≡ (sink ++ rows_text (row ∷ [])) ++ rows_text rows
+one_row row rows sink = sym (more_written (row ∷ []) rows sink (sink ++ rows_text (row ∷ [])) ((sink ++ rows_text (row ∷ [])) ++ rows_text rows) refl refl)
+
+rows_go : (from to n : ℕ) (place next : Place) (x : Line) (fields : List (List ℕ)) (rest : List (List (List ℕ))) → line_of from fields ≡ Some x → place_after place x ≡ Some next
+    → widened_rows from to n (logs_at place) (fields ∷ rest) ≡ line_record (widened_line to x) ∷ widened_rows from to (n + 1) (logs_at next) rest
+rows_go from to n place next x fields rest l a =
+    ap (λ o. rows_after from to n fields rest (option_and_then (with_line (logs_at place)) o)) l ∙ more (with_line (logs_at place) x) refl
+  where
+    record_is : widened_record from to fields ≡ line_record (widened_line to x)
+    record_is = search
+
+    more : (o : Option (List Log)) → with_line (logs_at place) x ≡ o → rows_after from to n fields rest o ≡ line_record (widened_line to x) ∷ widened_rows from to (n + 1) (logs_at next) rest
+    more None e = absurd (let p = sym (ap (option_map place_of) e) ∙ places (logs_at place) x ∙ ap (λ p. place_after p x) (place_at place) ∙ a in cc)
+    more (Some logs) e =
+        let p = sym (ap (option_map place_of) e) ∙ places (logs_at place) x ∙ ap (λ p. place_after p x) (place_at place) ∙ a in
+        λ i. record_is i ∷ alike from to rest (n + 1) logs (logs_at next) (some_same (place_of logs) next p ∙ sym (place_at next)) i
+
+pub goes : (from to n : ℕ) (place next : Place) (x : Line) (fields : List (List ℕ)) (sink sink2 : List ℕ) → line_of from fields ≡ Some x → place_after place x ≡ Some next
+    → sink2 ≡ sink ++ rows_text (line_record (widened_line to x) ∷ [])
+    → AnswersRecord GoesOn (widening_from from to n (logs_at place)) (widening_from from to (n + 1) (logs_at next)) sink sink2 fields
+goes from to n place next x fields sink sink2 l a s rest = (
+  λ ending. ap (λ rows. sink ++ rows_text rows) (rows_go from to n place next x fields rest l a)
+      ∙ one_row (line_record (widened_line to x)) (widened_rows from to (n + 1) (logs_at next) rest) sink
+      ∙ ap (λ text. text ++ rows_text (widened_rows from to (n + 1) (logs_at next) rest)) (sym s),
+  ap length (rows_go from to n place next x fields rest l a) ∙ (let e : length (line_record (widened_line to x) ∷ widened_rows from to (n + 1) (logs_at next) rest) ≡ length (widened_rows from to (n + 1) (logs_at next) rest) + 1 = omega arith in e),
+)

@@ -1,0 +1,173 @@
+// A service that widens the records of an audit: a record in, one out.
+
+ghost use Rattle.std.proofs.Common.{rules};
+ghost use Rattle.std.specs.Prelude.{◌≡◌, ◌++◌, ◌∷◌, ◌≤◌, [], ℕ, List, OnOk, codes, refl};
+ghost use Rattle.rubis_schema.specs.declared.limits.TheConstants.{COUNTED_MAX};
+ghost use Rattle.rubis_message.specs.Grammar.{message_record};
+ghost use Rattle.rubis_message.specs.Message.{sites_of};
+ghost use Rattle.rubis_message.specs.Widening.{widened};
+ghost use Rattle.rubis_model.specs.AuditRecords.{line_record};
+ghost use Rattle.rubis_model.specs.WidenedRecords.{widened_line};
+ghost use Rattle.rubis_script.specs.Text.{rows_text};
+ghost use Rattle.rubis_audit.specs.Lines.{IsAmongLine, line_as};
+ghost use Rattle.rubis_audit.specs.Places.{logs_at, place_after};
+ghost use Rattle.rubis_audit.specs.declared.widener.Place.TheVariants.{BeforeLogs};
+ghost use Rattle.rubis_audit.specs.Widening.{bad_record, widening_from};
+
+use crate::lines::{Line, read_line};
+use rubis_message::{Message, append_message};
+use rubis_schema::{Fields, push_number};
+use rubis_script::{Answering, Course, InputRecord, OutOfMemory, Service, Sink};
+use std::alloc::{AllocError, Global};
+use std::marker::Model;
+
+/// Where the next record stands.
+#[derive(Clone, Copy, PartialEq, Eq, Debug)]
+pub enum Place {
+    /// No log has begun.
+    BeforeLogs,
+    /// Behind the site of a log or one of its messages.
+    InMessages,
+    /// Behind a row of a log.
+    InRows,
+}
+
+impl Place {
+    // The place behind a record that says this. `None` where it can't stand here.
+    fn after(self, line: &Line) -> Option<Place>
+        ensures { (fields : List (List ℕ)) → result ≡ place_after self (line_as fields line.now) }
+    {
+        match (self, line) {
+            (_, Line::Begin(_)) => Some(Place::InMessages),
+            (Place::InMessages, Line::Next(_)) => Some(Place::InMessages),
+            (Place::InMessages, Line::Claim) | (Place::InRows, Line::Claim) => Some(Place::InRows),
+            (Place::BeforeLogs, _) | (Place::InRows, Line::Next(_)) => None,
+        }
+    }
+}
+
+/// Widens the records of an audit from `from` sites to `to`, and keeps only where the next record stands.
+#[derive(Drop)]
+pub struct Widener {
+    from: u8,
+    to: u8,
+    place: Place,
+    reply: Fields,
+    alloc: Global,
+}
+
+impl Model for Widener {
+    ghost use Rattle.std.specs.Prelude.{◌≤◌};
+    ghost use Rattle.rubis_schema.specs.declared.limits.TheConstants.{COUNTED_MAX};
+    ghost use Rattle.rubis_audit.specs.Widening.{WidenerState};
+
+    ghost Value = { WidenerState };
+
+    ghost view = { λ w. record { from = w.from; to = w.to; place = w.place } };
+
+    ghost invariant = { λ w. (w.from ≤ w.to) × (w.to ≤ COUNTED_MAX) };
+}
+
+// Writes a message that counts `to` sites.
+fn write_widened(
+    reply: &mut Fields,
+    sink: &mut Sink,
+    message: Message,
+    to: u8,
+) -> Result<(), AllocError>
+    requires counted { sites_of message ≤ to }
+    requires few { to ≤ COUNTED_MAX }
+    ensures { OnOk result (sink.new ≡ sink.old ++ rows_text (message_record (widened to message) ∷ [])) }
+{
+    let Ok(wide) = message.widen(to) else {
+        unreachable!()
+    };
+    reply.clear();
+    append_message(reply, &wide)?;
+    sink.write_fields(reply)
+}
+
+// Writes the record that says which record is not in the grammar.
+fn write_bad_record(reply: &mut Fields, sink: &mut Sink, number: u64) -> Result<(), AllocError>
+    ensures { OnOk result (sink.new ≡ sink.old ++ rows_text (bad_record number ∷ [])) }
+{
+    reply.clear();
+    reply.push_plain(b"widen")?;
+    reply.push_plain(b"BadRecord")?;
+    push_number(reply, number)?;
+    sink.write_fields(reply)
+}
+
+impl Widener {
+    /// A widener that has read no record.
+    pub fn new(alloc: Global, from: u8, to: u8) -> Widener
+        requires up { from ≤ to }
+        requires few { to ≤ COUNTED_MAX }
+        ensures { result ≡ record { from = from; to = to; place = BeforeLogs } }
+    {
+        Widener {
+            from,
+            to,
+            place: Place::BeforeLogs,
+            reply: Fields::new(alloc),
+            alloc,
+        }
+    }
+
+    // Writes what a record says, widened: a message in its own words, and a site or a row as it is.
+    fn write_line(
+        &mut self,
+        fields: &InputRecord,
+        line: Line,
+        sink: &mut Sink,
+    ) -> Result<(), AllocError>
+        requires among { IsAmongLine self.old.from (Some line) }
+        requires written { line_record (line_as fields.now line) ≡ fields.now }
+        ensures state { self.new ≡ self.old }
+        ensures text { OnOk result (sink.new ≡ sink.old ++ rows_text (line_record (widened_line self.old.to (line_as fields.now line)) ∷ [])) }
+    {
+        match line {
+            Line::Next(message) => write_widened(&mut self.reply, sink, message, self.to),
+            Line::Begin(_) | Line::Claim => {
+                let row = fields.to_fields(self.alloc)?;
+                sink.write_fields(&row)
+            }
+        }
+    }
+}
+
+impl<T> Service<T> for Widener {
+    ghost account = { λ s n. widening_from s.from s.to n (logs_at s.place) };
+
+    ghost reads_none = { λ s n. refl };
+
+    ghost reads_next = { Prim.search rules };
+
+    fn settle(&mut self, _rt: &T, _sink: &mut Sink) -> Result<(), OutOfMemory> {
+        Ok(())
+    }
+
+    fn finish(&mut self, _rt: &T, _sink: &mut Sink) -> Result<(), OutOfMemory> {
+        Ok(())
+    }
+}
+
+impl<T> Answering<T> for Widener {
+    fn answer(
+        &mut self,
+        _rt: &T,
+        number: u64,
+        fields: &InputRecord,
+        sink: &mut Sink,
+    ) -> Result<Course, OutOfMemory> {
+        if let Some(line) = read_line(self.alloc, fields, self.from)?
+            && let Some(place) = self.place.after(&line)
+        {
+            self.place = place;
+            self.write_line(fields, line, sink)?;
+            return Ok(Course::GoesOn);
+        }
+        write_bad_record(&mut self.reply, sink, number)?;
+        Ok(Course::Ends)
+    }
+}

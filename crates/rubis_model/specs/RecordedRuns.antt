@@ -1,0 +1,45 @@
+-- The run that the records of several sites are.
+use Rattle.std.specs.Prelude.{◌≡◌, ℕ, ◌+◌, ◌≤◌, List, [], ◌∷◌, ◌++◌, length, Some, None}
+use Rattle.std.specs.List.{flat_map}
+use Rattle.rubis_schema.specs.declared.limits.TheConstants.{COUNTED_MAX}
+use Rattle.rubis_message.specs.WorldReadings.{world_input}
+use Rattle.rubis_message.specs.declared.answers.Verdict.TheVariants.{Agree}
+use Rattle.rubis_message.specs.declared.world_inputs.WorldInput.{WorldInput}
+use Rattle.rubis_message.specs.declared.world_inputs.WorldInput.TheVariants.{Asked, Delivered, Audit, Neither}
+use Rattle.rubis_model.specs.AuditRecords.{verdict_record}
+use Rattle.rubis_model.specs.Laws.{InRun}
+use Rattle.rubis_model.specs.System.{AreEvents, Event, World, run, start}
+use Rattle.rubis_model.specs.System.Event.{At, Deliver}
+use Rattle.rubis_model.specs.WorldRecords.{world_output_of, world_step}
+
+-- the event that a record is, if it is one
+abbrev pub input_events : WorldInput → List Event
+input_events (Asked i (Some r)) = At i r ∷ []
+input_events (Asked i None) = []
+input_events (Delivered i k) = Deliver i k ∷ []
+input_events Audit = []
+input_events Neither = []
+
+-- the events that these records are, in order
+abbrev pub record_events : ℕ → List (List (List ℕ)) → List Event
+record_events sites records = flat_map (λ fields. input_events (world_input sites fields)) records
+
+-- the world after these records, the first of which has that number
+abbrev pub world_after : ℕ → World → ℕ → List (List (List ℕ)) → World
+world_after keep w n [] = w
+world_after keep w n (fields ∷ rest) = world_after keep (world_step keep w n (world_input (length w.sites) fields)).0 (n + 1) rest
+
+-- the events that records are, are within the limits, and the world after the records is their run
+abbrev pub RecordsAreARun : Type 0
+RecordsAreARun = (sites keep : ℕ) (records : List (List (List ℕ))) → sites ≤ COUNTED_MAX
+    → AreEvents sites (record_events sites records) × (world_after keep (start sites) 1 records ≡ run keep (record_events sites records) (start sites))
+
+-- so after any records the claims of every run hold
+abbrev pub RecordsKeepInvariants : Type 0
+RecordsKeepInvariants =
+    (sites keep : ℕ) (records : List (List (List ℕ))) → 1 ≤ sites → sites ≤ COUNTED_MAX → keep ≤ 1000000 → InRun (world_after keep (start sites) 1 records)
+
+-- and an audit after any records is answered Agree
+abbrev pub AuditsAgree : Type 0
+AuditsAgree = (sites keep : ℕ) (records : List (List (List ℕ))) (fields : List (List ℕ)) → 1 ≤ sites → sites ≤ COUNTED_MAX → keep ≤ 1000000
+    → world_input sites fields ≡ Audit → world_output_of sites keep (records ++ fields ∷ []) ≡ world_output_of sites keep records ++ verdict_record Agree ∷ []

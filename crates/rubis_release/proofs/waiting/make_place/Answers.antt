@@ -1,0 +1,26 @@
+use Rattle.std.proofs.Common.{sym, ap, ◌∙◌, arith}
+use Rattle.std.specs.List.{list_any}
+use Rattle.std.proofs.lemmas.Bool.Decides.{Decides-eqb}
+use Rattle.rubis_schema.specs.Keys.{same_id}
+use Rattle.rubis_message.specs.Message.{Message}
+use Rattle.rubis_release.specs.Waiting.{somes}
+use Rattle.rubis_release.proofs.Gaps.{has_told, full_lookup, none_is, no_somes}
+use Rattle.rubis_release.proofs.waiting.make_place.Goals as goal
+
+pub returns-then-not-contains_key-clause-absent : goal.returns-then-not-contains_key-clause-absent
+returns-then-not-contains_key-clause-absent c = none_is _ (sym c.contains_key.ensures ∙ c.if-not-contains_key.true)
+
+pub close-requires : goal.close-requires
+close-requires c = λ e.
+    let same = (Decides-eqb c.args.gone c.len.result).0 e in
+    no_somes (somes c.args.slots.now.entries) (omega (arith, same, c.len.ensures.len, c.requires.slots.gone))
+
+pub returns-clause-slots : goal.returns-clause-slots
+returns-clause-slots c = record { own = c.close.ensures.own c.requires.slots.own; gone = omega (arith, c.close.ensures.full) }
+
+pub returns-clause-absent : goal.returns-clause-absent
+returns-clause-absent c =
+    let es = c.close.new.slots.entries in
+    full_lookup (same_id c.args.id.now) es c.close.ensures.full
+    (has_told es c.args.id.now (c.close.ensures.own c.requires.slots.own) c.len-many.ensures.unique
+    ∙ ap (list_any (λ (m : Message). same_id c.args.id.now m.stamp.id)) c.close.ensures.same ∙ c.requires.none)

@@ -1,0 +1,73 @@
+use Rattle.std.proofs.Common.{◌≡◌, length, refl, subst, sym, ap, ◌∙◌, arith}
+use Rattle.std.specs.Prelude.{Some, Bool, true, false, IsTrue}
+use mathlib.Core.Bool.{true≢false}
+use Rattle.rubis_schema.specs.Keys.{same_id}
+use Rattle.rubis_schema.specs.declared.ids.Id.{Id}
+use Rattle.rubis_clock.specs.Clocks.{IsReady}
+use Rattle.rubis_clock.specs.declared.stamps.Stamp.{Stamp}
+use Rattle.rubis_message.specs.Message.{Message}
+use Rattle.rubis_release.specs.Release.{IsAmong}
+use Rattle.rubis_release.proofs.Slots.{missing_none, found_none, found_first, key_passes, slot_has}
+use Rattle.rubis_release.proofs.waiting.ready_of.Goals as goal
+
+pub returns-in_default : goal.returns-in_default
+returns-in_default c =
+    missing_none c.args.clock.now c.args.slots.now.entries (record { site = c.args.site; seq = c.saturating_add.result }) c.requires.own
+    (λ m h. (c.requires.among m h).id.small) (λ l. omega (arith, l, c.saturating_add.ensures, c.count.ensures))
+    (sym c.in_default.ensures.value)
+
+pub returns-in_default-slot : goal.returns-in_default-slot
+returns-in_default-slot c =
+    let id : Id = record { site = c.args.site; seq = c.saturating_add.result } in
+    found_none c.args.clock.now c.args.slots.now.entries id c.requires.own
+    (λ m h. (c.requires.among m h).id.small) (λ l. omega (arith, l, c.saturating_add.ensures, c.count.ensures))
+    c.in-Some.at c.in-Some._key.now c.in-Some.slot.now c.len-many.ensures.unique c.in-Some.ensures.entry
+    (key_passes (same_id id) c.args.slots.now.entries c.in-Some._key.now c.in-Some.ensures.key)
+    (λ m is ready. c.in_default-slot.not-Some m is)
+
+among : (c : goal.After-stamp) → IsAmong (length c.args.clock.now.counts) c.in-Some-slot.message
+among c = c.requires.among c.in-Some-slot.message
+    (slot_has c.args.slots.now.entries c.in-Some.at c.in-Some._key.now c.in-Some-slot.message (c.in-Some.ensures.entry ∙ ap (λ x. Some (c.in-Some._key.now, x)) c.in-Some-slot.is))
+
+pub ready-requires-clause-sites : goal.ready-requires-clause-sites
+ready-requires-clause-sites c = ap (λ (s : Stamp). length s.deps) c.stamp.ensures.value ∙ (among c).counts
+
+pub ready-requires-clause-origin : goal.ready-requires-clause-origin
+ready-requires-clause-origin c =
+    let e = ap (λ (s : Stamp). s.id.site) c.stamp.ensures.value in
+    let l = (among c).id.site in
+    omega (arith, e, l)
+
+not_ready : (b : Bool) → b ≡ false → IsTrue b → ⊥
+not_ready true e h = absurd (true≢false e)
+not_ready false e h = absurd (true≢false (sym h))
+
+ready_told : (b : Bool) → b ≡ true → IsTrue b
+ready_told true e = refl
+ready_told false e = absurd (true≢false (sym e))
+
+one_message : (x m : Message) → Some x ≡ Some m → x ≡ m
+one_message x m e = cc
+
+pub returns-then-not-ready : goal.returns-then-not-ready
+returns-then-not-ready c =
+    let id : Id = record { site = c.args.site; seq = c.saturating_add.result } in
+    found_none c.args.clock.now c.args.slots.now.entries id c.requires.own
+    (λ m h. (c.requires.among m h).id.small) (λ l. omega (arith, l, c.saturating_add.ensures, c.count.ensures))
+    c.in-Some.at c.in-Some._key.now c.in-Some.slot.now c.len-many.ensures.unique c.in-Some.ensures.entry
+    (key_passes (same_id id) c.args.slots.now.entries c.in-Some._key.now c.in-Some.ensures.key)
+    (λ m is ready.
+    let same = one_message c.in-Some-slot.message m (sym c.in-Some-slot.is ∙ is) in
+    let here : IsReady c.args.clock.now c.stamp.result.now =
+    subst (IsReady c.args.clock.now) (sym (c.stamp.ensures.value ∙ ap (λ (x : Message). x.stamp) same)) ready in
+    not_ready c.ready.result c.if-not-ready.true (c.ready.ensures.1 here))
+
+pub returns : goal.returns
+returns c =
+    let id : Id = record { site = c.args.site; seq = c.saturating_add.result } in
+    found_first c.args.clock.now c.args.slots.now.entries id c.requires.own
+    (λ m h. (c.requires.among m h).id.small) (λ l. omega (arith, l, c.saturating_add.ensures, c.count.ensures))
+    c.in-Some.at c.in-Some._key.now c.in-Some.slot.now c.len-many.ensures.unique c.in-Some.ensures.entry
+    (key_passes (same_id id) c.args.slots.now.entries c.in-Some._key.now c.in-Some.ensures.key)
+    c.in-Some-slot.message c.in-Some-slot.is
+    (subst (IsReady c.args.clock.now) c.stamp.ensures.value (c.ready.ensures.0 (ready_told c.ready.result c.if-not-ready.false)))

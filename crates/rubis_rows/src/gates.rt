@@ -1,0 +1,275 @@
+// Gates that hold a worker between taking a shard and folding its share, or record what was taken.
+
+use rubis_replica::Gate;
+use std::sync::atomic::{AtomicBool, AtomicU64, Ordering};
+use std::thread;
+
+/// For how many turns a worker waits for a flag that will be set.
+const TURNS: u64 = 50_000_000;
+
+/// For how many turns a shard is held when nothing may happen meanwhile. Most of these turns don't yield: on a loaded machine a
+/// yield can last as long as ten thousand loads.
+const HELD: u64 = 100_000_000;
+
+// Waits until the flag is set, for at most TURNS turns. Returns whether it was.
+fn is_set_in_time(flag: &AtomicBool) -> bool {
+    for _ in 0..TURNS {
+        if flag.load(Ordering::SeqCst) {
+            return true;
+        }
+        thread::yield_now();
+    }
+    false
+}
+
+// One turn of a hold: yields every 4096th time.
+fn hold_on(turn: u64) {
+    if turn % 4096 == 0 {
+        thread::yield_now();
+    }
+}
+
+/// How many shards were taken, and whether a second one was while the first was held.
+#[derive(Drop)]
+pub struct Meeting {
+    taken: AtomicU64,
+    second: AtomicBool,
+    met: AtomicBool,
+}
+
+impl Meeting {
+    pub fn new() -> Meeting {
+        Meeting {
+            taken: AtomicU64::new(0),
+            second: AtomicBool::new(false),
+            met: AtomicBool::new(false),
+        }
+    }
+
+    pub fn met(&self) -> bool {
+        self.met.load(Ordering::SeqCst)
+    }
+
+    /// How many shards were taken.
+    pub fn taken(&self) -> u64 {
+        self.taken.load(Ordering::SeqCst)
+    }
+}
+
+/// Holds the first shard that is taken until a second is taken.
+#[derive(Drop)]
+pub struct Holding<'a> {
+    pub meeting: &'a Meeting,
+}
+
+impl<'a> Gate for Holding<'a> {
+    fn taken(&self, _piece: usize) {
+        if self.meeting.taken.fetch_add(1, Ordering::SeqCst) > 0 {
+            self.meeting.second.store(true, Ordering::SeqCst);
+        } else if is_set_in_time(&self.meeting.second) {
+            self.meeting.met.store(true, Ordering::SeqCst);
+        }
+    }
+}
+
+/// Which of 64 shards were taken, as bits, and how often the gate was called.
+#[derive(Drop)]
+pub struct Numbers {
+    seen: AtomicU64,
+    calls: AtomicU64,
+}
+
+impl Numbers {
+    pub fn new() -> Numbers {
+        Numbers {
+            seen: AtomicU64::new(0),
+            calls: AtomicU64::new(0),
+        }
+    }
+
+    /// Whether each of the 64 numbers came once: all came, in 64 calls.
+    pub fn are_all_seen_once(&self) -> bool {
+        self.seen.load(Ordering::SeqCst) == u64::MAX && self.calls.load(Ordering::SeqCst) == 64
+    }
+}
+
+// The bit for `number`, or 0 if it isn't below 64.
+fn bit_of(number: usize) -> u64 {
+    match u32::try_from(number) {
+        Ok(place) => 1_u64.checked_shl(place).unwrap_or(0),
+        Err(_) => 0,
+    }
+}
+
+impl Gate for Numbers {
+    fn taken(&self, piece: usize) {
+        self.seen.fetch_or(bit_of(piece), Ordering::SeqCst);
+        self.calls.fetch_add(1, Ordering::SeqCst);
+    }
+}
+
+/// Holds the first two shards that are taken until both are taken, and then for HELD turns.
+#[derive(Drop)]
+pub struct HoldsTwo {
+    taken: AtomicU64,
+    both: AtomicBool,
+    released: AtomicBool,
+}
+
+impl HoldsTwo {
+    pub fn new() -> HoldsTwo {
+        HoldsTwo {
+            taken: AtomicU64::new(0),
+            both: AtomicBool::new(false),
+            released: AtomicBool::new(false),
+        }
+    }
+
+    /// How many shards were taken before the first one was let go.
+    pub fn held(&self) -> u64 {
+        self.taken.load(Ordering::SeqCst)
+    }
+
+    // Returns after HELD turns.
+    fn hold(&self) {
+        for turn in 0..HELD {
+            hold_on(turn);
+        }
+    }
+}
+
+impl Gate for HoldsTwo {
+    fn taken(&self, _piece: usize) {
+        if self.released.load(Ordering::SeqCst) {
+            return;
+        }
+        if self.taken.fetch_add(1, Ordering::SeqCst) > 0 {
+            self.both.store(true, Ordering::SeqCst);
+        }
+        if is_set_in_time(&self.both) {
+            self.hold();
+        }
+        self.released.store(true, Ordering::SeqCst);
+    }
+}
+
+/// Counts how often each of five shards is taken, in three decimal digits for each. Those of shard 0 are the last three.
+#[derive(Drop)]
+pub struct Counting<'a> {
+    pub taken: &'a AtomicU64,
+}
+
+// One in the digits of shard `piece`.
+fn one_of(piece: usize) -> u64 {
+    match piece {
+        0 => 1,
+        1 => 1_000,
+        2 => 1_000_000,
+        3 => 1_000_000_000,
+        _ => 1_000_000_000_000,
+    }
+}
+
+impl<'a> Gate for Counting<'a> {
+    fn taken(&self, piece: usize) {
+        self.taken.fetch_add(one_of(piece), Ordering::SeqCst);
+    }
+}
+
+/// How many threads hold a shard, and the greatest number that held one at once.
+#[derive(Drop)]
+pub struct Holders {
+    now: AtomicU64,
+    most: AtomicU64,
+    waited: AtomicBool,
+}
+
+impl Holders {
+    pub fn new() -> Holders {
+        Holders {
+            now: AtomicU64::new(0),
+            most: AtomicU64::new(0),
+            waited: AtomicBool::new(false),
+        }
+    }
+
+    /// The greatest number of threads that held a shard at once since the last call.
+    pub fn most(&self) -> u64 {
+        self.waited.store(false, Ordering::SeqCst);
+        self.most.swap(0, Ordering::SeqCst)
+    }
+
+    // Waits until `threads` threads hold a shard, for at most HELD turns. After a wait in vain the others don't wait.
+    fn wait(&self, threads: u64) {
+        for turn in 0..HELD {
+            if self.most.load(Ordering::SeqCst) >= threads || self.waited.load(Ordering::SeqCst) {
+                return;
+            }
+            hold_on(turn);
+        }
+        self.waited.store(true, Ordering::SeqCst);
+    }
+}
+
+/// Holds each shard until `threads` threads hold one, or until a wait for them was in vain.
+#[derive(Drop)]
+pub struct Gathering<'a> {
+    pub holders: &'a Holders,
+    pub threads: u64,
+}
+
+impl<'a> Gate for Gathering<'a> {
+    fn taken(&self, _piece: usize) {
+        let now = self.holders.now.fetch_add(1, Ordering::SeqCst);
+        self.holders
+            .most
+            .fetch_max(now.saturating_add(1), Ordering::SeqCst);
+        self.holders.wait(self.threads);
+        self.holders.now.fetch_sub(1, Ordering::SeqCst);
+    }
+}
+
+/// Whether the caller's closure ran while a worker held a shard.
+#[derive(Drop)]
+pub struct Halves {
+    taken: AtomicBool,
+    ran: AtomicBool,
+    late: AtomicBool,
+}
+
+impl Halves {
+    pub fn new() -> Halves {
+        Halves {
+            taken: AtomicBool::new(false),
+            ran: AtomicBool::new(false),
+            late: AtomicBool::new(false),
+        }
+    }
+
+    /// Runs as the closure. Returns whether a worker took a shard meanwhile.
+    pub fn run(&self) -> bool {
+        let met = is_set_in_time(&self.taken);
+        self.ran.store(true, Ordering::SeqCst);
+        met
+    }
+
+    /// Whether a worker waited for the closure in vain.
+    pub fn is_late(&self) -> bool {
+        self.late.load(Ordering::SeqCst)
+    }
+}
+
+/// Holds each shard until the closure has run.
+#[derive(Drop)]
+pub struct Waiting<'a> {
+    pub halves: &'a Halves,
+}
+
+impl<'a> Gate for Waiting<'a> {
+    fn taken(&self, _piece: usize) {
+        self.halves.taken.store(true, Ordering::SeqCst);
+        if !is_set_in_time(&self.halves.ran) {
+            self.halves.late.store(true, Ordering::SeqCst);
+        }
+    }
+}

@@ -1,0 +1,8 @@
+use Rattle.rubis_schema.specs.FieldList.{pieces}
+use Rattle.rubis_schema.proofs.PlainTexts.{decimal_plain, plain_more}
+use Rattle.rubis_schema.proofs.field_list.Fields.push_number.Goals as goal
+
+pub invariant_of-self-2 : goal.invariant_of-self-2
+invariant_of-self-2 c =
+    let old = pieces 0 c.self.inside.ends.items c.self.inside.text.items in
+    (c.in_ok-add_number.ensures.laid, λ plain. rw c.in_ok-add_number.ensures.ok (plain_more old _ (c.self.invariant.1 plain) (decimal_plain c.args.number c.ranges.number.fits)))

@@ -1,0 +1,90 @@
+// The digits of a number, put behind a text that has room for them.
+
+ghost use Rattle.std.specs.Prelude.{◌≡◌, ◌+◌, ◌/◌, ◌%◌, ◌<◌, ◌≤◌, ◌++◌, ◌∷◌, [], decimal, length};
+ghost use Rattle.std.specs.Vec.{vec_capacity, vec_len};
+
+use crate::limits::NUMBERS_TEXT_MAX;
+
+// Puts one digit behind the text.
+#[inline(always)]
+fn push_digit(text: &mut Vec<u8>, digit: u64)
+    requires digit { digit < 10 }
+    requires room { vec_len text.old < vec_capacity text.old }
+    ensures text { text.new.items ≡ text.old.items ++ (48 + digit) ∷ [] }
+    ensures len { vec_len text.new ≡ vec_len text.old + 1 }
+    ensures room { vec_capacity text.new ≡ vec_capacity text.old }
+{
+    text.push_reserved(b'0' + digit as u8);
+}
+
+// Puts two digits behind the text, the first of which may be 0.
+#[inline(always)]
+fn push_pair(text: &mut Vec<u8>, pair: u64)
+    requires pair { pair < 100 }
+    requires room { vec_len text.old + 2 ≤ vec_capacity text.old }
+    ensures text { text.new.items ≡ text.old.items ++ (48 + pair / 10) ∷ (48 + pair % 10) ∷ [] }
+    ensures len { vec_len text.new ≡ vec_len text.old + 2 }
+    ensures room { vec_capacity text.new ≡ vec_capacity text.old }
+{
+    push_digit(text, pair / 10);
+    push_digit(text, pair % 10);
+}
+
+// Puts the digits of a number below 100 behind the text.
+#[inline(always)]
+fn push_short(text: &mut Vec<u8>, number: u64)
+    requires short { number < 100 }
+    requires room { vec_len text.old + length (decimal number) ≤ vec_capacity text.old }
+    ensures text { text.new.items ≡ text.old.items ++ decimal number }
+    ensures len { vec_len text.new ≡ vec_len text.old + length (decimal number) }
+    ensures room { vec_capacity text.new ≡ vec_capacity text.old }
+{
+    if number < 10 {
+        push_digit(text, number);
+    } else {
+        push_pair(text, number);
+    }
+}
+
+// Puts the digits of a number from 100 on behind the text, two at a time.
+fn push_long(text: &mut Vec<u8>, number: u64)
+    requires long { 100 ≤ number }
+    requires room { vec_len text.old + length (decimal number) ≤ vec_capacity text.old }
+    ensures text { text.new.items ≡ text.old.items ++ decimal number }
+    ensures len { vec_len text.new ≡ vec_len text.old + length (decimal number) }
+    ensures room { vec_capacity text.new ≡ vec_capacity text.old }
+{
+    let front = number / 100;
+    if front < 100 {
+        push_short(text, front);
+    } else {
+        push_long(text, front);
+    }
+    push_pair(text, number % 100);
+}
+
+/// Puts the digits of a number behind the text.
+#[inline(always)]
+pub fn push_digits(text: &mut Vec<u8>, number: u64)
+    requires room { vec_len text.old + length (decimal number) ≤ vec_capacity text.old }
+    ensures text { text.new.items ≡ text.old.items ++ decimal number }
+    ensures len { vec_len text.new ≡ vec_len text.old + length (decimal number) }
+    ensures room { vec_capacity text.new ≡ vec_capacity text.old }
+{
+    if number < 100 {
+        push_short(text, number);
+    } else {
+        push_long(text, number);
+    }
+}
+
+/// Puts the digits of two numbers behind the text, with a point between them.
+#[inline(always)]
+pub fn push_numbers(text: &mut Vec<u8>, first: u64, second: u64)
+    requires room { vec_len text.old + NUMBERS_TEXT_MAX ≤ vec_capacity text.old }
+    ensures text { text.new.items ≡ text.old.items ++ (decimal first ++ 46 ∷ decimal second) }
+{
+    push_digits(text, first);
+    text.push_reserved(b'.');
+    push_digits(text, second);
+}

@@ -1,0 +1,80 @@
+-- A row of one map that is changed where it stands.
+use Rattle.std.proofs.Common.{◌≡◌, Bool, true, false, List, sym, ap, ◌∙◌, subst, cond, refl}
+use Rattle.std.specs.Prelude.{Option, Some, None, is_none, not}
+use Rattle.std.specs.FinMap as map
+use Rattle.std.specs.Map.{lookup}
+use Rattle.indexmap.specs.IndexMap.{insert_entry}
+use Rattle.rubis_schema.specs.IdKeys.{row_key, same_id_key}
+use Rattle.rubis_schema.specs.declared.id_keys.IdKey.{IdKey}
+use Rattle.rubis_schema.specs.Tables.{Tables}
+use Rattle.rubis_schema.specs.declared.row_keys.RowKey.{RowKey}
+use Rattle.rubis_schema.specs.declared.rows.Row.{Row}
+use Rattle.rubis_shadow.specs.Changes.{after_part, misfit_of, with_row}
+use Rattle.rubis_shadow.specs.declared.changes.Change.TheVariants.{Insert}
+use Rattle.rubis_shadow.specs.declared.changes.Effect.{Effect}
+use Rattle.rubis_shadow.specs.declared.changes.Fate.{Fate}
+use Rattle.rubis_shadow.proofs.Rows.{after_alter, misfit_alter, after_none, misfit_none, remove_none, not_insert, none_of}
+use Rattle.rubis_shard.specs.Chains.{chains_of, IsLinkedSoFar}
+use Rattle.rubis_shard.specs.Rows.{no_row, IsChanged}
+use Rattle.rubis_shard.specs.Written.{written}
+use Rattle.rubis_shard.specs.declared.chains.Chains.{Chains}
+use Rattle.rubis_shard.proofs.InMaps.{new_last}
+use Rattle.rubis_shard.proofs.Linking.{chain_stays, chains_pushed, chains_set, linked_more}
+
+pub not_true : (b : Bool) → not b ≡ true → b ≡ false
+not_true true e = sym e
+not_true false e = refl
+
+pub not_false : (b : Bool) → not b ≡ false → b ≡ true
+not_false true e = refl
+not_false false e = sym e
+
+-- a row that was changed and then removed
+none_over : (b : Bool) (row : Row) (o : Option Row) → cond b None (cond b (Some row) o) ≡ cond b None o
+none_over true row o = refl
+none_over false row o = refl
+
+pub removed_found : (b : Bool) (row : Row) (o p q : Option Row) → q ≡ cond b None p → p ≡ cond b (Some row) o → q ≡ cond b None o
+removed_found b row o p q less changed = less ∙ ap (cond b None) changed ∙ none_over b row o
+
+-- the first of the rows that were linked are linked when one was put behind
+pub linked_put : (put : Bool) (es fs : List (IdKey × Row)) (k : IdKey) (row : Row) (c : Chains) → put ≡ is_none (lookup (same_id_key k) es)
+    → (put ≡ true → fs ≡ insert_entry same_id_key es k row) → (put ≡ false → fs ≡ es)
+    → IsLinkedSoFar (chains_of (written row_key es)) c → IsLinkedSoFar (chains_of (written row_key fs)) c
+linked_put true es fs k row c free put same linked =
+    subst (λ xs. IsLinkedSoFar (chains_of (written row_key xs)) c) (sym (put refl ∙ new_last same_id_key k row es (none_of _ free)))
+    (subst (λ cs. IsLinkedSoFar cs c) (sym (chains_pushed row_key es k row)) (linked_more _ _ c linked))
+linked_put false es fs k row c free put same linked = subst (λ xs. IsLinkedSoFar (chains_of (written row_key xs)) c) (sym (same refl)) linked
+
+module _ {K : Type 0} (same : K → K → Bool) (old new : List (K × Row)) (key : K) (e : Effect) (fate : Fate)
+    (none : lookup (same key) old ≡ None → (new ≡ old) × (fate ≡ no_row))
+    (some : (was : Row) → lookup (same key) old ≡ Some was → IsChanged same old new key e.change was fate) where
+  pub changed_tables : (t t' : Tables) → map.get t e.key ≡ lookup (same key) old → ((row : Row) → e.change ≡ Insert row → ⊥)
+      → (new ≡ old → t' ≡ t)
+      → ((v : Option Row) → ((q : K) → lookup (same q) new ≡ cond (same key q) v (lookup (same q) old)) → t' ≡ with_row t e.key v)
+      → t' ≡ after_part t e
+  changed_tables t t' at insert kept put = by (lookup (same key) old) refl
+    where
+      by : (o : Option Row) → lookup (same key) old ≡ o → t' ≡ after_part t e
+      by None is = kept (none is).0 ∙ sym (remove_none t e.key (at ∙ is)) ∙ after_none t e _ (at ∙ is) (not_insert e.change insert)
+      by (Some was) is = let h = some was is in put h.row h.found ∙ after_alter t e was h.row (at ∙ is) h.changed
+
+  pub changed_misfit : (t : Tables) → map.get t e.key ≡ lookup (same key) old → ((row : Row) → e.change ≡ Insert row → ⊥)
+      → fate.misfit ≡ misfit_of t e
+  changed_misfit t at insert = by (lookup (same key) old) refl
+    where
+      by : (o : Option Row) → lookup (same key) old ≡ o → fate.misfit ≡ misfit_of t e
+      by None is = ap (λ (f : Fate). f.misfit) (none is).1 ∙ misfit_none t e _ (at ∙ is) (not_insert e.change insert)
+      by (Some was) is = misfit_alter t e was fate.misfit (at ∙ is) (some was is).told
+
+  -- a row that stays is in the chain that it was in
+  pub changed_chains : (f : K → RowKey) → fate.stays ≡ true → chains_of (written f new) ≡ chains_of (written f old)
+  changed_chains f stays = by (lookup (same key) old) refl
+    where
+      by : (o : Option Row) → lookup (same key) old ≡ o → chains_of (written f new) ≡ chains_of (written f old)
+      by None is = ap (λ es. chains_of (written f es)) (none is).0
+      by (Some was) is =
+          let h = some was is in
+          let left = h.stays stays in
+          ap (λ es. chains_of (written f es)) left.2
+          ∙ chains_set f (same key) old was left.0 is (chain_stays e.change was left.0 (h.changed ∙ left.1))

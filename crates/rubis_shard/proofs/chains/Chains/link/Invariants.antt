@@ -1,0 +1,12 @@
+use Rattle.std.proofs.Common.{◌≡◌, ◌≤◌, length, take}
+use Rattle.rubis_schema.specs.IdKeys.{row_key}
+use Rattle.rubis_shard.specs.Chains.{chains_of, Links}
+use Rattle.rubis_shard.specs.Written.{written}
+use Rattle.rubis_shard.proofs.chains.Chains.link.Given as goal
+
+abbrev pub invariant-loop-at : goal.invariant-loop-at
+invariant-loop-at l = record {
+  size : length l.self.before.items ≡ l.at;
+  below : l.at ≤ l.at-end;
+  links : Links (take l.at (chains_of (written row_key l.rows.entries))) l.self;
+}

@@ -1,0 +1,43 @@
+ghost use Rattle.std.specs.Prelude.{◌≡◌};
+ghost use Rattle.rubis_shard.specs.Groups.{listing_of, table_of};
+
+use rubis_schema::{Id, Listing, Table};
+
+/// Rows that belong together.
+#[derive(Clone, Copy, PartialEq, Eq, Debug)]
+pub enum Group {
+    /// The items of a category.
+    Items(u16),
+    /// The bids on an item.
+    Bids(Id),
+    /// The purchases of an item.
+    Purchases(Id),
+    /// The comments to a user.
+    Comments(Id),
+}
+
+impl Group {
+    /// The listing that shows the group.
+    pub fn listing(&self) -> Listing
+        ensures { result ≡ listing_of self.now }
+    {
+        match self {
+            Group::Items(cat) => Listing::Items(*cat),
+            Group::Bids(item) => Listing::Bids(*item),
+            Group::Purchases(item) => Listing::Purchases(*item),
+            Group::Comments(user) => Listing::Comments(*user),
+        }
+    }
+
+    /// The table of its rows.
+    pub fn table(&self) -> Table
+        ensures { result ≡ table_of self.now }
+    {
+        match self {
+            Group::Items(_) => Table::Items,
+            Group::Bids(_) => Table::Bids,
+            Group::Purchases(_) => Table::Purchases,
+            Group::Comments(_) => Table::Comments,
+        }
+    }
+}

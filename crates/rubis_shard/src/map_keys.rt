@@ -1,0 +1,79 @@
+// The keys of the maps of a shard.
+
+ghost use Rattle.std.specs.Prelude.{◌≡◌};
+ghost use Rattle.rubis_schema.specs.declared.row_keys.RowKey.{RowKey};
+ghost use Rattle.rubis_shard.specs.MapKeys.{key_at};
+
+use rubis_schema::{Id, IdKey, IdTable, Nick, RowKey};
+use std::hash::Hash;
+
+/// A key of a map that stands for the key of a row.
+pub trait MapKey: Eq + Hash {
+    /// The key of the row.
+    ghost row_key: { Self → RowKey };
+
+    /// The key of the row.
+    fn row_key(&self) -> RowKey
+        ensures { result ≡ row_key self.now };
+}
+
+impl MapKey for IdKey {
+    ghost use Rattle.rubis_schema.specs.IdKeys as keys;
+
+    ghost row_key = { keys.row_key };
+
+    #[inline(always)]
+    fn row_key(&self) -> RowKey {
+        self.row_key()
+    }
+}
+
+impl MapKey for Nick {
+    ghost use Rattle.rubis_schema.specs.declared.row_keys.RowKey.TheVariants as key;
+
+    ghost row_key = { λ n. key.Nick n };
+
+    fn row_key(&self) -> RowKey {
+        RowKey::Nick(*self)
+    }
+}
+
+impl MapKey for u16 {
+    ghost use Rattle.rubis_schema.specs.declared.row_keys.RowKey.TheVariants as key;
+
+    ghost row_key = { λ k. key.Cat k };
+
+    fn row_key(&self) -> RowKey {
+        RowKey::Cat(*self)
+    }
+}
+
+/// The map that a key belongs to, and its key there.
+pub enum Place {
+    Kept(IdKey),
+    Nick(Nick),
+    Cat(u16),
+}
+
+#[inline(always)]
+fn kept(table: IdTable, id: &Id) -> Place
+    ensures { result ≡ Place.Kept (record { seq = id.now.seq; site = id.now.site; table = table }) }
+{
+    Place::Kept(IdKey::new(table, *id))
+}
+
+/// Where the row of a key is.
+#[inline(always)]
+pub fn place_of(key: &RowKey) -> Place
+    ensures { key_at result ≡ key.now }
+{
+    match key {
+        RowKey::User(id) => kept(IdTable::User, id),
+        RowKey::Item(id) => kept(IdTable::Item, id),
+        RowKey::Bid(id) => kept(IdTable::Bid, id),
+        RowKey::Purchase(id) => kept(IdTable::Purchase, id),
+        RowKey::Comment(id) => kept(IdTable::Comment, id),
+        RowKey::Nick(nick) => Place::Nick(*nick),
+        RowKey::Cat(cat) => Place::Cat(*cat),
+    }
+}

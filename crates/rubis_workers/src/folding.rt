@@ -1,0 +1,71 @@
+//! Messages of a log, folded one after the other on the tables by the caller's thread.
+
+ghost use Rattle.std.specs.Prelude.{◌≡◌, ◌≤◌, ◌<◌, ◌*◌, All, OnOk, OnErr, length, take};
+ghost use Rattle.std.specs.List.{flat_map};
+ghost use Rattle.rubis_message.specs.Message.{IsMessage};
+ghost use Rattle.rubis_model.specs.Log.{cores, parts_of};
+ghost use Rattle.rubis_shard.specs.Holdings.{HoldsLog};
+ghost use Rattle.rubis_pieces.specs.Batches.{parts_left};
+ghost use Rattle.rubis_workers.specs.Logs.{StaysWithin};
+
+use rubis_message::Message;
+use rubis_pieces::Left;
+use rubis_shard::Tables;
+use std::alloc::AllocError;
+
+/// Applies the messages of a log behind message `at`, up to message `upto`, each whole or not at all; `at` then says how many
+/// stand. Where memory runs out, those before the message that it was refused for stand.
+pub fn apply_upto(
+    tables: &mut Tables,
+    log: &[Message],
+    at: &mut usize,
+    upto: usize,
+) -> Result<(), AllocError>
+    requires few { length log.now ≤ 1000000 }
+    requires inside { upto ≤ length log.now }
+    requires on { at.old ≤ upto }
+    requires some { 0 < length tables.old }
+    ensures on { at.old ≤ at.new }
+    ensures inside { at.new ≤ upto }
+    ensures some { 0 < length tables.new }
+    ensures holds { HoldsLog (length tables.old) (cores (take at.old log.now)) tables.old → HoldsLog (length tables.new) (cores (take at.new log.now)) tables.new }
+    ensures limits { StaysWithin log.now at.old at.new }
+    ensures ok { OnOk result (at.new ≡ upto) }
+    ensures err { OnErr result (at.new < upto) }
+    ensures many { length tables.new ≡ length tables.old }
+    ensures same { at.new ≡ at.old → tables.new ≡ tables.old }
+{
+    for place in *at..upto {
+        let message = &log[place];
+        let stamp = *message.stamp();
+        tables.apply_message(place as u32 + 1, stamp.id, stamp.red, message.shadow())?;
+        *at = place + 1;
+    }
+    Ok(())
+}
+
+/// How many parts the messages have.
+pub fn count_parts(messages: &[Message]) -> u32
+    requires { length messages.now ≤ 1000000 }
+    ensures count { result ≡ length (flat_map parts_of (cores messages.now)) }
+    ensures few { result ≤ 3 * length messages.now }
+    ensures conditions { All IsMessage messages.now }
+{
+    let mut parts = 0;
+    for message in messages {
+        parts += u32::from(message.shadow().count_parts());
+    }
+    parts
+}
+
+/// How many parts of the shares are still to be folded.
+pub fn count_left(rest: &[Left]) -> u32
+    requires { parts_left rest.now ≤ 3000000 }
+    ensures { result ≡ parts_left rest.now }
+{
+    let mut parts = 0;
+    for left in rest {
+        parts += left.share.effects.len().saturating_sub(left.done) as u32;
+    }
+    parts
+}

@@ -1,0 +1,282 @@
+#!/usr/bin/env python3
+"""Writes the man page and the completions from the command line of a built program.
+
+    scripts/write_help.py [--check] PROGRAM
+
+The program is asked: its `--help` has the commands, their options and defaults, and what it answers to a number that is
+too large has an option's range. So docs/rubis.1, completions/rubis.bash, completions/_rubis (for zsh) and
+completions/rubis.fish say what the program takes. With --check nothing is written: each file that differs from what
+would be written is told, and the status is then 1."""
+
+import dataclasses
+import pathlib
+import re
+import subprocess
+import sys
+
+TOP = pathlib.Path(__file__).resolve().parent.parent
+# More than any option takes.
+TOO_LARGE = "4294967295"
+# Up to this number, a range is offered number by number.
+OFFERED = 16
+
+
+@dataclasses.dataclass
+class Option:
+    name: str
+    help: str
+    default: str
+    low: int
+    high: int
+
+    @property
+    def range(self) -> str:
+        return f"{self.low:,} to {self.high:,}"
+
+    @property
+    def values(self) -> list[str]:
+        """What is offered for its value: all of a small range, or powers of two if it ends at one, or the default alone."""
+        if self.high <= OFFERED:
+            return [str(value) for value in range(self.low, self.high + 1)]
+        powers = [1 << place for place in range(self.high.bit_length())]
+        return [str(value) for value in powers] if powers[-1] == self.high else [self.default]
+
+    @property
+    def words(self) -> str:
+        """Its help with its range, unless that is in it, and its default."""
+        has_range = f"{self.low} to {self.high}" in self.help.replace(",", "")
+        return self.help + ("" if has_range else f": {self.range}") + f", {int(self.default):,} by default"
+
+
+@dataclasses.dataclass
+class Command:
+    name: str
+    about: str
+    options: list[Option]
+
+
+@dataclasses.dataclass
+class CommandLine:
+    version: str
+    about: str
+    commands: list[Command]
+
+
+def said(program: str, *words: str) -> str:
+    done = subprocess.run([program, *words], stdin=subprocess.DEVNULL, capture_output=True, text=True, timeout=60)
+    return done.stdout + done.stderr
+
+
+def options_of(program: str, command: str, text: str) -> list[Option]:
+    made = []
+    for name, words in re.findall(r"^ {2,}--([\w-]+) <\w+>\s+(.*(?:\n {12,}\S.*)*)", text, re.M):
+        words = " ".join(words.split())
+        default = re.search(r" ?\[default: (.*?)\]", words)
+        bounds = re.search(r"is not in (\d+)\.\.=(\d+)", said(program, command, f"--{name}", TOO_LARGE))
+        if default is None or bounds is None:
+            sys.exit(f"write_help.py: no default or no range of {command} --{name}")
+        made.append(Option(name, words.replace(default.group(0), ""), default.group(1), int(bounds.group(1)), int(bounds.group(2))))
+    return made
+
+
+def command_line_of(program: str) -> CommandLine:
+    text = said(program, "--help")
+    part = text.split("Commands:\n")[1].split("\n\n")[0]
+    commands = []
+    for name in re.findall(r"^  (\w+) ", part, re.M):
+        if name != "help":
+            own = said(program, name, "--help")
+            commands.append(Command(name, own.split("\n\n")[0].replace("\n", " "), options_of(program, name, own)))
+    return CommandLine(said(program, "--version").split()[-1], text.split("\n")[0], commands)
+
+
+# The man page.
+
+
+def roff(text: str) -> str:
+    """A text whose marks roff leaves alone."""
+    text = text.replace("\\", "\\e").replace("-", "\\-").replace("'", "\\(aq")
+    return "\\&" + text if text.startswith((".", "'")) else text
+
+
+STATUSES = [
+    ("0", "The run is done, whatever was refused; or the help or the version was asked for."),
+    ("1", "The run ended early. Standard error has one line: run fault: read, run fault: write, run fault: memory, or run fault: too long (more than 4,000,000 records)."),
+    ("2", "The command line isn't one. Standard error says why."),
+]
+
+
+def man_page(line: CommandLine) -> str:
+    out = [
+        '.\\" Written by scripts/write_help.py; changes are lost.',
+        f'.TH RUBIS 1 "" "rubis {line.version}" "User Commands"',
+        ".SH NAME",
+        f"rubis \\- {roff(line.about[0].lower() + line.about[1:])}",
+        ".SH SYNOPSIS",
+    ]
+    for command in line.commands:
+        options = " ".join(f"[\\fB\\-\\-{option.name}\\fR \\fIn\\fR]" for option in command.options)
+        out += [f".B rubis {command.name}", options, ".br"]
+    out[-1:] = [
+        ".SH DESCRIPTION",
+        roff("Each site accepts requests locally, sends the accepted operations to its peers and applies theirs, despite delay, duplication or reordering. It reads records on standard input, one a line, and writes the answers on standard output. It opens no sockets and writes no files: sites are connected by carrying lines between them."),
+        ".PP",
+        roff("No answer depends on --batch, --shards or --workers. Each option takes a number; an option that is given twice is an error."),
+        ".SH COMMANDS",
+    ]
+    for command in line.commands:
+        out += [f".SS rubis {command.name}", roff(command.about) + "."]
+        for option in command.options:
+            out += [".TP", f".BR \\-\\-{option.name} \" \\fIn\\fR\"", roff(option.words) + "."]
+    out += [
+        ".SH OPTIONS",
+        ".TP",
+        ".BR \\-h \", \" \\-\\-help",
+        roff("Prints the help of the program, or of the command before it."),
+        ".TP",
+        ".BR \\-V \", \" \\-\\-version",
+        "Prints the version.",
+        ".SH EXIT STATUS",
+    ]
+    for status, words in STATUSES:
+        out += [".TP", f".B {status}", roff(words)]
+    out += [
+        ".SH EXAMPLES",
+        "One site, and two records to it:",
+        ".PP",
+        ".nf",
+        ".RS",
+        roff("$ printf 'user,ann\\nlist,users\\n' | rubis site"),
+        "reply,1,ok,0.1",
+        "send,msg,1,0,1,1,0,user,ann",
+        "reply,2,rows,1",
+        "row,user,0.1,ann,0,0,0,0",
+        ".RE",
+        ".fi",
+        ".SH SEE ALSO",
+        roff("docs/MANUAL.md has every record, answer and refusal; docs/GUIDE.md says how to run a shop of several sites."),
+    ]
+    return "\n".join(out) + "\n"
+
+
+# Completions.
+
+
+def quoted(text: str) -> str:
+    """A text in single quotes of a POSIX shell."""
+    return "'" + text.replace("'", "'\\''") + "'"
+
+
+def bash_completion(line: CommandLine) -> str:
+    names = " ".join(command.name for command in line.commands)
+    out = [
+        "# Completion of rubis for bash. Written by scripts/write_help.py; changes are lost.",
+        "_rubis() {",
+        '    local word=${COMP_WORDS[COMP_CWORD]} before=${COMP_WORDS[COMP_CWORD - 1]} command=${COMP_WORDS[1]} words=',
+        "    # `--sites=2` is three words to bash.",
+        "    if [[ $word == = ]]; then word=; elif [[ $before == = ]]; then before=${COMP_WORDS[COMP_CWORD - 2]}; fi",
+        "    [[ $COMP_CWORD -gt 1 ]] || command=",
+        "    case $command,$before in",
+        f"    ,*) words='{names} help --help --version' ;;",
+        f"    help,*) words='{names}' ;;",
+    ]
+    for command in line.commands:
+        for option in command.options:
+            out.append(f"    {command.name},--{option.name}) words='{' '.join(option.values)}' ;;")
+        out.append(f"    {command.name},*) words='{' '.join('--' + option.name for option in command.options)} --help' ;;")
+    out += ["    esac", '    mapfile -t COMPREPLY < <(compgen -W "$words" -- "$word")', "}", "complete -F _rubis rubis", ""]
+    return "\n".join(out)
+
+
+def zsh_completion(line: CommandLine) -> str:
+    def spec(option: Option) -> str:
+        words = option.help.replace("[", "(").replace("]", ")").replace(":", " -")
+        return quoted(f"--{option.name}=[{words}]:{option.range}, {int(option.default):,} by default:({' '.join(option.values)})")
+
+    out = [
+        "#compdef rubis",
+        "# Completion of rubis for zsh. Written by scripts/write_help.py; changes are lost.",
+        "_rubis() {",
+        "    local context state line",
+        "    local -a commands",
+        "    commands=(",
+        *(f"        {quoted(command.name + ':' + command.about.replace(':', ' -'))}" for command in line.commands),
+        "        'help:Prints the help of a command'",
+        "    )",
+        "    _arguments -C '(-h --help)'{-h,--help}'[Prints the help]' '(-V --version)'{-V,--version}'[Prints the version]' '1: :->command' '*:: :->rest'",
+        "    case $state in",
+        "    command) _describe command commands ;;",
+        "    rest)",
+        "        case $words[1] in",
+    ]
+    for command in line.commands:
+        out.append(f"        {command.name})")
+        out.append("            _arguments '(-h --help)'{-h,--help}'[Prints the help]' \\")
+        out.append(" \\\n".join(f"                {spec(option)}" for option in command.options))
+        out.append("            ;;")
+    out += [
+        "        help) _describe command commands ;;",
+        "        esac",
+        "        ;;",
+        "    esac",
+        "}",
+        'if [[ $zsh_eval_context[-1] == loadautofunc ]]; then _rubis "$@"; else compdef _rubis rubis; fi',
+        "",
+    ]
+    return "\n".join(out)
+
+
+def fish_completion(line: CommandLine) -> str:
+    names = " ".join(command.name for command in line.commands)
+    out = [
+        "# Completion of rubis for fish. Written by scripts/write_help.py; changes are lost.",
+        "complete -c rubis -f",
+        "complete -c rubis -s h -l help -d 'Prints the help'",
+        f"set -l commands {names}",
+        "complete -c rubis -n \"not __fish_seen_subcommand_from $commands help\" -s V -l version -d 'Prints the version'",
+        "complete -c rubis -n \"not __fish_seen_subcommand_from $commands help\" -a help -d 'Prints the help of a command'",
+        "complete -c rubis -n \"__fish_seen_subcommand_from help\" -a \"$commands\"",
+    ]
+
+    def fish(text: str) -> str:
+        return "'" + text.replace("\\", "\\\\").replace("'", "\\'") + "'"
+
+    for command in line.commands:
+        out.append(f"complete -c rubis -n \"not __fish_seen_subcommand_from $commands help\" -a {command.name} -d {fish(command.about)}")
+        for option in command.options:
+            out.append(f"complete -c rubis -n \"__fish_seen_subcommand_from {command.name}\" -l {option.name} -x -a {fish(' '.join(option.values))} -d {fish(option.words)}")
+    return "\n".join(out) + "\n"
+
+
+WRITTEN = {
+    "docs/rubis.1": man_page,
+    "completions/rubis.bash": bash_completion,
+    "completions/_rubis": zsh_completion,
+    "completions/rubis.fish": fish_completion,
+}
+
+
+def main() -> int:
+    words = sys.argv[1:]
+    check = "--check" in words
+    words = [word for word in words if word != "--check"]
+    if len(words) != 1:
+        print(__doc__, file=sys.stderr)
+        return 2
+    line = command_line_of(str(pathlib.Path(words[0]).resolve()))
+    other = 0
+    for name, write in WRITTEN.items():
+        text, path = write(line), TOP / name
+        if not check:
+            path.parent.mkdir(exist_ok=True)
+            path.write_text(text)
+        elif not path.exists() or path.read_text() != text:
+            other += 1
+            print(f"{name}:1: isn't what the program's help says; scripts/write_help.py writes it")
+    if check:
+        print(f"help: {len(WRITTEN) - other} passed, {other} failed")
+    return 1 if other else 0
+
+
+if __name__ == "__main__":
+    sys.exit(main())
