@@ -9,6 +9,7 @@
 - Each wrong body is named in docs/PROMISES.md, in a row of a call of its own crate.
 - Each link of README.md and docs/ to lines of a source, as [`name`](crates/..#L1-L2), names the lines of that function with
   its contract, or of that definition.
+- The table of crates in docs/ARCHITECTURE.md has the crates of crates.txt in their order, each with those that it stands on.
 - Each picture of docs/ is what scripts/picture.py draws of its conversation.
 
 With --fix, links are set to their lines and pictures are drawn anew first. Each fault is told by file and line; the last line says how many names and statements were looked at.
@@ -211,9 +212,40 @@ def check_links(page: pathlib.Path, fix: bool) -> tuple[int, list[str]]:
 
 def check_callers(page: pathlib.Path) -> tuple[int, list[str]]:
     """Each piece of code on the page for callers stands so in the tests, where it is proved."""
-    proved = squeezed((CRATES / "rubis_streams/src/callers.rt").read_text())
+    proved = squeezed((CRATES / "rubis_tests_streams/src/callers.rt").read_text())
     pieces = re.findall(r"```rust\n(.*?)```", page.read_text(), re.S)
-    return len(pieces), [f"{page.name}: no such code in rubis_streams: {piece.splitlines()[0]}" for piece in pieces if squeezed(piece) not in proved]
+    return len(pieces), [f"{page.name}: no such code in rubis_tests_streams: {piece.splitlines()[0]}" for piece in pieces if squeezed(piece) not in proved]
+
+
+def crates_of_list() -> list[tuple[str, set[str]]]:
+    """The crates of crates.txt in their order, each with those that it stands on."""
+    lines = [line for line in (TOP / "crates.txt").read_text().splitlines() if line and not line.startswith("#")]
+    return [(name, set(below.split())) for name, below in (line.split(":") for line in lines)]
+
+
+def crates_of_table(page: pathlib.Path) -> list[tuple[int, str, set[str] | None]]:
+    """The rows of a page's table of crates: line, crate, and those that it stands on, unless it stands on what it tests."""
+    rows = []
+    for at, line in enumerate(page.read_text().splitlines(), 1):
+        if not line.startswith("| `rubis_"):
+            continue
+        name, _, below, _ = line.strip("| ").split(" | ")
+        words = re.findall(r"`?\w+`?", below)
+        stands = {word.strip("`") if word.startswith("`") else f"rubis_{word}" for word in words}
+        rows.append((at, name.strip("`"), None if below == "what it tests" else stands))
+    return rows
+
+
+def check_crates(page: pathlib.Path) -> tuple[int, list[str]]:
+    faults = []
+    listed, rows = crates_of_list(), crates_of_table(page)
+    if [name for name, _ in listed] != [name for _, name, _ in rows]:
+        faults.append(f"{page.relative_to(TOP)}: its table hasn't the crates of crates.txt in their order")
+    below = dict(listed)
+    for at, name, stands in rows:
+        if stands is not None and stands != below.get(name):
+            faults.append(f"{page.relative_to(TOP)}:{at}: {name} doesn't stand on these crates")
+    return len(rows), faults
 
 
 def check_pictures(fix: bool) -> tuple[int, list[str]]:
@@ -235,7 +267,7 @@ def main() -> int:
     for path in CRATES.glob("*/must-fail/*.edit"):
         edits.setdefault(path.stem, set()).add(path.relative_to(CRATES).parts[0])
     everything = specs | code_names() | set(edits) | FOREIGN
-    found = [check_model(model, specs | code_names()), check_names(promises, everything), check_quotes(promises), check_edits(promises, edits), check_pictures(fix), check_callers(TOP / "docs/CALLING.md")]
+    found = [check_model(model, specs | code_names()), check_names(promises, everything), check_quotes(promises), check_edits(promises, edits), check_pictures(fix), check_callers(TOP / "docs/CALLING.md"), check_crates(TOP / "docs/ARCHITECTURE.md")]
     found += [check_links(page, fix) for page in [TOP / "README.md", *sorted(TOP.glob("docs/*.md"))]]
     looked = sum(count for count, _ in found) + len(edits)
     faults = [fault for _, part in found for fault in part]

@@ -1,7 +1,7 @@
 -- The configurations that a command line asks for.
 use Rattle.rubis_replica.specs.Setup.{Setup}
-use Rattle.rubis_command.specs.declared.options.Options.{Options}
-use Rattle.rubis_command.specs.declared.options.Setup.{Setup as Numbers}
+use Rattle.rubis_cli.specs.declared.options.Options.{Options}
+use Rattle.rubis_cli.specs.declared.options.Setup.{Setup as Numbers}
 use Rattle.rubis_world.specs.Setup.{WorldSetup}
 
 -- the configuration of one site

@@ -4,7 +4,7 @@ use Rattle.std.specs.Prelude.{◌≡◌, ◌⊎◌, ℕ, List, [], ◌∷◌}
 use Rattle.clap.specs.Words.{Kinds, Text, fault_of}
 use Rattle.clap.specs.declared.error.kind.ErrorKind.{ErrorKind}
 use Rattle.clap.specs.declared.error.kind.ErrorKind.TheVariants.{DisplayHelp, DisplayVersion}
-use Rattle.rubis_command.specs.CommandLine.{command_line}
+use Rattle.rubis_cli.specs.CommandLine.{command_line}
 
 -- help and the version are shown, and all else that `clap` says is a mistake
 abbrev pub status_by : ErrorKind → ℕ

@@ -14,7 +14,7 @@ ghost use Rattle.rubis_app.specs.Statuses.{IsStatusOf, status_by};
 
 use clap::Error;
 use rubis_audit::{run_audit_to_exit, run_widen};
-use rubis_command::{OptionFault, Options, Run, Setup, Widening, read_options};
+use rubis_cli::{OptionFault, Options, Run, Setup, Widening, read_options};
 use rubis_replica::Config;
 use rubis_schema::{Hashes, SITES_MAX};
 use rubis_script::{Count, RunFault, run_site_to_exit};

@@ -1,0 +1,91 @@
+-- The command line: `rubis site`, with six options that take a number, `rubis world`, with five, `rubis audit`, with one,
+-- and `rubis widen`, with two.
+use Rattle.std.specs.Prelude.{◌≡◌, ◌≢◌, ℕ, ◌-◌, ◌<◌, ◌^◌, List, [], ◌∷◌, Option, Some, ⊤, true, codes}
+use Rattle.std.specs.Str.Parse.{IsNumeral, digits_value, without_leading_plus}
+use Rattle.clap.specs.Words.{App, IsAmong, Kinds, Row, Rule, Text, kind_of, new_app, new_rule, one_of, subcommand_of, with_rule, with_subcommand}
+use Rattle.clap.specs.declared.builder.value_parser.ValueParser.TheVariants.{Unsigned}
+use Rattle.clap.specs.declared.error.Error.{Error}
+use Rattle.clap.specs.declared.error.kind.ErrorKind.{ErrorKind}
+use Rattle.clap.specs.declared.error.kind.ErrorKind.TheVariants.{OutOfMemory}
+use Rattle.rubis_schema.specs.declared.limits.TheConstants.{BATCH_MAX, KEEP_MAX, SHARDS_MAX, SITES_MAX, WORKERS_MAX}
+use Rattle.rubis_cli.specs.declared.options.OptionFault.{OptionFault}
+use Rattle.rubis_cli.specs.declared.options.OptionFault.TheVariants.{Memory, Words}
+use Rattle.rubis_cli.specs.declared.options.Options.{Options}
+use Rattle.rubis_cli.specs.declared.options.Run.{Run}
+use Rattle.rubis_cli.specs.declared.options.Run.TheVariants.{Audit, Site, Widen, World}
+use Rattle.rubis_cli.specs.declared.options.Setup.{Setup}
+use Rattle.rubis_cli.specs.declared.options.Widening.{Widening}
+
+-- an option that takes a number from `low` to `high`, and that has the value `default` where it isn't given
+abbrev pub number_option : Text → ℕ → ℕ → Text → Rule
+number_option name low high default = record (new_rule name) { long = Some name; value_names = 1; parser = Some (Unsigned low high); defaults = default ∷ [] }
+
+abbrev pub sites_option : Rule
+sites_option = number_option (codes "sites") 1 SITES_MAX (codes "1")
+
+-- the options that say how sites are set up
+abbrev pub with_setup : App → App
+with_setup a = with_rule (with_rule (with_rule (with_rule (with_rule a
+    sites_option)
+    (number_option (codes "shards") 1 SHARDS_MAX (codes "4")))
+    (number_option (codes "workers") 1 WORKERS_MAX (codes "2")))
+    (number_option (codes "batch") 1 BATCH_MAX (codes "64")))
+    (number_option (codes "keep") 1 KEEP_MAX (codes "1000000"))
+
+abbrev pub site_command : App
+site_command = with_setup (with_rule (new_app (codes "site")) (number_option (codes "site") 0 (SITES_MAX - 1) (codes "0")))
+
+abbrev pub world_command : App
+world_command = with_setup (new_app (codes "world"))
+
+abbrev pub audit_command : App
+audit_command = with_rule (new_app (codes "audit")) sites_option
+
+abbrev pub widen_command : App
+widen_command = with_rule (with_rule (new_app (codes "widen")) sites_option) (number_option (codes "to") 1 SITES_MAX (codes "16"))
+
+-- the program has a version, and wants a command
+abbrev pub program_alone : App
+program_alone = let a = new_app (codes "rubis") in record a { top = record a.top { has_version = true; subcommand_required = true } }
+
+abbrev pub command_line : App
+command_line = with_subcommand (with_subcommand (with_subcommand (with_subcommand program_alone site_command.top) world_command.top) audit_command.top) widen_command.top
+
+-- n is the number of at most `bits` bits that the text writes: decimal digits, optionally after a plus sign
+abbrev pub IsNumberOf : ℕ → Option Text → ℕ → Type 0
+IsNumberOf bits text n = (t : Text) → text ≡ Some t → IsNumeral 10 (without_leading_plus t) → digits_value 10 (without_leading_plus t) < 2 ^ bits → n ≡ digits_value 10 (without_leading_plus t)
+
+-- the numbers are what stands in these rows
+pub record IsSetupIn (rows : List Row) (s : Setup) : Type 0 where
+  pub sites : IsNumberOf 8 (one_of (codes "sites") rows) s.sites
+  pub shards : IsNumberOf 8 (one_of (codes "shards") rows) s.shards
+  pub workers : IsNumberOf 8 (one_of (codes "workers") rows) s.workers
+  pub batch : IsNumberOf 32 (one_of (codes "batch") rows) s.batch
+  pub keep : IsNumberOf 32 (one_of (codes "keep") rows) s.keep
+
+pub record AreOptionsIn (rows : List Row) (o : Options) : Type 0 where
+  pub site : IsNumberOf 8 (one_of (codes "site") rows) o.site
+  pub setup : IsSetupIn rows o.setup
+
+pub record AreCountsIn (rows : List Row) (w : Widening) : Type 0 where
+  pub sites : IsNumberOf 8 (one_of (codes "sites") rows) w.sites
+  pub to : IsNumberOf 8 (one_of (codes "to") rows) w.to
+
+-- what the words of a command line ask for: an audit, several sites or a widening where that is the command, or else a
+-- site, with the options that stand after the command
+abbrev pub IsAsked : List Text → Run → Type 0
+IsAsked words (Audit sites) = (rows : List Row) × (subcommand_of command_line words ≡ Some (codes "audit", rows)) × IsNumberOf 8 (one_of (codes "sites") rows) sites
+IsAsked words (World setup) = (rows : List Row) × (subcommand_of command_line words ≡ Some (codes "world", rows)) × IsSetupIn rows setup
+IsAsked words (Widen counts) = (rows : List Row) × (subcommand_of command_line words ≡ Some (codes "widen", rows)) × AreCountsIn rows counts
+IsAsked words (Site options) =
+    (name : Text) × (rows : List Row) × (subcommand_of command_line words ≡ Some (name, rows)) × (name ≢ codes "audit") × (name ≢ codes "world") × (name ≢ codes "widen") × AreOptionsIn rows options
+
+-- what an error of `clap` is called here
+abbrev pub fault_by : ErrorKind → Error → OptionFault
+fault_by OutOfMemory error = Memory
+fault_by k error = Words error
+
+-- why a command line is refused: memory ran out, or one of these
+abbrev pub IsFaultAmong : Kinds → OptionFault → Type 0
+IsFaultAmong kinds Memory = ⊤
+IsFaultAmong kinds (Words error) = IsAmong (kind_of error) kinds

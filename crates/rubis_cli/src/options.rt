@@ -1,0 +1,280 @@
+//! The command line.
+
+ghost use Rattle.std.specs.Prelude.{◌≡◌, false, [], Some, codes, map, string_bytes, IfErr, IfOk};
+ghost use Rattle.rubis_schema.specs.declared.limits.TheConstants.{SITES_MAX};
+ghost use Rattle.clap.specs.Words.{app_of, fault_of, found_of, one_of, rows_of, rule_of};
+ghost use Rattle.rubis_cli.specs.CommandLine.{AreCountsIn, AreOptionsIn, IsAsked, IsFaultAmong, IsNumberOf, IsSetupIn, command_line, number_option, widen_command, with_setup};
+
+use clap::builder::ValueParser;
+use clap::error::ErrorKind;
+use clap::{Arg, ArgMatches, Command, Error};
+use rubis_schema::{BATCH_MAX, KEEP_MAX, SHARDS_MAX, SITES_MAX, WORKERS_MAX};
+use std::alloc::{AllocError, Global};
+
+/// What the command line asks for.
+#[derive(Drop)]
+pub enum Run {
+    /// One site.
+    Site(Options),
+    /// Several sites in one run.
+    World(Setup),
+    /// An audit of the logs of this many sites.
+    Audit(u8),
+    /// The records of an audit, widened.
+    Widen(Widening),
+}
+
+/// Why nothing is run.
+#[derive(Drop)]
+pub enum OptionFault {
+    /// There was not enough memory to read the command line.
+    Memory,
+    /// What `clap` says of it: a fault, or the help or version that was asked for.
+    Words(Error),
+}
+
+impl From<Error> for OptionFault {
+    ghost use Rattle.std.specs.Prelude.{◌≡◌};
+    ghost use Rattle.clap.specs.Words.{kind_of};
+    ghost use Rattle.rubis_cli.specs.CommandLine.{fault_by};
+
+    ghost from_gives = { λ error fault. fault ≡ fault_by (kind_of error) error };
+
+    fn from(error: Error) -> OptionFault {
+        match error.kind() {
+            ErrorKind::OutOfMemory => OptionFault::Memory,
+            _ => OptionFault::Words(error),
+        }
+    }
+}
+
+impl From<AllocError> for OptionFault {
+    ghost use Rattle.std.specs.Prelude.{◌≡◌};
+    ghost use Rattle.rubis_cli.specs.declared.options.OptionFault.TheVariants.{Memory};
+
+    ghost from_gives = { λ error fault. fault ≡ Memory };
+
+    fn from(_: AllocError) -> OptionFault {
+        OptionFault::Memory
+    }
+}
+
+/// The numbers that say how sites are set up.
+#[derive(Clone, Copy)]
+pub struct Setup {
+    pub sites: u8,
+    pub shards: u8,
+    pub workers: u8,
+    pub batch: u32,
+    pub keep: u32,
+}
+
+/// How many sites the messages of logs count, and how many they are to count.
+#[derive(Clone, Copy)]
+pub struct Widening {
+    pub sites: u8,
+    pub to: u8,
+}
+
+/// The numbers of one site.
+#[derive(Clone, Copy)]
+pub struct Options {
+    pub site: u8,
+    pub setup: Setup,
+}
+
+// An option that takes a number of this range.
+fn number<'a>(
+    alloc: Global,
+    name: &'a str,
+    low: u64,
+    high: u64,
+    default: &'a str,
+    help: &'a str,
+) -> Arg<'a>
+    ensures rule { rule_of result ≡ number_option name.entry.now low high default.entry.now }
+    ensures help { result.help ≡ Some help.entry }
+    ensures local { result.global ≡ false }
+{
+    Arg::new(alloc, name)
+        .long(name)
+        .value_name("n")
+        .value_parser(ValueParser::unsigned(low, high))
+        .default_value(default)
+        .help(help)
+}
+
+// The option that says how many sites there are.
+fn sites<'a>(alloc: Global) -> Arg<'a>
+    ensures rule { rule_of result ≡ number_option (codes "sites") 1 SITES_MAX (codes "1") }
+    ensures local { result.global ≡ false }
+{
+    number(
+        alloc,
+        "sites",
+        1,
+        SITES_MAX as u64,
+        "1",
+        "How many sites there are, 1 to 16",
+    )
+}
+
+// The options that say how sites are set up.
+fn with_setup<'a>(alloc: Global, command: Command<'a>) -> Result<Command<'a>, AllocError>
+    ensures { IfOk result (λ made. app_of made ≡ with_setup (app_of command.entry)) }
+{
+    command
+        .arg(sites(alloc))?
+        .arg(number(
+            alloc,
+            "shards",
+            1,
+            SHARDS_MAX as u64,
+            "4",
+            "How many shards the tables have, 1 to 64; changes no answer",
+        ))?
+        .arg(number(
+            alloc,
+            "workers",
+            1,
+            WORKERS_MAX as u64,
+            "2",
+            "How many threads may apply a batch, 1 to 16; changes no answer",
+        ))?
+        .arg(number(
+            alloc,
+            "batch",
+            1,
+            BATCH_MAX as u64,
+            "64",
+            "How many released messages make a batch, 1 to 65536; changes no answer",
+        ))?
+        .arg(number(
+            alloc,
+            "keep",
+            1,
+            KEEP_MAX as u64,
+            "1000000",
+            "How many messages a site keeps, released and held, 1 to 1000000",
+        ))
+}
+
+// The command that widens the records of an audit.
+fn widen<'a>(alloc: Global) -> Result<Command<'a>, AllocError>
+    ensures { IfOk result (λ made. app_of made ≡ widen_command) }
+{
+    Command::new(alloc, "widen")
+        .about(
+            "Rewrites logs for more sites, so that they can be audited with those of larger shops",
+        )
+        .arg(sites(alloc))?
+        .arg(number(
+            alloc,
+            "to",
+            1,
+            SITES_MAX as u64,
+            "16",
+            "How many sites the messages are to count, 1 to 16 and not below --sites",
+        ))
+}
+
+// The program's command line.
+fn program<'a>(alloc: Global) -> Result<Command<'a>, AllocError>
+    ensures { IfOk result (λ made. app_of made ≡ command_line) }
+{
+    let site = Command::new(alloc, "site")
+        .about("Runs one site: reads records on standard input, writes answers on standard output")
+        .arg(number(
+            alloc,
+            "site",
+            0,
+            SITES_MAX as u64 - 1,
+            "0",
+            "Which site this is, 0 to 15 and below --sites",
+        ))?;
+    let site = with_setup(alloc, site)?;
+    let world = Command::new(alloc, "world").about(
+        "Runs several sites and their packets: reads records, writes answers",
+    );
+    let world = with_setup(alloc, world)?;
+    let audit = Command::new(alloc, "audit")
+        .about("Audits the logs of several sites: writes the first fault, or Agree")
+        .arg(sites(alloc))?;
+    let widen = widen(alloc)?;
+    Command::new(alloc, "rubis")
+        .bin_name("rubis")?
+        .version("0.1.0")
+        .about("A replicated auction store under RedBlue consistency, with proved contracts")
+        .subcommand_required(true)
+        .subcommand(site)?
+        .subcommand(world)?
+        .subcommand(audit)?
+        .subcommand(widen)
+}
+
+// A number that `clap` has read and found in its range.
+fn byte(matches: &ArgMatches<'_>, name: &str) -> u8
+    ensures { IsNumberOf 8 (one_of name.now (rows_of (found_of matches.now))) result }
+{
+    matches.get_one::<u8>(name).unwrap_or(0)
+}
+
+fn word(matches: &ArgMatches<'_>, name: &str) -> u32
+    ensures { IsNumberOf 32 (one_of name.now (rows_of (found_of matches.now))) result }
+{
+    matches.get_one::<u32>(name).unwrap_or(0)
+}
+
+fn read_setup(matches: &ArgMatches<'_>) -> Setup
+    ensures { IsSetupIn (rows_of (found_of matches.now)) result }
+{
+    Setup {
+        sites: byte(matches, "sites"),
+        shards: byte(matches, "shards"),
+        workers: byte(matches, "workers"),
+        batch: word(matches, "batch"),
+        keep: word(matches, "keep"),
+    }
+}
+
+fn site_options(matches: &ArgMatches<'_>) -> Options
+    ensures { AreOptionsIn (rows_of (found_of matches.now)) result }
+{
+    Options {
+        site: byte(matches, "site"),
+        setup: read_setup(matches),
+    }
+}
+
+fn counts(matches: &ArgMatches<'_>) -> Widening
+    ensures { AreCountsIn (rows_of (found_of matches.now)) result }
+{
+    Widening {
+        sites: byte(matches, "sites"),
+        to: byte(matches, "to"),
+    }
+}
+
+/// What the words of a command line, the program's name first, ask for. If they are refused, it is for one of the
+/// reasons that this command line has to refuse them, or because memory ran out.
+pub fn read_options(alloc: Global, words: &[String]) -> Result<Run, OptionFault>
+    ensures ok { IfOk result (IsAsked (map string_bytes words.now)) }
+    ensures fits { IfOk result (λ run. fault_of command_line (map string_bytes words.now) ≡ []) }
+    ensures fault { IfErr result (IsFaultAmong (fault_of command_line (map string_bytes words.now))) }
+{
+    let matches = program(alloc)?.try_get_matches_from(words)?;
+    match matches.subcommand() {
+        Some((name, inner)) => {
+            if name == "audit" {
+                Ok(Run::Audit(byte(inner, "sites")))
+            } else if name == "world" {
+                Ok(Run::World(read_setup(inner)))
+            } else if name == "widen" {
+                Ok(Run::Widen(counts(inner)))
+            } else {
+                Ok(Run::Site(site_options(inner)))
+            }
+        }
+        None => unreachable!(),
+    }
+}

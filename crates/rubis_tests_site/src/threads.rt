@@ -1,0 +1,125 @@
+// How often the gate is called, and how many threads a batch gets.
+
+ghost use Rattle.std.specs.Prelude.{◌≡◌};
+
+use crate::arrivals::{ANN, BOB, CUP, arrive_comment, arrive_three, comment_behind};
+use crate::gates::{Counting, Gathering, Holders};
+use crate::transcripts::add_line;
+use rubis_replica::{Config, Gate, Site};
+use rubis_script::{Count, run_site_upto};
+use std::alloc::Global;
+use std::sync::Wait;
+use std::sync::atomic::{AtomicU64, Ordering};
+use std::test::Fail;
+use std::thread::Threads;
+
+/// The number of messages in each run.
+const MESSAGES: u32 = 600;
+
+// MESSAGES messages, of two users, an item, and comments on it, and a listing, which wants all of them applied.
+fn messages_and_listing(alloc: Global) -> Result<String, Fail> {
+    let mut text = String::new(alloc);
+    add_line(&mut text, ANN)?;
+    add_line(&mut text, BOB)?;
+    add_line(&mut text, CUP)?;
+    for before in 3..MESSAGES {
+        add_line(&mut text, &comment_behind(alloc, before)?)?;
+    }
+    add_line(&mut text, "list,users")?;
+    Ok(text)
+}
+
+// How often the gate is called for each of five shards in a run over these records, as `Counting` counts.
+fn count_calls<R: Threads + Wait + Sync>(
+    rt: &R,
+    alloc: Global,
+    records: &str,
+    batch: u32,
+    workers: u8,
+) -> Result<u64, Fail> {
+    let taken = AtomicU64::new(0);
+    let config = Config::new(1, 2, 5, workers, batch, 1000).ok_or("a configuration")?;
+    let gate = Counting { taken: &taken };
+    let mut out = Vec::new(alloc);
+    let end = run_site_upto(rt, alloc, records.as_bytes(), &mut out, &config, 1000, gate);
+    let records = u64::from(MESSAGES).saturating_add(1);
+    if end != Ok(Count { records }) {
+        return Err(Fail::from("another end"));
+    }
+    Ok(taken.load(Ordering::SeqCst))
+}
+
+// The counts with one worker, with two and with sixteen.
+fn count_calls_of_workers<R: Threads + Wait + Sync>(
+    rt: &R,
+    alloc: Global,
+    records: &str,
+    batch: u32,
+) -> Result<[u64; 3], Fail> {
+    let one = count_calls(rt, alloc, records, batch, 1)?;
+    let two = count_calls(rt, alloc, records, batch, 2)?;
+    let sixteen = count_calls(rt, alloc, records, batch, 16)?;
+    Ok([one, two, sixteen])
+}
+
+#[test]
+fn the_gate_is_called_for_each_shard_in_every_application(rt: HostRuntime) -> Result<(), Fail> {
+    let records = messages_and_listing(rt.alloc())?;
+    for (batch, calls) in [
+        (1, 600_600_600_600_600),
+        (3, 200_200_200_200_200),
+        (200, 3_003_003_003_003),
+    ] {
+        let counts = count_calls_of_workers(&rt, rt.alloc(), &records, batch)?;
+        assert_eq!(rt; counts, [calls, calls, calls], "batches of {batch}");
+    }
+    Ok(())
+}
+
+// Has three comments arrive that follow the first `before` messages. Returns how many threads held a shard at once.
+fn threads_of_three<G: Gate, R: Threads + Wait + Sync>(
+    rt: &R,
+    site: &mut Site<G>,
+    alloc: Global,
+    holders: &Holders,
+    before: u32,
+) -> Result<u64, Fail>
+    requires { site.old.place.sites ≡ 2 }
+    ensures { site.new.place ≡ site.old.place }
+{
+    arrive_comment(rt, site, alloc, before)?;
+    arrive_comment(rt, site, alloc, before.saturating_add(1))?;
+    arrive_comment(rt, site, alloc, before.saturating_add(2))?;
+    Ok(holders.most())
+}
+
+// Has three batches of three messages arrive. Returns how many threads applied each.
+fn threads_of_batches<G: Gate, R: Threads + Wait + Sync>(
+    rt: &R,
+    site: &mut Site<G>,
+    alloc: Global,
+    holders: &Holders,
+) -> Result<[u64; 3], Fail>
+    requires { site.old.place.sites ≡ 2 }
+{
+    arrive_three(rt, site, alloc)?;
+    let first = holders.most();
+    let second = threads_of_three(rt, site, alloc, holders, 3)?;
+    let third = threads_of_three(rt, site, alloc, holders, 6)?;
+    Ok([first, second, third])
+}
+
+// A batch of three messages gets at most three of the four workers.
+#[test]
+fn a_batch_too_small_for_threads_has_the_next_one_done_alone(rt: HostRuntime) -> Result<(), Fail> {
+    let holders = Holders::new();
+    let gate = Gathering {
+        holders: &holders,
+        threads: 3,
+    };
+    let config = Config::new(1, 2, 4, 4, 3, 100).ok_or("a configuration")?;
+    let mut site = Site::new(rt.alloc(), &config, gate)?;
+    let threads = threads_of_batches(&rt, &mut site, rt.alloc(), &holders)?;
+    assert_eq!(rt; threads, [3, 1, 3]);
+    Ok(())
+}
