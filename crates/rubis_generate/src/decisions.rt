@@ -1,6 +1,8 @@
-ghost use Rattle.std.specs.Prelude.{◌≡◌, option_copied, is_some};
+ghost use Rattle.std.specs.Prelude.{◌≡◌, IfErr, IfOk, false, is_some, option_copied, true};
+ghost use Rattle.rubis_schema.specs.declared.refusals.Refusal.TheVariants as Refusal;
 ghost use Rattle.rubis_shadow.specs.declared.asks.Ask.TheVariants as Ask;
 ghost use Rattle.rubis_generate.specs.Lookup.{row_by_key, user_in, item_in, is_ended};
+ghost use Rattle.rubis_generate.specs.Checks.{IsBuyerRefusal, IsRedRefusal, IsSellerRefusal, MayBuy, MayMakeRed, MaySell};
 ghost use Rattle.rubis_generate.specs.Decision.{decision};
 
 use crate::standing::Standing;
@@ -52,18 +54,71 @@ fn is_over(sale: &Sale) -> bool
     }
 }
 
-fn decide_user<V: View>(nick: Nick, view: &V, standing: &Standing) -> Result<Shadow, Refusal>
-    ensures { result ≡ decision (row_by_key (V.tables view.now)) standing.now (Ask.User nick) }
+// Whether the site keeps one more message.
+#[inline(always)]
+fn check_room(standing: &Standing) -> Result<(), Refusal>
+    ensures ok { IfOk result (λ _. standing.now.full ≡ false) }
+    ensures full { IfErr result (λ refusal. (refusal ≡ Refusal.Full) × (standing.now.full ≡ true)) }
 {
     if standing.full {
         return Err(Refusal::Full);
     }
+    Ok(())
+}
+
+// Whether the site may make a red message.
+#[inline(always)]
+fn check_red(standing: &Standing) -> Result<(), Refusal>
+    ensures ok { IfOk result (λ _. MayMakeRed standing.now) }
+    ensures refused { IfErr result (IsRedRefusal standing.now) }
+{
+    check_room(standing)?;
     if !standing.holds {
         return Err(Refusal::NoToken);
     }
     if !standing.current {
         return Err(Refusal::RedBehind);
     }
+    Ok(())
+}
+
+// Whether the user may bid on the item, or buy it.
+#[inline(always)]
+fn check_buyer<V: View>(view: &V, user: Id, item: &ItemRow) -> Result<(), Refusal>
+    ensures ok { IfOk result (λ _. MayBuy (is_some (user_in (row_by_key (V.tables view.now)) user)) user item.now) }
+    ensures refused { IfErr result (IsBuyerRefusal (is_some (user_in (row_by_key (V.tables view.now)) user)) user item.now) }
+{
+    if !has_user(view, user) {
+        return Err(Refusal::NoUser);
+    }
+    if is_over(&item.sale) {
+        return Err(Refusal::Closed);
+    }
+    if user == item.seller {
+        return Err(Refusal::OwnItem);
+    }
+    Ok(())
+}
+
+// Whether the user sells the item, and its sale is open.
+#[inline(always)]
+fn check_seller(user: Id, item: &ItemRow) -> Result<(), Refusal>
+    ensures ok { IfOk result (λ _. MaySell user item.now) }
+    ensures refused { IfErr result (IsSellerRefusal user item.now) }
+{
+    if user != item.seller {
+        return Err(Refusal::NotSeller);
+    }
+    if is_over(&item.sale) {
+        return Err(Refusal::Closed);
+    }
+    Ok(())
+}
+
+fn decide_user<V: View>(nick: Nick, view: &V, standing: &Standing) -> Result<Shadow, Refusal>
+    ensures { result ≡ decision (row_by_key (V.tables view.now)) standing.now (Ask.User nick) }
+{
+    check_red(standing)?;
     if view.row(&RowKey::Nick(nick)).is_some() {
         return Err(Refusal::NickTaken);
     }
@@ -77,9 +132,7 @@ fn decide_item<V: View>(
 ) -> Result<Shadow, Refusal>
     ensures { result ≡ decision (row_by_key (V.tables view.now)) standing.now (Ask.Item item) }
 {
-    if standing.full {
-        return Err(Refusal::Full);
-    }
+    check_room(standing)?;
     if !has_user(view, item.seller) {
         return Err(Refusal::NoUser);
     }
@@ -89,27 +142,11 @@ fn decide_item<V: View>(
 fn decide_bid<V: View>(bid: NewBid, view: &V, standing: &Standing) -> Result<Shadow, Refusal>
     ensures { result ≡ decision (row_by_key (V.tables view.now)) standing.now (Ask.Bid bid) }
 {
-    if standing.full {
-        return Err(Refusal::Full);
-    }
-    if !standing.holds {
-        return Err(Refusal::NoToken);
-    }
-    if !standing.current {
-        return Err(Refusal::RedBehind);
-    }
+    check_red(standing)?;
     let Some(item) = item_row(view, bid.item) else {
         return Err(Refusal::NoItem);
     };
-    if !has_user(view, bid.bidder) {
-        return Err(Refusal::NoUser);
-    }
-    if is_over(&item.sale) {
-        return Err(Refusal::Closed);
-    }
-    if bid.bidder == item.seller {
-        return Err(Refusal::OwnItem);
-    }
+    check_buyer(view, bid.bidder, item)?;
     if bid.amount < item.start {
         return Err(Refusal::LowBid);
     }
@@ -123,27 +160,11 @@ fn decide_buy<V: View>(
 ) -> Result<Shadow, Refusal>
     ensures { result ≡ decision (row_by_key (V.tables view.now)) standing.now (Ask.Buy purchase) }
 {
-    if standing.full {
-        return Err(Refusal::Full);
-    }
-    if !standing.holds {
-        return Err(Refusal::NoToken);
-    }
-    if !standing.current {
-        return Err(Refusal::RedBehind);
-    }
+    check_red(standing)?;
     let Some(item) = item_row(view, purchase.item) else {
         return Err(Refusal::NoItem);
     };
-    if !has_user(view, purchase.buyer) {
-        return Err(Refusal::NoUser);
-    }
-    if is_over(&item.sale) {
-        return Err(Refusal::Closed);
-    }
-    if purchase.buyer == item.seller {
-        return Err(Refusal::OwnItem);
-    }
+    check_buyer(view, purchase.buyer, item)?;
     if item.price == 0 {
         return Err(Refusal::NoBuyNow);
     }
@@ -160,24 +181,11 @@ fn decide_close<V: View>(
 ) -> Result<Shadow, Refusal>
     ensures { result ≡ decision (row_by_key (V.tables view.now)) standing.now (Ask.Close close) }
 {
-    if standing.full {
-        return Err(Refusal::Full);
-    }
-    if !standing.holds {
-        return Err(Refusal::NoToken);
-    }
-    if !standing.current {
-        return Err(Refusal::RedBehind);
-    }
+    check_red(standing)?;
     let Some(item) = item_row(view, close.item) else {
         return Err(Refusal::NoItem);
     };
-    if close.seller != item.seller {
-        return Err(Refusal::NotSeller);
-    }
-    if is_over(&item.sale) {
-        return Err(Refusal::Closed);
-    }
+    check_seller(close.seller, item)?;
     Ok(Shadow::Close(NewClose {
         item: close.item,
         cat: item.cat,
@@ -192,9 +200,7 @@ fn decide_comment<V: View>(
 ) -> Result<Shadow, Refusal>
     ensures { result ≡ decision (row_by_key (V.tables view.now)) standing.now (Ask.Comment comment) }
 {
-    if standing.full {
-        return Err(Refusal::Full);
-    }
+    check_room(standing)?;
     if item_row(view, comment.item).is_none() {
         return Err(Refusal::NoItem);
     }
@@ -214,18 +220,11 @@ fn decide_restock<V: View>(
 ) -> Result<Shadow, Refusal>
     ensures { result ≡ decision (row_by_key (V.tables view.now)) standing.now (Ask.Restock restock) }
 {
-    if standing.full {
-        return Err(Refusal::Full);
-    }
+    check_room(standing)?;
     let Some(item) = item_row(view, restock.item) else {
         return Err(Refusal::NoItem);
     };
-    if restock.seller != item.seller {
-        return Err(Refusal::NotSeller);
-    }
-    if is_over(&item.sale) {
-        return Err(Refusal::Closed);
-    }
+    check_seller(restock.seller, item)?;
     Ok(Shadow::Restock(NewRestock {
         item: restock.item,
         quantity: restock.quantity,
@@ -239,15 +238,7 @@ fn decide_rename<V: View>(
 ) -> Result<Shadow, Refusal>
     ensures { result ≡ decision (row_by_key (V.tables view.now)) standing.now (Ask.Rename rename) }
 {
-    if standing.full {
-        return Err(Refusal::Full);
-    }
-    if !standing.holds {
-        return Err(Refusal::NoToken);
-    }
-    if !standing.current {
-        return Err(Refusal::RedBehind);
-    }
+    check_red(standing)?;
     let Some(user) = user_row(view, rename.user) else {
         return Err(Refusal::NoUser);
     };
