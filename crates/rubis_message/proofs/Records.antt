@@ -22,8 +22,8 @@ use Rattle.rubis_message.specs.Readings.{agrees, listing_by, packet_of, request_
 use Rattle.rubis_message.specs.Words.{all_shown, kind_of, kind_text, kinds, shown_of, shown_text}
 use Rattle.rubis_message.specs.declared.faults.ReadFault.{ReadFault}
 use Rattle.rubis_message.specs.declared.faults.ReadFault.TheVariants.{BadRecord}
-use Rattle.rubis_message.specs.declared.kinds.Kind.{Kind}
-use Rattle.rubis_message.specs.declared.kinds.Kind.TheVariants as kind
+use Rattle.rubis_message.specs.declared.kinds.RecordKind.{RecordKind}
+use Rattle.rubis_message.specs.declared.kinds.RecordKind.TheVariants as kind
 use Rattle.rubis_message.specs.declared.kinds.Shown.{Shown}
 use Rattle.rubis_message.specs.declared.kinds.Shown.TheVariants as shown
 use Rattle.rubis_message.specs.declared.requests.Request.{Request}
@@ -292,7 +292,7 @@ module _ (sites : ℕ) (few : sites < 2 ^ 8) where
   pass_form : IsForm (λ n. n ≤ PASS_MAX) (λ n. decimal n ∷ []) (take_number PASS_MAX)
   pass_form = number_form PASS_MAX (omega arith)
 
-  request_behind : (k : Kind) → IsBehind (IsRequest sites) request_record (kind_text k) (request_by sites k)
+  request_behind : (k : RecordKind) → IsBehind (IsRequest sites) request_record (kind_text k) (request_by sites k)
   request_behind kind.User = behind (one_is nick_is) (λ y. request.Ask (ask.User y)) _ _ _ (λ x h. (tt, h)) (λ x more. refl)
   request_behind kind.Item = behind item_form (λ y. request.Ask (ask.Item y)) _ _ _ (λ x h. (h.0, h.1)) (λ x more. refl)
   request_behind kind.Bid = behind bid_form (λ y. request.Ask (ask.Bid y)) _ _ _ (λ x h. (h, tt)) (λ x more. refl)
@@ -324,7 +324,7 @@ module _ (sites : ℕ) (few : sites < 2 ^ 8) where
 
   -- ---- packets
 
-  shadow_behind : (k : Kind) → IsBehind (λ s. InLimits sites s × HasShadowTexts s) shadow_fields (kind_text k) (shadow_by sites k)
+  shadow_behind : (k : RecordKind) → IsBehind (λ s. InLimits sites s × HasShadowTexts s) shadow_fields (kind_text k) (shadow_by sites k)
   shadow_behind kind.User = behind (one_is nick_is) shadow.User _ _ _ (λ x h. (tt, h)) (λ x more. refl)
   shadow_behind kind.Item = behind item_form shadow.Item _ _ _ (λ x h. (h.0, h.1)) (λ x more. refl)
   shadow_behind kind.Bid = behind bid_form shadow.Bid _ _ _ (λ x h. (h, tt)) (λ x more. refl)

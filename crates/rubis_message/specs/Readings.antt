@@ -22,8 +22,8 @@ use Rattle.rubis_message.specs.Forms.{Form, ◌>>=◌, ◌>>◌, give, none, map
 use Rattle.rubis_message.specs.Grammar.{IsPacket, IsRequest, packet_record, request_record, token_version, version_of}
 use Rattle.rubis_message.specs.Message.{Message}
 use Rattle.rubis_message.specs.Words.{kind_of, shown_of}
-use Rattle.rubis_message.specs.declared.kinds.Kind.{Kind}
-use Rattle.rubis_message.specs.declared.kinds.Kind.TheVariants as kind
+use Rattle.rubis_message.specs.declared.kinds.RecordKind.{RecordKind}
+use Rattle.rubis_message.specs.declared.kinds.RecordKind.TheVariants as kind
 use Rattle.rubis_message.specs.declared.kinds.Shown.{Shown}
 use Rattle.rubis_message.specs.declared.kinds.Shown.TheVariants as shown
 use Rattle.rubis_message.specs.declared.requests.Request.{Request}
@@ -110,7 +110,7 @@ take_rename sites = do
 
 -- ---- requests
 
-unfoldable pub take_kind : Form Kind
+unfoldable pub take_kind : Form RecordKind
 take_kind = one kind_of
 
 unfoldable pub take_shown : Form Shown
@@ -130,7 +130,7 @@ listing_by sites shown.Tables = give listing.Tables
 unfoldable pub take_listing : ℕ → Form Listing
 take_listing sites = take_shown >>= listing_by sites
 
-abbrev pub request_by : ℕ → Kind → Form Request
+abbrev pub request_by : ℕ → RecordKind → Form Request
 request_by sites kind.User = mapped (λ n. request.Ask (ask.User n)) take_nick
 request_by sites kind.Item = mapped (λ n. request.Ask (ask.Item n)) (take_item sites)
 request_by sites kind.Bid = mapped (λ b. request.Ask (ask.Bid b)) (take_bid sites)
@@ -160,7 +160,7 @@ take_stamp sites = do
   check (seq == slice_index deps site + 1)
   give (record { id = record { site = site; seq = seq }; red = red; deps = deps })
 
-abbrev pub shadow_by : ℕ → Kind → Form Shadow
+abbrev pub shadow_by : ℕ → RecordKind → Form Shadow
 shadow_by sites kind.User = mapped shadow.User take_nick
 shadow_by sites kind.Item = mapped shadow.Item (take_item sites)
 shadow_by sites kind.Bid = mapped shadow.Bid (take_bid sites)

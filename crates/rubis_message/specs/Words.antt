@@ -1,7 +1,7 @@
 -- The words that say what a record is.
 use Rattle.std.specs.Prelude.{ℕ, List, [], ◌∷◌, find, Option, bytes_eq, codes}
-use Rattle.rubis_message.specs.declared.kinds.Kind.{Kind}
-use Rattle.rubis_message.specs.declared.kinds.Kind.TheVariants.{User, Item, Bid, Buy, Close, Comment, Pass, List as Listed, Restock, Rename}
+use Rattle.rubis_message.specs.declared.kinds.RecordKind.{RecordKind}
+use Rattle.rubis_message.specs.declared.kinds.RecordKind.TheVariants.{User, Item, Bid, Buy, Close, Comment, Pass, List as Listed, Restock, Rename}
 use Rattle.rubis_message.specs.declared.kinds.Shown.{Shown}
 use Rattle.rubis_message.specs.declared.kinds.Shown.TheVariants as shown
 
@@ -10,7 +10,7 @@ abbrev pub said : {A : Type 0} → (A → List ℕ) → List A → List ℕ → 
 said text all field = find (λ x. bytes_eq field (text x)) all
 
 -- the word for a kind
-abbrev pub kind_text : Kind → List ℕ
+abbrev pub kind_text : RecordKind → List ℕ
 kind_text User = codes "user"
 kind_text Item = codes "item"
 kind_text Bid = codes "bid"
@@ -22,11 +22,11 @@ kind_text Listed = codes "list"
 kind_text Restock = codes "restock"
 kind_text Rename = codes "rename"
 
-abbrev pub kinds : List Kind
+abbrev pub kinds : List RecordKind
 kinds = User ∷ Item ∷ Bid ∷ Buy ∷ Close ∷ Comment ∷ Pass ∷ Listed ∷ Restock ∷ Rename ∷ []
 
 -- the kind that a word says
-unfoldable pub kind_of : List ℕ → Option Kind
+unfoldable pub kind_of : List ℕ → Option RecordKind
 kind_of = said kind_text kinds
 
 -- the word for what a listing shows

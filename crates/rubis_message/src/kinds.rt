@@ -5,7 +5,7 @@ ghost use Rattle.rubis_message.specs.Words.{kind_of, shown_of};
 
 /// The first word of a request, or that of a message's shadow.
 #[derive(Clone, Copy, PartialEq, Eq, Debug)]
-pub enum Kind {
+pub enum RecordKind {
     User,
     Item,
     Bid,
@@ -40,32 +40,32 @@ pub fn says(field: &[u8], word: &[u8]) -> bool
     field == word
 }
 
-impl Kind {
+impl RecordKind {
     /// The kind that the word says.
     #[tactic(auto, unfolding(crate::specs::Words::kind_of))]
-    pub fn read(word: &[u8]) -> Option<Kind>
+    pub fn read(word: &[u8]) -> Option<RecordKind>
         ensures { result ≡ kind_of word.now }
     {
         if says(word, b"user") {
-            Some(Kind::User)
+            Some(RecordKind::User)
         } else if says(word, b"item") {
-            Some(Kind::Item)
+            Some(RecordKind::Item)
         } else if says(word, b"bid") {
-            Some(Kind::Bid)
+            Some(RecordKind::Bid)
         } else if says(word, b"buy") {
-            Some(Kind::Buy)
+            Some(RecordKind::Buy)
         } else if says(word, b"close") {
-            Some(Kind::Close)
+            Some(RecordKind::Close)
         } else if says(word, b"comment") {
-            Some(Kind::Comment)
+            Some(RecordKind::Comment)
         } else if says(word, b"pass") {
-            Some(Kind::Pass)
+            Some(RecordKind::Pass)
         } else if says(word, b"list") {
-            Some(Kind::List)
+            Some(RecordKind::List)
         } else if says(word, b"restock") {
-            Some(Kind::Restock)
+            Some(RecordKind::Restock)
         } else if says(word, b"rename") {
-            Some(Kind::Rename)
+            Some(RecordKind::Rename)
         } else {
             None
         }

@@ -5,7 +5,7 @@ ghost use Rattle.rubis_message.specs.Forms.{Takes, at_end, take_id, take_name, t
 ghost use Rattle.rubis_message.specs.Readings.{take_kind, take_shown};
 
 use crate::faults::ReadFault;
-use crate::kinds::{Kind, Shown, says};
+use crate::kinds::{RecordKind, Shown, says};
 use rubis_schema::{Id, Name, Nick, Record, Text, read_number, read_rating};
 use std::alloc::Global;
 use std::marker::Model;
@@ -67,10 +67,10 @@ impl<'a, F: Record> Reader<'a, F> {
 
     /// A word for a kind.
     #[tactic(auto, unfolding(crate::specs::Readings::take_kind))]
-    pub fn kind(&mut self) -> Result<Kind, ReadFault>
+    pub fn kind(&mut self) -> Result<RecordKind, ReadFault>
         ensures { Takes take_kind self.old self.new result }
     {
-        Kind::read(self.field()?).ok_or(ReadFault::BadRecord)
+        RecordKind::read(self.field()?).ok_or(ReadFault::BadRecord)
     }
 
     /// A word for what a listing shows.

@@ -4,7 +4,7 @@ ghost use Rattle.rubis_message.specs.Grammar.{IsRequest, request_record};
 ghost use Rattle.rubis_message.specs.Readings.{request_of, take_asked_close, take_asked_rename, take_asked_restock, take_listing, take_request};
 
 use crate::faults::ReadFault;
-use crate::kinds::{Kind, Shown};
+use crate::kinds::{RecordKind, Shown};
 use crate::readers::Reader;
 use rubis_schema::{CAT_MAX, Listing, PASS_MAX, QUANTITY_MAX, Record};
 use rubis_shadow::{Ask, AskedClose, AskedRename, AskedRestock};
@@ -79,16 +79,16 @@ impl<'a, F: Record> Reader<'a, F> {
         ensures { Takes (take_request sites) self.old self.new result }
     {
         match self.kind()? {
-            Kind::User => Ok(Request::Ask(Ask::User(self.nick()?))),
-            Kind::Item => Ok(Request::Ask(Ask::Item(self.new_item(alloc, sites)?))),
-            Kind::Bid => Ok(Request::Ask(Ask::Bid(self.new_bid(sites)?))),
-            Kind::Buy => Ok(Request::Ask(Ask::Buy(self.purchase(sites)?))),
-            Kind::Close => Ok(Request::Ask(Ask::Close(self.asked_close(sites)?))),
-            Kind::Comment => Ok(Request::Ask(Ask::Comment(self.comment(alloc, sites)?))),
-            Kind::Pass => Ok(Request::Pass(self.number(PASS_MAX)? as u8)),
-            Kind::List => Ok(Request::List(self.listing(sites)?)),
-            Kind::Restock => Ok(Request::Ask(Ask::Restock(self.asked_restock(sites)?))),
-            Kind::Rename => Ok(Request::Ask(Ask::Rename(self.asked_rename(sites)?))),
+            RecordKind::User => Ok(Request::Ask(Ask::User(self.nick()?))),
+            RecordKind::Item => Ok(Request::Ask(Ask::Item(self.new_item(alloc, sites)?))),
+            RecordKind::Bid => Ok(Request::Ask(Ask::Bid(self.new_bid(sites)?))),
+            RecordKind::Buy => Ok(Request::Ask(Ask::Buy(self.purchase(sites)?))),
+            RecordKind::Close => Ok(Request::Ask(Ask::Close(self.asked_close(sites)?))),
+            RecordKind::Comment => Ok(Request::Ask(Ask::Comment(self.comment(alloc, sites)?))),
+            RecordKind::Pass => Ok(Request::Pass(self.number(PASS_MAX)? as u8)),
+            RecordKind::List => Ok(Request::List(self.listing(sites)?)),
+            RecordKind::Restock => Ok(Request::Ask(Ask::Restock(self.asked_restock(sites)?))),
+            RecordKind::Rename => Ok(Request::Ask(Ask::Rename(self.asked_rename(sites)?))),
         }
     }
 }

@@ -6,7 +6,7 @@ ghost use Rattle.rubis_message.specs.Grammar as grammar;
 ghost use Rattle.rubis_message.specs.Readings.{take_close, take_rename, take_restock, take_shadow};
 
 use crate::faults::ReadFault;
-use crate::kinds::Kind;
+use crate::kinds::RecordKind;
 use crate::readers::Reader;
 use rubis_schema::{CAT_MAX, QUANTITY_MAX, Record};
 use rubis_shadow::{NewClose, NewRename, NewRestock, Shadow};
@@ -58,15 +58,15 @@ impl<'a, F: Record> Reader<'a, F> {
         ensures { Takes (take_shadow sites) self.old self.new result }
     {
         match self.kind()? {
-            Kind::User => Ok(Shadow::User(self.nick()?)),
-            Kind::Item => Ok(Shadow::Item(self.new_item(alloc, sites)?)),
-            Kind::Bid => Ok(Shadow::Bid(self.new_bid(sites)?)),
-            Kind::Buy => Ok(Shadow::Buy(self.purchase(sites)?)),
-            Kind::Close => Ok(Shadow::Close(self.new_close(sites)?)),
-            Kind::Comment => Ok(Shadow::Comment(self.comment(alloc, sites)?)),
-            Kind::Restock => Ok(Shadow::Restock(self.new_restock(sites)?)),
-            Kind::Rename => Ok(Shadow::Rename(self.new_rename(sites)?)),
-            Kind::Pass | Kind::List => Err(ReadFault::BadRecord),
+            RecordKind::User => Ok(Shadow::User(self.nick()?)),
+            RecordKind::Item => Ok(Shadow::Item(self.new_item(alloc, sites)?)),
+            RecordKind::Bid => Ok(Shadow::Bid(self.new_bid(sites)?)),
+            RecordKind::Buy => Ok(Shadow::Buy(self.purchase(sites)?)),
+            RecordKind::Close => Ok(Shadow::Close(self.new_close(sites)?)),
+            RecordKind::Comment => Ok(Shadow::Comment(self.comment(alloc, sites)?)),
+            RecordKind::Restock => Ok(Shadow::Restock(self.new_restock(sites)?)),
+            RecordKind::Rename => Ok(Shadow::Rename(self.new_rename(sites)?)),
+            RecordKind::Pass | RecordKind::List => Err(ReadFault::BadRecord),
         }
     }
 }

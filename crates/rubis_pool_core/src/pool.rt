@@ -157,7 +157,7 @@ impl Pool {
     }
 }
 
-// So many workers that hold nothing.
+// As many workers as `workers` says, none of which holds a piece.
 fn free_workers(alloc: Global, workers: usize) -> Result<Vec<Option<Work>>, AllocError>
     ensures { IfOk result (λ held. held.items ≡ replicate workers None) }
 {

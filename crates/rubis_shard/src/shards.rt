@@ -228,9 +228,9 @@ impl Shard {
         Ok(())
     }
 
-    // What is held, or what holds nothing where it is out.
+    // What is held, or an empty store where it is out.
     #[inline(always)]
-    fn store_or_none(&mut self) -> Result<Boxed<Store>, AllocError>
+    fn store_or_empty(&mut self) -> Result<Boxed<Store>, AllocError>
         ensures taken { IfOk result (λ store. held_by store ≡ self.old.folded) }
         ensures own { HoldsOwnRows self.old }
         ensures left { OnOk result (self.new ≡ emptied self.old) }
@@ -251,7 +251,7 @@ impl Shard {
         ensures left { OnOk result (self.new ≡ emptied self.old) }
         ensures err { OnErr result (self.new ≡ self.old) }
     {
-        let mut store = self.store_or_none()?;
+        let mut store = self.store_or_empty()?;
         if let Err(refused) = store.get_mut().make_room(parts) {
             self.put_store(store);
             return Err(refused);

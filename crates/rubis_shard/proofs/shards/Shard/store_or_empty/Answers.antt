@@ -4,7 +4,7 @@ use Rattle.rubis_model.specs.Shares.{part_of}
 use Rattle.rubis_shard.specs.Stores.{held_in, nothing_held}
 use Rattle.rubis_shard.specs.declared.shard_store.Store.{Store}
 use Rattle.rubis_shard.proofs.Openings.{part_empty}
-use Rattle.rubis_shard.proofs.shards.Shard.store_or_none.Goals as goal
+use Rattle.rubis_shard.proofs.shards.Shard.store_or_empty.Goals as goal
 
 pub invariant_of-self : goal.invariant_of-self
 invariant_of-self c =
