@@ -1,6 +1,6 @@
 -- Entries in key order stand table by table.
 use Rattle.std.proofs.Common.{◌≡◌, ℕ, ◌+◌, ◌<◌, ◌≤◌, inl, inr, Bool, true, false, cond, T, List, [], ◌∷◌, ◌++◌, ◌&&◌, refl, sym, ap, ◌∙◌, arith}
-use Rattle.std.specs.Prelude.{⊤, filter, nat_eq, nat_le, nat_lt, ◌==◌}
+use Rattle.std.specs.Prelude.{⊤, filter, flat_map, nat_eq, nat_le, nat_lt, ◌==◌}
 use Rattle.std.specs.Cmp.Lexicographic.{slice_cmp}
 use Rattle.std.specs.Ordering.{nat_cmp, is_lt, ordering_then}
 use Rattle.std.specs.declared.cmp.Ordering.{Ordering}
@@ -12,6 +12,7 @@ use Rattle.std.proofs.lemmas.Bool.Decides.{nat_tests}
 use Rattle.std.proofs.lemmas.List.{append-nil}
 use Rattle.rubis_schema.specs.Keys.{holds, key_code, key_order, table_of}
 use Rattle.rubis_schema.specs.Tables.{Tables}
+use Rattle.rubis_schema.specs.declared.listings.Listing.{Listing}
 use Rattle.rubis_schema.specs.declared.listings.Listing.TheVariants as listing
 use Rattle.rubis_schema.specs.declared.row_keys.RowKey.{RowKey}
 use Rattle.rubis_schema.specs.declared.row_keys.RowKey.TheVariants as key
@@ -20,7 +21,8 @@ use Rattle.rubis_schema.specs.declared.row_keys.Table.TheVariants as table
 use Rattle.rubis_schema.specs.declared.rows.Row.{Row}
 use Rattle.rubis_shadow.specs.Tables.{rows_of}
 use Rattle.rubis_model.specs.Listings.{records_of, table_rows}
-use Rattle.rubis_listing.proofs.Selecting.{Entries, records_append}
+use Rattle.rubis_listing.specs.ByTable.{tables_of}
+use Rattle.rubis_listing.proofs.Selecting.{Entries, IsWithin, bids_within, categories_within, comments_within, items_within, one_table, purchases_within, records_append, shows_none, users_within}
 
 -- ---- keys in order have tables in order
 
@@ -236,10 +238,10 @@ rows_at : (t : Table) (m : Tables) → at (number_of t) (map.entries m) ≡ rows
 rows_at t m = ap (λ (p : RowKey × Row → Bool). filter p (map.entries m)) (sym (λ i e. held t e.0 i))
 
 -- the rows of one table that are shown
-abbrev pub table_shown : Table → Tables → List (List (List ℕ))
+abbrev table_shown : Table → Tables → List (List (List ℕ))
 table_shown t m = records_of listing.Tables (rows_of t m)
 
-pub table_by_table : (m : Tables) → table_shown table.Users m ++ (table_shown table.Items m ++ (table_shown table.Bids m
+table_by_table : (m : Tables) → table_shown table.Users m ++ (table_shown table.Items m ++ (table_shown table.Bids m
     ++ (table_shown table.Purchases m ++ (table_shown table.Comments m ++ table_shown table.Cats m)))) ≡ table_rows listing.Tables m
 table_by_table m =
     let es = map.entries m in
@@ -253,3 +255,26 @@ table_by_table m =
     let second = next_table 2 es rise ∙ (λ i. part table.Bids i ++ third i) in
     let first = next_table 1 es rise ∙ (λ i. part table.Items i ++ second i) in
     sym (ap shown (sym (all_from es)) ∙ next_table 0 es rise ∙ (λ i. part table.Users i ++ first i))
+
+-- ---- a listing, table by table
+
+-- what the tables of a list add
+abbrev pub rows_by_table : Listing → Tables → List Table → List (List (List ℕ))
+rows_by_table l m ts = flat_map (λ t. records_of l (rows_of t m)) ts
+
+one_of : (l : Listing) (t : Table) → IsWithin l t → (m : Tables) → rows_by_table l m (t ∷ []) ≡ table_rows l m
+one_of l t w m = append-nil (records_of l (rows_of t m)) ∙ one_table l t w m
+
+pub all_by_table : (l : Listing) (m : Tables) → rows_by_table l m (tables_of l) ≡ table_rows l m
+all_by_table listing.Users m = one_of listing.Users table.Users users_within m
+all_by_table (listing.Items cat) m = one_of (listing.Items cat) table.Items (items_within cat) m
+all_by_table (listing.Bids item) m = one_of (listing.Bids item) table.Bids (bids_within item) m
+all_by_table (listing.Purchases item) m = one_of (listing.Purchases item) table.Purchases (purchases_within item) m
+all_by_table (listing.Comments user) m = one_of (listing.Comments user) table.Comments (comments_within user) m
+all_by_table listing.Categories m = one_of listing.Categories table.Cats categories_within m
+all_by_table listing.Tables m =
+    ap (λ rows. table_shown table.Users m ++ (table_shown table.Items m ++ (table_shown table.Bids m
+    ++ (table_shown table.Purchases m ++ (table_shown table.Comments m ++ rows))))) (append-nil (table_shown table.Cats m))
+    ∙ table_by_table m
+all_by_table listing.Log m = sym (shows_none listing.Log m (inl refl))
+all_by_table listing.Misfits m = sym (shows_none listing.Misfits m (inr refl))

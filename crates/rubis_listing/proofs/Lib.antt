@@ -1,3 +1,4 @@
 pub mod Selecting
 pub mod ByTable
 pub mod Entering
+mod Making

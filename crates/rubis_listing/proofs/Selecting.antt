@@ -28,7 +28,7 @@ records_append l xs ys =
     ∙ flat_map-append (λ (e : RowKey × Row). row_record e.0 e.1) (filter (λ e. is_of l e.0 e.1) xs) (filter (λ e. is_of l e.0 e.1) ys)
 
 -- the listing is of no row outside the table
-abbrev IsWithin : Listing → Table → Type 0
+abbrev pub IsWithin : Listing → Table → Type 0
 IsWithin l t = (k : RowKey) (r : Row) → holds t k ≡ false → is_of l k r ≡ false
 
 -- a filter within a filter
@@ -82,10 +82,6 @@ none_of l none (e ∷ es) =
 pub shows_none : (l : Listing) (m : Tables) → (l ≡ listing.Log) ⊎ (l ≡ listing.Misfits) → table_rows l m ≡ []
 shows_none l m (inl e) = ap (λ x. table_rows x m) e ∙ none_of listing.Log (λ k r. refl) (map.entries m)
 shows_none l m (inr e) = ap (λ x. table_rows x m) e ∙ none_of listing.Misfits (λ k r. refl) (map.entries m)
-
--- a listing that is known to be of one table
-pub shown_by : (t : Table) (l k : Listing) → l ≡ k → IsWithin k t → (m : Tables) → records_of l (rows_of t m) ≡ table_rows l m
-shown_by t l k e w m = one_table l t (subst (λ x. IsWithin x t) (sym e) w) m
 
 -- a test that was passed passes again
 again : (h p : RowKey × Row → Bool) (es : Entries) → filter p (filter h (filter p es)) ≡ filter p (filter h es)

@@ -6,8 +6,12 @@ mod listings;
 mod logs;
 mod records;
 mod row_sinks;
+mod shared;
 
 pub use counted::Counted;
-pub use listings::{bids, categories, comments, items, list_tables, purchases, tables, users};
+pub use listings::{
+    bids, categories, comments, items, list_tables, list_tables_shared, purchases, tables, users,
+};
 pub use logs::{list_log, list_misfits, log, misfit_rows};
 pub use row_sinks::RowSink;
+pub use shared::SHARED_MIN;

@@ -1,16 +1,19 @@
 // The listings of the tables.
 
-ghost use Rattle.std.specs.Prelude.{◌≡◌, ◌∷◌, [], IfOk, OnOk};
+ghost use Rattle.std.specs.Prelude.{◌≡◌, ◌∷◌, [], IfOk, OnOk, map as each};
 ghost use Rattle.rubis_schema.specs.declared.listings.Listing.TheVariants as Shown;
-ghost use Rattle.rubis_shadow.specs.Tables.{rows_of};
 ghost use Rattle.rubis_model.specs.Listings.{records_of, table_rows};
 ghost use Rattle.rubis_shard.specs.Holdings.{union};
+ghost use Rattle.rubis_shard.specs.Written.{shown};
+ghost use Rattle.rubis_listing.specs.ByTable.{tables_of};
 
 use crate::records::put_record;
 use crate::row_sinks::RowSink;
+use crate::shared::put_rows_shared;
 use rubis_schema::{Fields, Id, Items, Listing, Row, RowKey, Table};
 use rubis_shard::{Tables, selects};
 use std::alloc::{AllocError, Global};
+use std::thread::Threads;
 
 // Adds the row at a key, where the listing is of it and it has a record.
 fn put_row<S: RowSink>(
@@ -28,35 +31,43 @@ fn put_row<S: RowSink>(
     Ok(())
 }
 
-// Adds those rows of one table that the listing is of.
-fn list_table<S: RowSink>(
+// Adds those of some rows that the listing is of.
+pub fn put_rows<S: RowSink>(
     alloc: Global,
     sink: &mut S,
     listing: &Listing,
-    tables: &Tables,
-    table: Table,
+    rows: &[(RowKey, &Row)],
 ) -> Result<(), AllocError>
-    ensures { OnOk result (S.adds (records_of listing.now (rows_of table (union tables.now))) sink.old sink.new) }
+    ensures { OnOk result (S.adds (records_of listing.now (each shown rows.now)) sink.old sink.new) }
 {
     let mut record = Fields::new(alloc);
-    for (key, row) in tables.listed(alloc, table, listing)? {
-        put_row(sink, &mut record, listing, &key, row)?;
+    for (key, row) in rows {
+        put_row(sink, &mut record, listing, key, row)?;
     }
     Ok(())
 }
 
-// Adds the rows of all tables.
-fn list_all<S: RowSink>(alloc: Global, sink: &mut S, tables: &Tables) -> Result<(), AllocError>
-    ensures { OnOk result (S.adds (table_rows Shown.Tables (union tables.now)) sink.old sink.new) }
+// The tables whose rows a listing shows, in the order of their keys.
+fn tables_of(listing: &Listing) -> &'static [Table]
+    ensures { result.now ≡ tables_of listing.now }
 {
-    let all = Listing::Tables;
-    list_table(alloc, sink, &all, tables, Table::Users)?;
-    list_table(alloc, sink, &all, tables, Table::Items)?;
-    list_table(alloc, sink, &all, tables, Table::Bids)?;
-    list_table(alloc, sink, &all, tables, Table::Purchases)?;
-    list_table(alloc, sink, &all, tables, Table::Comments)?;
-    list_table(alloc, sink, &all, tables, Table::Cats)?;
-    Ok(())
+    match listing {
+        Listing::Users => &[Table::Users],
+        Listing::Items(_) => &[Table::Items],
+        Listing::Bids(_) => &[Table::Bids],
+        Listing::Purchases(_) => &[Table::Purchases],
+        Listing::Comments(_) => &[Table::Comments],
+        Listing::Categories => &[Table::Cats],
+        Listing::Tables => &[
+            Table::Users,
+            Table::Items,
+            Table::Bids,
+            Table::Purchases,
+            Table::Comments,
+            Table::Cats,
+        ],
+        Listing::Log | Listing::Misfits => &[],
+    }
 }
 
 /// Adds the rows of a listing of the tables, in key order. Those of the log and of misfits show no rows of tables.
@@ -68,16 +79,29 @@ pub fn list_tables<S: RowSink>(
 ) -> Result<(), AllocError>
     ensures { OnOk result (S.adds (table_rows listing.now (union tables.now)) sink.old sink.new) }
 {
-    match listing {
-        Listing::Users => list_table(alloc, sink, listing, tables, Table::Users),
-        Listing::Items(_) => list_table(alloc, sink, listing, tables, Table::Items),
-        Listing::Bids(_) => list_table(alloc, sink, listing, tables, Table::Bids),
-        Listing::Purchases(_) => list_table(alloc, sink, listing, tables, Table::Purchases),
-        Listing::Comments(_) => list_table(alloc, sink, listing, tables, Table::Comments),
-        Listing::Categories => list_table(alloc, sink, listing, tables, Table::Cats),
-        Listing::Tables => list_all(alloc, sink, tables),
-        Listing::Log | Listing::Misfits => Ok(()),
+    for table in tables_of(listing) {
+        let rows = tables.listed(alloc, *table, listing)?;
+        put_rows(alloc, sink, listing, &rows)?;
     }
+    Ok(())
+}
+
+/// Adds the rows of a listing of the tables as `list_tables` does. Where at least SHARED_MIN rows of a table are listed, as many
+/// threads as there are processors make their records, a range of rows at a time, and the caller's thread adds them.
+pub fn list_tables_shared<S: RowSink, R: Threads + Sync>(
+    rt: &R,
+    alloc: Global,
+    sink: &mut S,
+    listing: &Listing,
+    tables: &Tables,
+) -> Result<(), AllocError>
+    ensures { OnOk result (S.adds (table_rows listing.now (union tables.now)) sink.old sink.new) }
+{
+    for table in tables_of(listing) {
+        let rows = tables.listed(alloc, *table, listing)?;
+        put_rows_shared(rt, alloc, sink, listing, &rows)?;
+    }
+    Ok(())
 }
 
 // The rows of a listing of the tables as a list.

@@ -1,9 +1,13 @@
 -- Parts dealt to the shares of their homes, one after the other.
-use Rattle.std.proofs.Common.{ℕ, ◌≡◌, ◌+◌, ◌<◌, List, [], ◌∷◌, ◌++◌, length, take, get_or, set, cond, sym, ap, ◌∙◌, subst}
+use Rattle.std.proofs.Common.{ℕ, ◌≡◌, ◌+◌, ◌<◌, List, [], ◌∷◌, ◌++◌, length, take, get_or, set, cond, refl, sym, ap, ◌∙◌, subst}
 use Rattle.std.proofs.Common.{arith, append_assoc, length-set, ⊎_elim}
-use Rattle.std.specs.Prelude.{Some, None, slice_get}
+use Rattle.std.specs.Prelude.{Some, None, Ok, Err, IfOk, MatchResult, map, slice_get}
 use Rattle.std.proofs.lemmas.Bool.{cases_eq, cases_lt}
 use Rattle.std.proofs.lemmas.Bool.Decides.{Decides-eqb}
+use Rattle.std.specs.List.{AllZip, range_with_len}
+use Rattle.std.specs.declared.alloc.AllocError.{AllocError}
+use Rattle.std.specs.declared.result.Result.{Result}
+use Rattle.std.proofs.lemmas.List.FromFn.{get_or-map-range_with_len, length-map-range_with_len}
 use Rattle.std.proofs.lemmas.List.{append-nil, take_more, take_all, length-map, length-take-le}
 use Rattle.std.proofs.lemmas.Option.{slice_get-get_or, slice_get_within, get_or_from_slice_get}
 use Rattle.rubis_schema.specs.Keys.{home}
@@ -14,7 +18,7 @@ use Rattle.rubis_shadow.specs.declared.numbered.Numbered.{Numbered}
 use Rattle.rubis_shadow.specs.declared.shadows.Shadow.{Shadow}
 use Rattle.rubis_shadow.proofs.Lists.{few_parts}
 use Rattle.rubis_message.specs.Message.{Message}
-use Rattle.rubis_model.specs.Log.{core, cores, number_parts, numbered_from, parts_of}
+use Rattle.rubis_model.specs.Log.{Core, core, cores, number_parts, numbered_from, parts_of}
 use Rattle.rubis_model.proofs.CoreLists.{cores_push}
 use Rattle.rubis_model.proofs.Shares.{numbered_append}
 use Rattle.rubis_shard.specs.Holdings.{parts_at}
@@ -22,7 +26,7 @@ use Rattle.rubis_shard.specs.declared.shares.Share.{Share}
 use Rattle.rubis_shard.proofs.Folds.{not_equal}
 use Rattle.rubis_shard.proofs.Parts.{parts_at_append}
 use Rattle.rubis_shard.proofs.Items.{written_here, written_elsewhere}
-use Rattle.rubis_pieces.specs.Shares.{AreDealt}
+use Rattle.rubis_pieces.specs.Shares.{AreDealt, AreShares, share_at}
 
 -- ---- one part
 here : (shards k : ℕ) (ns : List Numbered) (n : Numbered) → home shards n.effect.key ≡ k
@@ -92,6 +96,20 @@ take_none (x ∷ xs) i e = ⊎_elim
     (λ l. (let s = slice_get-get_or (x ∷ xs) i x l in absurd cc))
     (λ l. take_all (i + 1) (x ∷ xs) (omega (arith, l)) ∙ sym (take_all i (x ∷ xs) l)) (cases_lt i (length (x ∷ xs)))
 
+-- one place more, where there is a part, and where there is none
+next_part : (entry i : ℕ) (id : Id) (es : List Effect) (e f : Effect) → Some e ≡ slice_get es i → f ≡ e
+    → number_parts entry 1 id (take (i + 1) es) ≡ number_parts entry 1 id (take i es) ++ record { entry = entry; part = i + 1; id = id; effect = f } ∷ []
+next_part entry i id es e f there copied =
+    let within = slice_get_within es i e (sym there) in
+    let long : length (take i es) ≡ i = length-take-le i es (omega (arith, within)) in
+    let z : 1 + length (take i es) ≡ i + 1 = omega (arith, long) in
+    ap (number_parts entry 1 id) (take_one es i e (sym there)) ∙ number_parts_push entry 1 id (take i es) e
+    ∙ (λ j. number_parts entry 1 id (take i es) ++ record { entry = entry; part = z j; id = id; effect = sym copied j } ∷ [])
+
+no_part : (entry i : ℕ) (id : Id) (es : List Effect) → None ≡ slice_get es i
+    → number_parts entry 1 id (take (i + 1) es) ≡ number_parts entry 1 id (take i es)
+no_part entry i id es there = ap (number_parts entry 1 id) (take_none es i (sym there))
+
 -- the parts before a place are dealt
 abbrev pub IsDealtTo : ℕ → List Numbered → List Share → List Share → Type 0
 IsDealtTo shards ps a b = (ns : List Numbered) → AreDealt shards ns a → AreDealt shards (ns ++ ps) b
@@ -102,27 +120,14 @@ pub place_turn : (shards entry i m : ℕ) (id : Id) (es : List Effect) (e f : Ef
     → IsDealtTo m (record { entry = entry; part = i + 1; id = id; effect = f } ∷ []) l b
     → IsDealtTo shards (number_parts entry 1 id (take (i + 1) es)) a b
 place_turn shards entry i m id es e f a l b same there copied inv turn ns h =
-    let within = slice_get_within es i e (sym there) in
-    let long : length (take i es) ≡ i = length-take-le i es (omega (arith, within)) in
-    let z : 1 + length (take i es) ≡ i + 1 = omega (arith, long) in
-    let more : number_parts entry 1 id (take (i + 1) es) ≡ number_parts entry 1 id (take i es) ++ record {
-      entry = entry;
-      part
-          = i + 1;
-      id = id;
-      effect = f;
-    } ∷ [] =
-    ap (number_parts entry 1 id) (take_one es i e (sym there)) ∙ number_parts_push entry 1 id (take i es) e
-    ∙ (λ j. number_parts entry 1 id (take i es) ++ record { entry = entry; part = z j; id = id; effect = sym copied j } ∷ []) in
     let done = subst (λ k. IsDealtTo k (record { entry = entry; part = i + 1; id = id; effect = f } ∷ []) l b) same turn _ (inv
     ns h) in
-    subst (λ ps. AreDealt shards ps b) (append_assoc ns _ _ ∙ ap (λ ps. ns ++ ps) (sym more)) done
+    subst (λ ps. AreDealt shards ps b) (append_assoc ns _ _ ∙ ap (λ ps. ns ++ ps) (sym (next_part entry i id es e f there copied))) done
 
 pub place_past : (shards entry i : ℕ) (id : Id) (es : List Effect) (a l : List Share) → None ≡ slice_get es i
     → IsDealtTo shards (number_parts entry 1 id (take i es)) a l
     → IsDealtTo shards (number_parts entry 1 id (take (i + 1) es)) a l
-place_past shards entry i id es a l there inv = subst (λ fs. IsDealtTo shards (number_parts entry 1 id fs) a l) (sym (take_none
-    es i (sym there))) inv
+place_past shards entry i id es a l there inv = subst (λ ps. IsDealtTo shards ps a l) (sym (no_part entry i id es there)) inv
 
 all_places : (id : Id) (red : ℕ) (s : Shadow) → take 3 (parts id red s) ≡ parts id red s
 all_places id red s = take_all 3 (parts id red s) (few_parts id red s)
@@ -134,19 +139,98 @@ message_end shards entry red i id s a l end inv =
     subst (λ fs. IsDealtTo shards (number_parts entry 1 id fs) a l) (ap (λ n. take n (parts id red s)) end
     ∙ all_places id red s) inv
 
+-- ---- the parts of one message whose home is one shard
+-- behind some effects, the parts before a place whose home it is
+abbrev pub IsTakenTo : ℕ → ℕ → List Numbered → List Numbered → List Numbered → Type 0
+IsTakenTo shards k ps a b = b ≡ a ++ parts_at shards k ps
+
+pub take_here : (shards k entry i : ℕ) (id : Id) (es : List Effect) (e f : Effect) (a l b : List Numbered)
+    → Some e ≡ slice_get es i → f ≡ e → home shards f.key ≡ k
+    → b ≡ l ++ record { entry = entry; part = i + 1; id = id; effect = f } ∷ []
+    → IsTakenTo shards k (number_parts entry 1 id (take i es)) a l
+    → IsTakenTo shards k (number_parts entry 1 id (take (i + 1) es)) a b
+take_here shards k entry i id es e f a l b there copied at pushed inv =
+    let n : Numbered = record { entry = entry; part = i + 1; id = id; effect = f } in
+    pushed ∙ ap (λ x. x ++ n ∷ []) inv ∙ append_assoc a _ (n ∷ [])
+    ∙ ap (λ ps. a ++ ps) (sym (here shards k (number_parts entry 1 id (take i es)) n at)
+    ∙ ap (parts_at shards k) (sym (next_part entry i id es e f there copied)))
+
+pub take_elsewhere : (shards k entry i : ℕ) (id : Id) (es : List Effect) (e : Effect) (a l : List Numbered)
+    → Some e ≡ slice_get es i → ¬ (home shards e.key ≡ k)
+    → IsTakenTo shards k (number_parts entry 1 id (take i es)) a l
+    → IsTakenTo shards k (number_parts entry 1 id (take (i + 1) es)) a l
+take_elsewhere shards k entry i id es e a l there other inv =
+    let n : Numbered = record { entry = entry; part = i + 1; id = id; effect = e } in
+    inv ∙ ap (λ ps. a ++ ps) (sym (elsewhere shards k (number_parts entry 1 id (take i es)) n other)
+    ∙ ap (parts_at shards k) (sym (next_part entry i id es e e there refl)))
+
+pub take_past : (shards k entry i : ℕ) (id : Id) (es : List Effect) (a l : List Numbered) → None ≡ slice_get es i
+    → IsTakenTo shards k (number_parts entry 1 id (take i es)) a l
+    → IsTakenTo shards k (number_parts entry 1 id (take (i + 1) es)) a l
+take_past shards k entry i id es a l there inv = inv
+    ∙ ap (λ ps. a ++ parts_at shards k ps) (sym (no_part entry i id es there))
+
+pub take_end : (shards k entry red i : ℕ) (id : Id) (s : Shadow) (a l : List Numbered) → i ≡ 3
+    → IsTakenTo shards k (number_parts entry 1 id (take i (parts id red s))) a l
+    → IsTakenTo shards k (number_parts entry 1 id (parts id red s)) a l
+take_end shards k entry red i id s a l end inv = inv
+    ∙ ap (λ fs. a ++ parts_at shards k (number_parts entry 1 id fs)) (ap (λ n. take n (parts id red s)) end ∙ all_places id red s)
+
 -- ---- the messages of a batch
+-- one message more
+more_messages : (first i entry : ℕ) (batch : List Message) (x : Message) (ps : List Numbered) → i < length batch
+    → x ≡ get_or batch i x → entry ≡ first + i → ps ≡ number_parts entry 1 (core x).id (parts_of (core x))
+    → numbered_from first (cores (take (i + 1) batch)) ≡ numbered_from first (cores (take i batch)) ++ ps
+more_messages first i entry batch x ps lt got counted is =
+    let long : length (cores (take i batch)) ≡ i = length-map (take i batch) core ∙ length-take-le i batch (omega (arith, lt)) in
+    let z : first + length (cores (take i batch)) ≡ entry = omega (arith, long, counted) in
+    ap (λ ms. numbered_from first (cores ms)) (take_more batch i x lt ∙ ap (λ y. take i batch ++ y ∷ []) (sym got))
+    ∙ ap (numbered_from first) (cores_push (take i batch) x)
+    ∙ numbered_append first (cores (take i batch)) (core x ∷ [])
+    ∙ (λ j. numbered_from first (cores (take i batch)) ++ (number_parts (z j) 1 (core x).id (parts_of (core x)) ++ []))
+    ∙ ap (λ qs. numbered_from first (cores (take i batch)) ++ qs) (append-nil _ ∙ sym is)
+
 pub split_turn : (shards first i entry m : ℕ) (batch : List Message) (x : Message) (ps : List Numbered) (l b : List Share)
     → m ≡ shards → i < length batch
     → x ≡ get_or batch i x → entry ≡ first + i → ps ≡ number_parts entry 1 (core x).id (parts_of (core x))
     → AreDealt shards (numbered_from first (cores (take i batch))) l → IsDealtTo m ps l b
     → AreDealt shards (numbered_from first (cores (take (i + 1) batch))) b
 split_turn shards first i entry m batch x ps l b same lt got counted is h turn =
-    let long : length (cores (take i batch)) ≡ i = length-map (take i batch) core ∙ length-take-le i batch (omega (arith, lt)) in
-    let z : first + length (cores (take i batch)) ≡ entry = omega (arith, long, counted) in
-    let more : numbered_from first (cores (take (i + 1) batch)) ≡ numbered_from first (cores (take i batch)) ++ ps =
-    ap (λ ms. numbered_from first (cores ms)) (take_more batch i x lt ∙ ap (λ y. take i batch ++ y ∷ []) (sym got))
-    ∙ ap (numbered_from first) (cores_push (take i batch) x)
-    ∙ numbered_append first (cores (take i batch)) (core x ∷ [])
-    ∙ (λ j. numbered_from first (cores (take i batch)) ++ (number_parts (z j) 1 (core x).id (parts_of (core x)) ++ []))
-    ∙ ap (λ qs. numbered_from first (cores (take i batch)) ++ qs) (append-nil _ ∙ sym is) in
-    subst (λ qs. AreDealt shards qs b) (sym more) (subst (λ k. IsDealtTo k ps l b) same turn _ h)
+    subst (λ qs. AreDealt shards qs b) (sym (more_messages first i entry batch x ps lt got counted is))
+    (subst (λ k. IsDealtTo k ps l b) same turn _ h)
+
+-- one shard's parts of one message more
+pub share_turn : (shards k first i entry : ℕ) (batch : List Message) (x : Message) (ps l b : List Numbered) → i < length batch
+    → x ≡ get_or batch i x → entry ≡ first + i → ps ≡ number_parts entry 1 (core x).id (parts_of (core x))
+    → l ≡ parts_at shards k (numbered_from first (cores (take i batch))) → IsTakenTo shards k ps l b
+    → b ≡ parts_at shards k (numbered_from first (cores (take (i + 1) batch)))
+share_turn shards k first i entry batch x ps l b lt got counted is h turn =
+    turn ∙ ap (λ qs. qs ++ parts_at shards k ps) h
+    ∙ sym (parts_at_append shards k (numbered_from first (cores (take i batch))) ps)
+    ∙ ap (parts_at shards k) (sym (more_messages first i entry batch x ps lt got counted is))
+
+-- ---- the shares made one by one
+pub shares_of_each : (shards first : ℕ) (batch : List Core) (shares : List Share)
+    → shares ≡ map (share_at shards (numbered_from first batch)) (range_with_len 0 shards) → AreShares shards first batch shares
+shares_of_each shards first batch shares is = record {
+  many = ap length is ∙ length-map-range_with_len f 0 shards;
+  each = λ k lt.
+      let within : k < length (map f (range_with_len 0 shards)) = let m = length-map-range_with_len f 0 shards in omega (arith, m, lt) in
+      ap (λ l. slice_get l k) is ∙ slice_get-get_or (map f (range_with_len 0 shards)) k (f k) within
+      ∙ ap Some (get_or-map-range_with_len f 0 shards k k (f k) lt (omega arith));
+}
+  where
+    f : ℕ → Share
+    f = share_at shards (numbered_from first batch)
+
+pub made_each : (f : ℕ → Share) (ks : List ℕ) (shares : List Share)
+    → AllZip (λ k (r : Result Share AllocError). IfOk r (λ share. share ≡ f k)) ks (map Ok shares) → shares ≡ map f ks
+made_each f [] [] h = refl
+made_each f [] (s ∷ ss) h = absurd h
+made_each f (k ∷ ks) [] h = absurd h
+made_each f (k ∷ ks) (s ∷ ss) h = λ i. h.0 i ∷ made_each f ks ss h.1 i
+
+-- what follows where there is no error
+pub if_ok : {T E : Type 0} (r : Result T E) (P Q : T → Type 0) (R : E → Type 0) → MatchResult r P R → ((v : T) → P v → Q v) → IfOk r Q
+if_ok (Ok v) P Q R h f = f v h
+if_ok (Err e) P Q R h f = tt

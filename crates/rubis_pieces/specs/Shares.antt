@@ -5,6 +5,10 @@ use Rattle.rubis_model.specs.Log.{Core, numbered_from}
 use Rattle.rubis_shard.specs.Holdings.{parts_at}
 use Rattle.rubis_shard.specs.declared.shares.Share.{Share}
 
+-- a share of one shard: the parts whose home it is, in their order
+abbrev pub share_at : ℕ → List Numbered → ℕ → Share
+share_at shards ns k = record { number = k; effects = parts_at shards k ns }
+
 -- each part in the share of its home, in their order
 pub record AreDealt (shards : ℕ) (ns : List Numbered) (shares : List Share) : Type 0 where
   pub many : length shares ≡ shards

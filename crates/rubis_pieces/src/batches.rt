@@ -7,7 +7,7 @@ ghost use Rattle.rubis_pieces.specs.Pieces.{IsShareOf};
 
 use crate::gathers::{Gathered, Places, gather};
 use crate::pieces::{Done, Left, Piece};
-use crate::splits::split;
+use crate::splits::split_alone;
 use rubis_message::Message;
 use rubis_schema::Items;
 use rubis_shard::{Shard, Share, Tables};
@@ -78,7 +78,7 @@ pub fn apply_batch(
     ensures err { OnErr result (tables.new ≡ tables.old) }
 {
     let many = tables.len();
-    let shares = split(alloc, batch, first, many)?;
+    let shares = split_alone(alloc, batch, first, many)?;
     let places = Places::new(alloc, many)?;
     let list = Vec::with_capacity(alloc, many)?;
     let gathered = fold_all(tables.take(), shares, list, places);

@@ -1,14 +1,27 @@
 ghost use Rattle.std.specs.Prelude.{◌≡◌, ◌+◌, ◌<◌, ◌≤◌, List, ◌∷◌, [], ◌++◌, length, IfOk, OnOk};
 ghost use Rattle.rubis_shadow.specs.declared.numbered.Numbered.{Numbered};
 ghost use Rattle.rubis_shadow.specs.Parts.{parts};
-ghost use Rattle.rubis_model.specs.Log.{cores, number_parts};
-ghost use Rattle.rubis_pieces.specs.Shares.{AreDealt, AreShares};
+ghost use Rattle.rubis_model.specs.Log.{cores, number_parts, numbered_from};
+ghost use Rattle.rubis_shard.specs.Holdings.{parts_at};
+ghost use Rattle.rubis_pieces.specs.Shares.{AreDealt, AreShares, share_at};
 
+use rayon::prelude::*;
 use rubis_message::Message;
 use rubis_schema::{Id, Items, shard_of};
 use rubis_shadow::{Numbered, Shadow};
 use rubis_shard::Share;
 use std::alloc::{AllocError, Global};
+use std::thread::Threads;
+
+/// From this many messages on, several threads make the shares of a batch.
+pub const SPLIT_MIN: usize = 2_048;
+
+/// Of more shards than this, one thread makes the shares, since each thread looks at every message for each shard that it
+/// makes the share of.
+pub const SPLIT_SHARDS_MAX: usize = 16;
+
+// The room that a share begins with, for each message: most messages have two parts, and their homes are spread unevenly.
+const PARTS_ROOM: usize = 3;
 
 // Puts a part last in the share of its home.
 fn deal(list: &mut Vec<Share>, part: Numbered) -> Result<(), AllocError>
@@ -51,9 +64,8 @@ fn deal_message(
     Ok(())
 }
 
-/// The shares of a batch, one for each of `shards` shards, in order of number: the parts whose home the shard is, in
-/// order of entry and part. The batch's first message is entry `first` of the log, from 1; no entry is above 1,000,000.
-pub fn split(
+// The shares of a batch, as `split` gives them, made by the caller's thread alone.
+pub fn split_alone(
     alloc: Global,
     batch: &[Message],
     first: u32,
@@ -63,8 +75,7 @@ pub fn split(
     requires entries { first + length batch.now ≤ 1000001 }
     ensures { IfOk result (λ shares. AreShares shards first (cores batch.now) shares.items) }
 {
-    // Most messages have two parts, and their homes are spread unevenly.
-    let room = batch.len() / shards * 3;
+    let room = batch.len() / shards * PARTS_ROOM;
     let mut list = Vec::with_capacity(alloc, shards)?;
     for number in 0..shards {
         list.push(Share {
@@ -79,4 +90,112 @@ pub fn split(
         entry += 1;
     }
     Ok(list)
+}
+
+// Puts those parts of a message whose home is the shard last among its effects.
+fn take_parts(
+    effects: &mut Vec<Numbered>,
+    shards: usize,
+    number: usize,
+    entry: u32,
+    id: Id,
+    red: u32,
+    shadow: &Shadow,
+) -> Result<(), AllocError>
+    requires { 0 < shards }
+    ensures { OnOk result (effects.new.items ≡ effects.old.items ++ parts_at shards number (number_parts entry 1 id (parts id red shadow.now))) }
+{
+    for place in 0..3 {
+        let Some(effect) = shadow.effect(id, red, place) else {
+            continue;
+        };
+        if shard_of(&effect.key(), shards) != number {
+            continue;
+        }
+        let effect = effect.own(*effects.allocator())?;
+        effects.push(Numbered {
+            entry,
+            part: place + 1,
+            id,
+            effect,
+        })?;
+    }
+    Ok(())
+}
+
+// The share of one shard of a batch.
+fn share_of(
+    alloc: Global,
+    batch: &[Message],
+    first: u32,
+    shards: usize,
+    number: usize,
+) -> Result<Share, AllocError>
+    requires shards { 0 < shards }
+    requires entries { first + length batch.now ≤ 1000001 }
+    ensures { IfOk result (λ share. share ≡ share_at shards (numbered_from first (cores batch.now)) number) }
+{
+    let mut effects = Vec::with_capacity(alloc, batch.len() / shards * PARTS_ROOM)?;
+    for place in 0..batch.len() {
+        let message = &batch[place];
+        let stamp = message.stamp();
+        take_parts(
+            &mut effects,
+            shards,
+            number,
+            first + place as u32,
+            stamp.id,
+            stamp.red,
+            message.shadow(),
+        )?;
+    }
+    Ok(Share {
+        number,
+        effects: Items::from(effects),
+    })
+}
+
+// The shares of a batch, as `split` gives them, each made by one of as many threads as there are processors.
+fn split_shared<R: Threads + Sync>(
+    rt: &R,
+    alloc: Global,
+    batch: &[Message],
+    first: u32,
+    shards: usize,
+) -> Result<Vec<Share>, AllocError>
+    requires shards { 0 < shards }
+    requires entries { first + length batch.now ≤ 1000001 }
+    ensures { IfOk result (λ shares. AreShares shards first (cores batch.now) shares.items) }
+{
+    let shares: Result<Vec<Share>, AllocError> = (0..shards)
+        .into_par_iter()
+        .with_min_len(1)
+        .map(
+            |number: usize| -> Result<Share, AllocError>
+                requires { (0 < shards) × (first + length batch.now ≤ 1000001) }
+                ensures { IfOk result (λ share. share ≡ share_at shards (numbered_from first (cores batch.entry.now)) number) }
+            { share_of(alloc, batch, first, shards, number) },
+        )
+        .collect(rt, alloc)?;
+    shares
+}
+
+/// The shares of a batch, one for each of `shards` shards, in order of number: the parts whose home the shard is, in
+/// order of entry and part. The batch's first message is entry `first` of the log, from 1; no entry is above 1,000,000.
+/// From SPLIT_MIN messages on, as many threads as there are processors make the shares of at most SPLIT_SHARDS_MAX shards.
+pub fn split<R: Threads + Sync>(
+    rt: &R,
+    alloc: Global,
+    batch: &[Message],
+    first: u32,
+    shards: usize,
+) -> Result<Vec<Share>, AllocError>
+    requires shards { 0 < shards }
+    requires entries { first + length batch.now ≤ 1000001 }
+    ensures { IfOk result (λ shares. AreShares shards first (cores batch.now) shares.items) }
+{
+    if batch.len() < SPLIT_MIN || shards > SPLIT_SHARDS_MAX {
+        return split_alone(alloc, batch, first, shards);
+    }
+    split_shared(rt, alloc, batch, first, shards)
 }

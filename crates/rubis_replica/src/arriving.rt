@@ -13,6 +13,7 @@ use rubis_schema::{Items, Refusal};
 use rubis_shard::Share;
 use rubis_workers::Pace;
 use std::alloc::{AllocError, Global};
+use std::thread::Threads;
 
 /// What became of messages that arrived together.
 #[derive(Drop)]
@@ -99,7 +100,8 @@ pub fn take_all(alloc: Global, intake: &mut Intake, messages: Vec<Message>) -> A
 
 // The shares of what a log has behind its first `before` messages, for that many shards, where the pace has them cut ahead for
 // these workers; else an empty list. `None` where memory for them is refused.
-fn shares_behind(
+fn shares_behind<R: Threads + Sync>(
+    rt: &R,
     alloc: Global,
     log: &[Message],
     before: usize,
@@ -116,14 +118,15 @@ fn shares_behind(
     if !pace.cuts_ahead(workers, shards, log.len() - before) {
         return Some(Vec::new(alloc));
     }
-    match split(alloc, &log[before..], before as u32 + 1, shards) {
+    match split(rt, alloc, &log[before..], before as u32 + 1, shards) {
         Ok(shares) => Some(shares),
         Err(_) => None,
     }
 }
 
 // Takes messages in, and makes the shares of what is released.
-pub fn take_ahead(
+pub fn take_ahead<R: Threads + Sync>(
+    rt: &R,
     alloc: Global,
     intake: Intake,
     messages: Vec<Message>,
@@ -139,7 +142,7 @@ pub fn take_ahead(
     let mut intake = intake;
     let before = intake.log().len();
     let arrived = take_all(alloc, &mut intake, messages);
-    let shares = shares_behind(alloc, intake.log(), before, shards, workers, pace);
+    let shares = shares_behind(rt, alloc, intake.log(), before, shards, workers, pace);
     Ahead {
         intake,
         arrived,

@@ -3,7 +3,8 @@
 ghost use Rattle.std.specs.Prelude.{◌≡◌, ◌≤◌, ◌<◌, ◌⊎◌, [], IfOk, IfSome, List, OnOk, OnErr, length};
 ghost use Rattle.rubis_schema.specs.declared.limits.TheConstants.{WORKERS_MAX};
 ghost use Rattle.rubis_message.specs.Message as message;
-ghost use Rattle.rubis_shard.specs.Holdings.{HoldsLog};
+ghost use Rattle.rubis_model.specs.Listings.{table_rows};
+ghost use Rattle.rubis_shard.specs.Holdings.{HoldsLog, union};
 ghost use Rattle.rubis_pieces.specs.Batches.{parts_left};
 ghost use Rattle.rubis_workers.specs.Logs.{StaysWithin, parts_between};
 ghost use Rattle.rubis_replica.specs.Arrivals.{AreNext};
@@ -12,6 +13,7 @@ ghost use Rattle.rubis_replica.specs.Progress.{BatchBegins, BatchGoesOn, HasBegu
 ghost use Rattle.rubis_replica.specs.Follow as model;
 ghost use Rattle.rubis_replica.specs.Setup.{IsCount};
 
+use rubis_listing::{RowSink, list_tables, list_tables_shared};
 use rubis_message::Message;
 use rubis_pieces::{Left, finish};
 use rubis_schema::{Hashes, Listing};
@@ -104,6 +106,22 @@ impl<G: Gate> Follower<G> {
         ensures { self.new ≡ self.old }
     {
         self.tables.link_rows(listing)
+    }
+
+    // Adds the rows of a listing of the tables as far as they are. Several threads make the records of a long one, unless one
+    // worker is configured.
+    pub fn list_into<S: RowSink, R: Threads + Sync>(
+        &self,
+        rt: &R,
+        listing: &Listing,
+        sink: &mut S,
+    ) -> Result<(), AllocError>
+        ensures { OnOk result (S.adds (table_rows listing.now (union self.now.tables)) sink.old sink.new) }
+    {
+        if self.workers == 1 {
+            return list_tables(self.alloc, sink, listing, &self.tables);
+        }
+        list_tables_shared(rt, self.alloc, sink, listing, &self.tables)
     }
 
     // Whether a batch has begun and isn't whole.
@@ -240,7 +258,12 @@ impl<G: Gate> Follower<G> {
     }
 
     // The batch that ends with message `upto` as shares, where it gets several threads: those that are kept, or else new ones.
-    fn cut(&mut self, log: &[Message], upto: usize) -> Result<Option<Cut>, AllocError>
+    fn cut<R: Threads + Sync>(
+        &mut self,
+        rt: &R,
+        log: &[Message],
+        upto: usize,
+    ) -> Result<Option<Cut>, AllocError>
         requires few { length log.now ≤ 1000000 }
         requires follows { FollowsLog log.now self.old }
         requires on { self.old.at ≤ upto }
@@ -256,7 +279,7 @@ impl<G: Gate> Follower<G> {
         if self.pace.threads(self.workers(), shards, messages) == 1 {
             return Ok(None);
         }
-        Ok(Some(Cut::new(self.alloc, log, self.at, upto, shards)?))
+        Ok(Some(Cut::new(rt, self.alloc, log, self.at, upto, shards)?))
     }
 
     // Has the workers apply a batch by its shares. Meanwhile `beside` is called once, on this thread.
@@ -364,7 +387,7 @@ impl<G: Gate> Follower<G> {
         if self.kept < log.len() && self.follow_upto(rt, log, self.kept).is_err() {
             return None;
         }
-        match self.cut(log, log.len()) {
+        match self.cut(rt, log, log.len()) {
             Ok(Some(cut)) => Some(cut),
             Ok(None) => {
                 let _ = self.follow_log(rt, log, log.len());

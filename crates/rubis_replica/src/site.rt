@@ -16,7 +16,7 @@ use crate::config::Config;
 use crate::faults::Fault;
 use crate::follower::Follower;
 use rubis_generate::decide;
-use rubis_listing::{RowSink, list_log, list_misfits, list_tables};
+use rubis_listing::{RowSink, list_log, list_misfits};
 use rubis_message::{Arrival, Message, Taken, Token};
 use rubis_pieces::misfits;
 use rubis_release::Intake;
@@ -212,7 +212,7 @@ impl<G: Gate> Site<G> {
                 requires shards { 0 < shards }
                 requires workers { 0 < workers }
                 ensures ahead { TakesAhead shards intake messages.items result }
-            { take_ahead(alloc, intake, messages, shards, workers, pace) },
+            { take_ahead(rt, alloc, intake, messages, shards, workers, pace) },
         );
         let Ahead {
             intake,
@@ -255,7 +255,12 @@ impl<G: Gate> Site<G> {
     }
 
     // Adds the rows of a listing, of the log and of the tables as far as they are.
-    fn add_rows<S: RowSink>(&self, listing: &Listing, sink: &mut S) -> Result<(), AllocError>
+    fn add_rows<S: RowSink, R: Threads + Sync>(
+        &self,
+        rt: &R,
+        listing: &Listing,
+        sink: &mut S,
+    ) -> Result<(), AllocError>
         requires { self.now.progress ≡ resting_at (length self.now.state.log) }
         ensures { OnOk result (S.adds (listing_rows self.now.state.log (fold_of (cores self.now.state.log)) listing.now) sink.old sink.new) }
     {
@@ -265,7 +270,7 @@ impl<G: Gate> Site<G> {
                 let misfits = misfits(self.alloc, self.follower.tables())?;
                 list_misfits(self.alloc, sink, misfits.as_slice())
             }
-            _ => list_tables(self.alloc, sink, listing, self.follower.tables()),
+            _ => self.follower.list_into(rt, listing, sink),
         }
     }
 
@@ -293,7 +298,7 @@ impl<G: Gate> Site<G> {
         }
         self.refresh(rt)?;
         self.follower.link_rows(listing)?;
-        Ok(self.add_rows(listing, sink)?)
+        Ok(self.add_rows(rt, listing, sink)?)
     }
 
     /// The rows of a listing, as `list_into` adds them.

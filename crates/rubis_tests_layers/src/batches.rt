@@ -44,7 +44,7 @@ fn has(share: Option<&Share>, places: &[(u32, u8)]) -> bool {
 #[test]
 fn each_part_goes_to_its_home(rt: HostRuntime) -> Result<(), Fail> {
     let batch = three_users(rt.alloc())?;
-    let shares = split(rt.alloc(), &batch, 1, 5)?;
+    let shares = split(&rt, rt.alloc(), &batch, 1, 5)?;
     assert!(rt; has(shares.first(), &[]));
     assert!(rt; has(shares.get(1), &[(1, 1)]));
     assert!(rt; has(shares.get(2), &[(1, 2), (2, 1), (2, 2), (3, 2)]));

@@ -34,7 +34,7 @@ fn apply_none_beside<G: Gate, R: Threads + Wait + Sync, A: Drop, F: FnOnce() -> 
     requires beside { F.pre beside }
 {
     let tables = Tables::new(alloc, shards)?;
-    let shares = split(alloc, &[], 1, shards)?;
+    let shares = split(rt, alloc, &[], 1, shards)?;
     let (worked, answer) = apply_beside(
         rt,
         alloc,

@@ -143,7 +143,7 @@ pub fn apply_batch<G: Gate, R: Threads + Wait + Sync>(
         pace.rest(messages);
         return apply_alone(alloc, tables, log, at, upto, gate);
     }
-    let cut = Cut::new(alloc, log, *at, upto, tables.len())?;
+    let cut = Cut::new(rt, alloc, log, *at, upto, tables.len())?;
     let (applied, ()) = apply_cut(rt, alloc, tables, cut, workers, pace, gate, || ());
     let left = applied?;
     *at = upto;

@@ -10,6 +10,7 @@ use rubis_message::Message;
 use rubis_pieces::split;
 use rubis_shard::Share;
 use std::alloc::{AllocError, Global};
+use std::thread::Threads;
 
 /// A batch cut into a share for each shard: the messages of a log behind message `from`, up to message `upto`, from 1.
 #[derive(Drop)]
@@ -40,7 +41,8 @@ impl Cut {
     }
 
     /// Cuts a batch of a log, of at most 1,000,000 messages, for that many shards.
-    pub fn new(
+    pub fn new<R: Threads + Sync>(
+        rt: &R,
         alloc: Global,
         log: &[Message],
         from: usize,
@@ -55,7 +57,7 @@ impl Cut {
         ensures from { IfOk result (λ cut. cut.from ≡ from) }
         ensures upto { IfOk result (λ cut. cut.upto ≡ upto) }
     {
-        let shares = split(alloc, &log[from..upto], from as u32 + 1, shards)?;
+        let shares = split(rt, alloc, &log[from..upto], from as u32 + 1, shards)?;
         Ok(Cut::of(log, from, upto, shares))
     }
 }

@@ -5,7 +5,7 @@ use Rattle.rubis_replica.proofs.Comings.{taken_longer}
 use Rattle.rubis_replica.proofs.arriving.take_ahead.Goals as goal
 
 pub shares_behind-shares-requires-clause-before : goal.shares_behind-shares-requires-clause-before
-shares_behind-shares-requires-clause-before c =
+shares_behind-shares-requires-clause-before g c =
     omega (
       arith,
       ap length c.log-before.ensures.value,
@@ -15,7 +15,7 @@ shares_behind-shares-requires-clause-before c =
     )
 
 pub returns : goal.returns
-returns c = record {
+returns g c = record {
   ahead = record {
     place = c.take_all-arrived.ensures.place;
     first = c.take_all-arrived.ensures.first;

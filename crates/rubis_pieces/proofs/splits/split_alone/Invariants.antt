@@ -1,7 +1,7 @@
 use Rattle.std.proofs.Common.{◌≡◌, ◌+◌, take, []}
 use Rattle.rubis_model.specs.Log.{cores, numbered_from}
 use Rattle.rubis_pieces.specs.Shares.{AreDealt}
-use Rattle.rubis_pieces.proofs.splits.split.Given as goal
+use Rattle.rubis_pieces.proofs.splits.split_alone.Given as goal
 
 abbrev pub invariant-loop-number : goal.invariant-loop-number
 invariant-loop-number l = AreDealt l.number [] l.list.items

@@ -1,6 +1,6 @@
 use Rattle.std.proofs.Common.{rules}
 use Rattle.rubis_pieces.proofs.Dealt.{split_turn}
-use Rattle.rubis_pieces.proofs.splits.split.Goals as goal
+use Rattle.rubis_pieces.proofs.splits.split_alone.Goals as goal
 
 pub loop-message-preserved : goal.loop-message-preserved
 loop-message-preserved c = record {
