@@ -13,4 +13,4 @@ pub use gathers::{FaultKind, GatherFault, Gathered, Places, gather};
 pub use ordering::misfits;
 pub use pieces::{Done, Left, Piece};
 pub use rests::finish;
-pub use splits::{SPLIT_MIN, SPLIT_SHARDS_MAX, split};
+pub use splits::{SPLIT_MIN, split};

@@ -5,6 +5,7 @@ ghost use Rattle.rubis_model.specs.Log.{cores, number_parts, numbered_from};
 ghost use Rattle.rubis_shard.specs.Holdings.{parts_at};
 ghost use Rattle.rubis_pieces.specs.Shares.{AreDealt, AreShares, share_at};
 
+use rayon::current_num_threads;
 use rayon::prelude::*;
 use rubis_message::Message;
 use rubis_schema::{Id, Items, shard_of};
@@ -15,10 +16,6 @@ use std::thread::Threads;
 
 /// From this many messages on, several threads make the shares of a batch.
 pub const SPLIT_MIN: usize = 2_048;
-
-/// Of more shards than this, one thread makes the shares, since each thread looks at every message for each shard that it
-/// makes the share of.
-pub const SPLIT_SHARDS_MAX: usize = 16;
 
 // The room that a share begins with, for each message: most messages have two parts, and their homes are spread unevenly.
 const PARTS_ROOM: usize = 3;
@@ -182,7 +179,8 @@ fn split_shared<R: Threads + Sync>(
 
 /// The shares of a batch, one for each of `shards` shards, in order of number: the parts whose home the shard is, in
 /// order of entry and part. The batch's first message is entry `first` of the log, from 1; no entry is above 1,000,000.
-/// From SPLIT_MIN messages on, as many threads as there are processors make the shares of at most SPLIT_SHARDS_MAX shards.
+/// From SPLIT_MIN messages on, several threads make the shares, if there are at least as many processors as shards: each looks at
+/// every message for each share that it makes.
 pub fn split<R: Threads + Sync>(
     rt: &R,
     alloc: Global,
@@ -194,7 +192,7 @@ pub fn split<R: Threads + Sync>(
     requires entries { first + length batch.now ≤ 1000001 }
     ensures { IfOk result (λ shares. AreShares shards first (cores batch.now) shares.items) }
 {
-    if batch.len() < SPLIT_MIN || shards > SPLIT_SHARDS_MAX {
+    if batch.len() < SPLIT_MIN || shards > current_num_threads(rt) {
         return split_alone(alloc, batch, first, shards);
     }
     split_shared(rt, alloc, batch, first, shards)

@@ -25,5 +25,5 @@ returns-in_default g c =
     let now = c.args.self.now in
     let tables = log_tables now site.intake.place site.intake.state site.batch site.follower (applied_already _ now c.self.view_is c.requires) c.self.invariant in
     subst (λ rows. OnOk c.list_into.result (g.S.RowSink.adds rows c.args.sink.now c.list_into.new.sink))
-    (ap (table_rows c.args.listing.now) (ap union tables)
+    (ap (table_rows c.args.listing.now) tables
     ∙ tables_shown now.state.log (fold_of (cores now.state.log)) c.args.listing.now c.in_default.not-Log c.in_default.not-Misfits) c.list_into.ensures
