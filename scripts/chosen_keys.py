@@ -30,10 +30,11 @@ START = 0x243F6A8885A308D3
 # The table of nicknames, which the hash of a nickname began with.
 NICKS = 5
 
-# A table of 100,000 keys had this many groups of places, 9 keys in each at most. A search begins at the group that the low bits
-# of the hash name, and goes on from group to group. The chosen keys all begin in the first tenth of the groups.
+# A table of 100,000 keys had this many groups of places, 9 keys in each at most, and the table of each of four shards, which
+# share the nicknames, a quarter of them. A search begins at the group that the low bits of the hash name, and goes on from group
+# to group. The searches for the chosen keys all begin in the first tenth of the groups.
 GROUPS = 16_384
-WINDOW = GROUPS // 10
+SHARDS = 4
 
 
 def folded(a: int, b: int) -> int:
@@ -56,17 +57,17 @@ def with_bytes(state: int, data: bytes) -> int:
     return folded(state ^ word, MULTIPLIER ^ (2 * size))
 
 
-def group(state: int) -> int:
-    """The group at which the search for a key with this hash began."""
-    return (state ^ (state >> 32)) % GROUPS
+def begins_low(state: int, groups: int) -> bool:
+    """Whether the search for a key with this hash began in the first tenth of so many groups."""
+    return (state ^ (state >> 32)) % groups < groups // 10
 
 
-def nick_group(nick: str) -> int:
-    return group(with_bytes(with_bytes(START, bytes([NICKS])), nick.encode()))
+def is_bad_nick(nick: str) -> bool:
+    return begins_low(with_bytes(with_bytes(START, bytes([NICKS])), nick.encode()), GROUPS // SHARDS)
 
 
-def id_group(site: int, seq: int) -> int:
-    return group(with_bytes(with_bytes(START, bytes([site])), seq.to_bytes(4, "little")))
+def is_bad_id(site: int, seq: int) -> bool:
+    return begins_low(with_bytes(with_bytes(START, bytes([site])), seq.to_bytes(4, "little")), GROUPS)
 
 
 def nicknames(many: int, chosen: bool) -> list[str]:
@@ -75,7 +76,7 @@ def nicknames(many: int, chosen: bool) -> list[str]:
     nicks = set()
     while len(nicks) < many:
         nick = "".join(dice.choices("abcdefghijklmnopqrstuvwxyz", k=10))
-        if not chosen or nick_group(nick) < WINDOW:
+        if not chosen or is_bad_nick(nick):
             nicks.add(nick)
     mixed = sorted(nicks)
     dice.shuffle(mixed)
@@ -88,7 +89,7 @@ def numbers(many: int, chosen: bool) -> list[int]:
     all_numbers = list(range(2, 1_000_001))
     dice.shuffle(all_numbers)
     if chosen:
-        all_numbers = [seq for seq in all_numbers if id_group(0, seq) < WINDOW]
+        all_numbers = [seq for seq in all_numbers if is_bad_id(0, seq)]
     return all_numbers[:many]
 
 
