@@ -148,11 +148,11 @@ impl<T> Service<T> for Auditor {
 
     ghost reads_next = { Prim.search rules };
 
-    fn settle(&mut self, _rt: &T, _sink: &mut Sink) -> Result<(), OutOfMemory> {
+    fn answer_held(&mut self, _rt: &T, _sink: &mut Sink) -> Result<(), OutOfMemory> {
         Ok(())
     }
 
-    fn finish(&mut self, _rt: &T, sink: &mut Sink) -> Result<(), OutOfMemory> {
+    fn answer_end(&mut self, _rt: &T, sink: &mut Sink) -> Result<(), OutOfMemory> {
         let current = self.current.take();
         end_log(&mut self.ended, current)?;
         let verdict = audit(self.alloc, &self.ended, self.sites)?;

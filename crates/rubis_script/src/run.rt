@@ -15,8 +15,8 @@ use super::sink::Sink;
 use std::alloc::Global;
 use std::io::{Read, Write};
 
-/// Writes out what is held, and what the service holds back.
-fn settle<T, S: Service<T>, W: Write>(
+// Has the service answer what it holds back, and writes out what the sink holds.
+fn write_out_held<T, S: Service<T>, W: Write>(
     rt: &T,
     service: &mut S,
     sink: &mut Sink,
@@ -28,12 +28,12 @@ fn settle<T, S: Service<T>, W: Write>(
     ensures memory { IsErrOf result RunFault.Memory → W.contents writer.new ≡ W.contents writer.old }
     ensures faults { IfErr result (λ e. (e ≡ RunFault.Write) ⊎ (e ≡ RunFault.Memory)) }
 {
-    service.settle(rt, sink)?;
+    service.answer_held(rt, sink)?;
     sink.close(writer)
 }
 
-/// Writes out what is held, and what is left to be written where the input ends.
-fn finish<T, S: Service<T>, W: Write>(
+// Has the service give its last answers at the end of the input, and writes out what the sink holds.
+fn write_out_end<T, S: Service<T>, W: Write>(
     rt: &T,
     service: &mut S,
     sink: &mut Sink,
@@ -43,7 +43,7 @@ fn finish<T, S: Service<T>, W: Write>(
     ensures memory { IsErrOf result RunFault.Memory → W.contents writer.new ≡ W.contents writer.old }
     ensures faults { IfErr result (λ e. (e ≡ RunFault.Write) ⊎ (e ≡ RunFault.Memory)) }
 {
-    service.finish(rt, sink)?;
+    service.answer_end(rt, sink)?;
     sink.close(writer)
 }
 
@@ -62,7 +62,7 @@ pub fn write_out<T, S: Service<T>, R: Read, W: Write>(
     ensures faults { IfErr result (λ e. (e ≡ RunFault.Write) ⊎ (e ≡ RunFault.Memory)) }
 {
     if records.is_used_up() {
-        return settle(rt, service, sink, writer);
+        return write_out_held(rt, service, sink, writer);
     }
     if sink.is_full() {
         return sink.drain(writer);
@@ -97,11 +97,11 @@ pub(crate) fn end_run<T, S: Service<T>, R: Read, W: Write>(
 {
     match found {
         Ok(()) => {
-            finish(rt, service, sink, writer)?;
+            write_out_end(rt, service, sink, writer)?;
             Ok(Some(Count { records: answered }))
         }
         Err(fault) => {
-            settle(rt, service, sink, writer)?;
+            write_out_held(rt, service, sink, writer)?;
             Err(fault)
         }
     }
@@ -153,14 +153,14 @@ pub fn stop<T, S: Service<T>, R: Read, W: Write>(
         WroteFront (all.text AtEnd) old (W.contents writer.new) (input_records input)) }
 {
     let Some(count) = next_record(rt, records, service, sink, writer, answered)? else {
-        settle(rt, service, sink, writer)?;
+        write_out_held(rt, service, sink, writer)?;
         return Err(RunFault::TooLong);
     };
     Ok(count)
 }
 
-/// Answers record `answered + 1`, if there is one. `None` if the run goes on, otherwise how many records were read.
-fn turn<T, S: Answering<T>, R: Read, W: Write>(
+// Answers record `answered + 1`, if there is one. `None` if the run goes on, otherwise how many records were read.
+fn answer_next<T, S: Answering<T>, R: Read, W: Write>(
     rt: &T,
     records: &mut Records<R>,
     service: &mut S,
@@ -195,7 +195,7 @@ fn turn<T, S: Answering<T>, R: Read, W: Write>(
     }
 }
 
-/// Answers records until the run ends, or up to `limit` of them, and writes out what the sink holds.
+// Answers records until the run ends, or up to `limit` of them, and writes out what the sink holds.
 fn serve<T, S: Answering<T>, R: Read, W: Write>(
     rt: &T,
     records: &mut Records<R>,
@@ -213,8 +213,8 @@ fn serve<T, S: Answering<T>, R: Read, W: Write>(
     ensures memory { IsErrOf result RunFault.Memory → (input : List ℕ) → Gives R.remaining records.old (input_records input) → sink.old ≡ []
         → WroteFront ((S.account service.old 1).text AtEnd) (W.contents writer.old) (W.contents writer.new) (input_records input) }
 {
-    'turns: for n in 0..limit {
-        if let Some(count) = turn(rt, records, service, sink, writer, n)? {
+    'steps: for n in 0..limit {
+        if let Some(count) = answer_next(rt, records, service, sink, writer, n)? {
             return Ok(count);
         }
     }

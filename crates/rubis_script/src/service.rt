@@ -22,13 +22,13 @@ pub trait Service<T> {
     /// What is still to be made of the records that follow, the first of which has this number.
     ghost account: { Self → ℕ → Account };
 
-    /// Writes what is held back, so that nothing is left to be written where the run is cut short here.
-    fn settle(&mut self, rt: &T, sink: &mut Sink) -> Result<(), OutOfMemory>
+    /// Answers what is held back. Nothing is then left to be written if the run is cut short here.
+    fn answer_held(&mut self, rt: &T, sink: &mut Sink) -> Result<(), OutOfMemory>
         ensures keeps { OnOk result ((number : ℕ) → Keeps (account self.old number) (account self.new number) sink.old sink.new) }
         ensures none { OnOk result ((number : ℕ) → (account self.new number).text Cut [] ≡ []) };
 
-    /// Writes what is left to be written where the input ends here.
-    fn finish(&mut self, rt: &T, sink: &mut Sink) -> Result<(), OutOfMemory>
+    /// Gives the last answers: writes all that is left to be written if the input ends here.
+    fn answer_end(&mut self, rt: &T, sink: &mut Sink) -> Result<(), OutOfMemory>
         ensures { OnOk result ((number : ℕ) → sink.old ++ (account self.old number).text AtEnd [] ≡ sink.new) };
 
     // Of no records none is read.

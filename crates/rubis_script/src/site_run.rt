@@ -88,7 +88,7 @@ fn pass_on<G: Gate, T: Threads + Wait + Sync, R: Read, W: Write>(
 }
 
 // Answers or holds record `answered + 1`, if there is one. `None` if the run goes on, otherwise how many records were read.
-fn turn<G: Gate, T: Threads + Wait + Sync, R: Read, W: Write>(
+fn take_next<G: Gate, T: Threads + Wait + Sync, R: Read, W: Write>(
     rt: &T,
     records: &mut Records<R>,
     desk: &mut Desk<G>,
@@ -162,8 +162,8 @@ fn serve<G: Gate, T: Threads + Wait + Sync, R: Read, W: Write>(
     ensures memory { IsErrOf result RunFault.Memory → (input : List ℕ) → Gives R.remaining records.old (input_records input) → sink.old ≡ []
         → WroteFront ((told_by desk.old.site 1).text AtEnd) (W.contents writer.old) (W.contents writer.new) (input_records input) }
 {
-    'turns: for n in 0..limit {
-        if let Some(count) = turn(rt, records, desk, window, sink, writer, n)? {
+    'steps: for n in 0..limit {
+        if let Some(count) = take_next(rt, records, desk, window, sink, writer, n)? {
             return Ok(count);
         }
     }

@@ -42,11 +42,11 @@ impl<T> Service<T> for Echo {
 
     ghost reads_next = { Prim.search rules };
 
-    fn settle(&mut self, _rt: &T, sink: &mut Sink) -> Result<(), OutOfMemory> {
+    fn answer_held(&mut self, _rt: &T, sink: &mut Sink) -> Result<(), OutOfMemory> {
         self.write_last(sink)
     }
 
-    fn finish(&mut self, _rt: &T, sink: &mut Sink) -> Result<(), OutOfMemory> {
+    fn answer_end(&mut self, _rt: &T, sink: &mut Sink) -> Result<(), OutOfMemory> {
         self.write_last(sink)
     }
 }

@@ -164,11 +164,11 @@ impl<T> Service<T> for WorldDesk {
 
     ghost reads_next = { Prim.search rules };
 
-    fn settle(&mut self, _rt: &T, _sink: &mut Sink) -> Result<(), OutOfMemory> {
+    fn answer_held(&mut self, _rt: &T, _sink: &mut Sink) -> Result<(), OutOfMemory> {
         Ok(())
     }
 
-    fn finish(&mut self, _rt: &T, _sink: &mut Sink) -> Result<(), OutOfMemory> {
+    fn answer_end(&mut self, _rt: &T, _sink: &mut Sink) -> Result<(), OutOfMemory> {
         Ok(())
     }
 }

@@ -21,7 +21,7 @@ use std::sync::Wait;
 use std::thread::Threads;
 
 // Answers record `answered + 1`, if there is one. `None` if the run goes on, otherwise how many records were read.
-fn turn<T: Threads + Wait + Sync, R: Read, W: Write>(
+fn answer_next<T: Threads + Wait + Sync, R: Read, W: Write>(
     rt: &T,
     records: &mut Records<R>,
     desk: &mut WorldDesk,
@@ -66,8 +66,8 @@ fn serve<T: Threads + Wait + Sync, R: Read, W: Write>(
     ensures memory { IsErrOf result RunFault.Memory → (input : List ℕ) → Gives R.remaining records.old (input_records input) → sink.old ≡ []
         → WroteFront ((told_by_world desk.old.world 1).text AtEnd) (W.contents writer.old) (W.contents writer.new) (input_records input) }
 {
-    'turns: for n in 0..limit {
-        if let Some(count) = turn(rt, records, desk, sink, writer, n)? {
+    'steps: for n in 0..limit {
+        if let Some(count) = answer_next(rt, records, desk, sink, writer, n)? {
             return Ok(count);
         }
     }

@@ -3,11 +3,11 @@ use Rattle.rubis_script.specs.Progress.{HasComeSoFar}
 use Rattle.rubis_script.proofs.RunFacts.{if_ok_so, progress-start}
 use Rattle.rubis_script.proofs.run.serve.Goals as goal
 
-pub turns-init : goal.turns-init
-turns-init g c input holds empty = rw empty (progress-start _ _ _ _ input holds)
+pub steps-init : goal.steps-init
+steps-init g c input holds empty = rw empty (progress-start _ _ _ _ input holds)
 
 pub returns-clause-ok : goal.returns-clause-ok
 returns-clause-ok g c =
-    let limit : c.turns.n ≡ c.args.limit = omega (arith, c.turns-test.false, c.turns.auto.n-end) in
+    let limit : c.steps.n ≡ c.args.limit = omega (arith, c.steps-test.false, c.steps.auto.n-end) in
     if_ok_so _ _ c.stop.result (λ count done input holds empty. done _ _ input
-    (subst (λ k. HasComeSoFar g.R.Read.remaining c.turns.records (g.S.Service.account c.args.service.now 1) (g.S.Service.account c.turns.service (k + 1)) (g.W.Write.contents c.args.writer.now) (g.W.Write.contents c.turns.writer) c.turns.sink (k + 1) input) limit (c.turns.invariant input holds empty))) c.stop.ensures.ok
+    (subst (λ k. HasComeSoFar g.R.Read.remaining c.steps.records (g.S.Service.account c.args.service.now 1) (g.S.Service.account c.steps.service (k + 1)) (g.W.Write.contents c.args.writer.now) (g.W.Write.contents c.steps.writer) c.steps.sink (k + 1) input) limit (c.steps.invariant input holds empty))) c.stop.ensures.ok

@@ -7,8 +7,8 @@ use Rattle.rubis_script.proofs.RunFacts.{handed_on, if_ok_so, progress-start}
 use Rattle.rubis_script.proofs.WindowFacts.{held_none, progress-told}
 use Rattle.rubis_script.proofs.site_run.serve.Goals as goal
 
-pub turns-init : goal.turns-init
-turns-init g c =
+pub steps-init : goal.steps-init
+steps-init g c =
     let site = c.args.desk.now.site in
     let window = c.args.window.now.items in (
       held_none site.place window 0 c.requires,
@@ -19,28 +19,28 @@ turns-init g c =
 pub returns-in_err-count-clause-memory : goal.returns-in_err-count-clause-memory
 returns-in_err-count-clause-memory g c e input holds empty =
     let memory = handed_on c.from_residual.result c.in_err-count.field-0.0 fault.Memory c.from_residual.ensures e in
-    c.in_err-count.ensures.memory (rw memory refl) _ _ input (c.turns.invariant.1 input holds empty)
+    c.in_err-count.ensures.memory (rw memory refl) _ _ input (c.steps.invariant.1 input holds empty)
 
 pub returns-clause-ok : goal.returns-clause-ok
 returns-clause-ok g c =
-    let limit : c.turns.n ≡ c.args.limit = omega (arith, c.turns-test.false, c.turns.auto.n-end) in
+    let limit : c.steps.n ≡ c.args.limit = omega (arith, c.steps-test.false, c.steps.auto.n-end) in
     if_ok_so _ _ c.stop_at.result (λ count done input holds empty. done _ _ input
-    (subst (λ k. HasComeSoFar g.R.Read.remaining c.turns.records (told_by c.args.desk.now.site 1) (held_by c.turns.desk.site c.turns.window.items (k + 1)) (g.W.Write.contents c.args.writer.now) (g.W.Write.contents c.turns.writer) c.turns.sink (k + 1) input) limit (c.turns.invariant.1 input holds empty))) c.stop_at.ensures.ok
+    (subst (λ k. HasComeSoFar g.R.Read.remaining c.steps.records (told_by c.args.desk.now.site 1) (held_by c.steps.desk.site c.steps.window.items (k + 1)) (g.W.Write.contents c.args.writer.now) (g.W.Write.contents c.steps.writer) c.steps.sink (k + 1) input) limit (c.steps.invariant.1 input holds empty))) c.stop_at.ensures.ok
 
 pub returns-clause-too_long : goal.returns-clause-too_long
 returns-clause-too_long g c e input holds empty =
-    let limit : c.turns.n ≡ c.args.limit = omega (arith, c.turns-test.false, c.turns.auto.n-end) in
+    let limit : c.steps.n ≡ c.args.limit = omega (arith, c.steps-test.false, c.steps.auto.n-end) in
     c.stop_at.ensures.too_long e _ _ input
-    (subst (λ k. HasComeSoFar g.R.Read.remaining c.turns.records (told_by c.args.desk.now.site 1) (held_by c.turns.desk.site c.turns.window.items (k + 1)) (g.W.Write.contents c.args.writer.now) (g.W.Write.contents c.turns.writer) c.turns.sink (k + 1) input) limit (c.turns.invariant.1 input holds empty))
+    (subst (λ k. HasComeSoFar g.R.Read.remaining c.steps.records (told_by c.args.desk.now.site 1) (held_by c.steps.desk.site c.steps.window.items (k + 1)) (g.W.Write.contents c.args.writer.now) (g.W.Write.contents c.steps.writer) c.steps.sink (k + 1) input) limit (c.steps.invariant.1 input holds empty))
 
 pub returns-clause-read : goal.returns-clause-read
 returns-clause-read g c e input holds empty =
-    let limit : c.turns.n ≡ c.args.limit = omega (arith, c.turns-test.false, c.turns.auto.n-end) in
+    let limit : c.steps.n ≡ c.args.limit = omega (arith, c.steps-test.false, c.steps.auto.n-end) in
     c.stop_at.ensures.read e _ _ input
-    (subst (λ k. HasComeSoFar g.R.Read.remaining c.turns.records (told_by c.args.desk.now.site 1) (held_by c.turns.desk.site c.turns.window.items (k + 1)) (g.W.Write.contents c.args.writer.now) (g.W.Write.contents c.turns.writer) c.turns.sink (k + 1) input) limit (c.turns.invariant.1 input holds empty))
+    (subst (λ k. HasComeSoFar g.R.Read.remaining c.steps.records (told_by c.args.desk.now.site 1) (held_by c.steps.desk.site c.steps.window.items (k + 1)) (g.W.Write.contents c.args.writer.now) (g.W.Write.contents c.steps.writer) c.steps.sink (k + 1) input) limit (c.steps.invariant.1 input holds empty))
 
 pub returns-clause-memory : goal.returns-clause-memory
 returns-clause-memory g c e input holds empty =
-    let limit : c.turns.n ≡ c.args.limit = omega (arith, c.turns-test.false, c.turns.auto.n-end) in
+    let limit : c.steps.n ≡ c.args.limit = omega (arith, c.steps-test.false, c.steps.auto.n-end) in
     c.stop_at.ensures.memory e _ _ input
-    (subst (λ k. HasComeSoFar g.R.Read.remaining c.turns.records (told_by c.args.desk.now.site 1) (held_by c.turns.desk.site c.turns.window.items (k + 1)) (g.W.Write.contents c.args.writer.now) (g.W.Write.contents c.turns.writer) c.turns.sink (k + 1) input) limit (c.turns.invariant.1 input holds empty))
+    (subst (λ k. HasComeSoFar g.R.Read.remaining c.steps.records (told_by c.args.desk.now.site 1) (held_by c.steps.desk.site c.steps.window.items (k + 1)) (g.W.Write.contents c.args.writer.now) (g.W.Write.contents c.steps.writer) c.steps.sink (k + 1) input) limit (c.steps.invariant.1 input holds empty))

@@ -2,7 +2,7 @@ use Rattle.std.proofs.Common.{◌≡◌, ◌+◌, ap, refl, arith}
 use Rattle.rubis_script.specs.declared.fault.RunFault.TheVariants as fault
 use Rattle.rubis_script.specs.declared.service.Course.TheVariants as course
 use Rattle.rubis_script.proofs.RunFacts.{handed_on, if_none, if_some, progress-ended, progress-moved, progress-stays, progress-step}
-use Rattle.rubis_script.proofs.run.turn.Goals as goal
+use Rattle.rubis_script.proofs.run.answer_next.Goals as goal
 
 pub returns-in-Some-clause-goes : goal.returns-in-Some-clause-goes
 returns-in-Some-clause-goes g c all old input p =

@@ -3,7 +3,7 @@ use Rattle.rubis_world.specs.Running.{told_by_world}
 use Rattle.rubis_script.specs.declared.fault.RunFault.TheVariants as fault
 use Rattle.rubis_world.proofs.Answering.{world_goes}
 use Rattle.rubis_script.proofs.RunFacts.{handed_on, if_none, if_some, progress-moved, progress-stays, progress-step}
-use Rattle.rubis_world.proofs.run.turn.Goals as goal
+use Rattle.rubis_world.proofs.run.answer_next.Goals as goal
 
 pub returns-in-Some-clause-goes : goal.returns-in-Some-clause-goes
 returns-in-Some-clause-goes g c all old input p =
