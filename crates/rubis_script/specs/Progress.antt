@@ -13,12 +13,12 @@ pub record HasComeSoFar {R : Type 0} (rem : R → Option (List ℕ)) (records : 
     (old now : Option (List ℕ)) (sink : List ℕ) (number : ℕ) (input : List ℕ) : Type 0 where
   pub done : List (List (List ℕ))
   pub rest : List (List (List ℕ))
-  pub front : List ℕ
+  pub written : List ℕ
   pub parts : input_records input ≡ done ++ rest
   pub count : length done + 1 ≡ number
   pub gives : Gives rem records rest
-  pub appended : Appends old now front
-  pub told : (ending : Ending) (to_come : List (List (List ℕ))) → all.text ending (done ++ to_come) ≡ front ++ (sink ++ more.text ending to_come)
+  pub appended : Appends old now written
+  pub told : (ending : Ending) (to_come : List (List (List ℕ))) → all.text ending (done ++ to_come) ≡ written ++ (sink ++ more.text ending to_come)
   pub counted : (to_come : List (List (List ℕ))) → all.read (done ++ to_come) ≡ length done + more.read to_come
 
 -- what was held is written out, and the text stays what it was
@@ -54,5 +54,5 @@ abbrev pub IsCut : Account → Option (List ℕ) → Option (List ℕ) → List 
 IsCut all old now records = (k : ℕ) × Appends old now (all.text Cut (take k records))
 
 -- what was written is a prefix of the text of all records
-abbrev pub WroteFront : (List (List (List ℕ)) → List ℕ) → Option (List ℕ) → Option (List ℕ) → List (List (List ℕ)) → Type 0
-WroteFront all old now records = (front back : List ℕ) × Appends old now front × (front ++ back ≡ all records)
+abbrev pub WrotePrefix : (List (List (List ℕ)) → List ℕ) → Option (List ℕ) → Option (List ℕ) → List (List (List ℕ)) → Type 0
+WrotePrefix all old now records = (written left : List ℕ) × Appends old now written × (written ++ left ≡ all records)

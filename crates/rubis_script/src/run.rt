@@ -4,7 +4,7 @@ ghost use Rattle.std.specs.Prelude.{◌≡◌, ◌<◌, ◌+◌, ◌++◌, ◌^�
 ghost use Rattle.std.specs.Io.KnownBytes.{Appends};
 ghost use Rattle.rubis_script.specs.Accounts.{Account};
 ghost use Rattle.rubis_script.specs.Accounts.Ending.{AtEnd, Cut};
-ghost use Rattle.rubis_script.specs.Progress.{BeforeEach, Drained, HasComeSoFar, InEachRun, IsCut, IsDone, IsTooLong, WroteFront};
+ghost use Rattle.rubis_script.specs.Progress.{BeforeEach, Drained, HasComeSoFar, InEachRun, IsCut, IsDone, IsTooLong, WrotePrefix};
 ghost use Rattle.rubis_script.specs.Reading.{Advances, Gives};
 ghost use Rattle.rubis_script.specs.Text.{input_records};
 
@@ -92,7 +92,7 @@ pub(crate) fn end_run<T, S: Service<T>, R: Read, W: Write>(
         IsCut all old (W.contents writer.new) (input_records input))) }
     ensures memory { IsErrOf result RunFault.Memory → BeforeEach R.remaining records.now (λ before.
         InEachRun R.remaining before (S.account service.old (answered + 1)) (W.contents writer.old) sink.old (answered + 1) (λ all old input.
-        WroteFront (all.text AtEnd) old (W.contents writer.new) (input_records input))) }
+        WrotePrefix (all.text AtEnd) old (W.contents writer.new) (input_records input))) }
     ensures faults { IfErr result (λ e. (e ≡ RunFault.Read) ⊎ (e ≡ RunFault.Write) ⊎ (e ≡ RunFault.Memory)) }
 {
     match found {
@@ -124,7 +124,7 @@ pub fn next_record<T, S: Service<T>, R: Read, W: Write>(
     ensures read { IsErrOf result RunFault.Read → InEachRun R.remaining records.old (S.account service.old (answered + 1)) (W.contents writer.old) sink.old (answered + 1) (λ all old input.
         IsCut all old (W.contents writer.new) (input_records input)) }
     ensures memory { IsErrOf result RunFault.Memory → InEachRun R.remaining records.old (S.account service.old (answered + 1)) (W.contents writer.old) sink.old (answered + 1) (λ all old input.
-        WroteFront (all.text AtEnd) old (W.contents writer.new) (input_records input)) }
+        WrotePrefix (all.text AtEnd) old (W.contents writer.new) (input_records input)) }
     ensures faults { IfErr result (λ e. (e ≡ RunFault.Read) ⊎ (e ≡ RunFault.Write) ⊎ (e ≡ RunFault.Memory)) }
 {
     match records.advance() {
@@ -150,7 +150,7 @@ pub fn stop<T, S: Service<T>, R: Read, W: Write>(
     ensures read { IsErrOf result RunFault.Read → InEachRun R.remaining records.old (S.account service.old (answered + 1)) (W.contents writer.old) sink.old (answered + 1) (λ all old input.
         IsCut all old (W.contents writer.new) (input_records input)) }
     ensures memory { IsErrOf result RunFault.Memory → InEachRun R.remaining records.old (S.account service.old (answered + 1)) (W.contents writer.old) sink.old (answered + 1) (λ all old input.
-        WroteFront (all.text AtEnd) old (W.contents writer.new) (input_records input)) }
+        WrotePrefix (all.text AtEnd) old (W.contents writer.new) (input_records input)) }
 {
     let Some(count) = next_record(rt, records, service, sink, writer, answered)? else {
         write_out_held(rt, service, sink, writer)?;
@@ -176,7 +176,7 @@ fn answer_next<T, S: Answering<T>, R: Read, W: Write>(
     ensures read { IsErrOf result RunFault.Read → InEachRun R.remaining records.old (S.account service.old (answered + 1)) (W.contents writer.old) sink.old (answered + 1) (λ all old input.
         IsCut all old (W.contents writer.new) (input_records input)) }
     ensures memory { IsErrOf result RunFault.Memory → InEachRun R.remaining records.old (S.account service.old (answered + 1)) (W.contents writer.old) sink.old (answered + 1) (λ all old input.
-        WroteFront (all.text AtEnd) old (W.contents writer.new) (input_records input)) }
+        WrotePrefix (all.text AtEnd) old (W.contents writer.new) (input_records input)) }
     ensures faults { IfErr result (λ e. (e ≡ RunFault.Read) ⊎ (e ≡ RunFault.Write) ⊎ (e ≡ RunFault.Memory)) }
 {
     if let Some(count) = next_record(rt, records, service, sink, writer, answered)? {
@@ -211,7 +211,7 @@ fn serve<T, S: Answering<T>, R: Read, W: Write>(
     ensures read { IsErrOf result RunFault.Read → (input : List ℕ) → Gives R.remaining records.old (input_records input) → sink.old ≡ []
         → IsCut (S.account service.old 1) (W.contents writer.old) (W.contents writer.new) (input_records input) }
     ensures memory { IsErrOf result RunFault.Memory → (input : List ℕ) → Gives R.remaining records.old (input_records input) → sink.old ≡ []
-        → WroteFront ((S.account service.old 1).text AtEnd) (W.contents writer.old) (W.contents writer.new) (input_records input) }
+        → WrotePrefix ((S.account service.old 1).text AtEnd) (W.contents writer.old) (W.contents writer.new) (input_records input) }
 {
     'steps: for n in 0..limit {
         if let Some(count) = answer_next(rt, records, service, sink, writer, n)? {
@@ -245,7 +245,7 @@ pub fn run_upto<T, S: Answering<T>, R: Read + Drop, W: Write>(
     ensures read { IsErrOf result RunFault.Read → IfSome (R.remaining reader) (λ input.
         IsCut (S.account service.old 1) (W.contents writer.old) (W.contents writer.new) (input_records input)) }
     ensures memory { IsErrOf result RunFault.Memory → IfSome (R.remaining reader) (λ input.
-        WroteFront ((S.account service.old 1).text AtEnd) (W.contents writer.old) (W.contents writer.new) (input_records input)) }
+        WrotePrefix ((S.account service.old 1).text AtEnd) (W.contents writer.old) (W.contents writer.new) (input_records input)) }
 {
     let mut records = Records::new(alloc, reader);
     let mut sink = Sink::new(alloc);

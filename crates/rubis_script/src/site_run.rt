@@ -5,7 +5,7 @@ ghost use Rattle.std.specs.Io.KnownBytes.{Appends};
 ghost use Rattle.rubis_model.specs.Runs.{output_of};
 ghost use Rattle.rubis_replica.specs.Setup.{setup_place};
 ghost use Rattle.rubis_script.specs.Accounts.Ending.{AtEnd};
-ghost use Rattle.rubis_script.specs.Progress.{HasComeSoFar, InEachRun, IsCut, IsDone, IsTooLong, WroteFront};
+ghost use Rattle.rubis_script.specs.Progress.{HasComeSoFar, InEachRun, IsCut, IsDone, IsTooLong, WrotePrefix};
 ghost use Rattle.rubis_script.specs.Reading.{Advances, Gives};
 ghost use Rattle.rubis_script.specs.Accounts.{Account};
 ghost use Rattle.rubis_script.specs.SiteRuns.{told_by};
@@ -45,7 +45,7 @@ fn next_or_end<G: Gate, T: Threads + Wait + Sync, R: Read, W: Write>(
     ensures read { IsErrOf result RunFault.Read → InEachRun R.remaining records.old (held_by desk.old.site window.old.items (answered + 1)) (W.contents writer.old) sink.old (answered + 1) (λ all old input.
         IsCut all old (W.contents writer.new) (input_records input)) }
     ensures memory { IsErrOf result RunFault.Memory → InEachRun R.remaining records.old (held_by desk.old.site window.old.items (answered + 1)) (W.contents writer.old) sink.old (answered + 1) (λ all old input.
-        WroteFront (all.text AtEnd) old (W.contents writer.new) (input_records input)) }
+        WrotePrefix (all.text AtEnd) old (W.contents writer.new) (input_records input)) }
     ensures faults { IfErr result (λ e. (e ≡ RunFault.Read) ⊎ (e ≡ RunFault.Write) ⊎ (e ≡ RunFault.Memory)) }
 {
     match records.advance() {
@@ -107,7 +107,7 @@ fn take_next<G: Gate, T: Threads + Wait + Sync, R: Read, W: Write>(
     ensures read { IsErrOf result RunFault.Read → InEachRun R.remaining records.old (held_by desk.old.site window.old.items (answered + 1)) (W.contents writer.old) sink.old (answered + 1) (λ all old input.
         IsCut all old (W.contents writer.new) (input_records input)) }
     ensures memory { IsErrOf result RunFault.Memory → InEachRun R.remaining records.old (held_by desk.old.site window.old.items (answered + 1)) (W.contents writer.old) sink.old (answered + 1) (λ all old input.
-        WroteFront (all.text AtEnd) old (W.contents writer.new) (input_records input)) }
+        WrotePrefix (all.text AtEnd) old (W.contents writer.new) (input_records input)) }
     ensures faults { IfErr result (λ e. (e ≡ RunFault.Read) ⊎ (e ≡ RunFault.Write) ⊎ (e ≡ RunFault.Memory)) }
 {
     if let Some(count) = next_or_end(rt, records, desk, window, sink, writer, answered)? {
@@ -136,7 +136,7 @@ fn stop_at<G: Gate, T: Threads + Wait + Sync, R: Read, W: Write>(
     ensures read { IsErrOf result RunFault.Read → InEachRun R.remaining records.old (held_by desk.old.site window.old.items (limit + 1)) (W.contents writer.old) sink.old (limit + 1) (λ all old input.
         IsCut all old (W.contents writer.new) (input_records input)) }
     ensures memory { IsErrOf result RunFault.Memory → InEachRun R.remaining records.old (held_by desk.old.site window.old.items (limit + 1)) (W.contents writer.old) sink.old (limit + 1) (λ all old input.
-        WroteFront (all.text AtEnd) old (W.contents writer.new) (input_records input)) }
+        WrotePrefix (all.text AtEnd) old (W.contents writer.new) (input_records input)) }
 {
     desk.flush(rt, limit, window, sink)?;
     stop(rt, records, desk, sink, writer, limit)
@@ -160,7 +160,7 @@ fn serve<G: Gate, T: Threads + Wait + Sync, R: Read, W: Write>(
     ensures read { IsErrOf result RunFault.Read → (input : List ℕ) → Gives R.remaining records.old (input_records input) → sink.old ≡ []
         → IsCut (told_by desk.old.site 1) (W.contents writer.old) (W.contents writer.new) (input_records input) }
     ensures memory { IsErrOf result RunFault.Memory → (input : List ℕ) → Gives R.remaining records.old (input_records input) → sink.old ≡ []
-        → WroteFront ((told_by desk.old.site 1).text AtEnd) (W.contents writer.old) (W.contents writer.new) (input_records input) }
+        → WrotePrefix ((told_by desk.old.site 1).text AtEnd) (W.contents writer.old) (W.contents writer.new) (input_records input) }
 {
     'steps: for n in 0..limit {
         if let Some(count) = take_next(rt, records, desk, window, sink, writer, n)? {
@@ -191,7 +191,7 @@ pub fn run_desk<G: Gate, T: Threads + Wait + Sync, R: Read + Drop, W: Write>(
     ensures read { IsErrOf result RunFault.Read → IfSome (R.remaining reader) (λ input.
         IsCut (told_by desk.old.site 1) (W.contents writer.old) (W.contents writer.new) (input_records input)) }
     ensures memory { IsErrOf result RunFault.Memory → IfSome (R.remaining reader) (λ input.
-        WroteFront ((told_by desk.old.site 1).text AtEnd) (W.contents writer.old) (W.contents writer.new) (input_records input)) }
+        WrotePrefix ((told_by desk.old.site 1).text AtEnd) (W.contents writer.old) (W.contents writer.new) (input_records input)) }
 {
     let mut records = Records::new(alloc, reader);
     let mut window = Vec::new(alloc);
@@ -234,7 +234,7 @@ pub fn run_site_upto<G: Gate + Drop, T: Threads + Wait + Sync, R: Read + Drop, W
     ensures read { IsErrOf result RunFault.Read → IfSome (R.remaining reader) (λ input.
         (k : ℕ) × Appends (W.contents writer.old) (W.contents writer.new) (rows_text (output_of (setup_place config.now) (take k (input_records input))))) }
     ensures memory { IsErrOf result RunFault.Memory → IfSome (R.remaining reader) (λ input.
-        WroteFront (λ records. rows_text (output_of (setup_place config.now) records)) (W.contents writer.old) (W.contents writer.new) (input_records input)) }
+        WrotePrefix (λ records. rows_text (output_of (setup_place config.now) records)) (W.contents writer.old) (W.contents writer.new) (input_records input)) }
 {
     let mut desk = Desk::new(alloc, config, gate)?;
     run_desk(rt, alloc, reader, writer, &mut desk, limit)
@@ -261,7 +261,7 @@ pub fn run_site<T: Threads + Wait + Sync, R: Read + Drop, W: Write>(
     ensures read { IsErrOf result RunFault.Read → IfSome (R.remaining reader) (λ input.
         (k : ℕ) × Appends (W.contents writer.old) (W.contents writer.new) (rows_text (output_of (setup_place config.now) (take k (input_records input))))) }
     ensures memory { IsErrOf result RunFault.Memory → IfSome (R.remaining reader) (λ input.
-        WroteFront (λ records. rows_text (output_of (setup_place config.now) records)) (W.contents writer.old) (W.contents writer.new) (input_records input)) }
+        WrotePrefix (λ records. rows_text (output_of (setup_place config.now) records)) (W.contents writer.old) (W.contents writer.new) (input_records input)) }
 {
     run_site_upto(rt, alloc, reader, writer, config, RECORDS_MAX, Free)
 }
@@ -288,7 +288,7 @@ pub fn run_site_to_exit<T: Threads + Wait + Sync, R: Read + Drop, W: Write>(
     ensures read { IsErrOf result RunFault.Read → IfSome (R.remaining reader) (λ input.
         (k : ℕ) × Appends (W.contents writer.old) (W.contents writer.new) (rows_text (output_of (setup_place config.now) (take k (input_records input))))) }
     ensures memory { IsErrOf result RunFault.Memory → IfSome (R.remaining reader) (λ input.
-        WroteFront (λ records. rows_text (output_of (setup_place config.now) records)) (W.contents writer.old) (W.contents writer.new) (input_records input)) }
+        WrotePrefix (λ records. rows_text (output_of (setup_place config.now) records)) (W.contents writer.old) (W.contents writer.new) (input_records input)) }
 {
     let mut desk = Desk::new(alloc, config, Free)?;
     let ended = run_desk(rt, alloc, reader, writer, &mut desk, RECORDS_MAX);

@@ -5,7 +5,7 @@ ghost use Rattle.std.specs.Io.KnownBytes.{Appends};
 ghost use Rattle.rubis_model.specs.Laws.{InRun};
 ghost use Rattle.rubis_model.specs.WorldRecords.{world_output_of};
 ghost use Rattle.rubis_script.specs.Accounts.Ending.{AtEnd};
-ghost use Rattle.rubis_script.specs.Progress.{HasComeSoFar, InEachRun, IsCut, IsDone, IsTooLong, WroteFront};
+ghost use Rattle.rubis_script.specs.Progress.{HasComeSoFar, InEachRun, IsCut, IsDone, IsTooLong, WrotePrefix};
 ghost use Rattle.rubis_script.specs.Reading.{Gives};
 ghost use Rattle.rubis_script.specs.Text.{input_records, rows_text};
 ghost use Rattle.rubis_world.specs.Running.{told_by_world};
@@ -37,7 +37,7 @@ fn answer_next<T: Threads + Wait + Sync, R: Read, W: Write>(
     ensures read { IsErrOf result RunFault.Read → InEachRun R.remaining records.old (told_by_world desk.old.world (answered + 1)) (W.contents writer.old) sink.old (answered + 1) (λ all old input.
         IsCut all old (W.contents writer.new) (input_records input)) }
     ensures memory { IsErrOf result RunFault.Memory → InEachRun R.remaining records.old (told_by_world desk.old.world (answered + 1)) (W.contents writer.old) sink.old (answered + 1) (λ all old input.
-        WroteFront (all.text AtEnd) old (W.contents writer.new) (input_records input)) }
+        WrotePrefix (all.text AtEnd) old (W.contents writer.new) (input_records input)) }
     ensures faults { IfErr result (λ e. (e ≡ RunFault.Read) ⊎ (e ≡ RunFault.Write) ⊎ (e ≡ RunFault.Memory)) }
 {
     if let Some(count) = next_record(rt, records, desk, sink, writer, answered)? {
@@ -64,7 +64,7 @@ fn serve<T: Threads + Wait + Sync, R: Read, W: Write>(
     ensures read { IsErrOf result RunFault.Read → (input : List ℕ) → Gives R.remaining records.old (input_records input) → sink.old ≡ []
         → IsCut (told_by_world desk.old.world 1) (W.contents writer.old) (W.contents writer.new) (input_records input) }
     ensures memory { IsErrOf result RunFault.Memory → (input : List ℕ) → Gives R.remaining records.old (input_records input) → sink.old ≡ []
-        → WroteFront ((told_by_world desk.old.world 1).text AtEnd) (W.contents writer.old) (W.contents writer.new) (input_records input) }
+        → WrotePrefix ((told_by_world desk.old.world 1).text AtEnd) (W.contents writer.old) (W.contents writer.new) (input_records input) }
 {
     'steps: for n in 0..limit {
         if let Some(count) = answer_next(rt, records, desk, sink, writer, n)? {
@@ -95,7 +95,7 @@ pub fn run_world_desk<T: Threads + Wait + Sync, R: Read + Drop, W: Write>(
     ensures read { IsErrOf result RunFault.Read → IfSome (R.remaining reader) (λ input.
         IsCut (told_by_world desk.old.world 1) (W.contents writer.old) (W.contents writer.new) (input_records input)) }
     ensures memory { IsErrOf result RunFault.Memory → IfSome (R.remaining reader) (λ input.
-        WroteFront ((told_by_world desk.old.world 1).text AtEnd) (W.contents writer.old) (W.contents writer.new) (input_records input)) }
+        WrotePrefix ((told_by_world desk.old.world 1).text AtEnd) (W.contents writer.old) (W.contents writer.new) (input_records input)) }
     ensures run { InRun desk.new.world.world }
 {
     let mut records = Records::new(alloc, reader);
@@ -131,7 +131,7 @@ pub fn run_world<T: Threads + Wait + Sync, R: Read + Drop, W: Write>(
     ensures read { IsErrOf result RunFault.Read → IfSome (R.remaining reader) (λ input.
         (k : ℕ) × Appends (W.contents writer.old) (W.contents writer.new) (rows_text (world_output_of config.now.sites config.now.keep (take k (input_records input))))) }
     ensures memory { IsErrOf result RunFault.Memory → IfSome (R.remaining reader) (λ input.
-        WroteFront (λ records. rows_text (world_output_of config.now.sites config.now.keep records)) (W.contents writer.old) (W.contents writer.new) (input_records input)) }
+        WrotePrefix (λ records. rows_text (world_output_of config.now.sites config.now.keep records)) (W.contents writer.old) (W.contents writer.new) (input_records input)) }
 {
     let mut desk = WorldDesk::new(alloc, config)?;
     run_world_desk(rt, alloc, reader, writer, &mut desk, RECORDS_MAX)
@@ -159,7 +159,7 @@ pub fn run_world_to_exit<T: Threads + Wait + Sync, R: Read + Drop, W: Write>(
     ensures read { IsErrOf result RunFault.Read → IfSome (R.remaining reader) (λ input.
         (k : ℕ) × Appends (W.contents writer.old) (W.contents writer.new) (rows_text (world_output_of config.now.sites config.now.keep (take k (input_records input))))) }
     ensures memory { IsErrOf result RunFault.Memory → IfSome (R.remaining reader) (λ input.
-        WroteFront (λ records. rows_text (world_output_of config.now.sites config.now.keep records)) (W.contents writer.old) (W.contents writer.new) (input_records input)) }
+        WrotePrefix (λ records. rows_text (world_output_of config.now.sites config.now.keep records)) (W.contents writer.old) (W.contents writer.new) (input_records input)) }
 {
     let mut desk = WorldDesk::new(alloc, config)?;
     let ended = run_world_desk(rt, alloc, reader, writer, &mut desk, RECORDS_MAX);

@@ -1,6 +1,6 @@
 use Rattle.std.proofs.Common.{◌+◌, refl, arith}
 use Rattle.rubis_script.specs.declared.fault.RunFault.TheVariants as fault
-use Rattle.rubis_script.proofs.RunFacts.{handed_on, progress-cut, progress-drained, progress-end, progress-front, progress-stays}
+use Rattle.rubis_script.proofs.RunFacts.{handed_on, progress-cut, progress-drained, progress-end, progress-prefix, progress-stays}
 use Rattle.rubis_script.proofs.run.end_run.Goals as goal
 
 pub returns-in_ok-write_out_end-in-Ok-clause-done : goal.returns-in_ok-write_out_end-in-Ok-clause-done
@@ -23,7 +23,7 @@ returns-in_ok-write_out_held-in-Err-clause-read g c e before all old input p = (
 
 pub returns-in_ok-write_out_held-in-Err-clause-memory : goal.returns-in_ok-write_out_held-in-Err-clause-memory
 returns-in_ok-write_out_held-in-Err-clause-memory g c e before all old input p =
-    progress-front _ _ all (g.S.Service.account c.write_out_held.new.service (c.args.answered + 1)) old _ _ _ input
+    progress-prefix _ _ all (g.S.Service.account c.write_out_held.new.service (c.args.answered + 1)) old _ _ _ input
     (progress-drained _ _ all _ _ old _ _ _ _ input p (c.in_ok-write_out_held-in-Err.ensures.drains (c.args.answered + 1)))
 
 pub returns-in_err-write_out_held-in-Err-clause-memory : goal.returns-in_err-write_out_held-in-Err-clause-memory

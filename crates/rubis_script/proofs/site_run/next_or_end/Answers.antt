@@ -1,7 +1,7 @@
 use Rattle.std.proofs.Common.{◌≡◌, ◌+◌, false, true, rules}
 use Rattle.rubis_script.specs.SiteRuns.{told_by}
 use Rattle.rubis_script.specs.Windows.{held_by}
-use Rattle.rubis_script.proofs.RunFacts.{if_ended, if_ok_so, progress-front, progress-kept, takes-at}
+use Rattle.rubis_script.proofs.RunFacts.{if_ended, if_ok_so, progress-kept, progress-prefix, takes-at}
 use Rattle.rubis_script.proofs.site_run.next_or_end.Goals as goal
 
 pub returns-in-Ok-true-clause-found : goal.returns-in-Ok-true-clause-found
@@ -10,10 +10,10 @@ returns-in-Ok-true-clause-found g c =
     takes-at _ c.args.records.now c.advance.new.self _ _ found c.in-Ok-true.ensures.takes
 
 pub returns-in_err-flush-in-Ok-false-clause-memory : goal.returns-in_err-flush-in-Ok-false-clause-memory
-returns-in_err-flush-in-Ok-false-clause-memory g c e all old input p = progress-front _ _ all _ old _ _ _ input p
+returns-in_err-flush-in-Ok-false-clause-memory g c e all old input p = progress-prefix _ _ all _ old _ _ _ input p
 
 pub returns-in_err-flush-in-Err-clause-memory : goal.returns-in_err-flush-in-Err-clause-memory
-returns-in_err-flush-in-Err-clause-memory g c e all old input p = progress-front _ _ all _ old _ _ _ input p
+returns-in_err-flush-in-Err-clause-memory g c e all old input p = progress-prefix _ _ all _ old _ _ _ input p
 
 pub returns-in_ok-flush-in-Ok-false-clause-done : goal.returns-in_ok-flush-in-Ok-false-clause-done
 returns-in_ok-flush-in-Ok-false-clause-done g c =
