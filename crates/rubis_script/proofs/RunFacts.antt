@@ -5,13 +5,14 @@ use Rattle.std.proofs.lemmas.List.{append-nil}
 use Rattle.std.proofs.Math.Seq.{take-append_seam}
 use Rattle.std.specs.Io.KnownBytes.{Appends}
 use Rattle.rubis_script.specs.declared.record_list.Records.{Records}
+use Rattle.rubis_script.specs.declared.run.Run.{Run}
 use Rattle.rubis_script.specs.declared.service.Course.TheVariants.{GoesOn, Ends}
 use Rattle.csv.proofs.WriteFacts.{appends-more, appends-none}
 use Rattle.rubis_script.specs.Accounts.{Account, AnswersRecord, Keeps}
 use Rattle.rubis_script.specs.Accounts.Ending.{AtEnd, Cut}
 use Rattle.rubis_script.specs.Reading.{Advances, Gives, fields_now}
 use Rattle.rubis_script.specs.Text.{input_records}
-use Rattle.rubis_script.specs.Progress.{Drained, HasComeSoFar, IsDone, IsTooLong, WrotePrefix}
+use Rattle.rubis_script.specs.Progress.{Drained, HasComeSoFar, IsDone, IsTooLong, StandsAt, WrotePrefix}
 
 pub progress-start : {R : Type 0} (rem : R → Option (List ℕ)) (records : Records R) (all : Account) (old : Option (List ℕ)) (input : List ℕ)
     → Gives rem records (input_records input) → HasComeSoFar rem records all all old old [] 1 input
@@ -26,6 +27,11 @@ progress-start rem records all old input gives = record {
   told = λ e m. refl;
   counted = λ m. omega arith;
 }
+
+-- a run stands at its start
+pub progress-starts : {R : Type 0} (rem : R → Option (List ℕ)) (run : Run R) (account : ℕ → Account) (old : Option (List ℕ)) (input : List ℕ)
+    → run.answered ≡ 0 → run.reply.sink ≡ [] → Gives rem run.records (input_records input) → StandsAt rem run account (account 1) old old input
+progress-starts rem run account old input none empty gives = rw (none, empty) (progress-start rem run.records (account 1) old input gives)
 
 -- a record was answered, and the run goes on
 pub progress-step : {R : Type 0} (rem : R → Option (List ℕ)) (a b : Records R) (all more more2 : Account)

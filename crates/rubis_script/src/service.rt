@@ -6,6 +6,7 @@ ghost use Rattle.rubis_script.specs.Accounts.Ending.{AtEnd, Cut};
 
 use super::fault::OutOfMemory;
 use super::input_record::InputRecord;
+use super::reply::Reply;
 use super::sink::Sink;
 
 /// Whether a run goes on behind a record.
@@ -42,14 +43,13 @@ pub trait Service<T> {
 /// method is known to the calling thread alone. Its loop goes by the steps of the engine, with a call of its own between
 /// `next_record` and `write_out`.
 pub trait Answering<T>: Service<T> {
-    /// Answers the record with this number, and says whether the run goes on. What it writes and what is still to be
+    /// Answers the record whose number the reply has, and says whether the run goes on. What it writes and what is still to be
     /// written are together the text; where the run ends here, what it writes is all of it.
     fn answer(
         &mut self,
         rt: &T,
-        number: u64,
         fields: &InputRecord,
-        sink: &mut Sink,
+        reply: &mut Reply,
     ) -> Result<Course, OutOfMemory>
-        ensures { IfOk result (λ course. AnswersRecord course (Self.account self.old number) (Self.account self.new (number + 1)) sink.old sink.new fields.now) };
+        ensures { IfOk result (λ course. AnswersRecord course (Self.account self.old reply.old.number) (Self.account self.new (reply.old.number + 1)) reply.old.sink reply.new.sink fields.now) };
 }

@@ -16,7 +16,7 @@ use std::io::Write;
 use std::marker::Model;
 use std::mem;
 
-// So many bytes of text are written out at once.
+// How many bytes of text are written out at once.
 const CHUNK: usize = 65_536;
 
 /// The text of rows that waits to be written. It is emptied without giving its room back.

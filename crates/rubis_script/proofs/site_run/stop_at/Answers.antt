@@ -9,24 +9,24 @@ returns-in_err-flush-clause-memory g c e all old input p = progress-prefix _ _ a
 
 pub returns-clause-ok : goal.returns-clause-ok
 returns-clause-ok g c =
-    let n = c.args.limit + 1 in
+    let n = c.args.site_run.now.run.answered + 1 in
     if_ok_so _ _ c.stop.result (λ count done all old input p. done all old input
-    (progress-kept _ _ all (held_by c.args.desk.now.site c.args.window.now.items n) (told_by c.flush.new.self.site n) old _ _ _ n input p c.in_ok-flush.ensures.flushed)) c.stop.ensures.ok
+    (progress-kept _ _ all (held_by c.args.desk.now.site c.args.site_run.now.window.items n) (told_by c.flush.new.self.site n) old _ _ _ n input p c.in_ok-flush.ensures.flushed)) c.stop.ensures.ok
 
 pub returns-clause-too_long : goal.returns-clause-too_long
 returns-clause-too_long g c e all old input p =
-    let n = c.args.limit + 1 in
+    let n = c.args.site_run.now.run.answered + 1 in
     c.stop.ensures.too_long e all old input
-    (progress-kept _ _ all (held_by c.args.desk.now.site c.args.window.now.items n) (told_by c.flush.new.self.site n) old _ _ _ n input p c.in_ok-flush.ensures.flushed)
+    (progress-kept _ _ all (held_by c.args.desk.now.site c.args.site_run.now.window.items n) (told_by c.flush.new.self.site n) old _ _ _ n input p c.in_ok-flush.ensures.flushed)
 
 pub returns-clause-read : goal.returns-clause-read
 returns-clause-read g c e all old input p =
-    let n = c.args.limit + 1 in
+    let n = c.args.site_run.now.run.answered + 1 in
     c.stop.ensures.read e all old input
-    (progress-kept _ _ all (held_by c.args.desk.now.site c.args.window.now.items n) (told_by c.flush.new.self.site n) old _ _ _ n input p c.in_ok-flush.ensures.flushed)
+    (progress-kept _ _ all (held_by c.args.desk.now.site c.args.site_run.now.window.items n) (told_by c.flush.new.self.site n) old _ _ _ n input p c.in_ok-flush.ensures.flushed)
 
 pub returns-clause-memory : goal.returns-clause-memory
 returns-clause-memory g c e all old input p =
-    let n = c.args.limit + 1 in
+    let n = c.args.site_run.now.run.answered + 1 in
     c.stop.ensures.memory e all old input
-    (progress-kept _ _ all (held_by c.args.desk.now.site c.args.window.now.items n) (told_by c.flush.new.self.site n) old _ _ _ n input p c.in_ok-flush.ensures.flushed)
+    (progress-kept _ _ all (held_by c.args.desk.now.site c.args.site_run.now.window.items n) (told_by c.flush.new.self.site n) old _ _ _ n input p c.in_ok-flush.ensures.flushed)
