@@ -17,7 +17,7 @@ use crate::verdicts::{write_bad_record, write_verdict};
 use crate::walks::audit;
 use rubis_message::Message;
 use rubis_schema::{Fields, Items};
-use rubis_script::{Answering, Course, InputRecord, OutOfMemory, Service, Sink};
+use rubis_script::{Answering, Course, InputRecord, OutOfMemory, Reply, Service, Sink};
 use std::alloc::{AllocError, Global};
 use std::marker::Model;
 
@@ -28,7 +28,6 @@ pub struct Auditor {
     ended: Vec<Log>,
     current: Option<Log>,
     sites: u8,
-    reply: Fields,
     alloc: Global,
 }
 
@@ -107,7 +106,6 @@ impl Auditor {
             ended: Vec::new(alloc),
             current: None,
             sites,
-            reply: Fields::new(alloc),
             alloc,
         }
     }
@@ -148,15 +146,16 @@ impl<T> Service<T> for Auditor {
 
     ghost reads_next = { Prim.search rules };
 
-    fn settle(&mut self, _rt: &T, _sink: &mut Sink) -> Result<(), OutOfMemory> {
+    fn answer_held(&mut self, _rt: &T, _sink: &mut Sink) -> Result<(), OutOfMemory> {
         Ok(())
     }
 
-    fn finish(&mut self, _rt: &T, sink: &mut Sink) -> Result<(), OutOfMemory> {
+    fn answer_end(&mut self, _rt: &T, sink: &mut Sink) -> Result<(), OutOfMemory> {
         let current = self.current.take();
         end_log(&mut self.ended, current)?;
         let verdict = audit(self.alloc, &self.ended, self.sites)?;
-        write_verdict(&mut self.reply, sink, verdict)?;
+        let mut fields = Fields::new(self.alloc);
+        write_verdict(&mut fields, sink, verdict)?;
         Ok(())
     }
 }
@@ -165,16 +164,15 @@ impl<T> Answering<T> for Auditor {
     fn answer(
         &mut self,
         _rt: &T,
-        number: u64,
         fields: &InputRecord,
-        sink: &mut Sink,
+        reply: &mut Reply,
     ) -> Result<Course, OutOfMemory> {
         if let Some(line) = read_line(self.alloc, fields, self.sites)?
             && self.take(fields, line)?
         {
             return Ok(Course::GoesOn);
         }
-        write_bad_record(&mut self.reply, sink, number)?;
+        write_bad_record(&mut reply.fields, &mut reply.sink, reply.number)?;
         Ok(Course::Ends)
     }
 }

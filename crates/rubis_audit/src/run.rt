@@ -2,7 +2,7 @@
 
 ghost use Rattle.std.specs.Prelude.{◌≤◌, IfOk, IfSome, IsErrOf};
 ghost use Rattle.rubis_script.specs.Accounts.Ending.{AtEnd};
-ghost use Rattle.rubis_script.specs.Progress.{IsCut, IsDone, IsTooLong, WroteFront};
+ghost use Rattle.rubis_script.specs.Progress.{IsCut, IsDone, IsTooLong, WrotePrefix};
 ghost use Rattle.rubis_script.specs.Text.{input_records};
 ghost use Rattle.rubis_schema.specs.declared.limits.TheConstants.{COUNTED_MAX};
 ghost use Rattle.rubis_audit.specs.Running.{audit_account};
@@ -36,7 +36,7 @@ pub fn run_audit<R: Read + Drop, W: Write>(
     ensures read { IsErrOf result RunFault.Read → IfSome (R.remaining reader) (λ input.
         IsCut (audit_account sites) (W.contents writer.old) (W.contents writer.new) (input_records input)) }
     ensures memory { IsErrOf result RunFault.Memory → IfSome (R.remaining reader) (λ input.
-        WroteFront ((audit_account sites).text AtEnd) (W.contents writer.old) (W.contents writer.new) (input_records input)) }
+        WrotePrefix ((audit_account sites).text AtEnd) (W.contents writer.old) (W.contents writer.new) (input_records input)) }
 {
     let mut auditor = Auditor::new(alloc, sites);
     run_upto(&(), alloc, reader, writer, &mut auditor, RECORDS_MAX)
@@ -62,7 +62,7 @@ pub fn run_audit_to_exit<R: Read + Drop, W: Write>(
     ensures read { IsErrOf result RunFault.Read → IfSome (R.remaining reader) (λ input.
         IsCut (audit_account sites) (W.contents writer.old) (W.contents writer.new) (input_records input)) }
     ensures memory { IsErrOf result RunFault.Memory → IfSome (R.remaining reader) (λ input.
-        WroteFront ((audit_account sites).text AtEnd) (W.contents writer.old) (W.contents writer.new) (input_records input)) }
+        WrotePrefix ((audit_account sites).text AtEnd) (W.contents writer.old) (W.contents writer.new) (input_records input)) }
 {
     let mut auditor = Auditor::new(alloc, sites);
     let ended = run_upto(&(), alloc, reader, writer, &mut auditor, RECORDS_MAX);

@@ -17,7 +17,7 @@ ghost use Rattle.rubis_audit.specs.Widening.{bad_record, widening_from};
 use crate::lines::{Line, read_line};
 use rubis_message::{Message, append_message};
 use rubis_schema::{Fields, push_number};
-use rubis_script::{Answering, Course, InputRecord, OutOfMemory, Service, Sink};
+use rubis_script::{Answering, Course, InputRecord, OutOfMemory, Reply, Service, Sink};
 use std::alloc::{AllocError, Global};
 use std::marker::Model;
 
@@ -52,7 +52,6 @@ pub struct Widener {
     from: u8,
     to: u8,
     place: Place,
-    reply: Fields,
     alloc: Global,
 }
 
@@ -70,7 +69,7 @@ impl Model for Widener {
 
 // Writes a message that counts `to` sites.
 fn write_widened(
-    reply: &mut Fields,
+    fields: &mut Fields,
     sink: &mut Sink,
     message: Message,
     to: u8,
@@ -82,20 +81,20 @@ fn write_widened(
     let Ok(wide) = message.widen(to) else {
         unreachable!()
     };
-    reply.clear();
-    append_message(reply, &wide)?;
-    sink.write_fields(reply)
+    fields.clear();
+    append_message(fields, &wide)?;
+    sink.write_fields(fields)
 }
 
 // Writes the record that says which record is not in the grammar.
-fn write_bad_record(reply: &mut Fields, sink: &mut Sink, number: u64) -> Result<(), AllocError>
+fn write_bad_record(fields: &mut Fields, sink: &mut Sink, number: u64) -> Result<(), AllocError>
     ensures { OnOk result (sink.new ≡ sink.old ++ rows_text (bad_record number ∷ [])) }
 {
-    reply.clear();
-    reply.push_plain(b"widen")?;
-    reply.push_plain(b"BadRecord")?;
-    push_number(reply, number)?;
-    sink.write_fields(reply)
+    fields.clear();
+    fields.push_plain(b"widen")?;
+    fields.push_plain(b"BadRecord")?;
+    push_number(fields, number)?;
+    sink.write_fields(fields)
 }
 
 impl Widener {
@@ -109,7 +108,6 @@ impl Widener {
             from,
             to,
             place: Place::BeforeLogs,
-            reply: Fields::new(alloc),
             alloc,
         }
     }
@@ -119,18 +117,23 @@ impl Widener {
         &mut self,
         fields: &InputRecord,
         line: Line,
-        sink: &mut Sink,
+        reply: &mut Reply,
     ) -> Result<(), AllocError>
         requires among { IsAmongLine self.old.from (Some line) }
         requires written { line_record (line_as fields.now line) ≡ fields.now }
         ensures state { self.new ≡ self.old }
-        ensures text { OnOk result (sink.new ≡ sink.old ++ rows_text (line_record (widened_line self.old.to (line_as fields.now line)) ∷ [])) }
+        ensures text { OnOk result (reply.new.sink ≡ reply.old.sink ++ rows_text (line_record (widened_line self.old.to (line_as fields.now line)) ∷ [])) }
     {
         match line {
-            Line::Next(message) => write_widened(&mut self.reply, sink, message, self.to),
+            Line::Next(message) => write_widened(
+                &mut reply.fields,
+                &mut reply.sink,
+                message,
+                self.to,
+            ),
             Line::Begin(_) | Line::Claim => {
                 let row = fields.to_fields(self.alloc)?;
-                sink.write_fields(&row)
+                reply.sink.write_fields(&row)
             }
         }
     }
@@ -143,11 +146,11 @@ impl<T> Service<T> for Widener {
 
     ghost reads_next = { Prim.search rules };
 
-    fn settle(&mut self, _rt: &T, _sink: &mut Sink) -> Result<(), OutOfMemory> {
+    fn answer_held(&mut self, _rt: &T, _sink: &mut Sink) -> Result<(), OutOfMemory> {
         Ok(())
     }
 
-    fn finish(&mut self, _rt: &T, _sink: &mut Sink) -> Result<(), OutOfMemory> {
+    fn answer_end(&mut self, _rt: &T, _sink: &mut Sink) -> Result<(), OutOfMemory> {
         Ok(())
     }
 }
@@ -156,18 +159,17 @@ impl<T> Answering<T> for Widener {
     fn answer(
         &mut self,
         _rt: &T,
-        number: u64,
         fields: &InputRecord,
-        sink: &mut Sink,
+        reply: &mut Reply,
     ) -> Result<Course, OutOfMemory> {
         if let Some(line) = read_line(self.alloc, fields, self.from)?
             && let Some(place) = self.place.after(&line)
         {
             self.place = place;
-            self.write_line(fields, line, sink)?;
+            self.write_line(fields, line, reply)?;
             return Ok(Course::GoesOn);
         }
-        write_bad_record(&mut self.reply, sink, number)?;
+        write_bad_record(&mut reply.fields, &mut reply.sink, reply.number)?;
         Ok(Course::Ends)
     }
 }

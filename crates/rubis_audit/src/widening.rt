@@ -3,7 +3,7 @@
 ghost use Rattle.std.specs.Prelude.{◌≤◌, IfOk, IfSome, IsErrOf};
 ghost use Rattle.rubis_schema.specs.declared.limits.TheConstants.{COUNTED_MAX};
 ghost use Rattle.rubis_script.specs.Accounts.Ending.{AtEnd};
-ghost use Rattle.rubis_script.specs.Progress.{IsCut, IsDone, IsTooLong, WroteFront};
+ghost use Rattle.rubis_script.specs.Progress.{IsCut, IsDone, IsTooLong, WrotePrefix};
 ghost use Rattle.rubis_script.specs.Text.{input_records};
 ghost use Rattle.rubis_audit.specs.Widening.{widening_account};
 
@@ -38,7 +38,7 @@ pub fn run_widen<R: Read + Drop, W: Write>(
     ensures read { IsErrOf result RunFault.Read → IfSome (R.remaining reader) (λ input.
         IsCut (widening_account from to) (W.contents writer.old) (W.contents writer.new) (input_records input)) }
     ensures memory { IsErrOf result RunFault.Memory → IfSome (R.remaining reader) (λ input.
-        WroteFront ((widening_account from to).text AtEnd) (W.contents writer.old) (W.contents writer.new) (input_records input)) }
+        WrotePrefix ((widening_account from to).text AtEnd) (W.contents writer.old) (W.contents writer.new) (input_records input)) }
 {
     let mut widener = Widener::new(alloc, from, to);
     run_upto(&(), alloc, reader, writer, &mut widener, RECORDS_MAX)

@@ -13,7 +13,7 @@ use Rattle.csv.specs.Writing.{field_text, fields_text, fields_written, has_writt
 use Rattle.csv.specs.declared.writer.Writer.{Writer}
 use Rattle.std.specs.List.{list_any}
 use Rattle.rubis_schema.specs.FieldList.{all_plain, comma, is_mark, is_plain, joined}
-use Rattle.rubis_script.specs.Rows.{HasBegunRow, front_text, held, plain_row}
+use Rattle.rubis_script.specs.Rows.{HasBegunRow, held, plain_row, prefix_text}
 use Rattle.rubis_script.specs.Text.{plain_writer}
 
 -- a count that stops at the greatest number
@@ -120,13 +120,13 @@ comma-first : (fields : List (List ℕ)) → 0 < length fields → joined fields
 comma-first [] some = absurd (omega (arith, some))
 comma-first (f ∷ rest) some = refl
 
--- fields with a comma behind each, in front of others
-pub front-joined : (first fields : List (List ℕ)) → 0 < length fields → drop 1 (joined (first ++ fields)) ≡ front_text first ++ drop 1 (joined fields)
-front-joined [] fields some = refl
-front-joined (f ∷ rest) fields some =
+-- fields with a comma behind each, and then others
+pub prefix-joined : (first fields : List (List ℕ)) → 0 < length fields → drop 1 (joined (first ++ fields)) ≡ prefix_text first ++ drop 1 (joined fields)
+prefix-joined [] fields some = refl
+prefix-joined (f ∷ rest) fields some =
     let more : 0 < length (rest ++ fields) = omega (arith, length-append rest fields, some) in
-    let behind = comma-first (rest ++ fields) more ∙ ap (λ t. comma ∷ t) (front-joined rest fields some) in
-    ap (λ t. f ++ t) behind ∙ sym (append_assoc f (comma ∷ []) (front_text rest ++ drop 1 (joined fields))) ∙ sym (append_assoc (f ++ comma ∷ []) (front_text rest) (drop 1 (joined fields)))
+    let behind = comma-first (rest ++ fields) more ∙ ap (λ t. comma ∷ t) (prefix-joined rest fields some) in
+    ap (λ t. f ++ t) behind ∙ sym (append_assoc f (comma ∷ []) (prefix_text rest ++ drop 1 (joined fields))) ∙ sym (append_assoc (f ++ comma ∷ []) (prefix_text rest) (drop 1 (joined fields)))
 
 -- a text of plain fields, found behind plain ones, makes a plain row with them
 abbrev pub MakesRow : List (List ℕ) → List (List ℕ) → List ℕ → Type 0
@@ -136,9 +136,9 @@ joined-makes : (first fields : List (List ℕ)) → all_plain first ≡ true →
 joined-makes first fields plain all some =
     let both-plain : all_plain (first ++ fields) ≡ true = list_all-append is_plain first fields ∙ both_true plain all in
     let row = row-plain (first ++ fields) both-plain (omega (arith, some, length-append first fields)) in
-    let begins = front-joined first fields (omega (arith, some)) in
+    let begins = prefix-joined first fields (omega (arith, some)) in
     let size = ap length (comma-first fields (omega (arith, some))) in
-    (row ∙ ap (λ t. t ++ line_feed ∷ []) begins ∙ append_assoc (front_text first) (drop 1 (joined fields)) (line_feed ∷ []), omega (arith, size))
+    (row ∙ ap (λ t. t ++ line_feed ∷ []) begins ∙ append_assoc (prefix_text first) (drop 1 (joined fields)) (line_feed ∷ []), omega (arith, size))
 
 pub found-makes : (first fields : List (List ℕ)) (found : Option (Bor (List ℕ))) → IfSome found (λ text. text.now ≡ joined fields)
     → IfSome found (λ text. all_plain fields ≡ true) → all_plain first ≡ true → 2 ≤ length fields → IfSome found (λ text. MakesRow first fields text.now)

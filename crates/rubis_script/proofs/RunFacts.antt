@@ -5,20 +5,21 @@ use Rattle.std.proofs.lemmas.List.{append-nil}
 use Rattle.std.proofs.Math.Seq.{take-append_seam}
 use Rattle.std.specs.Io.KnownBytes.{Appends}
 use Rattle.rubis_script.specs.declared.record_list.Records.{Records}
+use Rattle.rubis_script.specs.declared.run.Run.{Run}
 use Rattle.rubis_script.specs.declared.service.Course.TheVariants.{GoesOn, Ends}
 use Rattle.csv.proofs.WriteFacts.{appends-more, appends-none}
 use Rattle.rubis_script.specs.Accounts.{Account, AnswersRecord, Keeps}
 use Rattle.rubis_script.specs.Accounts.Ending.{AtEnd, Cut}
 use Rattle.rubis_script.specs.Reading.{Advances, Gives, fields_now}
 use Rattle.rubis_script.specs.Text.{input_records}
-use Rattle.rubis_script.specs.Progress.{Drained, HasComeSoFar, IsDone, IsTooLong, WroteFront}
+use Rattle.rubis_script.specs.Progress.{Drained, HasComeSoFar, IsDone, IsTooLong, StandsAt, WrotePrefix}
 
 pub progress-start : {R : Type 0} (rem : R → Option (List ℕ)) (records : Records R) (all : Account) (old : Option (List ℕ)) (input : List ℕ)
     → Gives rem records (input_records input) → HasComeSoFar rem records all all old old [] 1 input
 progress-start rem records all old input gives = record {
   done = [];
   rest = input_records input;
-  front = [];
+  written = [];
   parts = refl;
   count = refl;
   gives = gives;
@@ -26,6 +27,11 @@ progress-start rem records all old input gives = record {
   told = λ e m. refl;
   counted = λ m. omega arith;
 }
+
+-- a run stands at its start
+pub progress-starts : {R : Type 0} (rem : R → Option (List ℕ)) (run : Run R) (account : ℕ → Account) (old : Option (List ℕ)) (input : List ℕ)
+    → run.answered ≡ 0 → run.reply.sink ≡ [] → Gives rem run.records (input_records input) → StandsAt rem run account (account 1) old old input
+progress-starts rem run account old input none empty gives = rw (none, empty) (progress-start rem run.records (account 1) old input gives)
 
 -- a record was answered, and the run goes on
 pub progress-step : {R : Type 0} (rem : R → Option (List ℕ)) (a b : Records R) (all more more2 : Account)
@@ -39,12 +45,12 @@ progress-step rem a b all more more2 old now sink sink2 n input p takes answered
     record {
       done = p.done ++ (fields_now b ∷ []);
       rest = left;
-      front = p.front;
+      written = p.written;
       parts = p.parts ∙ ap (λ t. p.done ++ t) first ∙ sym (append_assoc p.done (fields_now b ∷ []) left);
       count = ap (λ k. k + 1) (one ∙ p.count);
       gives = gives;
       appended = p.appended;
-      told = λ e m. ap (all.text e) (append_assoc p.done (fields_now b ∷ []) m) ∙ p.told e (fields_now b ∷ m) ∙ ap (λ t. p.front ++ t) ((answered m).0 e);
+      told = λ e m. ap (all.text e) (append_assoc p.done (fields_now b ∷ []) m) ∙ p.told e (fields_now b ∷ m) ∙ ap (λ t. p.written ++ t) ((answered m).0 e);
       counted = λ m.
           let whole = ap all.read (append_assoc p.done (fields_now b ∷ []) m) ∙ p.counted (fields_now b ∷ m) in
           let next = (answered m).1 in
@@ -58,12 +64,12 @@ pub progress-drained : {R : Type 0} (rem : R → Option (List ℕ)) (a : Records
 progress-drained rem a all more more2 old now now2 sink n input p d = record {
   done = p.done;
   rest = p.rest;
-  front = p.front ++ d.out;
+  written = p.written ++ d.out;
   parts = p.parts;
   count = p.count;
   gives = p.gives;
-  appended = appends-more old now now2 p.front d.out p.appended d.appended;
-  told = λ e m. p.told e m ∙ ap (λ t. p.front ++ t) (d.told e m) ∙ sym (append_assoc p.front d.out (more2.text e m));
+  appended = appends-more old now now2 p.written d.out p.appended d.appended;
+  told = λ e m. p.told e m ∙ ap (λ t. p.written ++ t) (d.told e m) ∙ sym (append_assoc p.written d.out (more2.text e m));
   counted = λ m. p.counted m ∙ ap (λ k. length p.done + k) (d.counted m);
 }
 
@@ -74,12 +80,12 @@ pub progress-kept : {R : Type 0} (rem : R → Option (List ℕ)) (a : Records R)
 progress-kept rem a all more more2 old now sink sink2 n input p keeps = record {
   done = p.done;
   rest = p.rest;
-  front = p.front;
+  written = p.written;
   parts = p.parts;
   count = p.count;
   gives = p.gives;
   appended = p.appended;
-  told = λ e m. p.told e m ∙ ap (λ t. p.front ++ t) ((keeps m).0 e);
+  told = λ e m. p.told e m ∙ ap (λ t. p.written ++ t) ((keeps m).0 e);
   counted = λ m. p.counted m ∙ ap (λ k. length p.done + k) (keeps m).1;
 }
 
@@ -91,10 +97,10 @@ pub progress-end : {R : Type 0} (rem : R → Option (List ℕ)) (a b : Records R
     → IsDone all limit old now2 (input_records input) k
 progress-end rem a b all more old now now2 sink n k limit input p takes out none e within =
     let whole : input_records input ≡ p.done ++ [] = p.parts ∙ ap (λ t. p.done ++ t) (takes p.rest p.gives) in
-    let text : all.text AtEnd (input_records input) ≡ p.front ++ (sink ++ more.text AtEnd []) = ap (all.text AtEnd) whole ∙ p.told AtEnd [] in
+    let text : all.text AtEnd (input_records input) ≡ p.written ++ (sink ++ more.text AtEnd []) = ap (all.text AtEnd) whole ∙ p.told AtEnd [] in
     let read : all.read (input_records input) ≡ length p.done + more.read [] = ap all.read whole ∙ p.counted [] in
     let count = p.count in
-    (subst (λ (t : List ℕ). Appends old now2 t) (sym text) (appends-more old now now2 p.front _ p.appended out), omega (arith, read, none, count, e), within)
+    (subst (λ (t : List ℕ). Appends old now2 t) (sym text) (appends-more old now now2 p.written _ p.appended out), omega (arith, read, none, count, e), within)
 
 -- a record ends the run
 pub progress-ended : {R : Type 0} (rem : R → Option (List ℕ)) (a b : Records R) (all more more2 : Account)
@@ -105,15 +111,15 @@ pub progress-ended : {R : Type 0} (rem : R → Option (List ℕ)) (a b : Records
 progress-ended rem a b all more more2 old now now2 sink sink2 n input p takes answered out =
     let (left, first, gives) = takes p.rest p.gives in
     let whole : input_records input ≡ p.done ++ (fields_now b ∷ left) = p.parts ∙ ap (λ t. p.done ++ t) first in
-    let text : all.text AtEnd (input_records input) ≡ p.front ++ sink2 =
-    ap (all.text AtEnd) whole ∙ p.told AtEnd (fields_now b ∷ left) ∙ ap (λ t. p.front ++ t) (answered left).0 in
+    let text : all.text AtEnd (input_records input) ≡ p.written ++ sink2 =
+    ap (all.text AtEnd) whole ∙ p.told AtEnd (fields_now b ∷ left) ∙ ap (λ t. p.written ++ t) (answered left).0 in
     let read : all.read (input_records input) ≡ length p.done + more.read (fields_now b ∷ left) = ap all.read whole ∙ p.counted (fields_now b ∷ left) in
     let one = (answered left).1 in
     let count = p.count in
-    (subst (λ (t : List ℕ). Appends old now2 t) (sym text) (appends-more old now now2 p.front sink2 p.appended out), omega (arith, read, one, count), omega arith)
+    (subst (λ (t : List ℕ). Appends old now2 t) (sym text) (appends-more old now now2 p.written sink2 p.appended out), omega (arith, read, one, count), omega arith)
 
-take-front : (xs ys : List (List (List ℕ))) (k : ℕ) → length xs ≡ k → take k (xs ++ ys) ≡ xs
-take-front xs ys k e = subst (λ j. take j (xs ++ ys) ≡ xs) e (take-append_seam xs ys)
+take-prefix : (xs ys : List (List (List ℕ))) (k : ℕ) → length xs ≡ k → take k (xs ++ ys) ≡ xs
+take-prefix xs ys k e = subst (λ j. take j (xs ++ ys) ≡ xs) e (take-append_seam xs ys)
 
 -- the records before the next
 before-next : {R : Type 0} (rem : R → Option (List ℕ)) (a : Records R) (all more : Account)
@@ -122,7 +128,7 @@ before-next : {R : Type 0} (rem : R → Option (List ℕ)) (a : Records R) (all 
 before-next rem a all more old now sink n k input e p =
     let count = p.count in
     let length : length p.done ≡ k = omega (arith, count, e) in
-    ap (take k) p.parts ∙ take-front p.done p.rest k length ∙ sym (append-nil p.done)
+    ap (take k) p.parts ∙ take-prefix p.done p.rest k length ∙ sym (append-nil p.done)
 
 -- the run is cut short before the next record, and nothing is held
 pub progress-cut : {R : Type 0} (rem : R → Option (List ℕ)) (a : Records R) (all more : Account)
@@ -130,8 +136,8 @@ pub progress-cut : {R : Type 0} (rem : R → Option (List ℕ)) (a : Records R) 
     → HasComeSoFar rem a all more old now [] n input → more.text Cut [] ≡ [] → n ≡ k + 1
     → Appends old now (all.text Cut (take k (input_records input)))
 progress-cut rem a all more old now n k input p none e =
-    let text : all.text Cut (take k (input_records input)) ≡ p.front =
-    ap (all.text Cut) (before-next rem a all more old now [] n k input e p) ∙ p.told Cut [] ∙ ap (λ t. p.front ++ t) none ∙ append-nil p.front in
+    let text : all.text Cut (take k (input_records input)) ≡ p.written =
+    ap (all.text Cut) (before-next rem a all more old now [] n k input e p) ∙ p.told Cut [] ∙ ap (λ t. p.written ++ t) none ∙ append-nil p.written in
     subst (λ (t : List ℕ). Appends old now t) (sym text) p.appended
 
 -- there is another record, and no more are taken
@@ -162,20 +168,20 @@ progress-more rem a b all more old now sink n input p takes =
     rw (whole, length-append p.done (fields_now b ∷ left)) (omega (arith, p.count))
 
 -- at any moment
-pub progress-front : {R : Type 0} (rem : R → Option (List ℕ)) (a : Records R) (all more : Account)
+pub progress-prefix : {R : Type 0} (rem : R → Option (List ℕ)) (a : Records R) (all more : Account)
     (old now : Option (List ℕ)) (sink : List ℕ) (n : ℕ) (input : List ℕ)
-    → HasComeSoFar rem a all more old now sink n input → WroteFront (all.text AtEnd) old now (input_records input)
-progress-front rem a all more old now sink n input p =
-    (p.front, sink ++ more.text AtEnd p.rest, p.appended, sym (ap (all.text AtEnd) p.parts ∙ p.told AtEnd p.rest))
+    → HasComeSoFar rem a all more old now sink n input → WrotePrefix (all.text AtEnd) old now (input_records input)
+progress-prefix rem a all more old now sink n input p =
+    (p.written, sink ++ more.text AtEnd p.rest, p.appended, sym (ap (all.text AtEnd) p.parts ∙ p.told AtEnd p.rest))
 
 -- a read, once it is known whether it found a record
 pub takes-at : {R : Type 0} (rem : R → Option (List ℕ)) (a b : Records R) (found v : Bool) → found ≡ v
     → Advances rem a b found → Advances rem a b v
 takes-at rem a b found v e t = subst (λ (x : Bool). Advances rem a b x) e t
 
-pub front-same : (all : List (List (List ℕ)) → List ℕ) (old now now2 : Option (List ℕ)) (records : List (List (List ℕ)))
-    → WroteFront all old now records → now2 ≡ now → WroteFront all old now2 records
-front-same all old now now2 records w same = (w.0, w.1, rw same w.2, w.3)
+pub prefix-same : (all : List (List (List ℕ)) → List ℕ) (old now now2 : Option (List ℕ)) (records : List (List (List ℕ)))
+    → WrotePrefix all old now records → now2 ≡ now → WrotePrefix all old now2 records
+prefix-same all old now now2 records w same = (w.0, w.1, rw same w.2, w.3)
 
 -- what follows from two facts of a call that went well
 pub on_ok_both : {T E : Type 0} {P Q S : Type 0} (r : Result T E) → (P → Q → S) → OnOk r P → OnOk r Q → OnOk r S
@@ -198,11 +204,11 @@ if_ended P Q (Ok (Some x)) f p = f x p
 if_ended P Q (Ok None) f p = tt
 if_ended P Q (Err e) f p = tt
 
--- the same front, where nothing more was written
+-- the same prefix, where nothing more was written
 pub progress-stays : {R : Type 0} (rem : R → Option (List ℕ)) (a : Records R) (all more : Account)
     (old now now2 : Option (List ℕ)) (sink : List ℕ) (n : ℕ) (input : List ℕ)
-    → HasComeSoFar rem a all more old now sink n input → now2 ≡ now → WroteFront (all.text AtEnd) old now2 (input_records input)
-progress-stays rem a all more old now now2 sink n input p same = front-same (all.text AtEnd) old now now2 (input_records input) (progress-front rem a all more old now sink n input p) same
+    → HasComeSoFar rem a all more old now sink n input → now2 ≡ now → WrotePrefix (all.text AtEnd) old now2 (input_records input)
+progress-stays rem a all more old now now2 sink n input p same = prefix-same (all.text AtEnd) old now now2 (input_records input) (progress-prefix rem a all more old now sink n input p) same
 
 -- an error that `?` hands on is the one that was met
 pub handed_on : {A E : Type 0} (r : Result A E) (met given : E) → IsErr r × IsErrAnd r (λ e. e ≡ met) → IsErrOf r given → met ≡ given

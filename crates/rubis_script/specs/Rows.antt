@@ -27,9 +27,9 @@ pub record IsBetweenRows (w : Writer (Vec ℕ Global)) : Type 0 where
   pub written : writer_pending w ≡ []
 
 -- fields with a comma behind each
-abbrev pub front_text : List (List ℕ) → List ℕ
-front_text first = flat_map (λ field. field ++ comma ∷ []) first
+abbrev pub prefix_text : List (List ℕ) → List ℕ
+prefix_text first = flat_map (λ field. field ++ comma ∷ []) first
 
 -- the row of these fields and of those of a text, in which each has a comma before it
 abbrev pub plain_row : List (List ℕ) → List ℕ → List ℕ
-plain_row first text = front_text first ++ (drop 1 text ++ line_feed ∷ [])
+plain_row first text = prefix_text first ++ (drop 1 text ++ line_feed ∷ [])

@@ -7,6 +7,7 @@ ghost use Rattle.rubis_message.specs.Grammar.{IsPacket, IsRequest};
 ghost use Rattle.rubis_message.specs.Message.{sites_of};
 ghost use Rattle.rubis_message.specs.declared.requests.Request.TheVariants as Request;
 ghost use Rattle.rubis_message.specs.declared.tokens.Packet.TheVariants as Packet;
+ghost use Rattle.rubis_model.specs.Answers.{refused_row};
 ghost use Rattle.rubis_model.specs.Runs.{input_of};
 ghost use Rattle.rubis_model.specs.Runs.Input.{Asked, Came};
 ghost use Rattle.rubis_message.specs.Readings.{packet_of};
@@ -15,6 +16,7 @@ ghost use Rattle.rubis_replica.specs.Setup.{setup_place};
 ghost use Rattle.rubis_script.specs.Accounts.{AnswersRecord, Keeps};
 ghost use Rattle.rubis_script.specs.Inputs.{IsAnswered, IsReadOf, answer_of};
 ghost use Rattle.rubis_script.specs.SiteRuns.{told_by};
+ghost use Rattle.rubis_script.specs.Text.{rows_text};
 ghost use Rattle.rubis_script.specs.Windows.{AreHeld, held_by};
 ghost use Rattle.rubis_script.specs.declared.service.Course.TheVariants as Course;
 
@@ -24,12 +26,13 @@ use crate::replies::{
     write_arrival, write_arrivals, write_listed_text, write_passed, write_refusal, write_sent,
     write_taken,
 };
+use crate::reply::Reply;
 use crate::service::Service;
 use crate::sink::Sink;
 use rubis_listing::Counted;
 use rubis_message::{Message, Packet, ReadFault, Request, Token, read_packet, read_request};
 use rubis_replica::{Config, Fault, Free, Gate, Site};
-use rubis_schema::{Fields, Listing, Refusal};
+use rubis_schema::{Listing, Refusal};
 use rubis_shadow::Ask;
 use std::alloc::{AllocError, Global};
 use std::mem;
@@ -49,41 +52,42 @@ fn answered<A>(answer: Result<A, Fault>) -> Result<Result<A, Refusal>, OutOfMemo
     }
 }
 
+// Refuses a record.
+#[inline(always)]
+fn refuse(reply: &mut Reply, refusal: Refusal) -> Result<(), OutOfMemory>
+    ensures { OnOk result (reply.new.sink ≡ reply.old.sink ++ rows_text (refused_row reply.old.number refusal ∷ [])) }
+{
+    write_refusal(&mut reply.fields, &mut reply.sink, reply.number, refusal)?;
+    Ok(())
+}
+
 // Answers an ask.
 #[inline(always)]
 fn answer_ask<G: Gate, R: Threads + Wait + Sync>(
     rt: &R,
     site: &mut Site<G>,
-    fields: &mut Fields,
-    sink: &mut Sink,
-    number: u64,
+    reply: &mut Reply,
     ask: Ask,
 ) -> Result<(), OutOfMemory>
     requires { IsAsk site.old.place.sites ask }
     ensures place { site.new.place ≡ site.old.place }
-    ensures answered { OnOk result (IsAnswered number (Asked (Request.Ask ask)) site.old site.new sink.old sink.new) }
+    ensures answered { OnOk result (IsAnswered reply.old.number (Asked (Request.Ask ask)) site.old site.new reply.old.sink reply.new.sink) }
 {
     match site.request(rt, ask) {
-        Ok(message) => write_sent(fields, sink, number, &message)?,
-        Err(Fault::Refused(refusal)) => write_refusal(fields, sink, number, refusal)?,
+        Ok(message) => write_sent(&mut reply.fields, &mut reply.sink, reply.number, &message)?,
+        Err(Fault::Refused(refusal)) => refuse(reply, refusal)?,
         Err(Fault::Behind) | Err(Fault::Memory) => return Err(OutOfMemory),
     }
     Ok(())
 }
 
 // Answers a request to hand the token on.
-fn answer_pass<G: Gate>(
-    site: &mut Site<G>,
-    fields: &mut Fields,
-    sink: &mut Sink,
-    number: u64,
-    to: u8,
-) -> Result<(), OutOfMemory>
+fn answer_pass<G: Gate>(site: &mut Site<G>, reply: &mut Reply, to: u8) -> Result<(), OutOfMemory>
     ensures place { site.new.place ≡ site.old.place }
-    ensures answered { OnOk result (IsAnswered number (Asked (Request.Pass to)) site.old site.new sink.old sink.new) }
+    ensures answered { OnOk result (IsAnswered reply.old.number (Asked (Request.Pass to)) site.old site.new reply.old.sink reply.new.sink) }
 {
     let answer = answered(site.pass(to))?;
-    write_passed(fields, sink, number, &answer)?;
+    write_passed(&mut reply.fields, &mut reply.sink, reply.number, &answer)?;
     Ok(())
 }
 
@@ -92,18 +96,16 @@ fn answer_pass<G: Gate>(
 fn answer_list<G: Gate, R: Threads + Wait + Sync>(
     rt: &R,
     site: &mut Site<G>,
-    fields: &mut Fields,
-    sink: &mut Sink,
-    number: u64,
+    reply: &mut Reply,
     listing: &Listing,
 ) -> Result<(), OutOfMemory>
     ensures place { site.new.place ≡ site.old.place }
-    ensures answered { OnOk result (IsAnswered number (Asked (Request.List listing.now)) site.old site.new sink.old sink.new) }
+    ensures answered { OnOk result (IsAnswered reply.old.number (Asked (Request.List listing.now)) site.old site.new reply.old.sink reply.new.sink) }
 {
-    let mut rows = Counted::new(sink.another());
+    let mut rows = Counted::new(reply.sink.another());
     match answered(site.list_into(rt, listing, &mut rows))? {
-        Ok(()) => write_listed_text(fields, sink, number, rows)?,
-        Err(refusal) => write_refusal(fields, sink, number, refusal)?,
+        Ok(()) => write_listed_text(&mut reply.fields, &mut reply.sink, reply.number, rows)?,
+        Err(refusal) => refuse(reply, refusal)?,
     }
     Ok(())
 }
@@ -113,19 +115,17 @@ fn answer_list<G: Gate, R: Threads + Wait + Sync>(
 fn answer_request<G: Gate, R: Threads + Wait + Sync>(
     rt: &R,
     site: &mut Site<G>,
-    fields: &mut Fields,
-    sink: &mut Sink,
-    number: u64,
+    reply: &mut Reply,
     request: Request,
 ) -> Result<(), OutOfMemory>
     requires { IsRequest site.old.place.sites request }
     ensures place { site.new.place ≡ site.old.place }
-    ensures answered { OnOk result (IsAnswered number (Asked request) site.old site.new sink.old sink.new) }
+    ensures answered { OnOk result (IsAnswered reply.old.number (Asked request) site.old site.new reply.old.sink reply.new.sink) }
 {
     match request {
-        Request::Ask(ask) => answer_ask(rt, site, fields, sink, number, ask),
-        Request::Pass(to) => answer_pass(site, fields, sink, number, to),
-        Request::List(listing) => answer_list(rt, site, fields, sink, number, &listing),
+        Request::Ask(ask) => answer_ask(rt, site, reply, ask),
+        Request::Pass(to) => answer_pass(site, reply, to),
+        Request::List(listing) => answer_list(rt, site, reply, &listing),
     }
 }
 
@@ -134,33 +134,29 @@ fn answer_request<G: Gate, R: Threads + Wait + Sync>(
 fn answer_message<G: Gate, R: Threads + Wait + Sync>(
     rt: &R,
     site: &mut Site<G>,
-    fields: &mut Fields,
-    sink: &mut Sink,
-    number: u64,
+    reply: &mut Reply,
     message: Message,
 ) -> Result<(), OutOfMemory>
     requires { sites_of message ≡ site.old.place.sites }
     ensures place { site.new.place ≡ site.old.place }
-    ensures answered { OnOk result (IsAnswered number (Came (Packet.Msg message)) site.old site.new sink.old sink.new) }
+    ensures answered { OnOk result (IsAnswered reply.old.number (Came (Packet.Msg message)) site.old site.new reply.old.sink reply.new.sink) }
 {
     let answer = answered(site.arrive(rt, message))?;
-    write_arrival(fields, sink, number, &answer)?;
+    write_arrival(&mut reply.fields, &mut reply.sink, reply.number, &answer)?;
     Ok(())
 }
 
 // Answers a token that arrives.
 fn answer_token<G: Gate>(
     site: &mut Site<G>,
-    fields: &mut Fields,
-    sink: &mut Sink,
-    number: u64,
+    reply: &mut Reply,
     token: Token,
 ) -> Result<(), OutOfMemory>
     ensures place { site.new.place ≡ site.old.place }
-    ensures answered { OnOk result (IsAnswered number (Came (Packet.Token token)) site.old site.new sink.old sink.new) }
+    ensures answered { OnOk result (IsAnswered reply.old.number (Came (Packet.Token token)) site.old site.new reply.old.sink reply.new.sink) }
 {
     let answer = answered(site.token(token))?;
-    write_taken(fields, sink, number, &answer)?;
+    write_taken(&mut reply.fields, &mut reply.sink, reply.number, &answer)?;
     Ok(())
 }
 
@@ -169,18 +165,16 @@ fn answer_token<G: Gate>(
 fn answer_packet<G: Gate, R: Threads + Wait + Sync>(
     rt: &R,
     site: &mut Site<G>,
-    fields: &mut Fields,
-    sink: &mut Sink,
-    number: u64,
+    reply: &mut Reply,
     packet: Packet,
 ) -> Result<(), OutOfMemory>
     requires { IsPacket site.old.place.sites packet }
     ensures place { site.new.place ≡ site.old.place }
-    ensures answered { OnOk result (IsAnswered number (Came packet) site.old site.new sink.old sink.new) }
+    ensures answered { OnOk result (IsAnswered reply.old.number (Came packet) site.old site.new reply.old.sink reply.new.sink) }
 {
     match packet {
-        Packet::Msg(message) => answer_message(rt, site, fields, sink, number, message),
-        Packet::Token(token) => answer_token(site, fields, sink, number, token),
+        Packet::Msg(message) => answer_message(rt, site, reply, message),
+        Packet::Token(token) => answer_token(site, reply, token),
     }
 }
 
@@ -209,7 +203,6 @@ fn window_of(config: &Config) -> usize {
 pub struct Desk<G: Gate = Free> {
     pub site: Site<G>,
     sites: u8,
-    reply: Fields,
     // How many messages are taken in together.
     window: usize,
     alloc: Global,
@@ -225,7 +218,6 @@ impl<G: Gate + Drop> Desk<G> {
         Ok(Desk {
             site: Site::new(alloc, config, gate)?,
             sites: config.sites(),
-            reply: Fields::new(alloc),
             window: window_of(config),
             alloc,
         })
@@ -239,64 +231,54 @@ impl<G: Gate> Desk<G> {
     fn respond_to_request<R: Threads + Wait + Sync>(
         &mut self,
         rt: &R,
-        number: u64,
         fields: &InputRecord,
-        sink: &mut Sink,
+        reply: &mut Reply,
     ) -> Result<(), OutOfMemory>
         requires { packet_of self.old.site.place.sites fields.now ≡ None }
         ensures place { self.new.site.place ≡ self.old.site.place }
-        ensures answered { OnOk result (IsAnswered number (input_of self.old.site.place.sites fields.now) self.old.site self.new.site sink.old sink.new) }
+        ensures answered { OnOk result (IsAnswered reply.old.number (input_of self.old.site.place.sites fields.now) self.old.site self.new.site reply.old.sink reply.new.sink) }
     {
-        let site = &mut self.site;
-        let reply = &mut self.reply;
         match read_request(self.alloc, fields, self.sites) {
-            Ok(request) => answer_request(rt, site, reply, sink, number, request),
-            Err(ReadFault::BadRecord) => {
-                Ok(write_refusal(reply, sink, number, Refusal::BadRecord)?)
-            }
+            Ok(request) => answer_request(rt, &mut self.site, reply, request),
+            Err(ReadFault::BadRecord) => refuse(reply, Refusal::BadRecord),
             Err(ReadFault::Memory) => Err(OutOfMemory),
         }
     }
 
-    // Answers the record with this number, of which it is known whether it is a packet. No record is both a request and a
-    // packet, and most records of a busy site are packets.
+    // Answers a record of which it is known whether it is a packet. No record is both a request and a packet, and most records
+    // of a busy site are packets.
     #[tactic(auto, using(crate::proofs::OneReading::came))]
     #[inline(always)]
     fn respond_to<R: Threads + Wait + Sync>(
         &mut self,
         rt: &R,
-        number: u64,
         fields: &InputRecord,
         read: Result<Packet, ReadFault>,
-        sink: &mut Sink,
+        reply: &mut Reply,
     ) -> Result<(), OutOfMemory>
         requires { IsReadOf self.old.site.place.sites fields.now read }
         ensures place { self.new.site.place ≡ self.old.site.place }
-        ensures answered { OnOk result (IsAnswered number (input_of self.old.site.place.sites fields.now) self.old.site self.new.site sink.old sink.new) }
+        ensures answered { OnOk result (IsAnswered reply.old.number (input_of self.old.site.place.sites fields.now) self.old.site self.new.site reply.old.sink reply.new.sink) }
     {
         match read {
-            Ok(packet) => {
-                let reply = &mut self.reply;
-                answer_packet(rt, &mut self.site, reply, sink, number, packet)
-            }
-            Err(ReadFault::BadRecord) => self.respond_to_request(rt, number, fields, sink),
+            Ok(packet) => answer_packet(rt, &mut self.site, reply, packet),
+            Err(ReadFault::BadRecord) => self.respond_to_request(rt, fields, reply),
             Err(ReadFault::Memory) => Err(OutOfMemory),
         }
     }
 
-    /// Answers the record with this number.
+    /// Answers a record.
     pub fn respond<R: Threads + Wait + Sync>(
         &mut self,
         rt: &R,
-        number: u64,
         fields: &InputRecord,
-        sink: &mut Sink,
+        reply: &mut Reply,
     ) -> Result<(), OutOfMemory>
         ensures place { self.new.site.place ≡ self.old.site.place }
-        ensures answered { OnOk result (IsAnswered number (input_of self.old.site.place.sites fields.now) self.old.site self.new.site sink.old sink.new) }
+        ensures answered { OnOk result (IsAnswered reply.old.number (input_of self.old.site.place.sites fields.now) self.old.site self.new.site reply.old.sink reply.new.sink) }
     {
         let read = read_packet(self.alloc, fields, self.sites);
-        self.respond_to(rt, number, fields, read, sink)
+        self.respond_to(rt, fields, read, reply)
     }
 
     // Whether one more message is held before these are taken in. It decides when messages are taken in, and not what is answered.
@@ -311,17 +293,17 @@ impl<G: Gate> Desk<G> {
         rt: &R,
         answered: u64,
         window: &mut Vec<Message>,
-        sink: &mut Sink,
+        reply: &mut Reply,
     ) -> Result<(), OutOfMemory>
         requires held { AreHeld self.old.site.place window.old.items answered }
         ensures place { self.new.site.place ≡ self.old.site.place }
         ensures empty { window.new.items ≡ [] }
-        ensures flushed { OnOk result (Keeps (held_by self.old.site window.old.items (answered + 1)) (told_by self.new.site (answered + 1)) sink.old sink.new) }
+        ensures flushed { OnOk result (Keeps (held_by self.old.site window.old.items (answered + 1)) (told_by self.new.site (answered + 1)) reply.old.sink reply.new.sink) }
     {
         if window.is_empty() {
             return Ok(());
         }
-        self.take_in(rt, answered, window, sink)
+        self.take_in(rt, answered, window, reply)
     }
 
     // Takes in the messages that are held, the last of the records so far, and answers them.
@@ -331,18 +313,23 @@ impl<G: Gate> Desk<G> {
         rt: &R,
         answered: u64,
         window: &mut Vec<Message>,
-        sink: &mut Sink,
+        reply: &mut Reply,
     ) -> Result<(), OutOfMemory>
         requires held { AreHeld self.old.site.place window.old.items answered }
         requires some { 0 < length window.old.items }
         ensures place { self.new.site.place ≡ self.old.site.place }
         ensures empty { window.new.items ≡ [] }
-        ensures flushed { OnOk result (Keeps (held_by self.old.site window.old.items (answered + 1)) (told_by self.new.site (answered + 1)) sink.old sink.new) }
+        ensures flushed { OnOk result (Keeps (held_by self.old.site window.old.items (answered + 1)) (told_by self.new.site (answered + 1)) reply.old.sink reply.new.sink) }
     {
         let first = answered - window.len() as u64 + 1;
         let messages = mem::replace(window, Vec::new(self.alloc));
         let arrived = self.site.arrive_all(rt, messages);
-        write_arrivals(&mut self.reply, sink, first, arrived.answers.as_slice())?;
+        write_arrivals(
+            &mut reply.fields,
+            &mut reply.sink,
+            first,
+            arrived.answers.as_slice(),
+        )?;
         if arrived.fault.is_some() {
             return Err(OutOfMemory);
         }
@@ -357,18 +344,19 @@ impl<G: Gate> Desk<G> {
         answered: u64,
         fields: &InputRecord,
         window: &mut Vec<Message>,
-        sink: &mut Sink,
+        reply: &mut Reply,
     ) -> Result<(), OutOfMemory>
         requires held { AreHeld self.old.site.place window.old.items answered }
         requires room { answered + 1 < 2 ^ 64 }
         ensures held { OnOk result (AreHeld self.new.site.place window.new.items (answered + 1)) }
-        ensures goes { OnOk result (AnswersRecord Course.GoesOn (held_by self.old.site window.old.items (answered + 1)) (held_by self.new.site window.new.items (answered + 1 + 1)) sink.old sink.new fields.now) }
+        ensures goes { OnOk result (AnswersRecord Course.GoesOn (held_by self.old.site window.old.items (answered + 1)) (held_by self.new.site window.new.items (answered + 1 + 1)) reply.old.sink reply.new.sink fields.now) }
     {
         match read_packet(self.alloc, fields, self.sites) {
             Ok(Packet::Msg(message)) if self.window > 1 => hold(window, message),
             read => {
-                self.flush(rt, answered, window, sink)?;
-                self.respond_to(rt, answered + 1, fields, read, sink)
+                self.flush(rt, answered, window, reply)?;
+                reply.number = answered + 1;
+                self.respond_to(rt, fields, read, reply)
             }
         }
     }
@@ -381,11 +369,11 @@ impl<G: Gate, T> Service<T> for Desk<G> {
 
     ghost reads_next = { Prim.search rules };
 
-    fn settle(&mut self, _rt: &T, _sink: &mut Sink) -> Result<(), OutOfMemory> {
+    fn answer_held(&mut self, _rt: &T, _sink: &mut Sink) -> Result<(), OutOfMemory> {
         Ok(())
     }
 
-    fn finish(&mut self, _rt: &T, _sink: &mut Sink) -> Result<(), OutOfMemory> {
+    fn answer_end(&mut self, _rt: &T, _sink: &mut Sink) -> Result<(), OutOfMemory> {
         Ok(())
     }
 }

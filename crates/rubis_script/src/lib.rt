@@ -9,6 +9,7 @@ mod meter;
 mod quoted_rows;
 mod record_list;
 mod replies;
+mod reply;
 mod run;
 mod service;
 mod sink;
@@ -22,8 +23,9 @@ pub use record_list::Records;
 pub use replies::{
     write_arrival, write_handed_on, write_listed, write_refusal, write_sent, write_taken,
 };
+pub use reply::Reply;
 pub use rubis_replica::Config;
-pub use run::{next_record, run_upto, stop, write_out};
+pub use run::{Run, next_record, run_upto, stop, write_out};
 pub use service::{Answering, Course, Service};
 pub use sink::Sink;
 pub use site_run::{run_desk, run_site, run_site_to_exit, run_site_upto};

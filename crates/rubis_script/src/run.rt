@@ -1,22 +1,23 @@
 // The run from bytes to bytes.
 
-ghost use Rattle.std.specs.Prelude.{◌≡◌, ◌<◌, ◌+◌, ◌++◌, ◌^◌, ◌⊎◌, [], ℕ, List, Option, IfErr, IfNone, IfOk, IfSome, IsErrOf, OnOk, MatchOption, false, true};
+ghost use Rattle.std.specs.Prelude.{◌≡◌, ◌<◌, ◌+◌, ◌++◌, ◌^◌, ◌⊎◌, [], ℕ, List, Option, IfErr, IfNone, IfOk, IfSome, IsErrOf, OnOk, false, true};
 ghost use Rattle.std.specs.Io.KnownBytes.{Appends};
 ghost use Rattle.rubis_script.specs.Accounts.{Account};
 ghost use Rattle.rubis_script.specs.Accounts.Ending.{AtEnd, Cut};
-ghost use Rattle.rubis_script.specs.Progress.{BeforeEach, Drained, HasComeSoFar, InEachRun, IsCut, IsDone, IsTooLong, WroteFront};
+ghost use Rattle.rubis_script.specs.Progress.{BeforeEach, Drained, EndsCut, EndsInPrefix, FromStart, HasComeSoFar, HasMoved, InEachRun, IsCut, IsDone, IsTooLong, WrotePrefix};
 ghost use Rattle.rubis_script.specs.Reading.{Advances, Gives};
 ghost use Rattle.rubis_script.specs.Text.{input_records};
 
 use super::fault::{Count, RunFault};
 use super::record_list::Records;
+use super::reply::Reply;
 use super::service::{Answering, Course, Service};
 use super::sink::Sink;
 use std::alloc::Global;
 use std::io::{Read, Write};
 
-/// Writes out what is held, and what the service holds back.
-fn settle<T, S: Service<T>, W: Write>(
+// Has the service answer what it holds back, and writes out what the sink holds.
+fn write_out_held<T, S: Service<T>, W: Write>(
     rt: &T,
     service: &mut S,
     sink: &mut Sink,
@@ -28,12 +29,12 @@ fn settle<T, S: Service<T>, W: Write>(
     ensures memory { IsErrOf result RunFault.Memory → W.contents writer.new ≡ W.contents writer.old }
     ensures faults { IfErr result (λ e. (e ≡ RunFault.Write) ⊎ (e ≡ RunFault.Memory)) }
 {
-    service.settle(rt, sink)?;
+    service.answer_held(rt, sink)?;
     sink.close(writer)
 }
 
-/// Writes out what is held, and what is left to be written where the input ends.
-fn finish<T, S: Service<T>, W: Write>(
+// Has the service give its last answers at the end of the input, and writes out what the sink holds.
+fn write_out_end<T, S: Service<T>, W: Write>(
     rt: &T,
     service: &mut S,
     sink: &mut Sink,
@@ -43,7 +44,7 @@ fn finish<T, S: Service<T>, W: Write>(
     ensures memory { IsErrOf result RunFault.Memory → W.contents writer.new ≡ W.contents writer.old }
     ensures faults { IfErr result (λ e. (e ≡ RunFault.Write) ⊎ (e ≡ RunFault.Memory)) }
 {
-    service.finish(rt, sink)?;
+    service.answer_end(rt, sink)?;
     sink.close(writer)
 }
 
@@ -62,7 +63,7 @@ pub fn write_out<T, S: Service<T>, R: Read, W: Write>(
     ensures faults { IfErr result (λ e. (e ≡ RunFault.Write) ⊎ (e ≡ RunFault.Memory)) }
 {
     if records.is_used_up() {
-        return settle(rt, service, sink, writer);
+        return write_out_held(rt, service, sink, writer);
     }
     if sink.is_full() {
         return sink.drain(writer);
@@ -92,16 +93,16 @@ pub(crate) fn end_run<T, S: Service<T>, R: Read, W: Write>(
         IsCut all old (W.contents writer.new) (input_records input))) }
     ensures memory { IsErrOf result RunFault.Memory → BeforeEach R.remaining records.now (λ before.
         InEachRun R.remaining before (S.account service.old (answered + 1)) (W.contents writer.old) sink.old (answered + 1) (λ all old input.
-        WroteFront (all.text AtEnd) old (W.contents writer.new) (input_records input))) }
+        WrotePrefix (all.text AtEnd) old (W.contents writer.new) (input_records input))) }
     ensures faults { IfErr result (λ e. (e ≡ RunFault.Read) ⊎ (e ≡ RunFault.Write) ⊎ (e ≡ RunFault.Memory)) }
 {
     match found {
         Ok(()) => {
-            finish(rt, service, sink, writer)?;
+            write_out_end(rt, service, sink, writer)?;
             Ok(Some(Count { records: answered }))
         }
         Err(fault) => {
-            settle(rt, service, sink, writer)?;
+            write_out_held(rt, service, sink, writer)?;
             Err(fault)
         }
     }
@@ -124,7 +125,7 @@ pub fn next_record<T, S: Service<T>, R: Read, W: Write>(
     ensures read { IsErrOf result RunFault.Read → InEachRun R.remaining records.old (S.account service.old (answered + 1)) (W.contents writer.old) sink.old (answered + 1) (λ all old input.
         IsCut all old (W.contents writer.new) (input_records input)) }
     ensures memory { IsErrOf result RunFault.Memory → InEachRun R.remaining records.old (S.account service.old (answered + 1)) (W.contents writer.old) sink.old (answered + 1) (λ all old input.
-        WroteFront (all.text AtEnd) old (W.contents writer.new) (input_records input)) }
+        WrotePrefix (all.text AtEnd) old (W.contents writer.new) (input_records input)) }
     ensures faults { IfErr result (λ e. (e ≡ RunFault.Read) ⊎ (e ≡ RunFault.Write) ⊎ (e ≡ RunFault.Memory)) }
 {
     match records.advance() {
@@ -150,75 +151,96 @@ pub fn stop<T, S: Service<T>, R: Read, W: Write>(
     ensures read { IsErrOf result RunFault.Read → InEachRun R.remaining records.old (S.account service.old (answered + 1)) (W.contents writer.old) sink.old (answered + 1) (λ all old input.
         IsCut all old (W.contents writer.new) (input_records input)) }
     ensures memory { IsErrOf result RunFault.Memory → InEachRun R.remaining records.old (S.account service.old (answered + 1)) (W.contents writer.old) sink.old (answered + 1) (λ all old input.
-        WroteFront (all.text AtEnd) old (W.contents writer.new) (input_records input)) }
+        WrotePrefix (all.text AtEnd) old (W.contents writer.new) (input_records input)) }
 {
     let Some(count) = next_record(rt, records, service, sink, writer, answered)? else {
-        settle(rt, service, sink, writer)?;
+        write_out_held(rt, service, sink, writer)?;
         return Err(RunFault::TooLong);
     };
     Ok(count)
 }
 
-/// Answers record `answered + 1`, if there is one. `None` if the run goes on, otherwise how many records were read.
-fn turn<T, S: Answering<T>, R: Read, W: Write>(
+/// A run as far as it has come: what it reads, what it answers with, and how many records it has answered. What it writes to
+/// is lent to each step.
+#[derive(Drop)]
+pub struct Run<R> {
+    pub records: Records<R>,
+    pub reply: Reply,
+    pub answered: u64,
+}
+
+impl<R: Read> Run<R> {
+    /// A run over this reader, before its first record.
+    #[inline(always)]
+    pub fn new(alloc: Global, reader: R) -> Run<R>
+        ensures gives { IfSome (R.remaining reader) (λ input. Gives R.remaining result.records (input_records input)) }
+        ensures empty { result.reply.sink ≡ [] }
+        ensures none { result.answered ≡ 0 }
+    {
+        Run {
+            records: Records::new(alloc, reader),
+            reply: Reply::new(alloc),
+            answered: 0,
+        }
+    }
+}
+
+// Answers the next record, if there is one. `None` if the run goes on, otherwise how many records were read.
+fn answer_next<T, S: Answering<T>, R: Read, W: Write>(
     rt: &T,
-    records: &mut Records<R>,
+    run: &mut Run<R>,
     service: &mut S,
-    sink: &mut Sink,
     writer: &mut W,
-    answered: u64,
 ) -> Result<Option<Count>, RunFault>
-    requires { answered + 1 < 2 ^ 64 }
-    ensures goes { IfOk result (λ over. InEachRun R.remaining records.old (S.account service.old (answered + 1)) (W.contents writer.old) sink.old (answered + 1) (λ all old input.
-        MatchOption over
-        (HasComeSoFar R.remaining records.new all (S.account service.new (answered + 1 + 1)) old (W.contents writer.new) sink.new (answered + 1 + 1) input)
-        (λ count. IsDone all (answered + 1) old (W.contents writer.new) (input_records input) count.records))) }
-    ensures read { IsErrOf result RunFault.Read → InEachRun R.remaining records.old (S.account service.old (answered + 1)) (W.contents writer.old) sink.old (answered + 1) (λ all old input.
-        IsCut all old (W.contents writer.new) (input_records input)) }
-    ensures memory { IsErrOf result RunFault.Memory → InEachRun R.remaining records.old (S.account service.old (answered + 1)) (W.contents writer.old) sink.old (answered + 1) (λ all old input.
-        WroteFront (all.text AtEnd) old (W.contents writer.new) (input_records input)) }
+    requires { run.old.answered + 1 < 2 ^ 64 }
+    ensures goes { IfOk result (λ over. HasMoved R.remaining run.old run.new (S.account service.old) (S.account service.new) (W.contents writer.old) (W.contents writer.new) over) }
+    ensures counted { IfOk result (λ over. IfNone over (run.new.answered ≡ run.old.answered + 1)) }
+    ensures read { IsErrOf result RunFault.Read → EndsCut R.remaining run.old (S.account service.old) (W.contents writer.old) (W.contents writer.new) }
+    ensures memory { IsErrOf result RunFault.Memory → EndsInPrefix R.remaining run.old (S.account service.old) (W.contents writer.old) (W.contents writer.new) }
     ensures faults { IfErr result (λ e. (e ≡ RunFault.Read) ⊎ (e ≡ RunFault.Write) ⊎ (e ≡ RunFault.Memory)) }
 {
-    if let Some(count) = next_record(rt, records, service, sink, writer, answered)? {
+    let sink = &mut run.reply.sink;
+    if let Some(count) = next_record(rt, &mut run.records, service, sink, writer, run.answered)? {
         return Ok(Some(count));
     }
-    let number = answered + 1;
-    match service.answer(rt, number, records.fields(), sink)? {
+    run.reply.number = run.answered + 1;
+    let course = service.answer(rt, run.records.fields(), &mut run.reply)?;
+    run.answered += 1;
+    match course {
         Course::Ends => {
-            sink.close(writer)?;
-            Ok(Some(Count { records: number }))
+            run.reply.sink.close(writer)?;
+            Ok(Some(Count {
+                records: run.answered,
+            }))
         }
         Course::GoesOn => {
-            write_out(rt, records, service, sink, writer)?;
+            write_out(rt, &run.records, service, &mut run.reply.sink, writer)?;
             Ok(None)
         }
     }
 }
 
-/// Answers records until the run ends, or up to `limit` of them, and writes out what the sink holds.
+// Answers records until the run ends, or up to `limit` of them, and writes out what the sink holds.
 fn serve<T, S: Answering<T>, R: Read, W: Write>(
     rt: &T,
-    records: &mut Records<R>,
+    run: &mut Run<R>,
     service: &mut S,
-    sink: &mut Sink,
     writer: &mut W,
     limit: u64,
 ) -> Result<Count, RunFault>
-    ensures ok { IfOk result (λ count. (input : List ℕ) → Gives R.remaining records.old (input_records input) → sink.old ≡ []
-        → IsDone (S.account service.old 1) limit (W.contents writer.old) (W.contents writer.new) (input_records input) count.records) }
-    ensures too_long { IsErrOf result RunFault.TooLong → (input : List ℕ) → Gives R.remaining records.old (input_records input) → sink.old ≡ []
-        → IsTooLong (S.account service.old 1) limit (W.contents writer.old) (W.contents writer.new) (input_records input) }
-    ensures read { IsErrOf result RunFault.Read → (input : List ℕ) → Gives R.remaining records.old (input_records input) → sink.old ≡ []
-        → IsCut (S.account service.old 1) (W.contents writer.old) (W.contents writer.new) (input_records input) }
-    ensures memory { IsErrOf result RunFault.Memory → (input : List ℕ) → Gives R.remaining records.old (input_records input) → sink.old ≡ []
-        → WroteFront ((S.account service.old 1).text AtEnd) (W.contents writer.old) (W.contents writer.new) (input_records input) }
+    requires { run.old.answered ≡ 0 }
+    ensures ok { IfOk result (λ count. FromStart R.remaining run.old (λ records. IsDone (S.account service.old 1) limit (W.contents writer.old) (W.contents writer.new) records count.records)) }
+    ensures too_long { IsErrOf result RunFault.TooLong → FromStart R.remaining run.old (λ records. IsTooLong (S.account service.old 1) limit (W.contents writer.old) (W.contents writer.new) records) }
+    ensures read { IsErrOf result RunFault.Read → FromStart R.remaining run.old (λ records. IsCut (S.account service.old 1) (W.contents writer.old) (W.contents writer.new) records) }
+    ensures memory { IsErrOf result RunFault.Memory → FromStart R.remaining run.old (λ records. WrotePrefix ((S.account service.old 1).text AtEnd) (W.contents writer.old) (W.contents writer.new) records) }
 {
-    'turns: for n in 0..limit {
-        if let Some(count) = turn(rt, records, service, sink, writer, n)? {
+    'steps: for _answered in 0..limit {
+        if let Some(count) = answer_next(rt, run, service, writer)? {
             return Ok(count);
         }
     }
-    stop(rt, records, service, sink, writer, limit)
+    let sink = &mut run.reply.sink;
+    stop(rt, &mut run.records, service, sink, writer, run.answered)
 }
 
 /// Answers the records of `reader` until its end, or until the service ends the run, or up to `limit` of them, and
@@ -245,9 +267,8 @@ pub fn run_upto<T, S: Answering<T>, R: Read + Drop, W: Write>(
     ensures read { IsErrOf result RunFault.Read → IfSome (R.remaining reader) (λ input.
         IsCut (S.account service.old 1) (W.contents writer.old) (W.contents writer.new) (input_records input)) }
     ensures memory { IsErrOf result RunFault.Memory → IfSome (R.remaining reader) (λ input.
-        WroteFront ((S.account service.old 1).text AtEnd) (W.contents writer.old) (W.contents writer.new) (input_records input)) }
+        WrotePrefix ((S.account service.old 1).text AtEnd) (W.contents writer.old) (W.contents writer.new) (input_records input)) }
 {
-    let mut records = Records::new(alloc, reader);
-    let mut sink = Sink::new(alloc);
-    serve(rt, &mut records, service, &mut sink, writer, limit)
+    let mut run = Run::new(alloc, reader);
+    serve(rt, &mut run, service, writer, limit)
 }

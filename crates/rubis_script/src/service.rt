@@ -6,6 +6,7 @@ ghost use Rattle.rubis_script.specs.Accounts.Ending.{AtEnd, Cut};
 
 use super::fault::OutOfMemory;
 use super::input_record::InputRecord;
+use super::reply::Reply;
 use super::sink::Sink;
 
 /// Whether a run goes on behind a record.
@@ -22,13 +23,13 @@ pub trait Service<T> {
     /// What is still to be made of the records that follow, the first of which has this number.
     ghost account: { Self → ℕ → Account };
 
-    /// Writes what is held back, so that nothing is left to be written where the run is cut short here.
-    fn settle(&mut self, rt: &T, sink: &mut Sink) -> Result<(), OutOfMemory>
+    /// Answers what is held back. Nothing is then left to be written if the run is cut short here.
+    fn answer_held(&mut self, rt: &T, sink: &mut Sink) -> Result<(), OutOfMemory>
         ensures keeps { OnOk result ((number : ℕ) → Keeps (account self.old number) (account self.new number) sink.old sink.new) }
         ensures none { OnOk result ((number : ℕ) → (account self.new number).text Cut [] ≡ []) };
 
-    /// Writes what is left to be written where the input ends here.
-    fn finish(&mut self, rt: &T, sink: &mut Sink) -> Result<(), OutOfMemory>
+    /// Gives the last answers: writes all that is left to be written if the input ends here.
+    fn answer_end(&mut self, rt: &T, sink: &mut Sink) -> Result<(), OutOfMemory>
         ensures { OnOk result ((number : ℕ) → sink.old ++ (account self.old number).text AtEnd [] ≡ sink.new) };
 
     // Of no records none is read.
@@ -42,14 +43,13 @@ pub trait Service<T> {
 /// method is known to the calling thread alone. Its loop goes by the steps of the engine, with a call of its own between
 /// `next_record` and `write_out`.
 pub trait Answering<T>: Service<T> {
-    /// Answers the record with this number, and says whether the run goes on. What it writes and what is still to be
+    /// Answers the record whose number the reply has, and says whether the run goes on. What it writes and what is still to be
     /// written are together the text; where the run ends here, what it writes is all of it.
     fn answer(
         &mut self,
         rt: &T,
-        number: u64,
         fields: &InputRecord,
-        sink: &mut Sink,
+        reply: &mut Reply,
     ) -> Result<Course, OutOfMemory>
-        ensures { IfOk result (λ course. AnswersRecord course (Self.account self.old number) (Self.account self.new (number + 1)) sink.old sink.new fields.now) };
+        ensures { IfOk result (λ course. AnswersRecord course (Self.account self.old reply.old.number) (Self.account self.new (reply.old.number + 1)) reply.old.sink reply.new.sink fields.now) };
 }

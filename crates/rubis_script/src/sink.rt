@@ -4,7 +4,7 @@ ghost use Rattle.std.specs.Prelude.{◌≡◌, ◌<◌, ◌≤◌, ◌++◌, [],
 ghost use Rattle.std.specs.Io.KnownBytes.{Appends};
 ghost use Rattle.csv.specs.Writing.{row_text};
 ghost use Rattle.rubis_schema.specs.FieldList.{all_plain};
-ghost use Rattle.rubis_script.specs.Rows.{front_text, plain_row};
+ghost use Rattle.rubis_script.specs.Rows.{plain_row, prefix_text};
 ghost use Rattle.rubis_script.specs.Text.{plain_writer};
 
 use super::fault::RunFault;
@@ -63,7 +63,7 @@ fn plain_text<'a>(first: &[&[u8]], fields: &'a Fields) -> Option<&'a [u8]>
 
 // Adds fields with a comma behind each.
 fn push_first(text: &mut Vec<u8>, first: &[&[u8]]) -> Result<(), AllocError>
-    ensures { OnOk result (text.new.items ≡ text.old.items ++ front_text (map (λ f. f.now) first.now)) }
+    ensures { OnOk result (text.new.items ≡ text.old.items ++ prefix_text (map (λ f. f.now) first.now)) }
 {
     for field in first {
         text.extend_from_slice(field)?;

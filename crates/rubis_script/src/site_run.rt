@@ -1,22 +1,19 @@
 // A site over a reader and a writer.
 
-ghost use Rattle.std.specs.Prelude.{◌≡◌, ◌≤◌, ◌<◌, ◌+◌, ◌^◌, ◌⊎◌, [], ℕ, List, Option, IfErr, IfNone, IfOk, IfSome, IsErrOf, MatchOption, OnOk, length, take, true};
+ghost use Rattle.std.specs.Prelude.{◌≡◌, ◌≤◌, ◌<◌, ◌+◌, ◌^◌, ◌⊎◌, [], ℕ, List, Option, IfErr, IfNone, IfOk, IfSome, IsErrOf, OnOk, length, take, true};
 ghost use Rattle.std.specs.Io.KnownBytes.{Appends};
 ghost use Rattle.rubis_model.specs.Runs.{output_of};
 ghost use Rattle.rubis_replica.specs.Setup.{setup_place};
 ghost use Rattle.rubis_script.specs.Accounts.Ending.{AtEnd};
-ghost use Rattle.rubis_script.specs.Progress.{HasComeSoFar, InEachRun, IsCut, IsDone, IsTooLong, WroteFront};
-ghost use Rattle.rubis_script.specs.Reading.{Advances, Gives};
-ghost use Rattle.rubis_script.specs.Accounts.{Account};
+ghost use Rattle.rubis_script.specs.Progress.{EndsCut, EndsDone, EndsInPrefix, EndsTooLong, FromStart, HasMoved, IsCut, IsDone, IsTooLong, OfEachRun, StandsAt, WrotePrefix};
+ghost use Rattle.rubis_script.specs.Reading.{Advances};
 ghost use Rattle.rubis_script.specs.SiteRuns.{told_by};
 ghost use Rattle.rubis_script.specs.Text.{input_records, rows_text};
 ghost use Rattle.rubis_script.specs.Windows.{AreHeld, held_by};
 
 use crate::desk::Desk;
 use crate::fault::{Count, RunFault};
-use crate::record_list::Records;
-use crate::run::{end_run, stop, write_out};
-use crate::sink::Sink;
+use crate::run::{Run, end_run, stop, write_out};
 use rubis_message::Message;
 use rubis_replica::{Config, Free, Gate};
 use rubis_schema::RECORDS_MAX;
@@ -26,148 +23,150 @@ use std::mem;
 use std::sync::Wait;
 use std::thread::Threads;
 
-// Reads the next record, after `answered` that were answered or are held. `None` if there is one. Otherwise answers those that
-// are held, writes the rest of the text and returns how many records were read.
+// A run of a site, and the messages that it holds, to take them in together: the last of the records so far.
+#[derive(Drop)]
+struct SiteRun<R> {
+    run: Run<R>,
+    window: Vec<Message>,
+}
+
+// Reads the next record. `None` if there is one. Otherwise answers the messages that are held, writes the rest of the text and
+// returns how many records were read.
 fn next_or_end<G: Gate, T: Threads + Wait + Sync, R: Read, W: Write>(
     rt: &T,
-    records: &mut Records<R>,
+    site_run: &mut SiteRun<R>,
     desk: &mut Desk<G>,
-    window: &mut Vec<Message>,
-    sink: &mut Sink,
     writer: &mut W,
-    answered: u64,
 ) -> Result<Option<Count>, RunFault>
-    requires held { AreHeld desk.old.site.place window.old.items answered }
-    ensures found { IfOk result (λ over. IfNone over (Advances R.remaining records.old records.new true)) }
-    ensures same { IfOk result (λ over. IfNone over ((desk.new ≡ desk.old) × (window.new ≡ window.old) × (sink.new ≡ sink.old) × (writer.new ≡ writer.old))) }
-    ensures done { IfOk result (λ over. IfSome over (λ count. InEachRun R.remaining records.old (held_by desk.old.site window.old.items (answered + 1)) (W.contents writer.old) sink.old (answered + 1) (λ all old input.
-        IsDone all answered old (W.contents writer.new) (input_records input) count.records))) }
-    ensures read { IsErrOf result RunFault.Read → InEachRun R.remaining records.old (held_by desk.old.site window.old.items (answered + 1)) (W.contents writer.old) sink.old (answered + 1) (λ all old input.
-        IsCut all old (W.contents writer.new) (input_records input)) }
-    ensures memory { IsErrOf result RunFault.Memory → InEachRun R.remaining records.old (held_by desk.old.site window.old.items (answered + 1)) (W.contents writer.old) sink.old (answered + 1) (λ all old input.
-        WroteFront (all.text AtEnd) old (W.contents writer.new) (input_records input)) }
+    requires held { AreHeld desk.old.site.place site_run.old.window.items site_run.old.run.answered }
+    ensures found { IfOk result (λ over. IfNone over (Advances R.remaining site_run.old.run.records site_run.new.run.records true)) }
+    ensures same { IfOk result (λ over. IfNone over ((desk.new ≡ desk.old) × (site_run.new.window ≡ site_run.old.window) × (site_run.new.run.reply ≡ site_run.old.run.reply)
+        × (site_run.new.run.answered ≡ site_run.old.run.answered) × (writer.new ≡ writer.old))) }
+    ensures done { IfOk result (λ over. IfSome over (λ count. EndsDone R.remaining site_run.old.run (held_by desk.old.site site_run.old.window.items) (W.contents writer.old) (W.contents writer.new) site_run.old.run.answered count.records)) }
+    ensures read { IsErrOf result RunFault.Read → EndsCut R.remaining site_run.old.run (held_by desk.old.site site_run.old.window.items) (W.contents writer.old) (W.contents writer.new) }
+    ensures memory { IsErrOf result RunFault.Memory → EndsInPrefix R.remaining site_run.old.run (held_by desk.old.site site_run.old.window.items) (W.contents writer.old) (W.contents writer.new) }
     ensures faults { IfErr result (λ e. (e ≡ RunFault.Read) ⊎ (e ≡ RunFault.Write) ⊎ (e ≡ RunFault.Memory)) }
 {
-    match records.advance() {
+    let SiteRun { run, window } = site_run;
+    match run.records.advance() {
         Ok(true) => Ok(None),
         Ok(false) => {
-            desk.flush(rt, answered, window, sink)?;
-            end_run(rt, records, desk, sink, writer, answered, Ok(()))
+            desk.flush(rt, run.answered, window, &mut run.reply)?;
+            let sink = &mut run.reply.sink;
+            end_run(rt, &run.records, desk, sink, writer, run.answered, Ok(()))
         }
         Err(fault) => {
-            desk.flush(rt, answered, window, sink)?;
-            end_run(rt, records, desk, sink, writer, answered, Err(fault))
+            desk.flush(rt, run.answered, window, &mut run.reply)?;
+            let sink = &mut run.reply.sink;
+            end_run(
+                rt,
+                &run.records,
+                desk,
+                sink,
+                writer,
+                run.answered,
+                Err(fault),
+            )
         }
     }
 }
 
-// Passes on what was answered of the first `answered` records: takes in those that are held, unless there is room for more of
-// them and more can be read at once, and writes out, where nothing is held.
+// Passes on what was answered: takes in the messages that are held, unless there is room for more of them and more can be read
+// at once, and writes out, where nothing is held.
 fn pass_on<G: Gate, T: Threads + Wait + Sync, R: Read, W: Write>(
     rt: &T,
-    records: &Records<R>,
+    site_run: &mut SiteRun<R>,
     desk: &mut Desk<G>,
-    window: &mut Vec<Message>,
-    sink: &mut Sink,
     writer: &mut W,
-    answered: u64,
 ) -> Result<(), RunFault>
-    requires held { AreHeld desk.old.site.place window.old.items answered }
-    ensures held { OnOk result (AreHeld desk.new.site.place window.new.items answered) }
-    ensures goes { OnOk result ((all : Account) (old : Option (List ℕ)) (input : List ℕ)
-        → HasComeSoFar R.remaining records.now all (held_by desk.old.site window.old.items (answered + 1)) old (W.contents writer.old) sink.old (answered + 1) input
-        → HasComeSoFar R.remaining records.now all (held_by desk.new.site window.new.items (answered + 1)) old (W.contents writer.new) sink.new (answered + 1) input) }
+    requires held { AreHeld desk.old.site.place site_run.old.window.items site_run.old.run.answered }
+    ensures held { OnOk result (AreHeld desk.new.site.place site_run.new.window.items site_run.old.run.answered) }
+    ensures same { site_run.new.run.answered ≡ site_run.old.run.answered }
+    ensures goes { OnOk result (OfEachRun R.remaining site_run.old.run (held_by desk.old.site site_run.old.window.items) (W.contents writer.old) (λ all old input.
+        StandsAt R.remaining site_run.new.run (held_by desk.new.site site_run.new.window.items) all old (W.contents writer.new) input)) }
     ensures memory { IsErrOf result RunFault.Memory → W.contents writer.new ≡ W.contents writer.old }
     ensures faults { IfErr result (λ e. (e ≡ RunFault.Write) ⊎ (e ≡ RunFault.Memory)) }
 {
-    if !window.is_empty() && desk.has_room(window) && !records.is_used_up() {
+    let SiteRun { run, window } = site_run;
+    if !window.is_empty() && desk.has_room(window) && !run.records.is_used_up() {
         return Ok(());
     }
-    desk.flush(rt, answered, window, sink)?;
-    write_out(rt, records, desk, sink, writer)
+    desk.flush(rt, run.answered, window, &mut run.reply)?;
+    write_out(rt, &run.records, desk, &mut run.reply.sink, writer)
 }
 
-// Answers or holds record `answered + 1`, if there is one. `None` if the run goes on, otherwise how many records were read.
-fn turn<G: Gate, T: Threads + Wait + Sync, R: Read, W: Write>(
+// Answers or holds the next record, if there is one. `None` if the run goes on, otherwise how many records were read.
+fn take_next<G: Gate, T: Threads + Wait + Sync, R: Read, W: Write>(
     rt: &T,
-    records: &mut Records<R>,
+    site_run: &mut SiteRun<R>,
     desk: &mut Desk<G>,
-    window: &mut Vec<Message>,
-    sink: &mut Sink,
     writer: &mut W,
-    answered: u64,
 ) -> Result<Option<Count>, RunFault>
-    requires held { AreHeld desk.old.site.place window.old.items answered }
-    requires room { answered + 1 < 2 ^ 64 }
-    ensures held { IfOk result (λ over. IfNone over (AreHeld desk.new.site.place window.new.items (answered + 1))) }
-    ensures goes { IfOk result (λ over. InEachRun R.remaining records.old (held_by desk.old.site window.old.items (answered + 1)) (W.contents writer.old) sink.old (answered + 1) (λ all old input.
-        MatchOption over
-        (HasComeSoFar R.remaining records.new all (held_by desk.new.site window.new.items (answered + 1 + 1)) old (W.contents writer.new) sink.new (answered + 1 + 1) input)
-        (λ count. IsDone all (answered + 1) old (W.contents writer.new) (input_records input) count.records))) }
-    ensures read { IsErrOf result RunFault.Read → InEachRun R.remaining records.old (held_by desk.old.site window.old.items (answered + 1)) (W.contents writer.old) sink.old (answered + 1) (λ all old input.
-        IsCut all old (W.contents writer.new) (input_records input)) }
-    ensures memory { IsErrOf result RunFault.Memory → InEachRun R.remaining records.old (held_by desk.old.site window.old.items (answered + 1)) (W.contents writer.old) sink.old (answered + 1) (λ all old input.
-        WroteFront (all.text AtEnd) old (W.contents writer.new) (input_records input)) }
+    requires held { AreHeld desk.old.site.place site_run.old.window.items site_run.old.run.answered }
+    requires room { site_run.old.run.answered + 1 < 2 ^ 64 }
+    ensures held { IfOk result (λ over. IfNone over (AreHeld desk.new.site.place site_run.new.window.items (site_run.old.run.answered + 1))) }
+    ensures goes { IfOk result (λ over. HasMoved R.remaining site_run.old.run site_run.new.run (held_by desk.old.site site_run.old.window.items) (held_by desk.new.site site_run.new.window.items) (W.contents writer.old) (W.contents writer.new) over) }
+    ensures counted { IfOk result (λ over. IfNone over (site_run.new.run.answered ≡ site_run.old.run.answered + 1)) }
+    ensures read { IsErrOf result RunFault.Read → EndsCut R.remaining site_run.old.run (held_by desk.old.site site_run.old.window.items) (W.contents writer.old) (W.contents writer.new) }
+    ensures memory { IsErrOf result RunFault.Memory → EndsInPrefix R.remaining site_run.old.run (held_by desk.old.site site_run.old.window.items) (W.contents writer.old) (W.contents writer.new) }
     ensures faults { IfErr result (λ e. (e ≡ RunFault.Read) ⊎ (e ≡ RunFault.Write) ⊎ (e ≡ RunFault.Memory)) }
 {
-    if let Some(count) = next_or_end(rt, records, desk, window, sink, writer, answered)? {
+    if let Some(count) = next_or_end(rt, site_run, desk, writer)? {
         return Ok(Some(count));
     }
-    desk.take(rt, answered, records.fields(), window, sink)?;
-    pass_on(rt, records, desk, window, sink, writer, answered + 1)?;
+    let SiteRun { run, window } = &mut *site_run;
+    desk.take(
+        rt,
+        run.answered,
+        run.records.fields(),
+        window,
+        &mut run.reply,
+    )?;
+    run.answered += 1;
+    pass_on(rt, site_run, desk, writer)?;
     Ok(None)
 }
 
-// Answers what is held and ends a run that has read `limit` records, the most it takes: with success if there are no more.
+// Answers what is held and ends a run that has read as many records as it takes: with success if there are no more.
 fn stop_at<G: Gate, T: Threads + Wait + Sync, R: Read, W: Write>(
     rt: &T,
-    records: &mut Records<R>,
+    site_run: &mut SiteRun<R>,
     desk: &mut Desk<G>,
-    window: &mut Vec<Message>,
-    sink: &mut Sink,
     writer: &mut W,
-    limit: u64,
 ) -> Result<Count, RunFault>
-    requires held { AreHeld desk.old.site.place window.old.items limit }
-    ensures ok { IfOk result (λ count. InEachRun R.remaining records.old (held_by desk.old.site window.old.items (limit + 1)) (W.contents writer.old) sink.old (limit + 1) (λ all old input.
-        IsDone all limit old (W.contents writer.new) (input_records input) count.records)) }
-    ensures too_long { IsErrOf result RunFault.TooLong → InEachRun R.remaining records.old (held_by desk.old.site window.old.items (limit + 1)) (W.contents writer.old) sink.old (limit + 1) (λ all old input.
-        IsTooLong all limit old (W.contents writer.new) (input_records input)) }
-    ensures read { IsErrOf result RunFault.Read → InEachRun R.remaining records.old (held_by desk.old.site window.old.items (limit + 1)) (W.contents writer.old) sink.old (limit + 1) (λ all old input.
-        IsCut all old (W.contents writer.new) (input_records input)) }
-    ensures memory { IsErrOf result RunFault.Memory → InEachRun R.remaining records.old (held_by desk.old.site window.old.items (limit + 1)) (W.contents writer.old) sink.old (limit + 1) (λ all old input.
-        WroteFront (all.text AtEnd) old (W.contents writer.new) (input_records input)) }
+    requires held { AreHeld desk.old.site.place site_run.old.window.items site_run.old.run.answered }
+    ensures ok { IfOk result (λ count. EndsDone R.remaining site_run.old.run (held_by desk.old.site site_run.old.window.items) (W.contents writer.old) (W.contents writer.new) site_run.old.run.answered count.records) }
+    ensures too_long { IsErrOf result RunFault.TooLong → EndsTooLong R.remaining site_run.old.run (held_by desk.old.site site_run.old.window.items) (W.contents writer.old) (W.contents writer.new) site_run.old.run.answered }
+    ensures read { IsErrOf result RunFault.Read → EndsCut R.remaining site_run.old.run (held_by desk.old.site site_run.old.window.items) (W.contents writer.old) (W.contents writer.new) }
+    ensures memory { IsErrOf result RunFault.Memory → EndsInPrefix R.remaining site_run.old.run (held_by desk.old.site site_run.old.window.items) (W.contents writer.old) (W.contents writer.new) }
 {
-    desk.flush(rt, limit, window, sink)?;
-    stop(rt, records, desk, sink, writer, limit)
+    let SiteRun { run, window } = site_run;
+    desk.flush(rt, run.answered, window, &mut run.reply)?;
+    let sink = &mut run.reply.sink;
+    stop(rt, &mut run.records, desk, sink, writer, run.answered)
 }
 
 // Answers records until there are no more, or up to `limit` of them.
 fn serve<G: Gate, T: Threads + Wait + Sync, R: Read, W: Write>(
     rt: &T,
-    records: &mut Records<R>,
+    site_run: &mut SiteRun<R>,
     desk: &mut Desk<G>,
-    window: &mut Vec<Message>,
-    sink: &mut Sink,
     writer: &mut W,
     limit: u64,
 ) -> Result<Count, RunFault>
-    requires { window.old.items ≡ [] }
-    ensures ok { IfOk result (λ count. (input : List ℕ) → Gives R.remaining records.old (input_records input) → sink.old ≡ []
-        → IsDone (told_by desk.old.site 1) limit (W.contents writer.old) (W.contents writer.new) (input_records input) count.records) }
-    ensures too_long { IsErrOf result RunFault.TooLong → (input : List ℕ) → Gives R.remaining records.old (input_records input) → sink.old ≡ []
-        → IsTooLong (told_by desk.old.site 1) limit (W.contents writer.old) (W.contents writer.new) (input_records input) }
-    ensures read { IsErrOf result RunFault.Read → (input : List ℕ) → Gives R.remaining records.old (input_records input) → sink.old ≡ []
-        → IsCut (told_by desk.old.site 1) (W.contents writer.old) (W.contents writer.new) (input_records input) }
-    ensures memory { IsErrOf result RunFault.Memory → (input : List ℕ) → Gives R.remaining records.old (input_records input) → sink.old ≡ []
-        → WroteFront ((told_by desk.old.site 1).text AtEnd) (W.contents writer.old) (W.contents writer.new) (input_records input) }
+    requires none { site_run.old.window.items ≡ [] }
+    requires first { site_run.old.run.answered ≡ 0 }
+    ensures ok { IfOk result (λ count. FromStart R.remaining site_run.old.run (λ records. IsDone (told_by desk.old.site 1) limit (W.contents writer.old) (W.contents writer.new) records count.records)) }
+    ensures too_long { IsErrOf result RunFault.TooLong → FromStart R.remaining site_run.old.run (λ records. IsTooLong (told_by desk.old.site 1) limit (W.contents writer.old) (W.contents writer.new) records) }
+    ensures read { IsErrOf result RunFault.Read → FromStart R.remaining site_run.old.run (λ records. IsCut (told_by desk.old.site 1) (W.contents writer.old) (W.contents writer.new) records) }
+    ensures memory { IsErrOf result RunFault.Memory → FromStart R.remaining site_run.old.run (λ records. WrotePrefix ((told_by desk.old.site 1).text AtEnd) (W.contents writer.old) (W.contents writer.new) records) }
 {
-    'turns: for n in 0..limit {
-        if let Some(count) = turn(rt, records, desk, window, sink, writer, n)? {
+    'steps: for _answered in 0..limit {
+        if let Some(count) = take_next(rt, site_run, desk, writer)? {
             return Ok(count);
         }
     }
-    stop_at(rt, records, desk, window, sink, writer, limit)
+    stop_at(rt, site_run, desk, writer)
 }
 
 /// Runs the desk of a site over the records of `reader` until its end, or up to `limit` of them: appends the text of its
@@ -191,20 +190,13 @@ pub fn run_desk<G: Gate, T: Threads + Wait + Sync, R: Read + Drop, W: Write>(
     ensures read { IsErrOf result RunFault.Read → IfSome (R.remaining reader) (λ input.
         IsCut (told_by desk.old.site 1) (W.contents writer.old) (W.contents writer.new) (input_records input)) }
     ensures memory { IsErrOf result RunFault.Memory → IfSome (R.remaining reader) (λ input.
-        WroteFront ((told_by desk.old.site 1).text AtEnd) (W.contents writer.old) (W.contents writer.new) (input_records input)) }
+        WrotePrefix ((told_by desk.old.site 1).text AtEnd) (W.contents writer.old) (W.contents writer.new) (input_records input)) }
 {
-    let mut records = Records::new(alloc, reader);
-    let mut window = Vec::new(alloc);
-    let mut sink = Sink::new(alloc);
-    serve(
-        rt,
-        &mut records,
-        desk,
-        &mut window,
-        &mut sink,
-        writer,
-        limit,
-    )
+    let mut site_run = SiteRun {
+        run: Run::new(alloc, reader),
+        window: Vec::new(alloc),
+    };
+    serve(rt, &mut site_run, desk, writer, limit)
 }
 
 /// Runs a site over the records of `reader` until its end, or up to `limit` of them: appends the text of its answers to
@@ -234,7 +226,7 @@ pub fn run_site_upto<G: Gate + Drop, T: Threads + Wait + Sync, R: Read + Drop, W
     ensures read { IsErrOf result RunFault.Read → IfSome (R.remaining reader) (λ input.
         (k : ℕ) × Appends (W.contents writer.old) (W.contents writer.new) (rows_text (output_of (setup_place config.now) (take k (input_records input))))) }
     ensures memory { IsErrOf result RunFault.Memory → IfSome (R.remaining reader) (λ input.
-        WroteFront (λ records. rows_text (output_of (setup_place config.now) records)) (W.contents writer.old) (W.contents writer.new) (input_records input)) }
+        WrotePrefix (λ records. rows_text (output_of (setup_place config.now) records)) (W.contents writer.old) (W.contents writer.new) (input_records input)) }
 {
     let mut desk = Desk::new(alloc, config, gate)?;
     run_desk(rt, alloc, reader, writer, &mut desk, limit)
@@ -261,7 +253,7 @@ pub fn run_site<T: Threads + Wait + Sync, R: Read + Drop, W: Write>(
     ensures read { IsErrOf result RunFault.Read → IfSome (R.remaining reader) (λ input.
         (k : ℕ) × Appends (W.contents writer.old) (W.contents writer.new) (rows_text (output_of (setup_place config.now) (take k (input_records input))))) }
     ensures memory { IsErrOf result RunFault.Memory → IfSome (R.remaining reader) (λ input.
-        WroteFront (λ records. rows_text (output_of (setup_place config.now) records)) (W.contents writer.old) (W.contents writer.new) (input_records input)) }
+        WrotePrefix (λ records. rows_text (output_of (setup_place config.now) records)) (W.contents writer.old) (W.contents writer.new) (input_records input)) }
 {
     run_site_upto(rt, alloc, reader, writer, config, RECORDS_MAX, Free)
 }
@@ -288,7 +280,7 @@ pub fn run_site_to_exit<T: Threads + Wait + Sync, R: Read + Drop, W: Write>(
     ensures read { IsErrOf result RunFault.Read → IfSome (R.remaining reader) (λ input.
         (k : ℕ) × Appends (W.contents writer.old) (W.contents writer.new) (rows_text (output_of (setup_place config.now) (take k (input_records input))))) }
     ensures memory { IsErrOf result RunFault.Memory → IfSome (R.remaining reader) (λ input.
-        WroteFront (λ records. rows_text (output_of (setup_place config.now) records)) (W.contents writer.old) (W.contents writer.new) (input_records input)) }
+        WrotePrefix (λ records. rows_text (output_of (setup_place config.now) records)) (W.contents writer.old) (W.contents writer.new) (input_records input)) }
 {
     let mut desk = Desk::new(alloc, config, Free)?;
     let ended = run_desk(rt, alloc, reader, writer, &mut desk, RECORDS_MAX);

@@ -6,7 +6,7 @@ ghost use Rattle.std.specs.Option.{option_to_list};
 ghost use Rattle.rubis_script.specs.Text.{rows_text};
 
 use rubis_schema::Fields;
-use rubis_script::{Answering, Course, InputRecord, OutOfMemory, Service, Sink};
+use rubis_script::{Answering, Course, InputRecord, OutOfMemory, Reply, Service, Sink};
 use std::alloc::Global;
 
 /// Answers each record by itself behind `got`, one record late.
@@ -42,11 +42,11 @@ impl<T> Service<T> for Echo {
 
     ghost reads_next = { Prim.search rules };
 
-    fn settle(&mut self, _rt: &T, sink: &mut Sink) -> Result<(), OutOfMemory> {
+    fn answer_held(&mut self, _rt: &T, sink: &mut Sink) -> Result<(), OutOfMemory> {
         self.write_last(sink)
     }
 
-    fn finish(&mut self, _rt: &T, sink: &mut Sink) -> Result<(), OutOfMemory> {
+    fn answer_end(&mut self, _rt: &T, sink: &mut Sink) -> Result<(), OutOfMemory> {
         self.write_last(sink)
     }
 }
@@ -55,12 +55,11 @@ impl<T> Answering<T> for Echo {
     fn answer(
         &mut self,
         _rt: &T,
-        _number: u64,
         fields: &InputRecord,
-        sink: &mut Sink,
+        reply: &mut Reply,
     ) -> Result<Course, OutOfMemory> {
         let next = fields.to_fields(self.alloc)?;
-        self.write_last(sink)?;
+        self.write_last(&mut reply.sink)?;
         self.last = Some(next);
         Ok(Course::GoesOn)
     }

@@ -11,26 +11,22 @@ use rubis_listing::RowSink;
 use rubis_message::{Happened, Packet};
 use rubis_schema::{Fields, Refusal, push_number};
 use rubis_script::{
-    Sink, write_arrival, write_handed_on, write_listed, write_refusal, write_sent, write_taken,
+    Reply, write_arrival, write_handed_on, write_listed, write_refusal, write_sent, write_taken,
 };
 use std::alloc::AllocError;
 
-/// Says that the world refuses the record with that number.
-pub fn write_no_event(
-    reply: &mut Fields,
-    sink: &mut Sink,
-    number: u64,
-    refusal: Refusal,
-) -> Result<(), AllocError>
-    ensures { OnOk result (sink.new ≡ sink.old ++ rows_text (world_row number refusal ∷ [])) }
+/// Says that the world refuses the record.
+pub fn write_no_event(reply: &mut Reply, refusal: Refusal) -> Result<(), AllocError>
+    ensures { OnOk result (reply.new.sink ≡ reply.old.sink ++ rows_text (world_row reply.old.number refusal ∷ [])) }
 {
-    reply.clear();
-    reply.push_plain(b"world")?;
-    push_number(reply, number)?;
-    reply.push_plain(b"refused")?;
-    push_number(reply, u64::from(refusal.code()))?;
-    reply.push(refusal.name().as_bytes())?;
-    sink.write_fields(reply)
+    let fields = &mut reply.fields;
+    fields.clear();
+    fields.push_plain(b"world")?;
+    push_number(fields, reply.number)?;
+    fields.push_plain(b"refused")?;
+    push_number(fields, u64::from(refusal.code()))?;
+    fields.push(refusal.name().as_bytes())?;
+    reply.sink.write_fields(fields)
 }
 
 /// The packet with that number, counted from 1, if it was sent.
@@ -45,7 +41,7 @@ pub fn packet(sent: &[Packet], number: u64) -> Option<&Packet>
 
 // The packet that answers a request.
 fn write_packet<S: RowSink>(
-    reply: &mut Fields,
+    fields: &mut Fields,
     sink: &mut S,
     number: u64,
     packet: &Packet,
@@ -53,14 +49,14 @@ fn write_packet<S: RowSink>(
     ensures { OnOk result (S.adds (sent_rows number (Some packet.now)) sink.old sink.new) }
 {
     match packet {
-        Packet::Msg(message) => write_sent(reply, sink, number, message),
-        Packet::Token(token) => write_handed_on(reply, sink, number, token),
+        Packet::Msg(message) => write_sent(fields, sink, number, message),
+        Packet::Token(token) => write_handed_on(fields, sink, number, token),
     }
 }
 
 // What a site gives where something happened; all packets that were sent are at hand.
 fn write_happened<S: RowSink>(
-    reply: &mut Fields,
+    fields: &mut Fields,
     sink: &mut S,
     number: u64,
     sent: &[Packet],
@@ -70,59 +66,51 @@ fn write_happened<S: RowSink>(
 {
     match happened {
         Happened::Sent(which) => match packet(sent, which) {
-            Some(packet) => write_packet(reply, sink, number, packet),
+            Some(packet) => write_packet(fields, sink, number, packet),
             None => Ok(()),
         },
-        Happened::Came(arrival) => write_arrival(reply, sink, number, &Ok(arrival)),
-        Happened::Token(taken) => write_taken(reply, sink, number, &Ok(taken)),
-        Happened::Rows(rows) => write_listed(reply, sink, number, &Ok(rows)),
+        Happened::Came(arrival) => write_arrival(fields, sink, number, &Ok(arrival)),
+        Happened::Token(taken) => write_taken(fields, sink, number, &Ok(taken)),
+        Happened::Rows(rows) => write_listed(fields, sink, number, &Ok(rows)),
     }
 }
 
 // The records of a site where something happened.
 fn write_event(
-    reply: &mut Fields,
-    sink: &mut Sink,
-    number: u64,
+    reply: &mut Reply,
     site: u8,
     sent: &[Packet],
     happened: Happened,
 ) -> Result<(), AllocError>
-    ensures { OnOk result (sink.new ≡ sink.old ++ rows_text (map (site_row site) (happened_rows number sent.now happened))) }
+    ensures { OnOk result (reply.new.sink ≡ reply.old.sink ++ rows_text (map (site_row site) (happened_rows reply.old.number sent.now happened))) }
 {
+    let sink = &mut reply.sink;
     let mut rows = SiteRows { sink, site };
-    write_happened(reply, &mut rows, number, sent, happened)
+    write_happened(&mut reply.fields, &mut rows, reply.number, sent, happened)
 }
 
-/// Says that a site refuses the record with that number.
-pub fn write_refused(
-    reply: &mut Fields,
-    sink: &mut Sink,
-    number: u64,
-    site: u8,
-    refusal: Refusal,
-) -> Result<(), AllocError>
-    ensures { OnOk result (sink.new ≡ sink.old ++ rows_text (site_row site (refused_row number refusal) ∷ [])) }
+/// Says that a site refuses the record.
+pub fn write_refused(reply: &mut Reply, site: u8, refusal: Refusal) -> Result<(), AllocError>
+    ensures { OnOk result (reply.new.sink ≡ reply.old.sink ++ rows_text (site_row site (refused_row reply.old.number refusal) ∷ [])) }
 {
+    let sink = &mut reply.sink;
     let mut rows = SiteRows { sink, site };
-    write_refusal(reply, &mut rows, number, refusal)
+    write_refusal(&mut reply.fields, &mut rows, reply.number, refusal)
 }
 
-/// Says what the record with that number came to at a site.
+/// Says what the record came to at a site.
 pub fn write_answer(
-    reply: &mut Fields,
-    sink: &mut Sink,
-    number: u64,
+    reply: &mut Reply,
     site: u8,
     sent: &[Packet],
     answer: Result<Happened, Refusal>,
 ) -> Result<(), AllocError>
-    ensures { OnOk result (sink.new ≡ sink.old ++ rows_text (event_rows number site sent.now answer)) }
+    ensures { OnOk result (reply.new.sink ≡ reply.old.sink ++ rows_text (event_rows reply.old.number site sent.now answer)) }
 {
     match answer {
-        Ok(happened) => write_event(reply, sink, number, site, sent, happened),
-        Err(Refusal::BadEvent) => write_no_event(reply, sink, number, Refusal::BadEvent),
-        Err(Refusal::NoSuchPacket) => write_no_event(reply, sink, number, Refusal::NoSuchPacket),
-        Err(refusal) => write_refused(reply, sink, number, site, refusal),
+        Ok(happened) => write_event(reply, site, sent, happened),
+        Err(Refusal::BadEvent) => write_no_event(reply, Refusal::BadEvent),
+        Err(Refusal::NoSuchPacket) => write_no_event(reply, Refusal::NoSuchPacket),
+        Err(refusal) => write_refused(reply, site, refusal),
     }
 }

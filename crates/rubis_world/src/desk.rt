@@ -19,8 +19,8 @@ use crate::world::World;
 use rubis_audit::write_verdict;
 use rubis_message::{Request, WorldInput, read_world_input};
 use rubis_replica::Fault;
-use rubis_schema::{Fields, Refusal};
-use rubis_script::{InputRecord, OutOfMemory, Service, Sink};
+use rubis_schema::Refusal;
+use rubis_script::{InputRecord, OutOfMemory, Reply, Service, Sink};
 use std::alloc::{AllocError, Global};
 use std::sync::Wait;
 use std::thread::Threads;
@@ -42,17 +42,15 @@ fn answered<A>(answer: Result<A, WorldFault>) -> Result<Result<A, Refusal>, OutO
 fn answer_request<R: Threads + Wait + Sync>(
     rt: &R,
     world: &mut World,
-    reply: &mut Fields,
-    sink: &mut Sink,
-    number: u64,
+    reply: &mut Reply,
     site: u8,
     request: Request,
 ) -> Result<(), OutOfMemory>
     requires { IsEvent (length world.old.world.sites) (At site request) }
-    ensures { OnOk result (IsTold world.old world.new (told_at number site (happens world.old.keep world.old.world (At site request))) sink.old sink.new) }
+    ensures { OnOk result (IsTold world.old world.new (told_at reply.old.number site (happens world.old.keep world.old.world (At site request))) reply.old.sink reply.new.sink) }
 {
     let answer = answered(world.at(rt, site, request))?;
-    write_answer(reply, sink, number, site, world.packets(), answer)?;
+    write_answer(reply, site, world.packets(), answer)?;
     Ok(())
 }
 
@@ -60,16 +58,14 @@ fn answer_request<R: Threads + Wait + Sync>(
 fn answer_delivery<R: Threads + Wait + Sync>(
     rt: &R,
     world: &mut World,
-    reply: &mut Fields,
-    sink: &mut Sink,
-    number: u64,
+    reply: &mut Reply,
     site: u8,
     which: u64,
 ) -> Result<(), OutOfMemory>
-    ensures { OnOk result (IsTold world.old world.new (told_at number site (happens world.old.keep world.old.world (Deliver site which))) sink.old sink.new) }
+    ensures { OnOk result (IsTold world.old world.new (told_at reply.old.number site (happens world.old.keep world.old.world (Deliver site which))) reply.old.sink reply.new.sink) }
 {
     let answer = answered(world.deliver(rt, site, which))?;
-    write_answer(reply, sink, number, site, world.packets(), answer)?;
+    write_answer(reply, site, world.packets(), answer)?;
     Ok(())
 }
 
@@ -77,15 +73,14 @@ fn answer_delivery<R: Threads + Wait + Sync>(
 fn answer_audit<R: Threads + Wait + Sync>(
     rt: &R,
     world: &mut World,
-    reply: &mut Fields,
-    sink: &mut Sink,
+    reply: &mut Reply,
 ) -> Result<(), OutOfMemory>
-    ensures { OnOk result (IsTold world.old world.new (world.old.world, verdict_record (verdict (logs_of world.old.world)) ∷ []) sink.old sink.new) }
+    ensures { OnOk result (IsTold world.old world.new (world.old.world, verdict_record (verdict (logs_of world.old.world)) ∷ []) reply.old.sink reply.new.sink) }
 {
     let Ok(verdict) = world.check(rt) else {
         return Err(OutOfMemory);
     };
-    write_verdict(reply, sink, verdict)?;
+    write_verdict(&mut reply.fields, &mut reply.sink, verdict)?;
     Ok(())
 }
 
@@ -93,7 +88,6 @@ fn answer_audit<R: Threads + Wait + Sync>(
 #[derive(Drop)]
 pub struct WorldDesk {
     pub world: World,
-    reply: Fields,
     alloc: Global,
 }
 
@@ -104,55 +98,47 @@ impl WorldDesk {
     {
         Ok(WorldDesk {
             world: World::new(alloc, config)?,
-            reply: Fields::new(alloc),
             alloc,
         })
     }
 
-    /// Answers the record with this number. Whatever becomes of it, the claims of every run hold of the sites.
+    /// Answers a record. Whatever becomes of it, the claims of every run hold of the sites.
     pub fn respond<R: Threads + Wait + Sync>(
         &mut self,
         rt: &R,
-        number: u64,
         fields: &InputRecord,
-        sink: &mut Sink,
+        reply: &mut Reply,
     ) -> Result<(), OutOfMemory>
         ensures told { OnOk result (IsTold self.old.world self.new.world
-            (world_step self.old.world.keep self.old.world.world number (world_input (length self.old.world.world.sites) fields.now)) sink.old sink.new) }
+            (world_step self.old.world.keep self.old.world.world reply.old.number (world_input (length self.old.world.world.sites) fields.now)) reply.old.sink reply.new.sink) }
         ensures run { InRun self.new.world.world }
     {
-        let answered = self.answer(rt, number, fields, sink);
+        let answered = self.answer(rt, fields, reply);
         // For the clause on what the sites keep.
         let _sent = self.world.packets();
         answered
     }
 
-    // Answers the record with this number.
+    // Answers a record.
     fn answer<R: Threads + Wait + Sync>(
         &mut self,
         rt: &R,
-        number: u64,
         fields: &InputRecord,
-        sink: &mut Sink,
+        reply: &mut Reply,
     ) -> Result<(), OutOfMemory>
         ensures { OnOk result (IsTold self.old.world self.new.world
-            (world_step self.old.world.keep self.old.world.world number (world_input (length self.old.world.world.sites) fields.now)) sink.old sink.new) }
+            (world_step self.old.world.keep self.old.world.world reply.old.number (world_input (length self.old.world.world.sites) fields.now)) reply.old.sink reply.new.sink) }
     {
         let input = read_world_input(self.alloc, fields, self.world.sites())?;
         let world = &mut self.world;
-        let reply = &mut self.reply;
         match input {
-            WorldInput::Asked(site, Some(request)) => {
-                answer_request(rt, world, reply, sink, number, site, request)
-            }
-            WorldInput::Asked(site, None) => {
-                Ok(write_refused(reply, sink, number, site, Refusal::BadRecord)?)
-            }
-            WorldInput::Delivered(site, which) => {
-                answer_delivery(rt, world, reply, sink, number, site, which)
-            }
-            WorldInput::Audit => answer_audit(rt, world, reply, sink),
-            WorldInput::Neither => Ok(write_no_event(reply, sink, number, Refusal::BadEvent)?),
+            WorldInput::Asked(site, Some(request)) => answer_request(
+                rt, world, reply, site, request,
+            ),
+            WorldInput::Asked(site, None) => Ok(write_refused(reply, site, Refusal::BadRecord)?),
+            WorldInput::Delivered(site, which) => answer_delivery(rt, world, reply, site, which),
+            WorldInput::Audit => answer_audit(rt, world, reply),
+            WorldInput::Neither => Ok(write_no_event(reply, Refusal::BadEvent)?),
         }
     }
 }
@@ -164,11 +150,11 @@ impl<T> Service<T> for WorldDesk {
 
     ghost reads_next = { Prim.search rules };
 
-    fn settle(&mut self, _rt: &T, _sink: &mut Sink) -> Result<(), OutOfMemory> {
+    fn answer_held(&mut self, _rt: &T, _sink: &mut Sink) -> Result<(), OutOfMemory> {
         Ok(())
     }
 
-    fn finish(&mut self, _rt: &T, _sink: &mut Sink) -> Result<(), OutOfMemory> {
+    fn answer_end(&mut self, _rt: &T, _sink: &mut Sink) -> Result<(), OutOfMemory> {
         Ok(())
     }
 }

@@ -1,77 +1,70 @@
 // Several sites over a reader and a writer.
 
-ghost use Rattle.std.specs.Prelude.{◌≡◌, ◌≤◌, ◌<◌, ◌+◌, ◌^◌, ◌⊎◌, [], ℕ, List, IfErr, IfOk, IfSome, IsErrOf, MatchOption, length, take};
+ghost use Rattle.std.specs.Prelude.{◌≡◌, ◌≤◌, ◌<◌, ◌+◌, ◌^◌, ◌⊎◌, ℕ, IfErr, IfNone, IfOk, IfSome, IsErrOf, length, take};
 ghost use Rattle.std.specs.Io.KnownBytes.{Appends};
 ghost use Rattle.rubis_model.specs.Laws.{InRun};
 ghost use Rattle.rubis_model.specs.WorldRecords.{world_output_of};
 ghost use Rattle.rubis_script.specs.Accounts.Ending.{AtEnd};
-ghost use Rattle.rubis_script.specs.Progress.{HasComeSoFar, InEachRun, IsCut, IsDone, IsTooLong, WroteFront};
-ghost use Rattle.rubis_script.specs.Reading.{Gives};
+ghost use Rattle.rubis_script.specs.Progress.{EndsCut, EndsInPrefix, FromStart, HasMoved, IsCut, IsDone, IsTooLong, WrotePrefix};
 ghost use Rattle.rubis_script.specs.Text.{input_records, rows_text};
 ghost use Rattle.rubis_world.specs.Running.{told_by_world};
 
 use crate::config::WorldConfig;
 use crate::desk::WorldDesk;
 use rubis_schema::RECORDS_MAX;
-use rubis_script::{Count, Records, RunFault, Sink, next_record, stop, write_out};
+use rubis_script::{Count, Run, RunFault, next_record, stop, write_out};
 use std::alloc::Global;
 use std::io::{Read, Write};
 use std::mem;
 use std::sync::Wait;
 use std::thread::Threads;
 
-// Answers record `answered + 1`, if there is one. `None` if the run goes on, otherwise how many records were read.
-fn turn<T: Threads + Wait + Sync, R: Read, W: Write>(
+// Answers the next record, if there is one. `None` if the run goes on, otherwise how many records were read.
+fn answer_next<T: Threads + Wait + Sync, R: Read, W: Write>(
     rt: &T,
-    records: &mut Records<R>,
+    run: &mut Run<R>,
     desk: &mut WorldDesk,
-    sink: &mut Sink,
     writer: &mut W,
-    answered: u64,
 ) -> Result<Option<Count>, RunFault>
-    requires { answered + 1 < 2 ^ 64 }
-    ensures goes { IfOk result (λ over. InEachRun R.remaining records.old (told_by_world desk.old.world (answered + 1)) (W.contents writer.old) sink.old (answered + 1) (λ all old input.
-        MatchOption over
-        (HasComeSoFar R.remaining records.new all (told_by_world desk.new.world (answered + 1 + 1)) old (W.contents writer.new) sink.new (answered + 1 + 1) input)
-        (λ count. IsDone all (answered + 1) old (W.contents writer.new) (input_records input) count.records))) }
-    ensures read { IsErrOf result RunFault.Read → InEachRun R.remaining records.old (told_by_world desk.old.world (answered + 1)) (W.contents writer.old) sink.old (answered + 1) (λ all old input.
-        IsCut all old (W.contents writer.new) (input_records input)) }
-    ensures memory { IsErrOf result RunFault.Memory → InEachRun R.remaining records.old (told_by_world desk.old.world (answered + 1)) (W.contents writer.old) sink.old (answered + 1) (λ all old input.
-        WroteFront (all.text AtEnd) old (W.contents writer.new) (input_records input)) }
+    requires { run.old.answered + 1 < 2 ^ 64 }
+    ensures goes { IfOk result (λ over. HasMoved R.remaining run.old run.new (told_by_world desk.old.world) (told_by_world desk.new.world) (W.contents writer.old) (W.contents writer.new) over) }
+    ensures counted { IfOk result (λ over. IfNone over (run.new.answered ≡ run.old.answered + 1)) }
+    ensures read { IsErrOf result RunFault.Read → EndsCut R.remaining run.old (told_by_world desk.old.world) (W.contents writer.old) (W.contents writer.new) }
+    ensures memory { IsErrOf result RunFault.Memory → EndsInPrefix R.remaining run.old (told_by_world desk.old.world) (W.contents writer.old) (W.contents writer.new) }
     ensures faults { IfErr result (λ e. (e ≡ RunFault.Read) ⊎ (e ≡ RunFault.Write) ⊎ (e ≡ RunFault.Memory)) }
 {
-    if let Some(count) = next_record(rt, records, desk, sink, writer, answered)? {
+    let sink = &mut run.reply.sink;
+    if let Some(count) = next_record(rt, &mut run.records, desk, sink, writer, run.answered)? {
         return Ok(Some(count));
     }
-    desk.respond(rt, answered + 1, records.fields(), sink)?;
-    write_out(rt, records, desk, sink, writer)?;
+    run.reply.number = run.answered + 1;
+    desk.respond(rt, run.records.fields(), &mut run.reply)?;
+    run.answered += 1;
+    write_out(rt, &run.records, desk, &mut run.reply.sink, writer)?;
     Ok(None)
 }
 
 // Answers records until there are no more, or up to `limit` of them.
 fn serve<T: Threads + Wait + Sync, R: Read, W: Write>(
     rt: &T,
-    records: &mut Records<R>,
+    run: &mut Run<R>,
     desk: &mut WorldDesk,
-    sink: &mut Sink,
     writer: &mut W,
     limit: u64,
 ) -> Result<Count, RunFault>
-    ensures ok { IfOk result (λ count. (input : List ℕ) → Gives R.remaining records.old (input_records input) → sink.old ≡ []
-        → IsDone (told_by_world desk.old.world 1) limit (W.contents writer.old) (W.contents writer.new) (input_records input) count.records) }
-    ensures too_long { IsErrOf result RunFault.TooLong → (input : List ℕ) → Gives R.remaining records.old (input_records input) → sink.old ≡ []
-        → IsTooLong (told_by_world desk.old.world 1) limit (W.contents writer.old) (W.contents writer.new) (input_records input) }
-    ensures read { IsErrOf result RunFault.Read → (input : List ℕ) → Gives R.remaining records.old (input_records input) → sink.old ≡ []
-        → IsCut (told_by_world desk.old.world 1) (W.contents writer.old) (W.contents writer.new) (input_records input) }
-    ensures memory { IsErrOf result RunFault.Memory → (input : List ℕ) → Gives R.remaining records.old (input_records input) → sink.old ≡ []
-        → WroteFront ((told_by_world desk.old.world 1).text AtEnd) (W.contents writer.old) (W.contents writer.new) (input_records input) }
+    requires { run.old.answered ≡ 0 }
+    ensures ok { IfOk result (λ count. FromStart R.remaining run.old (λ records. IsDone (told_by_world desk.old.world 1) limit (W.contents writer.old) (W.contents writer.new) records count.records)) }
+    ensures too_long { IsErrOf result RunFault.TooLong → FromStart R.remaining run.old (λ records. IsTooLong (told_by_world desk.old.world 1) limit (W.contents writer.old) (W.contents writer.new) records) }
+    ensures read { IsErrOf result RunFault.Read → FromStart R.remaining run.old (λ records. IsCut (told_by_world desk.old.world 1) (W.contents writer.old) (W.contents writer.new) records) }
+    ensures memory { IsErrOf result RunFault.Memory → FromStart R.remaining run.old (λ records. WrotePrefix ((told_by_world desk.old.world 1).text AtEnd) (W.contents writer.old) (W.contents writer.new) records) }
 {
-    'turns: for n in 0..limit {
-        if let Some(count) = turn(rt, records, desk, sink, writer, n)? {
+    'steps: for _answered in 0..limit {
+        if let Some(count) = answer_next(rt, run, desk, writer)? {
             return Ok(count);
         }
     }
-    stop(rt, records, desk, sink, writer, limit)
+    let sink = &mut run.reply.sink;
+    stop(rt, &mut run.records, desk, sink, writer, run.answered)
 }
 
 /// Runs the desk of several sites over the records of `reader` until its end, or up to `limit` of them: appends the text of its
@@ -95,12 +88,11 @@ pub fn run_world_desk<T: Threads + Wait + Sync, R: Read + Drop, W: Write>(
     ensures read { IsErrOf result RunFault.Read → IfSome (R.remaining reader) (λ input.
         IsCut (told_by_world desk.old.world 1) (W.contents writer.old) (W.contents writer.new) (input_records input)) }
     ensures memory { IsErrOf result RunFault.Memory → IfSome (R.remaining reader) (λ input.
-        WroteFront ((told_by_world desk.old.world 1).text AtEnd) (W.contents writer.old) (W.contents writer.new) (input_records input)) }
+        WrotePrefix ((told_by_world desk.old.world 1).text AtEnd) (W.contents writer.old) (W.contents writer.new) (input_records input)) }
     ensures run { InRun desk.new.world.world }
 {
-    let mut records = Records::new(alloc, reader);
-    let mut sink = Sink::new(alloc);
-    let ended = serve(rt, &mut records, desk, &mut sink, writer, limit);
+    let mut run = Run::new(alloc, reader);
+    let ended = serve(rt, &mut run, desk, writer, limit);
     // For the clause on what the sites keep.
     let _sent = desk.world.packets();
     ended
@@ -131,7 +123,7 @@ pub fn run_world<T: Threads + Wait + Sync, R: Read + Drop, W: Write>(
     ensures read { IsErrOf result RunFault.Read → IfSome (R.remaining reader) (λ input.
         (k : ℕ) × Appends (W.contents writer.old) (W.contents writer.new) (rows_text (world_output_of config.now.sites config.now.keep (take k (input_records input))))) }
     ensures memory { IsErrOf result RunFault.Memory → IfSome (R.remaining reader) (λ input.
-        WroteFront (λ records. rows_text (world_output_of config.now.sites config.now.keep records)) (W.contents writer.old) (W.contents writer.new) (input_records input)) }
+        WrotePrefix (λ records. rows_text (world_output_of config.now.sites config.now.keep records)) (W.contents writer.old) (W.contents writer.new) (input_records input)) }
 {
     let mut desk = WorldDesk::new(alloc, config)?;
     run_world_desk(rt, alloc, reader, writer, &mut desk, RECORDS_MAX)
@@ -159,7 +151,7 @@ pub fn run_world_to_exit<T: Threads + Wait + Sync, R: Read + Drop, W: Write>(
     ensures read { IsErrOf result RunFault.Read → IfSome (R.remaining reader) (λ input.
         (k : ℕ) × Appends (W.contents writer.old) (W.contents writer.new) (rows_text (world_output_of config.now.sites config.now.keep (take k (input_records input))))) }
     ensures memory { IsErrOf result RunFault.Memory → IfSome (R.remaining reader) (λ input.
-        WroteFront (λ records. rows_text (world_output_of config.now.sites config.now.keep records)) (W.contents writer.old) (W.contents writer.new) (input_records input)) }
+        WrotePrefix (λ records. rows_text (world_output_of config.now.sites config.now.keep records)) (W.contents writer.old) (W.contents writer.new) (input_records input)) }
 {
     let mut desk = WorldDesk::new(alloc, config)?;
     let ended = run_world_desk(rt, alloc, reader, writer, &mut desk, RECORDS_MAX);

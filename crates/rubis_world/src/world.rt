@@ -57,8 +57,8 @@ impl World {
         self.sites.len() as u8
     }
 
-    /// A request at a site. What the site sends is the last packet then, and the answer has its number. After a fault, want
-    /// of memory too, the logs, the waiting messages, the token and the packets are as they were.
+    /// A request at a site. What the site sends is the last packet then, and the answer has its number. After a fault, out
+    /// of memory included, the logs, the waiting messages, the token and the packets are as they were.
     pub fn at<R: Threads + Wait + Sync>(
         &mut self,
         rt: &R,

@@ -11,15 +11,15 @@ returns-in_default-clause-too_long g c e all old input p =
     let moved = progress-moved _ c.args.records.now all _ (g.S.Service.account c.next_record.new.service n) old _ (g.W.Write.contents c.next_record.new.writer) _ c.next_record.new.sink n input p
     (ap (λ s. g.S.Service.account s n) same.0) (ap g.W.Write.contents same.2) same.1 in
     let next = progress-more _ c.args.records.now c.next_record.new.records all _ old _ _ n input p found in
-    progress-too_long _ c.args.records.now c.next_record.new.records all (g.S.Service.account c.settle.new.service n) old _ n c.args.answered input
-    (progress-drained _ _ all _ _ old _ _ _ n input moved (c.in_ok-settle.ensures.drains n))
-    (c.in_ok-settle.ensures.none n) (g.met.S.Service.reads_next c.settle.new.service n) refl (omega (arith, next))
+    progress-too_long _ c.args.records.now c.next_record.new.records all (g.S.Service.account c.write_out_held.new.service n) old _ n c.args.answered input
+    (progress-drained _ _ all _ _ old _ _ _ n input moved (c.in_ok-write_out_held.ensures.drains n))
+    (c.in_ok-write_out_held.ensures.none n) (g.met.S.Service.reads_next c.write_out_held.new.service n) refl (omega (arith, next))
 
-pub returns-in_err-settle-clause-memory : goal.returns-in_err-settle-clause-memory
-returns-in_err-settle-clause-memory g c e all old input p =
+pub returns-in_err-write_out_held-clause-memory : goal.returns-in_err-write_out_held-clause-memory
+returns-in_err-write_out_held-clause-memory g c e all old input p =
     let n = c.args.answered + 1 in
     let same = if_none c.in_ok-count.field-0 c.in_ok-count.ensures.same c.in_default.is in
-    let memory = handed_on c.from_residual-in_err-settle.result c.in_err-settle.field-0.0 fault.Memory c.from_residual-in_err-settle.ensures e in
+    let memory = handed_on c.from_residual-in_err-write_out_held.result c.in_err-write_out_held.field-0.0 fault.Memory c.from_residual-in_err-write_out_held.ensures e in
     let moved = progress-moved _ c.args.records.now all _ (g.S.Service.account c.next_record.new.service n) old _ (g.W.Write.contents c.next_record.new.writer) _ c.next_record.new.sink n input p
     (ap (λ s. g.S.Service.account s n) same.0) (ap g.W.Write.contents same.2) same.1 in
-    progress-stays _ _ all _ old _ _ _ n input moved (c.in_err-settle.ensures.memory (rw memory refl))
+    progress-stays _ _ all _ old _ _ _ n input moved (c.in_err-write_out_held.ensures.memory (rw memory refl))

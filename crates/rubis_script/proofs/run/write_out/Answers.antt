@@ -4,8 +4,8 @@ use Rattle.rubis_script.proofs.run.write_out.Goals as goal
 
 pub returns-then-is_used_up-clause-goes : goal.returns-then-is_used_up-clause-goes
 returns-then-is_used_up-clause-goes g c =
-    on_ok_both c.settle.result (λ drains empty all old number input p.
-    rw empty (progress-drained _ _ all _ _ old _ _ _ _ input p (drains number))) c.settle.ensures.drains c.settle.ensures.empty
+    on_ok_both c.write_out_held.result (λ drains empty all old number input p.
+    rw empty (progress-drained _ _ all _ _ old _ _ _ _ input p (drains number))) c.write_out_held.ensures.drains c.write_out_held.ensures.empty
 
 pub returns-then-is_full-clause-goes : goal.returns-then-is_full-clause-goes
 returns-then-is_full-clause-goes g c =

@@ -3,7 +3,7 @@ use Rattle.std.specs.Prelude.{IfOk, IfSome, IsErrOf}
 use Rattle.std.specs.Io.KnownBytes.{Appends}
 use Rattle.rubis_model.specs.Runs.{answers}
 use Rattle.rubis_model.specs.Site.{Place, Replica}
-use Rattle.rubis_script.specs.Progress.{WroteFront}
+use Rattle.rubis_script.specs.Progress.{WrotePrefix}
 use Rattle.rubis_script.specs.Text.{input_records, rows_text}
 use Rattle.rubis_script.specs.declared.fault.RunFault.TheVariants as RunFault
 use Rattle.rubis_script.proofs.site_run.run_site_upto.Goals as goal
@@ -19,5 +19,5 @@ pub returns-clause-memory : goal.returns-clause-memory
 returns-clause-memory g c =
     let (place, state) = c.in_ok-desk.ensures in
     subst₂ (λ (p : Place) (s : Replica). IsErrOf c.run_desk.result RunFault.Memory → IfSome (g.R.Read.remaining c.args.reader) (λ input.
-    WroteFront (λ records. rows_text (answers p s 1 records)) (g.W.Write.contents c.args.writer.now) (g.W.Write.contents c.run_desk.new.writer) (input_records input)))
+    WrotePrefix (λ records. rows_text (answers p s 1 records)) (g.W.Write.contents c.args.writer.now) (g.W.Write.contents c.run_desk.new.writer) (input_records input)))
     place state c.run_desk.ensures.memory

@@ -1,46 +1,43 @@
-use Rattle.std.proofs.Common.{◌≡◌, ◌+◌, subst, arith, refl}
-use Rattle.rubis_script.specs.Progress.{HasComeSoFar}
+use Rattle.std.proofs.Common.{◌≡◌, ◌+◌, arith, refl, subst}
+use Rattle.rubis_script.specs.Progress.{IsDone, IsTooLong}
 use Rattle.rubis_script.specs.SiteRuns.{told_by}
-use Rattle.rubis_script.specs.Windows.{held_by}
+use Rattle.rubis_script.specs.Text.{input_records}
 use Rattle.rubis_script.specs.declared.fault.RunFault.TheVariants as fault
-use Rattle.rubis_script.proofs.RunFacts.{handed_on, if_ok_so, progress-start}
+use Rattle.rubis_script.proofs.RunFacts.{handed_on, if_ok_so, progress-starts}
 use Rattle.rubis_script.proofs.WindowFacts.{held_none, progress-told}
 use Rattle.rubis_script.proofs.site_run.serve.Goals as goal
 
-pub turns-init : goal.turns-init
-turns-init g c =
+pub steps-init : goal.steps-init
+steps-init g c =
     let site = c.args.desk.now.site in
-    let window = c.args.window.now.items in (
-      held_none site.place window 0 c.requires,
-      λ input holds empty. progress-told g.R.Read.remaining c.args.records.now (told_by site 1) site window _ _ c.args.sink.now 1 input c.requires
-          (rw empty (progress-start g.R.Read.remaining c.args.records.now (told_by site 1) (g.W.Write.contents c.args.writer.now) input holds)),
+    let run = c.args.site_run.now.run in
+    let window = c.args.site_run.now.window.items in (
+      c.requires.first,
+      held_none site.place window run.answered c.requires.none,
+      λ input gives empty. progress-told g.R.Read.remaining run.records (told_by site 1) site window _ _ run.reply.sink (run.answered + 1) input c.requires.none
+          (progress-starts g.R.Read.remaining run (told_by site) (g.W.Write.contents c.args.writer.now) input c.requires.first empty gives),
     )
 
 pub returns-in_err-count-clause-memory : goal.returns-in_err-count-clause-memory
-returns-in_err-count-clause-memory g c e input holds empty =
+returns-in_err-count-clause-memory g c e input gives empty =
     let memory = handed_on c.from_residual.result c.in_err-count.field-0.0 fault.Memory c.from_residual.ensures e in
-    c.in_err-count.ensures.memory (rw memory refl) _ _ input (c.turns.invariant.1 input holds empty)
+    c.in_err-count.ensures.memory (rw memory refl) _ _ input (c.steps.invariant.2 input gives empty)
 
 pub returns-clause-ok : goal.returns-clause-ok
 returns-clause-ok g c =
-    let limit : c.turns.n ≡ c.args.limit = omega (arith, c.turns-test.false, c.turns.auto.n-end) in
-    if_ok_so _ _ c.stop_at.result (λ count done input holds empty. done _ _ input
-    (subst (λ k. HasComeSoFar g.R.Read.remaining c.turns.records (told_by c.args.desk.now.site 1) (held_by c.turns.desk.site c.turns.window.items (k + 1)) (g.W.Write.contents c.args.writer.now) (g.W.Write.contents c.turns.writer) c.turns.sink (k + 1) input) limit (c.turns.invariant.1 input holds empty))) c.stop_at.ensures.ok
+    let limit : c.steps.site_run.run.answered ≡ c.args.limit = omega (arith, c.steps.invariant.0, c.steps-test.false, c.steps.auto._answered-end) in
+    if_ok_so _ _ c.stop_at.result (λ count done input gives empty.
+    subst (λ k. IsDone (told_by c.args.desk.now.site 1) k (g.W.Write.contents c.args.writer.now) (g.W.Write.contents c.stop_at.new.writer) (input_records input) count.records) limit
+    (done _ _ input (c.steps.invariant.2 input gives empty))) c.stop_at.ensures.ok
 
 pub returns-clause-too_long : goal.returns-clause-too_long
-returns-clause-too_long g c e input holds empty =
-    let limit : c.turns.n ≡ c.args.limit = omega (arith, c.turns-test.false, c.turns.auto.n-end) in
-    c.stop_at.ensures.too_long e _ _ input
-    (subst (λ k. HasComeSoFar g.R.Read.remaining c.turns.records (told_by c.args.desk.now.site 1) (held_by c.turns.desk.site c.turns.window.items (k + 1)) (g.W.Write.contents c.args.writer.now) (g.W.Write.contents c.turns.writer) c.turns.sink (k + 1) input) limit (c.turns.invariant.1 input holds empty))
+returns-clause-too_long g c e input gives empty =
+    let limit : c.steps.site_run.run.answered ≡ c.args.limit = omega (arith, c.steps.invariant.0, c.steps-test.false, c.steps.auto._answered-end) in
+    subst (λ k. IsTooLong (told_by c.args.desk.now.site 1) k (g.W.Write.contents c.args.writer.now) (g.W.Write.contents c.stop_at.new.writer) (input_records input)) limit
+    (c.stop_at.ensures.too_long e _ _ input (c.steps.invariant.2 input gives empty))
 
 pub returns-clause-read : goal.returns-clause-read
-returns-clause-read g c e input holds empty =
-    let limit : c.turns.n ≡ c.args.limit = omega (arith, c.turns-test.false, c.turns.auto.n-end) in
-    c.stop_at.ensures.read e _ _ input
-    (subst (λ k. HasComeSoFar g.R.Read.remaining c.turns.records (told_by c.args.desk.now.site 1) (held_by c.turns.desk.site c.turns.window.items (k + 1)) (g.W.Write.contents c.args.writer.now) (g.W.Write.contents c.turns.writer) c.turns.sink (k + 1) input) limit (c.turns.invariant.1 input holds empty))
+returns-clause-read g c e input gives empty = c.stop_at.ensures.read e _ _ input (c.steps.invariant.2 input gives empty)
 
 pub returns-clause-memory : goal.returns-clause-memory
-returns-clause-memory g c e input holds empty =
-    let limit : c.turns.n ≡ c.args.limit = omega (arith, c.turns-test.false, c.turns.auto.n-end) in
-    c.stop_at.ensures.memory e _ _ input
-    (subst (λ k. HasComeSoFar g.R.Read.remaining c.turns.records (told_by c.args.desk.now.site 1) (held_by c.turns.desk.site c.turns.window.items (k + 1)) (g.W.Write.contents c.args.writer.now) (g.W.Write.contents c.turns.writer) c.turns.sink (k + 1) input) limit (c.turns.invariant.1 input holds empty))
+returns-clause-memory g c e input gives empty = c.stop_at.ensures.memory e _ _ input (c.steps.invariant.2 input gives empty)

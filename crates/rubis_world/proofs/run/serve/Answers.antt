@@ -1,26 +1,22 @@
-use Rattle.std.proofs.Common.{◌≡◌, ◌+◌, subst, arith}
-use Rattle.rubis_script.specs.Progress.{HasComeSoFar}
+use Rattle.std.proofs.Common.{◌≡◌, ◌+◌, arith, subst}
+use Rattle.rubis_script.specs.Progress.{IsDone}
+use Rattle.rubis_script.specs.Text.{input_records}
 use Rattle.rubis_world.specs.Running.{told_by_world}
-use Rattle.rubis_script.proofs.RunFacts.{if_ok_so, progress-start}
+use Rattle.rubis_script.proofs.RunFacts.{if_ok_so, progress-starts}
 use Rattle.rubis_world.proofs.run.serve.Goals as goal
 
-pub turns-init : goal.turns-init
-turns-init g c input holds empty = rw empty (progress-start _ _ _ _ input holds)
+pub steps-init : goal.steps-init
+steps-init g c = (c.requires, λ input gives empty. progress-starts _ c.args.run.now (told_by_world c.args.desk.now.world) _ input c.requires empty gives)
 
 pub returns-clause-ok : goal.returns-clause-ok
 returns-clause-ok g c =
-    let limit : c.turns.n ≡ c.args.limit = omega (arith, c.turns-test.false, c.turns.auto.n-end) in
-    if_ok_so _ _ c.stop.result (λ count done input holds empty. done _ _ input
-    (subst (λ k. HasComeSoFar g.R.Read.remaining c.turns.records (told_by_world c.args.desk.now.world 1) (told_by_world c.turns.desk.world (k + 1)) (g.W.Write.contents c.args.writer.now) (g.W.Write.contents c.turns.writer) c.turns.sink (k + 1) input) limit (c.turns.invariant input holds empty))) c.stop.ensures.ok
+    let limit : c.steps.run.answered ≡ c.args.limit = omega (arith, c.steps.invariant.0, c.steps-test.false, c.steps.auto._answered-end) in
+    if_ok_so _ _ c.stop.result (λ count done input gives empty.
+    subst (λ k. IsDone (told_by_world c.args.desk.now.world 1) k (g.W.Write.contents c.args.writer.now) (g.W.Write.contents c.stop.new.writer) (input_records input) count.records) limit
+    (done _ _ input (c.steps.invariant.1 input gives empty))) c.stop.ensures.ok
 
 pub returns-clause-read : goal.returns-clause-read
-returns-clause-read g c e input holds empty =
-    let limit : c.turns.n ≡ c.args.limit = omega (arith, c.turns-test.false, c.turns.auto.n-end) in
-    c.stop.ensures.read e _ _ input
-    (subst (λ k. HasComeSoFar g.R.Read.remaining c.turns.records (told_by_world c.args.desk.now.world 1) (told_by_world c.turns.desk.world (k + 1)) (g.W.Write.contents c.args.writer.now) (g.W.Write.contents c.turns.writer) c.turns.sink (k + 1) input) limit (c.turns.invariant input holds empty))
+returns-clause-read g c e input gives empty = c.stop.ensures.read e _ _ input (c.steps.invariant.1 input gives empty)
 
 pub returns-clause-memory : goal.returns-clause-memory
-returns-clause-memory g c e input holds empty =
-    let limit : c.turns.n ≡ c.args.limit = omega (arith, c.turns-test.false, c.turns.auto.n-end) in
-    c.stop.ensures.memory e _ _ input
-    (subst (λ k. HasComeSoFar g.R.Read.remaining c.turns.records (told_by_world c.args.desk.now.world 1) (told_by_world c.turns.desk.world (k + 1)) (g.W.Write.contents c.args.writer.now) (g.W.Write.contents c.turns.writer) c.turns.sink (k + 1) input) limit (c.turns.invariant input holds empty))
+returns-clause-memory g c e input gives empty = c.stop.ensures.memory e _ _ input (c.steps.invariant.1 input gives empty)

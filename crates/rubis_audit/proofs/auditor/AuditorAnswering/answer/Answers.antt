@@ -14,6 +14,6 @@ returns g c =
     let more = rw c.if-branch.true at c.in_ok-take.ensures.logs in
     let sites : c.self.inside.sites ≡ c.args.self.now.sites = ap (λ a. a.sites) c.self.view_is in
     let goes_on =
-    goes c.self.inside.sites c.args.number c.args.self.now.logs c.take.new.self.logs (line_as fields c.in-Some.line) fields c.args.sink.now c.args.sink.now line more refl in
-    subst (λ s. AnswersRecord GoesOn (account_from c.args.self.now.sites c.args.number c.args.self.now.logs) (account_from s (c.args.number + 1) c.take.new.self.logs) c.args.sink.now c.args.sink.now fields) (sym c.take.ensures.sites)
-    (subst (λ s. AnswersRecord GoesOn (account_from s c.args.number c.args.self.now.logs) (account_from s (c.args.number + 1) c.take.new.self.logs) c.args.sink.now c.args.sink.now fields) sites goes_on)
+    goes c.self.inside.sites c.args.reply.now.number c.args.self.now.logs c.take.new.self.logs (line_as fields c.in-Some.line) fields c.args.reply.now.sink c.args.reply.now.sink line more refl in
+    subst (λ s. AnswersRecord GoesOn (account_from c.args.self.now.sites c.args.reply.now.number c.args.self.now.logs) (account_from s (c.args.reply.now.number + 1) c.take.new.self.logs) c.args.reply.now.sink c.args.reply.now.sink fields) (sym c.take.ensures.sites)
+    (subst (λ s. AnswersRecord GoesOn (account_from s c.args.reply.now.number c.args.self.now.logs) (account_from s (c.args.reply.now.number + 1) c.take.new.self.logs) c.args.reply.now.sink c.args.reply.now.sink fields) sites goes_on)

@@ -20,12 +20,12 @@ write_line-requires-clause-written g c =
 pub returns : goal.returns
 returns g c =
     let inside = c.self.inside in
-    let number = c.args.number in
+    let number = c.args.reply.now.number in
     let fields = c.args.fields.now in
     let line = sym c.in_ok-line.ensures.line ∙ ap (option_map (line_as fields)) c.in-Some.is in
     let next = sym (c.after.ensures fields) ∙ c.in-Some-after.is in
     let new : WidenerState = record { from = inside.from; to = inside.to; place = c.in-Some-after.place } in
     let answered =
-    goes inside.from inside.to number inside.place c.in-Some-after.place (line_as fields c.in-Some.line) fields c.args.sink.now c.write_line.new.sink line next c.in_ok-write_line.ensures.text in
-    subst (λ (s : WidenerState). AnswersRecord GoesOn (widening_from s.from s.to number (logs_at s.place)) (widening_from c.write_line.new.self.from c.write_line.new.self.to (number + 1) (logs_at c.write_line.new.self.place)) c.args.sink.now c.write_line.new.sink fields) c.self.view_is
-    (subst (λ (s : WidenerState). AnswersRecord GoesOn (widening_from inside.from inside.to number (logs_at inside.place)) (widening_from s.from s.to (number + 1) (logs_at s.place)) c.args.sink.now c.write_line.new.sink fields) (sym c.write_line.ensures.state) answered)
+    goes inside.from inside.to number inside.place c.in-Some-after.place (line_as fields c.in-Some.line) fields c.args.reply.now.sink c.write_line.new.reply.sink line next c.in_ok-write_line.ensures.text in
+    subst (λ (s : WidenerState). AnswersRecord GoesOn (widening_from s.from s.to number (logs_at s.place)) (widening_from c.write_line.new.self.from c.write_line.new.self.to (number + 1) (logs_at c.write_line.new.self.place)) c.args.reply.now.sink c.write_line.new.reply.sink fields) c.self.view_is
+    (subst (λ (s : WidenerState). AnswersRecord GoesOn (widening_from inside.from inside.to number (logs_at inside.place)) (widening_from s.from s.to (number + 1) (logs_at s.place)) c.args.reply.now.sink c.write_line.new.reply.sink fields) (sym c.write_line.ensures.state) answered)

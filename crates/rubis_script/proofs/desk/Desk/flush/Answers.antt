@@ -8,5 +8,5 @@ pub returns-then-is_empty-clause-flushed : goal.returns-then-is_empty-clause-flu
 returns-then-is_empty-clause-flushed g c =
     let window = c.args.window.now in
     let zero = (Decides-eqb _ _).0 (sym c.is_empty.ensures ∙ c.if-is_empty.true) in
-    none_keeps c.args.self.now.site window.items (c.args.answered + 1) c.args.sink.now
+    none_keeps c.args.self.now.site window.items (c.args.answered + 1) c.args.reply.now.sink
     (nil_from_length window.items (omega (arith, zero, window.ok)))

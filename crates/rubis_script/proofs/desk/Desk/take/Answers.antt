@@ -23,12 +23,12 @@ returns-in-Ok-Msg-clause-goes g c =
     let n = c.args.answered + 1 in
     let input : input_of c.args.self.now.sites fields ≡ Came (Packet.Msg m) =
     came c.args.self.now.sites fields c.in-Ok-Msg.field-0 c.args.self.now.few c.in-Ok-Msg.ensures.ok.1 c.in-Ok-Msg.ensures.some ∙ ap Came c.in-Ok-Msg.field-0-is in
-    on_ok_both c.hold.result (λ items held. rw items (holds_more site n c.args.window.now.items m fields c.args.sink.now (omega (arith, c.requires.held.few)) (rw (← c.args.self.now.same) input)))
+    on_ok_both c.hold.result (λ items held. rw items (holds_more site n c.args.window.now.items m fields c.args.reply.now.sink (omega (arith, c.requires.held.few)) (rw (← c.args.self.now.same) input)))
     c.hold.ensures (on_ok c.hold.result c.requires.held)
 
 pub returns-in_ok-flush-in_default-clause-goes : goal.returns-in_ok-flush-in_default-clause-goes
 returns-in_ok-flush-in_default-clause-goes g c =
     let n = c.args.answered + 1 in
     on_ok_both c.respond_to.result (λ answered empty. flush_goes c.args.self.now.site c.flush.new.self.site c.respond_to.new.self.site c.args.window.now.items c.flush.new.window.items n
-    c.args.fields.now c.args.sink.now c.flush.new.sink c.respond_to.new.sink c.in_ok-flush-in_default.ensures.flushed c.respond_to.ensures.place answered empty)
+    c.args.fields.now c.args.reply.now.sink c.flush.new.reply.sink c.respond_to.new.reply.sink c.in_ok-flush-in_default.ensures.flushed c.respond_to.ensures.place answered empty)
     c.respond_to.ensures.answered (on_ok c.respond_to.result c.flush.ensures.empty)

@@ -1,9 +1,7 @@
 use Rattle.std.proofs.Common.{◌≡◌, ◌∙◌, ◌+◌, ◌-◌, ◌++◌, ap, arith, length, subst, sym}
-use Rattle.std.proofs.lemmas.Bool.Decides.{Decides-eqb}
-use Rattle.std.proofs.lemmas.List.{nil_from_length}
 use Rattle.rubis_replica.specs.Arrivals.{TakesFirst}
 use Rattle.rubis_script.proofs.RunFacts.{if_not_some}
-use Rattle.rubis_script.proofs.WindowFacts.{answers-few, flush_keeps, none_keeps}
+use Rattle.rubis_script.proofs.WindowFacts.{answers-few, flush_keeps}
 use Rattle.rubis_script.specs.Text.{rows_text}
 use Rattle.rubis_script.specs.Windows.{arrivals_rows}
 use Rattle.rubis_script.proofs.desk.Desk.take_in.Goals as goal
@@ -25,6 +23,6 @@ returns-clause-flushed g c =
     let arrived = c.arrive_all-arrived.result in
     let rest = if_not_some arrived.fault c.arrive_all-arrived.ensures.none (sym c.is_some.ensures ∙ c.if-is_some.false) in
     let first = subst (λ w. TakesFirst site.place site.state c.arrive_all-arrived.new.self.state w.items arrived.answers arrived.rest) c.replace-messages.ensures.value c.arrive_all-arrived.ensures.first in
-    flush_keeps site c.arrive_all-arrived.new.self messages arrived.rest (c.args.answered + 1) (c.args.answered - c.len.result + 1) arrived.answers c.args.sink.now c.write_arrivals.new.sink
+    flush_keeps site c.arrive_all-arrived.new.self messages arrived.rest (c.args.answered + 1) (c.args.answered - c.len.result + 1) arrived.answers c.args.reply.now.sink c.write_arrivals.new.sink
     (omega (arith, c.requires.held.few, c.len.ensures)) c.arrive_all-arrived.ensures.place first rest
-    (subst (λ told. c.write_arrivals.new.sink ≡ c.args.sink.now ++ rows_text (arrivals_rows (c.args.answered - c.len.result + 1) told)) c.as_slice.ensures c.in_ok-write_arrivals.ensures)
+    (subst (λ told. c.write_arrivals.new.sink ≡ c.args.reply.now.sink ++ rows_text (arrivals_rows (c.args.answered - c.len.result + 1) told)) c.as_slice.ensures c.in_ok-write_arrivals.ensures)

@@ -1,6 +1,6 @@
 use Rattle.std.proofs.lemmas.List.{append-nil}
 use Rattle.rubis_model.specs.Runs.{answers}
-use Rattle.rubis_script.proofs.desk.DeskService.finish.Goals as goal
+use Rattle.rubis_script.proofs.desk.DeskService.answer_end.Goals as goal
 
 pub returns : goal.returns
 unfolding answers

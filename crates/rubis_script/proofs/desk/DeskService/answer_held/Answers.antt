@@ -1,6 +1,6 @@
 use Rattle.std.proofs.Common.{refl}
 use Rattle.rubis_model.specs.Runs.{answers}
-use Rattle.rubis_script.proofs.desk.DeskService.settle.Goals as goal
+use Rattle.rubis_script.proofs.desk.DeskService.answer_held.Goals as goal
 
 pub returns-clause-keeps : goal.returns-clause-keeps
 returns-clause-keeps g c = λ n more. (λ ending. refl, refl)

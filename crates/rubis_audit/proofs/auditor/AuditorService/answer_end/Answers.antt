@@ -1,6 +1,6 @@
 use Rattle.std.proofs.Common.{◌∙◌}
 use Rattle.rubis_audit.proofs.Collecting.{all_ended, read_among}
-use Rattle.rubis_audit.proofs.auditor.AuditorService.finish.Goals as goal
+use Rattle.rubis_audit.proofs.auditor.AuditorService.answer_end.Goals as goal
 
 pub invariant_of-self : goal.invariant_of-self
 invariant_of-self g c =

@@ -1,6 +1,6 @@
 use Rattle.std.proofs.lemmas.List.{append-nil}
 use Rattle.rubis_model.specs.WorldRecords.{world_answers}
-use Rattle.rubis_world.proofs.desk.WorldDeskService.finish.Goals as goal
+use Rattle.rubis_world.proofs.desk.WorldDeskService.answer_end.Goals as goal
 
 pub returns : goal.returns
 unfolding world_answers

@@ -3,7 +3,7 @@ use Rattle.rubis_world.specs.Running.{told_by_world}
 use Rattle.rubis_script.specs.declared.fault.RunFault.TheVariants as fault
 use Rattle.rubis_world.proofs.Answering.{world_goes}
 use Rattle.rubis_script.proofs.RunFacts.{handed_on, if_none, if_some, progress-moved, progress-stays, progress-step}
-use Rattle.rubis_world.proofs.run.turn.Goals as goal
+use Rattle.rubis_world.proofs.run.answer_next.Goals as goal
 
 pub returns-in-Some-clause-goes : goal.returns-in-Some-clause-goes
 returns-in-Some-clause-goes g c all old input p =
@@ -17,18 +17,18 @@ returns-in_err-respond-clause-memory g c e all old input p =
 
 pub returns-clause-goes : goal.returns-clause-goes
 returns-clause-goes g c all old input p =
-    let n = c.args.answered + 1 in
+    let n = c.args.run.now.answered + 1 in
     let same = if_none c.in_ok-count.field-0 c.in_ok-count.ensures.same c.in_default.is in
     let found = if_none c.in_ok-count.field-0 c.in_ok-count.ensures.found c.in_default.is in
     let before = c.next_record.new.service.world in
     let after = c.respond.new.self.world in
-    let moved = progress-moved _ c.args.records.now all _ (told_by_world before n) old _ (g.W.Write.contents c.next_record.new.writer) _ c.next_record.new.sink n input p
+    let moved = progress-moved _ c.args.run.now.records all _ (told_by_world before n) old _ (g.W.Write.contents c.next_record.new.writer) _ c.next_record.new.sink n input p
     (ap (λ s. told_by_world s.world n) same.0) (ap g.W.Write.contents same.2) same.1 in
     let answered = rw (c.fields.ensures) at c.in_ok-respond.ensures.told in
     c.in_ok-write_out.ensures.goes all old (n + 1) input
-    (progress-step _ c.args.records.now c.next_record.new.records all _ (told_by_world after (n + 1)) old _ _ c.respond.new.sink n input moved found
+    (progress-step _ c.args.run.now.records c.next_record.new.records all _ (told_by_world after (n + 1)) old _ _ c.respond.new.reply.sink n input moved found
     (λ more. (
-      λ ending. world_goes before after n _ c.next_record.new.sink c.respond.new.sink answered more,
+      λ ending. world_goes before after n _ c.next_record.new.sink c.respond.new.reply.sink answered more,
       omega arith,
     )))
 

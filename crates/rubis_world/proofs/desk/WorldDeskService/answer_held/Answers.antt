@@ -1,6 +1,6 @@
 use Rattle.std.proofs.Common.{refl}
 use Rattle.rubis_model.specs.WorldRecords.{world_answers}
-use Rattle.rubis_world.proofs.desk.WorldDeskService.settle.Goals as goal
+use Rattle.rubis_world.proofs.desk.WorldDeskService.answer_held.Goals as goal
 
 pub returns-clause-keeps : goal.returns-clause-keeps
 returns-clause-keeps g c = λ n more. (λ ending. refl, refl)
