@@ -11,7 +11,8 @@ use rubis_listing::RowSink;
 use rubis_message::{Happened, Packet};
 use rubis_schema::{Fields, Refusal, push_number};
 use rubis_script::{
-    Reply, write_arrival, write_handed_on, write_listed, write_refusal, write_sent, write_taken,
+    Reply, Sink, write_arrival, write_handed_on, write_listed, write_refusal, write_sent,
+    write_taken,
 };
 use std::alloc::AllocError;
 
@@ -77,25 +78,31 @@ fn write_happened<S: RowSink>(
 
 // The records of a site where something happened.
 fn write_event(
-    reply: &mut Reply,
+    fields: &mut Fields,
+    sink: &mut Sink,
+    number: u64,
     site: u8,
     sent: &[Packet],
     happened: Happened,
 ) -> Result<(), AllocError>
-    ensures { OnOk result (reply.new.sink ≡ reply.old.sink ++ rows_text (map (site_row site) (happened_rows reply.old.number sent.now happened))) }
+    ensures { OnOk result (sink.new ≡ sink.old ++ rows_text (map (site_row site) (happened_rows number sent.now happened))) }
 {
-    let sink = &mut reply.sink;
     let mut rows = SiteRows { sink, site };
-    write_happened(&mut reply.fields, &mut rows, reply.number, sent, happened)
+    write_happened(fields, &mut rows, number, sent, happened)
 }
 
 /// Says that a site refuses the record.
-pub fn write_refused(reply: &mut Reply, site: u8, refusal: Refusal) -> Result<(), AllocError>
-    ensures { OnOk result (reply.new.sink ≡ reply.old.sink ++ rows_text (site_row site (refused_row reply.old.number refusal) ∷ [])) }
+pub fn write_refused(
+    fields: &mut Fields,
+    sink: &mut Sink,
+    number: u64,
+    site: u8,
+    refusal: Refusal,
+) -> Result<(), AllocError>
+    ensures { OnOk result (sink.new ≡ sink.old ++ rows_text (site_row site (refused_row number refusal) ∷ [])) }
 {
-    let sink = &mut reply.sink;
     let mut rows = SiteRows { sink, site };
-    write_refusal(&mut reply.fields, &mut rows, reply.number, refusal)
+    write_refusal(fields, &mut rows, number, refusal)
 }
 
 /// Says what the record came to at a site.
@@ -108,9 +115,22 @@ pub fn write_answer(
     ensures { OnOk result (reply.new.sink ≡ reply.old.sink ++ rows_text (event_rows reply.old.number site sent.now answer)) }
 {
     match answer {
-        Ok(happened) => write_event(reply, site, sent, happened),
+        Ok(happened) => write_event(
+            &mut reply.fields,
+            &mut reply.sink,
+            reply.number,
+            site,
+            sent,
+            happened,
+        ),
         Err(Refusal::BadEvent) => write_no_event(reply, Refusal::BadEvent),
         Err(Refusal::NoSuchPacket) => write_no_event(reply, Refusal::NoSuchPacket),
-        Err(refusal) => write_refused(reply, site, refusal),
+        Err(refusal) => write_refused(
+            &mut reply.fields,
+            &mut reply.sink,
+            reply.number,
+            site,
+            refusal,
+        ),
     }
 }

@@ -135,7 +135,13 @@ impl WorldDesk {
             WorldInput::Asked(site, Some(request)) => answer_request(
                 rt, world, reply, site, request,
             ),
-            WorldInput::Asked(site, None) => Ok(write_refused(reply, site, Refusal::BadRecord)?),
+            WorldInput::Asked(site, None) => Ok(write_refused(
+                &mut reply.fields,
+                &mut reply.sink,
+                reply.number,
+                site,
+                Refusal::BadRecord,
+            )?),
             WorldInput::Delivered(site, which) => answer_delivery(rt, world, reply, site, which),
             WorldInput::Audit => answer_audit(rt, world, reply),
             WorldInput::Neither => Ok(write_no_event(reply, Refusal::BadEvent)?),
