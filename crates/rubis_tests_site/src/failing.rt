@@ -1,10 +1,9 @@
-// Readers and writers that fail.
+// A site on readers and writers that fail.
 
-use crate::transcripts::{take_apart, usual};
+use crate::transcripts::{Talk, take_apart, usual};
 use rubis_replica::Free;
 use rubis_script::{RunFault, run_site, run_site_upto};
-use std::io;
-use std::io::{Read, Write};
+use rubis_tests_common::{FailingReader, FailingWriter};
 use std::process::Abort;
 use std::sync::Wait;
 use std::thread::Threads;
@@ -43,80 +42,68 @@ row,user,0.1,ann,1,0,-5,1
 row,user,0.2,bob,0,1,0,0
 ";
 
+// An auction of two equal bids, at a site alone.
+const AUCTION: &str = "\
+> user,ann
+reply,1,ok,0.1
+send,msg,1,0,1,1,0,user,ann
+> user,bob
+reply,2,ok,0.2
+send,msg,1,0,2,2,1,user,bob
+> user,cat
+reply,3,ok,0.3
+send,msg,1,0,3,3,2,user,cat
+> item,0.1,lamp,7,1,100,0
+reply,4,ok,0.4
+send,msg,1,0,4,0,3,item,0.1,lamp,7,1,100,0
+> bid,0.4,0.2,500
+reply,5,ok,0.5
+send,msg,1,0,5,4,4,bid,0.4,0.2,500
+> bid,0.4,0.3,500
+reply,6,ok,0.6
+send,msg,1,0,6,5,5,bid,0.4,0.3,500
+> close,0.4,0.1
+reply,7,ok,0.7
+send,msg,1,0,7,6,6,close,0.4,7,0.5
+> list,items,7
+reply,8,rows,1
+row,item,0.4,0.1,lamp,7,1,0,100,0,2,0.5,500,closed,0.5
+> list,categories
+reply,9,rows,1
+row,category,7,1,0
+> list,bids,0.4
+reply,10,rows,2
+row,bid,0.5,0.4,0.2,500,4
+row,bid,0.6,0.4,0.3,500,5
+";
+
 // More calls than any writer here gets.
 const CALLS_MAX: usize = 1000;
 
-fn broken() -> io::Error {
-    io::Error::from(io::ErrorKind::BrokenPipe)
-}
-
-// Gives its text a byte at a time, and an error in place of its end.
-#[derive(Drop)]
-struct BrokenReader<'a> {
-    text: &'a [u8],
-    at: usize,
-}
-
-impl<'a> Read for BrokenReader<'a> {
-    fn read(&mut self, buf: &mut [u8]) -> io::Result<usize> {
-        match (self.text.get(self.at), buf.first_mut()) {
-            (Some(byte), Some(place)) => {
-                *place = *byte;
-                self.at = self.at.saturating_add(1);
-                Ok(1)
-            }
-            _ => Err(broken()),
-        }
-    }
-}
-
-// Takes at most three bytes a call, and fails at one call, a flush among them.
-#[derive(Drop)]
-struct BrokenWriter {
-    got: Vec<u8>,
-    calls: usize,
-    bad: usize,
-}
-
-impl BrokenWriter {
-    fn call(&mut self) -> io::Result<()> {
-        self.calls = self.calls.saturating_add(1);
-        if self.calls == self.bad {
-            return Err(broken());
-        }
-        Ok(())
-    }
-}
-
-impl Write for BrokenWriter {
-    fn write(&mut self, buf: &[u8]) -> io::Result<usize> {
-        self.call()?;
-        let most = buf.len().min(3);
-        self.got.extend_from_slice(&buf[..most])?;
-        Ok(most)
-    }
-
-    fn flush(&mut self) -> io::Result<()> {
-        self.call()
+// Runs a site over each prefix of the records, with a reader that fails after it. Each run ends with Read, and has written a
+// prefix of the answers: all of them once it has read all records.
+fn read_until_each_byte<R: Abort + AllocGlobal + Threads + Wait + Sync>(
+    rt: &R,
+    talk: &Talk,
+    sites: u8,
+) {
+    let config = usual(rt, 0, sites);
+    let (said, heard) = (talk.said.as_bytes(), talk.heard.as_bytes());
+    for cut in 0..said.len() + 1 {
+        let mut out = Vec::new(rt.alloc());
+        let reader = FailingReader::new(&said[..cut]);
+        let end = run_site(rt, rt.alloc(), reader, &mut out, &config);
+        assert_eq!(rt; end.err(), Some(RunFault::Read), "after {cut} bytes");
+        assert!(rt; heard.starts_with(out.as_slice()), "after {cut} bytes");
+        assert!(rt; cut < said.len() || out.len() == heard.len());
     }
 }
 
 #[test]
 fn a_reader_that_fails_after_any_byte(rt: HostRuntime) {
-    let talk = take_apart(rt.alloc(), EVERYTHING).expect(&rt, "memory");
-    let config = usual(&rt, 0, 2);
-    let said = talk.said.as_bytes();
-    for cut in 0..said.len() + 1 {
-        let mut out = Vec::new(rt.alloc());
-        let text = &said[..cut];
-        let reader = BrokenReader { text, at: 0 };
-        let end = run_site(&rt, rt.alloc(), reader, &mut out, &config);
-        assert_eq!(rt; end.err(), Some(RunFault::Read), "after {cut} bytes");
-        assert!(rt;
-            talk.heard.as_bytes().starts_with(out.as_slice()),
-            "after {cut} bytes"
-        );
-        assert!(rt; cut < said.len() || out.len() == talk.heard.len());
+    for (transcript, sites) in [(EVERYTHING, 2), (AUCTION, 1)] {
+        let talk = take_apart(rt.alloc(), transcript).expect(&rt, "memory");
+        read_until_each_byte(&rt, &talk, sites);
     }
 }
 
@@ -124,33 +111,42 @@ fn a_reader_that_fails_after_any_byte(rt: HostRuntime) {
 fn write_until<R: Abort + AllocGlobal + Threads + Wait + Sync>(
     rt: &R,
     said: &[u8],
+    sites: u8,
     bad: usize,
-) -> (BrokenWriter, Option<RunFault>) {
-    let config = usual(rt, 0, 2);
-    let mut writer = BrokenWriter {
-        got: Vec::new(rt.alloc()),
-        calls: 0,
-        bad,
-    };
+) -> (FailingWriter, Option<RunFault>) {
+    let config = usual(rt, 0, sites);
+    let mut writer = FailingWriter::new(rt.alloc(), bad);
     let end = run_site(rt, rt.alloc(), said, &mut writer, &config);
     (writer, end.err())
 }
 
-#[test]
-fn a_writer_that_fails_at_any_call(rt: HostRuntime) {
-    let talk = take_apart(rt.alloc(), EVERYTHING).expect(&rt, "memory");
+// Runs a site with a writer that fails at its first call, at its second, and so on, until a run ends well. Each run before
+// ends with Write, and has written a prefix of the answers.
+fn write_until_each_call<R: Abort + AllocGlobal + Threads + Wait + Sync>(
+    rt: &R,
+    talk: &Talk,
+    sites: u8,
+) {
     let heard = talk.heard.as_bytes();
     for bad in 1..CALLS_MAX {
-        let (writer, fault) = write_until(&rt, talk.said.as_bytes(), bad);
+        let (writer, fault) = write_until(rt, talk.said.as_bytes(), sites, bad);
         if fault.is_none() {
-            assert!(rt; writer.calls < bad);
-            assert!(rt; writer.got.as_slice() == heard);
+            assert!(rt; writer.calls() < bad);
+            assert!(rt; writer.taken() == heard);
             return;
         }
         assert_eq!(rt; fault, Some(RunFault::Write), "at call {bad}");
-        assert!(rt; heard.starts_with(writer.got.as_slice()), "at call {bad}");
+        assert!(rt; heard.starts_with(writer.taken()), "at call {bad}");
     }
     assert!(rt; false, "no run ended well");
+}
+
+#[test]
+fn a_writer_that_fails_at_any_call(rt: HostRuntime) {
+    for (transcript, sites) in [(EVERYTHING, 2), (AUCTION, 1)] {
+        let talk = take_apart(rt.alloc(), transcript).expect(&rt, "memory");
+        write_until_each_call(&rt, &talk, sites);
+    }
 }
 
 #[test]

@@ -1,8 +1,8 @@
 // Audits: each check's fault, the count of records, and streams that fail.
 
-use crate::broken::{BrokenReader, BrokenWriter};
 use rubis_audit::run_audit;
 use rubis_script::{Count, RunFault};
+use rubis_tests_common::{FailingReader, FailingWriter};
 use std::alloc::Global;
 use std::process::Abort;
 
@@ -63,12 +63,17 @@ fn counts_the_records_that_it_reads(rt: HostRuntime) {
     assert!(rt; out.as_slice() == b"audit,BadRecord,4\n".as_slice());
 }
 
+// A log of a sale whose close names no winner, though there is a bid.
+const SALE: &[u8] =
+    b"site,0\nmsg,1,0,1,1,0:0,user,ann\nmsg,1,0,2,2,1:0,user,bob\nmsg,1,0,3,0,2:0,item,0.1,cup,9,3,50,80\nmsg,1,0,4,3,3:0,bid,0.3,0.2,60\nmsg,1,0,5,4,4:0,close,0.3,9,none\n";
+
+const SALE_AUDITED: &[u8] = b"audit,Winner,1,5\n";
+
 #[test]
 fn a_failing_reader(rt: HostRuntime) {
-    let text = b"site,0\nmsg,1,0,1,1,0:0,user,ann\nrow,user\n".as_slice();
-    for cut in 0..text.len() {
+    for cut in 0..SALE.len() + 1 {
         let mut out = Vec::new(rt.alloc());
-        let reader = BrokenReader::new(&text[..cut]);
+        let reader = FailingReader::new(&SALE[..cut]);
         let end = run_audit(rt.alloc(), reader, &mut out, 2);
         assert!(rt; end == Err(RunFault::Read), "after {cut} bytes");
         assert!(rt; out.is_empty(), "after {cut} bytes");
@@ -76,20 +81,19 @@ fn a_failing_reader(rt: HostRuntime) {
 }
 
 // The writer that fails at one of its calls, and whether the run ended well.
-fn write_until<R: Abort>(rt: &R, alloc: Global, bad: usize) -> (BrokenWriter, bool) {
-    let mut writer = BrokenWriter::new(alloc, bad);
-    let text = b"site,0\nmsg,1,0,1,1,0:0,user,ann\n".as_slice();
-    let end = run_audit(alloc, text, &mut writer, 2);
+fn write_until<R: Abort>(rt: &R, alloc: Global, bad: usize) -> (FailingWriter, bool) {
+    let mut writer = FailingWriter::new(alloc, bad);
+    let end = run_audit(alloc, SALE, &mut writer, 2);
     assert!(rt; end.is_ok() || end == Err(RunFault::Write));
     (writer, end.is_ok())
 }
 
 #[test]
 fn a_failing_writer(rt: HostRuntime) {
-    let want = b"audit,Agree\n".as_slice();
     for bad in 1..20 {
         let (writer, ended) = write_until(&rt, rt.alloc(), bad);
-        assert!(rt; want.starts_with(writer.got.as_slice()), "at call {bad}");
-        assert!(rt; !ended || writer.got.as_slice() == want, "at call {bad}");
+        assert!(rt; SALE_AUDITED.starts_with(writer.taken()), "at call {bad}");
+        assert!(rt; ended == (writer.calls() < bad), "at call {bad}");
+        assert!(rt; !ended || writer.taken() == SALE_AUDITED, "at call {bad}");
     }
 }

@@ -1,8 +1,8 @@
 // Runs of a service from bytes to bytes, to their end, to their limit, and with streams that fail.
 
-use crate::broken::{BrokenReader, BrokenWriter};
 use crate::echoes::Echo;
 use rubis_script::{Count, RunFault, run_upto};
+use rubis_tests_common::{FailingReader, FailingWriter};
 
 const INPUT: &[u8; 25] = b"ann,1\r\nbob\n\n\"c\"\"d\"\n,\nlast";
 
@@ -45,7 +45,7 @@ fn a_failing_reader(rt: HostRuntime) {
         let end = run_upto(
             &(),
             rt.alloc(),
-            BrokenReader::new(&INPUT[..cut]),
+            FailingReader::new(&INPUT[..cut]),
             &mut out,
             &mut Echo::new(rt.alloc()),
             9,
@@ -66,7 +66,7 @@ fn a_failing_reader(rt: HostRuntime) {
 fn a_failing_writer(rt: HostRuntime) {
     let calls = WANT.len().div_ceil(3) + 1;
     for bad in 1..calls + 1 {
-        let mut writer = BrokenWriter::new(rt.alloc(), bad);
+        let mut writer = FailingWriter::new(rt.alloc(), bad);
         let end = run_upto(
             &(),
             rt.alloc(),
@@ -77,7 +77,7 @@ fn a_failing_writer(rt: HostRuntime) {
         );
         assert!(rt; end == Err(RunFault::Write), "at call {bad}");
         assert!(rt;
-            WANT.as_slice().starts_with(writer.got.as_slice()),
+            WANT.as_slice().starts_with(writer.taken()),
             "at call {bad}"
         );
     }

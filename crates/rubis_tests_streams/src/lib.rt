@@ -5,8 +5,6 @@
 #[cfg(test)]
 mod audits;
 #[cfg(test)]
-mod broken;
-#[cfg(test)]
 mod callers;
 #[cfg(test)]
 mod echoes;

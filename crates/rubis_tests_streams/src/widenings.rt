@@ -1,8 +1,8 @@
 // Widening: each record as it is read, and streams that fail.
 
-use crate::broken::{BrokenReader, BrokenWriter};
 use rubis_audit::run_widen;
 use rubis_script::{Count, RunFault};
+use rubis_tests_common::{FailingReader, FailingWriter};
 use std::alloc::Global;
 use std::process::Abort;
 
@@ -32,7 +32,7 @@ fn a_message_before_any_site_is_a_bad_record(rt: HostRuntime) {
 fn a_failing_reader(rt: HostRuntime) {
     for cut in 0..LOG.len() {
         let mut out = Vec::new(rt.alloc());
-        let reader = BrokenReader::new(&LOG[..cut]);
+        let reader = FailingReader::new(&LOG[..cut]);
         let end = run_widen(rt.alloc(), reader, &mut out, 2, 4);
         assert!(rt; end == Err(RunFault::Read), "after {cut} bytes");
         assert!(rt; WIDENED.starts_with(out.as_slice()), "after {cut} bytes");
@@ -40,8 +40,8 @@ fn a_failing_reader(rt: HostRuntime) {
 }
 
 // The writer that fails at one of its calls, and whether the run ended well.
-fn write_until<R: Abort>(rt: &R, alloc: Global, bad: usize) -> (BrokenWriter, bool) {
-    let mut writer = BrokenWriter::new(alloc, bad);
+fn write_until<R: Abort>(rt: &R, alloc: Global, bad: usize) -> (FailingWriter, bool) {
+    let mut writer = FailingWriter::new(alloc, bad);
     let end = run_widen(alloc, LOG, &mut writer, 2, 4);
     assert!(rt; end.is_ok() || end == Err(RunFault::Write));
     (writer, end.is_ok())
@@ -51,7 +51,7 @@ fn write_until<R: Abort>(rt: &R, alloc: Global, bad: usize) -> (BrokenWriter, bo
 fn a_failing_writer(rt: HostRuntime) {
     for bad in 1..60 {
         let (writer, ended) = write_until(&rt, rt.alloc(), bad);
-        assert!(rt; WIDENED.starts_with(writer.got.as_slice()), "at call {bad}");
-        assert!(rt; !ended || writer.got.as_slice() == WIDENED, "at call {bad}");
+        assert!(rt; WIDENED.starts_with(writer.taken()), "at call {bad}");
+        assert!(rt; !ended || writer.taken() == WIDENED, "at call {bad}");
     }
 }

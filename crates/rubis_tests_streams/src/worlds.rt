@@ -1,12 +1,14 @@
-// Several sites in one run: each call once, with enough memory.
+// Several sites in one run: each call once, with enough memory, and streams that fail.
 
 use rubis_message::{Arrival, Request, Taken};
 use rubis_replica::Fault;
 use rubis_schema::{Listing, Nick, Refusal};
-use rubis_script::Count;
+use rubis_script::{Count, RunFault};
 use rubis_shadow::Ask;
+use rubis_tests_common::{FailingReader, FailingWriter};
 use rubis_world::{Happened, World, WorldConfig, WorldFault, run_world};
 use std::alloc::Global;
+use std::process::Abort;
 use std::sync::Wait;
 use std::test::Fail;
 use std::thread::Threads;
@@ -127,4 +129,61 @@ fn a_run_of_two_sites(rt: HostRuntime) -> Result<(), Fail> {
     assert!(rt; end == Ok(Count { records: 3 }));
     assert!(rt; out.as_slice() == ANSWERS);
     Ok(())
+}
+
+// A bid at the second site, first before it has all red messages, and then after the sale is closed.
+const LATE_BID: &[u8] =
+    b"at,0,user,ann\nat,0,user,bob\nat,0,item,0.1,lamp,7,1,100,0\nat,0,close,0.3,0.1\nat,0,pass,1\ndeliver,1,1\ndeliver,1,2\ndeliver,1,3\ndeliver,1,5\nat,1,bid,0.3,0.2,500\ndeliver,1,4\nat,1,bid,0.3,0.2,500\n";
+
+const LATE_BID_ANSWERED: &[u8] =
+    b"at,0,reply,1,ok,0.1\nat,0,send,msg,1,0,1,1,0:0,user,ann\nat,0,reply,2,ok,0.2\nat,0,send,msg,1,0,2,2,1:0,user,bob\nat,0,reply,3,ok,0.3\nat,0,send,msg,1,0,3,0,2:0,item,0.1,lamp,7,1,100,0\nat,0,reply,4,ok,0.4\nat,0,send,msg,1,0,4,3,3:0,close,0.3,7,none\nat,0,reply,5,passed\nat,0,send,token,1,1,1,3\nat,1,reply,6,released,1\nat,1,reply,7,released,1\nat,1,reply,8,released,1\nat,1,reply,9,holding\nat,1,reply,10,refused,4,RedBehind\nat,1,reply,11,released,1\nat,1,reply,12,refused,8,Closed\n";
+
+// More calls than the writer here gets.
+const CALLS_MAX: usize = 1000;
+
+#[test]
+fn a_failing_reader(rt: HostRuntime) -> Result<(), Fail> {
+    let config = WorldConfig::new(2, 4, 2, 64, 1_000_000).ok_or("a configuration")?;
+    for cut in 0..LATE_BID.len() + 1 {
+        let mut out = Vec::new(rt.alloc());
+        let reader = FailingReader::new(&LATE_BID[..cut]);
+        let end = run_world(&rt, rt.alloc(), reader, &mut out, &config);
+        assert!(rt; end == Err(RunFault::Read), "after {cut} bytes");
+        assert!(rt;
+            LATE_BID_ANSWERED.starts_with(out.as_slice()),
+            "after {cut} bytes"
+        );
+        assert!(rt; cut < LATE_BID.len() || out.as_slice() == LATE_BID_ANSWERED);
+    }
+    Ok(())
+}
+
+// The writer that fails at one of its calls, and whether the run ended well.
+fn write_until<R: Abort + AllocGlobal + Threads + Wait + Sync>(
+    rt: &R,
+    config: &WorldConfig,
+    bad: usize,
+) -> (FailingWriter, bool) {
+    let mut writer = FailingWriter::new(rt.alloc(), bad);
+    let end = run_world(rt, rt.alloc(), LATE_BID, &mut writer, config);
+    assert!(rt; end.is_ok() || end == Err(RunFault::Write), "at call {bad}");
+    (writer, end.is_ok())
+}
+
+#[test]
+fn a_failing_writer(rt: HostRuntime) -> Result<(), Fail> {
+    let config = WorldConfig::new(2, 4, 2, 64, 1_000_000).ok_or("a configuration")?;
+    for bad in 1..CALLS_MAX {
+        let (writer, ended) = write_until(&rt, &config, bad);
+        assert!(rt;
+            LATE_BID_ANSWERED.starts_with(writer.taken()),
+            "at call {bad}"
+        );
+        assert!(rt; ended == (writer.calls() < bad), "at call {bad}");
+        if ended {
+            assert!(rt; writer.taken() == LATE_BID_ANSWERED);
+            return Ok(());
+        }
+    }
+    Err(Fail::from("no run ended well"))
 }
