@@ -58,7 +58,7 @@ def with_bytes(state: int, data: bytes) -> int:
 
 
 def begins_low(state: int, groups: int) -> bool:
-    """Whether the search for a key with this hash began in the first tenth of so many groups."""
+    """Whether the search for a key with this hash began in the first tenth of `groups`."""
     return (state ^ (state >> 32)) % groups < groups // 10
 
 

@@ -5,7 +5,7 @@
 
 A small library, built with `cc` and loaded before the program, has malloc and its kin refuse their n-th call, for n from 1 on,
 until hundreds of runs met no refusal. Each run has to end with status 0 and the whole text, or with status 1, `run fault:
-memory` and a front of the whole text. With no options and no records: site 1 of 2 with four workers, five shards and batches
+memory` and a prefix of the whole text. With no options and no records: site 1 of 2 with four workers, five shards and batches
 of seven, on 200 messages out of order and three listings. It is an aid, and no part of the gate."""
 
 import os
@@ -63,7 +63,7 @@ void *calloc(size_t count, size_t size) {
 }
 """
 
-# So many runs without a refusal end the search.
+# How many runs without a refusal end the search.
 QUIET = 600
 
 COMMAND = "site --site 1 --sites 2 --workers 4 --shards 5 --batch 7".split()
