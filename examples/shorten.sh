@@ -1,5 +1,5 @@
 #!/bin/sh
-# Takes out of a stopped site's record what changed nothing: listings, refusals and repeats.
+# Removes from a stopped site's recording the records that changed nothing: listings, refusals and repeats.
 #
 #   examples/shorten.sh FOLDER                  # as: examples/shorten.sh shop/0
 #

@@ -1,124 +1,298 @@
 #!/usr/bin/env python3
-"""Runs a program again and again, each time with one more call for memory refused:
+"""Runs programs again and again, each time with one more call for memory refused.
 
-    scripts/refuse_memory.py PROGRAM [COMMAND OPTIONS..] [< RECORDS]
+    scripts/refuse_memory.py [--all] GROWTHS PROGRAM [NAME..]
 
-A small library, built with `cc` and loaded before the program, has malloc and its kin refuse their n-th call, for n from 1 on,
-until hundreds of runs met no refusal. Each run has to end with status 0 and the whole text, or with status 1, `run fault:
-memory` and a prefix of the whole text. With no options and no records: site 1 of 2 with four workers, five shards and batches
-of seven, on 200 messages out of order and three listings. It is an aid, and no part of the gate."""
+GROWTHS is the built program of crates/rubis_growths, PROGRAM is rubis. A small library, built by the compiler of the
+toolchain and loaded before a program, has malloc and its kin refuse their n-th call, for n from 1 on, the calls at the start
+of a thread among them. Each scenario of GROWTHS is run so, and rubis on conversations:
 
+- A scenario comes to its end each time, and its answers are those of a run in which nothing is refused. What it tells of
+  refused calls has to say that nothing was changed, or how far the tables are.
+- A run from records to text ends well with the whole text; or with a prefix of it and `run fault: memory`, rubis with
+  status 1.
+- What the long scenarios answer if nothing is refused is what conversations/ says.
+
+Every n is taken up to EACH, and then every STEP-th, until RUNS runs in a row met no refusal: how often memory is asked for
+depends a little on how threads take turns. With --all, every n is taken. With names, only these scenarios or commands are
+run. REFUSE_JOBS is how many runs go on at once: as many as there are processors, if it isn't set. Each fault is told; the
+last line says how many calls were refused. The status is 1 if there was a fault.
+"""
+
+import concurrent.futures
 import os
 import pathlib
+import re
 import subprocess
 import sys
 import tempfile
 
+TOP = pathlib.Path(__file__).resolve().parent.parent
+CONVERSATIONS = TOP / "conversations"
+SCENARIOS = TOP / "crates/rubis_growths/src/main.rt"
+
+# Every n is taken up to this one, and then every STEP-th.
+EACH = 400
+STEP = 37
+
+# How many runs in a row without a refusal end a search.
+RUNS = 24
+
+# The time in which a run has to end.
+SECONDS = 60
+
+# Written by the library where it refuses a call.
+MARK = b"refused\n"
+
 LIBRARY = r"""
-#define _GNU_SOURCE
-#include <dlfcn.h>
-#include <errno.h>
-#include <stdatomic.h>
-#include <stdlib.h>
+typedef unsigned long size_t;
 
-static atomic_long calls;
+extern void *__libc_malloc(size_t);
+extern void *__libc_realloc(void *, size_t);
+extern void *__libc_calloc(size_t, size_t);
+extern void *__libc_memalign(size_t, size_t);
+extern char *getenv(const char *);
+extern long strtol(const char *, char **, int);
+extern long write(int, const void *, size_t);
+extern int *__errno_location(void);
 
-static int refused(void) {
-    static long at = -1;
-    if (at < 0) { const char *text = getenv("REFUSED_CALL"); at = text ? atol(text) : 0; }
-    return at && atomic_fetch_add(&calls, 1) + 1 == at;
+static long refused_call;
+static long calls;
+
+__attribute__((constructor)) static void begin(void) {
+    char *text = getenv("REFUSED_CALL");
+    refused_call = text ? strtol(text, 0, 10) : 0;
 }
 
-void *malloc(size_t size) {
-    static void *(*real)(size_t);
-    if (!real) real = dlsym(RTLD_NEXT, "malloc");
-    if (refused()) { errno = ENOMEM; return 0; }
-    return real(size);
+static int is_refused(void) {
+    if (!refused_call || __atomic_add_fetch(&calls, 1, __ATOMIC_SEQ_CST) != refused_call) return 0;
+    write(2, "refused\n", 8);
+    *__errno_location() = 12;
+    return 1;
 }
 
-void *realloc(void *old, size_t size) {
-    static void *(*real)(void *, size_t);
-    if (!real) real = dlsym(RTLD_NEXT, "realloc");
-    if (refused()) { errno = ENOMEM; return 0; }
-    return real(old, size);
-}
-
-void *aligned_alloc(size_t align, size_t size) {
-    static void *(*real)(size_t, size_t);
-    if (!real) real = dlsym(RTLD_NEXT, "aligned_alloc");
-    if (refused()) { errno = ENOMEM; return 0; }
-    return real(align, size);
-}
-
-/* dlsym itself asks for memory, before the real call is known */
-void *calloc(size_t count, size_t size) {
-    static void *(*real)(size_t, size_t);
-    static char early[4096];
-    static size_t used;
-    static int looking;
-    if (!real && looking) { void *room = early + used; used += (count * size + 15) & ~(size_t)15; return room; }
-    if (!real) { looking = 1; real = dlsym(RTLD_NEXT, "calloc"); }
-    if (refused()) { errno = ENOMEM; return 0; }
-    return real(count, size);
-}
+void *malloc(size_t size) { return is_refused() ? 0 : __libc_malloc(size); }
+void *realloc(void *old, size_t size) { return is_refused() ? 0 : __libc_realloc(old, size); }
+void *calloc(size_t count, size_t size) { return is_refused() ? 0 : __libc_calloc(count, size); }
+void *aligned_alloc(size_t align, size_t size) { return is_refused() ? 0 : __libc_memalign(align, size); }
 """
 
-# How many runs without a refusal end the search.
-QUIET = 600
+# The scenarios that may end before their last answer, each with the line that then is the last: runs from records to text, and
+# a world with a site that is behind.
+ENDS = {
+    "every_growth_script": b"! run fault: memory\n",
+    "whole_world": b"! run fault: memory\n",
+    "whole_audit": b"! run fault: memory\n",
+    "world_behind": b"! World: behind, unchanged\n",
+}
 
-COMMAND = "site --site 1 --sites 2 --workers 4 --shards 5 --batch 7".split()
+# What has to be told in some run of a scenario.
+SHOWN = {
+    "short_apply": rb"! Shard::apply: 2 done",
+    "every_growth_site": rb"! Site::catch_up: \d+ parts",
+    "every_growth_windows": rb"! Site::catch_up: \d+ parts",
+    "two_shares_again": rb"! apply_all: memory, unchanged",
+    "world_behind": rb"! World: behind, unchanged",
+}
+
+# What is answered if nothing is refused: a conversation, and how many of its records there are.
+TEXTS = {
+    "every_growth_site": ("two_hundred_packets.txt", 203),
+    "every_growth_windows": ("two_hundred_packets.txt", 203),
+    "every_growth_script": ("two_hundred_packets.txt", 203),
+    "whole_world": ("a_bid_at_another_site_comes_too_late.txt", None),
+    "whole_audit": ("an_audit_of_a_sale_agrees.txt", None),
+}
+
+# What rubis is run on: its options beyond those of the conversation.
+COMMANDS = {
+    "two_hundred_packets.txt": ["--workers", "4", "--shards", "5", "--batch", "7"],
+    "a_bid_at_another_site_comes_too_late.txt": ["--workers", "4", "--shards", "5", "--batch", "2"],
+    "an_audit_of_a_sale_agrees.txt": [],
+    "logs_are_widened.txt": [],
+}
+
+# What a scenario may tell of a refused call.
+TOLD = re.compile(r"! [\w:]+: (memory, unchanged|behind, unchanged|\d+ parts|\d+ done)")
 
 
-def shadow(seq: int) -> tuple[bool, str]:
-    """Users, then items, bids, buys, comments and closes: whether it is red, and its fields."""
-    if seq <= 40:
-        return True, f"user,u{seq}"
-    if seq <= 80:
-        return False, f"item,0.{seq - 40},thing,{seq % 10},5,100,300"
-    if seq <= 160:
-        return True, f"bid,0.{41 + (seq - 81) % 40},0.{1 + seq % 40},{100 + seq}"
-    if seq <= 180:
-        return True, f"buy,0.{seq - 120},0.40,2"
-    if seq <= 190:
-        return False, f"comment,0.41,0.{seq - 180},0.40,5,good"
-    return True, f"close,0.{seq - 150},{(seq - 150) % 10},0.{seq - 70}"
+class Fault(Exception):
+    """What a run did that it may not."""
 
 
-def records() -> bytes:
-    """200 messages of site 0, each two of them swapped, and three listings."""
-    sent = []
-    red = 0
-    for seq in range(1, 201):
-        is_red, fields = shadow(seq)
-        red += is_red
-        sent.append(f"msg,1,0,{seq},{red if is_red else 0},{seq - 1}:0,{fields}")
-    for place in range(0, 200, 2):
-        sent[place], sent[place + 1] = sent[place + 1], sent[place]
-    return "\n".join(sent + ["list,tables", "list,log", "list,misfits", ""]).encode()
+def library(folder: str) -> pathlib.Path:
+    """The library, built by the toolchain's compiler."""
+    page = subprocess.run(["rt", "doc"], capture_output=True, check=True, text=True).stdout.strip()
+    tools = pathlib.Path(page).parent / "toolchain/bin"
+    source, part, made = (pathlib.Path(folder, name) for name in ("refuse.c", "refuse.o", "refuse.so"))
+    source.write_text(LIBRARY)
+    subprocess.run([tools / "clang", "-O2", "-fPIC", "-w", "-c", source, "-o", part], check=True)
+    subprocess.run([tools / "ld.lld", "-shared", "-o", made, part], check=True)
+    return made
+
+
+def conversation(name: str) -> tuple[list[str], list[str], list[list[str]]]:
+    """The words of its command, its records, and the lines that answer each of them (the first ones come before any)."""
+    words, records, answers = [], [], [[]]
+    for line in (CONVERSATIONS / name).read_text().splitlines():
+        if line.startswith("$ rubis "):
+            words = line.split()[2:]
+        elif words and line.startswith("> "):
+            records.append(line[2:])
+            answers.append([])
+        elif words:
+            answers[-1].append(line)
+    return words, records, answers
+
+
+def text_of(name: str, many: int | None) -> str:
+    """What a conversation says that its first records are answered with."""
+    answers = conversation(name)[2]
+    lines = [line for group in (answers if many is None else answers[: many + 1]) for line in group]
+    return "".join(f"{line}\n" for line in lines)
+
+
+class Tried:
+    """A program with its arguments and its input, and what it has to write if nothing is refused."""
+
+    def __init__(self, name: str, words: list[str], text: str, want: str | None):
+        self.name, self.words, self.text = name, words, text.encode()
+        self.want = want
+        self.whole = b""
+        self.is_shown = name not in SHOWN
+
+    def run(self, call: int, made: pathlib.Path) -> tuple[int, bytes, bytes]:
+        """Runs it with that call for memory refused: its status and what it wrote."""
+        setting = {**os.environ, "LD_PRELOAD": str(made), "REFUSED_CALL": str(call)}
+        try:
+            ran = subprocess.run(self.words, input=self.text, capture_output=True, env=setting, timeout=SECONDS)
+        except subprocess.TimeoutExpired:
+            raise Fault(f"it didn't end within {SECONDS} seconds") from None
+        return ran.returncode, ran.stdout, ran.stderr
+
+    def begin(self, made: pathlib.Path) -> None:
+        """Runs it with nothing refused."""
+        status, self.whole, said = self.run(0, made)
+        if status or said:
+            raise Fault(f"{self.name}: with nothing refused: status {status}, {said!r}, {self.whole[-60:]!r}")
+        if self.want is not None and self.answers(self.whole) != self.want.encode():
+            raise Fault(f"{self.name}: with nothing refused: not what the conversation says")
+
+    def answers(self, wrote: bytes) -> bytes:
+        return wrote
+
+    def check(self, status: int, wrote: bytes, said: bytes) -> None:
+        raise NotImplementedError
+
+    def is_refused(self, call: int, made: pathlib.Path) -> bool:
+        """Runs it with that call refused, and checks what came of it: whether there was such a call."""
+        try:
+            status, wrote, said = self.run(call, made)
+            refused = MARK in said
+            self.check(status, wrote, said.replace(MARK, b""))
+        except Fault as fault:
+            raise Fault(f"{self.name}, call {call} refused: {fault}") from None
+        return refused
+
+
+class Scenario(Tried):
+    """Calls, each of which is made again where memory is refused."""
+
+    def answers(self, wrote: bytes) -> bytes:
+        lines = wrote.splitlines(keepends=True)
+        return b"".join(line for line in lines if not line.startswith((b"! ", b"scenario ")))
+
+    def begin(self, made: pathlib.Path) -> None:
+        super().begin(made)
+        told = [line for line in self.whole.splitlines() if line.startswith(b"! ")]
+        if told:
+            raise Fault(f"{self.name}: with nothing refused: {told[0].decode()}")
+
+    def check(self, status: int, wrote: bytes, said: bytes) -> None:
+        if status or said:
+            raise Fault(f"status {status}, {said!r}, {wrote[-200:]!r}")
+        end = ENDS.get(self.name)
+        is_cut = end is not None and wrote.endswith(end)
+        told = wrote[: -len(end)] if is_cut else wrote
+        for line in told.decode().splitlines():
+            if line.startswith("! ") and not TOLD.fullmatch(line):
+                raise Fault(line)
+        got, want = self.answers(told), self.answers(self.whole)
+        if not (got == want or is_cut and want.startswith(got)):
+            raise Fault(f"other answers: {wrote[-200:]!r}")
+        self.is_shown |= self.name in SHOWN and re.search(SHOWN[self.name], wrote) is not None
+
+
+class Command(Tried):
+    """rubis on a conversation's records."""
+
+    def check(self, status: int, wrote: bytes, said: bytes) -> None:
+        is_whole = status == 0 and not said and wrote == self.whole
+        is_cut = status == 1 and said == b"run fault: memory\n" and self.whole.startswith(wrote)
+        if not (is_whole or is_cut):
+            raise Fault(f"status {status}, {said!r}, {len(wrote)} bytes")
+
+
+def tried_of(growths: str, program: str) -> list[Tried]:
+    """All that is tried."""
+    tried: list[Tried] = []
+    for name in re.findall(r'^ +"(\w+)" =>', SCENARIOS.read_text(), re.M):
+        want = text_of(*TEXTS[name]) if name in TEXTS else None
+        tried.append(Scenario(name, [growths, name], "", want))
+    for name, options in COMMANDS.items():
+        words, records, _ = conversation(name)
+        text = "".join(f"{record}\n" for record in records)
+        tried.append(Command(f"rubis {words[0]}", [program, *words, *options], text, text_of(name, None)))
+    return tried
+
+
+def calls_from(first: int, every: bool) -> list[int]:
+    """The next calls to refuse."""
+    calls: list[int] = []
+    while len(calls) < RUNS:
+        calls.append(first)
+        first += 1 if every or first < EACH else STEP
+    return calls
+
+
+def refuse_each(tried: Tried, made: pathlib.Path, every: bool, pool: concurrent.futures.Executor) -> tuple[int, int]:
+    """Refuses one call after the other: how many runs there were, and how many of them met a refusal."""
+    tried.begin(made)
+    runs = met = 0
+    calls = calls_from(1, every)
+    while True:
+        answers = list(pool.map(lambda call: tried.is_refused(call, made), calls))
+        runs, met = runs + len(answers), met + sum(answers)
+        if not any(answers):
+            if not tried.is_shown:
+                raise Fault(f"{tried.name}: no run told {SHOWN[tried.name].decode()}")
+            return runs, met
+        last = calls[-1]
+        calls = calls_from(last + (1 if every or last < EACH else STEP), every)
 
 
 def main() -> int:
-    command = [sys.argv[1], *(sys.argv[2:] or COMMAND)]
-    text = records() if len(sys.argv) == 2 else sys.stdin.buffer.read()
-    whole = subprocess.run(command, input=text, capture_output=True, check=True).stdout
-    with tempfile.TemporaryDirectory() as folder:
-        source, library = pathlib.Path(folder, "refuse.c"), pathlib.Path(folder, "refuse.so")
-        source.write_text(LIBRARY)
-        subprocess.run(["cc", "-O2", "-shared", "-fPIC", "-o", library, source, "-ldl"], check=True)
-        call = quiet = fronts = 0
-        while quiet < QUIET:
-            call += 1
-            setting = {**os.environ, "LD_PRELOAD": str(library), "REFUSED_CALL": str(call)}
-            run = subprocess.run(command, input=text, capture_output=True, env=setting, timeout=60)
-            is_whole = run.returncode == 0 and run.stdout == whole
-            is_front = run.returncode == 1 and run.stderr == b"run fault: memory\n" and whole.startswith(run.stdout)
-            if not (is_whole or is_front):
-                print(f"call {call} refused: status {run.returncode}, {run.stderr!r}, {len(run.stdout)} bytes")
-                return 1
-            fronts += is_front
-            quiet = 0 if is_front else quiet + 1
-    print(f"memory: {call} runs, {fronts} of them ended for want of it")
-    return 0
+    words = [word for word in sys.argv[1:] if word != "--all"]
+    every = "--all" in sys.argv[1:]
+    growths, program = (str(pathlib.Path(word).resolve()) for word in words[:2])
+    chosen = [it for it in tried_of(growths, program) if not words[2:] or it.name in words[2:]]
+    runs = met = faults = 0
+    threads = int(os.environ.get("REFUSE_JOBS", os.cpu_count() or 1))
+    with tempfile.TemporaryDirectory() as folder, concurrent.futures.ThreadPoolExecutor(threads) as pool:
+        made = library(folder)
+        for tried in chosen:
+            try:
+                ran, refused = refuse_each(tried, made, every, pool)
+            except Fault as fault:
+                print(f"fault: {fault}", flush=True)
+                faults += 1
+                continue
+            if every:
+                print(f"{tried.name}: {refused} refused", flush=True)
+            runs, met = runs + ran, met + refused
+    how = "every call" if every else f"every call up to {EACH}, then every {STEP}th"
+    print(f"memory: {len(chosen)} scenarios and commands, {runs} runs, {met} calls refused ({how}), {faults} faults")
+    return 1 if faults else 0
 
 
 if __name__ == "__main__":

@@ -1,5 +1,5 @@
--- The status with which the program ends: 0 where all went well, 1 where a fault ended a run, 2 for a command line that
--- isn't one.
+-- The program's exit status: 0 if all went well, 1 if a fault ended the run, 2 if the command line is
+-- invalid.
 use Rattle.std.specs.Prelude.{◌≡◌, ◌⊎◌, ℕ, List, [], ◌∷◌}
 use Rattle.clap.specs.Words.{Kinds, Text, fault_of}
 use Rattle.clap.specs.declared.error.kind.ErrorKind.{ErrorKind}
@@ -17,7 +17,7 @@ abbrev pub IsStatusAmong : Kinds → ℕ → Type 0
 IsStatusAmong [] s = ⊥
 IsStatusAmong (k ∷ ks) s = (s ≡ status_by k) ⊎ IsStatusAmong ks s
 
--- the status of these words: that of a fault, as any run may end; that of a reason to refuse them; or, where there is
--- none, that of a run that went well, or of a site that isn't below `sites` or logs widened to fewer sites
+-- the status for these words: 1, since a fault may end any run; that of one of the reasons to refuse them; or, if there is
+-- none, 0 for a run that went well, or 2 for a site that isn't below `sites` or a `to` that is
 abbrev pub IsStatusOf : List Text → ℕ → Type 0
 IsStatusOf words s = (s ≡ 1) ⊎ IsStatusAmong (fault_of command_line words) s ⊎ ((fault_of command_line words ≡ []) × ((s ≡ 0) ⊎ (s ≡ 2)))

@@ -29,7 +29,7 @@ use std::{env, io};
 /// The status of a run that a fault ended.
 const FAULT: u8 = 1;
 
-/// The status of a command line that isn't one.
+/// The status of an invalid command line.
 const MISUSE: u8 = 2;
 
 // Says why the run ended.

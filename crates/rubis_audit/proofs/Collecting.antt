@@ -27,7 +27,7 @@ all_among sites ended None a log h = absurd (has_reverse log [] h)
 all_among sites ended (Some x) a log h =
     ⊎_elim (λ e. a.current_among log (ap Some (sym e))) (λ r. a.ended_among log (has_reverse log ended r)) (has_reverse log (x ∷ reverse ended) h)
 
--- the log that was read is put behind those that ended, or all stay
+-- the log that was read is appended to those that ended, or all stay
 ended_all : {E : Type 0} (r : Result (Unit {0}) E) (sites : ℕ) (ended ended2 : List Log) (current : Option Log) → AreRead sites ended current
     → OnOk r (ended2 ≡ reverse (logs_so_far ended current)) → OnErr r (ended2 ≡ ended) → (log : Log) → Has log ended2 → HasMessagesAmong sites log
 ended_all (Ok u) sites ended ended2 current a ok err log h = all_among sites ended current a log (subst (Has log) ok h)

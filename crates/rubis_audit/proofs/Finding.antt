@@ -1,4 +1,4 @@
--- How the first message with an id, or with a red number, is found once one more stands behind.
+-- How the first message with an id, or with a red number, is found once one more follows.
 use Rattle.std.proofs.Common.{ℕ, ◌≡◌, List, [], ◌∷◌, ◌++◌, Some, None}
 use Rattle.std.specs.Prelude.{◌==◌, cond}
 use Rattle.std.specs.Option.{option_or}

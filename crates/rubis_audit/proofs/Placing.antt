@@ -1,4 +1,4 @@
--- How a widener goes on with the records that it reads: what is written behind some logs depends only on where the last of
+-- How a widener goes on with the records that it reads: what is written after some logs depends only on where the last of
 -- their records stands.
 use Rattle.std.proofs.Common.{ℕ, ◌≡◌, ◌∙◌, ◌+◌, List, [], ◌∷◌, ◌++◌, length, Option, Some, None, refl, sym, ap, arith}
 use Rattle.std.specs.Prelude.{option_and_then, option_map}
@@ -41,13 +41,13 @@ place_at BeforeLogs = refl
 place_at InMessages = refl
 place_at InRows = refl
 
--- what is written for a record and those behind it
+-- what is written for a record and those after it
 abbrev pub rows_after : ℕ → ℕ → ℕ → List (List ℕ) → List (List (List ℕ)) → Option (List Log) → List (List (List ℕ))
 rows_after from to n fields rest o =
     elim o as (λ _. List (List ℕ)) [ None ↦ bad_record n | Some more ↦ widened_record from to fields ]
     ∷ elim o as (λ _. List (List (List ℕ))) [ None ↦ [] | Some more ↦ widened_rows from to (n + 1) more rest ]
 
--- what is so of the records behind a record
+-- what is so of the records after a record
 abbrev pub Alike : ℕ → ℕ → ℕ → List (List (List ℕ)) → Type 0
 Alike from to n rest = (a b : List Log) → place_of a ≡ place_of b → widened_rows from to n a rest ≡ widened_rows from to n b rest
 

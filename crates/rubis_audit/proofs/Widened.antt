@@ -13,7 +13,7 @@ use Rattle.rubis_script.proofs.ReadBack.{HasNoMark, HaveFields, no_mark, rows_ba
 use Rattle.rubis_audit.proofs.Placing.{rows_after}
 use Rattle.rubis_audit.specs.Widening.{WidenedAuditStays, WidenedTextReadsBack, widened_rows}
 
--- what stands behind a record that is in the grammar
+-- what follows a record that is in the grammar
 Widens : ℕ → ℕ → ℕ → List Log → List (List (List ℕ)) → Type 0
 Widens from to n logs records = (last : List Log) → logs_after from n logs records ≡ Ok last
     → (widened_rows from to n logs records ≡ map (widened_record from to) records) × HaveFields (map (widened_record from to) records)

@@ -6,23 +6,23 @@ use Rattle.rubis_model.specs.Logs.{Log}
 use Rattle.rubis_audit.specs.declared.widener.Place.{Place}
 use Rattle.rubis_audit.specs.declared.widener.Place.TheVariants.{BeforeLogs, InMessages, InRows}
 
--- behind the records of a log: whether it claims rows
+-- after the records of a log: whether it claims rows
 abbrev pub place_in : Option (List (List (List ℕ))) → Place
 place_in None = InMessages
 place_in (Some rows) = InRows
 
--- behind the records of these logs, newest first
+-- after the records of these logs, newest first
 abbrev pub place_of : List Log → Place
 place_of [] = BeforeLogs
 place_of (log ∷ logs) = place_in log.rows
 
--- the least logs behind whose records it is
+-- the least logs after whose records it is
 abbrev pub logs_at : Place → List Log
 logs_at BeforeLogs = []
 logs_at InMessages = record { site = 0; messages = []; rows = None } ∷ []
 logs_at InRows = record { site = 0; messages = []; rows = Some [] } ∷ []
 
--- the place behind a record that says this, if it may stand here
+-- the place after a record that says this, if it may stand here
 abbrev pub place_after : Place → Line → Option Place
 place_after place (Begin site) = Some InMessages
 place_after BeforeLogs line = None

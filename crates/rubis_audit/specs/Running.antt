@@ -39,7 +39,7 @@ abbrev pub audit_text : Ending → Result (List Log) ℕ → List ℕ
 audit_text AtEnd logs = rows_text (audit_record logs ∷ [])
 audit_text Cut logs = []
 
--- how many of the records behind these logs are read: all, or those up to the first that is malformed there
+-- how many of the records after these logs are read: all, or those up to the first that is malformed there
 abbrev pub read_behind : ℕ → List Log → List (List (List ℕ)) → ℕ
 read_behind sites logs [] = 0
 read_behind sites logs (fields ∷ rest) = suc (elim (option_and_then (with_line logs) (line_of sites fields)) [
@@ -47,7 +47,7 @@ read_behind sites logs (fields ∷ rest) = suc (elim (option_and_then (with_line
   | Some more ↦ read_behind sites more rest
 ])
 
--- of the records behind these logs, newest first
+-- of the records after these logs, newest first
 abbrev pub account_from : ℕ → ℕ → List Log → Account
 account_from sites n logs = record {
   text = λ ending records. audit_text ending (logs_after sites n logs records);

@@ -23,7 +23,7 @@ pub record Walked (seen : Seen) (logs : List Log) : Type 0 where
   pub known : IsFaultless (messages_of_logs logs) []
   pub sees : Sees seen (messages_of_logs logs)
 
--- what was found in the log at that place; where it was nothing, the logs up to it are walked over
+-- `found` is the first fault of the log at index `at`; if there is none, the logs up to and including it are walked
 abbrev pub IsWalked : Seen → List Log → ℕ → Option (Kind × ℕ) → Type 0
 IsWalked seen logs at found = (log : Log) → slice_get logs at ≡ Some log
     → (found ≡ log_fault (messages_of_logs (take at logs)) log) × (found ≡ None → Walked seen (take (at + 1) logs))

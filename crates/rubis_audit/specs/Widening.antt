@@ -20,7 +20,7 @@ pub record WidenerState : Type 0 where
 abbrev pub bad_record : ℕ → List (List ℕ)
 bad_record n = codes "widen" ∷ codes "BadRecord" ∷ decimal n ∷ []
 
--- what is written for these records, behind the records of these logs, newest first; the first record has the number n.
+-- what is written for these records, after the records of these logs, newest first; the first record has the number n.
 -- Each gives one row, the record widened, and the first that is not in the grammar is the last
 abbrev pub widened_rows : ℕ → ℕ → ℕ → List Log → List (List (List ℕ)) → List (List (List ℕ))
 widened_rows from to n logs [] = []

@@ -41,7 +41,7 @@ impl Model for Auditor {
     ghost invariant = { λ a. AreRead a.sites a.ended.items a.current };
 }
 
-// Puts the log that was read behind those that ended. Before the first log there is none.
+// Appends the log that was read to those that ended. Before the first log there is none.
 fn end_log(ended: &mut Vec<Log>, current: Option<Log>) -> Result<(), AllocError>
     ensures ok { OnOk result (ended.new.items ≡ reverse (logs_so_far ended.old.items current)) }
     ensures err { OnErr result (ended.new.items ≡ ended.old.items) }
@@ -57,7 +57,7 @@ fn end_log(ended: &mut Vec<Log>, current: Option<Log>) -> Result<(), AllocError>
     Ok(())
 }
 
-// Puts a message behind the log that is read, if there is one that claims no row so far, and says whether there is.
+// Appends a message to the log that is read, if there is one that claims no row so far, and says whether there is.
 fn push_message(current: &mut Option<Log>, message: Message) -> Result<bool, AllocError>
     ensures ok { IfOk result (λ pushed. (ended : List logs.Log) → MatchBool pushed
         (with_line (logs_so_far ended current.old) (Next message) ≡ Some (logs_so_far ended current.new))

@@ -79,8 +79,8 @@ pub fn nick_taken<V: View>(view: &V, shadow: &Shadow) -> bool
     match shadow {
         Shadow::User(nick) => view.row(&RowKey::Nick(*nick)).is_some(),
         Shadow::Rename(rename) => {
-            view.row(&RowKey::Nick(rename.to)).is_some()
-                || !shows_nick(view, rename.user, rename.from)
+            view.row(&RowKey::Nick(rename.to())).is_some()
+                || !shows_nick(view, rename.user(), rename.from())
         }
         _ => false,
     }

@@ -18,7 +18,7 @@ pub struct Seen<'a> {
     by_red: HashMap<u32, &'a Message>,
 }
 
-// Puts the message under its id, if there is none.
+// Files the message under its id, unless there is one under it already.
 fn note_id<'a>(map: &mut HashMap<Id, &'a Message>, message: &'a Message) -> Result<(), AllocError>
     ensures { OnOk result (FirstById (hash.get same_id map.old) message.now (hash.get same_id map.new)) }
 {
@@ -28,7 +28,7 @@ fn note_id<'a>(map: &mut HashMap<Id, &'a Message>, message: &'a Message) -> Resu
     Ok(())
 }
 
-// Puts the message under its red number, if there is none.
+// Files the message under its red number (0 if it is blue), unless there is one under it already.
 fn note_red<'a>(map: &mut HashMap<u32, &'a Message>, message: &'a Message) -> Result<(), AllocError>
     ensures { OnOk result (FirstByRed (hash.get nat_eq map.old) message.now (hash.get nat_eq map.new)) }
 {
@@ -63,7 +63,7 @@ impl<'a> Seen<'a> {
         self.by_red.get(&red).copied()
     }
 
-    /// Puts a message last.
+    /// Appends a message to those seen.
     pub fn note(&mut self, message: &'a Message) -> Result<(), AllocError>
         ensures { OnOk result ((all : List model.Message) → Sees self.old all → Sees self.new (all ++ message.now ∷ [])) }
     {

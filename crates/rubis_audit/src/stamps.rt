@@ -71,7 +71,7 @@ fn is_early(counts: &[u32], v: &Message) -> bool
     false
 }
 
-// Whether `v` doesn't count just what is counted.
+// Whether `v` doesn't count exactly what is counted.
 fn differs(counts: &[u32], v: &Message) -> bool
     requires { sites_of v.now ≡ length counts.now }
     ensures { result ≡ differs_by counts.now v.now }

@@ -23,7 +23,7 @@ use crate::stamps::{clashes, leaves_gap, out_of_order};
 use rubis_clock::Clock;
 use rubis_message::{Kind, Message, Verdict};
 use rubis_shadow::Colour;
-use rubis_shard::Tables;
+use rubis_shard::{LogEntry, Tables};
 use std::alloc::{AllocError, Global};
 
 // What stands before an entry of a log: its clock, its last red message, its tables.
@@ -83,10 +83,8 @@ impl<'a> Past<'a> {
         ensures last { OnOk result (option_copied self.new.last_red ≡ cond (is_red v.now.shadow) (Some v.now) (option_copied self.old.last_red)) }
         ensures tables { OnOk result (TakesOn (core v.now) entry self.old.tables self.new.tables) }
     {
-        let stamp = v.stamp();
-        self.tables
-            .apply_message(entry, stamp.id, stamp.red, v.shadow())?;
-        self.clock.advance(stamp);
+        self.tables.apply_message(&LogEntry::new(entry, v))?;
+        self.clock.advance(v.stamp());
         if v.shadow().colour() == Colour::Red {
             self.last_red = Some(v);
         }

@@ -33,7 +33,7 @@ pub enum Place {
 }
 
 impl Place {
-    // The place behind a record that says this. `None` where it can't stand here.
+    // The place after a record that says this. `None` where it can't stand here.
     fn after(self, line: &Line) -> Option<Place>
         ensures { (fields : List (List ℕ)) → result ≡ place_after self (line_as fields line.now) }
     {

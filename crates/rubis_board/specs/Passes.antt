@@ -19,7 +19,7 @@ pub record PassState : Type 0 where
   pub taken : List Piece
   pub seen_none : Bool
 
--- the pass of a board that is just opened: it has all parts, took nothing and has not seen None
+-- the pass of a board that was just opened: it has all parts, took nothing and has not seen None
 abbrev pub opened : TableId → List Piece → PassState
 opened board posted = record { board = board; parts = 16; posted = posted; taken = []; seen_none = false }
 

@@ -33,7 +33,7 @@ marks_in [] = 0
 marks_in (Work p ∷ items) = marks_in items
 marks_in (Mark ∷ items) = marks_in items + 1
 
--- no piece stands behind a mark
+-- no piece follows a mark
 abbrev pub MarksAreLast : List Item → Type 0
 MarksAreLast [] = ⊤
 MarksAreLast (Work p ∷ items) = MarksAreLast items
@@ -46,7 +46,7 @@ abbrev pub sum_over : (PassView → ℕ) → List PassView → ℕ
 sum_over f [] = 0
 sum_over f (v ∷ views) = f v + sum_over f views
 
--- the taken lists, one behind the other
+-- the taken lists, one after the other
 abbrev pub all_taken : List PassView → List Piece
 all_taken [] = []
 all_taken (v ∷ views) = v.taken ++ all_taken views
@@ -75,7 +75,7 @@ pub record Ruled (items : List Item) (views : List PassView) : Type 0 where
   pub parts : sum_over (λ v. v.parts) views ≡ 16
   -- if a pass has seen None, the suffix is empty
   pub each : Each (AgreesWith posted (content items)) views
-  -- no piece stands behind a mark, and each mark was put there by a pass
+  -- no piece follows a mark, and each mark was put there by a pass
   pub marks_last : MarksAreLast items
   pub marks_few : marks_in items ≤ sum_over (λ v. v.marks) views
 

@@ -36,6 +36,6 @@ advanced c s = record {
   red = c.red + cond (nat_lt 0 s.red) 1 0;
 }
 
--- u was released where v was made
+-- v's origin had released u when it made v
 abbrev pub StampPrecedes : Stamp → Stamp → Type 0
 StampPrecedes u v = u.id.seq ≤ slice_index v.deps u.id.site

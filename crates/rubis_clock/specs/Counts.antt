@@ -2,11 +2,11 @@
 use Rattle.std.specs.Prelude.{◌≡◌, ℕ, ◌-◌, ◌≤◌, List, ◌++◌, length, take, replicate}
 use Rattle.rubis_schema.specs.declared.limits.TheConstants.{COUNTED_MAX}
 
--- with zeros behind them, so that the row is full
+-- with zeros after them, so that the row is full
 abbrev pub filled : List ℕ → List ℕ
 filled counts = counts ++ replicate (COUNTED_MAX - length counts) 0
 
--- the first `used` of the row are in use, and zeros stand behind them
+-- the first `used` of the row are in use, and zeros follow them
 pub record IsFilled (row : List ℕ) (used : ℕ) : Type 0 where
   pub few : used ≤ COUNTED_MAX
   pub behind : filled (take used row) ≡ row

@@ -232,7 +232,7 @@ fn decide_restock<V: View>(
 }
 
 fn decide_rename<V: View>(
-    rename: AskedRename,
+    rename: Shared<AskedRename>,
     view: &V,
     standing: &Standing,
 ) -> Result<Shadow, Refusal>
@@ -245,11 +245,7 @@ fn decide_rename<V: View>(
     if view.row(&RowKey::Nick(rename.nick)).is_some() || user.nick == rename.nick {
         return Err(Refusal::NickTaken);
     }
-    Ok(Shadow::Rename(NewRename {
-        user: rename.user,
-        from: user.nick,
-        to: rename.nick,
-    }))
+    Ok(Shadow::Rename(NewRename::new(rename, user.nick)))
 }
 
 /// The shadow of the ask, or the first refusal that holds, in the order of the ask's tests. A close carries the item's

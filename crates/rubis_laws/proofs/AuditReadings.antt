@@ -209,7 +209,7 @@ goes_on sites (log ∷ logs) more (Claim row) e h a =
 abbrev pub after_line : ℕ → ℕ → List (List (List ℕ)) → Option (List Log) → Result (List Log) ℕ
 after_line sites n rest o = elim o as (λ _. Result (List Log) ℕ) [ None ↦ Err n | Some more ↦ logs_after sites (n + 1) more rest ]
 
--- what is so of the records behind record n
+-- what is so of the records after record n
 Rest : ℕ → ℕ → List (List (List ℕ)) → Type 0
 Rest sites n rest = (l k : List Log) → AllAmong sites l → logs_after sites (n + 1) l rest ≡ Ok k → AllAmong sites k × (written l ++ rest ≡ written k)
 
@@ -236,7 +236,7 @@ logs_only sites top (fields ∷ rest) n logs last a e = line (line_of sites fiel
     line (Some x) p f ih = step x (with_line logs x) p refl f ih
 
 -- ---- and back: what is written for logs is read as these
--- from some logs to others by these records, whatever stands behind them
+-- from some logs to others by these records, whatever follows them
 Reaches : ℕ → List Log → List (List (List ℕ)) → List Log → Type 0
 Reaches sites logs records more = (n : ℕ) (rest : List (List (List ℕ))) → (m : ℕ) × (logs_after sites n logs (records ++ rest) ≡ logs_after sites m more rest)
 

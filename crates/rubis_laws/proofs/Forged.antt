@@ -23,7 +23,7 @@ use Rattle.rubis_shadow.specs.declared.changes.Change.TheVariants.{Insert, BidTa
 use Rattle.rubis_shadow.specs.declared.changes.Effect.{Effect}
 use Rattle.rubis_shadow.specs.declared.changes.MisfitKind.TheVariants.{StockShort, OtherUser}
 use Rattle.rubis_shadow.specs.declared.shadows.NewItem.{NewItem}
-use Rattle.rubis_shadow.specs.declared.shadows.NewRename.{NewRename}
+use Rattle.rubis_shadow.specs.Renames.{NewRename}
 use Rattle.rubis_shadow.specs.declared.shadows.NewRestock.{NewRestock}
 use Rattle.rubis_shadow.specs.declared.shadows.Shadow.{Shadow}
 use Rattle.rubis_shadow.specs.declared.shadows.Shadow.TheVariants as shadow

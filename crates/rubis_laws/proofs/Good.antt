@@ -8,7 +8,7 @@ use Rattle.rubis_schema.specs.declared.ids.Id.{Id}
 use Rattle.rubis_laws.proofs.FitsByKind.{FitsByKind, by_kind}
 use Rattle.rubis_laws.proofs.Heads.{Head, head_of, msg}
 use Rattle.rubis_shadow.specs.declared.shadows.NewItem.{NewItem}
-use Rattle.rubis_shadow.specs.declared.shadows.NewRename.{NewRename}
+use Rattle.rubis_shadow.specs.Renames.{NewRename}
 use Rattle.rubis_shadow.specs.declared.shadows.Shadow.{Shadow}
 use Rattle.rubis_shadow.specs.declared.shadows.Shadow.TheVariants.{User, Item, Bid, Buy, Close, Comment, Restock, Rename}
 use Rattle.rubis_model.specs.Log.{Core}

@@ -7,7 +7,7 @@ use Rattle.std.specs.Cmp.Lexicographic.{bytes_decides}
 use mathlib.Core.Bool.{true≢false}
 use Rattle.rubis_schema.specs.declared.ids.Id.{Id}
 use Rattle.rubis_laws.proofs.Heads.{Head, msg}
-use Rattle.rubis_shadow.specs.declared.shadows.NewRename.{NewRename}
+use Rattle.rubis_shadow.specs.Renames.{NewRename}
 use Rattle.rubis_shadow.specs.declared.shadows.Shadow.{Shadow}
 use Rattle.rubis_shadow.specs.declared.shadows.Shadow.TheVariants.{User, Item, Bid, Buy, Close, Comment, Restock, Rename}
 use Rattle.rubis_model.specs.Log.{Core}

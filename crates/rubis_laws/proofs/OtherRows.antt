@@ -16,7 +16,7 @@ use Rattle.rubis_schema.specs.declared.rows.Row.TheVariants as row
 use Rattle.rubis_schema.specs.declared.row_keys.RowKey.TheVariants as key
 use Rattle.rubis_shadow.specs.declared.changes.Change.TheVariants.{Insert, CatListed, CatEnded, NickFreed}
 use Rattle.rubis_shadow.specs.declared.changes.MisfitKind.TheVariants.{OtherUser}
-use Rattle.rubis_shadow.specs.declared.shadows.NewRename.{NewRename}
+use Rattle.rubis_shadow.specs.Renames.{NewRename}
 use Rattle.rubis_schema.specs.Keys.{same_id}
 use Rattle.rubis_shadow.specs.Changes.{change_row, misfits_as, removed}
 use Rattle.rubis_shadow.specs.Parts.{parts}

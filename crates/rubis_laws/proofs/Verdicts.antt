@@ -237,7 +237,7 @@ fitting_behind [] older o = o
 fitting_behind (v ∷ newer) older o = fitting_behind newer older o.1
 
 module _ (logs : List Log) (f : AreFaultless logs) (formed : (v : Message) → Logged logs v → IsFormed v) where
-  -- the entry behind `own`
+  -- the entry after `own`
   entry_clean : (site : ℕ) (others own : List Message) (v : Message) → AllOrdered site (v ∷ reverse own) → AllFitting (v ∷ reverse own)
       → ((u : Message) → Has u others → Logged logs u) → ((u : Message) → Has u own → Logged logs u) → Logged logs v → AreClean others site own v
   entry_clean site others own v o g there here a = record {

@@ -41,7 +41,7 @@ module _ (from to : ℕ) (up : from ≤ to) (few : to ≤ COUNTED_MAX) where
       at None = λ i. Some (record { site = log.site; messages = sym (map-append (widened to) log.messages (m ∷ [])) i; rows = None } ∷ ws logs)
       at (Some rows) = refl
 
-  -- what is so of the records behind record n
+  -- what is so of the records after record n
   Rest : ℕ → List (List (List ℕ)) → Type 0
   Rest n rest = (logs last : List Log) → logs_after from n logs rest ≡ Ok last → logs_after to n (ws logs) (map (widened_record from to) rest) ≡ Ok (ws last)
 

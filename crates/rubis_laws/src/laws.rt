@@ -79,7 +79,7 @@ pub fn every_run_is_agreed()
     ensures { RunsAgree }
 {}
 
-/// The records of an audit are those of just the logs that they are read as.
+/// The records of an audit are those of exactly the logs that they are read as.
 pub fn audits_are_read_as_written()
     ensures lines { LinesAreReadAsWritten }
     ensures logs { LogsAreReadAsWritten }

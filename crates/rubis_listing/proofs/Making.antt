@@ -1,24 +1,23 @@
 -- Rows and the records that they add, one after the other.
-use Rattle.std.proofs.Common.{◌≡◌, ℕ, ◌+◌, ◌<◌, ◌≤◌, List, [], ◌∷◌, ◌++◌, Bool, true, false, drop, length, refl, sym, ap, subst, ◌∙◌, arith, map as each, append_assoc}
-use Rattle.std.specs.Bool.{MatchBool}
+use Rattle.std.proofs.Common.{◌≡◌, ℕ, ◌+◌, ◌*◌, ◌<◌, ◌≤◌, zero, suc, List, [], ◌∷◌, ◌++◌, drop, take, length, min, sym, ap, subst, ◌∙◌, arith, ⊎_elim, ◌-◌, map as each}
 use Rattle.std.specs.Borrow.{Bor}
-use Rattle.std.specs.Prelude.{IfOk, Ok, Some, flat_map, slice_get, slice_index_or, slice_range}
+use Rattle.std.specs.List.{AllZip, range_with_len}
+use Rattle.std.specs.Prelude.{Err, IfOk, MatchResult, Ok, map, slice_index_or, slice_range}
 use Rattle.std.specs.declared.alloc.AllocError.{AllocError}
 use Rattle.std.specs.declared.result.Result.{Result}
-use Rattle.std.proofs.lemmas.List.{drop-map, drop_more, map-append}
+use Rattle.std.proofs.lemmas.List.{drop-drop, drop-map, drop_all, drop_more, length-drop, map-append, take-append-drop, take-map, take_all, take_min}
+use Rattle.std.proofs.lemmas.Bool.{cases_lt}
+use Rattle.std.proofs.Math.Nat.{min-eq_left, min-eq_right}
 use Rattle.std.proofs.lemmas.List.Folds.{drop_split}
-use Rattle.std.proofs.lemmas.Option.{slice_get-get_or}
 use Rattle.rubis_schema.specs.Tables.{Tables}
 use Rattle.rubis_schema.specs.declared.listings.Listing.{Listing}
 use Rattle.rubis_schema.specs.declared.row_keys.RowKey.{RowKey}
 use Rattle.rubis_schema.specs.declared.row_keys.Table.{Table}
 use Rattle.rubis_schema.specs.declared.rows.Row.{Row}
-use Rattle.rubis_shadow.proofs.Lists.{drop_from}
 use Rattle.rubis_model.specs.Listings.{records_of}
 use Rattle.rubis_shard.specs.Listed.{listed_of}
 use Rattle.rubis_shard.specs.Written.{shown}
-use Rattle.rubis_listing.specs.Made.{AreMade}
-use Rattle.rubis_listing.specs.declared.shared.Slot.{Slot}
+use Rattle.rubis_listing.specs.Parts.{AreParts, rows_of_part}
 use Rattle.rubis_listing.proofs.ByTable.{rows_by_table}
 use Rattle.rubis_listing.proofs.Selecting.{Entries, listed_records, records_append}
 
@@ -31,7 +30,7 @@ rows_more l rows i d lt =
     ∙ ap (λ es. shown first ∷ es) (sym (drop-map shown (i + 1) rows)))
     ∙ records_append l (shown first ∷ []) (drop (i + 1) (each shown rows))
 
--- the records of the rows from a place on, up to another and behind that
+-- the records of the rows from a place on, up to another and after that
 pub range_more : (l : Listing) (rows : List (RowKey × Bor Row)) (i j : ℕ) → i ≤ j
     → records_of l (drop i (each shown rows)) ≡ records_of l (each shown (slice_range rows i j)) ++ records_of l (drop j (each shown rows))
 range_more l rows i j le =
@@ -47,33 +46,42 @@ tables_more l m ts i d lt =
     ap (rows_by_table l m) (drop_more ts i d lt)
     ∙ ap (λ rows. rows ++ rows_by_table l m (drop (i + 1) ts)) (sym (listed_records l (slice_index_or ts i d) m))
 
-there : {X : Type 0} (xs : List X) (i : ℕ) → i < length xs → (x : X) × (slice_get xs i ≡ Some x)
-there [] i lt = absurd (omega (arith, lt))
-there (x ∷ xs) i lt = (slice_index_or (x ∷ xs) i x, slice_get-get_or (x ∷ xs) i x lt)
+-- the records of the next part, and those after it
+pub part_more : (l : Listing) (es : Entries) → records_of l es ≡ records_of l (take 512 es) ++ records_of l (drop 512 es)
+part_more l es = ap (records_of l) (sym (take-append-drop 512 es)) ∙ records_append l (take 512 es) (drop 512 es)
 
--- what stands in the slot of a place, and the records of the rows behind it
-slot_rows : (l : Listing) (es : Entries) (slots : List Slot) (i : ℕ) (slot : Slot) (has : Bool) → AreMade l es slots
-    → i < length slots → slot ≡ slice_index_or slots i slot → slot.made ≡ Ok has
-    → (first : List (List (List ℕ))) × (records_of l (drop i es) ≡ first ++ records_of l (drop (i + 1) es)) × MatchBool has (first ≡ slot.record ∷ []) (first ≡ [])
-slot_rows l es slots i slot has h lt is made =
-    let many = h.many in
-    let e = there es i (omega (arith, lt, many)) in
-    let one = h.each i slot (slice_get-get_or slots i slot lt ∙ ap Some (sym is)) e.0 e.1 in (
-      records_of l (e.0 ∷ []),
-      ap (records_of l) (drop_from es i e.0 e.1) ∙ records_append l (e.0 ∷ []) (drop (i + 1) es),
-      subst (λ (r : Result Bool AllocError). IfOk r (λ b. MatchBool b (records_of l (e.0 ∷ []) ≡ slot.record ∷ []) (records_of l (e.0 ∷ []) ≡ []))) made one,
+-- the rows of a part, as they are read
+pub part_shown : (rows : List (RowKey × Bor Row)) (at n : ℕ) → n ≡ min 512 (length (slice_range rows (at * 512) (length rows)))
+    → each shown (take n (slice_range rows (at * 512) (length rows))) ≡ rows_of_part at (each shown rows)
+part_shown rows at n is =
+    let rest = drop (at * 512) rows in
+    let same : slice_range rows (at * 512) (length rows) ≡ rest = take_all (length rows - at * 512) rest (let left = length-drop (at * 512) rows in omega (arith, left)) in
+    ap (each shown) (ap (take n) same ∙ ap (λ m. take m rest) (is ∙ ap (λ xs. min 512 (length xs)) same) ∙ take_min 512 rest)
+    ∙ sym (take-map shown 512 rest) ∙ ap (take 512) (sym (drop-map shown (at * 512) rows))
+
+-- what holds of each result, by its place, holds of what the results have
+pub each_made : {S : Type 0} (P : ℕ → S → Type 0) (ks : List ℕ) (parts : List S)
+    → AllZip (λ k (r : Result S AllocError). IfOk r (P k)) ks (map Ok parts) → AllZip P ks parts
+each_made P [] [] h = tt
+each_made P [] (p ∷ ps) h = absurd h
+each_made P (k ∷ ks) [] h = absurd h
+each_made P (k ∷ ks) (p ∷ ps) h = (h.0, each_made P ks ps h.1)
+
+-- parts that were made by their places are those of the rows from the first place on
+pub parts_from : {S : Type 0} (holds : List (List (List ℕ)) → S → Type 0) (l : Listing) (es : Entries) (at n : ℕ) (parts : List S)
+    → AllZip (λ k part. holds (records_of l (rows_of_part k es)) part) (range_with_len at n) parts
+    → length es ≤ (at + n) * 512 → AreParts holds l (drop (at * 512) es) parts
+parts_from holds l es at zero [] h few = drop_all (at * 512) es (omega (arith, few))
+parts_from holds l es at zero (p ∷ ps) h few = absurd h
+parts_from holds l es at (suc n) [] h few = absurd h
+parts_from holds l es at (suc n) (p ∷ ps) h few =
+    let next : at * 512 + 512 ≡ (at + 1) * 512 = omega arith in (
+      h.0,
+      subst (λ rest. AreParts holds l rest ps) (sym (drop-drop 512 (at * 512) es ∙ ap (λ k. drop k es) next))
+          (parts_from holds l es (at + 1) n ps h.1 (omega (arith, few))),
     )
 
-pub slot_more : (l : Listing) (es : Entries) (slots : List Slot) (i : ℕ) (slot : Slot) (has : Bool) → AreMade l es slots
-    → i < length slots → slot ≡ slice_index_or slots i slot → slot.made ≡ Ok has → has ≡ true
-    → records_of l (drop i es) ≡ (slot.record ∷ []) ++ records_of l (drop (i + 1) es)
-slot_more l es slots i slot has h lt is made there_is =
-    let r = slot_rows l es slots i slot has h lt is made in
-    r.1 ∙ ap (λ first. first ++ records_of l (drop (i + 1) es)) (subst (λ b. MatchBool b (r.0 ≡ slot.record ∷ []) (r.0 ≡ [])) there_is r.2)
-
-pub slot_none : (l : Listing) (es : Entries) (slots : List Slot) (i : ℕ) (slot : Slot) (has : Bool) → AreMade l es slots
-    → i < length slots → slot ≡ slice_index_or slots i slot → slot.made ≡ Ok has → has ≡ false
-    → records_of l (drop i es) ≡ records_of l (drop (i + 1) es)
-slot_none l es slots i slot has h lt is made there_is =
-    let r = slot_rows l es slots i slot has h lt is made in
-    r.1 ∙ ap (λ first. first ++ records_of l (drop (i + 1) es)) (subst (λ b. MatchBool b (r.0 ≡ slot.record ∷ []) (r.0 ≡ [])) there_is r.2)
+-- what follows where there is no error
+pub if_made : {T E : Type 0} (r : Result T E) (P Q : T → Type 0) (R : E → Type 0) → MatchResult r P R → ((v : T) → P v → Q v) → IfOk r Q
+if_made (Ok v) P Q R h f = f v h
+if_made (Err e) P Q R h f = tt

@@ -1,5 +1,5 @@
--- The records of the rows that a listing is of, entry by entry and table by table.
-use Rattle.std.proofs.Common.{◌≡◌, ◌⊎◌, inl, inr, ℕ, Bool, true, false, cond, List, [], ◌∷◌, ◌++◌, refl, sym, ap, subst, ◌∙◌}
+-- The records of the rows that match a listing, entry by entry and table by table.
+use Rattle.std.proofs.Common.{◌≡◌, ◌⊎◌, inl, inr, ℕ, Bool, true, false, cond, List, [], ◌∷◌, ◌++◌, refl, sym, ap, ◌∙◌}
 use Rattle.std.specs.Prelude.{filter}
 use Rattle.std.specs.List.{flat_map}
 use Rattle.std.proofs.lemmas.Grind.{flat_map-append}
@@ -27,7 +27,7 @@ records_append l xs ys =
     ap (flat_map (λ (e : RowKey × Row). row_record e.0 e.1)) (filter-append (λ (e : RowKey × Row). is_of l e.0 e.1) xs ys)
     ∙ flat_map-append (λ (e : RowKey × Row). row_record e.0 e.1) (filter (λ e. is_of l e.0 e.1) xs) (filter (λ e. is_of l e.0 e.1) ys)
 
--- the listing is of no row outside the table
+-- no row outside the table matches the listing
 abbrev pub IsWithin : Listing → Table → Type 0
 IsWithin l t = (k : RowKey) (r : Row) → holds t k ≡ false → is_of l k r ≡ false
 
@@ -107,7 +107,7 @@ again h p (e ∷ es) = by (p e) refl (again h p es)
         without true = ap (λ b. cond b (e ∷ filter p (filter h es)) (filter p (filter h es))) (sym fail)
         without false = refl
 
--- the rows that a listing is of have the records of all rows of the table
+-- the rows that match a listing have the records of all rows of the table
 pub listed_records : (l : Listing) (t : Table) (m : Tables) → records_of l (listed_of l t m) ≡ records_of l (rows_of t m)
 listed_records l t m = ap (flat_map (λ (e : RowKey × Row). row_record e.0 e.1))
     (again (λ e. holds t e.0) (λ e. is_of l e.0 e.1) (map.entries m))

@@ -8,8 +8,14 @@ added_none s = sym (append-nil s)
 pub added_more : (xs ys a b c : List (List (List ℕ))) → b ≡ a ++ xs → c ≡ b ++ ys → c ≡ a ++ (xs ++ ys)
 added_more xs ys a b c e f = f ∙ ap (λ s. s ++ ys) e ∙ append_assoc a xs ys
 
+pub held_more : (xs ys a b : List (List (List ℕ))) → a ≡ xs → b ≡ a ++ ys → b ≡ xs ++ ys
+held_more xs ys a b e f = f ∙ ap (λ s. s ++ ys) e
+
 pub counted_none : (n : ℕ) → n ≡ n + length {A = List (List ℕ)} []
 counted_none n = sym (add-zero n)
 
 pub counted_more : (xs ys : List (List (List ℕ))) (a b c : ℕ) → b ≡ a + length xs → c ≡ b + length ys → c ≡ a + length (xs ++ ys)
 counted_more xs ys a b c e f = f ∙ ap (λ n. n + length ys) e ∙ add_assoc a (length xs) (length ys) ∙ ap (λ n. a + n) (sym (length-append xs ys))
+
+pub count_held : (xs ys : List (List (List ℕ))) (a b : ℕ) → a ≡ length xs → b ≡ a + length ys → b ≡ length (xs ++ ys)
+count_held xs ys a b e f = f ∙ ap (λ n. n + length ys) e ∙ sym (length-append xs ys)

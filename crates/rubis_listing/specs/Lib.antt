@@ -1,3 +1,3 @@
 pub mod Adding
 pub mod ByTable
-pub mod Made
+pub mod Parts

@@ -2,9 +2,9 @@
 
 ghost use Rattle.std.specs.Prelude.{◌≡◌};
 
-use crate::row_sinks::RowSink;
+use crate::row_sinks::{RowSink, SharedSink};
 use rubis_schema::Fields;
-use std::alloc::AllocError;
+use std::alloc::{AllocError, Global};
 
 /// A row sink and the number of rows it took, at most 2^64 - 1. One row more is refused as out of memory.
 #[derive(Drop)]
@@ -41,4 +41,26 @@ impl<S: RowSink + Drop> RowSink for Counted<S> {
     ghost adds_none = { λ s. (S.adds_none s.rows, counted_none s.count) };
 
     ghost adds_more = { λ xs ys a b c f g. (S.adds_more xs ys a.rows b.rows c.rows f.0 g.0, counted_more xs ys a.count b.count c.count f.1 g.1) };
+}
+
+impl<S: SharedSink> SharedSink for Counted<S> {
+    ghost use Rattle.std.specs.Prelude.{◌≡◌, length};
+    ghost use Rattle.rubis_listing.specs.Adding.{count_held};
+
+    ghost holds = { λ rows s. S.holds rows s.rows × (s.count ≡ length rows) };
+
+    fn empty(alloc: Global) -> Counted<S> {
+        Counted::new(S::empty(alloc))
+    }
+
+    fn append(&mut self, part: Counted<S>) -> Result<(), AllocError> {
+        let Some(count) = self.count.checked_add(part.count) else {
+            return Err(AllocError);
+        };
+        self.rows.append(part.rows)?;
+        self.count = count;
+        Ok(())
+    }
+
+    ghost holds_more = { λ xs ys a b h f. (S.holds_more xs ys a.rows b.rows h.0 f.0, count_held xs ys a.count b.count h.1 f.1) };
 }

@@ -13,5 +13,5 @@ pub use listings::{
     bids, categories, comments, items, list_tables, list_tables_shared, purchases, tables, users,
 };
 pub use logs::{list_log, list_misfits, log, misfit_rows};
-pub use row_sinks::RowSink;
+pub use row_sinks::{RowSink, SharedSink};
 pub use shared::SHARED_MIN;

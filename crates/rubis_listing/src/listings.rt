@@ -8,14 +8,14 @@ ghost use Rattle.rubis_shard.specs.Written.{shown};
 ghost use Rattle.rubis_listing.specs.ByTable.{tables_of};
 
 use crate::records::put_record;
-use crate::row_sinks::RowSink;
+use crate::row_sinks::{RowSink, SharedSink};
 use crate::shared::put_rows_shared;
 use rubis_schema::{Fields, Id, Items, Listing, Row, RowKey, Table};
 use rubis_shard::{Tables, selects};
 use std::alloc::{AllocError, Global};
 use std::thread::Threads;
 
-// Adds the row at a key, where the listing is of it and it has a record.
+// Adds the row at a key, if it matches the listing and has a record.
 fn put_row<S: RowSink>(
     sink: &mut S,
     record: &mut Fields,
@@ -31,7 +31,7 @@ fn put_row<S: RowSink>(
     Ok(())
 }
 
-// Adds those of some rows that the listing is of.
+// Adds those of some rows that match the listing.
 pub fn put_rows<S: RowSink>(
     alloc: Global,
     sink: &mut S,
@@ -87,8 +87,8 @@ pub fn list_tables<S: RowSink>(
 }
 
 /// Adds the rows of a listing of the tables as `list_tables` does. Where at least SHARED_MIN rows of a table are listed, as many
-/// threads as there are processors make their records, a range of rows at a time, and the caller's thread adds them.
-pub fn list_tables_shared<S: RowSink, R: Threads + Sync>(
+/// threads as there are processors make them, in parts, and the caller's thread adds the parts.
+pub fn list_tables_shared<S: SharedSink, R: Threads + Sync>(
     rt: &R,
     alloc: Global,
     sink: &mut S,

@@ -3,7 +3,7 @@
 ghost use Rattle.std.specs.Prelude.{◌≡◌, ◌++◌, ◌∷◌, [], ℕ, List, OnOk};
 
 use rubis_schema::{Fields, Items};
-use std::alloc::AllocError;
+use std::alloc::{AllocError, Global};
 
 /// What takes the rows of a listing, one after the other.
 pub trait RowSink {
@@ -17,6 +17,22 @@ pub trait RowSink {
     ghost adds_none: { (s : Self) → adds [] s s };
 
     ghost adds_more: { (xs ys : List (List (List ℕ))) (a b c : Self) → adds xs a b → adds ys b c → adds (xs ++ ys) a c };
+}
+
+/// A row sink that can be filled in parts, each by a thread of its own.
+pub trait SharedSink: RowSink + Drop + Send {
+    /// It has these rows, and no others.
+    ghost holds: { List (List (List ℕ)) → Self → Type 0 };
+
+    /// A sink with no rows.
+    fn empty(alloc: Global) -> Self
+        ensures { holds [] result };
+
+    /// Adds the rows of another sink.
+    fn append(&mut self, part: Self) -> Result<(), AllocError>
+        ensures { OnOk result ((rows : List (List (List ℕ))) → holds rows part → Self.adds rows self.old self.new) };
+
+    ghost holds_more: { (xs ys : List (List (List ℕ))) (a b : Self) → holds xs a → Self.adds ys a b → holds (xs ++ ys) b };
 }
 
 impl RowSink for Items<Fields> {
@@ -33,4 +49,25 @@ impl RowSink for Items<Fields> {
     ghost adds_none = { added_none };
 
     ghost adds_more = { added_more };
+}
+
+impl SharedSink for Items<Fields> {
+    ghost use Rattle.std.specs.Prelude.{◌≡◌};
+    ghost use Rattle.rubis_listing.specs.Adding.{held_more};
+
+    ghost holds = { λ rows items. items ≡ rows };
+
+    fn empty(alloc: Global) -> Items<Fields> {
+        Items::new(alloc)
+    }
+
+    fn append(&mut self, part: Items<Fields>) -> Result<(), AllocError> {
+        let rows: Vec<Fields> = part.into();
+        for row in rows {
+            self.push(row)?;
+        }
+        Ok(())
+    }
+
+    ghost holds_more = { held_more };
 }

@@ -34,7 +34,7 @@ text_more counts text marked more i at next lt e mark last is =
 abbrev pub then_left : List ℕ → Option (List ℕ) → Option (List ℕ)
 then_left read left = option_map (λ more. read ++ more) left
 
--- what is left, by its first count and by what stands behind that
+-- what is left, by its first count and by what follows that
 abbrev more_by : ℕ → List ℕ → Option ℕ → Option (List ℕ)
 more_by k back first = first >>= (λ count. option_map (λ others. count ∷ others) (deps_of (suc k) back))
 

@@ -23,7 +23,7 @@ next_field xs n (Some f) lt e =
 pub more_left : (xs left : List (List ℕ)) (n : ℕ) → n < length xs → drop n xs ≡ left → at_end left ≡ None
 more_left xs left n lt is = ap at_end (sym is ∙ drop-cons xs n [] lt)
 
--- the fields behind the number of a site, at least one
+-- the fields after the number of a site, at least one
 pub asked_behind : (sites i : ℕ) (fields rest : List (List ℕ)) (r : Option Request) → take_at sites fields ≡ Some (i, rest) → (length rest == 0) ≡ false
     → request_of sites rest ≡ r → request_at sites fields ≡ Some (Asked i r)
 unfolding request_at

@@ -48,7 +48,7 @@ then_by : {A B P : Type 0} {Fits : A → Type 0} {write : A → List (List ℕ)}
 then_by law next fields rest y None is e k = absurd cc
 then_by law next fields rest y (Some p) is e k = let w = law.only fields p.1 p.0 is in k p.0 p.1 w.0 w.1 e
 
--- the first form read a value, and the next one what stands behind it
+-- the first form read a value, and the next one what follows it
 pub then_only : {A B P : Type 0} {Fits : A → Type 0} {write : A → List (List ℕ)} {form : Form A} → IsForm Fits write form
     → (next : A → Form B) (fields rest : List (List ℕ)) (y : B) → followed_by (form fields) next ≡ Some (y, rest)
     → ((x : A) (behind : List (List ℕ)) → Fits x → fields ≡ write x ++ behind → next x behind ≡ Some (y, rest) → P) → P
@@ -114,7 +114,7 @@ pub said_is : {A : Type 0} (text : A → List ℕ) (all : List A) → ((x : A) �
     → IsField (λ _. ⊤) text (said text all)
 said_is text all back = record { back = λ x _. back x; only = λ field x e. (tt, said_only text all field x e) }
 
--- what stands behind the word is read by this form
+-- what follows the word is read by this form
 abbrev pub IsBehind : {A : Type 0} → (A → Type 0) → (A → List (List ℕ)) → List ℕ → Form A → Type 0
 IsBehind {A} Fits write word form =
     (fields rest : List (List ℕ)) (x : A) → form fields ≡ Some (x, rest) → Fits x × (word ∷ fields ≡ write x ++ rest)
@@ -132,7 +132,7 @@ pub alone : {A : Type 0} (Fits : A → Type 0) (write : A → List (List ℕ)) (
 alone Fits write word x h writes fields rest y e =
     given (λ z more. Fits z × (word ∷ fields ≡ write z ++ more)) x y fields rest e (h, writes fields)
 
--- a word, and what stands behind that word
+-- a word, and what follows that word
 pub by_word : {A K : Type 0} (Fits : A → Type 0) (write : A → List (List ℕ)) (text : K → List ℕ) (word : Form K)
     (form : K → Form A) → IsForm (λ _. ⊤) (λ k. text k ∷ []) word → ((k : K) → IsBehind Fits write (text k) (form k))
     → ((x : A) (rest : List (List ℕ)) → Fits x → followed_by (word (write x ++ rest)) form ≡ Some (x, rest))

@@ -13,17 +13,16 @@ use Rattle.rubis_schema.specs.declared.rows.PurchaseRow.{PurchaseRow}
 use Rattle.rubis_schema.specs.declared.rows.CommentRow.{CommentRow}
 use Rattle.rubis_schema.specs.contracts.rows.PurchaseRowPartialEq.TheImpl as purchase
 use Rattle.rubis_schema.specs.contracts.rows.CommentRowPartialEq.TheImpl as comment
+use Rattle.rubis_shadow.specs.Renames.{Decides-same_rename, equiv_from_decides}
 use Rattle.rubis_shadow.specs.declared.shadows.NewItem.{NewItem}
 use Rattle.rubis_shadow.specs.declared.shadows.NewBid.{NewBid}
 use Rattle.rubis_shadow.specs.declared.shadows.NewClose.{NewClose}
-use Rattle.rubis_shadow.specs.declared.shadows.NewRename.{NewRename}
 use Rattle.rubis_shadow.specs.declared.shadows.NewRestock.{NewRestock}
 use Rattle.rubis_shadow.specs.declared.shadows.Shadow.{Shadow}
 use Rattle.rubis_shadow.specs.declared.shadows.Shadow.TheVariants.{User, Item, Bid, Buy, Close, Comment, Restock, Rename}
 use Rattle.rubis_shadow.specs.contracts.shadows.NewItemPartialEq.TheImpl as item
 use Rattle.rubis_shadow.specs.contracts.shadows.NewBidPartialEq.TheImpl as bid
 use Rattle.rubis_shadow.specs.contracts.shadows.NewClosePartialEq.TheImpl as close
-use Rattle.rubis_shadow.specs.contracts.shadows.NewRenamePartialEq.TheImpl as rename
 use Rattle.rubis_shadow.specs.contracts.shadows.NewRestockPartialEq.TheImpl as restock
 use Rattle.rubis_shadow.specs.contracts.shadows.ShadowPartialEq.TheImpl as shadow
 use Rattle.rubis_clock.specs.declared.stamps.Stamp.{Stamp}
@@ -109,13 +108,6 @@ Decides-restock a b = Decides-like _
     (λ e. (ap (λ s. s.item) e, ap (λ s. s.quantity) e))
     (Decides-and _ _ (Decides-same_id a.item b.item) (Decides-eqb a.quantity b.quantity))
 
-Decides-rename : (a b : NewRename) → Decides ((rename.ghosts).eq a b) (a ≡ b)
-Decides-rename a b = Decides-like _
-    (λ h i. record { user = h.0 i; from = h.1.0 i; to = h.1.1 i })
-    (λ e. (ap (λ s. s.user) e, (ap (λ s. s.from) e, ap (λ s. s.to) e)))
-    (Decides-and _ _ (Decides-same_id a.user b.user)
-    (Decides-and _ _ (bytes_decides a.from b.from) (bytes_decides a.to b.to)))
-
 Decides-shadow : (a b : Shadow) → Decides ((shadow.ghosts).eq a b) (a ≡ b)
 Decides-shadow (User a) (User b) = Decides-like _ (ap User) (λ e. cc) (bytes_decides a b)
 Decides-shadow (Item a) (Item b) = Decides-like _ (ap Item) (λ e. cc) (Decides-item a b)
@@ -124,7 +116,7 @@ Decides-shadow (Buy a) (Buy b) = Decides-like _ (ap Buy) (λ e. cc) (Decides-pur
 Decides-shadow (Close a) (Close b) = Decides-like _ (ap Close) (λ e. cc) (Decides-close a b)
 Decides-shadow (Comment a) (Comment b) = Decides-like _ (ap Comment) (λ e. cc) (Decides-comment a b)
 Decides-shadow (Restock a) (Restock b) = Decides-like _ (ap Restock) (λ e. cc) (Decides-restock a b)
-Decides-shadow (Rename a) (Rename b) = Decides-like _ (ap Rename) (λ e. cc) (Decides-rename a b)
+Decides-shadow (Rename a) (Rename b) = Decides-like _ (ap Rename) (λ e. cc) (Decides-same_rename a b)
 Decides-shadow a b = (λ e. absurd (true≢false (sym e)), λ e. absurd cc)
 
 pub Decides-same_message : (m n : Message) → Decides (same_message m n) (m ≡ n)
@@ -133,10 +125,5 @@ Decides-same_message m n = Decides-like _
     (λ e. (ap (λ s. s.stamp) e, ap (λ s. s.shadow) e))
     (Decides-and _ _ (Decides-stamp m.stamp n.stamp) (Decides-shadow m.shadow n.shadow))
 
--- a test that decides equality is an equivalence
 pub same_message_equiv : IsEquivalence same_message
-same_message_equiv = record {
-  refl = λ m. (Decides-same_message m m).1 refl;
-  symm = λ m n. same_from_decides _ _ (Decides-same_message m n) (Decides-like _ sym sym (Decides-same_message n m));
-  congr = λ l m n e. ap (λ k. same_message k n) ((Decides-same_message l m).0 e);
-}
+same_message_equiv = equiv_from_decides same_message Decides-same_message

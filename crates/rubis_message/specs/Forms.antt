@@ -6,7 +6,7 @@ use Rattle.rubis_message.specs.Counts.{deps_of}
 use Rattle.rubis_message.specs.declared.faults.ReadFault.{ReadFault}
 use Rattle.rubis_message.specs.declared.faults.ReadFault.TheVariants.{BadRecord, Memory}
 
--- a form reads the first fields of a record: a value and the fields behind it, or there is none
+-- a form reads the first fields of a record: a value and the fields after it, or there is none
 abbrev pub Form : Type 0 → Type 0
 Form A = List (List ℕ) → Option (A × List (List ℕ))
 

@@ -18,7 +18,7 @@ use Rattle.rubis_shadow.specs.declared.asks.AskedRestock.{AskedRestock}
 use Rattle.rubis_shadow.specs.declared.shadows.NewItem.{NewItem}
 use Rattle.rubis_shadow.specs.declared.shadows.NewBid.{NewBid}
 use Rattle.rubis_shadow.specs.declared.shadows.NewClose.{NewClose}
-use Rattle.rubis_shadow.specs.declared.shadows.NewRename.{NewRename}
+use Rattle.rubis_shadow.specs.Renames.{NewRename}
 use Rattle.rubis_shadow.specs.declared.shadows.NewRestock.{NewRestock}
 use Rattle.rubis_shadow.specs.declared.shadows.Shadow.{Shadow}
 use Rattle.rubis_shadow.specs.declared.shadows.Shadow.TheVariants as shadow
@@ -30,7 +30,7 @@ use Rattle.rubis_message.specs.declared.tokens.Token.{Token}
 use Rattle.rubis_message.specs.declared.tokens.Packet.{Packet}
 use Rattle.rubis_message.specs.declared.tokens.Packet.TheVariants as packet
 
--- ---- what stands behind the word for a kind
+-- ---- what follows the word for a kind
 abbrev pub item_fields : NewItem → List (List ℕ)
 item_fields n = id_text n.seller ∷ n.name ∷ decimal n.cat ∷ decimal n.stock ∷ decimal n.start ∷ decimal n.price ∷ []
 

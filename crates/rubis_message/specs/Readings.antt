@@ -13,7 +13,7 @@ use Rattle.rubis_shadow.specs.declared.asks.AskedRestock.{AskedRestock}
 use Rattle.rubis_shadow.specs.declared.shadows.NewItem.{NewItem}
 use Rattle.rubis_shadow.specs.declared.shadows.NewBid.{NewBid}
 use Rattle.rubis_shadow.specs.declared.shadows.NewClose.{NewClose}
-use Rattle.rubis_shadow.specs.declared.shadows.NewRename.{NewRename}
+use Rattle.rubis_shadow.specs.Renames.{NewRename}
 use Rattle.rubis_shadow.specs.declared.shadows.NewRestock.{NewRestock}
 use Rattle.rubis_shadow.specs.declared.shadows.Shadow.{Shadow}
 use Rattle.rubis_shadow.specs.declared.shadows.Shadow.TheVariants as shadow
@@ -32,7 +32,7 @@ use Rattle.rubis_message.specs.declared.tokens.Token.{Token}
 use Rattle.rubis_message.specs.declared.tokens.Packet.{Packet}
 use Rattle.rubis_message.specs.declared.tokens.Packet.TheVariants as packet
 
--- ---- what stands behind the word for a kind
+-- ---- what follows the word for a kind
 
 unfoldable pub take_item : ℕ → Form NewItem
 take_item sites = do
@@ -213,7 +213,7 @@ packet_of sites = whole (take_packet sites)
 
 -- ---- what is written is read, and nothing else
 
--- a record is just the request that is within its limits and is written so
+-- a record is exactly the request that is within its limits and is written so
 abbrev pub RequestsAreReadAsWritten : Type 0
 RequestsAreReadAsWritten =
     (sites : ℕ) → sites < 2 ^ 8 → (fields : List (List ℕ)) (r : Request)

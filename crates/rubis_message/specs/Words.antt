@@ -5,7 +5,7 @@ use Rattle.rubis_message.specs.declared.kinds.RecordKind.TheVariants.{User, Item
 use Rattle.rubis_message.specs.declared.kinds.Shown.{Shown}
 use Rattle.rubis_message.specs.declared.kinds.Shown.TheVariants as shown
 
--- the first of these whose word the field is
+-- the first of `all` whose word, its `text`, is the field
 abbrev pub said : {A : Type 0} → (A → List ℕ) → List A → List ℕ → Option A
 said text all field = find (λ x. bytes_eq field (text x)) all
 

@@ -10,7 +10,7 @@ use Rattle.rubis_message.specs.declared.faults.ReadFault.TheVariants.{BadRecord,
 use Rattle.rubis_message.specs.declared.world_inputs.WorldInput.{WorldInput}
 use Rattle.rubis_message.specs.declared.world_inputs.WorldInput.TheVariants.{Asked, Delivered, Audit, Neither}
 
--- a field with just that word
+-- a field with exactly that word
 abbrev pub take_word : List ℕ → Form (Unit {0})
 take_word word = one Some >>= (λ field. check (bytes_eq field word))
 
@@ -18,7 +18,7 @@ take_word word = one Some >>= (λ field. check (bytes_eq field word))
 unfoldable pub take_at : ℕ → Form ℕ
 take_at sites = take_word (codes "at") >> take_site sites
 
--- at least one field is left behind the number of the site; they are a request, or not
+-- at least one field is left after the number of the site; they are a request, or not
 abbrev pub asked_with : ℕ → ℕ → List (List ℕ) → Option WorldInput
 asked_with sites i [] = None
 asked_with sites i (field ∷ rest) = Some (Asked i (request_of sites (field ∷ rest)))

@@ -6,7 +6,7 @@ ghost use Rattle.rubis_message.specs.Readings.{request_of, take_asked_close, tak
 use crate::faults::ReadFault;
 use crate::kinds::{RecordKind, Shown};
 use crate::readers::Reader;
-use rubis_schema::{CAT_MAX, Listing, PASS_MAX, QUANTITY_MAX, Record};
+use rubis_schema::{CAT_MAX, Listing, PASS_MAX, QUANTITY_MAX, Record, Shared};
 use rubis_shadow::{Ask, AskedClose, AskedRename, AskedRestock};
 use std::alloc::Global;
 
@@ -47,12 +47,12 @@ impl<'a, F: Record> Reader<'a, F> {
 
     /// The nickname that a user asks for.
     #[tactic(auto, unfolding(crate::specs::Readings::take_asked_rename))]
-    fn asked_rename(&mut self, sites: u8) -> Result<AskedRename, ReadFault>
+    fn asked_rename(&mut self, alloc: Global, sites: u8) -> Result<Shared<AskedRename>, ReadFault>
         ensures { Takes (take_asked_rename sites) self.old self.new result }
     {
         let user = self.id(sites)?;
         let nick = self.nick()?;
-        Ok(AskedRename { user, nick })
+        Ok(Shared::new(alloc, AskedRename { user, nick })?)
     }
 
     /// A listing.
@@ -88,7 +88,7 @@ impl<'a, F: Record> Reader<'a, F> {
             RecordKind::Pass => Ok(Request::Pass(self.number(PASS_MAX)? as u8)),
             RecordKind::List => Ok(Request::List(self.listing(sites)?)),
             RecordKind::Restock => Ok(Request::Ask(Ask::Restock(self.asked_restock(sites)?))),
-            RecordKind::Rename => Ok(Request::Ask(Ask::Rename(self.asked_rename(sites)?))),
+            RecordKind::Rename => Ok(Request::Ask(Ask::Rename(self.asked_rename(alloc, sites)?))),
         }
     }
 }

@@ -8,8 +8,8 @@ ghost use Rattle.rubis_message.specs.Readings.{take_close, take_rename, take_res
 use crate::faults::ReadFault;
 use crate::kinds::RecordKind;
 use crate::readers::Reader;
-use rubis_schema::{CAT_MAX, QUANTITY_MAX, Record};
-use rubis_shadow::{NewClose, NewRename, NewRestock, Shadow};
+use rubis_schema::{CAT_MAX, QUANTITY_MAX, Record, Shared};
+use rubis_shadow::{AskedRename, NewClose, NewRename, NewRestock, Shadow};
 use std::alloc::Global;
 
 impl<'a, F: Record> Reader<'a, F> {
@@ -40,7 +40,7 @@ impl<'a, F: Record> Reader<'a, F> {
 
     /// Another nickname in place of the one that a user has.
     #[tactic(auto, unfolding(crate::specs::Readings::take_rename))]
-    fn new_rename(&mut self, sites: u8) -> Result<NewRename, ReadFault>
+    fn new_rename(&mut self, alloc: Global, sites: u8) -> Result<NewRename, ReadFault>
         ensures { Takes (take_rename sites) self.old self.new result }
     {
         let user = self.id(sites)?;
@@ -49,7 +49,8 @@ impl<'a, F: Record> Reader<'a, F> {
         if from == to {
             return Err(ReadFault::BadRecord);
         }
-        Ok(NewRename { user, from, to })
+        let asked = Shared::new(alloc, AskedRename { user, nick: to })?;
+        Ok(NewRename::new(asked, from))
     }
 
     /// A shadow.
@@ -65,7 +66,7 @@ impl<'a, F: Record> Reader<'a, F> {
             RecordKind::Close => Ok(Shadow::Close(self.new_close(sites)?)),
             RecordKind::Comment => Ok(Shadow::Comment(self.comment(alloc, sites)?)),
             RecordKind::Restock => Ok(Shadow::Restock(self.new_restock(sites)?)),
-            RecordKind::Rename => Ok(Shadow::Rename(self.new_rename(sites)?)),
+            RecordKind::Rename => Ok(Shadow::Rename(self.new_rename(alloc, sites)?)),
             RecordKind::Pass | RecordKind::List => Err(ReadFault::BadRecord),
         }
     }

@@ -25,7 +25,7 @@ pub enum WorldInput {
 }
 
 impl<'a, F: Record> Reader<'a, F> {
-    // A field with just that word.
+    // A field with exactly that word.
     fn word(&mut self, word: &[u8]) -> Result<(), ReadFault>
         ensures { Takes (take_word word.now) self.old self.new result }
     {

@@ -75,9 +75,9 @@ fn push_restock(fields: &mut Fields, restock: &NewRestock) -> Result<(), AllocEr
 fn push_rename(fields: &mut Fields, rename: &NewRename) -> Result<(), AllocError>
     ensures { OnOk result (fields.new ≡ fields.old ++ rename_fields rename.now) }
 {
-    rename.user.push_to(fields)?;
-    fields.push(rename.from.as_bytes())?;
-    fields.push(rename.to.as_bytes())
+    rename.user().push_to(fields)?;
+    fields.push(rename.from().as_bytes())?;
+    fields.push(rename.to().as_bytes())
 }
 
 fn push_shadow(fields: &mut Fields, shadow: &Shadow) -> Result<(), AllocError>

@@ -25,7 +25,7 @@ Logged logs v = (log : OneOf logs) × Has v log.0.messages
 abbrev pub AreAmong : ℕ → List Log → Type 0
 AreAmong sites logs = (v : Message) → Logged logs v → IsMessage v × (sites_of v ≡ sites)
 
--- v is in order in a log of site i, after these, newest first: it was ready there, it counts just these if it is of that
+-- v is in order in a log of site i, after these, newest first: it was ready there, it counts exactly these if it is of that
 -- site, and all that is counted by what it counts last of any site; and the red one before it precedes it
 pub record IsOrdered (i : ℕ) (past : List Message) (v : Message) : Type 0 where
   pub ready : Ready past v

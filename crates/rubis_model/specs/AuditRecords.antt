@@ -101,13 +101,13 @@ pub record IsLogAmong (sites : ℕ) (log : Log) : Type 0 where
   pub some : log.rows ≢ Some []
   pub rows : (row : List (List ℕ)) → Has row (unwrap_or log.rows []) → IsLine sites (Claim row)
 
--- a record says just what can be said and is written so
+-- a record says exactly what can be said and is written so
 abbrev pub LinesAreReadAsWritten : Type 0
 LinesAreReadAsWritten =
     (sites : ℕ) → sites ≤ COUNTED_MAX → (fields : List (List ℕ)) (line : Line)
     → (line_of sites fields ≡ Some line) ↔ (IsLine sites line × (fields ≡ line_record line))
 
--- and so the records of logs are those of just these logs
+-- and so the records of logs are those of exactly these logs
 abbrev pub LogsAreReadAsWritten : Type 0
 LogsAreReadAsWritten =
     (sites : ℕ) → sites ≤ COUNTED_MAX → (records : List (List (List ℕ))) (logs : List Log)

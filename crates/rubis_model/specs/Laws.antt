@@ -119,7 +119,7 @@ pub record InOrder (w : World) : Type 0 where
   pub numbers : (m : Message) → Sent w m → m.stamp.red ≤ red_count w.sent
   pub numbered : (r : ℕ) → 1 ≤ r → r ≤ red_count w.sent → (m : Message) × (Sent w m) × (m.stamp.red ≡ r)
   pub numbered_once : (u v : Message) → Sent w u → Sent w v → 0 < u.stamp.red → u.stamp.red ≡ v.stamp.red → u ≡ v
-  -- each fits after just what precedes it
+  -- each fits after exactly what precedes it
   pub foundation : (v : Message) → Sent w v → Foundation (Sent w) v
   -- no site answers NotOurs to a message that was sent
   pub ours : (keep i : ℕ) (m : Message) → Sent w m → (arrived (place keep w i) (site w i) m).1 ≢ Err NotOurs

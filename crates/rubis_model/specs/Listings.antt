@@ -75,7 +75,7 @@ row_record k r = []
 
 -- ---- listings of the tables
 
--- whether the listing is of the row at a key
+-- whether the listing matches the row at a key
 abbrev pub is_of : Listing → RowKey → Row → Bool
 is_of listing.Users (key.User id) r = true
 is_of (listing.Items cat) (key.Item id) (row.Item i) = nat_eq i.cat cat
@@ -86,7 +86,7 @@ is_of listing.Categories (key.Cat k) r = true
 is_of listing.Tables k r = true
 is_of l k r = false
 
--- the records of those of the entries that the listing is of
+-- the records of the entries that match the listing
 abbrev pub records_of : Listing → List (RowKey × Row) → List (List (List ℕ))
 records_of l es = flat_map (λ e. row_record e.0 e.1) (filter (λ e. is_of l e.0 e.1) es)
 

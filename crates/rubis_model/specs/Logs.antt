@@ -5,7 +5,7 @@ use Rattle.rubis_message.specs.Message.{Message}
 use Rattle.rubis_model.specs.Listings.{table_rows}
 use Rattle.rubis_model.specs.Log.{cores, fold_of}
 
--- the log of a site: its messages in release order, and its tables as it claims them, if it does
+-- the log of a site: its messages in release order, and, optionally, the rows of its tables as it claims them
 pub record Log : Type 0 where
   pub site : ℕ
   pub messages : List Message

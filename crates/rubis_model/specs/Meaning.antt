@@ -189,7 +189,7 @@ named n a = choose earlier (λ m. is_same_nick n (nick_at m.id a)) a
 
 -- ---- the rows
 
--- a user: how many items it listed, how many pieces it bought, and the sum and the count of the comments to it
+-- a user: how many items it listed, how many pieces it bought, the sum of the ratings and the count of the comments to it
 abbrev pub user_row : List Core → Id → List ℕ → Row
 user_row a u nick = row.User (record {
   nick = nick;
@@ -242,6 +242,6 @@ meaning_row a (key.Comment i) = option_map row.Comment (at_id (λ m. as_comment 
 meaning_row a (key.Nick n) = option_map (λ m. row.Nick m.id) (named n a)
 meaning_row a (key.Cat k) = when (nat_lt k 1000) (Some (category_row a k))
 
--- the tables are the meaning of the set: they have just these rows
+-- the tables are the meaning of the set: they have exactly these rows
 pub record IsMeaning (a : List Core) (t : Tables) : Type 0 where
   pub rows : (q : RowKey) → map.get t q ≡ meaning_row a q

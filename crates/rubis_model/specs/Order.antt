@@ -41,7 +41,7 @@ pub record Decided (past : List Message) (m : Message) : Type 0 where
   pub limits : IsLimited m.shadow
   pub colour : is_red m.shadow ≡ nat_lt 0 m.stamp.red
 
--- what v's origin had in its log when it made v, newest first: just what precedes v
+-- what v's origin had in its log when it made v, newest first: exactly what precedes v
 pub record Foundation (all : Message → Type 0) (v : Message) : Type 0 where
   pub past : List Message
   pub released : Released past

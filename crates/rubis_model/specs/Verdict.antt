@@ -47,7 +47,7 @@ is_not_next own v = not (v.stamp.id.seq == counted v.stamp.id.site own + 1)
 abbrev pub is_early : List Message → Message → Bool
 is_early own v = at_some_site v (λ j. not (j == v.stamp.id.site) && nat_lt (counted j own) (dep v j))
 
--- v is of this site, and doesn't count just what stands before it
+-- v is of this site, and doesn't count exactly what stands before it
 abbrev pub miscounts : ℕ → List Message → Message → Bool
 miscounts site own v = (v.stamp.id.site == site) && at_some_site v (λ j. not (dep v j == counted j own))
 
@@ -119,7 +119,7 @@ wrong_rows log = option_map_or (λ rows. not (same_rows rows (shown_rows log.mes
 
 -- ---- the first fault
 
--- among the entries behind `own`: its kind and the number of its entry, from 1
+-- among the entries after `own`: its kind and the number of its entry, from 1
 abbrev pub first_fault : List Message → ℕ → List Message → List Message → Option (Kind × ℕ)
 first_fault others site own [] = None
 first_fault others site own (v ∷ rest) =

@@ -12,16 +12,16 @@ use Rattle.std.proofs.lemmas.List.{append-nil, take_more, take_all, length-map, 
 use Rattle.std.proofs.lemmas.Option.{slice_get-get_or, slice_get_within, get_or_from_slice_get}
 use Rattle.rubis_schema.specs.Keys.{home}
 use Rattle.rubis_schema.specs.declared.ids.Id.{Id}
-use Rattle.rubis_shadow.specs.Parts.{parts}
 use Rattle.rubis_shadow.specs.declared.changes.Effect.{Effect}
 use Rattle.rubis_shadow.specs.declared.numbered.Numbered.{Numbered}
-use Rattle.rubis_shadow.specs.declared.shadows.Shadow.{Shadow}
 use Rattle.rubis_shadow.proofs.Lists.{few_parts}
 use Rattle.rubis_message.specs.Message.{Message}
 use Rattle.rubis_model.specs.Log.{Core, core, cores, number_parts, numbered_from, parts_of}
 use Rattle.rubis_model.proofs.CoreLists.{cores_push}
 use Rattle.rubis_model.proofs.Shares.{numbered_append}
+use Rattle.rubis_shard.specs.Entries.{core_of, numbered_of}
 use Rattle.rubis_shard.specs.Holdings.{parts_at}
+use Rattle.rubis_shard.specs.declared.entries.LogEntry.{LogEntry}
 use Rattle.rubis_shard.specs.declared.shares.Share.{Share}
 use Rattle.rubis_shard.proofs.Folds.{not_equal}
 use Rattle.rubis_shard.proofs.Parts.{parts_at_append}
@@ -129,18 +129,17 @@ pub place_past : (shards entry i : ℕ) (id : Id) (es : List Effect) (a l : List
     → IsDealtTo shards (number_parts entry 1 id (take (i + 1) es)) a l
 place_past shards entry i id es a l there inv = subst (λ ps. IsDealtTo shards ps a l) (sym (no_part entry i id es there)) inv
 
-all_places : (id : Id) (red : ℕ) (s : Shadow) → take 3 (parts id red s) ≡ parts id red s
-all_places id red s = take_all 3 (parts id red s) (few_parts id red s)
+all_places : (m : Core) (i : ℕ) → i ≡ 3 → take i (parts_of m) ≡ parts_of m
+all_places m i end = ap (λ n. take n (parts_of m)) end ∙ take_all 3 (parts_of m) (few_parts m.id m.red m.shadow)
 
-pub message_end : (shards entry red i : ℕ) (id : Id) (s : Shadow) (a l : List Share) → i ≡ 3
-    → IsDealtTo shards (number_parts entry 1 id (take i (parts id red s))) a l
-    → IsDealtTo shards (number_parts entry 1 id (parts id red s)) a l
-message_end shards entry red i id s a l end inv =
-    subst (λ fs. IsDealtTo shards (number_parts entry 1 id fs) a l) (ap (λ n. take n (parts id red s)) end
-    ∙ all_places id red s) inv
+pub message_end : (shards entry i : ℕ) (m : Core) (a l : List Share) → i ≡ 3
+    → IsDealtTo shards (number_parts entry 1 m.id (take i (parts_of m))) a l
+    → IsDealtTo shards (number_parts entry 1 m.id (parts_of m)) a l
+message_end shards entry i m a l end inv =
+    subst (λ fs. IsDealtTo shards (number_parts entry 1 m.id fs) a l) (all_places m i end) inv
 
 -- ---- the parts of one message whose home is one shard
--- behind some effects, the parts before a place whose home it is
+-- after some effects, the parts before a place whose home it is
 abbrev pub IsTakenTo : ℕ → ℕ → List Numbered → List Numbered → List Numbered → Type 0
 IsTakenTo shards k ps a b = b ≡ a ++ parts_at shards k ps
 
@@ -170,44 +169,43 @@ pub take_past : (shards k entry i : ℕ) (id : Id) (es : List Effect) (a l : Lis
 take_past shards k entry i id es a l there inv = inv
     ∙ ap (λ ps. a ++ parts_at shards k ps) (sym (no_part entry i id es there))
 
-pub take_end : (shards k entry red i : ℕ) (id : Id) (s : Shadow) (a l : List Numbered) → i ≡ 3
-    → IsTakenTo shards k (number_parts entry 1 id (take i (parts id red s))) a l
-    → IsTakenTo shards k (number_parts entry 1 id (parts id red s)) a l
-take_end shards k entry red i id s a l end inv = inv
-    ∙ ap (λ fs. a ++ parts_at shards k (number_parts entry 1 id fs)) (ap (λ n. take n (parts id red s)) end ∙ all_places id red s)
+pub take_end : (shards k entry i : ℕ) (m : Core) (a l : List Numbered) → i ≡ 3
+    → IsTakenTo shards k (number_parts entry 1 m.id (take i (parts_of m))) a l
+    → IsTakenTo shards k (number_parts entry 1 m.id (parts_of m)) a l
+take_end shards k entry i m a l end inv = inv
+    ∙ ap (λ fs. a ++ parts_at shards k (number_parts entry 1 m.id fs)) (all_places m i end)
 
 -- ---- the messages of a batch
 -- one message more
-more_messages : (first i entry : ℕ) (batch : List Message) (x : Message) (ps : List Numbered) → i < length batch
-    → x ≡ get_or batch i x → entry ≡ first + i → ps ≡ number_parts entry 1 (core x).id (parts_of (core x))
-    → numbered_from first (cores (take (i + 1) batch)) ≡ numbered_from first (cores (take i batch)) ++ ps
-more_messages first i entry batch x ps lt got counted is =
+more_messages : (first i : ℕ) (batch : List Message) (x : Message) (m : LogEntry) → i < length batch
+    → x ≡ get_or batch i x → m.number ≡ first + i → core_of m ≡ core x
+    → numbered_from first (cores (take (i + 1) batch)) ≡ numbered_from first (cores (take i batch)) ++ numbered_of m
+more_messages first i batch x m lt got counted is =
     let long : length (cores (take i batch)) ≡ i = length-map (take i batch) core ∙ length-take-le i batch (omega (arith, lt)) in
-    let z : first + length (cores (take i batch)) ≡ entry = omega (arith, long, counted) in
+    let z : first + length (cores (take i batch)) ≡ m.number = omega (arith, long, counted) in
     ap (λ ms. numbered_from first (cores ms)) (take_more batch i x lt ∙ ap (λ y. take i batch ++ y ∷ []) (sym got))
-    ∙ ap (numbered_from first) (cores_push (take i batch) x)
-    ∙ numbered_append first (cores (take i batch)) (core x ∷ [])
-    ∙ (λ j. numbered_from first (cores (take i batch)) ++ (number_parts (z j) 1 (core x).id (parts_of (core x)) ++ []))
-    ∙ ap (λ qs. numbered_from first (cores (take i batch)) ++ qs) (append-nil _ ∙ sym is)
+    ∙ ap (numbered_from first) (cores_push (take i batch) x ∙ ap (λ c. cores (take i batch) ++ c ∷ []) (sym is))
+    ∙ numbered_append first (cores (take i batch)) (core_of m ∷ [])
+    ∙ (λ j. numbered_from first (cores (take i batch)) ++ (number_parts (z j) 1 m.id (parts_of (core_of m)) ++ []))
+    ∙ ap (λ qs. numbered_from first (cores (take i batch)) ++ qs) (append-nil (numbered_of m))
 
-pub split_turn : (shards first i entry m : ℕ) (batch : List Message) (x : Message) (ps : List Numbered) (l b : List Share)
-    → m ≡ shards → i < length batch
-    → x ≡ get_or batch i x → entry ≡ first + i → ps ≡ number_parts entry 1 (core x).id (parts_of (core x))
-    → AreDealt shards (numbered_from first (cores (take i batch))) l → IsDealtTo m ps l b
+pub split_turn : (shards first i many : ℕ) (batch : List Message) (x : Message) (m : LogEntry) (l b : List Share)
+    → many ≡ shards → i < length batch → x ≡ get_or batch i x → m.number ≡ first + i → core_of m ≡ core x
+    → AreDealt shards (numbered_from first (cores (take i batch))) l → IsDealtTo many (numbered_of m) l b
     → AreDealt shards (numbered_from first (cores (take (i + 1) batch))) b
-split_turn shards first i entry m batch x ps l b same lt got counted is h turn =
-    subst (λ qs. AreDealt shards qs b) (sym (more_messages first i entry batch x ps lt got counted is))
-    (subst (λ k. IsDealtTo k ps l b) same turn _ h)
+split_turn shards first i many batch x m l b same lt got counted is h turn =
+    subst (λ qs. AreDealt shards qs b) (sym (more_messages first i batch x m lt got counted is))
+    (subst (λ k. IsDealtTo k (numbered_of m) l b) same turn _ h)
 
 -- one shard's parts of one message more
-pub share_turn : (shards k first i entry : ℕ) (batch : List Message) (x : Message) (ps l b : List Numbered) → i < length batch
-    → x ≡ get_or batch i x → entry ≡ first + i → ps ≡ number_parts entry 1 (core x).id (parts_of (core x))
-    → l ≡ parts_at shards k (numbered_from first (cores (take i batch))) → IsTakenTo shards k ps l b
+pub share_turn : (shards k first i : ℕ) (batch : List Message) (x : Message) (m : LogEntry) (l b : List Numbered)
+    → i < length batch → x ≡ get_or batch i x → m.number ≡ first + i → core_of m ≡ core x
+    → l ≡ parts_at shards k (numbered_from first (cores (take i batch))) → IsTakenTo shards k (numbered_of m) l b
     → b ≡ parts_at shards k (numbered_from first (cores (take (i + 1) batch)))
-share_turn shards k first i entry batch x ps l b lt got counted is h turn =
-    turn ∙ ap (λ qs. qs ++ parts_at shards k ps) h
-    ∙ sym (parts_at_append shards k (numbered_from first (cores (take i batch))) ps)
-    ∙ ap (parts_at shards k) (sym (more_messages first i entry batch x ps lt got counted is))
+share_turn shards k first i batch x m l b lt got counted is h turn =
+    turn ∙ ap (λ qs. qs ++ parts_at shards k (numbered_of m)) h
+    ∙ sym (parts_at_append shards k (numbered_from first (cores (take i batch))) (numbered_of m))
+    ∙ ap (parts_at shards k) (sym (more_messages first i batch x m lt got counted is))
 
 -- ---- the shares made one by one
 pub shares_of_each : (shards first : ℕ) (batch : List Core) (shares : List Share)

@@ -5,3 +5,4 @@ pub mod Folded
 pub mod Order
 pub mod Finishing
 pub mod Counting
+pub mod Numbers

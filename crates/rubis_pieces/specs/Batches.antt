@@ -64,7 +64,7 @@ pub record HoldsBut (shards : ℕ) (log : List Core) (left : List Left) (ts : Li
   pub each : (k : ℕ) → k < shards → (s : ShardState) × (slice_get ts k ≡ Some s)
       × (with_parts s (rest_of left k) ≡ shard_of_log shards log k)
 
--- shards that hold a log come to hold it with the batch behind it, but for what is left
+-- shards that hold a log come to hold it with the batch after it, but for what is left
 abbrev pub TakesBatch : ℕ → List Core → List ShardState → List ShardState → List Left → Type 0
 TakesBatch first batch old new left =
     (shards : ℕ) (log : List Core) → first ≡ 1 + length log → HoldsLog shards log old → HoldsBut shards (log ++ batch) left new

@@ -1,5 +1,5 @@
--- The pieces that are posted and not yet taken, as one moves after the other. What is on the running board, and what the
--- schedule machine has posted, changes by these moves and no others.
+-- How the list of pieces that are posted and not yet taken changes, move by move. The pieces on the running board, and
+-- those that the schedule machine has posted, change by these moves and no others.
 use Rattle.std.specs.Prelude.{◌≡◌, List, [], ◌∷◌, ◌++◌}
 use Rattle.rubis_pieces.specs.declared.pieces.Piece.{Piece}
 
@@ -8,7 +8,7 @@ pub data Move : Type 0 where
   Posted : Piece → Move
   Taken : Piece → Move
 
--- a posted piece stands last, and the first one is taken
+-- one move: a posted piece is appended, and a taken piece was the first
 abbrev pub Moves : List Piece → Move → List Piece → Type 0
 Moves before (Posted p) after = after ≡ before ++ p ∷ []
 Moves before (Taken p) after = before ≡ p ∷ after

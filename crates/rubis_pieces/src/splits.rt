@@ -1,16 +1,16 @@
 ghost use Rattle.std.specs.Prelude.{◌≡◌, ◌+◌, ◌<◌, ◌≤◌, List, ◌∷◌, [], ◌++◌, length, IfOk, OnOk};
 ghost use Rattle.rubis_shadow.specs.declared.numbered.Numbered.{Numbered};
-ghost use Rattle.rubis_shadow.specs.Parts.{parts};
-ghost use Rattle.rubis_model.specs.Log.{cores, number_parts, numbered_from};
+ghost use Rattle.rubis_model.specs.Log.{cores, numbered_from};
+ghost use Rattle.rubis_shard.specs.Entries.{numbered_of};
 ghost use Rattle.rubis_shard.specs.Holdings.{parts_at};
 ghost use Rattle.rubis_pieces.specs.Shares.{AreDealt, AreShares, share_at};
 
 use rayon::current_num_threads;
 use rayon::prelude::*;
 use rubis_message::Message;
-use rubis_schema::{Id, Items, shard_of};
-use rubis_shadow::{Numbered, Shadow};
-use rubis_shard::Share;
+use rubis_schema::{Items, shard_of};
+use rubis_shadow::Numbered;
+use rubis_shard::{LogEntry, Share};
 use std::alloc::{AllocError, Global};
 use std::thread::Threads;
 
@@ -31,29 +31,23 @@ fn deal(list: &mut Vec<Share>, part: Numbered) -> Result<(), AllocError>
     Ok(())
 }
 
-// Puts each part of a message, which is that entry of the log, last in the share of its home.
-fn deal_message(
-    list: &mut Vec<Share>,
-    entry: u32,
-    id: Id,
-    red: u32,
-    shadow: &Shadow,
-) -> Result<(), AllocError>
+// Puts each part of a message last in the share of its home.
+fn deal_message(list: &mut Vec<Share>, entry: &LogEntry<'_>) -> Result<(), AllocError>
     requires { 0 < length list.old.items }
     ensures many { length list.new.items ≡ length list.old.items }
-    ensures dealt { OnOk result ((ns : List Numbered) → AreDealt (length list.old.items) ns list.old.items → AreDealt (length list.old.items) (ns ++ number_parts entry 1 id (parts id red shadow.now)) list.new.items) }
+    ensures dealt { OnOk result ((ns : List Numbered) → AreDealt (length list.old.items) ns list.old.items → AreDealt (length list.old.items) (ns ++ numbered_of entry.now) list.new.items) }
 {
     for place in 0..3 {
-        let Some(effect) = shadow.effect(id, red, place) else {
+        let Some(effect) = entry.shadow.effect(entry.id, entry.red, place) else {
             continue;
         };
         let effect = effect.own(*list.allocator())?;
         deal(
             list,
             Numbered {
-                entry,
+                entry: entry.number,
                 part: place + 1,
-                id,
+                id: entry.id,
                 effect,
             },
         )?;
@@ -82,8 +76,7 @@ pub fn split_alone(
     }
     let mut entry = first;
     for message in batch {
-        let stamp = message.stamp();
-        deal_message(&mut list, entry, stamp.id, stamp.red, message.shadow())?;
+        deal_message(&mut list, &LogEntry::new(entry, message))?;
         entry += 1;
     }
     Ok(list)
@@ -94,16 +87,13 @@ fn take_parts(
     effects: &mut Vec<Numbered>,
     shards: usize,
     number: usize,
-    entry: u32,
-    id: Id,
-    red: u32,
-    shadow: &Shadow,
+    entry: &LogEntry<'_>,
 ) -> Result<(), AllocError>
     requires { 0 < shards }
-    ensures { OnOk result (effects.new.items ≡ effects.old.items ++ parts_at shards number (number_parts entry 1 id (parts id red shadow.now))) }
+    ensures { OnOk result (effects.new.items ≡ effects.old.items ++ parts_at shards number (numbered_of entry.now)) }
 {
     for place in 0..3 {
-        let Some(effect) = shadow.effect(id, red, place) else {
+        let Some(effect) = entry.shadow.effect(entry.id, entry.red, place) else {
             continue;
         };
         if shard_of(&effect.key(), shards) != number {
@@ -111,9 +101,9 @@ fn take_parts(
         }
         let effect = effect.own(*effects.allocator())?;
         effects.push(Numbered {
-            entry,
+            entry: entry.number,
             part: place + 1,
-            id,
+            id: entry.id,
             effect,
         })?;
     }
@@ -134,17 +124,8 @@ fn share_of(
 {
     let mut effects = Vec::with_capacity(alloc, batch.len() / shards * PARTS_ROOM)?;
     for place in 0..batch.len() {
-        let message = &batch[place];
-        let stamp = message.stamp();
-        take_parts(
-            &mut effects,
-            shards,
-            number,
-            first + place as u32,
-            stamp.id,
-            stamp.red,
-            message.shadow(),
-        )?;
+        let entry = LogEntry::new(first + place as u32, &batch[place]);
+        take_parts(&mut effects, shards, number, &entry)?;
     }
     Ok(Share {
         number,

@@ -27,7 +27,7 @@ opens workers =
       returned_whole = All-nil IsWhole;
     }
 
--- what is put behind the first of two lists is put behind both
+-- what is put after the first of two lists is put after both
 between : (a b c : List Piece) → IsPermutation ((a ++ b) ++ c) ((a ++ c) ++ b)
 between a b c =
     subst (λ (y : List Piece × List Piece). IsPermutation y.0 y.1) (λ i. (sym (append_assoc a b c) i, sym (append_assoc a c b) i))

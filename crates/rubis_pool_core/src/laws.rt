@@ -10,7 +10,7 @@ pub fn every_schedule_accounts()
     ensures steps { StepsAccount }
 {}
 
-/// Where the pieces are those of shards that hold a log, with the shares of a batch behind it: once all are returned, by
+/// Where the pieces are those of shards that hold a log, with the shares of a batch after it: once all are returned, by
 /// whatever schedule, the shards at their numbers hold the log with the batch, and no part of a share is left.
 pub fn every_schedule_folds_the_batch()
     ensures { EveryScheduleFoldsTheBatch }

@@ -52,7 +52,7 @@ impl Pool {
         })
     }
 
-    // A machine to which just these pieces were posted, in order, and no more may be.
+    // A machine to which exactly these pieces were posted, in order, and no more may be.
     pub(crate) fn with_posted(
         alloc: Global,
         workers: usize,

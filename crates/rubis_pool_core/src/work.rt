@@ -6,7 +6,7 @@ use rubis_pieces::{Done, Piece};
 use std::alloc::AllocError;
 use std::marker::Model;
 
-// A piece that a worker holds. Contracts see it as what is done of it.
+// A piece that a worker holds. Contracts see it as a `Done`: shard, share, and how many parts of the share are folded.
 #[derive(Drop)]
 pub struct Work {
     done: Done,
@@ -47,7 +47,7 @@ impl Work {
         self.done.done >= self.done.share.effects.len()
     }
 
-    // Folds the next part on, and says whether there was one.
+    // Folds the next part of the share on the shard, and returns whether there was one.
     pub fn apply_next(&mut self) -> Result<bool, AllocError>
         ensures possible { IfOk result (λ did. did ≡ is_some (next_part self.old)) }
         ensures next { OnOk result (self.new ≡ or_one_part_more self.old (next_part self.old)) }

@@ -2,7 +2,7 @@
 use Rattle.std.proofs.Common.{◌≡◌, ℕ, zero, suc, ◌+◌, ◌<◌, ◌≤◌, ◌||◌, Bool, true, false, cond, List, [], ◌∷◌, ◌++◌, length, get_or, refl, sym, ap, ◌∙◌, subst, inl, inr, arith, length-append}
 use Rattle.std.specs.Prelude.{Option, None, Some, filter, is_some, slice_get, ◌⊎◌}
 use Rattle.std.specs.List.{remove, AllByRecursion, IsDistinct, list_any}
-use Rattle.std.proofs.lemmas.List.{get_or_append_left}
+use Rattle.std.proofs.lemmas.List.{get_or_append_left, get_or_at}
 use Rattle.indexmap.specs.IndexMap.{insert_entry, set_value_at}
 use Rattle.rubis_schema.specs.declared.ids.Id.{Id}
 use Rattle.rubis_clock.specs.Clocks.{MessageCounts, IsReady}
@@ -56,7 +56,7 @@ somes_append (e ∷ es) fs = put e.1 (somes_append es fs)
 emptied : Id × Option Message → Slots → Slots
 emptied x es = (x.0, None) ∷ es
 
--- the slots before and behind one
+-- the slots before and after one
 pub record IsSplit (es : Slots) (at : ℕ) (k : Id) (m : Message) : Type 0 where
   pub front : Slots
   pub back : Slots
@@ -78,10 +78,6 @@ split_slots (e ∷ es) (suc i) k m there =
 at_middle : (xs ys : List Message) (m : Message) → slice_get (xs ++ m ∷ ys) (length xs) ≡ Some m
 at_middle [] ys m = refl
 at_middle (x ∷ xs) ys m = at_middle xs ys m
-
-read_middle : (xs ys : List Message) (m d : Message) → get_or (xs ++ m ∷ ys) (length xs) d ≡ m
-read_middle [] ys m d = refl
-read_middle (x ∷ xs) ys m d = read_middle xs ys m d
 
 without_middle : (xs ys : List Message) (m : Message) → remove (xs ++ m ∷ ys) (length xs) ≡ xs ++ ys
 without_middle [] ys m = refl
@@ -113,7 +109,7 @@ taken_first clock es n at k m among there first =
       at = length xs;
       first = subst (λ ms. IsFirst clock ms (length xs)) (sym old) (record {
         within = let more = length-append xs (m ∷ ys) in omega (arith, more);
-        ready = λ d. subst (λ (x : Message). IsReady clock x.stamp) (sym (read_middle xs ys m d)) ready;
+        ready = λ d. subst (λ (x : Message). IsReady clock x.stamp) (sym (get_or_at xs m ys d (length xs) refl)) ready;
         first = λ j d l r.
             let x = get_or xs j d in
             let f = slot_of h.front x (has_there xs j d l) in
@@ -148,10 +144,6 @@ slots_stay es at gone k m there slots =
     record { own = ids_stay es at slots.own; gone = omega (arith, slots.gone, old, new, all, left) }
 
 -- ---- empty slots go
-pub no_somes : (ms : List Message) → length ms ≡ 0 → ms ≡ []
-no_somes [] e = refl
-no_somes (m ∷ ms) e = absurd (omega (arith, e))
-
 pub somes_kept : (es : Slots) → somes (filter (λ e. is_some e.1) es) ≡ somes es
 somes_kept [] = refl
 somes_kept (e ∷ es) = by e.1 refl (somes_kept es)

@@ -3,7 +3,7 @@ use Rattle.std.proofs.Common.{◌≡◌, ◌≢◌, ℕ, ◌+◌, ◌<◌, ◌�
 use Rattle.std.specs.Prelude.{reverse, nat_lt, nat_le}
 use Rattle.std.specs.List.{list_any}
 use Rattle.std.proofs.lemmas.Bool.{cases_eq, or_parts, or_cases, eq-eqb, and_from, lt-ltb, le-leb, leb-true, leb-false}
-use Rattle.std.proofs.lemmas.List.{length-append}
+use Rattle.std.proofs.lemmas.List.{length-append, length_push}
 use mathlib.Core.Bool.{true≢false}
 use Rattle.rubis_schema.specs.declared.ids.Id.{Id}
 use Rattle.rubis_schema.specs.Keys.{same_id}
@@ -63,13 +63,6 @@ released_more log m h r = subst Released (sym (reverse_push log m)) (ready_newes
 pub among_more : (n : ℕ) (xs : List Message) (m : Message) → AllAmong n xs → IsAmong n m → AllAmong n (xs ++ m ∷ [])
 among_more n xs m all a x h = ⊎_elim (λ k. all x k) (λ e. subst (IsAmong n) (sym e) a) (push_cases x m xs h)
 
-pub length_push : (xs : List Message) (m : Message) → length (xs ++ m ∷ []) ≡ length xs + 1
-length_push xs m = length-append xs (m ∷ [])
-
-length_middle : (m : Message) (front back : List Message) → length (front ++ m ∷ back) ≡ length (front ++ back) + 1
-length_middle m [] back = omega arith
-length_middle m (y ∷ front) back = let e = length_middle m front back in omega arith
-
 still_unreleased : (log : List Message) (m u : Message) → Ready log m → counted u.stamp.id.site log < u.stamp.id.seq → message_id u ≢ message_id m → counted u.stamp.id.site (log ++ m ∷ []) < u.stamp.id.seq
 still_unreleased log m u r l n = ⊎_elim
     (λ e.
@@ -82,7 +75,7 @@ still_unreleased log m u r l n = ⊎_elim
 -- ---- a waiting message is released
 release_keeps : (p : Place) (log front back : List Message) (m : Message) → AreKept p log (front ++ m ∷ back) → Ready log m → AreKept p (log ++ m ∷ []) (front ++ back)
 release_keeps p log front back m k r = record {
-  few = omega (arith, k.few, length_push log m, length_middle m front back);
+  few = omega (arith, k.few, length_push log m, length-append front (m ∷ back), length-append front back);
   log_sites = among_more p.sites log m k.log_sites (k.waiting_sites m (has_middle m front back));
   waiting_sites = λ x h. k.waiting_sites x (has_more x m front back h);
   released = released_more log m k.released r;
@@ -94,11 +87,6 @@ release_keeps p log front back m k r = record {
 pub settling_keeps : (p : Place) (log waiting log' waiting' : List Message) → AreKept p log waiting → Settles log waiting log' waiting' → AreKept p log' waiting'
 settling_keeps p _ _ _ _ k (Rest log waiting h) = k
 settling_keeps p _ _ _ _ k (Release log front back log' waiting' m h r s) = settling_keeps p (log ++ m ∷ []) (front ++ back) log' waiting' (release_keeps p log front back m k r) s
-
--- together they stay as many
-pub settling_length : (log waiting log' waiting' : List Message) → Settles log waiting log' waiting' → length log' + length waiting' ≡ length log + length waiting
-settling_length _ _ _ _ (Rest log waiting h) = refl
-settling_length _ _ _ _ (Release log front back log' waiting' m h r s) = let e = settling_length (log ++ m ∷ []) (front ++ back) log' waiting' s in omega (arith, e, length_push log m, length_middle m front back)
 
 pub settling_longer : (log waiting log' waiting' : List Message) → Settles log waiting log' waiting' → length log ≤ length log'
 settling_longer _ _ _ _ (Rest log waiting h) = omega arith

@@ -1,5 +1,5 @@
 -- The message that a site makes.
-use Rattle.std.proofs.Common.{◌≡◌, ◌≢◌, ℕ, ◌+◌, ◌<◌, ◌≤◌, ◌==◌, Bool, true, false, cond, Option, Some, None, List, [], ◌∷◌, ◌++◌, length, get_or, refl, sym, ap, ◌∙◌, subst, inl, inr, ⊎_elim, arith}
+use Rattle.std.proofs.Common.{◌≡◌, ◌≢◌, ℕ, ◌+◌, ◌<◌, ◌≤◌, ◌==◌, Bool, true, false, cond, Option, Some, None, List, [], ◌∷◌, ◌++◌, length, refl, sym, ap, ◌∙◌, subst, inl, inr, ⊎_elim, arith}
 use Rattle.std.specs.Prelude.{nat_lt, unwrap_or, option_map, ◌⊎◌}
 use Rattle.std.specs.Option.{option_map_or}
 use Rattle.std.proofs.lemmas.Bool.{eqb-true, leb-false, lt-ltb, cases_lt}
@@ -11,7 +11,6 @@ use Rattle.rubis_shadow.specs.Limits.{InLimits}
 use Rattle.rubis_shadow.specs.Shadows.{is_red, colour_of}
 use Rattle.rubis_shadow.specs.declared.shadows.Shadow.{Shadow}
 use Rattle.rubis_shadow.specs.declared.shadows.Colour.TheVariants.{Red, Blue}
-use Rattle.rubis_clock.specs.Clocks.{MessageCounts}
 use Rattle.rubis_clock.specs.declared.stamps.Stamp.{Stamp}
 use Rattle.rubis_message.specs.Message.{Message, IsMessage, sites_of, dep}
 use Rattle.rubis_model.specs.Settle.{counted, reds, settle, Ready, Settles}
@@ -21,23 +20,18 @@ use Rattle.rubis_release.specs.Release.{IsAmong, AreKept}
 use Rattle.rubis_release.specs.Intake.{Intake, IsIntake, IsUpToDate}
 use Rattle.rubis_release.proofs.Counting.{length_counts, counts_at}
 use Rattle.rubis_release.proofs.Keeping.{settling_keeps, making_keeps}
-use Rattle.rubis_release.proofs.Intakes.{count_is}
+
+at_most_one : (b : Bool) → cond {A = ℕ} b 1 0 ≤ 1
+at_most_one true = omega arith
+at_most_one false = omega arith
 
 pub counted_few : (j : ℕ) (log : List Message) → counted j log ≤ length log
 counted_few j [] = omega arith
 counted_few j (m ∷ log) = let l = counted_few j log in let o = at_most_one (m.stamp.id.site == j) in omega (arith, l, o)
-  where
-    at_most_one : (b : Bool) → cond {A = ℕ} b 1 0 ≤ 1
-    at_most_one true = omega arith
-    at_most_one false = omega arith
 
 pub reds_few : (log : List Message) → reds log ≤ length log
 reds_few [] = omega arith
 reds_few (m ∷ log) = let l = reds_few log in let o = at_most_one (nat_lt 0 m.stamp.red) in omega (arith, l, o)
-  where
-    at_most_one : (b : Bool) → cond {A = ℕ} b 1 0 ≤ 1
-    at_most_one true = omega arith
-    at_most_one false = omega arith
 
 pub room_left : (i : Intake) → IsIntake i → is_full i.place.keep i.state ≡ false → length i.state.log + length i.state.waiting < i.place.keep
 room_left i h e = leb-false i.place.keep (length i.state.log + length i.state.waiting) e
@@ -92,13 +86,9 @@ pub record MayMake (i : Intake) (x : Shadow) : Type 0 where
   pub right : is_red x ≡ true → is_current i.state ≡ true
   pub limits : InLimits i.place.sites x
 
-pub built : (i : Intake) (k : MessageCounts) (n : ℕ) (x : Shadow) → IsUpToDate i k n → (count red : ℕ) (deps : List ℕ) → count ≡ get_or k.counts i.place.site 0 → deps ≡ k.counts → red ≡ red_for x i.state.held
-    → record { id = record { site = i.place.site; seq = count + 1 }; red = red; deps = deps } ≡ (made i.place i.state x).stamp
-built i k n x h count red deps c d r = λ j. record {
-  id = record { site = i.place.site; seq = (c ∙ count_is i k n h i.place.site h.conditions.site) j + 1 };
-  red = r j;
-  deps = (d ∙ ap (λ (y : MessageCounts). y.counts) h.clock) j;
-}
+pub built : (p : Place) (s : Replica) (x : Shadow) (count red : ℕ) (deps : List ℕ) → count ≡ counted p.site s.log → deps ≡ counts p.sites s.log → red ≡ red_for x s.held
+    → record { id = record { site = p.site; seq = count + 1 }; red = red; deps = deps } ≡ (made p s x).stamp
+built p s x count red deps c d r = λ j. record { id = record { site = p.site; seq = c j + 1 }; red = r j; deps = d j }
 
 pub made_dep : (i : Intake) (x : Shadow) (j : ℕ) → j < i.place.sites → dep (made i.place i.state x) j ≡ counted j i.state.log
 made_dep i x j l = counts_at i.place.sites i.state.log j l
@@ -135,9 +125,9 @@ made_is_message i x h full right limits = record {
     size : sites_of (made i.place i.state x) ≡ i.place.sites
     size = length_counts i.place.sites i.state.log
 
-pub made_kept : (i : Intake) (k : MessageCounts) (n : ℕ) (x : Shadow) (m : Message) (log waiting : List Message) → IsUpToDate i k n → is_full i.place.keep i.state ≡ false → (is_red x ≡ true → is_current i.state ≡ true) → m ≡ made i.place i.state x
+pub made_kept : (i : Intake) (n : ℕ) (x : Shadow) (m : Message) (log waiting : List Message) → IsUpToDate i n → is_full i.place.keep i.state ≡ false → (is_red x ≡ true → is_current i.state ≡ true) → m ≡ made i.place i.state x
     → Settles (i.state.log ++ m ∷ []) i.state.waiting log waiting → AreKept i.place log waiting
-made_kept i k n x m log waiting h full right e s =
+made_kept i n x m log waiting h full right e s =
     settling_keeps i.place (i.state.log ++ made i.place i.state x ∷ []) i.state.waiting log waiting
     (making_keeps i.place i.state.log i.state.waiting (made i.place i.state x) h.conditions.kept (room_left i h.conditions full) refl (made_among i x h.conditions full) (made_is_ready i x right))
     (subst (λ u. Settles (i.state.log ++ u ∷ []) i.state.waiting log waiting) e s)

@@ -3,6 +3,7 @@ use Rattle.std.proofs.Common.{◌≡◌, ℕ, zero, suc, ◌+◌, ◌<◌, ◌�
 use Rattle.std.specs.Prelude.{Option, None, Some, slice_get, slice_index, min, ◌⊎◌}
 use Rattle.std.specs.List.{AllByRecursion, IsDistinct}
 use Rattle.std.specs.Map.{keys_of, lookup, lookup_key}
+use Rattle.std.proofs.lemmas.Bool.{cases_lt}
 use mathlib.Core.Bool.{true≢false}
 use Rattle.rubis_schema.specs.Keys.{same_id}
 use Rattle.rubis_schema.specs.KeyLaws.{Decides-same_id}
@@ -62,18 +63,10 @@ slot_own (e ∷ es) (suc i) k m own there = slot_own es i k m own.1 there
 
 -- ---- the first of more sites
 below_or : (j site : ℕ) → j < site + 1 → (j < site) ⊎ (j ≡ site)
-below_or zero zero l = inr refl
-below_or zero (suc n) l = inl (omega arith)
-below_or (suc j) zero l = absurd (omega (arith, l))
-below_or (suc j) (suc n) l = ⊎_elim (λ b. inl (omega (arith, b))) (λ e. inr (ap suc e)) (below_or j n (omega (arith, l)))
-
-le_or : (a b : ℕ) → (a ≤ b) ⊎ (b ≤ a)
-le_or zero b = inl (omega arith)
-le_or (suc a) zero = inr (omega arith)
-le_or (suc a) (suc b) = ⊎_elim (λ l. inl (omega (arith, l))) (λ l. inr (omega (arith, l))) (le_or a b)
+below_or j site l = ⊎_elim (λ b. inl b) (λ h. inr (omega (arith, l, h))) (cases_lt j site)
 
 min_is : (a b : ℕ) → (min a b ≡ a) ⊎ (min a b ≡ b)
-min_is a b = ⊎_elim (λ l. inl (omega (arith, l))) (λ l. inr (omega (arith, l))) (le_or a b)
+min_is a b = ⊎_elim (λ l. inl (omega (arith, l))) (λ l. inr (omega (arith, l))) (cases_lt a b)
 
 module _ (clock : MessageCounts) (es : Slots) (site : ℕ) where
   one_of : (a b c : ℕ) → (c ≡ a) ⊎ (c ≡ b) → IsReadySlot clock es a → IsReadySlot clock es b → IsReadySlot clock es c

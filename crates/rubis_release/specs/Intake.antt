@@ -1,6 +1,5 @@
 -- What a site has taken in.
-use Rattle.std.specs.Prelude.{◌≡◌, ℕ, ◌+◌, ◌<◌, ◌≤◌, length}
-use Rattle.rubis_clock.specs.Clocks.{MessageCounts}
+use Rattle.std.specs.Prelude.{◌≡◌, ℕ, ◌<◌, ◌≤◌}
 use Rattle.rubis_model.specs.Site.{Place, Replica}
 use Rattle.rubis_release.specs.Release.{clock_of, AreKept, NoneReady}
 
@@ -17,9 +16,8 @@ pub record IsIntake (i : Intake) : Type 0 where
   pub keep : i.place.keep ≤ 1000000
   pub kept : AreKept i.place i.state.log i.state.waiting
 
--- the clock counts its log, which has room for all that waits, and nothing that waits is ready
-pub record IsUpToDate (i : Intake) (c : MessageCounts) (capacity : ℕ) : Type 0 where
+-- its messages are of as many sites as it has, and none that waits is ready
+pub record IsUpToDate (i : Intake) (of : ℕ) : Type 0 where
   pub conditions : IsIntake i
-  pub clock : c ≡ clock_of i.place.sites i.state.log
-  pub room : length i.state.log + length i.state.waiting ≤ capacity
-  pub settled : NoneReady c i.state.waiting
+  pub sites : of ≡ i.place.sites
+  pub settled : NoneReady (clock_of of i.state.log) i.state.waiting

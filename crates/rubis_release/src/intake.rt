@@ -11,8 +11,7 @@ ghost use Rattle.rubis_release.specs.Answers.{IsFaultOf, IsAdmitted};
 
 mod tokens;
 
-use crate::settling::{release, take_in};
-use crate::waiting::Waiting;
+use crate::messages::Messages;
 use rubis_clock::{Clock, Stamp};
 use rubis_generate::Standing;
 use rubis_message::{Arrival, Message};
@@ -51,12 +50,7 @@ impl From<AllocFailed<Message>> for IntakeFault {
 /// What a site has taken in: the log of released messages, those that wait, and the token.
 #[derive(Drop)]
 pub struct Intake {
-    // It has room for all that wait.
-    log: Vec<Message>,
-    waiting: Waiting,
-    // What the waiting messages are hashed by.
-    hashes: Hashes,
-    clock: Clock,
+    messages: Messages,
     // How many red numbers were issued, if the site holds the token.
     held: Option<u32>,
     // The greatest turn that the site took.
@@ -67,15 +61,14 @@ pub struct Intake {
 }
 
 impl Model for Intake {
-    ghost use Rattle.std.specs.Prelude.{vec_capacity};
     ghost use Rattle.rubis_release.specs.Intake as model;
     ghost use Rattle.rubis_release.specs.Intake.{IsUpToDate};
 
     ghost Value = { model.Intake };
 
-    ghost view = { λ s. record { place = record { site = s.site; sites = s.sites; keep = s.keep }; state = record { log = s.log.items; waiting = s.waiting; held = s.held; last = s.last } } };
+    ghost view = { λ s. record { place = record { site = s.site; sites = s.sites; keep = s.keep }; state = record { log = s.messages.log; waiting = s.messages.waiting; held = s.held; last = s.last } } };
 
-    ghost invariant = { λ s. IsUpToDate (record { place = record { site = s.site; sites = s.sites; keep = s.keep }; state = record { log = s.log.items; waiting = s.waiting; held = s.held; last = s.last } }) s.clock (vec_capacity s.log) };
+    ghost invariant = { λ s. IsUpToDate (record { place = record { site = s.site; sites = s.sites; keep = s.keep }; state = record { log = s.messages.log; waiting = s.messages.waiting; held = s.held; last = s.last } }) s.messages.sites };
 }
 
 impl Intake {
@@ -106,10 +99,7 @@ impl Intake {
         ensures { IfOk result (λ intake. intake ≡ record { place = record { site = site; sites = sites; keep = keep }; state = opening_at site }) }
     {
         Ok(Intake {
-            log: Vec::new(alloc),
-            waiting: Waiting::new(alloc, hashes),
-            hashes,
-            clock: Clock::new(sites),
+            messages: Messages::new(alloc, sites, hashes),
             held: if site == 0 { Some(0) } else { None },
             last: 0,
             site,
@@ -123,7 +113,7 @@ impl Intake {
         ensures value { result.now ≡ self.now.state.log }
         ensures conditions { IsIntake self.now }
     {
-        self.log.as_slice()
+        self.messages.log()
     }
 
     /// How many messages of each site were released, and how many red ones.
@@ -131,7 +121,7 @@ impl Intake {
         ensures counts { result.now ≡ clock_of self.now.place.sites self.now.state.log }
         ensures conditions { IsIntake self.now }
     {
-        &self.clock
+        self.messages.clock()
     }
 
     /// How many messages wait.
@@ -139,7 +129,7 @@ impl Intake {
         ensures value { result ≡ length self.now.state.waiting }
         ensures conditions { IsIntake self.now }
     {
-        self.waiting.len()
+        self.messages.waiting()
     }
 
     /// What a decision has to know of the site.
@@ -149,7 +139,7 @@ impl Intake {
         Standing {
             full: self.is_full(),
             holds: self.held.is_some(),
-            current: self.held == Some(self.clock.red()),
+            current: self.held == Some(self.messages.clock().red()),
         }
     }
 
@@ -158,12 +148,8 @@ impl Intake {
         ensures taken { result ≡ self.old }
         ensures left { self.new ≡ record { place = self.old.place; state = opening_at self.old.place.site } }
     {
-        let alloc = *self.log.allocator();
         let fresh = Intake {
-            log: Vec::new(alloc),
-            waiting: Waiting::new(alloc, self.hashes),
-            hashes: self.hashes,
-            clock: Clock::new(self.sites),
+            messages: self.messages.fresh(self.sites),
             held: if self.site == 0 { Some(0) } else { None },
             last: 0,
             site: self.site,
@@ -236,7 +222,7 @@ impl Intake {
     {
         let message = Message::new(self.next_stamp(&shadow), shadow);
         let copy = message.copy()?;
-        release(&mut self.log, &mut self.waiting, &mut self.clock, message)?;
+        self.messages.release(message)?;
         let red = copy.stamp().red;
         self.held = if red == 0 { self.held } else { Some(red) };
         Ok(copy)
@@ -247,7 +233,7 @@ impl Intake {
     fn is_full(&self) -> bool
         ensures { result ≡ is_full self.now.place.keep self.now.state }
     {
-        self.log.len() + self.waiting.len() >= self.keep as usize
+        self.messages.log().len() + self.messages.waiting() >= self.keep as usize
     }
 
     // Whether the message says that this site made it, and it didn't.
@@ -256,7 +242,7 @@ impl Intake {
         ensures { result ≡ not_ours self.now.place self.now.state message.now }
     {
         let id = message.stamp().id;
-        id.site == self.site && id.seq > self.clock.count(self.site)
+        id.site == self.site && id.seq > self.messages.clock().count(self.site)
     }
 
     // Whether a message with that id is released or waits.
@@ -267,7 +253,7 @@ impl Intake {
         ensures site { IsAmong self.now.place.sites message.now }
     {
         let id = message.stamp().id;
-        id.seq <= self.clock.count(id.site) || self.waiting.has(&id)
+        id.seq <= self.messages.clock().count(id.site) || self.messages.has_waiting(&id)
     }
 
     // Puts a new message last among those that wait, and releases what is ready; how many were released.
@@ -280,9 +266,9 @@ impl Intake {
         ensures err { OnErr result (self.new ≡ self.old) }
         ensures back { IfErr result (λ e. e.value ≡ message) }
     {
-        let before = self.log.len();
-        take_in(&mut self.log, &mut self.waiting, &mut self.clock, message)?;
-        Ok((self.log.len() - before) as u32)
+        let before = self.messages.log().len();
+        self.messages.take_in(message)?;
+        Ok((self.messages.log().len() - before) as u32)
     }
 
     // The stamp of the message that the site makes of the shadow.
@@ -292,17 +278,18 @@ impl Intake {
         requires right { is_red shadow.now ≡ true → is_current self.now.state ≡ true }
         ensures { result ≡ (made self.now.place self.now.state shadow.now).stamp }
     {
+        let clock = self.messages.clock();
         let red = match shadow.colour() {
-            Colour::Red => self.clock.red() + 1,
+            Colour::Red => clock.red() + 1,
             Colour::Blue => 0,
         };
         Stamp {
             id: Id {
                 site: self.site,
-                seq: self.clock.count(self.site) + 1,
+                seq: clock.count(self.site) + 1,
             },
             red,
-            deps: self.clock.deps(),
+            deps: clock.deps(),
         }
     }
 }

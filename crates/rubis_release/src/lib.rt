@@ -2,7 +2,7 @@
 #![tactic(auto)]
 
 mod intake;
-mod settling;
+mod messages;
 mod waiting;
 
 pub use intake::{Held, Intake, IntakeFault};

@@ -115,7 +115,7 @@ nothing_done log upto old new e same h = record {
   many = ap (λ (f : Follower). length f.tables) same;
 }
 
--- a batch is tried behind shares that were taken out
+-- a batch is tried after shares that were taken out
 pub comes_from : (log : List Message) (upto : ℕ) (old mid new : Follower) (r : Result (Unit {0}) AllocError) → mid ≡ record old { shares = [] }
     → ComesTo log upto mid new r → ComesTo log upto old new r
 comes_from log upto old mid new r same h =

@@ -32,6 +32,6 @@ IsStop left rest (Refused r) = ⊥
 IsStop left rest Behind = 0 < left
 IsStop left rest Memory = 0 < length rest
 
--- the shares of what a log has behind its first `before` messages, if they were made
+-- the shares of what a log has after its first `before` messages, if they were made
 abbrev pub AreNext : ℕ → ℕ → List Message → List Share → Type 0
 AreNext shards before log shares = (shares ≡ []) ⊎ AreShares shards (before + 1) (cores (slice_range log before (length log))) shares

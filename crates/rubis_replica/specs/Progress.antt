@@ -24,7 +24,7 @@ resting_at n = keeping n n
 abbrev pub is_behind : Progress → Bool
 is_behind p = nat_lt 0 p.left
 
--- the batch is one of the log, and so is the one that is kept; where it has begun, some but not all of its parts are done
+-- the batch is one of the log, and so is the kept one; if the batch has begun, some but not all of its parts are done
 pub record IsProgress (log : List Message) (p : Progress) : Type 0 where
   pub on : p.applied ≤ p.upto
   pub inside : p.upto ≤ length log
@@ -33,7 +33,7 @@ pub record IsProgress (log : List Message) (p : Progress) : Type 0 where
   pub rests : p.left ≡ 0 → p.applied ≡ p.upto
   pub begun : 0 < p.left → (p.applied < p.upto) × (p.left < length (parts_between log p.applied p.upto))
 
--- the batch behind what is applied, up to message `upto`, has begun, and some but not all of its parts are done
+-- the batch that follows what is applied, up to message `upto`, has begun, and some but not all of its parts are done
 pub record BatchBegins (log : List Message) (upto : ℕ) (old new : Progress) : Type 0 where
   pub applied : new.applied ≡ old.applied
   pub kept : new.kept ≡ old.kept
@@ -41,22 +41,22 @@ pub record BatchBegins (log : List Message) (upto : ℕ) (old new : Progress) : 
   pub some_left : 0 < new.left
   pub some_done : new.left < length (parts_between log new.applied new.upto)
 
--- the batches of an application: the one that is kept, and then what is pending besides
+-- the batches of an application: the kept one, and then the rest of what is pending
 abbrev pub IsBatchOf : List Message → Progress → ℕ → ℕ → Type 0
 IsBatchOf log p from upto = ((from ≡ p.applied) × (upto ≡ p.kept)) ⊎ ((from ≡ p.kept) × (upto ≡ length log))
 
--- one of them has begun, those before it being applied, and some but not all of its parts are done
+-- those before one of these batches are applied; that one has begun, and some but not all of its parts are done
 pub record HasBegun (log : List Message) (old new : Progress) : Type 0 where
   pub batch : IsBatchOf log old new.applied new.upto
   pub kept : new.kept ≡ old.kept
   pub some_left : 0 < new.left
   pub some_done : new.left < length (parts_between log new.applied new.upto)
 
--- nothing of the next batch is done: nothing at all, or all that was kept
+-- no part of the next batch is done: nothing changed, or exactly the kept batch was applied
 abbrev pub IsBetween : Progress → Progress → Type 0
 IsBetween old new = (new ≡ old) ⊎ (new ≡ resting_at old.kept)
 
--- all that is pending was tried: it is applied, or one of the batches has begun, or nothing more is done
+-- an attempt to apply all that is pending: it is applied, or one of its batches has begun, or no part of the next is done
 abbrev pub IsTried : List Message → Progress → Progress → Type 0
 IsTried log old new = (new ≡ resting_at (length log)) ⊎ HasBegun log old new ⊎ IsBetween old new
 
@@ -69,7 +69,7 @@ pub record IsBatched (batch : ℕ) (log : List Message) (old new : Progress) : T
   pub waits : length log - old.applied < batch → new ≡ old
   pub tried : batch ≤ length log - old.applied → IsTried log old new
 
--- the batch that had begun goes on: it is no further from its end, which it hasn't come to
+-- the begun batch goes on: some of its parts are left, and no more than before
 pub record BatchGoesOn (old new : Progress) : Type 0 where
   pub batch : new ≡ record old { left = new.left }
   pub some_left : 0 < new.left

@@ -98,7 +98,7 @@ pub fn take_all(alloc: Global, intake: &mut Intake, messages: Vec<Message>) -> A
     }
 }
 
-// The shares of what a log has behind its first `before` messages, for that many shards, where the pace has them cut ahead for
+// The shares of what a log has after its first `before` messages, for that many shards, where the pace has them cut ahead for
 // these workers; else an empty list. `None` where memory for them is refused.
 fn shares_behind<R: Threads + Sync>(
     rt: &R,

@@ -6,7 +6,7 @@ use rubis_schema::{BATCH_MAX, Hashes, KEEP_MAX, SHARDS_MAX, SITES_MAX, WORKERS_M
 use std::marker::Model;
 
 /// How a site is set up: which one it is, of how many; how many shards its tables have, how many workers may apply
-/// shadows to them, and how many shadows make a batch; how many messages it keeps; and what its maps hash by, which no answer
+/// messages to them, and how many messages make a batch; how many messages it keeps; and what its maps hash by, which no answer
 /// depends on and no contract sees.
 #[derive(Drop)]
 pub struct Config {

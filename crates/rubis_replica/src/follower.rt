@@ -13,7 +13,7 @@ ghost use Rattle.rubis_replica.specs.Progress.{BatchBegins, BatchGoesOn, HasBegu
 ghost use Rattle.rubis_replica.specs.Follow as model;
 ghost use Rattle.rubis_replica.specs.Setup.{IsCount};
 
-use rubis_listing::{RowSink, list_tables, list_tables_shared};
+use rubis_listing::{SharedSink, list_tables, list_tables_shared};
 use rubis_message::Message;
 use rubis_pieces::{Left, finish};
 use rubis_schema::{Hashes, Listing};
@@ -108,9 +108,9 @@ impl<G: Gate> Follower<G> {
         self.tables.link_rows(listing)
     }
 
-    // Adds the rows of a listing of the tables as far as they are. Several threads make the records of a long one, unless one
+    // Adds the rows of a listing of the tables as far as they are. Several threads make the rows of a long one, unless one
     // worker is configured.
-    pub fn list_into<S: RowSink, R: Threads + Sync>(
+    pub fn list_into<S: SharedSink, R: Threads + Sync>(
         &self,
         rt: &R,
         listing: &Listing,
@@ -425,7 +425,7 @@ impl<G: Gate> Follower<G> {
         self.tables.len()
     }
 
-    // Keeps what the log has behind its first `before` messages as the next batch, with its shares where they were made,
+    // Keeps what the log has after its first `before` messages as the next batch, with its shares where they were made,
     // where all before it is applied.
     pub fn keep(&mut self, log: &[Message], before: usize, shares: Vec<Share>)
         requires follows { FollowsLog log.now self.old }

@@ -16,7 +16,7 @@ use crate::config::Config;
 use crate::faults::Fault;
 use crate::follower::Follower;
 use rubis_generate::decide;
-use rubis_listing::{RowSink, list_log, list_misfits};
+use rubis_listing::{SharedSink, list_log, list_misfits};
 use rubis_message::{Arrival, Message, Taken, Token};
 use rubis_pieces::misfits;
 use rubis_release::Intake;
@@ -255,7 +255,7 @@ impl<G: Gate> Site<G> {
     }
 
     // Adds the rows of a listing, of the log and of the tables as far as they are.
-    fn add_rows<S: RowSink, R: Threads + Sync>(
+    fn add_rows<S: SharedSink, R: Threads + Sync>(
         &self,
         rt: &R,
         listing: &Listing,
@@ -277,7 +277,7 @@ impl<G: Gate> Site<G> {
     /// Adds the rows of a listing to what takes them, one after the other. The listing of the log reads no tables and applies
     /// nothing; before any other all that is pending is applied. A site that is behind has no rows. Where memory runs out,
     /// some of the rows may have been added.
-    pub fn list_into<S: RowSink, R: Threads + Wait + Sync>(
+    pub fn list_into<S: SharedSink, R: Threads + Wait + Sync>(
         &mut self,
         rt: &R,
         listing: &Listing,
@@ -318,8 +318,8 @@ impl<G: Gate> Site<G> {
         Ok(rows)
     }
 
-    /// Applies all that is pending, and says how many messages that were. Where nothing could be applied for want of
-    /// memory, all stays as it was; where some could, the site is behind.
+    /// Applies all that is pending, and returns how many messages that was. If memory runs out with a batch begun, the site is
+    /// behind; if it runs out with none begun, nothing was applied, or exactly the kept batch.
     pub fn cut<R: Threads + Wait + Sync>(&mut self, rt: &R) -> Result<u32, Fault>
         ensures place { self.new.place ≡ self.old.place }
         ensures batch { self.new.batch ≡ self.old.batch }

@@ -21,7 +21,7 @@ pub fills-push : (before : ℕ) (ends : List ℕ) (size more : ℕ) → Fills be
 fills-push before [] size more h up = (omega (arith, h, up), refl)
 fills-push before (end ∷ ends) size more h up = (h.0, fills-push end ends size more h.1 up)
 
--- what is put at the end of the buffer, behind a comma, is one more piece
+-- what is put at the end of the buffer, after a comma, is one more piece
 pub pieces-push : (before : ℕ) (ends bytes field : List ℕ) (more : ℕ) → Fills before ends (length bytes) → more ≡ length bytes + 1 + length field
     → pieces before (ends ++ more ∷ []) (bytes ++ comma ∷ field) ≡ pieces before ends bytes ++ field ∷ []
 pieces-push before [] bytes field more h size =

@@ -25,7 +25,7 @@ mark_at mark xs ys free =
     ap (λ n. cond (nat_lt n (length (xs ++ mark ∷ ys))) (Some n) None) (first_mark mark xs ys free)
     ∙ ap (λ b. cond b (Some (length xs)) None) ((Decides-ltb (length xs) (length (xs ++ mark ∷ ys))).1 within)
 
--- it falls into what is free of marks in front, and what stands behind the mark
+-- it falls into what is free of marks in front, and what follows the mark
 pub cut_back : (mark : ℕ) (xs ys : List ℕ) → All (λ b. b ≢ mark) xs → cut_at mark (xs ++ mark ∷ ys) ≡ Some (xs, ys)
 cut_back mark xs ys free =
     ap (option_map (λ place. (take place (xs ++ mark ∷ ys), drop (place + 1) (xs ++ mark ∷ ys)))) (mark_at mark xs ys free)

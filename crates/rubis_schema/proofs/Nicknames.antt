@@ -1,4 +1,4 @@
--- A nickname with zeros behind it.
+-- A nickname with zeros after it.
 use Rattle.std.proofs.Common.{◌≡◌, ℕ, ◌-◌, List, ◌++◌, length, take, replicate, ap, sym, subst, ◌∙◌}
 use Rattle.std.proofs.Math.Seq.{take-append_seam}
 use Rattle.rubis_schema.specs.Texts.{IsNick, IsPadded, padded}

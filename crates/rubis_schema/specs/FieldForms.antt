@@ -22,7 +22,7 @@ only_if test x = cond test (Some x) None
 unfoldable pub number_of : ℕ → List ℕ → Option ℕ
 number_of high field = only_if (nat_le (digits_value 10 field) high && bytes_eq field (decimal (digits_value 10 field))) (digits_value 10 field)
 
--- what stands before the first mark, and what stands behind it
+-- what stands before the first mark, and what follows it
 abbrev pub cut_at : ℕ → List ℕ → Option (List ℕ × List ℕ)
 cut_at mark field = option_map (λ place. (take place field, drop (place + 1) field)) (position (λ b. b == mark) field)
 
@@ -34,7 +34,7 @@ id_of sites field = do
   seq ← number_of SEQ_MAX parts.1
   only_if (nat_lt site sites && nat_lt 0 seq) (record { site = site; seq = seq })
 
--- a rating below 0, by what stands behind its `-`
+-- a rating below 0, by what follows its `-`
 unfoldable pub below_zero_of : List ℕ → Option ℤ
 below_zero_of digits = do
   size ← number_of RATING_MAX digits

@@ -9,7 +9,7 @@ Fields = List (List ℕ)
 abbrev pub comma : ℕ
 comma = 44
 
--- the pieces of a buffer that end at these places, each behind one comma; the first stands behind the place `before`
+-- the pieces of a buffer that end at these places, each after one comma; the first follows the place `before`
 abbrev pub pieces : ℕ → List ℕ → List ℕ → List (List ℕ)
 pieces before [] bytes = []
 pieces before (end ∷ ends) bytes = take (end - (before + 1)) (drop (before + 1) bytes) ∷ pieces end ends bytes

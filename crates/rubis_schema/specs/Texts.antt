@@ -38,11 +38,11 @@ is_text text = nat_le (length text) TEXT_MAX && list_all is_printable text
 abbrev pub IsText : List ℕ → Type 0
 IsText text = IsTrue (is_text text)
 
--- with zeros behind it, as many bytes as a nickname can have
+-- with zeros after it, as many bytes as a nickname can have
 abbrev pub padded : List ℕ → List ℕ
 padded bytes = bytes ++ replicate (NICK_MAX - length bytes) 0
 
--- the first `len` of these bytes are a nickname, and zeros stand behind it
+-- the first `len` of these bytes are a nickname, and zeros follow it
 pub record IsPadded (bytes : List ℕ) (len : ℕ) : Type 0 where
   pub nick : IsNick (take len bytes)
   pub behind : padded (take len bytes) ≡ bytes

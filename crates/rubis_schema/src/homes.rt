@@ -6,7 +6,7 @@ use crate::limits::NICK_MAX;
 use crate::nicks::Nick;
 use crate::row_keys::RowKey;
 
-// The sum of so few bytes.
+// The sum of at most `NICK_MAX` bytes.
 fn sum_of(bytes: &[u8]) -> u64
     requires { length bytes.now ≤ NICK_MAX }
     ensures { result ≡ sum bytes.now }
@@ -21,7 +21,7 @@ fn byte_sum(nick: &Nick) -> u64
     sum_of(nick.as_bytes())
 }
 
-// The place of an id in a table, before it is brought below the number of shards.
+// The number of an id in a table that, modulo the number of shards, is its home shard.
 #[inline(always)]
 fn id_sum(table: u64, id: Id) -> u64
     requires { table < 7 }

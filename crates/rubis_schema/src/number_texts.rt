@@ -1,11 +1,11 @@
-// The digits of a number, put behind a text that has room for them.
+// The digits of a number, appended to a text that has room for them.
 
 ghost use Rattle.std.specs.Prelude.{◌≡◌, ◌+◌, ◌/◌, ◌%◌, ◌<◌, ◌≤◌, ◌++◌, ◌∷◌, [], decimal, length};
 ghost use Rattle.std.specs.Vec.{vec_capacity, vec_len};
 
 use crate::limits::NUMBERS_TEXT_MAX;
 
-// Puts one digit behind the text.
+// Appends one digit to the text.
 #[inline(always)]
 fn push_digit(text: &mut Vec<u8>, digit: u64)
     requires digit { digit < 10 }
@@ -17,7 +17,7 @@ fn push_digit(text: &mut Vec<u8>, digit: u64)
     text.push_reserved(b'0' + digit as u8);
 }
 
-// Puts two digits behind the text, the first of which may be 0.
+// Appends two digits to the text, the first of which may be 0.
 #[inline(always)]
 fn push_pair(text: &mut Vec<u8>, pair: u64)
     requires pair { pair < 100 }
@@ -30,7 +30,7 @@ fn push_pair(text: &mut Vec<u8>, pair: u64)
     push_digit(text, pair % 10);
 }
 
-// Puts the digits of a number below 100 behind the text.
+// Appends the digits of a number below 100 to the text.
 #[inline(always)]
 fn push_short(text: &mut Vec<u8>, number: u64)
     requires short { number < 100 }
@@ -46,7 +46,7 @@ fn push_short(text: &mut Vec<u8>, number: u64)
     }
 }
 
-// Puts the digits of a number from 100 on behind the text, two at a time.
+// Appends the digits of a number from 100 on to the text, two at a time.
 fn push_long(text: &mut Vec<u8>, number: u64)
     requires long { 100 ≤ number }
     requires room { vec_len text.old + length (decimal number) ≤ vec_capacity text.old }
@@ -63,7 +63,7 @@ fn push_long(text: &mut Vec<u8>, number: u64)
     push_pair(text, number % 100);
 }
 
-/// Puts the digits of a number behind the text.
+/// Appends the digits of a number to the text.
 #[inline(always)]
 pub fn push_digits(text: &mut Vec<u8>, number: u64)
     requires room { vec_len text.old + length (decimal number) ≤ vec_capacity text.old }
@@ -78,7 +78,7 @@ pub fn push_digits(text: &mut Vec<u8>, number: u64)
     }
 }
 
-/// Puts the digits of two numbers behind the text, with a point between them.
+/// Appends the digits of two numbers to the text, with a point between them.
 #[inline(always)]
 pub fn push_numbers(text: &mut Vec<u8>, first: u64, second: u64)
     requires room { vec_len text.old + NUMBERS_TEXT_MAX ≤ vec_capacity text.old }

@@ -120,7 +120,7 @@ comma-first : (fields : List (List ℕ)) → 0 < length fields → joined fields
 comma-first [] some = absurd (omega (arith, some))
 comma-first (f ∷ rest) some = refl
 
--- fields with a comma behind each, and then others
+-- fields with a comma after each, and then others
 pub prefix-joined : (first fields : List (List ℕ)) → 0 < length fields → drop 1 (joined (first ++ fields)) ≡ prefix_text first ++ drop 1 (joined fields)
 prefix-joined [] fields some = refl
 prefix-joined (f ∷ rest) fields some =
@@ -128,7 +128,7 @@ prefix-joined (f ∷ rest) fields some =
     let behind = comma-first (rest ++ fields) more ∙ ap (λ t. comma ∷ t) (prefix-joined rest fields some) in
     ap (λ t. f ++ t) behind ∙ sym (append_assoc f (comma ∷ []) (prefix_text rest ++ drop 1 (joined fields))) ∙ sym (append_assoc (f ++ comma ∷ []) (prefix_text rest) (drop 1 (joined fields)))
 
--- a text of plain fields, found behind plain ones, makes a plain row with them
+-- a text of plain fields, found after plain ones, makes a plain row with them
 abbrev pub MakesRow : List (List ℕ) → List (List ℕ) → List ℕ → Type 0
 MakesRow first fields text = (row_text plain_writer (first ++ fields) ≡ plain_row first text) × (0 < length text)
 
@@ -160,7 +160,7 @@ pub on_ok : {T E : Type 0} {P Q : Type 0} (r : Result T E) → (P → Q) → OnO
 on_ok (Ok v) f p = f p
 on_ok (Err e) f p = tt
 
--- the row at a place, and those behind it
+-- the row at a place, and those after it
 pub row_first : (at : ℕ) (rows : List (List (List ℕ))) (row : List (List ℕ)) → at < length rows → slice_index_or rows at row ≡ row
     → drop at rows ≡ (row ∷ []) ++ drop (at + 1) rows
 row_first at rows row l is =

@@ -3,13 +3,13 @@ use Rattle.std.specs.Prelude.{◌≡◌, ◌+◌, ◌++◌, ◌∷◌, ℕ, List
 use Rattle.rubis_script.specs.declared.service.Course.{Course}
 use Rattle.rubis_script.specs.declared.service.Course.TheVariants.{GoesOn, Ends}
 
--- how a run ends behind some records: the input ends there, or the run is cut short, since the reader failed or no more
+-- how a run ends after some records: the input ends there, or the run is cut short, since the reader failed or no more
 -- records are taken
 pub data Ending : Type 0 where
   AtEnd : Ending
   Cut : Ending
 
--- the text of records behind which a run ends so, and how many of the records of an input are read
+-- the text of records after which a run ends so, and how many of the records of an input are read
 pub record Account : Type 0 where
   pub text : Ending → List (List (List ℕ)) → List ℕ
   pub read : List (List (List ℕ)) → ℕ

@@ -13,7 +13,7 @@ use Rattle.rubis_replica.specs.declared.faults.Fault.TheVariants.{Refused}
 use Rattle.rubis_script.specs.Text.{rows_text}
 use Rattle.rubis_script.specs.declared.fault.OutOfMemory.{OutOfMemory}
 
--- the site has come to what record n makes of it, and the text of its answers stands behind what stood before
+-- the site has come to what record n makes of it, and the text of its answers follows what stood before
 abbrev pub IsAnswered : ℕ → Meant → SiteState → SiteState → List ℕ → List ℕ → Type 0
 IsAnswered n input old new before after =
     (new.state ≡ (input_step old.place old.state n input).0) × (after ≡ before ++ rows_text (input_step old.place old.state n input).1)

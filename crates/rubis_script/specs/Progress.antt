@@ -69,7 +69,7 @@ StandsAt rem run account all old now input = HasComeSoFar rem run.records all (a
 abbrev pub OfEachRun : {R : Type 0} → (R → Option (List ℕ)) → Run R → (ℕ → Account) → Option (List ℕ) → (Account → Option (List ℕ) → List ℕ → Type 0) → Type 0
 OfEachRun rem run account now holds = InEachRun rem run.records (account (run.answered + 1)) now run.reply.sink (run.answered + 1) holds
 
--- behind where it stood the run is done
+-- after where it stood the run is done
 abbrev pub EndsDone : {R : Type 0} → (R → Option (List ℕ)) → Run R → (ℕ → Account) → Option (List ℕ) → Option (List ℕ) → ℕ → ℕ → Type 0
 EndsDone rem run account before after limit count = OfEachRun rem run account before (λ all old input. IsDone all limit old after (input_records input) count)
 

@@ -31,12 +31,12 @@ ReadsNext rem old new found fields = (rest : List (List (List ℕ))) → HasToGi
 
 -- these are the records that are still to come
 abbrev pub Gives : {R : Type 0} → (R → Option (List ℕ)) → Records R → List (List (List ℕ)) → Type 0
-Gives rem records rest = HasToGive (metered rem) records.rows rest
+Gives rem records rest = HasToGive (metered rem) records.reader rest
 
 -- the record that was read last
 abbrev pub fields_now : {R : Type 0} → Records R → List (List ℕ)
-fields_now records = records.row
+fields_now records = records.current
 
 -- to go on takes the first of the records to come, or there is none
 abbrev pub Advances : {R : Type 0} → (R → Option (List ℕ)) → Records R → Records R → Bool → Type 0
-Advances rem old new found = ReadsNext (metered rem) old.rows new.rows found (fields_now new)
+Advances rem old new found = ReadsNext (metered rem) old.reader new.reader found (fields_now new)

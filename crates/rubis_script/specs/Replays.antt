@@ -8,7 +8,7 @@ unfoldable pub after_records : Place → Replica → ℕ → List (List (List �
 after_records p s n [] = s
 after_records p s n (fields ∷ rest) = after_records p (input_step p s n (input_of p.sites fields)).0 (n + 1) rest
 
--- what a site answers to some records and then to more is what it answers to the first, and behind that what the site in which
+-- what a site answers to some records and then to more is what it answers to the first, and after that what the site in which
 -- they leave it answers to the others, with numbers that go on
 abbrev pub ReplaysGoOn : Type 0
 ReplaysGoOn = (p : Place) (s : Replica) (n : ℕ) (records more : List (List (List ℕ)))

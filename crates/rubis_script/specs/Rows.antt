@@ -26,7 +26,7 @@ pub record IsBetweenRows (w : Writer (Vec ℕ Global)) : Type 0 where
   pub blank : has_written w ≡ false
   pub written : writer_pending w ≡ []
 
--- fields with a comma behind each
+-- fields with a comma after each
 abbrev pub prefix_text : List (List ℕ) → List ℕ
 prefix_text first = flat_map (λ field. field ++ comma ∷ []) first
 

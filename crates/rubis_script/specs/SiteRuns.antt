@@ -6,7 +6,7 @@ use Rattle.rubis_replica.specs.State.{SiteState}
 use Rattle.rubis_script.specs.Accounts.{Account}
 use Rattle.rubis_script.specs.Text.{rows_text}
 
--- however the run ends behind some records, from record n on, its text is that of the site's answers to them; it reads all of
+-- however the run ends after some records, from record n on, its text is that of the site's answers to them; it reads all of
 -- them
 abbrev pub site_account : Place → Replica → ℕ → Account
 site_account p s n = record { text = λ ending records. rows_text (answers p s n records); read = λ records. length records }

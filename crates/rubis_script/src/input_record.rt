@@ -11,7 +11,7 @@ use std::marker::Model;
 /// A record of the input. Its fields are looked at where the reader of CSV put them.
 #[derive(Drop)]
 pub struct InputRecord {
-    pub(crate) row: ByteRecord,
+    pub(crate) fields: ByteRecord,
 }
 
 impl Model for InputRecord {
@@ -20,16 +20,16 @@ impl Model for InputRecord {
 
     ghost Value = { List (List ℕ) };
 
-    ghost view = { λ r. fields_of r.row };
+    ghost view = { λ r. fields_of r.fields };
 }
 
-// A copy of all fields of a row.
-fn copy_fields(alloc: Global, row: &ByteRecord) -> Result<Fields, AllocError>
-    ensures { IfOk result (λ fields. fields ≡ fields_of row.now) }
+// A copy of all fields that were read.
+fn copy_fields(alloc: Global, read: &ByteRecord) -> Result<Fields, AllocError>
+    ensures { IfOk result (λ fields. fields ≡ fields_of read.now) }
 {
     let mut fields = Fields::new(alloc);
-    for place in 0..row.len() {
-        if let Some(field) = row.get(place) {
+    for place in 0..read.len() {
+        if let Some(field) = read.get(place) {
             fields.push_read(field)?;
         }
     }
@@ -41,7 +41,7 @@ impl InputRecord {
     pub fn to_fields(&self, alloc: Global) -> Result<Fields, AllocError>
         ensures { IfOk result (λ fields. fields ≡ self.now) }
     {
-        copy_fields(alloc, &self.row)
+        copy_fields(alloc, &self.fields)
     }
 }
 
@@ -50,11 +50,11 @@ impl Record for InputRecord {
 
     #[inline(always)]
     fn len(&self) -> usize {
-        self.row.len()
+        self.fields.len()
     }
 
     #[inline(always)]
     fn field(&self, place: usize) -> Option<&[u8]> {
-        self.row.get(place)
+        self.fields.get(place)
     }
 }

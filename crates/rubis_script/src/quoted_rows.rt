@@ -1,4 +1,4 @@
-// Rows in which some field may call for quotes: `csv` writes them.
+// Rows in which some field may need quotes, written by `csv`.
 
 ghost use Rattle.std.specs.Prelude.{◌≡◌, ◌++◌, ◌∷◌, [], ℕ, List, OnOk, false, map};
 ghost use Rattle.csv.specs.Writing.{fields_written, has_written, row_text, writer_setup, writer_under};
@@ -12,7 +12,7 @@ use std::alloc::{AllocError, Global};
 // A writer that holds at least this many bytes of text isn't used again.
 const MUCH: usize = 65_536;
 
-// Goes on with a row by one field.
+// Appends one field to the current row.
 fn put_field(rows: &mut Writer<Vec<u8>>, field: &[u8]) -> Result<(), AllocError>
     ensures { OnOk result ((start : List ℕ) (done : List (List ℕ)) → HasBegunRow start rows.old done → HasBegunRow start rows.new (done ++ field.now ∷ [])) }
 {
@@ -22,7 +22,7 @@ fn put_field(rows: &mut Writer<Vec<u8>>, field: &[u8]) -> Result<(), AllocError>
     Ok(())
 }
 
-// Goes on with a row by these fields.
+// Appends these fields to the current row.
 fn put_slices(rows: &mut Writer<Vec<u8>>, fields: &[&[u8]]) -> Result<(), AllocError>
     ensures { OnOk result ((start : List ℕ) (done : List (List ℕ)) → HasBegunRow start rows.old done → HasBegunRow start rows.new (done ++ map (λ f. f.now) fields.now)) }
 {
@@ -32,7 +32,7 @@ fn put_slices(rows: &mut Writer<Vec<u8>>, fields: &[&[u8]]) -> Result<(), AllocE
     Ok(())
 }
 
-// Goes on with a row by the fields of a record.
+// Appends the fields of a record to the current row.
 fn put_fields(rows: &mut Writer<Vec<u8>>, fields: &Fields) -> Result<(), AllocError>
     ensures { OnOk result ((start : List ℕ) (done : List (List ℕ)) → HasBegunRow start rows.old done → HasBegunRow start rows.new (done ++ fields.now)) }
 {
@@ -67,7 +67,7 @@ fn put_row(rows: &mut Writer<Vec<u8>>, first: &[&[u8]], fields: &Fields) -> Resu
     end_row(rows)
 }
 
-// Writes a row, and all of it into the text underneath.
+// Writes a row and flushes it into the underlying text.
 fn put_whole_row(
     rows: &mut Writer<Vec<u8>>,
     first: &[&[u8]],
@@ -84,8 +84,8 @@ fn put_whole_row(
     }
 }
 
-/// What writes rows in which some field calls for quotes, with the text of those that it wrote. It is kept from row to row,
-/// since `csv`'s writer has a large buffer that is cleared when a writer is made.
+/// A writer for rows in which some field needs quotes, with the text of the rows that it wrote. It is reused from row to
+/// row, since making a `csv` writer clears its large buffer.
 #[derive(Drop)]
 pub struct QuotedRows {
     rows: Boxed<Writer<Vec<u8>>>,
@@ -105,8 +105,8 @@ impl QuotedRows {
         })
     }
 
-    /// Adds a row to a text that begins with the fields `first` and goes on with those of a record. It is given back to be
-    /// used again, unless it holds much text by now.
+    /// Appends to `text` a row that begins with the fields `first` and goes on with those of a record. Returns the writer for
+    /// reuse, unless it holds `MUCH` bytes of text or more by now.
     pub fn add_to(
         self,
         text: &mut Vec<u8>,

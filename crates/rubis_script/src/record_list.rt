@@ -11,11 +11,12 @@ use csv::{ByteRecord, Reader, ReaderBuilder};
 use std::alloc::Global;
 use std::io::Read;
 
-/// The records of a reader, of any lengths and with no header row. A byte order mark at the start is taken off.
+/// The records of a reader, each with any number of fields, and no header row. A byte order mark at the start is removed.
 #[derive(Drop)]
 pub struct Records<R> {
-    rows: Reader<Meter<R>>,
-    row: InputRecord,
+    reader: Reader<Meter<R>>,
+    // The one that was read last.
+    current: InputRecord,
 }
 
 impl<R: Read> Records<R> {
@@ -23,14 +24,14 @@ impl<R: Read> Records<R> {
     pub fn new(alloc: Global, reader: R) -> Records<R>
         ensures { IfSome (R.remaining reader) (λ input. Gives R.remaining result (input_records input)) }
     {
-        let rows = ReaderBuilder::new()
+        let reader = ReaderBuilder::new()
             .has_headers(false)
             .flexible(true)
             .from_reader(alloc, Meter::new(reader));
         Records {
-            rows,
-            row: InputRecord {
-                row: ByteRecord::new(alloc),
+            reader,
+            current: InputRecord {
+                fields: ByteRecord::new(alloc),
             },
         }
     }
@@ -39,12 +40,12 @@ impl<R: Read> Records<R> {
     ///
     /// # Errors
     ///
-    /// `Read` where the reader failed, and `Memory` where there was not enough for the record.
+    /// `Read` if the reader failed, and `Memory` if there wasn't enough memory for the record.
     pub fn advance(&mut self) -> Result<bool, RunFault>
         ensures takes { IfOk result (λ found. Advances R.remaining self.old self.new found) }
         ensures faults { IfErr result (λ e. (e ≡ RunFault.Read) ⊎ (e ≡ RunFault.Memory)) }
     {
-        let found = match self.rows.read_byte_record(&mut self.row.row) {
+        let found = match self.reader.read_byte_record(&mut self.current.fields) {
             Ok(found) => found,
             Err(e) => {
                 if e.is_io_error() {
@@ -56,16 +57,18 @@ impl<R: Read> Records<R> {
         Ok(found)
     }
 
-    /// The record at which it stands.
+    /// The record that was read last.
     pub fn fields(&self) -> &InputRecord
         ensures { result.now ≡ fields_now self.now }
     {
-        &self.row
+        &self.current
     }
 
-    // Whether all bytes that the reader gave so far were used up, so that to go on is to wait for it. It decides when text is
-    // written, and not which.
+    // Whether all bytes that the reader gave so far were used up, except for line ends, so that going on means waiting for the
+    // reader. It decides when text is written, not what text.
     pub(crate) fn is_used_up(&self) -> bool {
-        self.rows.get_ref().is_used_up(self.rows.position().byte())
+        self.reader
+            .get_ref()
+            .is_used_up(self.reader.position().byte())
     }
 }

@@ -242,5 +242,5 @@ pub fn write_listed_text(
     ensures { OnOk result ((rows : List (List (List ℕ))) → HasRows rows listing → sink.new ≡ sink.old ++ rows_text (listed_rows number (Ok rows))) }
 {
     write_count(fields, sink, number, listing.count)?;
-    sink.append(listing.rows)
+    sink.add_text(listing.rows)
 }

@@ -71,7 +71,7 @@ pub fn write_out<T, S: Service<T>, R: Read, W: Write>(
     Ok(())
 }
 
-/// Ends a run behind `answered` records, where no other was found: writes the rest of the text, and returns how many records
+/// Ends a run after `answered` records, where no other was found: writes the rest of the text, and returns how many records
 /// were read, or the fault with which the next one was to be read.
 pub(crate) fn end_run<T, S: Service<T>, R: Read, W: Write>(
     rt: &T,

@@ -9,7 +9,7 @@ use super::input_record::InputRecord;
 use super::reply::Reply;
 use super::sink::Sink;
 
-/// Whether a run goes on behind a record.
+/// Whether a run goes on after a record.
 #[derive(Clone, Copy, PartialEq, Eq, Debug)]
 pub enum Course {
     /// The next record is answered.

@@ -9,7 +9,7 @@ ghost use Rattle.rubis_script.specs.Text.{plain_writer};
 
 use super::fault::RunFault;
 use super::quoted_rows::QuotedRows;
-use rubis_listing::RowSink;
+use rubis_listing::{RowSink, SharedSink};
 use rubis_schema::{Fields, is_plain};
 use std::alloc::{AllocError, Global};
 use std::io::Write;
@@ -49,7 +49,7 @@ fn are_plain(fields: &[&[u8]]) -> bool
     true
 }
 
-// The fields of a record, each with a comma before it, if they make a plain row behind those of `first`: if no field calls for
+// The fields of a record, each with a comma before it, if they make a plain row after those of `first`: if no field calls for
 // quotes, and there is more than one.
 fn plain_text<'a>(first: &[&[u8]], fields: &'a Fields) -> Option<&'a [u8]>
     ensures row { IfSome result (λ text. row_text plain_writer (map (λ f. f.now) first.now ++ fields.now) ≡ plain_row (map (λ f. f.now) first.now) text.now) }
@@ -61,7 +61,7 @@ fn plain_text<'a>(first: &[&[u8]], fields: &'a Fields) -> Option<&'a [u8]>
     fields.plain_text()
 }
 
-// Adds fields with a comma behind each.
+// Adds fields with a comma after each.
 fn push_first(text: &mut Vec<u8>, first: &[&[u8]]) -> Result<(), AllocError>
     ensures { OnOk result (text.new.items ≡ text.old.items ++ prefix_text (map (λ f. f.now) first.now)) }
 {
@@ -174,12 +174,12 @@ impl Sink {
     }
 
     /// Adds all text of another. Without memory for it the text stays as it was.
-    pub fn append(&mut self, more: Sink) -> Result<(), AllocError>
+    pub fn add_text(&mut self, more: Sink) -> Result<(), AllocError>
         ensures ok { OnOk result (self.new ≡ self.old ++ more) }
         ensures err { OnErr result (self.new ≡ self.old) }
     {
         if self.before.is_empty() && more.before.is_empty() && more.is_full() {
-            // So long a text isn't copied: it becomes this one's, behind what was here.
+            // So long a text isn't copied: it becomes this one's, after what was here.
             self.before = mem::replace(&mut self.text, more.text);
             return Ok(());
         }
@@ -247,4 +247,22 @@ impl RowSink for Sink {
     ghost adds_none = { none_written };
 
     ghost adds_more = { more_written };
+}
+
+impl SharedSink for Sink {
+    ghost use Rattle.std.specs.Prelude.{◌≡◌};
+    ghost use Rattle.rubis_script.specs.Adding.{held_more};
+    ghost use Rattle.rubis_script.specs.Text.{rows_text};
+
+    ghost holds = { λ rows s. s ≡ rows_text rows };
+
+    fn empty(alloc: Global) -> Sink {
+        Sink::new(alloc)
+    }
+
+    fn append(&mut self, part: Sink) -> Result<(), AllocError> {
+        self.add_text(part)
+    }
+
+    ghost holds_more = { held_more };
 }

@@ -1,3 +1,4 @@
+pub mod Renames
 pub mod Shadows
 pub mod Tables
 pub mod Changes

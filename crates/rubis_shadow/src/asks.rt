@@ -33,5 +33,5 @@ pub enum Ask {
     Close(AskedClose),
     Comment(Shared<CommentRow>),
     Restock(AskedRestock),
-    Rename(AskedRename),
+    Rename(Shared<AskedRename>),
 }

@@ -96,9 +96,9 @@ impl Shadow {
             Shadow::Comment(comment) => two_keys(RowKey::Comment(id), RowKey::User(comment.to)),
             Shadow::Restock(restock) => one_key(RowKey::Item(restock.item)),
             Shadow::Rename(rename) => three_keys(
-                RowKey::User(rename.user),
-                RowKey::Nick(rename.from),
-                RowKey::Nick(rename.to),
+                RowKey::User(rename.user()),
+                RowKey::Nick(rename.from()),
+                RowKey::Nick(rename.to()),
             ),
         }
     }
@@ -123,9 +123,9 @@ impl Shadow {
             (Shadow::Comment(_), 0) => Some(RowKey::Comment(id)),
             (Shadow::Comment(comment), 1) => Some(RowKey::User(comment.to)),
             (Shadow::Restock(restock), 0) => Some(RowKey::Item(restock.item)),
-            (Shadow::Rename(rename), 0) => Some(RowKey::User(rename.user)),
-            (Shadow::Rename(rename), 1) => Some(RowKey::Nick(rename.from)),
-            (Shadow::Rename(rename), 2) => Some(RowKey::Nick(rename.to)),
+            (Shadow::Rename(rename), 0) => Some(RowKey::User(rename.user())),
+            (Shadow::Rename(rename), 1) => Some(RowKey::Nick(rename.from())),
+            (Shadow::Rename(rename), 2) => Some(RowKey::Nick(rename.to())),
             _ => None,
         }
     }
@@ -148,7 +148,7 @@ impl Shadow {
                 RowKey::User(comment.to),
             ),
             Shadow::Restock(restock) => one_key(RowKey::Item(restock.item)),
-            Shadow::Rename(rename) => one_key(RowKey::User(rename.user)),
+            Shadow::Rename(rename) => one_key(RowKey::User(rename.user())),
         }
     }
 }

@@ -9,6 +9,7 @@ mod listing;
 mod numbered;
 mod parts;
 mod plain;
+mod renames;
 mod shadows;
 
 pub use asks::{Ask, AskedClose, AskedRename, AskedRestock};
@@ -18,4 +19,5 @@ pub use listing::{put_in_order, rows_in_order};
 pub use numbered::{Misfit, Numbered};
 pub use parts::{EffectRef, Effects, PARTS_MAX};
 pub use plain::PlainTables;
-pub use shadows::{Colour, NewBid, NewClose, NewItem, NewRename, NewRestock, Shadow};
+pub use renames::NewRename;
+pub use shadows::{Colour, NewBid, NewClose, NewItem, NewRestock, Shadow};

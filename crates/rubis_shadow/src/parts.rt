@@ -8,7 +8,8 @@ ghost use Rattle.rubis_shadow.specs.BoxedRows.{HasBoxedRow, boxed_row_in};
 ghost use Rattle.rubis_schema.specs.declared.rows.Row.TheVariants as rows;
 
 use crate::changes::{Change, Effect};
-use crate::shadows::{NewBid, NewClose, NewItem, NewRename, NewRestock, Shadow};
+use crate::renames::NewRename;
+use crate::shadows::{NewBid, NewClose, NewItem, NewRestock, Shadow};
 use rubis_schema::{
     Best, BidRow, Boxed, CommentRow, Id, ItemRow, Nick, PurchaseRow, Row, RowKey, Sale, Shared,
     UserRow,
@@ -139,7 +140,7 @@ fn part_at<'a>(id: Id, red: u32, shadow: &'a Shadow, place: u8) -> Option<Effect
         Shadow::Close(close) => close_part(*close, place),
         Shadow::Comment(comment) => comment_part(id, comment, place),
         Shadow::Restock(restock) => restock_part(*restock, place),
-        Shadow::Rename(rename) => rename_part(*rename, place),
+        Shadow::Rename(rename) => rename_part(rename, place),
     }
 }
 
@@ -275,21 +276,21 @@ fn restock_part<'a>(restock: NewRestock, place: u8) -> Option<EffectRef<'a>>
 }
 
 #[inline(always)]
-fn rename_part<'a>(rename: NewRename, place: u8) -> Option<EffectRef<'a>>
-    ensures { result ≡ slice_get (parts rename.user 0 (Shadow.Rename rename)) place }
+fn rename_part<'a>(rename: &NewRename, place: u8) -> Option<EffectRef<'a>>
+    ensures { result ≡ slice_get (parts rename.now.user 0 (Shadow.Rename rename.now)) place }
 {
     match place {
         0 => Some(EffectRef {
-            key: RowKey::User(rename.user),
-            change: ChangeRef::Renamed(rename.to),
+            key: RowKey::User(rename.user()),
+            change: ChangeRef::Renamed(rename.to()),
         }),
         1 => Some(EffectRef {
-            key: RowKey::Nick(rename.from),
-            change: ChangeRef::NickFreed(rename.user),
+            key: RowKey::Nick(rename.from()),
+            change: ChangeRef::NickFreed(rename.user()),
         }),
         2 => Some(EffectRef {
-            key: RowKey::Nick(rename.to),
-            change: ChangeRef::NewNick(rename.user),
+            key: RowKey::Nick(rename.to()),
+            change: ChangeRef::NewNick(rename.user()),
         }),
         _ => None,
     }

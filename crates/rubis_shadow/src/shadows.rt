@@ -1,6 +1,7 @@
 ghost use Rattle.std.specs.Prelude.{◌≡◌, IfOk};
 ghost use Rattle.rubis_shadow.specs.Shadows.{colour_of};
 
+use crate::renames::NewRename;
 use rubis_schema::{CommentRow, Id, Name, Nick, PurchaseRow, Shared};
 use std::alloc::AllocError;
 
@@ -37,14 +38,6 @@ pub struct NewClose {
 pub struct NewRestock {
     pub item: Id,
     pub quantity: u64,
-}
-
-/// Another nickname of a user, in place of the one that it has.
-#[derive(Clone, Copy, PartialEq, Eq, Debug)]
-pub struct NewRename {
-    pub user: Id,
-    pub from: Nick,
-    pub to: Nick,
 }
 
 /// What an accepted ask does, at every site. The larger ones are shared by their copies, so

@@ -37,7 +37,7 @@ none_over false row o = refl
 pub removed_found : (b : Bool) (row : Row) (o p q : Option Row) → q ≡ cond b None p → p ≡ cond b (Some row) o → q ≡ cond b None o
 removed_found b row o p q less changed = less ∙ ap (cond b None) changed ∙ none_over b row o
 
--- the first of the rows that were linked are linked when one was put behind
+-- the first of the rows that were linked are linked when one was put after
 pub linked_put : (put : Bool) (es fs : List (IdKey × Row)) (k : IdKey) (row : Row) (c : Chains) → put ≡ is_none (lookup (same_id_key k) es)
     → (put ≡ true → fs ≡ insert_entry same_id_key es k row) → (put ≡ false → fs ≡ es)
     → IsLinkedSoFar (chains_of (written row_key es)) c → IsLinkedSoFar (chains_of (written row_key fs)) c

@@ -34,7 +34,7 @@ module _ {K : Type 0} (f : K → RowKey) (same : K → K → Bool) (is : (k l : 
   all_written k [] h = tt
   all_written k (e ∷ es) h = (sym (is k e.0) ∙ h.0, all_written k es h.1)
 
-  -- behind them come keys of other maps
+  -- after them come keys of other maps
   distinct_written : (ys : List RowKey) → ((k : K) → AllByRecursion (λ y. key_eq (f k) y ≡ false) ys) → IsDistinct key_eq ys
       → (es : List (K × Row)) → IsDistinct same (keys_of es) → IsDistinct key_eq (keys_of (written f es) ++ ys)
   unfolding IsDistinct

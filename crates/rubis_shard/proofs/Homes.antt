@@ -77,7 +77,7 @@ module _ (ts : List ShardState) (at : ℕ) (x : ShardState) (there : slice_get t
   hollow_order order = order_set ts at x (emptied x) order there refl refl
 
   module _ (from : ℕ) (ns : List Numbered) (mid : List ShardState) (after : from ≤ at) where
-    -- the shards behind it are done, so it is as it was left
+    -- the shards after it are done, so it is as it was left
     pub mid_at : {E : Type 0} (r : Result (Unit {0}) E) → OnOk r (FoldsFrom (at + 1) hollow ns mid) → OnErr r (mid ≡ hollow)
         → slice_get mid at ≡ Some (emptied x)
     mid_at (Ok u) h e = h.before at (omega arith) ∙ at_hollow
@@ -127,7 +127,7 @@ own_put shards k old new own ns true rows is done undone = own_after shards k ol
 own_put shards k old new own ns false rows is done undone =
     subst (λ (f : Folded). part_of shards k f.tables ≡ f.tables) (sym (undone refl)) rows
 
--- ---- a shard that was taken from `at`, and is put back once the shards behind it are folded on
+-- ---- a shard that was taken from `at`, and is put back once the shards after it are folded on
 module _ {E : Type 0} (ts mid : List ShardState) (shards at from : ℕ) (ns : List Numbered) (x y s : ShardState) (r : Result
     (Unit {0}) E)
     (there : slice_get ts at ≡ Some x) (order : AreInOrder ts) (many : shards ≡ length ts) (left : y ≡ emptied x) (behind :

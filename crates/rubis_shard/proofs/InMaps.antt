@@ -38,7 +38,7 @@ pub none_written : {K : Type 0} (f : K → RowKey) (q : RowKey) → ((k : K) →
 none_written f q apart [] = refl
 none_written f q apart (e ∷ es) = ap (λ b. cond b (Some e.1) (lookup (key_eq q) (written f es))) (apart e.0) ∙ none_written f q apart es
 
--- ---- one map behind another
+-- ---- one map after another
 pub found_first : (test : RowKey → Bool) (xs ys : Entries) → lookup test ys ≡ None → lookup test (xs ++ ys) ≡ lookup test xs
 found_first test [] ys none = none
 found_first test (x ∷ xs) ys none = ap (cond (test x.0) (Some x.1)) (found_first test xs ys none)

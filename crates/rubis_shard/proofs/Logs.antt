@@ -1,4 +1,4 @@
--- What the shards of a log hold, and how a batch behind it is folded on.
+-- What the shards of a log hold, and how a batch after it is folded on.
 use Rattle.std.proofs.Common.{ℕ, ◌≡◌, ◌+◌, ◌<◌, List, ◌++◌, length, sym, ap, ◌∙◌, arith}
 use Rattle.std.specs.Prelude.{Some, nat_eq, filter, slice_get}
 use Rattle.std.proofs.lemmas.List.Elements.{filter-append}
@@ -50,7 +50,7 @@ set_of_log shards log ts l h = record {
   order = order_of_log shards log ts h;
 }
 
--- ---- a batch behind the log
+-- ---- a batch after the log
 pub batch_at_home : (shards : ℕ) (log batch : List Core) (old new : List ShardState) → HoldsLog shards log old
     → FoldsAtHome old (numbered_from (1 + length log) batch) new → HoldsLog shards (log ++ batch) new
 batch_at_home shards log batch old new h f = record {

@@ -1,4 +1,4 @@
--- The rows that a listing is of, among those of three maps.
+-- The rows that match a listing, among those of three maps.
 use Rattle.std.proofs.Common.{◌≡◌, ℕ, Bool, true, false, cond, ◌&&◌, ◌<◌, List, [], ◌∷◌, ◌++◌, take, length, refl, sym, ap, ◌∙◌, append_assoc, arith}
 use Rattle.std.specs.Prelude.{Some, filter, option_map, slice_get, zero, suc}
 use Rattle.std.proofs.lemmas.List.{append-nil}

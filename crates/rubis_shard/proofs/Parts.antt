@@ -4,17 +4,17 @@ use Rattle.std.specs.Prelude.{nat_eq, slice_get}
 use Rattle.std.proofs.lemmas.List.Elements.{filter-append}
 use Rattle.rubis_schema.specs.Keys.{home}
 use Rattle.rubis_schema.specs.declared.ids.Id.{Id}
-use Rattle.rubis_shadow.specs.Parts.{parts}
 use Rattle.rubis_shadow.specs.declared.numbered.Numbered.{Numbered}
 use Rattle.rubis_shadow.specs.declared.changes.Effect.{Effect}
 use Rattle.rubis_shadow.specs.declared.parts.TheConstants.{PARTS_MAX}
 use Rattle.rubis_shadow.proofs.Lists.{few_parts}
-use Rattle.rubis_model.specs.Log.{Folded, fold_on, number_parts}
+use Rattle.rubis_model.specs.Log.{Folded, fold_on, number_parts, parts_of}
 use Rattle.rubis_model.specs.Shares.{part_of}
 use Rattle.rubis_model.proofs.Shares.{fold_on_is, share_tables, tables_after}
 use Rattle.rubis_shard.specs.Holdings.{parts_at}
-use Rattle.rubis_shard.specs.Messages.{numbered_of, at_place, list_of}
-use Rattle.rubis_shard.specs.declared.message_parts.MessageParts.{MessageParts}
+use Rattle.rubis_shard.specs.Entries.{core_of, numbered_of}
+use Rattle.rubis_shard.specs.Messages.{at_place, list_of}
+use Rattle.rubis_shard.specs.declared.entries.LogEntry.{LogEntry}
 use Rattle.rubis_shard.proofs.Openings.{part_twice}
 
 -- at most three parts, place by place
@@ -30,11 +30,11 @@ pub parts_at_append : (shards k : ℕ) (a b : List Numbered)
     → parts_at shards k (a ++ b) ≡ parts_at shards k a ++ parts_at shards k b
 parts_at_append shards k = filter-append (λ n. nat_eq (home shards n.effect.key) k)
 
-pub none_at_all : (m : MessageParts) (shards k : ℕ) → parts_at shards k (at_place m 0) ≡ []
+pub none_at_all : (m : LogEntry) (shards k : ℕ) → parts_at shards k (at_place m 0) ≡ []
     → parts_at shards k (at_place m 1) ≡ []
     → parts_at shards k (at_place m 2) ≡ [] → parts_at shards k (numbered_of m) ≡ []
 none_at_all m shards k a b c =
-    ap (parts_at shards k) (by_place m.entry m.id (parts m.id m.red m.shadow.now) (few_parts m.id m.red m.shadow.now))
+    ap (parts_at shards k) (by_place m.number m.id (parts_of (core_of m)) (few_parts m.id m.red m.shadow.now))
     ∙ parts_at_append shards k (at_place m 0) (at_place m 1 ++ at_place m 2)
     ∙ (λ i. a i ++ parts_at shards k (at_place m 1 ++ at_place m 2))
     ∙ parts_at_append shards k (at_place m 1) (at_place m 2) ∙ (λ i. b i ++ c i)

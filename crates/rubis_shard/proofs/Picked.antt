@@ -1,4 +1,4 @@
--- The rows that a listing is of, put in key order.
+-- The rows that match a listing, put in key order.
 use Rattle.std.proofs.Common.{◌≡◌, Bool, true, false, cond, T, ◌&&◌, refl, sym, ap, ◌∙◌, subst, List, [], ◌∷◌, ◌++◌, length}
 use Rattle.std.specs.Prelude.{None, Some, Option, filter, flat_map}
 use Rattle.std.specs.List.{AllByRecursion, IsDistinct}
@@ -115,7 +115,7 @@ module _ (p : RowKey × Row → Bool) where
       ∙ sym (map.get-from_sorted key_order (filter p rows) q in_order)) in
       ap map.entries same ∙ map.entries-from_sorted key_order _ in_order
 
--- the entries of one table that a listing is of, put in key order
+-- the entries of one table that match a listing, put in key order
 pub picked_listed : (l : Listing) (t : Table) (es gs : Entries) → IsDistinct key_eq (keys_of es)
     → IsPermutation (filter (λ e. holds t e.0) (picked_by l es)) gs
     → IsSortedByKey first_of key_order gs → gs ≡ listed_of l t (tables_of es)

@@ -1,4 +1,4 @@
--- The rows that a listing is of are found along their chain, the last one first.
+-- The rows that match a listing are found along their chain, the last one first.
 use Rattle.std.proofs.Common.{◌≡◌, ℕ, zero, suc, ◌+◌, ◌-◌, ◌<◌, ◌≤◌, Bool, true, false, cond, ◌&&◌, List, [], ◌∷◌, ◌++◌, length, take, get_or, refl, sym, ap, subst, ◌∙◌, arith, reverse, append_assoc}
 use Rattle.std.specs.Prelude.{IfOk, Result, Ok, Err, None, Some, filter, slice_get}
 use Rattle.std.proofs.lemmas.Bool.{false≢true}
@@ -56,7 +56,7 @@ of_comments : (user : Id) (k : RowKey) (r : Row) → is_of (listing.Comments use
 of_comments user (key.Comment id) (row.Comment c) e = ap (λ (i : Id). Some (chain_by table.Comment i)) ((Decides-same_id c.to user).0 e)
 of_comments user k r e = absurd (false≢true e)
 
--- a row that a listing is of is in the listing's chain
+-- a row that matches a listing is in the listing's chain
 of_chain : (l : Listing) (k : RowKey) (r : Row) (chain : IdKey) → chain_with l ≡ Some chain → is_of l k r ≡ true → chain_of r ≡ Some chain
 of_chain (listing.Items cat) k r chain w e = of_items cat k r e ∙ w
 of_chain (listing.Bids item) k r chain w e = of_bids item k r e ∙ w

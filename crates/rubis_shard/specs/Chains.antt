@@ -30,7 +30,7 @@ chain_of (row.Purchase p) = Some (chain_by table.Purchase p.item)
 chain_of (row.Comment c) = Some (chain_by table.Comment c.to)
 chain_of r = None
 
--- the chain that has all rows of a listing, if it is of rows that belong together
+-- the chain that has all rows that match a listing, if one does
 abbrev pub chain_with : Listing → Option IdKey
 chain_with (listing.Items cat) = Some (chain_of_items cat)
 chain_with (listing.Bids item) = Some (chain_by table.Bid item)
@@ -42,7 +42,7 @@ chain_with l = None
 abbrev pub chains_of : List (RowKey × Row) → List (Option IdKey)
 chains_of es = each (λ e. chain_of e.1) es
 
--- a row in that chain, or in none, is in chain k
+-- whether a row that has that chain, or none, is in chain k
 abbrev pub is_in : Option IdKey → IdKey → Bool
 is_in None k = false
 is_in (Some chain) k = same_id_key chain k
@@ -62,13 +62,13 @@ abbrev pub last_noted : Option IdKey → List (IdKey × ℕ) → ℕ
 last_noted None noted = 0
 last_noted (Some k) noted = unwrap_or (lookup (same_id_key k) noted) 0
 
--- rows in these chains are linked so
+-- `c` links rows with the chains `cs`: it has each chain's last row, and for each row the one before it in its chain
 pub record Links (cs : List (Option IdKey)) (c : Chains) : Type 0 where
   pub many : length c.before.items ≡ length cs
   pub last : (k : IdKey) → last_noted (Some k) c.last.entries ≡ last_among k cs (length cs)
   pub before : (i : ℕ) → i < length cs → slice_index c.before.items i ≡ last_before (get_or cs i None) cs i
 
--- the first of the rows in these chains are linked so, as many as there are links
+-- `c` links a prefix of the rows with the chains `cs`: as many rows as it has links
 pub record IsLinkedSoFar (cs : List (Option IdKey)) (c : Chains) : Type 0 where
   pub many : length c.before.items ≤ length cs
   pub links : Links (take (length c.before.items) cs) c

@@ -26,7 +26,7 @@ table_of (group.Bids item) = table.Bids
 table_of (group.Purchases item) = table.Purchases
 table_of (group.Comments user) = table.Comments
 
--- the row at a key, if there is one, is of the group
+-- the row at a key, if there is one, belongs to the group
 abbrev pub is_of_row : Group → RowKey → Option Row → Bool
 is_of_row g k None = false
 is_of_row g k (Some row) = is_of (listing_of g) k row

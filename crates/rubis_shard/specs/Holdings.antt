@@ -32,7 +32,7 @@ pub record IsSet (ts : List ShardState) : Type 0 where
 abbrev pub union : List ShardState → Tables
 union ts = map.from_entries (flat_map (λ s. map.entries (part_of s.shards s.number s.folded.tables)) ts)
 
--- the misfits of all shards, one shard behind the other
+-- the misfits of all shards, one shard after the other
 abbrev pub all_misfits : List ShardState → List Misfit
 all_misfits ts = flat_map (λ (s : ShardState). s.folded.misfits) ts
 
@@ -52,7 +52,7 @@ pub record FoldsOn (k : ℕ) (ns : List Numbered) (old new : List ShardState) : 
   pub here : (s : ShardState) → slice_get old k ≡ Some s → slice_get new k ≡ Some (with_parts s ns)
   pub others : (j : ℕ) → ¬ (j ≡ k) → slice_get new j ≡ slice_get old j
 
--- shards that hold a log come to hold it with the message behind it, which is that entry
+-- shards that hold a log come to hold it with the message after it, which is that entry
 abbrev pub TakesOn : Core → ℕ → List ShardState → List ShardState → Type 0
 TakesOn m entry old new = (shards : ℕ) (log : List Core) → entry ≡ length log + 1 → HoldsLog shards log old
     → HoldsLog shards (log ++ m ∷ []) new

@@ -9,4 +9,5 @@ pub mod Holdings
 pub mod Laws
 pub mod Messages
 pub mod Listed
+pub mod Entries
 pub mod Groups

@@ -1,4 +1,4 @@
--- The rows that a listing is of.
+-- The rows that match a listing.
 use Rattle.std.specs.Prelude.{List, filter}
 use Rattle.std.specs.FinMap as map
 use Rattle.rubis_schema.specs.Keys.{holds}
@@ -9,7 +9,7 @@ use Rattle.rubis_schema.specs.declared.row_keys.Table.{Table}
 use Rattle.rubis_schema.specs.declared.rows.Row.{Row}
 use Rattle.rubis_model.specs.Listings.{is_of}
 
--- the rows that a listing is of, with their keys
+-- the rows that match a listing, with their keys
 abbrev pub picked_by : Listing → List (RowKey × Row) → List (RowKey × Row)
 picked_by l es = filter (λ e. is_of l e.0 e.1) es
 

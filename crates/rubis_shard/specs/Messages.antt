@@ -1,12 +1,12 @@
 -- One message folded on the shards of a set, each part at its home.
 use Rattle.std.specs.Prelude.{ℕ, ◌≡◌, ◌+◌, ◌<◌, ◌≤◌, List, [], ◌∷◌, Option, Some, None, length, slice_get}
-use Rattle.rubis_shadow.specs.Parts.{parts}
 use Rattle.rubis_shadow.specs.declared.numbered.Numbered.{Numbered}
-use Rattle.rubis_model.specs.Log.{number_parts}
+use Rattle.rubis_model.specs.Log.{number_parts, parts_of}
 use Rattle.rubis_shard.specs.States.{ShardState, with_parts}
+use Rattle.rubis_shard.specs.Entries.{core_of}
 use Rattle.rubis_shard.specs.Holdings.{parts_at}
 use Rattle.rubis_shard.specs.Stores.{nothing_held}
-use Rattle.rubis_shard.specs.declared.message_parts.MessageParts.{MessageParts}
+use Rattle.rubis_shard.specs.declared.entries.LogEntry.{LogEntry}
 
 -- the shard without its rows and misfits
 abbrev pub emptied : ShardState → ShardState
@@ -16,13 +16,9 @@ abbrev pub list_of : {X : Type 0} → Option X → List X
 list_of None = []
 list_of (Some x) = x ∷ []
 
--- all parts of the message
-abbrev pub numbered_of : MessageParts → List Numbered
-numbered_of m = number_parts m.entry 1 m.id (parts m.id m.red m.shadow.now)
-
--- its part at a place, from 0, if there is one
-abbrev pub at_place : MessageParts → ℕ → List Numbered
-at_place m place = number_parts m.entry (place + 1) m.id (list_of (slice_get (parts m.id m.red m.shadow.now) place))
+-- the entry's part at a place, from 0, if there is one
+abbrev pub at_place : LogEntry → ℕ → List Numbered
+at_place entry place = number_parts entry.number (place + 1) entry.id (list_of (slice_get (parts_of (core_of entry)) place))
 
 -- each shard from a number on has its parts folded on, and the shards before it are as they were
 pub record FoldsFrom (from : ℕ) (old : List ShardState) (ns : List Numbered) (new : List ShardState) : Type 0 where

@@ -23,7 +23,7 @@ kept_of r = written row_key r.kept.entries
 abbrev pub linked_of : Rows → List (RowKey × Row)
 linked_of r = take (length r.chains.before.items) (kept_of r)
 
--- all, one map behind the other
+-- all, one map after the other
 abbrev pub entries_of : Rows → List (RowKey × Row)
 entries_of r = kept_of r ++ (written key.Nick r.nicks.entries ++ written key.Cat r.cats.entries)
 

@@ -92,7 +92,7 @@ impl Chains {
         }
     }
 
-    // Puts a row behind the others, in that chain. When out of memory, nothing changes.
+    // Appends a row to the others, in that chain. When out of memory, nothing changes.
     fn push(&mut self, chain: Option<IdKey>) -> Result<(), AllocError>
         ensures ok { OnOk result ((cs : List _) → Links cs self.old → Links (cs ++ chain ∷ []) self.new) }
         ensures err { OnErr result ((cs : List _) → Links cs self.old → Links cs self.new) }
@@ -122,7 +122,7 @@ impl Chains {
         self.before.clear();
     }
 
-    /// Links the rows behind those that are linked. When out of memory, some of them may be linked.
+    /// Links the rows after those that are linked. When out of memory, some of them may be linked.
     pub fn link(&mut self, rows: &IndexMap<IdKey, Row, KeyHashes>) -> Result<(), AllocError>
         requires { IsLinkedSoFar (chains_of (written row_key rows.now.entries)) self.old }
         ensures linked { IsLinkedSoFar (chains_of (written row_key rows.now.entries)) self.new }

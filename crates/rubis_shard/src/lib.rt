@@ -2,6 +2,7 @@
 #![tactic(auto)]
 
 mod chains;
+mod entries;
 mod groups;
 mod laws;
 mod map_keys;
@@ -18,6 +19,7 @@ mod shares;
 mod stores;
 mod tables;
 
+pub use entries::LogEntry;
 pub use groups::Group;
 pub use laws::shards_hold_logs;
 pub use rubis_shadow::{Misfit, Numbered};

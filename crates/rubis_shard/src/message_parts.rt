@@ -1,25 +1,22 @@
 // A message on its way to the shards.
 
 ghost use Rattle.std.specs.Prelude.{◌≡◌, slice_get};
-ghost use Rattle.rubis_shadow.specs.Parts.{parts};
+ghost use Rattle.rubis_model.specs.Log.{parts_of};
+ghost use Rattle.rubis_shard.specs.Entries.{core_of};
 ghost use Rattle.rubis_shard.specs.Holdings.{home_or};
 
-use rubis_schema::Id;
-use rubis_shadow::Shadow;
+use crate::entries::LogEntry;
 
-/// A message at its entry of the log, to be folded on `shards` shards, with the home of each of its parts. Where there
-/// is no part, the home is `shards`.
+/// An entry of the log, to be folded on `shards` shards, with the home of each of its parts. Where there is no part, the
+/// home is `shards`.
 #[derive(Clone, Copy)]
 pub struct MessageParts<'a> {
-    pub entry: u32,
-    pub id: Id,
-    pub red: u32,
-    pub shadow: &'a Shadow,
+    pub entry: LogEntry<'a>,
     pub shards: usize,
     pub first: usize,
     pub second: usize,
     pub third: usize,
-    ghost first_home: { first ≡ home_or shards (slice_get (parts id red shadow.now) 0) },
-    ghost second_home: { second ≡ home_or shards (slice_get (parts id red shadow.now) 1) },
-    ghost third_home: { third ≡ home_or shards (slice_get (parts id red shadow.now) 2) },
+    ghost first_home: { first ≡ home_or shards (slice_get (parts_of (core_of entry)) 0) },
+    ghost second_home: { second ≡ home_or shards (slice_get (parts_of (core_of entry)) 1) },
+    ghost third_home: { third ≡ home_or shards (slice_get (parts_of (core_of entry)) 2) },
 }

@@ -1,49 +1,44 @@
 ghost use Rattle.std.specs.Prelude.{◌≡◌, ℕ, ◌+◌, ◌<◌, ◌≤◌, [], length, slice_get, true, false, IfOk, OnOk, OnErr};
 ghost use Rattle.rubis_shadow.specs.BoxedRows.{HasBoxedRow};
-ghost use Rattle.rubis_shadow.specs.Parts.{parts};
-ghost use Rattle.rubis_model.specs.Log.{fold_on};
+ghost use Rattle.rubis_model.specs.Log.{fold_on, parts_of};
+ghost use Rattle.rubis_shard.specs.Entries.{core_of, numbered_of};
 ghost use Rattle.rubis_shard.specs.Holdings.{home_or, parts_at, AreInOrder};
-ghost use Rattle.rubis_shard.specs.Messages.{numbered_of, at_place, FoldsFrom};
+ghost use Rattle.rubis_shard.specs.Messages.{at_place, FoldsFrom};
 ghost use Rattle.rubis_shard.specs.Stores.{held_by, HasRoom};
 
+use crate::entries::LogEntry;
 use crate::message_parts::MessageParts;
 use crate::shard_store::Store;
 use crate::shards::Shard;
-use rubis_schema::{Id, Row, shard_of};
-use rubis_shadow::{Numbered, Shadow};
+use rubis_schema::{Row, shard_of};
+use rubis_shadow::Numbered;
 use std::alloc::{AllocError, Global};
 
-// The home of the shadow's part at this place, or the number of shards where there is none.
+// The home of the entry's part at this place, or the number of shards where there is none.
 #[inline(always)]
-fn home_at(id: Id, shadow: &Shadow, shards: usize, place: u8) -> usize
+fn home_at(entry: &LogEntry<'_>, shards: usize, place: u8) -> usize
     requires { 0 < shards }
-    ensures { (red : ℕ) → result ≡ home_or shards (slice_get (parts id red shadow.now) place) }
+    ensures { result ≡ home_or shards (slice_get (parts_of (core_of entry.now)) place) }
 {
-    match shadow.key(id, place) {
+    match entry.shadow.key(entry.id, place) {
         Some(key) => shard_of(&key, shards),
         None => shards,
     }
 }
 
 impl<'a> MessageParts<'a> {
-    /// The message with this shadow.
-    pub fn new(entry: u32, id: Id, red: u32, shadow: &'a Shadow, shards: usize) -> MessageParts<'a>
+    /// The parts of this entry, on that many shards.
+    pub fn new(entry: &LogEntry<'a>, shards: usize) -> MessageParts<'a>
         requires { 0 < shards }
-        ensures entry { result.entry ≡ entry }
-        ensures id { result.id ≡ id }
-        ensures red { result.red ≡ red }
-        ensures shadow { result.shadow.now ≡ shadow.entry.now }
+        ensures entry { result.entry ≡ entry.now }
         ensures shards { result.shards ≡ shards }
     {
         MessageParts {
-            entry,
-            id,
-            red,
-            shadow,
+            entry: *entry,
             shards,
-            first: home_at(id, shadow, shards, 0),
-            second: home_at(id, shadow, shards, 1),
-            third: home_at(id, shadow, shards, 2),
+            first: home_at(entry, shards, 0),
+            second: home_at(entry, shards, 1),
+            third: home_at(entry, shards, 2),
         }
     }
 
@@ -51,7 +46,7 @@ impl<'a> MessageParts<'a> {
     #[inline(always)]
     fn home(&self, place: u8) -> usize
         requires { place < 3 }
-        ensures { result ≡ home_or self.now.shards (slice_get (parts self.now.id self.now.red self.now.shadow.now) place) }
+        ensures { result ≡ home_or self.now.shards (slice_get (parts_of (core_of self.now.entry)) place) }
     {
         match place {
             0 => self.first,
@@ -68,7 +63,7 @@ impl<'a> MessageParts<'a> {
         requires within { least ≤ self.now.shards }
         ensures from { from ≤ result }
         ensures least { result ≤ least }
-        ensures none { (k : ℕ) → from ≤ k → k < result → parts_at self.now.shards k (at_place self.now place) ≡ [] }
+        ensures none { (k : ℕ) → from ≤ k → k < result → parts_at self.now.shards k (at_place self.now.entry place) ≡ [] }
     {
         let home = self.home(place);
         if from <= home && home < least {
@@ -84,7 +79,7 @@ impl<'a> MessageParts<'a> {
         requires { from ≤ self.now.shards }
         ensures from { from ≤ result }
         ensures within { result ≤ self.now.shards }
-        ensures none { (k : ℕ) → from ≤ k → k < result → parts_at self.now.shards k (numbered_of self.now) ≡ [] }
+        ensures none { (k : ℕ) → from ≤ k → k < result → parts_at self.now.shards k (numbered_of self.now.entry) ≡ [] }
     {
         let first = self.home_from(0, from, self.shards);
         let second = self.home_from(1, from, first);
@@ -95,12 +90,12 @@ impl<'a> MessageParts<'a> {
     #[inline(always)]
     fn boxed_row(&self, alloc: Global, at: usize) -> Result<Option<Row>, AllocError>
         requires { at < self.now.shards }
-        ensures { IfOk result (λ row. self.now.first ≡ at → HasBoxedRow (slice_get (parts self.now.id self.now.red self.now.shadow.now) 0) row) }
+        ensures { IfOk result (λ row. self.now.first ≡ at → HasBoxedRow (slice_get (parts_of (core_of self.now.entry)) 0) row) }
     {
         if self.first != at {
             return Ok(None);
         }
-        self.shadow.boxed_row(alloc)
+        self.entry.shadow.boxed_row(alloc)
     }
 
     // Folds the part at this place on, if its home is the shard.
@@ -109,20 +104,21 @@ impl<'a> MessageParts<'a> {
         requires at { at < self.now.shards }
         requires place { place < 3 }
         requires room { HasRoom store.old 1 }
-        requires row { home_or self.now.shards (slice_get (parts self.now.id self.now.red self.now.shadow.now) place) ≡ at → HasBoxedRow (slice_get (parts self.now.id self.now.red self.now.shadow.now) place) row }
-        ensures folded { held_by store.new ≡ fold_on (held_by store.old) (parts_at self.now.shards at (at_place self.now place)) }
+        requires row { home_or self.now.shards (slice_get (parts_of (core_of self.now.entry)) place) ≡ at → HasBoxedRow (slice_get (parts_of (core_of self.now.entry)) place) row }
+        ensures folded { held_by store.new ≡ fold_on (held_by store.old) (parts_at self.now.shards at (at_place self.now.entry place)) }
         ensures room { (n : ℕ) → HasRoom store.old (n + 1) → HasRoom store.new n }
     {
         if self.home(place) != at {
             return;
         }
-        let Some(effect) = self.shadow.effect(self.id, self.red, place) else {
+        let entry = &self.entry;
+        let Some(effect) = entry.shadow.effect(entry.id, entry.red, place) else {
             return;
         };
         store.fold(Numbered {
-            entry: self.entry,
+            entry: entry.number,
             part: place + 1,
-            id: self.id,
+            id: entry.id,
             effect: effect.own_with(row),
         });
     }
@@ -133,8 +129,8 @@ impl<'a> MessageParts<'a> {
     pub fn fold_at(&self, store: &mut Store, at: usize, row: Option<Row>)
         requires at { at < self.now.shards }
         requires room { HasRoom store.old 3 }
-        requires row { self.now.first ≡ at → HasBoxedRow (slice_get (parts self.now.id self.now.red self.now.shadow.now) 0) row }
-        ensures { held_by store.new ≡ fold_on (held_by store.old) (parts_at self.now.shards at (numbered_of self.now)) }
+        requires row { self.now.first ≡ at → HasBoxedRow (slice_get (parts_of (core_of self.now.entry)) 0) row }
+        ensures { held_by store.new ≡ fold_on (held_by store.old) (parts_at self.now.shards at (numbered_of self.now.entry)) }
     {
         self.fold_place(store, at, 0, row);
         self.fold_place(store, at, 1, None);
@@ -146,8 +142,8 @@ impl<'a> MessageParts<'a> {
     fn fold_if(&self, store: &mut Store, at: usize, row: Option<Row>, wanted: bool)
         requires at { at < self.now.shards }
         requires room { HasRoom store.old 3 }
-        requires row { self.now.first ≡ at → HasBoxedRow (slice_get (parts self.now.id self.now.red self.now.shadow.now) 0) row }
-        ensures wanted { wanted ≡ true → held_by store.new ≡ fold_on (held_by store.old) (parts_at self.now.shards at (numbered_of self.now)) }
+        requires row { self.now.first ≡ at → HasBoxedRow (slice_get (parts_of (core_of self.now.entry)) 0) row }
+        ensures wanted { wanted ≡ true → held_by store.new ≡ fold_on (held_by store.old) (parts_at self.now.shards at (numbered_of self.now.entry)) }
         ensures unwanted { wanted ≡ false → held_by store.new ≡ held_by store.old }
     {
         if wanted {
@@ -156,7 +152,7 @@ impl<'a> MessageParts<'a> {
     }
 }
 
-// Folds the parts whose home is the shard `at` or one behind it. No shard changes before each has room.
+// Folds the parts whose home is the shard `at` or one after it. No shard changes before each has room.
 fn fold_homes(
     alloc: Global,
     list: &mut [Shard],
@@ -166,7 +162,7 @@ fn fold_homes(
     requires shards { message.now.shards ≡ length list.old }
     requires order { AreInOrder list.old }
     requires within { at < length list.old }
-    ensures ok { OnOk result (FoldsFrom at list.old (numbered_of message.now) list.new) }
+    ensures ok { OnOk result (FoldsFrom at list.old (numbered_of message.now.entry) list.new) }
     ensures err { OnErr result (list.new ≡ list.old) }
 {
     let row = message.boxed_row(alloc, at)?;
@@ -181,7 +177,7 @@ fn fold_homes(
     folded
 }
 
-/// Folds the parts whose home is the shard `from` or one behind it. No shard changes before each has room.
+/// Folds the parts whose home is the shard `from` or one after it. No shard changes before each has room.
 #[inline(always)]
 pub fn fold_from(
     alloc: Global,
@@ -193,7 +189,7 @@ pub fn fold_from(
     requires some { 0 < length list.old }
     requires order { AreInOrder list.old }
     requires within { from ≤ length list.old }
-    ensures ok { OnOk result (FoldsFrom from list.old (numbered_of message.now) list.new) }
+    ensures ok { OnOk result (FoldsFrom from list.old (numbered_of message.now.entry) list.new) }
     ensures err { OnErr result (list.new ≡ list.old) }
 {
     let at = message.next_home(from);

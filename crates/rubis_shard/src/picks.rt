@@ -1,4 +1,4 @@
-// The rows of a shard that a listing is of.
+// The rows of a shard that match a listing.
 
 ghost use Rattle.std.specs.Prelude.{◌≡◌, ◌&&◌, Some, IfOk, map as each};
 ghost use Rattle.std.specs.List.Sorted.{IsPermutation};
@@ -19,14 +19,14 @@ use rubis_schema::{IdKey, Listing, Row, RowKey, Table};
 use std::alloc::{AllocError, Global};
 use std::hash::BuildHasher;
 
-// Whether the listing is of the row, and the row is one of the table's.
+// Whether the row matches the listing, and the row is one of the table's.
 fn picks(listing: &Listing, table: Table, key: &RowKey, row: &Row) -> bool
     ensures { result ≡ (is_of listing.now key.now row.now && holds table key.now) }
 {
     selects(listing, key, row) && table.holds(key)
 }
 
-// Those rows of one table that the listing is of, looked for among all rows of a map.
+// The rows of one table that match the listing, looked for among all rows of a map.
 fn picked_among<'a, K: MapKey, S: BuildHasher>(
     alloc: Global,
     all: &'a IndexMap<K, Row, S>,
@@ -46,7 +46,7 @@ fn picked_among<'a, K: MapKey, S: BuildHasher>(
     Ok(rows)
 }
 
-// Those rows of one table that the listing is of, in any order, looked for in the map that has the table's.
+// The rows of one table that match the listing, in any order, looked for in the map that has the table's.
 fn picked_of_all<'a>(
     alloc: Global,
     rows: &'a Rows,
@@ -89,7 +89,7 @@ fn picked_of_chain<'a>(
     Ok(picked)
 }
 
-// Adds to those of the linked rows of one table that match the listing those of the rows behind.
+// Adds the rows of one table that match the listing and aren't linked yet to those that are.
 fn with_unlinked<'a>(
     rows: &'a Rows,
     table: Table,
@@ -113,7 +113,7 @@ fn with_unlinked<'a>(
     Ok(picked)
 }
 
-// Those rows of one table that the listing is of, in any order.
+// The rows of one table that match the listing, in any order.
 fn picked<'a>(
     alloc: Global,
     rows: &'a Rows,
@@ -131,7 +131,7 @@ fn picked<'a>(
     }
 }
 
-/// Those rows of one table that the listing is of, with their keys, in key order. Only these are sorted.
+/// The rows of one table that match the listing, with their keys, in key order. Only these are sorted.
 pub fn picked_in_order<'a>(
     alloc: Global,
     rows: &'a Rows,

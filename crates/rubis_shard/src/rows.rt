@@ -129,7 +129,7 @@ impl Rows {
         Ok(())
     }
 
-    /// Links the rows behind those that are linked, so that a listing needn't look at each of them. When out of memory, some
+    /// Links the rows after those that are linked, so that a listing needn't look at each of them. When out of memory, some
     /// of them may be linked.
     pub fn link(&mut self) -> Result<(), AllocError>
         ensures same { entries_of self.new ≡ entries_of self.old }

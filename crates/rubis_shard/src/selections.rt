@@ -1,11 +1,11 @@
-// Which rows a listing is of.
+// Which rows match a listing.
 
 ghost use Rattle.std.specs.Prelude.{◌≡◌};
 ghost use Rattle.rubis_model.specs.Listings.{is_of};
 
 use rubis_schema::{Listing, Row, RowKey};
 
-/// Whether the listing is of the row at a key.
+/// Whether the listing matches the row at a key.
 pub fn selects(listing: &Listing, key: &RowKey, row: &Row) -> bool
     ensures { result ≡ is_of listing.now key.now row.now }
 {

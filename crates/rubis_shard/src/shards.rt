@@ -5,13 +5,13 @@ ghost use Rattle.std.specs.Map.{keys_of};
 ghost use Rattle.rubis_schema.specs.Keys.{key_order};
 ghost use Rattle.rubis_shadow.specs.Tables.{opening, rows_of};
 ghost use Rattle.rubis_model.specs.Shares.{part_of};
-ghost use Rattle.rubis_model.specs.Log.{fold_on, step};
+ghost use Rattle.rubis_model.specs.Log.{fold_on, parts_of, step};
 ghost use Rattle.rubis_shard.specs.Listed.{listed_of};
 ghost use Rattle.rubis_shard.specs.States.{opening_shard, with_parts, IsHomeOf, HoldsOwnRows};
-ghost use Rattle.rubis_shard.specs.Messages.{emptied, numbered_of};
+ghost use Rattle.rubis_shard.specs.Entries.{core_of, numbered_of};
+ghost use Rattle.rubis_shard.specs.Messages.{emptied};
 ghost use Rattle.rubis_shard.specs.Holdings.{parts_at};
 ghost use Rattle.rubis_shadow.specs.BoxedRows.{HasBoxedRow};
-ghost use Rattle.rubis_shadow.specs.Parts.{parts};
 ghost use Rattle.rubis_shard.specs.Rows.{tables_in};
 ghost use Rattle.rubis_shard.specs.Stores.{held_by, HasRoom};
 ghost use Rattle.rubis_shard.specs.Written.{shown};
@@ -146,7 +146,7 @@ impl Shard {
         }
     }
 
-    /// Those rows of one table that a listing is of, with their keys, in key order.
+    /// The rows of one table that match a listing, with their keys, in key order.
     pub fn listed(
         &self,
         alloc: Global,
@@ -218,8 +218,8 @@ impl Shard {
     ) -> Result<(), AllocError>
         requires at { self.old.number < message.now.shards }
         requires shards { message.now.shards ≡ self.old.shards }
-        requires row { message.now.first ≡ self.old.number → HasBoxedRow (slice_get (parts message.now.id message.now.red message.now.shadow.now) 0) row }
-        ensures ok { OnOk result (self.new ≡ with_parts self.old (parts_at message.now.shards self.old.number (numbered_of message.now))) }
+        requires row { message.now.first ≡ self.old.number → HasBoxedRow (slice_get (parts_of (core_of message.now.entry)) 0) row }
+        ensures ok { OnOk result (self.new ≡ with_parts self.old (parts_at message.now.shards self.old.number (numbered_of message.now.entry))) }
         ensures err { OnErr result (self.new ≡ self.old) }
     {
         let mut store = self.take_store(3)?;

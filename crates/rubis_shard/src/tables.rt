@@ -1,23 +1,22 @@
 ghost use Rattle.std.specs.Prelude.{◌≡◌, ◌<◌, ◌≤◌, [], map as each, length, slice_range, nat_eq, true, false, IfOk, IfErr, OnOk, OnErr};
 ghost use Rattle.std.specs.List.{All};
 ghost use Rattle.rubis_schema.specs.Keys.{home};
-ghost use Rattle.rubis_shadow.specs.Parts.{parts};
 ghost use Rattle.rubis_shadow.specs.Tables.{rows_of};
-ghost use Rattle.rubis_model.specs.Log.{number_parts};
 ghost use Rattle.rubis_shard.specs.Holdings.{AreInOrder, FoldsAtHome, FoldsOn, HoldsLog, IsSet, TakesOn, union};
+ghost use Rattle.rubis_shard.specs.Entries.{core_of, numbered_of};
 ghost use Rattle.rubis_shard.specs.Groups.{group_of};
 ghost use Rattle.rubis_shard.specs.Listed.{listed_of};
 ghost use Rattle.rubis_shard.specs.Written.{shown};
 
 use crate::chains::chain_with;
+use crate::entries::LogEntry;
 use crate::groups::Group;
 use crate::message_parts::MessageParts;
 use crate::messages::fold_from;
 use crate::orders::put_in_order;
 use crate::shards::{Applied, Shard};
 use crate::shares::Share;
-use rubis_schema::{Hashes, Id, Items, Listing, Row, RowKey, Table, View, shard_of};
-use rubis_shadow::Shadow;
+use rubis_schema::{Hashes, Items, Listing, Row, RowKey, Table, View, shard_of};
 use std::alloc::{AllocError, Global};
 use std::marker::Model;
 use std::mem;
@@ -169,7 +168,7 @@ impl Tables {
         Ok(all)
     }
 
-    /// Those rows of one table of all shards that a listing is of, with their keys, in key order.
+    /// The rows of one table of all shards that match a listing, with their keys, in key order.
     pub fn listed(
         &self,
         alloc: Global,
@@ -212,21 +211,15 @@ impl Tables {
         self.shards[share.number].apply(share, from)
     }
 
-    /// Does all parts of the message that is this entry of a log, each at its home shard: done whole, or not at all where
+    /// Folds all parts of the message that is this entry of a log, each on its home shard: done whole, or not at all where
     /// memory is refused.
-    pub fn apply_message(
-        &mut self,
-        entry: u32,
-        id: Id,
-        red: u32,
-        shadow: &Shadow,
-    ) -> Result<(), AllocError>
+    pub fn apply_message(&mut self, entry: &LogEntry<'_>) -> Result<(), AllocError>
         requires { 0 < length self.old }
-        ensures ok { OnOk result (FoldsAtHome self.old (number_parts entry 1 id (parts id red shadow.now)) self.new) }
-        ensures log { OnOk result (TakesOn (record { id = id; red = red; shadow = shadow.now }) entry self.old self.new) }
+        ensures ok { OnOk result (FoldsAtHome self.old (numbered_of entry.now) self.new) }
+        ensures log { OnOk result (TakesOn (core_of entry.now) entry.now.number self.old self.new) }
         ensures err { OnErr result (self.new ≡ self.old) }
     {
-        let message = MessageParts::new(entry, id, red, shadow, self.shards.len());
+        let message = MessageParts::new(entry, self.shards.len());
         let alloc = *self.shards.allocator();
         fold_from(alloc, &mut self.shards, &message, 0)
     }

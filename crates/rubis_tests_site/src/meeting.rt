@@ -175,7 +175,7 @@ fn two_workers_meet_in_the_third_arrival(rt: HostRuntime) -> Result<(), Fail> {
     Ok(())
 }
 
-// A message that waits for the one behind it, and a listing.
+// A message that waits for the one after it, and a listing.
 const SAID: &str = "msg,1,0,2,2,1:0,user,bob\nmsg,1,0,1,1,0:0,user,ann\nlist,users\n";
 
 const HEARD: &str = "reply,1,held\nreply,2,released,2\nreply,3,rows,2\n\

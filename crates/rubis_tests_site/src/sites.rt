@@ -16,7 +16,7 @@ fn ask_user<R: Threads + Wait + Sync>(rt: &R, site: &mut Site, nick: &[u8]) -> R
     Ok(message.stamp().id.seq)
 }
 
-// Cuts an empty site, and again behind two users.
+// Cuts an empty site, and again after two users.
 fn cut_and_ask<R: Abort + Threads + Wait + Sync>(rt: &R, site: &mut Site) -> Result<(), Fail> {
     let none = site.cut(rt)?;
     let ann = ask_user(rt, site, b"ann")?;

@@ -9,7 +9,7 @@ use rubis_schema::Fields;
 use rubis_script::{Answering, Course, InputRecord, OutOfMemory, Reply, Service, Sink};
 use std::alloc::Global;
 
-/// Answers each record by itself behind `got`, one record late.
+/// Answers each record by itself after `got`, one record late.
 #[derive(Drop)]
 pub struct Echo {
     last: Option<Fields>,

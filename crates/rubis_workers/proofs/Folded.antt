@@ -24,7 +24,7 @@ use Rattle.rubis_pieces.specs.Work.{IsWorked, pieces_of}
 use Rattle.rubis_workers.specs.Work.{AreWorked, AppliesBatch}
 use Rattle.rubis_workers.specs.declared.batches.Worked.{Worked}
 use Rattle.rubis_workers.proofs.Moved.{moves_along}
-use Rattle.rubis_workers.proofs.Numbers.{never_faulty}
+use Rattle.rubis_pieces.proofs.Numbers.{no_fault_if_moved}
 
 folded_in_place : (ss : List ShardState) (hs : List Share) (ds : List Done) → Belong ss hs → AllZip IsWorked (pieces_of ss hs) ds
     → AreFolded ss hs ds
@@ -63,7 +63,7 @@ module _ (ss : List ShardState) (hs : List Share) (taken : List Piece) (list : L
   pub no_fault : (kind : FaultKind) → IsFault (length ss) (numbers_of list) kind → ⊥
   no_fault =
       let (ds, folded, back) = in_place in
-      never_faulty (length ss) (numbers_of ds) (numbers_of list)
+      no_fault_if_moved (length ss) (numbers_of ds) (numbers_of list)
       (length-map ds (λ (d : Done). d.shard.number) ∙ folded_length ss hs ds folded)
       (folded_numbers ss hs ds order folded) (IsPermutation-map (λ (d : Done). d.shard.number) ds list
       (IsPermutation-sym list ds back))

@@ -1,6 +1,5 @@
 mod Lists
 mod Moved
-mod Numbers
 mod Folded
 pub mod Between
 pub mod NextMessage

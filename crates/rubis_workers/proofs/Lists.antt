@@ -66,7 +66,7 @@ pieces_last [] (g ∷ hs) s h e = absurd (omega arith)
 pieces_last (t ∷ ss) [] s h e = absurd (omega arith)
 pieces_last (t ∷ ss) (g ∷ hs) s h e = ap (λ l. record { shard = t; share = g } ∷ l) (pieces_last ss hs s h (omega arith))
 
--- the last piece goes behind what was posted
+-- the last piece goes after what was posted
 pub one_posted : (all left posted : List Piece) (p : Piece) → IsPermutation all ((left ++ p ∷ []) ++ posted)
     → IsPermutation all (left ++ (posted ++ p ∷ []))
 one_posted all left posted p h =

@@ -12,7 +12,7 @@ use Rattle.rubis_pieces.specs.Shares.{AreShares}
 use Rattle.rubis_pieces.specs.declared.pieces.Left.{Left}
 use Rattle.rubis_workers.specs.declared.cuts.Cut.{Cut}
 
--- the parts of the messages behind the first `from` of a log, up to message `upto`
+-- the parts of the messages after the first `from` of a log, up to message `upto`
 abbrev pub parts_between : List Message → ℕ → ℕ → List Effect
 parts_between log from upto = flat_map parts_of (cores (slice_range log from upto))
 
@@ -24,7 +24,7 @@ AreWithin sites log at = AllInLimits sites (fold_of (cores (take at log))).table
 abbrev pub StaysWithin : List Message → ℕ → ℕ → Type 0
 StaysWithin log old new = (sites : ℕ) → All (λ m. sites_of m ≡ sites) log → AreWithin sites log old → AreWithin sites log new
 
--- the messages of the log behind message `from`, up to message `upto`, are cut into a share for each shard
+-- the messages of the log after message `from`, up to message `upto`, are cut into a share for each shard
 pub record IsCut (shards : ℕ) (log : List Message) (c : Cut) : Type 0 where
   pub few : length log ≤ 1000000
   pub pending : c.from < c.upto
@@ -33,7 +33,7 @@ pub record IsCut (shards : ℕ) (log : List Message) (c : Cut) : Type 0 where
   pub parts : c.parts ≡ length (parts_between log c.from c.upto)
   pub formed : All IsMessage (slice_range log c.from c.upto)
 
--- The batch behind message `from`, up to message `upto`, is applied as far as memory went: tables that hold the log up to
+-- The batch after message `from`, up to message `upto`, is applied as far as memory went: tables that hold the log up to
 -- message `from` come to hold it up to message `now`, but for what is left, and some of the batch is done
 pub record AppliesUpto (log : List Message) (from upto : ℕ) (old new : List ShardState) (now : ℕ) (left : List Left) : Type 0 where
   pub on : from ≤ now

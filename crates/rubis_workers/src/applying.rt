@@ -109,7 +109,7 @@ fn apply_alone<G: Gate>(
     Ok(Items::new(alloc))
 }
 
-/// Applies the messages of a log behind message `at`, up to message `upto`, as one batch, as far as memory goes, by as many of
+/// Applies the messages of a log after message `at`, up to message `upto`, as one batch, as far as memory goes, by as many of
 /// the workers as its pace says, from 1 to 16. Where that is one thread, the caller's takes each shard, and folds the messages
 /// in place; else the batch is cut into shares, and a team takes the shards. Either way the gate is called for each shard.
 /// Up to message `at` the log then stands in the tables, but for the shares of the answer, with how much of each is folded.

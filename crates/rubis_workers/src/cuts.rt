@@ -12,7 +12,7 @@ use rubis_shard::Share;
 use std::alloc::{AllocError, Global};
 use std::thread::Threads;
 
-/// A batch cut into a share for each shard: the messages of a log behind message `from`, up to message `upto`, from 1.
+/// A batch cut into a share for each shard: the messages of a log after message `from`, up to message `upto`, from 1.
 #[derive(Drop)]
 pub struct Cut {
     pub shares: Vec<Share>,

@@ -10,10 +10,10 @@ ghost use Rattle.rubis_workers.specs.Logs.{StaysWithin};
 
 use rubis_message::Message;
 use rubis_pieces::Left;
-use rubis_shard::Tables;
+use rubis_shard::{LogEntry, Tables};
 use std::alloc::AllocError;
 
-/// Applies the messages of a log behind message `at`, up to message `upto`, each whole or not at all; `at` then says how many
+/// Applies the messages of a log after message `at`, up to message `upto`, each whole or not at all; `at` then says how many
 /// stand. Where memory runs out, those before the message that it was refused for stand.
 pub fn apply_upto(
     tables: &mut Tables,
@@ -36,9 +36,8 @@ pub fn apply_upto(
     ensures same { at.new ≡ at.old → tables.new ≡ tables.old }
 {
     for place in *at..upto {
-        let message = &log[place];
-        let stamp = *message.stamp();
-        tables.apply_message(place as u32 + 1, stamp.id, stamp.red, message.shadow())?;
+        let entry = LogEntry::new(place as u32 + 1, &log[place]);
+        tables.apply_message(&entry)?;
         *at = place + 1;
     }
     Ok(())

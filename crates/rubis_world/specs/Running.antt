@@ -22,11 +22,11 @@ answer_in_world (Err (Site fault.Behind)) = Err (record {})
 answer_in_world (Err (Site fault.Memory)) = Err (record {})
 answer_in_world (Err Memory) = Err (record {})
 
--- the world has come to what a step makes of it, and the text of the step's records stands behind what stood before
+-- the world has come to what a step makes of it, and the text of the step's records follows what stood before
 abbrev pub IsTold : WorldState → WorldState → World × List (List (List ℕ)) → List ℕ → List ℕ → Type 0
 IsTold old new step before after = ComesTo old new step.0 × (after ≡ before ++ rows_text step.1)
 
--- however the run ends behind some records, from record n on, its text is that of the answers to them; it reads all of them
+-- however the run ends after some records, from record n on, its text is that of the answers to them; it reads all of them
 abbrev pub world_account : ℕ → World → ℕ → Account
 world_account keep w n = record { text = λ ending records. rows_text (world_answers keep w n records); read = λ records. length records }
 

@@ -6,7 +6,7 @@ use Rattle.std.proofs.lemmas.Grind.{flat_map-append}
 use Rattle.rubis_model.specs.WorldRecords.{site_row}
 use Rattle.rubis_script.specs.Text.{plain_writer, row_text, rows_text}
 
--- the text comes to have these records of the site behind what it had
+-- the text comes to have these records of the site after what it had
 abbrev pub text_grows_by : List (List (List ℕ)) → List ℕ → ℕ → List ℕ → ℕ → Type 0
 text_grows_by rows old site new same = (new ≡ old ++ rows_text (map (site_row site) rows)) × (same ≡ site)
 

@@ -1,4 +1,4 @@
-use Rattle.std.proofs.Common.{rules, ◌≡◌, ◌∙◌, ◌+◌, ◌<◌, ◌++◌, ap, drop, length, subst, sym, map as each}
+use Rattle.std.proofs.Common.{rules, ◌≡◌, ◌+◌, ◌<◌, drop, length, subst, sym, map as each}
 use Rattle.std.specs.Prelude.{slice_index_or}
 use Rattle.rubis_schema.specs.declared.row_keys.Table.TheVariants as table
 use Rattle.rubis_shard.specs.Holdings.{union}

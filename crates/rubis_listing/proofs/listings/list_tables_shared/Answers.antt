@@ -1,4 +1,4 @@
-use Rattle.std.proofs.Common.{rules, ◌≡◌, ◌∙◌, ◌+◌, ◌<◌, ◌++◌, ap, drop, length, subst, sym, map as each}
+use Rattle.std.proofs.Common.{rules, ◌≡◌, ◌+◌, ◌<◌, drop, length, subst, sym, map as each}
 use Rattle.std.specs.Prelude.{slice_index_or}
 use Rattle.rubis_schema.specs.declared.row_keys.Table.TheVariants as table
 use Rattle.rubis_shard.specs.Holdings.{union}
@@ -12,6 +12,7 @@ use Rattle.rubis_listing.proofs.listings.list_tables_shared.Goals as goal
 
 pub loop-table-preserved : goal.loop-table-preserved
 loop-table-preserved g c s h =
+    let laws = g.met.S.RowSink g.world.𝓛 g.world.𝓜 g.world.𝓡 ((λ s x. x), (λ x. x), (λ x. x), λ x. x) in
     let listing = c.args.listing.now in
     let m = union c.args.tables.now in
     let ts = tables_of listing in
@@ -19,13 +20,14 @@ loop-table-preserved g c s h =
     let inside : at < length ts = search rules in
     let rows : each shown c.deref.result.now ≡ listed_of listing (slice_index_or ts at table.Users) m = search rules in
     let added = subst (λ es. g.S.RowSink.adds (records_of listing es) c.loop-table.sink c.put_rows_shared.new.sink) rows c.in_ok-put_rows_shared.ensures in
-    let more = g.met.S.RowSink.adds_more _ (rows_by_table listing m (drop (at + 1) ts)) _ _ s added h in
+    let more = laws.adds_more _ (rows_by_table listing m (drop (at + 1) ts)) _ _ s added h in
     c.loop-table.invariant s (subst (λ rs. g.S.RowSink.adds rs c.loop-table.sink s) (sym (tables_more listing m ts at table.Users inside)) more)
 
 pub returns : goal.returns
 returns g c =
+    let laws = g.met.S.RowSink g.world.𝓛 g.world.𝓜 g.world.𝓡 ((λ s x. x), (λ x. x), (λ x. x), λ x. x) in
     let listing = c.args.listing.now in
     let ts = tables_of listing in
     let m = union c.args.tables.now in
     subst (λ rs. g.S.RowSink.adds rs c.args.sink.now c.loop-table.sink) (all_by_table listing m)
-    (c.loop-table.invariant c.loop-table.sink (search (rules, g.met.S.RowSink.adds_none)))
+    (c.loop-table.invariant c.loop-table.sink (search (rules, laws.adds_none)))

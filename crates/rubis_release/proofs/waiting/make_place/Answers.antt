@@ -1,10 +1,11 @@
 use Rattle.std.proofs.Common.{sym, ap, ◌∙◌, arith}
 use Rattle.std.specs.List.{list_any}
 use Rattle.std.proofs.lemmas.Bool.Decides.{Decides-eqb}
+use Rattle.std.proofs.lemmas.List.{nil_from_length}
 use Rattle.rubis_schema.specs.Keys.{same_id}
 use Rattle.rubis_message.specs.Message.{Message}
 use Rattle.rubis_release.specs.Waiting.{somes}
-use Rattle.rubis_release.proofs.Gaps.{has_told, full_lookup, none_is, no_somes}
+use Rattle.rubis_release.proofs.Gaps.{has_told, full_lookup, none_is}
 use Rattle.rubis_release.proofs.waiting.make_place.Goals as goal
 
 pub returns-then-not-contains_key-clause-absent : goal.returns-then-not-contains_key-clause-absent
@@ -13,7 +14,7 @@ returns-then-not-contains_key-clause-absent c = none_is _ (sym c.contains_key.en
 pub close-requires : goal.close-requires
 close-requires c = λ e.
     let same = (Decides-eqb c.args.gone c.len.result).0 e in
-    no_somes (somes c.args.slots.now.entries) (omega (arith, same, c.len.ensures.len, c.requires.slots.gone))
+    nil_from_length (somes c.args.slots.now.entries) (omega (arith, same, c.len.ensures.len, c.requires.slots.gone))
 
 pub returns-clause-slots : goal.returns-clause-slots
 returns-clause-slots c = record { own = c.close.ensures.own c.requires.slots.own; gone = omega (arith, c.close.ensures.full) }

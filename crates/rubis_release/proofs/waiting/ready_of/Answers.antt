@@ -1,5 +1,5 @@
-use Rattle.std.proofs.Common.{◌≡◌, length, refl, subst, sym, ap, ◌∙◌, arith}
-use Rattle.std.specs.Prelude.{Some, Bool, true, false, IsTrue}
+use Rattle.std.proofs.Common.{length, subst, sym, ap, ◌∙◌, arith}
+use Rattle.std.specs.Prelude.{Some}
 use mathlib.Core.Bool.{true≢false}
 use Rattle.rubis_schema.specs.Keys.{same_id}
 use Rattle.rubis_schema.specs.declared.ids.Id.{Id}
@@ -7,6 +7,7 @@ use Rattle.rubis_clock.specs.Clocks.{IsReady}
 use Rattle.rubis_clock.specs.declared.stamps.Stamp.{Stamp}
 use Rattle.rubis_message.specs.Message.{Message}
 use Rattle.rubis_release.specs.Release.{IsAmong}
+use Rattle.rubis_release.proofs.Gaps.{un_some}
 use Rattle.rubis_release.proofs.Slots.{missing_none, found_none, found_first, key_passes, slot_has}
 use Rattle.rubis_release.proofs.waiting.ready_of.Goals as goal
 
@@ -38,17 +39,6 @@ ready-requires-clause-origin c =
     let l = (among c).id.site in
     omega (arith, e, l)
 
-not_ready : (b : Bool) → b ≡ false → IsTrue b → ⊥
-not_ready true e h = absurd (true≢false e)
-not_ready false e h = absurd (true≢false (sym h))
-
-ready_told : (b : Bool) → b ≡ true → IsTrue b
-ready_told true e = refl
-ready_told false e = absurd (true≢false (sym e))
-
-one_message : (x m : Message) → Some x ≡ Some m → x ≡ m
-one_message x m e = cc
-
 pub returns-then-not-ready : goal.returns-then-not-ready
 returns-then-not-ready c =
     let id : Id = record { site = c.args.site; seq = c.saturating_add.result } in
@@ -57,10 +47,10 @@ returns-then-not-ready c =
     c.in-Some.at c.in-Some._key.now c.in-Some.slot.now c.len-many.ensures.unique c.in-Some.ensures.entry
     (key_passes (same_id id) c.args.slots.now.entries c.in-Some._key.now c.in-Some.ensures.key)
     (λ m is ready.
-    let same = one_message c.in-Some-slot.message m (sym c.in-Some-slot.is ∙ is) in
+    let same = un_some c.in-Some-slot.message m (sym c.in-Some-slot.is ∙ is) in
     let here : IsReady c.args.clock.now c.stamp.result.now =
     subst (IsReady c.args.clock.now) (sym (c.stamp.ensures.value ∙ ap (λ (x : Message). x.stamp) same)) ready in
-    not_ready c.ready.result c.if-not-ready.true (c.ready.ensures.1 here))
+    true≢false (sym (c.ready.ensures.1 here) ∙ c.if-not-ready.true))
 
 pub returns : goal.returns
 returns c =
@@ -70,4 +60,4 @@ returns c =
     c.in-Some.at c.in-Some._key.now c.in-Some.slot.now c.len-many.ensures.unique c.in-Some.ensures.entry
     (key_passes (same_id id) c.args.slots.now.entries c.in-Some._key.now c.in-Some.ensures.key)
     c.in-Some-slot.message c.in-Some-slot.is
-    (subst (IsReady c.args.clock.now) c.stamp.ensures.value (c.ready.ensures.0 (ready_told c.ready.result c.if-not-ready.false)))
+    (subst (IsReady c.args.clock.now) c.stamp.ensures.value (c.ready.ensures.0 c.if-not-ready.false))

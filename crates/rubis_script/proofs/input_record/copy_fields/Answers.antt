@@ -6,7 +6,7 @@ use Rattle.rubis_script.proofs.input_record.copy_fields.Goals as goal
 
 pub loop-place-preserved : goal.loop-place-preserved
 loop-place-preserved c =
-    let all = fields_of c.args.row.now in
+    let all = fields_of c.args.read.now in
     let at = field_at-slice_get all c.loop-place.place in
     elim c.match-get.branch [
       | in-Some+in_ok-push_read w ↦

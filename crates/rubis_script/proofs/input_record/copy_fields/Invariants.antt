@@ -3,4 +3,4 @@ use Rattle.csv.specs.Records.{fields_of}
 use Rattle.rubis_script.proofs.input_record.copy_fields.Given as goal
 
 abbrev pub invariant-loop-place : goal.invariant-loop-place
-invariant-loop-place l = l.fields ≡ take l.place (fields_of l.row)
+invariant-loop-place l = l.fields ≡ take l.place (fields_of l.read)

@@ -3,7 +3,8 @@ use Rattle.std.specs.Prelude.{Some, slice_get}
 use Rattle.std.proofs.lemmas.Option.{slice_get_read}
 use Rattle.rubis_shard.specs.States.{ShardState, HoldsOwnRows, with_parts}
 use Rattle.rubis_shard.specs.Holdings.{AreInOrder, parts_at}
-use Rattle.rubis_shard.specs.Messages.{emptied, numbered_of}
+use Rattle.rubis_shard.specs.Entries.{numbered_of}
+use Rattle.rubis_shard.specs.Messages.{emptied}
 use Rattle.rubis_shard.specs.Stores.{held_by}
 use Rattle.rubis_shard.proofs.Homes.{folds_last_err, folds_last_ok, folds_sooner_ok, hollow_length, hollow_order, if_ok, own_back, ended_ok, ended_err}
 use Rattle.rubis_shard.proofs.messages.+fold_homes.Goals as goal
@@ -37,7 +38,7 @@ put_store-requires t c =
     let x : ShardState = c.index-list-at-2.result in
     let mid : List ShardState = c.fold_homes-folded.new.list in
     let s : ShardState = get_or mid at c.index-list-at-3.result in
-    let ns = numbered_of c.args.message.now in
+    let ns = numbered_of c.args.message.now.entry in
     let there : slice_get ts at ≡ Some x = slice_get_read ts (length ts) at x refl (search rules) c.index-list-at-2.is in
     let left : c.take_store.new.self ≡ emptied x = search rules in
     let taken : held_by c.get_mut.result.now ≡ x.folded = search rules in
@@ -60,7 +61,7 @@ returns-clause-ok t c =
     let x : ShardState = c.index-list-at-2.result in
     let mid : List ShardState = c.fold_homes-folded.new.list in
     let s : ShardState = get_or mid at c.index-list-at-3.result in
-    let ns = numbered_of c.args.message.now in
+    let ns = numbered_of c.args.message.now.entry in
     let there : slice_get ts at ≡ Some x = slice_get_read ts (length ts) at x refl (search rules) c.index-list-at-2.is in
     let left : c.take_store.new.self ≡ emptied x = search rules in
     let taken : held_by c.get_mut.result.now ≡ x.folded = search rules in
@@ -81,7 +82,7 @@ returns-clause-err t c =
     let x : ShardState = c.index-list-at-2.result in
     let mid : List ShardState = c.fold_homes-folded.new.list in
     let s : ShardState = get_or mid at c.index-list-at-3.result in
-    let ns = numbered_of c.args.message.now in
+    let ns = numbered_of c.args.message.now.entry in
     let there : slice_get ts at ≡ Some x = slice_get_read ts (length ts) at x refl (search rules) c.index-list-at-2.is in
     let left : c.take_store.new.self ≡ emptied x = search rules in
     let taken : held_by c.get_mut.result.now ≡ x.folded = search rules in
@@ -100,7 +101,7 @@ returns-then-next-list-clause-ok t c =
     let ts : List ShardState = c.args.list.now in
     let at : ℕ = c.args.at in
     let x : ShardState = c.index-list-at.result in
-    let ns = numbered_of c.args.message.now in
+    let ns = numbered_of c.args.message.now.entry in
     let there : slice_get ts at ≡ Some x = slice_get_read ts (length ts) at x refl (search rules) c.index-list-at.is in
     let read : get_or ts at x ≡ x = sym c.index-list-at.is in
     let number : (get_or ts at x).number ≡ at = ap (λ (s : ShardState). s.number) read ∙ (c.requires.order at x there).0 in

@@ -2,8 +2,10 @@ use Rattle.std.proofs.Common.{◌≡◌, ℕ, refl, sym, ap, ◌∙◌}
 use Rattle.std.specs.Prelude.{Option, Some, None, option_map, slice_get}
 use Rattle.rubis_schema.specs.Keys.{home}
 use Rattle.rubis_schema.specs.declared.row_keys.RowKey.{RowKey}
-use Rattle.rubis_shadow.specs.Parts.{key_of, parts}
+use Rattle.rubis_shadow.specs.Parts.{key_of}
 use Rattle.rubis_shadow.specs.declared.changes.Effect.{Effect}
+use Rattle.rubis_model.specs.Log.{parts_of}
+use Rattle.rubis_shard.specs.Entries.{core_of}
 use Rattle.rubis_shard.specs.Holdings.{home_or}
 use Rattle.rubis_shard.proofs.messages.home_at.Goals as goal
 
@@ -19,13 +21,13 @@ by_key shards (Some e) = refl
 
 pub returns-in-Some : goal.returns-in-Some
 unfolding home_of
-returns-in-Some c red =
+returns-in-Some c =
     c.shard_of.ensures.home
-    ∙ ap (home_of c.args.shards) (sym c.in-Some.is ∙ c.key.ensures red)
-    ∙ by_key c.args.shards (slice_get (parts c.args.id red c.args.shadow.now) c.args.place)
+    ∙ ap (home_of c.args.shards) (sym c.in-Some.is ∙ c.key.ensures c.args.entry.now.red)
+    ∙ by_key c.args.shards (slice_get (parts_of (core_of c.args.entry.now)) c.args.place)
 
 pub returns-in-None : goal.returns-in-None
 unfolding home_of
-returns-in-None c red =
-    ap (home_of c.args.shards) (sym c.in-None.is ∙ c.key.ensures red)
-    ∙ by_key c.args.shards (slice_get (parts c.args.id red c.args.shadow.now) c.args.place)
+returns-in-None c =
+    ap (home_of c.args.shards) (sym c.in-None.is ∙ c.key.ensures c.args.entry.now.red)
+    ∙ by_key c.args.shards (slice_get (parts_of (core_of c.args.entry.now)) c.args.place)

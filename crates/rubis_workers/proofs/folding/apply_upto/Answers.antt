@@ -1,5 +1,5 @@
 use Rattle.std.proofs.Common.{◌≡◌, ◌∷◌, [], ◌++◌, length, sym, subst, refl, take, ◌<◌, ◌∙◌, arith}
-use Rattle.rubis_model.specs.Log.{Core, core, cores}
+use Rattle.rubis_model.specs.Log.{Core, cores}
 use Rattle.rubis_shard.specs.Holdings.{HoldsLog}
 use Rattle.rubis_workers.specs.Logs.{AreWithin}
 use Rattle.rubis_workers.proofs.NextMessage.{next_held, next_within}
@@ -11,18 +11,16 @@ loop-place-preserved c =
     let log = c.args.log.now in
     let inside : c.loop-place.place < length log = omega (arith, c.loop-place-test.true, c.requires.inside) in
     let done = c.in_ok-apply_message.ensures in
-    let stamp = c.stamp-stamp.result.now in
-    let made : record { id = stamp.id; red = stamp.red; shadow = c.shadow.result.now } ≡ core m =
-    (λ i. record { id = (c.stamp-stamp.ensures.value i).id; red = (c.stamp-stamp.ensures.value i).red; shadow = c.shadow.ensures.value i }) in
+    let entry = c.new-entry.ensures in
     let many : length c.apply_message.new.self ≡ length c.loop-place.tables = done.ok.many in
     record {
       here = refl;
       some = omega (arith, many, c.loop-place.invariant.some);
       holds = λ first. next_held log c.loop-place.place m c.loop-place.tables c.apply_message.new.self inside c.index-log-place.is
-          (λ shards before count old. subst (λ (x : Core). HoldsLog shards (before ++ x ∷ []) c.apply_message.new.self) made (done.log shards before count old))
+          (λ shards before count old. subst (λ (x : Core). HoldsLog shards (before ++ x ∷ []) c.apply_message.new.self) entry.core (done.log shards before (entry.number ∙ count) old))
           (sym many) (subst (λ n. HoldsLog (length c.loop-place.tables) (cores (take n log)) c.loop-place.tables) c.loop-place.invariant.here
           (c.loop-place.invariant.holds first));
-      limits = λ sites all first. next_within sites log c.loop-place.place m inside c.index-log-place.is c.shadow.ensures.conditions all
+      limits = λ sites all first. next_within sites log c.loop-place.place m inside c.index-log-place.is entry.conditions all
           (subst (AreWithin sites log) c.loop-place.invariant.here (c.loop-place.invariant.limits sites all first));
       many = many ∙ c.loop-place.invariant.many;
       same = λ e. absurd (omega (arith, e));

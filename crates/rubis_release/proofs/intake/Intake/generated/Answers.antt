@@ -1,10 +1,11 @@
-use Rattle.std.proofs.Common.{◌≡◌, ap, ◌∙◌, sym, subst, arith}
+use Rattle.std.proofs.Common.{◌≡◌, ap, ◌∙◌, sym, subst, subst₂}
 use Rattle.rubis_clock.specs.declared.stamps.Stamp.{Stamp}
 use Rattle.rubis_message.specs.Message.{Message, IsMessage}
 use Rattle.rubis_model.specs.Site.{made, after_made, is_full, is_current, issued_after}
 use Rattle.rubis_release.specs.Intake.{Intake, IsIntake}
-use Rattle.rubis_release.proofs.Intakes.{clock_counts, waiting_among, next_holds, unchanged_kept}
-use Rattle.rubis_release.proofs.Makes.{made_is_message, made_of, made_kept, made_is, held_for_blue, held_for_red}
+use Rattle.rubis_release.specs.Release.{IsAmong}
+use Rattle.rubis_release.proofs.Intakes.{next_holds}
+use Rattle.rubis_release.proofs.Makes.{made_among, made_is_message, made_of, made_kept, made_is, held_for_blue, held_for_red}
 use Rattle.rubis_release.proofs.intake.Intake.generated.Goals as goal
 use Rattle.rubis_release.proofs.intake.Intake.generated.Goals.{then-red-eq0, else-red-eq0}
 
@@ -13,27 +14,15 @@ new-message-requires c =
     subst IsMessage (λ j. record { stamp = sym c.next_stamp.ensures j; shadow = c.args.shadow })
     (made_is_message c.args.self.now c.args.shadow (subst IsIntake c.self.view_is c.self.invariant.conditions) c.requires.room c.requires.right c.requires.limits)
 
-pub release-requires-clause-sites : goal.release-requires-clause-sites
-release-requires-clause-sites c = waiting_among _ _ _ c.self.invariant
-
-pub release-requires-clause-counts : goal.release-requires-clause-counts
-release-requires-clause-counts c = clock_counts _ _ _ c.self.invariant
-
-pub invariant_of-self : goal.invariant_of-self
-invariant_of-self c =
-    next_holds _ _ _ _ _ c.release.new.log.items c.release.new.waiting c.self.inside.held c.self.invariant
-    (unchanged_kept _ _ _ c.release.new.log.items c.release.new.waiting c.self.invariant c.in_err-release.ensures.err.0 c.in_err-release.ensures.err.1)
-    c.release.ensures.counts (let o = c.release.new.log.ok in let r = c.release.ensures.room in omega (arith, o, r)) c.release.ensures.none
-
 pub invariant_of-self-2 : goal.invariant_of-self-2
 invariant_of-self-2 c =
-    next_holds _ _ _ _ _ c.release.new.log.items c.release.new.waiting c.if-red-eq0.self c.self.invariant
-    (made_kept _ _ _ c.args.shadow c.new-message.result c.release.new.log.items c.release.new.waiting c.self.invariant
+    next_holds _ _ c.release.new.self c.if-red-eq0.self c.self.invariant
+    (made_kept _ _ c.args.shadow c.new-message.result c.release.new.self.log c.release.new.self.waiting c.self.invariant
     (ap (λ (i : Intake). is_full i.place.keep i.state) c.self.view_is ∙ c.requires.room)
     (λ e. ap (λ (i : Intake). is_current i.state) c.self.view_is ∙ c.requires.right e)
     (made_of _ c.args.self.now c.args.shadow c.next_stamp.result c.new-message.result c.self.view_is c.next_stamp.ensures c.new-message.ensures)
     c.in_ok-release.ensures.settles)
-    c.release.ensures.counts (let o = c.release.new.log.ok in let r = c.release.ensures.room in omega (arith, o, r)) c.release.ensures.none
+    c.release.ensures.sites c.release.ensures.settled
 
 red : (c : goal.After-self-2-1) → c.stamp.result.now.red ≡ (made c.args.self.now.place c.args.self.now.state c.args.shadow).stamp.red
 red c = ap (λ (s : Stamp). s.red) (c.stamp.ensures.value ∙ ap (λ (m : Message). m.stamp) (c.in_ok-copy.ensures ∙ c.new-message.ensures) ∙ c.next_stamp.ensures)
@@ -46,12 +35,18 @@ held c = elim c.if-red-eq0.branch [
 
 pub returns-clause-state : goal.returns-clause-state
 returns-clause-state c =
-    made_is (record { site = c.self.inside.site; sites = c.self.inside.sites; keep = c.self.inside.keep }) (record { log = c.self.inside.log.items; waiting = c.self.inside.waiting; held = c.self.inside.held; last = c.self.inside.last }) c.args.shadow
-    c.new-message.result c.release.new.log.items c.release.new.waiting c.if-red-eq0.self
+    made_is (record { site = c.self.inside.site; sites = c.self.inside.sites; keep = c.self.inside.keep }) (record { log = c.self.inside.messages.log; waiting = c.self.inside.messages.waiting; held = c.self.inside.held; last = c.self.inside.last }) c.args.shadow
+    c.new-message.result c.release.new.self.log c.release.new.self.waiting c.if-red-eq0.self
     (made_of _ c.args.self.now c.args.shadow c.next_stamp.result c.new-message.result c.self.view_is c.next_stamp.ensures c.new-message.ensures)
     (held c ∙ ap (λ (i : Intake). issued_after c.args.shadow i.state.held) (sym c.self.view_is))
     c.in_ok-release.ensures.settles
     ∙ ap (λ (i : Intake). after_made i.place i.state c.args.shadow) c.self.view_is
 
-pub release-requires-clause-none : goal.release-requires-clause-none
-release-requires-clause-none c = c.self.invariant.settled
+pub release-requires-clause-site : goal.release-requires-clause-site
+release-requires-clause-site c =
+    subst₂ IsAmong (sym c.self.invariant.sites)
+    (sym (made_of _ c.args.self.now c.args.shadow c.next_stamp.result c.new-message.result c.self.view_is c.next_stamp.ensures c.new-message.ensures))
+    (made_among _ c.args.shadow c.self.invariant.conditions (ap (λ (i : Intake). is_full i.place.keep i.state) c.self.view_is ∙ c.requires.room))
+
+pub release-requires-clause-settled : goal.release-requires-clause-settled
+release-requires-clause-settled c = c.self.invariant.settled

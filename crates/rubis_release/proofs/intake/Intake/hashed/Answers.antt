@@ -3,5 +3,5 @@ use Rattle.rubis_release.proofs.intake.Intake.hashed.Goals as goal
 
 pub invariant_of-result : goal.invariant_of-result
 invariant_of-result c =
-    opening_holds (record { site = c.args.site; sites = c.args.sites; keep = c.args.keep }) c.new.result.items c.new-2.result c.if-site-eq0.result c.new-3.result _
-    c.requires.site c.requires.sites c.requires.some c.requires.keep c.new.ensures.items c.new-2.ensures c.new-3.ensures
+    opening_holds (record { site = c.args.site; sites = c.args.sites; keep = c.args.keep }) c.new.result c.if-site-eq0.result
+    c.requires.site c.requires.sites c.requires.some c.requires.keep c.new.ensures

@@ -7,10 +7,10 @@ use Rattle.rubis_release.proofs.Intakes.{sites_of_clock, not_ours_is}
 use Rattle.rubis_release.proofs.intake.Intake.is_not_ours.Goals as goal
 
 pub count-requires : goal.count-requires
-count-requires c = let e = sites_of_clock _ _ _ c.self.invariant in let l = c.self.invariant.conditions.site in omega (arith, e, l)
+count-requires c = let e = sites_of_clock _ _ _ c.self.invariant c.clock.ensures in let l = c.self.invariant.conditions.site in omega (arith, e, l)
 
 pub returns-then-id-self : goal.returns-then-id-self
 returns-then-id-self c =
     (λ j. nat_lt (c.count.ensures j) (c.stamp.ensures.value j).id.seq)
-    ∙ not_ours_is _ _ _ c.args.message.now c.self.invariant (ap (λ (s : Stamp). s.id.site) (sym c.stamp.ensures.value) ∙ c.if-id-self.true)
+    ∙ not_ours_is _ _ _ c.args.message.now c.self.invariant c.clock.ensures (ap (λ (s : Stamp). s.id.site) (sym c.stamp.ensures.value) ∙ c.if-id-self.true)
     ∙ ap (λ (i : Intake). not_ours i.place i.state c.args.message.now) c.self.view_is

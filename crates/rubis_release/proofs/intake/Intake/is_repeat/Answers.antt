@@ -1,18 +1,18 @@
-use Rattle.std.proofs.Common.{ap, ◌∙◌, sym, subst, arith}
+use Rattle.std.proofs.Common.{◌||◌, ap, ◌∙◌, sym, subst, arith}
 use Rattle.std.specs.List.{list_any}
-use Rattle.std.proofs.lemmas.Bool.{le-leb}
+use Rattle.std.proofs.lemmas.Bool.{le-leb, lt-leb}
 use Rattle.rubis_schema.specs.Keys.{same_id}
 use Rattle.rubis_clock.specs.declared.stamps.Stamp.{Stamp}
 use Rattle.rubis_message.specs.Message.{Message}
 use Rattle.rubis_model.specs.Site.{is_repeat}
 use Rattle.rubis_release.specs.Intake.{Intake}
 use Rattle.rubis_release.specs.Release.{IsAmong}
-use Rattle.rubis_release.proofs.Intakes.{among_is, sites_of_clock, repeat_told, fresh_told}
+use Rattle.rubis_release.proofs.Intakes.{among_is, sites_of_clock, is_repeat_by_count}
 use Rattle.rubis_release.proofs.intake.Intake.is_repeat.Goals as goal
 
 pub count-requires : goal.count-requires
 count-requires c =
-    let e = sites_of_clock _ _ _ c.self.invariant in
+    let e = sites_of_clock _ _ _ c.self.invariant c.clock.ensures in
     let p = ap (λ (i : Intake). i.place.sites) c.self.view_is in
     let s = ap (λ (s : Stamp). s.id.site) c.stamp.ensures.value in
     let l = (among_is _ c.args.message.now c.stamp.ensures.conditions c.requires).id.site in
@@ -20,15 +20,18 @@ count-requires c =
 
 pub returns-then-id-count-clause-value : goal.returns-then-id-count-clause-value
 returns-then-id-count-clause-value c =
-    le-leb c.stamp.result.now.id.seq c.count.result c.if-id-count.true
-    ∙ repeat_told _ _ _ c.args.message.now c.self.invariant (subst (λ (i : Intake). IsAmong i.place.sites c.args.message.now) (sym c.self.view_is) (among_is _ c.args.message.now c.stamp.ensures.conditions c.requires))
-    c.stamp.result.now c.stamp.ensures.value c.count.result c.count.ensures c.if-id-count.true
+    let e = le-leb c.stamp.result.now.id.seq c.count.result c.if-id-count.true in
+    e ∙ ap (λ b. b || list_any (λ (u : Message). same_id c.stamp.result.now.id u.stamp.id) c.self.inside.messages.waiting) (sym e)
+    ∙ is_repeat_by_count _ _ _ c.args.message.now c.self.invariant c.clock.ensures
+    (subst (λ (i : Intake). IsAmong i.place.sites c.args.message.now) (sym c.self.view_is) (among_is _ c.args.message.now c.stamp.ensures.conditions c.requires))
+    c.stamp.result.now c.stamp.ensures.value c.count.result c.count.ensures
     ∙ ap (λ (i : Intake). is_repeat i.state c.args.message.now) c.self.view_is
 
 pub returns-else-id-count-clause-value : goal.returns-else-id-count-clause-value
 returns-else-id-count-clause-value c =
-    c.has.ensures
-    ∙ ap (λ (s : Stamp). list_any (λ (u : Message). same_id s.id u.stamp.id) c.self.inside.waiting) c.stamp.ensures.value
-    ∙ fresh_told _ _ _ c.args.message.now c.self.invariant (subst (λ (i : Intake). IsAmong i.place.sites c.args.message.now) (sym c.self.view_is) (among_is _ c.args.message.now c.stamp.ensures.conditions c.requires))
-    c.stamp.result.now c.stamp.ensures.value c.count.result c.count.ensures c.if-id-count.false
+    let e = lt-leb c.stamp.result.now.id.seq c.count.result c.if-id-count.false in
+    c.has_waiting.ensures ∙ ap (λ b. b || list_any (λ (u : Message). same_id c.stamp.result.now.id u.stamp.id) c.self.inside.messages.waiting) (sym e)
+    ∙ is_repeat_by_count _ _ _ c.args.message.now c.self.invariant c.clock.ensures
+    (subst (λ (i : Intake). IsAmong i.place.sites c.args.message.now) (sym c.self.view_is) (among_is _ c.args.message.now c.stamp.ensures.conditions c.requires))
+    c.stamp.result.now c.stamp.ensures.value c.count.result c.count.ensures
     ∙ ap (λ (i : Intake). is_repeat i.state c.args.message.now) c.self.view_is

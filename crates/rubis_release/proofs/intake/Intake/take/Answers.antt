@@ -4,5 +4,5 @@ use Rattle.rubis_release.proofs.intake.Intake.take.Goals as goal
 pub invariant_of-fresh : goal.invariant_of-fresh
 invariant_of-fresh c =
     let known = c.self.invariant.conditions in
-    opening_holds (record { site = c.self.inside.site; sites = c.self.inside.sites; keep = c.self.inside.keep }) c.new.result.items c.new-2.result c.if-self-eq0.fresh c.new-3.result _
-    known.site known.sites known.some known.keep c.new.ensures.items c.new-2.ensures c.new-3.ensures
+    opening_holds (record { site = c.self.inside.site; sites = c.self.inside.sites; keep = c.self.inside.keep }) c.fresh.result c.if-self-eq0.fresh
+    known.site known.sites known.some known.keep c.fresh.ensures

@@ -5,5 +5,5 @@ use Rattle.rubis_script.proofs.input_record.InputRecordRecord.field.Goals as goa
 
 pub returns : goal.returns
 returns c =
-    c.get.ensures.value ∙ field_at-slice_get (fields_of c.self.inside.row) c.args.place
+    c.get.ensures.value ∙ field_at-slice_get (fields_of c.self.inside.fields) c.args.place
     ∙ ap (λ fields. slice_get fields c.args.place) c.self.view_is

@@ -9,5 +9,5 @@ returns-clause-takes g c =
     let left = metered g.R.Read.remaining in
     let rows = c.read_byte_record.new.self in
     let fields = fields_of c.read_byte_record.new.row in
-    subst (λ old. ReadsNext left old rows c.in-Ok.found fields) (ap (λ s. s.rows) c.self.view_is)
+    subst (λ old. ReadsNext left old rows c.in-Ok.found fields) (ap (λ s. s.reader) c.self.view_is)
     (holds-takes left c.self.inside.0.0 rows c.in-Ok.found fields c.in-Ok.ensures.ready c.in-Ok.ensures.reads)

@@ -5,7 +5,7 @@ use Rattle.rubis_script.proofs.record_list.Records.new.Goals as goal
 
 pub returns : goal.returns
 returns g c =
-    let r = c.from_reader-rows.ensures in
+    let r = c.from_reader-reader.ensures in
     let e = c.flexible.ensures in
     let d = c.has_headers.ensures in
     holds-start _ _ _ (rw (e, d) at r.trim ∙ c.new.ensures.trim) (inr (inr (rw (e, d) at r.has_headers, r.headers)))

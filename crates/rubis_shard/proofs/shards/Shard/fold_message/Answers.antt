@@ -4,14 +4,15 @@ use Rattle.rubis_model.specs.Shares.{part_of}
 use Rattle.rubis_shard.specs.States.{ShardState}
 use Rattle.rubis_shard.specs.Stores.{held_by}
 use Rattle.rubis_shard.specs.Holdings.{parts_at}
-use Rattle.rubis_shard.specs.Messages.{emptied, numbered_of}
+use Rattle.rubis_shard.specs.Entries.{numbered_of}
+use Rattle.rubis_shard.specs.Messages.{emptied}
 use Rattle.rubis_shard.proofs.Parts.{own_after}
 use Rattle.rubis_shard.proofs.shards.Shard.fold_message.Goals as goal
 
 pub put_store-requires : goal.put_store-requires
 put_store-requires c =
     let x : ShardState = c.args.self.now in
-    let ns = numbered_of c.args.message.now in
+    let ns = numbered_of c.args.message.now.entry in
     let left : c.take_store.new.self ≡ emptied x = c.in_ok-store.ensures.left in
     let before : held_by c.get_mut.result.now ≡ x.folded = ap held_by c.get_mut.ensures.value ∙ c.in_ok-store.ensures.taken in
     let number : c.self.inside.number ≡ x.number = ap (λ (s : ShardState). s.number) (c.self.view_is ∙ left) in
@@ -23,7 +24,7 @@ put_store-requires c =
 pub returns-clause-ok : goal.returns-clause-ok
 returns-clause-ok c =
     let x : ShardState = c.args.self.now in
-    let ns = numbered_of c.args.message.now in
+    let ns = numbered_of c.args.message.now.entry in
     let left : c.take_store.new.self ≡ emptied x = c.in_ok-store.ensures.left in
     let before : held_by c.get_mut.result.now ≡ x.folded = ap held_by c.get_mut.ensures.value ∙ c.in_ok-store.ensures.taken in
     let number : c.self.inside.number ≡ x.number = ap (λ (s : ShardState). s.number) (c.self.view_is ∙ left) in

@@ -1,0 +1,10 @@
+use Rattle.std.proofs.Common.{◌≡◌, subst, sym}
+use Rattle.std.specs.List.{All}
+use Rattle.rubis_message.specs.Message.{Message, sites_of}
+use Rattle.rubis_model.specs.Logs.{Log}
+use Rattle.rubis_growths.proofs.Logs.{among_one}
+use Rattle.rubis_growths.proofs.audits.verdict_on.Goals as goal
+
+pub audit-requires-clause-among : goal.audit-requires-clause-among
+audit-requires-clause-among c =
+    among_one c.new.result (subst (λ (l : Log). All (λ (m : Message). sites_of m ≡ 2) l.messages) (sym c.new.ensures) c.requires)

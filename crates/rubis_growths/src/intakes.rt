@@ -1,0 +1,99 @@
+// The intake of a site, and its calls that take memory.
+
+ghost use Rattle.std.specs.Prelude.{◌≡◌};
+
+use crate::records::packet;
+use crate::telling::tell_refused;
+use crate::tries::{GaveUp, TRIES, again};
+use rubis_message::Message;
+use rubis_release::{Arrival, Intake};
+use rubis_schema::{Nick, Refusal};
+use rubis_shadow::Shadow;
+use std::io::Print;
+
+/// The intake of the second of two sites.
+#[derive(Drop)]
+struct Peer {
+    intake: Intake,
+    ghost two: { intake.place.sites ≡ 2 },
+}
+
+impl Peer {
+    // Takes a message in, and takes it in again if it comes back.
+    fn admit<R: Print>(
+        &mut self,
+        rt: &R,
+        message: Message,
+    ) -> Result<Result<Arrival, Refusal>, GaveUp> {
+        if message.stamp().deps.len() != 2 {
+            return Err(GaveUp);
+        }
+        let waiting = self.intake.waiting();
+        let back = match self.intake.admit(message) {
+            Ok(answer) => return Ok(answer),
+            Err(failed) => failed.value,
+        };
+        tell_refused(rt, "Intake::admit", self.intake.waiting() == waiting);
+        match self.intake.admit(back) {
+            Ok(answer) => Ok(answer),
+            Err(_) => Err(GaveUp),
+        }
+    }
+
+    // Has the message at a place arrive.
+    fn arrive<R: Print + AllocGlobal>(&mut self, rt: &R, place: u32) -> Result<Arrival, GaveUp> {
+        for _ in 0..TRIES {
+            let message = again!(rt, "read_packet", packet(rt.alloc(), place));
+            let waiting = self.intake.waiting();
+            if let Ok(arrival) = self.intake.arrive(message) {
+                return Ok(arrival);
+            }
+            tell_refused(rt, "Intake::arrive", self.intake.waiting() == waiting);
+        }
+        Err(GaveUp)
+    }
+}
+
+/// Messages that arrive out of order.
+pub fn intake<R: Print + AllocGlobal>(rt: &R) -> Result<(), GaveUp> {
+    let intake = again!(rt, "Intake::new", Intake::new(rt.alloc(), 1, 2, 100));
+    let mut peer = Peer { intake };
+    for place in 0..20 {
+        if place % 4 < 2 {
+            let arrival = peer.arrive(rt, place)?;
+            let _ = println!(rt; "{arrival:?}");
+        } else {
+            let message = again!(rt, "read_packet", packet(rt.alloc(), place));
+            let arrival = peer.admit(rt, message)?;
+            let _ = println!(rt; "{arrival:?}");
+        }
+    }
+    Ok(())
+}
+
+// The site makes the message of a new user: its number.
+fn make_user<R: Print>(rt: &R, site: &mut Intake, nick: Nick) -> Result<u32, GaveUp> {
+    for _ in 0..TRIES {
+        let standing = site.standing();
+        if standing.full || !standing.current {
+            return Err(GaveUp);
+        }
+        let released = site.log().len();
+        if let Ok(message) = site.generated(Shadow::User(nick)) {
+            return Ok(message.stamp().id.seq);
+        }
+        tell_refused(rt, "Intake::generated", site.log().len() == released);
+    }
+    Err(GaveUp)
+}
+
+/// A site that makes messages.
+pub fn own_messages<R: Print + AllocGlobal>(rt: &R) -> Result<(), GaveUp> {
+    let mut site = again!(rt, "Intake::new", Intake::new(rt.alloc(), 0, 2, 100));
+    for nick in [b"ann".as_slice(), b"bob", b"cat", b"dan", b"eve"] {
+        let nick = Nick::read(nick).ok_or(GaveUp)?;
+        let seq = make_user(rt, &mut site, nick)?;
+        let _ = println!(rt; "message {seq}");
+    }
+    Ok(())
+}

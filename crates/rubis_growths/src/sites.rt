@@ -1,0 +1,106 @@
+// Each call of a site, alone.
+
+ghost use Rattle.std.specs.Prelude.{◌≡◌};
+
+use crate::peers::{Peer, tell_arrival};
+use crate::records::{Window, request};
+use crate::telling::{tell_refused, tell_rows};
+use crate::tries::{GaveUp, TRIES, again};
+use rubis_message::Request;
+use rubis_replica::{Config, Fault, Free, Site};
+use rubis_schema::Listing;
+use std::io::Print;
+use std::sync::Wait;
+use std::thread::Threads;
+
+/// A site alone.
+#[derive(Drop)]
+struct Single {
+    site: Site,
+    ghost one: { site.place.sites ≡ 1 },
+}
+
+impl Single {
+    // Asks for what a record says: the number of its message.
+    fn ask<R: Print + AllocGlobal + Threads + Wait + Sync>(
+        &mut self,
+        rt: &R,
+        text: &str,
+    ) -> Result<u32, GaveUp> {
+        for _ in 0..TRIES {
+            let Request::Ask(ask) = again!(rt, "read_request", request(rt.alloc(), text, 1)) else {
+                return Err(GaveUp);
+            };
+            let released = self.site.history().len();
+            match self.site.request(rt, ask) {
+                Ok(message) => return Ok(message.stamp().id.seq),
+                Err(Fault::Memory) => {
+                    tell_refused(rt, "Site::request", self.site.history().len() == released);
+                }
+                Err(_) => return Err(GaveUp),
+            }
+        }
+        Err(GaveUp)
+    }
+}
+
+/// Requests at a site with one worker, which is never behind.
+pub fn site_request<R: Print + AllocGlobal + Threads + Wait + Sync>(rt: &R) -> Result<(), GaveUp> {
+    let config = Config::new(0, 1, 5, 1, 64, 100).ok_or(GaveUp)?;
+    let site = again!(rt, "Site::new", Site::new(rt.alloc(), &config, Free));
+    let mut single = Single { site };
+    for text in [
+        "user,ann",
+        "user,bob",
+        "item,0.1,lamp,7,1,100,0",
+        "bid,0.3,0.2,500",
+        "comment,0.3,0.2,0.1,5,good",
+        "close,0.3,0.1",
+        "rename,0.2,bo",
+    ] {
+        let seq = single.ask(rt, text)?;
+        let _ = println!(rt; "message {seq}");
+    }
+    Ok(())
+}
+
+// A site to which the first messages came, none of which is applied yet.
+fn with_pending<R: Print + AllocGlobal + Threads + Wait + Sync>(
+    rt: &R,
+    messages: u32,
+) -> Result<Peer, GaveUp> {
+    let mut peer = Peer::new(rt, 1000)?;
+    for place in 0..messages {
+        let arrival = peer.arrive(rt, place)?;
+        tell_arrival(rt, place.saturating_add(1), arrival);
+    }
+    Ok(peer)
+}
+
+/// A cut of what is pending, in a batch that workers share.
+pub fn site_cut<R: Print + AllocGlobal + Threads + Wait + Sync>(rt: &R) -> Result<(), GaveUp> {
+    let mut peer = with_pending(rt, 40)?;
+    peer.cut(rt)?;
+    let rest = peer.cut(rt)?;
+    let _ = println!(rt; "pending {rest}");
+    tell_rows(rt, 41, &peer.list(rt, &Listing::Users)?);
+    Ok(())
+}
+
+/// A listing, before which what is pending is applied.
+pub fn site_list<R: Print + AllocGlobal + Threads + Wait + Sync>(rt: &R) -> Result<(), GaveUp> {
+    let mut peer = with_pending(rt, 40)?;
+    tell_rows(rt, 41, &peer.list(rt, &Listing::Users)?);
+    Ok(())
+}
+
+/// Messages that arrive together at a site with messages pending.
+pub fn site_arrive_all<R: Print + AllocGlobal + Threads + Wait + Sync>(
+    rt: &R,
+) -> Result<(), GaveUp> {
+    let mut peer = with_pending(rt, 20)?;
+    let window = again!(rt, "read_packet", Window::new(rt.alloc(), 20, 40));
+    peer.arrive_all(rt, window, 21)?;
+    tell_rows(rt, 41, &peer.list(rt, &Listing::Users)?);
+    Ok(())
+}

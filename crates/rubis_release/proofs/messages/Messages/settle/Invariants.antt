@@ -1,0 +1,15 @@
+use Rattle.std.proofs.Common.{◌≡◌, List, length}
+use Rattle.rubis_message.specs.Message.{Message}
+use Rattle.rubis_model.specs.Settle.{Settles}
+use Rattle.rubis_release.specs.Messages.{AreCounted}
+use Rattle.rubis_release.proofs.messages.Messages.settle.Given as goal
+
+abbrev pub invariant-loop-message : goal.invariant-loop-message
+invariant-loop-message l = record {
+  sites : length l.self-inside.clock.counts ≡ l.fn.self.sites;
+  counted : AreCounted l.self-inside.log l.self-inside.waiting l.self-inside.clock;
+  settles : (log' waiting' : List Message) → Settles l.self-inside.log.items l.self-inside.waiting log' waiting' → Settles l.fn.self.log l.fn.self.waiting log' waiting';
+}
+
+abbrev pub decreases-loop-message : goal.decreases-loop-message
+decreases-loop-message l = length l.self-inside.waiting
