@@ -3,7 +3,7 @@
 ghost use Rattle.std.specs.Prelude.{◌≡◌, false, [], Some, codes, map, string_bytes, IfErr, IfOk};
 ghost use Rattle.rubis_schema.specs.declared.limits.TheConstants.{SITES_MAX};
 ghost use Rattle.clap.specs.Words.{app_of, fault_of, found_of, one_of, rows_of, rule_of};
-ghost use Rattle.rubis_cli.specs.CommandLine.{AreCountsIn, AreOptionsIn, IsAsked, IsFaultAmong, IsNumberOf, IsSetupIn, command_line, number_option, widen_command, with_setup};
+ghost use Rattle.rubis_cli.specs.CommandLine.{AreCountsIn, AreOptionsIn, IsAsked, IsFaultAmong, IsNumberOf, IsSetupIn, audit_command, command_line, number_option, program_alone, site_command, widen_command, with_setup, world_command};
 
 use clap::builder::ValueParser;
 use clap::error::ErrorKind;
@@ -178,9 +178,9 @@ fn widen<'a>(alloc: Global) -> Result<Command<'a>, AllocError>
         ))
 }
 
-// The program's command line.
-fn program<'a>(alloc: Global) -> Result<Command<'a>, AllocError>
-    ensures { IfOk result (λ made. app_of made ≡ command_line) }
+// The command that runs one site.
+fn site<'a>(alloc: Global) -> Result<Command<'a>, AllocError>
+    ensures { IfOk result (λ made. app_of made ≡ site_command) }
 {
     let site = Command::new(alloc, "site")
         .about("Runs one site: reads records on standard input, writes answers on standard output")
@@ -192,24 +192,51 @@ fn program<'a>(alloc: Global) -> Result<Command<'a>, AllocError>
             "0",
             "Which site this is, 0 to 15 and below --sites",
         ))?;
-    let site = with_setup(alloc, site)?;
+    with_setup(alloc, site)
+}
+
+// The command that runs several sites.
+fn world<'a>(alloc: Global) -> Result<Command<'a>, AllocError>
+    ensures { IfOk result (λ made. app_of made ≡ world_command) }
+{
     let world = Command::new(alloc, "world").about(
         "Runs several sites and their packets: reads records, writes answers",
     );
-    let world = with_setup(alloc, world)?;
-    let audit = Command::new(alloc, "audit")
+    with_setup(alloc, world)
+}
+
+// The command that audits the logs of several sites.
+fn audit<'a>(alloc: Global) -> Result<Command<'a>, AllocError>
+    ensures { IfOk result (λ made. app_of made ≡ audit_command) }
+{
+    Command::new(alloc, "audit")
         .about("Audits the logs of several sites: writes the first fault, or Agree")
-        .arg(sites(alloc))?;
-    let widen = widen(alloc)?;
-    Command::new(alloc, "rubis")
-        .bin_name("rubis")?
-        .version("0.1.0")
-        .about("A replicated auction store under RedBlue consistency, with proved contracts")
-        .subcommand_required(true)
-        .subcommand(site)?
-        .subcommand(world)?
-        .subcommand(audit)?
-        .subcommand(widen)
+        .arg(sites(alloc))
+}
+
+// The program, before it has its commands.
+fn program_alone<'a>(alloc: Global) -> Result<Command<'a>, AllocError>
+    ensures { IfOk result (λ made. app_of made ≡ program_alone) }
+{
+    let program = Command::new(alloc, "rubis").bin_name("rubis")?;
+    Ok(
+        program
+            .version("0.1.0")
+            .about("A replicated auction store under RedBlue consistency, with proved contracts")
+            .subcommand_required(true),
+    )
+}
+
+// The program's command line. Each command is made where it is added: no other is held across that `?`, which would
+// have to drop it.
+fn program<'a>(alloc: Global) -> Result<Command<'a>, AllocError>
+    ensures { IfOk result (λ made. app_of made ≡ command_line) }
+{
+    let program = program_alone(alloc)?;
+    let program = program.subcommand(site(alloc)?)?;
+    let program = program.subcommand(world(alloc)?)?;
+    let program = program.subcommand(audit(alloc)?)?;
+    program.subcommand(widen(alloc)?)
 }
 
 // A number that `clap` has read and found in its range.
