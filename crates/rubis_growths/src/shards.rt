@@ -1,15 +1,17 @@
 // Shards and tables.
 
 ghost use Rattle.std.specs.Prelude.{◌≡◌, ◌<◌, ◌≤◌, length, IfOk};
+ghost use Rattle.rubis_pieces.specs.Batches.{AreUnfinished};
 ghost use Rattle.rubis_pieces.specs.Pieces.{IsShareOf};
 
 use crate::records::{Window, message, packet_text};
+use crate::teams::tell_finished;
 use crate::telling::{tell_refused, tell_rows};
 use crate::tries::{GaveUp, TRIES, again};
 use rubis_listing as listings;
 use rubis_message::{Message, ReadFault};
-use rubis_pieces::{Left, apply_batch, finish, misfits, split};
-use rubis_schema::{Id, Items, Listing, Table, shard_of};
+use rubis_pieces::{Left, apply_batch, misfits, split};
+use rubis_schema::{Fields, Id, Items, Listing, Table, shard_of};
 use rubis_shadow::Numbered;
 use rubis_shard::{Group, Shard, Share, Tables};
 use rubis_workers::apply_upto;
@@ -160,13 +162,24 @@ fn apply_one<R: Print + AllocGlobal>(
     }
 }
 
+// Links the shard's rows, again where memory is refused.
+fn link_rows<R: Print>(rt: &R, portion: &mut Portion) -> Result<(), GaveUp> {
+    for _ in 0..TRIES {
+        if portion.link_rows().is_ok() {
+            return Ok(());
+        }
+        tell_refused(rt, "Shard::link_rows", true);
+    }
+    Err(GaveUp)
+}
+
 /// A share that is folded part by part.
 pub fn shard<R: Print + AllocGlobal>(rt: &R) -> Result<(), GaveUp> {
     let mut portion = again!(rt, "Shard::new", users_portion(rt.alloc()));
     for at in 0..portion.len() {
         portion = apply_one(rt, portion, at)?;
     }
-    again!(rt, "Shard::link_rows", portion.link_rows());
+    link_rows(rt, &mut portion)?;
     let (keys, rows, listed) = again!(rt, "Shard::rows", portion.counts(rt.alloc()));
     let _ = println!(rt; "keys {keys}, rows {rows}, listed {listed}");
     Ok(())
@@ -204,22 +217,89 @@ fn count_items(alloc: Global, tables: &Tables) -> Result<usize, AllocError> {
     )
 }
 
-/// Tables, and what they show.
-pub fn tables<R: Print + AllocGlobal>(rt: &R) -> Result<(), GaveUp> {
-    let alloc = rt.alloc();
-    let messages = again!(rt, "read_packet", Window::shop(alloc)).messages;
-    let mut tables = shop_tables(rt, &messages)?;
-    again!(
-        rt,
-        "Tables::link_rows",
-        tables.link_rows(&Listing::Bids(CUP))
-    );
-    let users = again!(rt, "Tables::rows", count_users(alloc, &tables));
-    let items = again!(rt, "Tables::listed", count_items(alloc, &tables));
-    let bids = again!(rt, "Tables::group", tables.group(alloc, &Group::Bids(CUP))).len();
-    let misfits = again!(rt, "misfits", misfits(alloc, &tables)).len();
+// Links the rows of the bids on the cup, again where memory is refused.
+fn link_bids<R: Print>(rt: &R, tables: &mut Tables) -> Result<(), GaveUp> {
+    for _ in 0..TRIES {
+        if tables.link_rows(&Listing::Bids(CUP)).is_ok() {
+            return Ok(());
+        }
+        tell_refused(rt, "Tables::link_rows", true);
+    }
+    Err(GaveUp)
+}
+
+// How many bids there are on the cup.
+fn count_bids(alloc: Global, tables: &Tables) -> Result<usize, AllocError> {
+    Ok(tables.group(alloc, &Group::Bids(CUP))?.len())
+}
+
+// How many misfits there are.
+fn count_misfits(alloc: Global, tables: &Tables) -> Result<usize, AllocError> {
+    Ok(misfits(alloc, tables)?.len())
+}
+
+// Tells how much the tables show.
+fn tell_counts<R: Print>(rt: &R, alloc: Global, tables: &Tables) -> Result<(), GaveUp> {
+    let users = again!(rt, "Tables::rows", count_users(alloc, tables));
+    let items = again!(rt, "Tables::listed", count_items(alloc, tables));
+    let bids = again!(rt, "Tables::group", count_bids(alloc, tables));
+    let misfits = again!(rt, "misfits", count_misfits(alloc, tables));
     let _ = println!(rt; "users {users}, items {items}, bids {bids}, misfits {misfits}");
     Ok(())
+}
+
+/// Tables, and what they show.
+pub fn tables<R: Print + AllocGlobal>(rt: &R) -> Result<(), GaveUp> {
+    let messages = again!(rt, "read_packet", Window::shop(rt.alloc())).messages;
+    let mut tables = shop_tables(rt, &messages)?;
+    link_bids(rt, &mut tables)?;
+    tell_counts(rt, rt.alloc(), &tables)
+}
+
+// The rows of a listing of tables.
+fn rows_of(alloc: Global, tables: &Tables, listing: &Listing) -> Result<Items<Fields>, AllocError> {
+    match listing {
+        Listing::Users => listings::users(alloc, tables),
+        Listing::Items(category) => listings::items(alloc, tables, *category),
+        Listing::Bids(item) => listings::bids(alloc, tables, *item),
+        Listing::Purchases(item) => listings::purchases(alloc, tables, *item),
+        Listing::Comments(user) => listings::comments(alloc, tables, *user),
+        Listing::Categories => listings::categories(alloc, tables),
+        _ => listings::tables(alloc, tables),
+    }
+}
+
+// Tells the listings of tables.
+fn tell_tables<R: Print>(rt: &R, alloc: Global, tables: &Tables) -> Result<(), GaveUp> {
+    let mut number = 0;
+    for listing in [
+        Listing::Users,
+        Listing::Items(9),
+        Listing::Bids(CUP),
+        Listing::Purchases(CUP),
+        Listing::Comments(ANN),
+        Listing::Categories,
+        Listing::Tables,
+    ] {
+        number += 1;
+        tell_rows(
+            rt,
+            number,
+            &again!(rt, "listing", rows_of(alloc, tables, &listing)),
+        );
+    }
+    Ok(())
+}
+
+// Tells the listing of a log.
+fn tell_log<R: Print>(rt: &R, alloc: Global, messages: &[Message]) -> Result<(), GaveUp> {
+    tell_rows(rt, 8, &again!(rt, "log", listings::log(alloc, messages)));
+    Ok(())
+}
+
+// The rows of the listing of misfits.
+fn rows_of_misfits(alloc: Global, tables: &Tables) -> Result<Items<Fields>, AllocError> {
+    listings::misfit_rows(alloc, &misfits(alloc, tables)?)
 }
 
 /// The nine listings of tables and of their log.
@@ -227,45 +307,51 @@ pub fn nine_listings<R: Print + AllocGlobal>(rt: &R) -> Result<(), GaveUp> {
     let alloc = rt.alloc();
     let messages = again!(rt, "read_packet", Window::shop(alloc)).messages;
     let tables = shop_tables(rt, &messages)?;
-    tell_rows(rt, 1, &again!(rt, "users", listings::users(alloc, &tables)));
-    tell_rows(
-        rt,
-        2,
-        &again!(rt, "items", listings::items(alloc, &tables, 9)),
-    );
-    tell_rows(
-        rt,
-        3,
-        &again!(rt, "bids", listings::bids(alloc, &tables, CUP)),
-    );
-    tell_rows(
-        rt,
-        4,
-        &again!(rt, "purchases", listings::purchases(alloc, &tables, CUP)),
-    );
-    tell_rows(
-        rt,
-        5,
-        &again!(rt, "comments", listings::comments(alloc, &tables, ANN)),
-    );
-    tell_rows(
-        rt,
-        6,
-        &again!(rt, "categories", listings::categories(alloc, &tables)),
-    );
-    tell_rows(
-        rt,
-        7,
-        &again!(rt, "tables", listings::tables(alloc, &tables)),
-    );
-    tell_rows(rt, 8, &again!(rt, "log", listings::log(alloc, &messages)));
-    let misfits = again!(rt, "misfits", misfits(alloc, &tables));
+    tell_tables(rt, alloc, &tables)?;
+    tell_log(rt, alloc, &messages)?;
     tell_rows(
         rt,
         9,
-        &again!(rt, "misfit_rows", listings::misfit_rows(alloc, &misfits)),
+        &again!(rt, "misfits", rows_of_misfits(alloc, &tables)),
     );
     Ok(())
+}
+
+// Tells how many parts each share of a batch has.
+fn tell_shares<R: Print + Threads + Sync>(
+    rt: &R,
+    alloc: Global,
+    messages: &[Message],
+) -> Result<(), GaveUp>
+    requires { length messages.now ≤ 1000 }
+{
+    let shares = again!(rt, "split", split(rt, alloc, messages, 1, 5));
+    for share in &shares {
+        let parts = share.effects.len();
+        let _ = println!(rt; "parts {parts}");
+    }
+    Ok(())
+}
+
+// Applies a batch in shares, again where memory is refused.
+fn apply_shares<R: Print>(
+    rt: &R,
+    alloc: Global,
+    tables: &mut Tables,
+    messages: &[Message],
+) -> Result<Items<Left>, GaveUp>
+    requires some { 0 < length tables.old }
+    requires entries { length messages.now ≤ 1000 }
+    ensures { IfOk result (AreUnfinished 0 (length tables.new)) }
+{
+    if let Ok(left) = apply_batch(alloc, tables, messages, 1) {
+        return Ok(left);
+    }
+    tell_refused(rt, "apply_batch", true);
+    match apply_batch(alloc, tables, messages, 1) {
+        Ok(left) => Ok(left),
+        Err(_) => Err(GaveUp),
+    }
 }
 
 /// A batch that is cut into shares, applied by one thread, and finished where memory was refused.
@@ -275,27 +361,8 @@ pub fn batch_in_shares<R: Print + AllocGlobal + Threads + Sync>(rt: &R) -> Resul
     if messages.len() > 1000 {
         return Err(GaveUp);
     }
-    let shares = again!(rt, "split", split(rt, alloc, &messages, 1, 5));
-    for share in &shares {
-        let parts = share.effects.len();
-        let _ = println!(rt; "parts {parts}");
-    }
+    tell_shares(rt, alloc, &messages)?;
     let mut tables = again!(rt, "Tables::new", Tables::new(alloc, 5));
-    let left = again!(
-        rt,
-        "apply_batch",
-        apply_batch(alloc, &mut tables, &messages, 1)
-    );
-    let mut left: Vec<Left> = left.into();
-    if !left.is_empty() {
-        let parts = left.len();
-        let _ = println!(rt; "! apply_batch: {parts} parts");
-        finish(&mut tables, &mut left);
-    }
-    tell_rows(
-        rt,
-        1,
-        &again!(rt, "tables", listings::tables(alloc, &tables)),
-    );
-    if left.is_empty() { Ok(()) } else { Err(GaveUp) }
+    let left = apply_shares(rt, alloc, &mut tables, &messages)?;
+    tell_finished(rt, &mut tables, left)
 }

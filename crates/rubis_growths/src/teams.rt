@@ -185,8 +185,8 @@ pub fn two_shares_again<R: Print + AllocGlobal + Threads + Wait + Sync>(
     Err(GaveUp)
 }
 
-// Finishes what is left of a batch, and tells the rows of the tables.
-fn tell_finished<R: Print + AllocGlobal>(
+/// Finishes what is left of a batch, and tells the rows of the tables.
+pub fn tell_finished<R: Print + AllocGlobal>(
     rt: &R,
     tables: &mut Tables,
     left: Items<Left>,
@@ -207,31 +207,41 @@ fn tell_finished<R: Print + AllocGlobal>(
     if left.is_empty() { Ok(()) } else { Err(GaveUp) }
 }
 
+// Has workers apply messages, again where memory is refused.
+fn apply_shared<R: Print + AllocGlobal + Threads + Wait + Sync>(
+    rt: &R,
+    tables: &mut Tables,
+    messages: &[Message],
+) -> Result<Items<Left>, GaveUp>
+    requires some { 0 < length tables.old }
+    requires few { length messages.now ≤ 1000 }
+    ensures { IfOk result (AreUnfinished 0 (length tables.new)) }
+{
+    let (mut pace, mut at, upto) = (Pace::new(), 0, messages.len());
+    let alloc = rt.alloc();
+    if let Ok(left) = apply_batch(
+        rt, alloc, tables, messages, &mut at, upto, 4, &mut pace, &Free,
+    ) {
+        return Ok(left);
+    }
+    tell_refused(rt, "apply_batch", true);
+    match apply_batch(
+        rt, alloc, tables, messages, &mut at, upto, 4, &mut pace, &Free,
+    ) {
+        Ok(left) => Ok(left),
+        Err(_) => Err(GaveUp),
+    }
+}
+
 /// A batch of a log, applied by workers.
 pub fn shared_batch<R: Print + AllocGlobal + Threads + Wait + Sync>(rt: &R) -> Result<(), GaveUp> {
     let alloc = rt.alloc();
     let messages = again!(rt, "read_packet", Window::shop(alloc)).messages;
-    let upto = messages.len();
-    if upto == 0 || upto > 1000 {
+    if messages.len() > 1000 {
         return Err(GaveUp);
     }
     let mut tables = again!(rt, "Tables::new", Tables::new(alloc, 5));
-    let (mut pace, mut at) = (Pace::new(), 0);
-    let left = again!(
-        rt,
-        "apply_batch",
-        apply_batch(
-            rt,
-            alloc,
-            &mut tables,
-            &messages,
-            &mut at,
-            upto,
-            4,
-            &mut pace,
-            &Free
-        )
-    );
+    let left = apply_shared(rt, &mut tables, &messages)?;
     tell_finished(rt, &mut tables, left)
 }
 
@@ -296,32 +306,48 @@ const SCHEDULE: [Event; 6] = [
 
 // Performs an event, again where memory is refused.
 fn step<R: Print>(rt: &R, pool: &mut Pool, event: Event) -> Result<bool, GaveUp> {
-    Ok(again!(rt, "Pool::step", pool.step(event)))
+    for _ in 0..TRIES {
+        if let Ok(done) = pool.step(event) {
+            return Ok(done);
+        }
+        tell_refused(rt, "Pool::step", true);
+    }
+    Err(GaveUp)
 }
 
-/// The machine of every schedule, event by event, and at once; what it returns is gathered.
-pub fn pool<R: Print + AllocGlobal>(rt: &R) -> Result<(), GaveUp> {
-    let alloc = rt.alloc();
-    let mut pool = again!(rt, "Pool::new", Pool::new(alloc, 2, 2));
+// Posts both pieces.
+fn post_both<R: Print>(rt: &R, alloc: Global, pool: &mut Pool) -> Result<(), GaveUp> {
     for number in 0..2usize {
         let piece = again!(rt, "piece", piece(alloc, number));
         if pool.post(piece).is_err() {
             return Err(GaveUp);
         }
     }
+    Ok(())
+}
+
+// Performs the events of the schedule, and tells of each whether it was done.
+fn tell_steps<R: Print>(rt: &R, pool: &mut Pool) -> Result<(), GaveUp> {
     for event in SCHEDULE {
-        let done = step(rt, &mut pool, event)?;
+        let done = step(rt, pool, event)?;
         let _ = println!(rt; "{done}");
     }
+    Ok(())
+}
+
+/// The machine of every schedule, event by event; what it returns is gathered.
+pub fn pool<R: Print + AllocGlobal>(rt: &R) -> Result<(), GaveUp> {
+    let alloc = rt.alloc();
+    let mut pool = again!(rt, "Pool::new", Pool::new(alloc, 2, 2));
+    post_both(rt, alloc, &mut pool)?;
+    tell_steps(rt, &mut pool)?;
     let places = again!(rt, "Places::new", Places::new(alloc, 2));
-    match gather(pool.into_back(), places) {
-        Ok(gathered) => {
-            let (shards, left) = (gathered.shards.len(), gathered.left.len());
-            let _ = println!(rt; "shards {shards}, left {left}");
-            Ok(())
-        }
-        Err(_) => Err(GaveUp),
-    }
+    let Ok(gathered) = gather(pool.into_back(), places) else {
+        return Err(GaveUp);
+    };
+    let (shards, left) = (gathered.shards.len(), gathered.left.len());
+    let _ = println!(rt; "shards {shards}, left {left}");
+    Ok(())
 }
 
 // A whole schedule of both pieces: how many were returned.

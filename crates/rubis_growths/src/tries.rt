@@ -7,16 +7,14 @@ pub struct GaveUp;
 /// How often a call is made where memory is refused.
 pub const TRIES: u32 = 3;
 
-/// Makes a call once more where it is refused memory, and tells of it: that the state is the same, if a test of that is given.
+/// What a call answers that changes nothing. Where it is refused memory, that is told, and it is made once more. A closure would
+/// say this in a function, but proving each closure takes longer than the second call.
 macro_rules! again {
     ($rt:expr, $name:literal, $call:expr) => {
-        again!($rt, $name, $call, true)
-    };
-    ($rt:expr, $name:literal, $call:expr, $same:expr) => {
         match $call {
             Ok(value) => value,
             Err(_) => {
-                crate::telling::tell_refused($rt, $name, $same);
+                crate::telling::tell_refused($rt, $name, true);
                 match $call {
                     Ok(value) => value,
                     Err(_) => return Err(crate::tries::GaveUp),

@@ -1,58 +1,77 @@
 // Fields, records, and the parts of a message on plain tables.
 
 use crate::records::{CUP, message, request};
-use crate::telling::tell_row;
-use crate::tries::{GaveUp, again};
-use rubis_message::{Request, Token, write_message, write_token};
+use crate::telling::{tell_refused, tell_row};
+use crate::tries::{GaveUp, TRIES, again};
+use rubis_message::{Message, Request, Token, write_message, write_token};
 use rubis_schema::{Fields, Id, Name, Table, Text};
-use rubis_shadow::{Ask, PlainTables};
+use rubis_shadow::{Ask, Effect, MisfitKind, PlainTables};
 use std::alloc::{AllocError, Global};
 use std::io::Print;
 
-/// Fields of a record, each of which takes memory.
-pub fn fields<R: Print + AllocGlobal>(rt: &R) -> Result<(), GaveUp> {
-    let alloc = rt.alloc();
-    let mut fields = Fields::new(alloc);
+// Adds a field, again where memory is refused.
+fn push<R: Print>(rt: &R, fields: &mut Fields, text: &[u8]) -> Result<(), GaveUp> {
+    let len = fields.len();
+    for _ in 0..TRIES {
+        if fields.push(text).is_ok() {
+            return Ok(());
+        }
+        tell_refused(rt, "Fields::push", fields.len() == len);
+    }
+    Err(GaveUp)
+}
+
+// Adds an id, a name and a text.
+fn push_three<R: Print>(rt: &R, alloc: Global, fields: &mut Fields) -> Result<(), GaveUp> {
     let id = Id {
         site: 7,
         seq: 1_000_000,
     };
     let text = again!(rt, "Id::write", id.write(alloc));
-    again!(rt, "Fields::push", fields.push(&text), fields.is_empty());
-    let name = again!(rt, "Name::read", Name::read(alloc, b"a ~")).ok_or(GaveUp)?;
-    again!(
-        rt,
-        "Fields::push",
-        fields.push(name.as_bytes()),
-        fields.len() == 1
-    );
-    let text = again!(rt, "Text::read", Text::read(alloc, b"late")).ok_or(GaveUp)?;
-    again!(
-        rt,
-        "Fields::push",
-        fields.push(text.as_bytes()),
-        fields.len() == 2
-    );
-    tell_row(rt, &again!(rt, "Fields::copy", fields.copy()));
+    push(rt, fields, &text)?;
+    let name = again!(rt, "Name::read", Name::read(alloc, b"a ~"));
+    push(rt, fields, name.ok_or(GaveUp)?.as_bytes())?;
+    let text = again!(rt, "Text::read", Text::read(alloc, b"late"));
+    push(rt, fields, text.ok_or(GaveUp)?.as_bytes())
+}
+
+/// Fields of a record, each of which takes memory.
+pub fn fields<R: Print + AllocGlobal>(rt: &R) -> Result<(), GaveUp> {
+    let mut fields = Fields::new(rt.alloc());
+    push_three(rt, rt.alloc(), &mut fields)?;
+    let copy = again!(rt, "Fields::copy", fields.copy());
+    tell_row(rt, &copy);
+    Ok(())
+}
+
+// A message, read, copied and written.
+fn tell_message<R: Print>(rt: &R, alloc: Global) -> Result<(), GaveUp> {
+    let message = again!(rt, "read_packet", message(alloc, CUP, 2));
+    let copy = again!(rt, "Message::copy", message.copy());
+    let record = again!(rt, "write_message", write_message(alloc, &copy));
+    tell_row(rt, &record);
+    Ok(())
+}
+
+// A token, written.
+fn tell_token<R: Print>(rt: &R, alloc: Global) -> Result<(), GaveUp> {
+    let token = Token {
+        turn: 1,
+        to: 1,
+        issued: 0,
+    };
+    let record = again!(rt, "write_token", write_token(alloc, &token));
+    tell_row(rt, &record);
     Ok(())
 }
 
 /// Records, read and written.
 pub fn records<R: Print + AllocGlobal>(rt: &R) -> Result<(), GaveUp> {
     let alloc = rt.alloc();
-    let message = again!(rt, "read_packet", message(alloc, CUP, 2));
-    let copy = again!(rt, "Message::copy", message.copy());
-    tell_row(
-        rt,
-        &again!(rt, "write_message", write_message(alloc, &copy)),
-    );
-    let token = Token {
-        turn: 1,
-        to: 1,
-        issued: 0,
-    };
-    tell_row(rt, &again!(rt, "write_token", write_token(alloc, &token)));
-    match again!(rt, "read_request", request(alloc, "bid,0.3,0.2,500", 2)) {
+    tell_message(rt, alloc)?;
+    tell_token(rt, alloc)?;
+    let asked = again!(rt, "read_request", request(alloc, "bid,0.3,0.2,500", 2));
+    match asked {
         Request::Ask(Ask::Bid(bid)) => {
             let amount = bid.amount;
             let _ = println!(rt; "bid {amount}");
@@ -67,20 +86,46 @@ fn count_items(alloc: Global, tables: &PlainTables) -> Result<usize, AllocError>
     Ok(tables.rows(alloc, Table::Items)?.len())
 }
 
-/// The parts of a new item, applied to plain tables.
-pub fn plain_tables<R: Print + AllocGlobal>(rt: &R) -> Result<(), GaveUp> {
-    let alloc = rt.alloc();
-    let message = again!(rt, "read_packet", message(alloc, CUP, 2));
+// Applies a part, again where memory is refused.
+fn apply<R: Print>(
+    rt: &R,
+    tables: &mut PlainTables,
+    effect: &Effect,
+) -> Result<Option<MisfitKind>, GaveUp> {
+    for _ in 0..TRIES {
+        if let Ok(misfit) = tables.apply(effect) {
+            return Ok(misfit);
+        }
+        tell_refused(rt, "PlainTables::apply", true);
+    }
+    Err(GaveUp)
+}
+
+// Applies the parts of a message.
+fn apply_parts<R: Print>(
+    rt: &R,
+    alloc: Global,
+    tables: &mut PlainTables,
+    message: &Message,
+) -> Result<(), GaveUp> {
     let stamp = *message.stamp();
-    let mut tables = again!(rt, "PlainTables::new", PlainTables::new(alloc));
     for place in 0..3 {
         let Some(part) = message.shadow().effect(stamp.id, stamp.red, place) else {
             continue;
         };
         let effect = again!(rt, "EffectRef::own", part.own(alloc));
-        let misfit = again!(rt, "PlainTables::apply", tables.apply(&effect));
+        let misfit = apply(rt, tables, &effect)?;
         let _ = println!(rt; "part {place}: {misfit:?}");
     }
+    Ok(())
+}
+
+/// The parts of a new item, applied to plain tables.
+pub fn plain_tables<R: Print + AllocGlobal>(rt: &R) -> Result<(), GaveUp> {
+    let alloc = rt.alloc();
+    let message = again!(rt, "read_packet", message(alloc, CUP, 2));
+    let mut tables = again!(rt, "PlainTables::new", PlainTables::new(alloc));
+    apply_parts(rt, alloc, &mut tables, &message)?;
     let rows = again!(rt, "PlainTables::rows", count_items(alloc, &tables));
     let _ = println!(rt; "items {rows}");
     Ok(())

@@ -4,12 +4,11 @@ ghost use Rattle.std.specs.Prelude.{◌≡◌, All, IfOk};
 ghost use Rattle.rubis_message.specs.Message.{sites_of};
 
 use crate::arrivals::{ANN, BOB, CUP, add_message, arrive};
-use crate::records::message;
 use rubis_message::{Arrival, Message};
 use rubis_replica::{Arrived, Config, Free, Site};
 use rubis_schema::{Nick, Refusal};
 use rubis_shadow::Ask;
-use std::alloc::{AllocError, Global};
+use std::alloc::Global;
 use std::process::Abort;
 use std::sync::Wait;
 use std::test::Fail;
@@ -142,73 +141,5 @@ fn a_batch_is_applied_at_a_request_that_releases_three(rt: HostRuntime) -> Resul
     assert_eq!(rt; site.request(&rt, Ask::User(nick))?.stamp().id.seq, 1);
     assert_eq!(rt; site.history().len(), 3);
     assert_eq!(rt; site.cut(&rt)?, 0);
-    Ok(())
-}
-
-const JUG: &str = "msg,1,1,2,0,1:1:0,item,0.1,jug,7,1,100,0";
-
-const POT: &str = "msg,1,1,1,0,1:0:0,item,0.1,pot,7,1,100,0";
-
-const SECOND: &str = "msg,1,0,2,0,1:0:0,item,0.1,cup,7,1,100,0";
-
-// Site 2 of 3.
-fn third_of_three(alloc: Global) -> Result<Site, Fail>
-    ensures { IfOk result (λ site. site.place.sites ≡ 3) }
-{
-    let config = Config::new(2, 3, 4, 2, 64, 1_000_000).ok_or("a configuration")?;
-    Ok(Site::new(alloc, &config, Free)?)
-}
-
-// Takes in, at a site of three, the message that is written so.
-fn arrive_of_three<R: Threads + Wait + Sync>(
-    rt: &R,
-    site: &mut Site,
-    alloc: Global,
-    text: &str,
-) -> Result<Arrival, Fail>
-    requires { site.old.place.sites ≡ 3 }
-    ensures { site.new.place ≡ site.old.place }
-{
-    let message = message(alloc, text, 3)?;
-    Ok(site.arrive(rt, message)?)
-}
-
-// The ids of a site's log.
-fn ids_of(alloc: Global, site: &Site) -> Result<Vec<(u8, u32)>, AllocError> {
-    let mut ids = Vec::new(alloc);
-    for message in site.history() {
-        let id = message.stamp().id;
-        ids.push((id.site, id.seq))?;
-    }
-    Ok(ids)
-}
-
-// Takes in three messages, which wait.
-fn hold_three<R: Abort + Threads + Wait + Sync>(
-    rt: &R,
-    site: &mut Site,
-    alloc: Global,
-) -> Result<(), Fail>
-    requires { site.old.place.sites ≡ 3 }
-    ensures { site.new.place ≡ site.old.place }
-{
-    let jug = arrive_of_three(rt, site, alloc, JUG)?;
-    let pot = arrive_of_three(rt, site, alloc, POT)?;
-    let cup = arrive_of_three(rt, site, alloc, SECOND)?;
-    assert_eq!(rt;
-        (jug, pot, cup),
-        (Arrival::Held, Arrival::Held, Arrival::Held)
-    );
-    Ok(())
-}
-
-#[test]
-fn the_earliest_that_is_ready_is_released(rt: HostRuntime) -> Result<(), Fail> {
-    let mut site = third_of_three(rt.alloc())?;
-    hold_three(&rt, &mut site, rt.alloc())?;
-    let last = arrive_of_three(&rt, &mut site, rt.alloc(), "msg,1,0,1,1,0:0:0,user,ann")?;
-    assert_eq!(rt; last, Arrival::Released(4));
-    let ids = ids_of(rt.alloc(), &site)?;
-    assert!(rt; ids.as_slice() == [(0, 1), (1, 1), (1, 2), (0, 2)].as_slice());
     Ok(())
 }

@@ -1,33 +1,23 @@
 // A batch of three users over five shards, and shards that come back.
+
 ghost use Rattle.std.specs.Prelude.{◌≡◌, ◌+◌, ◌≤◌, length, IfOk};
 
-use rubis_message::{Message, Packet, read_packet};
-use rubis_pieces::{Done, FaultKind, Places, apply_batch, gather, misfits, split};
-use rubis_schema::{Fields, Items, Table};
-use rubis_shard::{Shard, Share, Tables};
+use crate::records::message;
+use rubis_message::Message;
+use rubis_pieces::{Done, FaultKind, Places, gather, split};
+use rubis_schema::Items;
+use rubis_shard::{Shard, Share};
 use std::alloc::{AllocError, Global};
 use std::test::Fail;
-
-/// The message that is written so, to a site of two.
-pub fn message(alloc: Global, text: &str) -> Result<Message, Fail> {
-    let mut record = Fields::new(alloc);
-    for field in text.split(',') {
-        record.push(field.as_bytes())?;
-    }
-    match read_packet(alloc, &record, 2)? {
-        Packet::Msg(message) => Ok(message),
-        Packet::Token(_) => Err(Fail::from("a token")),
-    }
-}
 
 // The messages of three users.
 fn three_users(alloc: Global) -> Result<Vec<Message>, Fail>
     ensures { IfOk result (λ batch. length batch.items ≡ 3) }
 {
     let mut batch = Vec::new(alloc);
-    batch.push(message(alloc, "msg,1,0,1,1,0:0,user,ann")?)?;
-    batch.push(message(alloc, "msg,1,0,2,2,1:0,user,bob")?)?;
-    batch.push(message(alloc, "msg,1,0,3,3,2:0,user,cat")?)?;
+    batch.push(message(alloc, "msg,1,0,1,1,0:0,user,ann", 2)?)?;
+    batch.push(message(alloc, "msg,1,0,2,2,1:0,user,bob", 2)?)?;
+    batch.push(message(alloc, "msg,1,0,3,3,2:0,user,cat", 2)?)?;
     Ok(batch)
 }
 
@@ -118,17 +108,5 @@ fn shards_are_gathered_by_number(rt: HostRuntime) -> Result<(), Fail> {
         fault(rt.alloc(), 0, None)?,
         Some((FaultKind::Missing(1), 1))
     );
-    Ok(())
-}
-
-#[test]
-fn a_batch_is_applied_on_all_shards(rt: HostRuntime) -> Result<(), Fail> {
-    let batch = three_users(rt.alloc())?;
-    let mut tables = Tables::new(rt.alloc(), 5)?;
-    let left = apply_batch(rt.alloc(), &mut tables, &batch, 1)?;
-    assert!(rt; left.is_empty());
-    assert_eq!(rt; tables.rows(rt.alloc(), Table::Users)?.len(), 3);
-    assert_eq!(rt; tables.rows(rt.alloc(), Table::Cats)?.len(), 1000);
-    assert_eq!(rt; misfits(rt.alloc(), &tables)?.len(), 0);
     Ok(())
 }

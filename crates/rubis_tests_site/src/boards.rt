@@ -1,3 +1,5 @@
+// A board that is posted to, and passes that take from it.
+
 ghost use Rattle.std.specs.Prelude.{◌≡◌, ◌<◌, true, IfNone};
 
 use rubis_board::{Board, Pass, Poster};

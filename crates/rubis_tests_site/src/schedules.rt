@@ -1,3 +1,5 @@
+// The machine of every schedule, event by event.
+
 ghost use Rattle.std.specs.Prelude.{◌<◌, IfOk};
 ghost use Rattle.std.specs.List.{All};
 ghost use Rattle.rubis_pieces.specs.Work.{IsPiece};

@@ -1,5 +1,5 @@
 use Rattle.std.proofs.Common.{◌≡◌}
-use Rattle.rubis_tests_layers.proofs.boards.drain.Given as goal
+use Rattle.rubis_tests_site.proofs.boards.drain.Given as goal
 
 abbrev pub invariant-loop : goal.invariant-loop
 invariant-loop g l =

@@ -1,5 +1,5 @@
 use Rattle.rubis_pool_core.proofs.Works.{one_more_piece}
-use Rattle.rubis_tests_layers.proofs.schedules.both_pieces.Goals as goal
+use Rattle.rubis_tests_site.proofs.schedules.both_pieces.Goals as goal
 
 pub loop-number-preserved : goal.loop-number-preserved
 loop-number-preserved c =
