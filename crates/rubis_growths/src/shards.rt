@@ -271,7 +271,7 @@ fn rows_of(alloc: Global, tables: &Tables, listing: &Listing) -> Result<Items<Fi
 
 // Tells the listings of tables.
 fn tell_tables<R: Print>(rt: &R, alloc: Global, tables: &Tables) -> Result<(), GaveUp> {
-    let mut number = 0;
+    let mut number: u32 = 0;
     for listing in [
         Listing::Users,
         Listing::Items(9),
@@ -281,7 +281,7 @@ fn tell_tables<R: Print>(rt: &R, alloc: Global, tables: &Tables) -> Result<(), G
         Listing::Categories,
         Listing::Tables,
     ] {
-        number += 1;
+        number = number.saturating_add(1);
         tell_rows(
             rt,
             number,
