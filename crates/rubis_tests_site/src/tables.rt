@@ -92,6 +92,19 @@ fn tables_have_a_thousand_categories(rt: HostRuntime) -> Result<(), Fail> {
     Ok(())
 }
 
+#[test]
+fn rows_are_listed_in_key_order(rt: HostRuntime) -> Result<(), Fail> {
+    let mut tables = PlainTables::new(rt.alloc())?;
+    add_user(&rt, &mut tables, BOB, 1, b"bob")?;
+    add_user(&rt, &mut tables, ANN, 2, b"ann")?;
+    let rows = tables.rows(rt.alloc(), Table::Users)?;
+    assert_eq!(rt; rows.len(), 2);
+    let mut keys = rows.iter().map(|entry| *entry.0);
+    assert!(rt; keys.next() == Some(RowKey::User(ANN)));
+    assert!(rt; keys.next() == Some(RowKey::User(BOB)));
+    Ok(())
+}
+
 // Ann offers a lamp and closes it, with no bid.
 fn end_lamp<R: Abort + AllocGlobal>(rt: &R, tables: &mut PlainTables) -> Result<(), Fail> {
     add_user(rt, tables, ANN, 1, b"ann")?;
