@@ -6,10 +6,10 @@ use Rattle.rubis_model.specs.AuditRecords.{Line, audit_record, line_of, logs_aft
 use Rattle.rubis_model.specs.Logs.{Log}
 use Rattle.rubis_model.specs.Settle.{Has}
 use Rattle.rubis_model.proofs.Lists.{has_reverse, push_cases}
-use Rattle.rubis_script.specs.Accounts.{AnswersRecord}
-use Rattle.rubis_script.specs.Accounts.Ending.{AtEnd}
-use Rattle.rubis_script.specs.Text.{rows_text}
-use Rattle.rubis_script.specs.declared.service.Course.TheVariants.{GoesOn, Ends}
+use Rattle.rubis_engine.specs.Accounts.{AnswersRecord}
+use Rattle.rubis_engine.specs.Accounts.Ending.{AtEnd}
+use Rattle.rubis_engine.specs.Text.{rows_text}
+use Rattle.rubis_engine.specs.declared.service.Course.TheVariants.{GoesOn, Ends}
 use Rattle.rubis_audit.specs.Running.{AreRead, HasMessagesAmong, IsCurrentAmong, account_from, audit_text, logs_so_far, read_behind}
 use Rattle.rubis_audit.specs.Walks.{HaveMessagesAmong}
 

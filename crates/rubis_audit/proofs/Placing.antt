@@ -6,10 +6,10 @@ use Rattle.rubis_model.specs.AuditRecords.{Line, line_of, line_record, with_line
 use Rattle.rubis_model.specs.AuditRecords.Line.{Begin, Claim, Next}
 use Rattle.rubis_model.specs.Logs.{Log}
 use Rattle.rubis_model.specs.WidenedRecords.{widened_line, widened_record}
-use Rattle.rubis_script.specs.Accounts.{AnswersRecord}
-use Rattle.rubis_script.specs.Adding.{more_written}
-use Rattle.rubis_script.specs.Text.{rows_text}
-use Rattle.rubis_script.specs.declared.service.Course.TheVariants.{GoesOn}
+use Rattle.rubis_engine.specs.Accounts.{AnswersRecord}
+use Rattle.rubis_engine.specs.Adding.{more_written}
+use Rattle.rubis_engine.specs.Text.{rows_text}
+use Rattle.rubis_engine.specs.declared.service.Course.TheVariants.{GoesOn}
 use Rattle.rubis_audit.specs.Places.{logs_at, place_after, place_in, place_of}
 use Rattle.rubis_audit.specs.Widening.{bad_record, widened_rows, widening_from}
 use Rattle.rubis_audit.specs.declared.widener.Place.{Place}

@@ -5,9 +5,9 @@ use Rattle.rubis_message.specs.Message.{Message, sites_of}
 use Rattle.rubis_model.specs.AuditRecords.{audit_record, line_of, logs_after, with_line}
 use Rattle.rubis_model.specs.Logs.{Log}
 use Rattle.rubis_model.specs.Settle.{Has}
-use Rattle.rubis_script.specs.Accounts.{Account, Ending}
-use Rattle.rubis_script.specs.Accounts.Ending.{AtEnd, Cut}
-use Rattle.rubis_script.specs.Text.{rows_text}
+use Rattle.rubis_engine.specs.Accounts.{Account, Ending}
+use Rattle.rubis_engine.specs.Accounts.Ending.{AtEnd, Cut}
+use Rattle.rubis_engine.specs.Text.{rows_text}
 
 -- among how many sites, and the logs so far, newest first
 pub record AuditorState : Type 0 where

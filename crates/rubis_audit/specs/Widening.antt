@@ -4,9 +4,9 @@ use Rattle.rubis_schema.specs.declared.limits.TheConstants.{COUNTED_MAX}
 use Rattle.rubis_model.specs.AuditRecords.{line_of, logs_after, with_line}
 use Rattle.rubis_model.specs.Logs.{Log}
 use Rattle.rubis_model.specs.WidenedRecords.{widened_record}
-use Rattle.rubis_script.specs.Accounts.{Account}
-use Rattle.rubis_script.specs.Accounts.Ending.{AtEnd}
-use Rattle.rubis_script.specs.Text.{input_records, rows_text}
+use Rattle.rubis_engine.specs.Accounts.{Account}
+use Rattle.rubis_engine.specs.Accounts.Ending.{AtEnd}
+use Rattle.rubis_engine.specs.Text.{input_records, rows_text}
 use Rattle.rubis_audit.specs.Running.{audit_account}
 use Rattle.rubis_audit.specs.declared.widener.Place.{Place}
 

@@ -15,9 +15,9 @@ use crate::lines::{Line, read_line};
 use crate::logs::Log;
 use crate::verdicts::{write_bad_record, write_verdict};
 use crate::walks::audit;
+use rubis_engine::{Answering, Course, InputRecord, OutOfMemory, Reply, Service, Sink};
 use rubis_message::Message;
 use rubis_schema::{Fields, Items};
-use rubis_script::{Answering, Course, InputRecord, OutOfMemory, Reply, Service, Sink};
 use std::alloc::{AllocError, Global};
 use std::marker::Model;
 

@@ -5,9 +5,9 @@ ghost use Rattle.rubis_schema.specs.declared.limits.TheConstants.{COUNTED_MAX};
 ghost use Rattle.rubis_model.specs.AuditRecords.{line_of};
 ghost use Rattle.rubis_audit.specs.Lines.{IsAmongLine, begin_of, is_row, line_as};
 
+use rubis_engine::InputRecord;
 use rubis_message::{Message, Packet, ReadFault, read_packet};
 use rubis_schema::{Record, read_number};
-use rubis_script::InputRecord;
 use std::alloc::{AllocError, Global};
 
 /// What a record says.

@@ -1,15 +1,15 @@
 // The auditor over a reader and a writer.
 
 ghost use Rattle.std.specs.Prelude.{◌≤◌, IfOk, IfSome, IsErrOf};
-ghost use Rattle.rubis_script.specs.Accounts.Ending.{AtEnd};
-ghost use Rattle.rubis_script.specs.Progress.{IsCut, IsDone, IsTooLong, WrotePrefix};
-ghost use Rattle.rubis_script.specs.Text.{input_records};
+ghost use Rattle.rubis_engine.specs.Accounts.Ending.{AtEnd};
+ghost use Rattle.rubis_engine.specs.Progress.{IsCut, IsDone, IsTooLong, WrotePrefix};
+ghost use Rattle.rubis_engine.specs.Text.{input_records};
 ghost use Rattle.rubis_schema.specs.declared.limits.TheConstants.{COUNTED_MAX};
 ghost use Rattle.rubis_audit.specs.Running.{audit_account};
 
 use crate::auditor::Auditor;
+use rubis_engine::{Count, RunFault, run_upto};
 use rubis_schema::RECORDS_MAX;
-use rubis_script::{Count, RunFault, run_upto};
 use std::alloc::Global;
 use std::io::{Read, Write};
 use std::mem;

@@ -3,11 +3,11 @@
 ghost use Rattle.std.specs.Prelude.{◌≡◌, ◌++◌, ◌∷◌, [], OnOk, codes};
 ghost use Rattle.rubis_message.specs.declared.answers.Verdict.TheVariants.{Found};
 ghost use Rattle.rubis_model.specs.AuditRecords.{audit_record, verdict_record};
-ghost use Rattle.rubis_script.specs.Text.{rows_text};
+ghost use Rattle.rubis_engine.specs.Text.{rows_text};
 
+use rubis_engine::Sink;
 use rubis_message::{Kind, Verdict};
 use rubis_schema::{Fields, push_number};
-use rubis_script::Sink;
 use std::alloc::AllocError;
 
 // Begins the record.

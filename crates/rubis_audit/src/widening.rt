@@ -2,14 +2,14 @@
 
 ghost use Rattle.std.specs.Prelude.{◌≤◌, IfOk, IfSome, IsErrOf};
 ghost use Rattle.rubis_schema.specs.declared.limits.TheConstants.{COUNTED_MAX};
-ghost use Rattle.rubis_script.specs.Accounts.Ending.{AtEnd};
-ghost use Rattle.rubis_script.specs.Progress.{IsCut, IsDone, IsTooLong, WrotePrefix};
-ghost use Rattle.rubis_script.specs.Text.{input_records};
+ghost use Rattle.rubis_engine.specs.Accounts.Ending.{AtEnd};
+ghost use Rattle.rubis_engine.specs.Progress.{IsCut, IsDone, IsTooLong, WrotePrefix};
+ghost use Rattle.rubis_engine.specs.Text.{input_records};
 ghost use Rattle.rubis_audit.specs.Widening.{widening_account};
 
 use crate::widener::Widener;
+use rubis_engine::{Count, RunFault, run_upto};
 use rubis_schema::RECORDS_MAX;
-use rubis_script::{Count, RunFault, run_upto};
 use std::alloc::Global;
 use std::io::{Read, Write};
 

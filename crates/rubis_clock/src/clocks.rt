@@ -7,7 +7,7 @@ use rubis_schema::COUNTED_MAX;
 use std::marker::Model;
 
 /// How many messages of each site a log has, and how many red ones.
-#[derive(Clone, Copy, Debug)]
+#[derive(Clone, Copy)]
 pub struct Clock {
     counts: Deps,
     red: u32,

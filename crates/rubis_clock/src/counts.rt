@@ -1,10 +1,10 @@
-ghost use Rattle.std.specs.Prelude.{◌≡◌, ◌<◌, ◌≤◌, [], ◌∷◌, ◌++◌, length, slice_index, slice_set};
+ghost use Rattle.std.specs.Prelude.{◌≡◌, ◌==◌, ◌<◌, ◌≤◌, ◌+◌, [], ◌∷◌, ◌++◌, length, slice_index, slice_set};
 
 use rubis_schema::COUNTED_MAX;
 use std::marker::Model;
 
 /// For each site, in site order, how many of its messages had been released. Contracts see the list of the counts.
-#[derive(Clone, Copy, Debug)]
+#[derive(Clone, Copy)]
 pub struct Deps {
     // The counts, and zeros after them.
     counts: [u32; COUNTED_MAX],
@@ -68,6 +68,15 @@ impl Deps {
         ensures { result ≡ slice_index self.now site }
     {
         self.as_slice()[usize::from(site)]
+    }
+
+    /// Whether the site's message number `seq` is the next one after those that are counted.
+    #[inline(always)]
+    pub fn is_next(&self, site: u8, seq: u64) -> bool
+        requires { site < length self.now }
+        ensures { result ≡ (seq == slice_index self.now site + 1) }
+    {
+        u64::from(self.count(site)) + 1 == seq
     }
 
     /// Sets the count of a site.

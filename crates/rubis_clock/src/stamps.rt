@@ -5,7 +5,7 @@ use crate::counts::Deps;
 use rubis_schema::{COUNTED_MAX, Id};
 
 /// A message's id, its red number (0 for a blue shadow), and what its origin had released when it made it.
-#[derive(Clone, Copy, PartialEq, Eq, Debug)]
+#[derive(Clone, Copy, PartialEq, Eq)]
 pub struct Stamp {
     pub id: Id,
     pub red: u32,

@@ -17,7 +17,8 @@ use Rattle.rubis_message.specs.Readings.{packet_of, take_packet}
 use Rattle.rubis_message.specs.declared.answers.Kind.TheVariants as kind
 use Rattle.rubis_message.specs.declared.answers.Verdict.TheVariants.{Agree, Found}
 use Rattle.rubis_model.specs.Log.{cores, fold_of}
-use Rattle.rubis_model.specs.Listings.{category_record, is_of, row_record, shows_nothing}
+use Rattle.rubis_schema.specs.Categories.{shows_nothing}
+use Rattle.rubis_model.specs.Listings.{category_record, is_of, row_record}
 use Rattle.rubis_model.specs.Settle.{Has}
 use Rattle.rubis_model.specs.AuditRecords.{audit_of, take_begin, with_line}
 use Rattle.rubis_model.specs.AuditRecords.Line.{Begin, Next, Claim}

@@ -4,7 +4,7 @@ ghost use Rattle.std.specs.Bool.{MatchBool};
 ghost use Rattle.std.specs.Prelude.{◌≡◌, ◌++◌, ◌∷◌, [], IfOk, OnOk, codes, decimal, true};
 ghost use Rattle.rubis_schema.specs.FieldList.{is_plain};
 ghost use Rattle.rubis_message.specs.Grammar.{comment_fields, purchase_fields, winner_text};
-ghost use Rattle.rubis_model.specs.Listings.{best_fields, bid_row_fields, by_id, category_record, item_row_fields, row_record, sale_fields, shows_nothing, user_fields};
+ghost use Rattle.rubis_model.specs.Listings.{best_fields, bid_row_fields, by_id, category_record, item_row_fields, row_record, sale_fields, user_fields};
 
 use rubis_schema::{
     Best, BidRow, CatRow, CommentRow, Fields, Id, ItemRow, PurchaseRow, Row, RowKey, Sale, UserRow,
@@ -130,13 +130,6 @@ fn put_category(fields: &mut Fields, cat: u16, row: &CatRow) -> Result<(), Alloc
     push_int(fields, row.live)
 }
 
-// Whether a category has neither items nor live ones.
-fn shows_no_items(row: &CatRow) -> bool
-    ensures { result ≡ shows_nothing row.now }
-{
-    row.items == 0 && row.live == 0
-}
-
 // The record of the row at a key, if it has one.
 pub fn put_record(fields: &mut Fields, key: &RowKey, row: &Row) -> Result<bool, AllocError>
     ensures { IfOk result (λ has. MatchBool has (row_record key.now row.now ≡ fields.new ∷ []) (row_record key.now row.now ≡ [])) }
@@ -148,7 +141,7 @@ pub fn put_record(fields: &mut Fields, key: &RowKey, row: &Row) -> Result<bool, 
         (RowKey::Purchase(id), Row::Purchase(purchase)) => put_purchase(fields, id, purchase)?,
         (RowKey::Comment(id), Row::Comment(comment)) => put_comment(fields, id, comment)?,
         (RowKey::Cat(cat), Row::Cat(row)) => {
-            if shows_no_items(row) {
+            if row.shows_nothing() {
                 return Ok(false);
             }
             put_category(fields, *cat, row)?

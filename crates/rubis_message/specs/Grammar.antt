@@ -10,6 +10,7 @@ use Rattle.rubis_schema.specs.declared.listings.Listing.TheVariants.{Users, Item
 use Rattle.rubis_schema.specs.declared.rows.PurchaseRow.{PurchaseRow}
 use Rattle.rubis_schema.specs.declared.rows.CommentRow.{CommentRow}
 use Rattle.rubis_shadow.specs.Limits.{IsAsk}
+use Rattle.rubis_shadow.specs.Shadows.{version_of}
 use Rattle.rubis_shadow.specs.declared.asks.Ask.{Ask}
 use Rattle.rubis_shadow.specs.declared.asks.Ask.TheVariants as ask
 use Rattle.rubis_shadow.specs.declared.asks.AskedClose.{AskedClose}
@@ -145,17 +146,6 @@ message_fields m = stamp_fields m.stamp ++ shadow_fields m.shadow
 
 abbrev pub token_fields : Token → List (List ℕ)
 token_fields t = decimal t.turn ∷ decimal t.to ∷ decimal t.issued ∷ []
-
--- the version of a message, by the kind of its shadow
-abbrev pub version_of : Shadow → List ℕ
-version_of (shadow.User n) = codes "1"
-version_of (shadow.Item n) = codes "1"
-version_of (shadow.Bid b) = codes "1"
-version_of (shadow.Buy p) = codes "1"
-version_of (shadow.Close c) = codes "1"
-version_of (shadow.Comment c) = codes "1"
-version_of (shadow.Restock r) = codes "2"
-version_of (shadow.Rename r) = codes "2"
 
 -- the second field is the version
 abbrev pub message_record : Message → List (List ℕ)

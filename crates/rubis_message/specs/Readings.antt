@@ -5,7 +5,7 @@ use Rattle.rubis_schema.specs.declared.listings.Listing.TheVariants as listing
 use Rattle.rubis_schema.specs.declared.limits.TheConstants.{AMOUNT_MAX, CAT_MAX, COUNTED_MAX, COUNT_MAX, PASS_MAX, QUANTITY_MAX, SEQ_MAX, TURN_MAX}
 use Rattle.rubis_schema.specs.declared.rows.PurchaseRow.{PurchaseRow}
 use Rattle.rubis_schema.specs.declared.rows.CommentRow.{CommentRow}
-use Rattle.rubis_shadow.specs.Shadows.{is_red}
+use Rattle.rubis_shadow.specs.Shadows.{is_red, version_of}
 use Rattle.rubis_shadow.specs.declared.asks.Ask.TheVariants as ask
 use Rattle.rubis_shadow.specs.declared.asks.AskedClose.{AskedClose}
 use Rattle.rubis_shadow.specs.declared.asks.AskedRename.{AskedRename}
@@ -19,7 +19,7 @@ use Rattle.rubis_shadow.specs.declared.shadows.Shadow.{Shadow}
 use Rattle.rubis_shadow.specs.declared.shadows.Shadow.TheVariants as shadow
 use Rattle.rubis_clock.specs.declared.stamps.Stamp.{Stamp}
 use Rattle.rubis_message.specs.Forms.{Form, ◌>>=◌, ◌>>◌, give, none, mapped, check, whole, one, take_deps, take_id, take_name, take_nick, take_number, take_positive, take_rating, take_site, take_text, take_winner}
-use Rattle.rubis_message.specs.Grammar.{IsPacket, IsRequest, packet_record, request_record, token_version, version_of}
+use Rattle.rubis_message.specs.Grammar.{IsPacket, IsRequest, packet_record, request_record, token_version}
 use Rattle.rubis_message.specs.Message.{Message}
 use Rattle.rubis_message.specs.Words.{kind_of, shown_of}
 use Rattle.rubis_message.specs.declared.kinds.RecordKind.{RecordKind}

@@ -24,7 +24,7 @@ pub enum Taken {
 }
 
 /// What became of an event at a site among several.
-#[derive(Drop, Debug)]
+#[derive(Drop)]
 pub enum Happened {
     /// The site sent the packet with this number, counted from 1 over all sites.
     Sent(u64),

@@ -11,7 +11,7 @@ use std::marker::Model;
 /// A shadow with its stamp, which meets the conditions of its record: the stamp has a count for each site, that of
 /// the origin is one less than the message's number, the red number is 0 if and only if the shadow is blue, and all ids
 /// and numbers are within their limits.
-#[derive(Drop, Clone, Debug)]
+#[derive(Drop, Clone)]
 pub struct Message {
     stamp: Stamp,
     shadow: Shadow,

@@ -9,7 +9,6 @@ use crate::faults::ReadFault;
 use crate::kinds::says;
 use crate::messages::Message;
 use crate::readers::Reader;
-use crate::shadows::version_of;
 use crate::stamps::read_deps;
 use crate::tokens::{Packet, TOKEN_VERSION, Token};
 use rubis_clock::{Deps, Stamp};
@@ -64,7 +63,7 @@ impl<'a, F: Record> Reader<'a, F> {
         let seq = self.positive(u64::from(SEQ_MAX))?;
         let red = self.number(COUNT_MAX)?;
         let deps = self.deps(sites)?;
-        if u64::from(deps.count(site)) + 1 != seq {
+        if !deps.is_next(site, seq) {
             return Err(ReadFault::BadRecord);
         }
         Ok(Stamp {
@@ -86,7 +85,7 @@ impl<'a, F: Record> Reader<'a, F> {
     {
         let stamp = self.stamp(sites)?;
         let shadow = self.shadow(alloc, sites)?;
-        if !says(version, version_of(&shadow)) {
+        if !says(version, shadow.version()) {
             return Err(ReadFault::BadRecord);
         }
         if !agree(&shadow, stamp.red) {

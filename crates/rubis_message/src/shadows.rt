@@ -1,8 +1,6 @@
 // The shadow of a message.
 
-ghost use Rattle.std.specs.Prelude.{◌≡◌};
 ghost use Rattle.rubis_message.specs.Forms.{Takes};
-ghost use Rattle.rubis_message.specs.Grammar as grammar;
 ghost use Rattle.rubis_message.specs.Readings.{take_close, take_rename, take_restock, take_shadow};
 
 use crate::faults::ReadFault;
@@ -69,20 +67,5 @@ impl<'a, F: Record> Reader<'a, F> {
             RecordKind::Rename => Ok(Shadow::Rename(self.new_rename(alloc, sites)?)),
             RecordKind::Pass | RecordKind::List => Err(ReadFault::BadRecord),
         }
-    }
-}
-
-/// The version of the record of a message with this shadow, by the shadow's kind.
-pub fn version_of(shadow: &Shadow) -> &'static [u8]
-    ensures { result.now ≡ grammar.version_of shadow.now }
-{
-    match shadow {
-        Shadow::User(_)
-        | Shadow::Item(_)
-        | Shadow::Bid(_)
-        | Shadow::Buy(_)
-        | Shadow::Close(_)
-        | Shadow::Comment(_) => b"1",
-        Shadow::Restock(_) | Shadow::Rename(_) => b"2",
     }
 }

@@ -4,7 +4,6 @@ ghost use Rattle.std.specs.Prelude.{◌≡◌, ◌++◌, ◌∷◌, [], IfOk, On
 ghost use Rattle.rubis_message.specs.Grammar.{bid_fields, close_fields, comment_fields, item_fields, message_record, purchase_fields, rename_fields, restock_fields, shadow_fields, token_record, winner_text};
 
 use crate::messages::Message;
-use crate::shadows::version_of;
 use crate::stamps::push_deps;
 use crate::tokens::{TOKEN_VERSION, Token};
 use rubis_schema::{CommentRow, Fields, Id, PurchaseRow, push_int, push_number};
@@ -124,7 +123,7 @@ fn push_message(fields: &mut Fields, message: &Message) -> Result<(), AllocError
 {
     let stamp = message.stamp();
     fields.push_plain(b"msg")?;
-    fields.push(version_of(message.shadow()))?;
+    fields.push(message.shadow().version())?;
     push_number(fields, u64::from(stamp.id.site))?;
     push_number(fields, u64::from(stamp.id.seq))?;
     push_number(fields, u64::from(stamp.red))?;

@@ -1,7 +1,8 @@
 -- The rows of listings: one record for each row that shows something.
-use Rattle.std.specs.Prelude.{ℕ, ◌+◌, List, [], ◌∷◌, ◌++◌, Option, Some, None, Bool, true, false, ◌&&◌, cond, filter, codes, decimal, nat_eq, pos, ℤ}
+use Rattle.std.specs.Prelude.{ℕ, ◌+◌, List, [], ◌∷◌, ◌++◌, Option, Some, None, Bool, true, false, cond, filter, codes, decimal, nat_eq}
 use Rattle.std.specs.List.{flat_map}
 use Rattle.std.specs.FinMap as map
+use Rattle.rubis_schema.specs.Categories.{shows_nothing}
 use Rattle.rubis_schema.specs.Ids.{id_text, int_text}
 use Rattle.rubis_schema.specs.Keys.{same_id}
 use Rattle.rubis_schema.specs.Tables.{Tables}
@@ -54,14 +55,6 @@ by_id kind id fields = codes "row" ∷ kind ∷ id_text id ∷ fields
 
 abbrev pub category_record : ℕ → CatRow → List (List ℕ)
 category_record k c = codes "row" ∷ codes "category" ∷ decimal k ∷ decimal c.items ∷ int_text c.live ∷ []
-
-abbrev pub is_zero : ℤ → Bool
-is_zero (pos n) = nat_eq n 0
-is_zero n = false
-
--- a category shows something where it has items, or live ones
-abbrev pub shows_nothing : CatRow → Bool
-shows_nothing c = nat_eq c.items 0 && is_zero c.live
 
 -- the record of the row at a key; there is none for a nickname, nor for a category that shows nothing
 abbrev pub row_record : RowKey → Row → List (List (List ℕ))

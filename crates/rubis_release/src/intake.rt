@@ -23,7 +23,7 @@ use std::mem;
 pub use tokens::Held;
 
 /// Why an intake answers no more than that.
-#[derive(Clone, Copy, PartialEq, Eq, Debug)]
+#[derive(Clone, Copy, PartialEq, Eq)]
 pub enum IntakeFault {
     /// The message is refused.
     Refused(Refusal),

@@ -10,3 +10,4 @@ pub mod Lending
 pub mod IdKeys
 pub mod IdKeyLaws
 pub mod KeyHashes
+pub mod Categories

@@ -7,7 +7,7 @@ use std::marker::Model;
 use std::ops::Deref;
 
 /// A value in memory of its own, so that what holds it stays small. Contracts see the value.
-#[derive(Drop, Debug)]
+#[derive(Drop)]
 pub struct Boxed<T> {
     inner: Box<T>,
 }

@@ -11,7 +11,7 @@ use std::alloc::{AllocError, Global};
 use std::marker::Model;
 
 /// One record, as the list of its fields. It is cleared and filled again without giving its room back.
-#[derive(Debug, Drop)]
+#[derive(Drop)]
 pub struct Fields {
     // The bytes of all fields, each with a comma before it.
     text: Vec<u8>,

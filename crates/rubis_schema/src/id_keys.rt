@@ -6,7 +6,7 @@ use crate::row_keys::RowKey;
 use std::hash::{Hash, Hasher};
 
 /// One of the five tables whose rows have ids.
-#[derive(Clone, Copy, PartialEq, Eq, Debug)]
+#[derive(Clone, Copy, PartialEq, Eq)]
 pub enum IdTable {
     User,
     Item,
@@ -32,7 +32,7 @@ impl IdTable {
 }
 
 /// The key of a row with an id, in eight bytes.
-#[derive(Clone, Copy, Debug)]
+#[derive(Clone, Copy)]
 pub struct IdKey {
     pub seq: u32,
     pub site: u8,

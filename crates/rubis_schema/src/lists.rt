@@ -4,7 +4,7 @@ use std::alloc::{AllocFailed, Global};
 use std::marker::Model;
 
 /// A list of items, made from a `Vec` and turned into one without memory. Contracts see the items alone.
-#[derive(Drop, Debug)]
+#[derive(Drop)]
 pub struct Items<T> {
     vec: Vec<T>,
 }

@@ -10,7 +10,7 @@ use std::marker::Model;
 
 /// A nickname: 1 to 20 of `a-z`, `0-9` and `_`, the first a letter. Contracts see its bytes, by which nicknames are
 /// ordered.
-#[derive(Clone, Copy, Debug)]
+#[derive(Clone, Copy)]
 pub struct Nick {
     // The bytes, and zeros after them.
     bytes: [u8; NICK_MAX],

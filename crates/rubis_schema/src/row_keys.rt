@@ -8,7 +8,7 @@ use std::hash::{Hash, Hasher};
 
 /// The key of a row: its table, and the id, nickname or category that it has there. Keys are ordered by table, then
 /// by site and number, by the nickname's bytes, or by the category.
-#[derive(Clone, Copy, Debug)]
+#[derive(Clone, Copy)]
 pub enum RowKey {
     User(Id),
     Item(Id),
@@ -20,7 +20,7 @@ pub enum RowKey {
 }
 
 /// One of the seven tables.
-#[derive(Clone, Copy, PartialEq, Eq, Debug)]
+#[derive(Clone, Copy, PartialEq, Eq)]
 pub enum Table {
     Users,
     Items,

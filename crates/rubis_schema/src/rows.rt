@@ -1,4 +1,5 @@
 ghost use Rattle.std.specs.Prelude.{◌≡◌, IfOk};
+ghost use Rattle.rubis_schema.specs.Categories.{shows_nothing};
 
 use crate::boxed::Boxed;
 use crate::ids::Id;
@@ -9,7 +10,7 @@ use std::alloc::AllocError;
 
 /// A user: the nickname, how many items the user listed, how many pieces the user bought, and the sum and the count
 /// of the comments to the user.
-#[derive(Clone, Copy, PartialEq, Eq, Debug)]
+#[derive(Clone, Copy, PartialEq, Eq)]
 pub struct UserRow {
     pub nick: Nick,
     pub items: u64,
@@ -19,14 +20,14 @@ pub struct UserRow {
 }
 
 /// The best bid of an item so far.
-#[derive(Clone, Copy, PartialEq, Eq, Debug)]
+#[derive(Clone, Copy, PartialEq, Eq)]
 pub struct Best {
     pub bid: Id,
     pub amount: u64,
 }
 
 /// Whether an item can still be bid for, and who won it if not.
-#[derive(Clone, Copy, PartialEq, Eq, Debug)]
+#[derive(Clone, Copy, PartialEq, Eq)]
 pub enum Sale {
     Open,
     /// Ended, with the winning bid if there is one.
@@ -35,7 +36,7 @@ pub enum Sale {
 
 /// An item: `stock` pieces are left and `sold` were bought; bids begin at `start`, and `price` buys a piece at once
 /// (0: that can't be done).
-#[derive(Drop, Clone, PartialEq, Eq, Debug)]
+#[derive(Drop, Clone, PartialEq, Eq)]
 pub struct ItemRow {
     pub seller: Id,
     pub name: Name,
@@ -50,7 +51,7 @@ pub struct ItemRow {
 }
 
 /// A bid, with the red number of its shadow.
-#[derive(Clone, Copy, PartialEq, Eq, Debug)]
+#[derive(Clone, Copy, PartialEq, Eq)]
 pub struct BidRow {
     pub item: Id,
     pub bidder: Id,
@@ -59,7 +60,7 @@ pub struct BidRow {
 }
 
 /// A buy-now purchase.
-#[derive(Clone, Copy, PartialEq, Eq, Debug)]
+#[derive(Clone, Copy, PartialEq, Eq)]
 pub struct PurchaseRow {
     pub item: Id,
     pub buyer: Id,
@@ -67,7 +68,7 @@ pub struct PurchaseRow {
 }
 
 /// A comment on an item, from one user to another, with a rating of -5 to 5.
-#[derive(Drop, Clone, PartialEq, Eq, Debug)]
+#[derive(Drop, Clone, PartialEq, Eq)]
 pub struct CommentRow {
     pub item: Id,
     pub from: Id,
@@ -77,15 +78,24 @@ pub struct CommentRow {
 }
 
 /// A category: how many items were listed in it, and how many of them didn't end.
-#[derive(Clone, Copy, PartialEq, Eq, Debug)]
+#[derive(Clone, Copy, PartialEq, Eq)]
 pub struct CatRow {
     pub items: u64,
     pub live: i64,
 }
 
+impl CatRow {
+    /// Whether the category has neither items nor live ones: a listing leaves it out then.
+    pub fn shows_nothing(&self) -> bool
+        ensures { result ≡ shows_nothing self.now }
+    {
+        self.items == 0 && self.live == 0
+    }
+}
+
 /// A row of one of the seven tables. A nickname's row holds the id of its user. The larger rows are in boxes, so that tables
 /// stay small; a comment's, which nothing changes, is shared with the messages that brought it.
-#[derive(Drop, Clone, PartialEq, Eq, Debug)]
+#[derive(Drop, Clone, PartialEq, Eq)]
 pub enum Row {
     User(Boxed<UserRow>),
     Item(Boxed<ItemRow>),

@@ -7,7 +7,7 @@ use std::sync::Arc;
 
 /// An immutable value in its own allocation. A clone is one more owner of that allocation, so it allocates nothing; it
 /// fails only if the owner count is at its limit. Contracts see the value.
-#[derive(Drop, Debug)]
+#[derive(Drop)]
 pub struct Shared<T> {
     inner: Arc<T>,
 }

@@ -8,7 +8,7 @@ use std::alloc::{AllocError, Global};
 use std::marker::Model;
 
 /// The name of an item: 1 to 64 bytes from space to `~`. Contracts see its bytes.
-#[derive(Drop, Clone, Debug)]
+#[derive(Drop, Clone)]
 pub struct Name {
     bytes: Vec<u8>,
 }
@@ -25,7 +25,7 @@ impl Model for Name {
 }
 
 /// The text of a comment: 0 to 200 bytes from space to `~`. Contracts see its bytes.
-#[derive(Drop, Clone, Debug)]
+#[derive(Drop, Clone)]
 pub struct Text {
     bytes: Vec<u8>,
 }

@@ -1,10 +1,4 @@
-pub mod ListFacts
-pub mod ReadingFacts
-pub mod RowFacts
-pub mod RunFacts
-pub mod TextFacts
 pub mod SiteAnswers
 pub mod OneReading
-pub mod ReadBack
 pub mod WindowFacts
 pub mod ReplayFacts

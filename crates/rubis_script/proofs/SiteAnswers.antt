@@ -4,8 +4,8 @@ use Rattle.rubis_model.specs.Runs.{answers, input_of, input_step}
 use Rattle.rubis_model.specs.Site.{Place, Replica}
 use Rattle.rubis_replica.specs.State.{SiteState}
 use Rattle.rubis_script.specs.Inputs.{IsAnswered}
-use Rattle.rubis_script.specs.Text.{rows_text}
-use Rattle.rubis_script.proofs.TextFacts.{text-goes}
+use Rattle.rubis_engine.specs.Text.{rows_text}
+use Rattle.rubis_engine.proofs.TextFacts.{text-goes}
 
 goes_on : (p : Place) (s : Replica) (n : ℕ) (fields : List (List ℕ)) (more : List (List (List ℕ)))
     → let step = input_step p s n (input_of p.sites fields) in answers p s n (fields ∷ more) ≡ step.1 ++ answers p step.0 (n + 1) more

@@ -11,16 +11,16 @@ use Rattle.rubis_model.specs.Runs.Input.{Came}
 use Rattle.rubis_model.specs.Site.{Place, Replica, arrived}
 use Rattle.rubis_replica.specs.Arrivals.{TakesFirst, after_all, answers_to}
 use Rattle.rubis_replica.specs.State.{SiteState}
-use Rattle.rubis_script.specs.Accounts.{Account, AnswersRecord, Keeps}
-use Rattle.rubis_script.specs.declared.service.Course.TheVariants.{GoesOn}
+use Rattle.rubis_engine.specs.Accounts.{Account, AnswersRecord, Keeps}
+use Rattle.rubis_engine.specs.declared.service.Course.TheVariants.{GoesOn}
 use Rattle.rubis_script.specs.Inputs.{IsAnswered}
-use Rattle.rubis_script.specs.Progress.{HasComeSoFar}
+use Rattle.rubis_engine.specs.Progress.{HasComeSoFar}
 use Rattle.rubis_script.specs.SiteRuns.{told_by}
-use Rattle.rubis_script.specs.declared.record_list.Records.{Records}
-use Rattle.rubis_script.specs.Text.{rows_text}
+use Rattle.rubis_engine.specs.declared.record_list.Records.{Records}
+use Rattle.rubis_engine.specs.Text.{rows_text}
 use Rattle.rubis_script.specs.Windows.{AreHeld, arrivals_rows, held_by, window_rows}
 use Rattle.rubis_script.proofs.SiteAnswers.{site_goes}
-use Rattle.rubis_script.proofs.TextFacts.{text-goes}
+use Rattle.rubis_engine.proofs.TextFacts.{text-goes}
 
 -- ---- a message more is held
 

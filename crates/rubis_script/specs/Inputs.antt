@@ -10,8 +10,8 @@ use Rattle.rubis_model.specs.Runs.{Input as Meant, input_step}
 use Rattle.rubis_replica.specs.State.{SiteState}
 use Rattle.rubis_replica.specs.declared.faults.Fault.{Fault}
 use Rattle.rubis_replica.specs.declared.faults.Fault.TheVariants.{Refused}
-use Rattle.rubis_script.specs.Text.{rows_text}
-use Rattle.rubis_script.specs.declared.fault.OutOfMemory.{OutOfMemory}
+use Rattle.rubis_engine.specs.Text.{rows_text}
+use Rattle.rubis_engine.specs.declared.fault.OutOfMemory.{OutOfMemory}
 
 -- the site has come to what record n makes of it, and the text of its answers follows what stood before
 abbrev pub IsAnswered : ℕ → Meant → SiteState → SiteState → List ℕ → List ℕ → Type 0

@@ -1,11 +1,5 @@
-pub mod Text
-pub mod Rows
-pub mod Reading
-pub mod Accounts
-pub mod Progress
 pub mod Inputs
 pub mod Replies
 pub mod SiteRuns
-pub mod Adding
 pub mod Windows
 pub mod Replays

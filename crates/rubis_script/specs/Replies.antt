@@ -1,7 +1,7 @@
 -- What is answered to a listing.
 use Rattle.std.specs.Prelude.{◌≡◌, ℕ, List, length}
 use Rattle.rubis_listing.specs.declared.counted.Counted.{Counted}
-use Rattle.rubis_script.specs.Text.{rows_text}
+use Rattle.rubis_engine.specs.Text.{rows_text}
 
 -- the text is that of these rows, and the count their number
 abbrev pub HasRows : List (List (List ℕ)) → Counted (List ℕ) → Type 0

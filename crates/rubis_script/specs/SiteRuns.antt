@@ -3,8 +3,8 @@ use Rattle.std.specs.Prelude.{ℕ, length}
 use Rattle.rubis_model.specs.Runs.{answers}
 use Rattle.rubis_model.specs.Site.{Place, Replica}
 use Rattle.rubis_replica.specs.State.{SiteState}
-use Rattle.rubis_script.specs.Accounts.{Account}
-use Rattle.rubis_script.specs.Text.{rows_text}
+use Rattle.rubis_engine.specs.Accounts.{Account}
+use Rattle.rubis_engine.specs.Text.{rows_text}
 
 -- however the run ends after some records, from record n on, its text is that of the site's answers to them; it reads all of
 -- them

@@ -10,8 +10,8 @@ use Rattle.rubis_model.specs.Runs.Input.{Came}
 use Rattle.rubis_model.specs.Site.{Place, Replica, arrived}
 use Rattle.rubis_replica.specs.Arrivals.{after_all}
 use Rattle.rubis_replica.specs.State.{SiteState}
-use Rattle.rubis_script.specs.Accounts.{Account}
-use Rattle.rubis_script.specs.Text.{rows_text}
+use Rattle.rubis_engine.specs.Accounts.{Account}
+use Rattle.rubis_engine.specs.Text.{rows_text}
 
 -- the rows that say what became of messages, the first of which was record n
 abbrev pub arrivals_rows : ℕ → List (Result Arrival Refusal) → List (List (List ℕ))

@@ -13,22 +13,18 @@ ghost use Rattle.rubis_model.specs.Runs.Input.{Asked, Came};
 ghost use Rattle.rubis_message.specs.Readings.{packet_of};
 ghost use Rattle.rubis_model.specs.Site.{opening_at};
 ghost use Rattle.rubis_replica.specs.Setup.{setup_place};
-ghost use Rattle.rubis_script.specs.Accounts.{AnswersRecord, Keeps};
+ghost use Rattle.rubis_engine.specs.Accounts.{AnswersRecord, Keeps};
 ghost use Rattle.rubis_script.specs.Inputs.{IsAnswered, IsReadOf, answer_of};
 ghost use Rattle.rubis_script.specs.SiteRuns.{told_by};
-ghost use Rattle.rubis_script.specs.Text.{rows_text};
+ghost use Rattle.rubis_engine.specs.Text.{rows_text};
 ghost use Rattle.rubis_script.specs.Windows.{AreHeld, held_by};
-ghost use Rattle.rubis_script.specs.declared.service.Course.TheVariants as Course;
+ghost use Rattle.rubis_engine.specs.declared.service.Course.TheVariants as Course;
 
-use crate::fault::OutOfMemory;
-use crate::input_record::InputRecord;
 use crate::replies::{
     write_arrival, write_arrivals, write_listed_text, write_passed, write_refusal, write_sent,
     write_taken,
 };
-use crate::reply::Reply;
-use crate::service::Service;
-use crate::sink::Sink;
+use rubis_engine::{InputRecord, OutOfMemory, Reply, Service, Sink};
 use rubis_listing::Counted;
 use rubis_message::{Message, Packet, ReadFault, Request, Token, read_packet, read_request};
 use rubis_replica::{Config, Fault, Free, Gate, Site};

@@ -6,10 +6,10 @@ ghost use Rattle.rubis_schema.specs.FieldList.{is_plain};
 ghost use Rattle.rubis_schema.specs.Ids.{id_text};
 ghost use Rattle.rubis_model.specs.Answers.{arrived_rows, asked_rows, listed_rows, passed_rows, refused_row, reply, took_rows};
 ghost use Rattle.rubis_script.specs.Replies.{HasRows};
-ghost use Rattle.rubis_script.specs.Text.{rows_text};
+ghost use Rattle.rubis_engine.specs.Text.{rows_text};
 ghost use Rattle.rubis_script.specs.Windows.{arrivals_rows};
 
-use crate::sink::Sink;
+use rubis_engine::Sink;
 use rubis_listing::{Counted, RowSink};
 use rubis_message::{Arrival, Message, Taken, Token, append_message, append_token};
 use rubis_schema::{Fields, Items, Refusal, push_number};

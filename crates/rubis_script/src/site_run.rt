@@ -4,16 +4,15 @@ ghost use Rattle.std.specs.Prelude.{◌≡◌, ◌≤◌, ◌<◌, ◌+◌, ◌^
 ghost use Rattle.std.specs.Io.KnownBytes.{Appends};
 ghost use Rattle.rubis_model.specs.Runs.{output_of};
 ghost use Rattle.rubis_replica.specs.Setup.{setup_place};
-ghost use Rattle.rubis_script.specs.Accounts.Ending.{AtEnd};
-ghost use Rattle.rubis_script.specs.Progress.{EndsCut, EndsDone, EndsInPrefix, EndsTooLong, FromStart, HasMoved, IsCut, IsDone, IsTooLong, OfEachRun, StandsAt, WrotePrefix};
-ghost use Rattle.rubis_script.specs.Reading.{Advances};
+ghost use Rattle.rubis_engine.specs.Accounts.Ending.{AtEnd};
+ghost use Rattle.rubis_engine.specs.Progress.{EndsCut, EndsDone, EndsInPrefix, EndsTooLong, FromStart, HasMoved, IsCut, IsDone, IsTooLong, OfEachRun, StandsAt, WrotePrefix};
+ghost use Rattle.rubis_engine.specs.Reading.{Advances};
 ghost use Rattle.rubis_script.specs.SiteRuns.{told_by};
-ghost use Rattle.rubis_script.specs.Text.{input_records, rows_text};
+ghost use Rattle.rubis_engine.specs.Text.{input_records, rows_text};
 ghost use Rattle.rubis_script.specs.Windows.{AreHeld, held_by};
 
 use crate::desk::Desk;
-use crate::fault::{Count, RunFault};
-use crate::run::{Run, end_run, stop, write_out};
+use rubis_engine::{Count, Run, RunFault, end_run, stop, write_out};
 use rubis_message::Message;
 use rubis_replica::{Config, Free, Gate};
 use rubis_schema::RECORDS_MAX;

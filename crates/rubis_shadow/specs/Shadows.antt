@@ -1,5 +1,5 @@
--- The colour of a shadow.
-use Rattle.std.specs.Prelude.{Bool, true, false, cond}
+-- The colour of a shadow, and the version of its records.
+use Rattle.std.specs.Prelude.{Bool, true, false, cond, List, ℕ, codes}
 use Rattle.rubis_shadow.specs.declared.shadows.Shadow.{Shadow}
 use Rattle.rubis_shadow.specs.declared.shadows.Shadow.TheVariants.{User, Item, Bid, Buy, Close, Comment, Restock, Rename}
 use Rattle.rubis_shadow.specs.declared.shadows.Colour.{Colour}
@@ -18,3 +18,14 @@ is_red (Rename r) = true
 
 abbrev pub colour_of : Shadow → Colour
 colour_of shadow = cond (is_red shadow) Red Blue
+
+-- restocks and renames came with the second version of the format
+abbrev pub version_of : Shadow → List ℕ
+version_of (User n) = codes "1"
+version_of (Item n) = codes "1"
+version_of (Bid b) = codes "1"
+version_of (Buy p) = codes "1"
+version_of (Close c) = codes "1"
+version_of (Comment c) = codes "1"
+version_of (Restock r) = codes "2"
+version_of (Rename r) = codes "2"

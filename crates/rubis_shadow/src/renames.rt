@@ -6,7 +6,7 @@ use std::alloc::AllocError;
 use std::marker::Model;
 
 /// Another nickname of a user, in place of the one that it has. What was asked for is shared by the copies.
-#[derive(Drop, Debug)]
+#[derive(Drop)]
 pub struct NewRename {
     asked: Shared<AskedRename>,
     from: Nick,

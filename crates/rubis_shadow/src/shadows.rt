@@ -1,5 +1,5 @@
 ghost use Rattle.std.specs.Prelude.{◌≡◌, IfOk};
-ghost use Rattle.rubis_shadow.specs.Shadows.{colour_of};
+ghost use Rattle.rubis_shadow.specs.Shadows.{colour_of, version_of};
 
 use crate::renames::NewRename;
 use rubis_schema::{CommentRow, Id, Name, Nick, PurchaseRow, Shared};
@@ -7,7 +7,7 @@ use std::alloc::AllocError;
 
 /// An item that is offered: `stock` pieces of it, bids from `start` on, and `price` for a piece at once (0: no
 /// buy-now).
-#[derive(Drop, Clone, PartialEq, Eq, Debug)]
+#[derive(Drop, Clone, PartialEq, Eq)]
 pub struct NewItem {
     pub seller: Id,
     pub name: Name,
@@ -18,7 +18,7 @@ pub struct NewItem {
 }
 
 /// A bid for an item.
-#[derive(Clone, Copy, PartialEq, Eq, Debug)]
+#[derive(Clone, Copy, PartialEq, Eq)]
 pub struct NewBid {
     pub item: Id,
     pub bidder: Id,
@@ -26,7 +26,7 @@ pub struct NewBid {
 }
 
 /// The end of an item's sale, with the item's category and the winning bid, if there is one.
-#[derive(Clone, Copy, PartialEq, Eq, Debug)]
+#[derive(Clone, Copy, PartialEq, Eq)]
 pub struct NewClose {
     pub item: Id,
     pub cat: u16,
@@ -34,7 +34,7 @@ pub struct NewClose {
 }
 
 /// More pieces of an item.
-#[derive(Clone, Copy, PartialEq, Eq, Debug)]
+#[derive(Clone, Copy, PartialEq, Eq)]
 pub struct NewRestock {
     pub item: Id,
     pub quantity: u64,
@@ -42,7 +42,7 @@ pub struct NewRestock {
 
 /// What an accepted ask does, at every site. The larger ones are shared by their copies, so
 /// that logs stay small.
-#[derive(Drop, Clone, PartialEq, Eq, Debug)]
+#[derive(Drop, Clone, PartialEq, Eq)]
 pub enum Shadow {
     User(Nick),
     Item(Shared<NewItem>),
@@ -55,7 +55,7 @@ pub enum Shadow {
 }
 
 /// Red shadows are totally ordered, blue ones only follow causality.
-#[derive(Clone, Copy, PartialEq, Eq, Debug)]
+#[derive(Clone, Copy, PartialEq, Eq)]
 pub enum Colour {
     Red,
     Blue,
@@ -75,6 +75,21 @@ impl Shadow {
             Shadow::Comment(_) => Colour::Blue,
             Shadow::Restock(_) => Colour::Blue,
             Shadow::Rename(_) => Colour::Red,
+        }
+    }
+
+    /// The version of the format in which the shadow is written, by its kind.
+    pub fn version(&self) -> &'static [u8]
+        ensures { result.now ≡ version_of self.now }
+    {
+        match self {
+            Shadow::User(_)
+            | Shadow::Item(_)
+            | Shadow::Bid(_)
+            | Shadow::Buy(_)
+            | Shadow::Close(_)
+            | Shadow::Comment(_) => b"1",
+            Shadow::Restock(_) | Shadow::Rename(_) => b"2",
         }
     }
 

@@ -55,7 +55,7 @@ impl Model for Shard {
 }
 
 /// How many of a share's parts are done.
-#[derive(Clone, Copy, PartialEq, Eq, Debug)]
+#[derive(Clone, Copy, PartialEq, Eq)]
 pub struct Applied {
     pub done: usize,
 }

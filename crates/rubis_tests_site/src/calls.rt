@@ -1,9 +1,9 @@
 // What no scenario and no conversation shows of single calls.
 
 use crate::records::message;
+use rubis_engine::Sink;
 use rubis_message::write_message;
 use rubis_schema::Fields;
-use rubis_script::Sink;
 use std::alloc::Global;
 use std::test::Fail;
 

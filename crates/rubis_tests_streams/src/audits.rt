@@ -1,7 +1,7 @@
 // Audits: each check's fault, the count of records, and streams that fail.
 
 use rubis_audit::run_audit;
-use rubis_script::{Count, RunFault};
+use rubis_engine::{Count, RunFault};
 use rubis_tests_common::{FailingReader, FailingWriter};
 use std::alloc::Global;
 use std::process::Abort;

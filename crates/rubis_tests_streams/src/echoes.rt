@@ -3,10 +3,10 @@
 ghost use Rattle.std.proofs.Common.{rules};
 ghost use Rattle.std.specs.Prelude.{◌≡◌, ◌∷◌, ◌++◌, None, OnOk, codes, length, map, refl};
 ghost use Rattle.std.specs.Option.{option_to_list};
-ghost use Rattle.rubis_script.specs.Text.{rows_text};
+ghost use Rattle.rubis_engine.specs.Text.{rows_text};
 
+use rubis_engine::{Answering, Course, InputRecord, OutOfMemory, Reply, Service, Sink};
 use rubis_schema::Fields;
-use rubis_script::{Answering, Course, InputRecord, OutOfMemory, Reply, Service, Sink};
 use std::alloc::Global;
 
 /// Answers each record by itself after `got`, one record late.

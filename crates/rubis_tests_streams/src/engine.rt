@@ -1,7 +1,7 @@
 // Runs of a service from bytes to bytes, to their end, to their limit, and with streams that fail.
 
 use crate::echoes::Echo;
-use rubis_script::{Count, RunFault, run_upto};
+use rubis_engine::{Count, RunFault, run_upto};
 use rubis_tests_common::{FailingReader, FailingWriter};
 
 const INPUT: &[u8; 25] = b"ann,1\r\nbob\n\n\"c\"\"d\"\n,\nlast";

@@ -1,7 +1,7 @@
 // Whether a run answers all that it read before it asks for more.
 
 use crate::echoes::Echo;
-use rubis_script::{Count, run_upto};
+use rubis_engine::{Count, run_upto};
 use std::cell::Cell;
 use std::io;
 use std::io::{Read, Write};

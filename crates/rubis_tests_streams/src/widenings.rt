@@ -1,7 +1,7 @@
 // Widening: each record as it is read, and streams that fail.
 
 use rubis_audit::run_widen;
-use rubis_script::{Count, RunFault};
+use rubis_engine::{Count, RunFault};
 use rubis_tests_common::{FailingReader, FailingWriter};
 use std::alloc::Global;
 use std::process::Abort;

@@ -1,9 +1,9 @@
 // Several sites in one run: each call once, with enough memory, and streams that fail.
 
+use rubis_engine::{Count, RunFault};
 use rubis_message::{Arrival, Request, Taken};
 use rubis_replica::Fault;
 use rubis_schema::{Listing, Nick, Refusal};
-use rubis_script::{Count, RunFault};
 use rubis_shadow::Ask;
 use rubis_tests_common::{FailingReader, FailingWriter};
 use rubis_world::{Happened, World, WorldConfig, WorldFault, run_world};

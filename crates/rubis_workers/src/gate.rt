@@ -7,7 +7,7 @@ pub trait Gate: Sync {
 }
 
 /// The gate that does nothing.
-#[derive(Drop, Clone, Copy, PartialEq, Eq, Debug)]
+#[derive(Drop, Clone, Copy, PartialEq, Eq)]
 pub struct Free;
 
 impl Gate for Free {

@@ -10,8 +10,8 @@ use Rattle.rubis_model.specs.System.{Event, World, happens}
 use Rattle.rubis_model.specs.WorldRecords.{event_rows, told_at, world_answers, world_step}
 use Rattle.rubis_laws.proofs.Refusing.{refusals_change_nothing}
 use Rattle.rubis_replica.specs.declared.faults.Fault.TheVariants as fault
-use Rattle.rubis_script.specs.Text.{rows_text}
-use Rattle.rubis_script.proofs.TextFacts.{text-goes}
+use Rattle.rubis_engine.specs.Text.{rows_text}
+use Rattle.rubis_engine.proofs.TextFacts.{text-goes}
 use Rattle.rubis_world.specs.Running.{IsTold, answer_in_world}
 use Rattle.rubis_world.specs.Worlds.{ComesTo, Steps, WorldState}
 use Rattle.rubis_world.specs.declared.faults.WorldFault.{WorldFault}

@@ -5,9 +5,9 @@ use Rattle.rubis_schema.specs.declared.refusals.Refusal.TheVariants as refusal
 use Rattle.rubis_model.specs.System.{World}
 use Rattle.rubis_model.specs.WorldRecords.{world_answers}
 use Rattle.rubis_replica.specs.declared.faults.Fault.TheVariants as fault
-use Rattle.rubis_script.specs.Accounts.{Account}
-use Rattle.rubis_script.specs.Text.{rows_text}
-use Rattle.rubis_script.specs.declared.fault.OutOfMemory.{OutOfMemory}
+use Rattle.rubis_engine.specs.Accounts.{Account}
+use Rattle.rubis_engine.specs.Text.{rows_text}
+use Rattle.rubis_engine.specs.declared.fault.OutOfMemory.{OutOfMemory}
 use Rattle.rubis_world.specs.Worlds.{ComesTo, WorldState}
 use Rattle.rubis_world.specs.declared.faults.WorldFault.{WorldFault}
 use Rattle.rubis_world.specs.declared.faults.WorldFault.TheVariants.{BadEvent, NoSuchPacket, Site, Memory}

@@ -4,7 +4,7 @@ use Rattle.std.specs.Prelude.{map}
 use Rattle.std.proofs.lemmas.List.{append-nil, map-append}
 use Rattle.std.proofs.lemmas.Grind.{flat_map-append}
 use Rattle.rubis_model.specs.WorldRecords.{site_row}
-use Rattle.rubis_script.specs.Text.{plain_writer, row_text, rows_text}
+use Rattle.rubis_engine.specs.Text.{plain_writer, row_text, rows_text}
 
 -- the text comes to have these records of the site after what it had
 abbrev pub text_grows_by : List (List (List ℕ)) → List ℕ → ℕ → List ℕ → ℕ → Type 0

@@ -4,15 +4,15 @@ ghost use Rattle.std.specs.Prelude.{◌≡◌, ◌++◌, ◌∷◌, [], OnOk, So
 ghost use Rattle.rubis_model.specs.Answers.{refused_row};
 ghost use Rattle.rubis_model.specs.WorldRecords.{event_rows, happened_rows, refusal_row, sent_rows, site_row, world_row};
 ghost use Rattle.rubis_model.specs.System.{packet_at};
-ghost use Rattle.rubis_script.specs.Text.{rows_text};
+ghost use Rattle.rubis_engine.specs.Text.{rows_text};
 
 use crate::site_rows::SiteRows;
+use rubis_engine::{Reply, Sink};
 use rubis_listing::RowSink;
 use rubis_message::{Happened, Packet};
 use rubis_schema::{Fields, Refusal, push_number};
 use rubis_script::{
-    Reply, Sink, write_arrival, write_handed_on, write_listed, write_refusal, write_sent,
-    write_taken,
+    write_arrival, write_handed_on, write_listed, write_refusal, write_sent, write_taken,
 };
 use std::alloc::AllocError;
 

@@ -4,15 +4,15 @@ ghost use Rattle.std.specs.Prelude.{◌≡◌, ◌≤◌, ◌<◌, ◌+◌, ◌^
 ghost use Rattle.std.specs.Io.KnownBytes.{Appends};
 ghost use Rattle.rubis_model.specs.Laws.{InRun};
 ghost use Rattle.rubis_model.specs.WorldRecords.{world_output_of};
-ghost use Rattle.rubis_script.specs.Accounts.Ending.{AtEnd};
-ghost use Rattle.rubis_script.specs.Progress.{EndsCut, EndsInPrefix, FromStart, HasMoved, IsCut, IsDone, IsTooLong, WrotePrefix};
-ghost use Rattle.rubis_script.specs.Text.{input_records, rows_text};
+ghost use Rattle.rubis_engine.specs.Accounts.Ending.{AtEnd};
+ghost use Rattle.rubis_engine.specs.Progress.{EndsCut, EndsInPrefix, FromStart, HasMoved, IsCut, IsDone, IsTooLong, WrotePrefix};
+ghost use Rattle.rubis_engine.specs.Text.{input_records, rows_text};
 ghost use Rattle.rubis_world.specs.Running.{told_by_world};
 
 use crate::config::WorldConfig;
 use crate::desk::WorldDesk;
+use rubis_engine::{Count, Run, RunFault, next_record, stop, write_out};
 use rubis_schema::RECORDS_MAX;
-use rubis_script::{Count, Run, RunFault, next_record, stop, write_out};
 use std::alloc::Global;
 use std::io::{Read, Write};
 use std::mem;

@@ -1,9 +1,9 @@
 // The records that one site of several gives.
 
 use itoa::Buffer;
+use rubis_engine::Sink;
 use rubis_listing::RowSink;
 use rubis_schema::Fields;
-use rubis_script::Sink;
 use std::alloc::AllocError;
 
 /// What takes the records that a site gives, and writes each with `at` and the site in front.

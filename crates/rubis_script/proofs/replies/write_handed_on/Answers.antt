@@ -2,7 +2,7 @@ use Rattle.std.proofs.Common.{◌≡◌, ◌∷◌, [], rules, subst}
 use Rattle.std.specs.Prelude.{codes}
 use Rattle.rubis_message.specs.Grammar.{token_record}
 use Rattle.rubis_model.specs.Answers.{reply, send_row}
-use Rattle.rubis_script.proofs.RowFacts.{on_ok}
+use Rattle.rubis_engine.proofs.RowFacts.{on_ok}
 use Rattle.rubis_script.proofs.replies.write_handed_on.Goals as goal
 
 pub returns : goal.returns

@@ -1,7 +1,7 @@
 use Rattle.std.proofs.Common.{◌≡◌, ◌<◌, ◌≤◌, ◌+◌, ◌∷◌, [], length, drop, subst, sym, rules}
 use Rattle.std.specs.Prelude.{slice_index_or}
 use Rattle.std.proofs.Math.ListN.{drop_of_length-le}
-use Rattle.rubis_script.proofs.RowFacts.{row_first}
+use Rattle.rubis_engine.proofs.RowFacts.{row_first}
 use Rattle.rubis_script.proofs.replies.write_rows.Goals as goal
 
 pub loop-row-preserved : goal.loop-row-preserved

@@ -1,7 +1,7 @@
 use Rattle.std.proofs.Common.{◌≡◌, ◌+◌, false, true, rules}
 use Rattle.rubis_script.specs.SiteRuns.{told_by}
 use Rattle.rubis_script.specs.Windows.{held_by}
-use Rattle.rubis_script.proofs.RunFacts.{if_ended, if_ok_so, progress-kept, progress-prefix, takes-at}
+use Rattle.rubis_engine.proofs.RunFacts.{if_ended, if_ok_so, progress-kept, progress-prefix, takes-at}
 use Rattle.rubis_script.proofs.site_run.next_or_end.Goals as goal
 
 pub returns-in-Ok-true-clause-found : goal.returns-in-Ok-true-clause-found

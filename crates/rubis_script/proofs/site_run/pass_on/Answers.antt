@@ -1,7 +1,7 @@
 use Rattle.std.proofs.Common.{◌+◌}
 use Rattle.rubis_script.specs.SiteRuns.{told_by}
 use Rattle.rubis_script.specs.Windows.{held_by}
-use Rattle.rubis_script.proofs.RunFacts.{on_ok, on_ok_both, progress-kept}
+use Rattle.rubis_engine.proofs.RunFacts.{on_ok, on_ok_both, progress-kept}
 use Rattle.rubis_script.proofs.WindowFacts.{progress-told}
 use Rattle.rubis_script.proofs.site_run.pass_on.Goals as goal
 

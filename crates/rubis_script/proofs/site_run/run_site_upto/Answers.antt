@@ -3,9 +3,9 @@ use Rattle.std.specs.Prelude.{IfOk, IfSome, IsErrOf}
 use Rattle.std.specs.Io.KnownBytes.{Appends}
 use Rattle.rubis_model.specs.Runs.{answers}
 use Rattle.rubis_model.specs.Site.{Place, Replica}
-use Rattle.rubis_script.specs.Progress.{WrotePrefix}
-use Rattle.rubis_script.specs.Text.{input_records, rows_text}
-use Rattle.rubis_script.specs.declared.fault.RunFault.TheVariants as RunFault
+use Rattle.rubis_engine.specs.Progress.{WrotePrefix}
+use Rattle.rubis_engine.specs.Text.{input_records, rows_text}
+use Rattle.rubis_engine.specs.declared.fault.RunFault.TheVariants as RunFault
 use Rattle.rubis_script.proofs.site_run.run_site_upto.Goals as goal
 
 pub returns-clause-ok : goal.returns-clause-ok

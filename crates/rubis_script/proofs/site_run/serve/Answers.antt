@@ -1,9 +1,9 @@
 use Rattle.std.proofs.Common.{◌≡◌, ◌+◌, arith, refl, subst}
-use Rattle.rubis_script.specs.Progress.{IsDone, IsTooLong}
+use Rattle.rubis_engine.specs.Progress.{IsDone, IsTooLong}
 use Rattle.rubis_script.specs.SiteRuns.{told_by}
-use Rattle.rubis_script.specs.Text.{input_records}
-use Rattle.rubis_script.specs.declared.fault.RunFault.TheVariants as fault
-use Rattle.rubis_script.proofs.RunFacts.{handed_on, if_ok_so, progress-starts}
+use Rattle.rubis_engine.specs.Text.{input_records}
+use Rattle.rubis_engine.specs.declared.fault.RunFault.TheVariants as fault
+use Rattle.rubis_engine.proofs.RunFacts.{handed_on, if_ok_so, progress-starts}
 use Rattle.rubis_script.proofs.WindowFacts.{held_none, progress-told}
 use Rattle.rubis_script.proofs.site_run.serve.Goals as goal
 

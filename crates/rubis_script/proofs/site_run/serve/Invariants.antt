@@ -1,8 +1,8 @@
 use Rattle.std.proofs.Common.{◌≡◌, ℕ, List, []}
-use Rattle.rubis_script.specs.Progress.{StandsAt}
-use Rattle.rubis_script.specs.Reading.{Gives}
+use Rattle.rubis_engine.specs.Progress.{StandsAt}
+use Rattle.rubis_engine.specs.Reading.{Gives}
 use Rattle.rubis_script.specs.SiteRuns.{told_by}
-use Rattle.rubis_script.specs.Text.{input_records}
+use Rattle.rubis_engine.specs.Text.{input_records}
 use Rattle.rubis_script.specs.Windows.{AreHeld, held_by}
 use Rattle.rubis_script.proofs.site_run.serve.Given as goal
 

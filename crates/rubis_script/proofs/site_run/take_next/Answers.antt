@@ -1,9 +1,9 @@
 use Rattle.std.proofs.Common.{◌+◌, ◌∙◌, ap, arith, refl, subst, sym}
-use Rattle.rubis_script.specs.Progress.{HasComeSoFar}
+use Rattle.rubis_engine.specs.Progress.{HasComeSoFar}
 use Rattle.rubis_script.specs.Windows.{held_by}
-use Rattle.rubis_script.specs.declared.fault.RunFault.TheVariants as fault
-use Rattle.rubis_script.specs.declared.reply.Reply.{Reply}
-use Rattle.rubis_script.proofs.RunFacts.{handed_on, if_none, if_some, progress-moved, progress-stays, progress-step}
+use Rattle.rubis_engine.specs.declared.fault.RunFault.TheVariants as fault
+use Rattle.rubis_engine.specs.declared.reply.Reply.{Reply}
+use Rattle.rubis_engine.proofs.RunFacts.{handed_on, if_none, if_some, progress-moved, progress-stays, progress-step}
 use Rattle.rubis_script.proofs.site_run.take_next.Goals as goal
 
 pub returns-in-Some-clause-goes : goal.returns-in-Some-clause-goes

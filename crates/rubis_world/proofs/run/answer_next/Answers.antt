@@ -1,8 +1,8 @@
 use Rattle.std.proofs.Common.{◌+◌, ◌∙◌, ap, refl, arith}
 use Rattle.rubis_world.specs.Running.{told_by_world}
-use Rattle.rubis_script.specs.declared.fault.RunFault.TheVariants as fault
+use Rattle.rubis_engine.specs.declared.fault.RunFault.TheVariants as fault
 use Rattle.rubis_world.proofs.Answering.{world_goes}
-use Rattle.rubis_script.proofs.RunFacts.{handed_on, if_none, if_some, progress-moved, progress-stays, progress-step}
+use Rattle.rubis_engine.proofs.RunFacts.{handed_on, if_none, if_some, progress-moved, progress-stays, progress-step}
 use Rattle.rubis_world.proofs.run.answer_next.Goals as goal
 
 pub returns-in-Some-clause-goes : goal.returns-in-Some-clause-goes

@@ -1,8 +1,8 @@
 use Rattle.std.proofs.Common.{◌≡◌, ◌+◌, arith, subst}
-use Rattle.rubis_script.specs.Progress.{IsDone}
-use Rattle.rubis_script.specs.Text.{input_records}
+use Rattle.rubis_engine.specs.Progress.{IsDone}
+use Rattle.rubis_engine.specs.Text.{input_records}
 use Rattle.rubis_world.specs.Running.{told_by_world}
-use Rattle.rubis_script.proofs.RunFacts.{if_ok_so, progress-starts}
+use Rattle.rubis_engine.proofs.RunFacts.{if_ok_so, progress-starts}
 use Rattle.rubis_world.proofs.run.serve.Goals as goal
 
 pub steps-init : goal.steps-init

@@ -1,8 +1,8 @@
 use Rattle.std.proofs.Common.{◌≡◌, ◌+◌, ℕ, List, []}
-use Rattle.rubis_script.specs.Progress.{StandsAt}
-use Rattle.rubis_script.specs.Reading.{Gives}
+use Rattle.rubis_engine.specs.Progress.{StandsAt}
+use Rattle.rubis_engine.specs.Reading.{Gives}
 use Rattle.rubis_world.specs.Running.{told_by_world}
-use Rattle.rubis_script.specs.Text.{input_records}
+use Rattle.rubis_engine.specs.Text.{input_records}
 use Rattle.rubis_world.proofs.run.serve.Given as goal
 
 abbrev pub invariant-steps : goal.invariant-steps

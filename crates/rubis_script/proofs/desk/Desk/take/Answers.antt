@@ -4,7 +4,7 @@ use Rattle.rubis_message.specs.declared.tokens.Packet.TheVariants as Packet
 use Rattle.rubis_model.specs.Runs.{input_of}
 use Rattle.rubis_model.specs.Runs.Input.{Came}
 use Rattle.rubis_script.proofs.OneReading.{came}
-use Rattle.rubis_script.proofs.RunFacts.{on_ok, on_ok_both}
+use Rattle.rubis_engine.proofs.RunFacts.{on_ok, on_ok_both}
 use Rattle.rubis_script.proofs.WindowFacts.{flush_goes, held_more, holds_more}
 use Rattle.rubis_script.proofs.desk.Desk.take.Goals as goal
 

@@ -1,8 +1,8 @@
 use Rattle.std.proofs.Common.{◌≡◌, ◌∙◌, ◌+◌, ◌-◌, ◌++◌, ap, arith, length, subst, sym}
 use Rattle.rubis_replica.specs.Arrivals.{TakesFirst}
-use Rattle.rubis_script.proofs.RunFacts.{if_not_some}
+use Rattle.rubis_engine.proofs.RunFacts.{if_not_some}
 use Rattle.rubis_script.proofs.WindowFacts.{answers-few, flush_keeps}
-use Rattle.rubis_script.specs.Text.{rows_text}
+use Rattle.rubis_engine.specs.Text.{rows_text}
 use Rattle.rubis_script.specs.Windows.{arrivals_rows}
 use Rattle.rubis_script.proofs.desk.Desk.take_in.Goals as goal
 

@@ -1,5 +1,5 @@
 use Rattle.std.proofs.Common.{◌∙◌}
-use Rattle.rubis_script.proofs.RunFacts.{if_ok_so}
+use Rattle.rubis_engine.proofs.RunFacts.{if_ok_so}
 use Rattle.rubis_world.proofs.Checking.{agree, among}
 use Rattle.rubis_world.proofs.Keeping.{stayed, told}
 use Rattle.rubis_world.proofs.world.World.check.Goals as goal

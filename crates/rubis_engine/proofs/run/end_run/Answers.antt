@@ -1,0 +1,32 @@
+use Rattle.std.proofs.Common.{◌+◌, refl, arith}
+use Rattle.rubis_engine.specs.declared.fault.RunFault.TheVariants as fault
+use Rattle.rubis_engine.proofs.RunFacts.{handed_on, progress-cut, progress-drained, progress-end, progress-prefix, progress-stays}
+use Rattle.rubis_engine.proofs.run.end_run.Goals as goal
+
+pub returns-in_ok-write_out_end-in-Ok-clause-done : goal.returns-in_ok-write_out_end-in-Ok-clause-done
+returns-in_ok-write_out_end-in-Ok-clause-done g c before none all old input p =
+    progress-end _ before c.args.records.now all _ old _ _ _ _ c.args.answered c.args.answered input p none
+    (c.in_ok-write_out_end-in-Ok.ensures.ok (c.args.answered + 1)) (g.met.S.Service.reads_none c.args.service.now (c.args.answered + 1)) refl (omega arith)
+
+pub returns-in_err-write_out_end-in-Ok-clause-memory : goal.returns-in_err-write_out_end-in-Ok-clause-memory
+returns-in_err-write_out_end-in-Ok-clause-memory g c e before all old input p =
+    let memory = handed_on c.from_residual.result c.in_err-write_out_end-in-Ok.field-0.0 fault.Memory c.from_residual.ensures e in
+    progress-stays _ _ all _ old _ _ _ _ input p (c.in_err-write_out_end-in-Ok.ensures.memory (rw memory refl))
+
+pub returns-in_ok-write_out_held-in-Err-clause-read : goal.returns-in_ok-write_out_held-in-Err-clause-read
+returns-in_ok-write_out_held-in-Err-clause-read g c e before all old input p = (
+  c.args.answered,
+  progress-cut _ _ all (g.S.Service.account c.write_out_held.new.service (c.args.answered + 1)) old _ _ c.args.answered input
+      (progress-drained _ _ all _ _ old _ _ _ _ input p (c.in_ok-write_out_held-in-Err.ensures.drains (c.args.answered + 1)))
+      (c.in_ok-write_out_held-in-Err.ensures.none (c.args.answered + 1)) refl,
+)
+
+pub returns-in_ok-write_out_held-in-Err-clause-memory : goal.returns-in_ok-write_out_held-in-Err-clause-memory
+returns-in_ok-write_out_held-in-Err-clause-memory g c e before all old input p =
+    progress-prefix _ _ all (g.S.Service.account c.write_out_held.new.service (c.args.answered + 1)) old _ _ _ input
+    (progress-drained _ _ all _ _ old _ _ _ _ input p (c.in_ok-write_out_held-in-Err.ensures.drains (c.args.answered + 1)))
+
+pub returns-in_err-write_out_held-in-Err-clause-memory : goal.returns-in_err-write_out_held-in-Err-clause-memory
+returns-in_err-write_out_held-in-Err-clause-memory g c e before all old input p =
+    let memory = handed_on c.from_residual-in_err-write_out_held-in-Err.result c.in_err-write_out_held-in-Err.field-0.0 fault.Memory c.from_residual-in_err-write_out_held-in-Err.ensures e in
+    progress-stays _ _ all _ old _ _ _ _ input p (c.in_err-write_out_held-in-Err.ensures.memory (rw memory refl))

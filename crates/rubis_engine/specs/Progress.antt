@@ -1,0 +1,95 @@
+-- How far a run has come, and how it ended.
+use Rattle.std.specs.Prelude.{◌≡◌, ◌≤◌, ◌<◌, ◌+◌, ◌++◌, [], ℕ, List, MatchOption, length, take, Option}
+use Rattle.std.specs.Io.KnownBytes.{Appends}
+use Rattle.rubis_engine.specs.declared.fault.Count.{Count}
+use Rattle.rubis_engine.specs.declared.record_list.Records.{Records}
+use Rattle.rubis_engine.specs.declared.run.Run.{Run}
+use Rattle.rubis_engine.specs.Accounts.{Account, Ending}
+use Rattle.rubis_engine.specs.Accounts.Ending.{AtEnd, Cut}
+use Rattle.rubis_engine.specs.Reading.{Gives}
+use Rattle.rubis_engine.specs.Text.{input_records}
+
+-- the records that were answered, those to come, and what was written: `all` is the account of all records, `more` that
+-- of those to come, and `number` is that of the next record
+pub record HasComeSoFar {R : Type 0} (rem : R → Option (List ℕ)) (records : Records R) (all more : Account)
+    (old now : Option (List ℕ)) (sink : List ℕ) (number : ℕ) (input : List ℕ) : Type 0 where
+  pub done : List (List (List ℕ))
+  pub rest : List (List (List ℕ))
+  pub written : List ℕ
+  pub parts : input_records input ≡ done ++ rest
+  pub count : length done + 1 ≡ number
+  pub gives : Gives rem records rest
+  pub appended : Appends old now written
+  pub told : (ending : Ending) (to_come : List (List (List ℕ))) → all.text ending (done ++ to_come) ≡ written ++ (sink ++ more.text ending to_come)
+  pub counted : (to_come : List (List (List ℕ))) → all.read (done ++ to_come) ≡ length done + more.read to_come
+
+-- what was held is written out, and the text stays what it was
+pub record Drained (old new : Account) (held : List ℕ) (before after : Option (List ℕ)) : Type 0 where
+  pub out : List ℕ
+  pub appended : Appends before after out
+  pub told : (ending : Ending) (more : List (List (List ℕ))) → held ++ old.text ending more ≡ out ++ new.text ending more
+  pub counted : (more : List (List (List ℕ))) → old.read more ≡ new.read more
+
+-- ---- what a run has written and read
+
+-- of every run that has come so far this holds, `all` being the account of its records and `old` what stood in its writer
+abbrev pub InEachRun : {R : Type 0} → (R → Option (List ℕ)) → Records R → Account → Option (List ℕ) → List ℕ → ℕ
+    → (Account → Option (List ℕ) → List ℕ → Type 0) → Type 0
+InEachRun rem records more now sink number holds = (all : Account) (old : Option (List ℕ)) (input : List ℕ)
+    → HasComeSoFar rem records all more old now sink number input → holds all old input
+
+-- of every reader that has come to this one this holds
+abbrev pub BeforeEach : {R : Type 0} → (R → Option (List ℕ)) → Records R → (Records R → Type 0) → Type 0
+BeforeEach {R} rem now holds = (before : Records R) → holds before
+
+-- the run is done: the text of all records was written, and as many were read as there are to read, at most `limit`
+abbrev pub IsDone : Account → ℕ → Option (List ℕ) → Option (List ℕ) → List (List (List ℕ)) → ℕ → Type 0
+IsDone all limit old now records count = Appends old now (all.text AtEnd records) × (count ≡ all.read records) × (count ≤ limit)
+
+-- there are more records than `limit`, and the first `limit` of them don't end the run, since more would be read: their text
+-- was written
+abbrev pub IsTooLong : Account → ℕ → Option (List ℕ) → Option (List ℕ) → List (List (List ℕ)) → Type 0
+IsTooLong all limit old now records = Appends old now (all.text Cut (take limit records)) × (limit < length records) × (limit < all.read records)
+
+-- the run was cut short: the text of some first records was written
+abbrev pub IsCut : Account → Option (List ℕ) → Option (List ℕ) → List (List (List ℕ)) → Type 0
+IsCut all old now records = (k : ℕ) × Appends old now (all.text Cut (take k records))
+
+-- what was written is a prefix of the text of all records
+abbrev pub WrotePrefix : (List (List (List ℕ)) → List ℕ) → Option (List ℕ) → Option (List ℕ) → List (List (List ℕ)) → Type 0
+WrotePrefix all old now records = (written left : List ℕ) × Appends old now written × (written ++ left ≡ all records)
+
+-- ---- a run and its service, which makes `account n` of the records from record n on
+
+-- the run stands there: all that was answered, with what is still to be made, is `all`
+abbrev pub StandsAt : {R : Type 0} → (R → Option (List ℕ)) → Run R → (ℕ → Account) → Account → Option (List ℕ) → Option (List ℕ) → List ℕ → Type 0
+StandsAt rem run account all old now input = HasComeSoFar rem run.records all (account (run.answered + 1)) old now run.reply.sink (run.answered + 1) input
+
+-- of every run that stands there this holds
+abbrev pub OfEachRun : {R : Type 0} → (R → Option (List ℕ)) → Run R → (ℕ → Account) → Option (List ℕ) → (Account → Option (List ℕ) → List ℕ → Type 0) → Type 0
+OfEachRun rem run account now holds = InEachRun rem run.records (account (run.answered + 1)) now run.reply.sink (run.answered + 1) holds
+
+-- after where it stood the run is done
+abbrev pub EndsDone : {R : Type 0} → (R → Option (List ℕ)) → Run R → (ℕ → Account) → Option (List ℕ) → Option (List ℕ) → ℕ → ℕ → Type 0
+EndsDone rem run account before after limit count = OfEachRun rem run account before (λ all old input. IsDone all limit old after (input_records input) count)
+
+-- it is too long
+abbrev pub EndsTooLong : {R : Type 0} → (R → Option (List ℕ)) → Run R → (ℕ → Account) → Option (List ℕ) → Option (List ℕ) → ℕ → Type 0
+EndsTooLong rem run account before after limit = OfEachRun rem run account before (λ all old input. IsTooLong all limit old after (input_records input))
+
+-- it is cut short
+abbrev pub EndsCut : {R : Type 0} → (R → Option (List ℕ)) → Run R → (ℕ → Account) → Option (List ℕ) → Option (List ℕ) → Type 0
+EndsCut rem run account before after = OfEachRun rem run account before (λ all old input. IsCut all old after (input_records input))
+
+-- it leaves a prefix of the text
+abbrev pub EndsInPrefix : {R : Type 0} → (R → Option (List ℕ)) → Run R → (ℕ → Account) → Option (List ℕ) → Option (List ℕ) → Type 0
+EndsInPrefix rem run account before after = OfEachRun rem run account before (λ all old input. WrotePrefix (all.text AtEnd) old after (input_records input))
+
+-- after one record more it stands at `new`, or is done
+abbrev pub HasMoved : {R : Type 0} → (R → Option (List ℕ)) → Run R → Run R → (ℕ → Account) → (ℕ → Account) → Option (List ℕ) → Option (List ℕ) → Option Count → Type 0
+HasMoved rem run new account account2 before after over = OfEachRun rem run account before (λ all old input.
+    MatchOption over (StandsAt rem new account2 all old after input) (λ count. IsDone all (run.answered + 1) old after (input_records input) count.records))
+
+-- of all records that it reads, from the first on, this holds
+abbrev pub FromStart : {R : Type 0} → (R → Option (List ℕ)) → Run R → (List (List (List ℕ)) → Type 0) → Type 0
+FromStart rem run holds = (input : List ℕ) → Gives rem run.records (input_records input) → run.reply.sink ≡ [] → holds (input_records input)

@@ -1,0 +1,20 @@
+//! The engine of a run: bytes of CSV in, a service that answers each record, bytes of CSV out.
+#![tactic(auto)]
+
+mod fault;
+mod input_record;
+mod meter;
+mod quoted_rows;
+mod record_list;
+mod reply;
+mod run;
+mod service;
+mod sink;
+
+pub use fault::{Count, OutOfMemory, RunFault};
+pub use input_record::InputRecord;
+pub use record_list::Records;
+pub use reply::Reply;
+pub use run::{Run, end_run, next_record, run_upto, stop, write_out};
+pub use service::{Answering, Course, Service};
+pub use sink::Sink;

@@ -1,0 +1,55 @@
+// What answers records.
+
+ghost use Rattle.std.specs.Prelude.{◌≡◌, ◌<◌, ◌++◌, ◌+◌, ◌∷◌, [], ℕ, List, IfOk, OnOk};
+ghost use Rattle.rubis_engine.specs.Accounts.{Account, AnswersRecord, Keeps};
+ghost use Rattle.rubis_engine.specs.Accounts.Ending.{AtEnd, Cut};
+
+use crate::fault::OutOfMemory;
+use crate::input_record::InputRecord;
+use crate::reply::Reply;
+use crate::sink::Sink;
+
+/// Whether a run goes on after a record.
+#[derive(Clone, Copy, PartialEq, Eq)]
+pub enum Course {
+    /// The next record is answered.
+    GoesOn,
+    /// The run ends here, whatever follows.
+    Ends,
+}
+
+/// What answers records, one after the other, with what it holds back. `T` is the runtime that it is lent.
+pub trait Service<T> {
+    /// What is still to be made of the records that follow, the first of which has this number.
+    ghost account: { Self → ℕ → Account };
+
+    /// Answers what is held back. Nothing is then left to be written if the run is cut short here.
+    fn answer_held(&mut self, rt: &T, sink: &mut Sink) -> Result<(), OutOfMemory>
+        ensures keeps { OnOk result ((number : ℕ) → Keeps (account self.old number) (account self.new number) sink.old sink.new) }
+        ensures none { OnOk result ((number : ℕ) → (account self.new number).text Cut [] ≡ []) };
+
+    /// Gives the last answers: writes all that is left to be written if the input ends here.
+    fn answer_end(&mut self, rt: &T, sink: &mut Sink) -> Result<(), OutOfMemory>
+        ensures { OnOk result ((number : ℕ) → sink.old ++ (account self.old number).text AtEnd [] ≡ sink.new) };
+
+    // Of no records none is read.
+    ghost reads_none: { (s : Self) (number : ℕ) → (account s number).read [] ≡ 0 };
+
+    // Of some records at least one is read.
+    ghost reads_next: { (s : Self) (number : ℕ) (fields : List (List ℕ)) (more : List (List (List ℕ))) → 0 < (account s number).read (fields ∷ more) };
+}
+
+/// A service that `run_upto` asks for its answers. One whose work goes to other threads isn't one: a bound of a trait's
+/// method is known to the calling thread alone. Its loop goes by the steps of the engine, with a call of its own between
+/// `next_record` and `write_out`.
+pub trait Answering<T>: Service<T> {
+    /// Answers the record whose number the reply has, and says whether the run goes on. What it writes and what is still to be
+    /// written are together the text; where the run ends here, what it writes is all of it.
+    fn answer(
+        &mut self,
+        rt: &T,
+        fields: &InputRecord,
+        reply: &mut Reply,
+    ) -> Result<Course, OutOfMemory>
+        ensures { IfOk result (λ course. AnswersRecord course (Self.account self.old reply.old.number) (Self.account self.new (reply.old.number + 1)) reply.old.sink reply.new.sink fields.now) };
+}
