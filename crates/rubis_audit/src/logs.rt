@@ -8,11 +8,20 @@ use std::alloc::{AllocError, Global};
 use std::marker::Model;
 
 /// The log of a site: its messages in release order, and the rows of its tables as it claims them, if it does.
-#[derive(Drop)]
 pub struct Log {
     site: u8,
     messages: Items<Message>,
     rows: Option<Items<Fields>>,
+}
+
+impl Drop for Log {
+    fn drop(self) {
+        let Log {
+            site: _,
+            messages: _,
+            rows: _,
+        } = self;
+    }
 }
 
 impl Model for Log {

@@ -22,7 +22,7 @@ use std::alloc::{AllocError, Global};
 use std::marker::Model;
 
 /// Where the next record stands.
-#[derive(Clone, Copy, PartialEq, Eq)]
+#[derive(Clone, Copy)]
 pub enum Place {
     /// No log has begun.
     BeforeLogs,

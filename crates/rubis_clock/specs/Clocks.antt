@@ -1,22 +1,11 @@
 -- Clocks, and the order of stamps.
-use Rattle.std.specs.Prelude.{◌≡◌, ◌≢◌, Bool, nat_eq, ℕ, ◌+◌, ◌<◌, ◌≤◌, cond, nat_lt, List, replicate, slice_index, slice_set}
-use Rattle.std.specs.Ordering.{on, eq_of_both}
-use Rattle.std.specs.Cmp.{IsEquivalence}
-use Rattle.std.specs.Cmp.Lexicographic.{pointwise, nat_list_eq_equiv}
-use Rattle.std.proofs.lemmas.Cmp.{and_equiv, on_equiv, nat_eq_equiv}
+use Rattle.std.specs.Prelude.{◌≡◌, ◌≢◌, ℕ, ◌+◌, ◌<◌, ◌≤◌, cond, nat_lt, List, replicate, slice_index, slice_set}
 use Rattle.rubis_clock.specs.declared.stamps.Stamp.{Stamp}
 
 -- how many messages of each site, and how many red ones
 pub record MessageCounts : Type 0 where
   pub counts : List ℕ
   pub red : ℕ
-
--- two clocks count the same
-abbrev pub same_counted : MessageCounts → MessageCounts → Bool
-same_counted = eq_of_both (on (λ c. c.counts) (pointwise nat_eq)) (on (λ c. c.red) nat_eq)
-
-pub same_counted_equiv : IsEquivalence same_counted
-same_counted_equiv = and_equiv (on_equiv (λ c. c.counts) nat_list_eq_equiv) (on_equiv (λ c. c.red) nat_eq_equiv)
 
 -- nothing counted yet, at `sites` sites
 abbrev pub opening_clock : ℕ → MessageCounts

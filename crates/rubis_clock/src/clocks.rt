@@ -109,25 +109,6 @@ impl Clock {
     }
 }
 
-impl PartialEq for Clock {
-    ghost use Rattle.rubis_clock.specs.Clocks.{same_counted, same_counted_equiv};
-    ghost use Rattle.std.specs.Cmp.{partial_equiv_from_equiv};
-
-    ghost eq = { same_counted };
-
-    ghost laws = { partial_equiv_from_equiv same_counted_equiv };
-
-    fn eq(&self, other: &Clock) -> bool {
-        self.counts == other.counts && self.red == other.red
-    }
-}
-
-impl Eq for Clock {
-    ghost use Rattle.rubis_clock.specs.Clocks.{same_counted_equiv};
-
-    ghost laws = { same_counted_equiv };
-}
-
 /// Whether the message with the stamp `v` was made where that with the stamp `u` had been released.
 pub fn precedes(u: &Stamp, v: &Stamp) -> bool
     ensures { IsTrue result ↔ StampPrecedes u.now v.now }

@@ -20,13 +20,22 @@ use std::mem;
 const CHUNK: usize = 65_536;
 
 /// The text of rows that waits to be written. It is emptied without giving its room back.
-#[derive(Drop)]
 pub struct Sink {
     // What stands before the text, where a long text was added whole.
     before: Vec<u8>,
     text: Vec<u8>,
     // What wrote the last row with quotes.
     quoted: Option<QuotedRows>,
+}
+
+impl Drop for Sink {
+    fn drop(self) {
+        let Sink {
+            before: _,
+            text: _,
+            quoted: _,
+        } = self;
+    }
 }
 
 impl Model for Sink {
@@ -180,7 +189,12 @@ impl Sink {
     {
         if self.before.is_empty() && more.before.is_empty() && more.is_full() {
             // So long a text isn't copied: it becomes this one's, after what was here.
-            self.before = mem::replace(&mut self.text, more.text);
+            let Sink {
+                before: _,
+                text,
+                quoted: _,
+            } = more;
+            self.before = mem::replace(&mut self.text, text);
             return Ok(());
         }
         add_both(&mut self.text, more.before.as_slice(), more.text.as_slice())

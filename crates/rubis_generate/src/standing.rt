@@ -1,5 +1,5 @@
 /// What a decision has to know of its site beside the tables.
-#[derive(Clone, Copy, PartialEq, Eq)]
+#[derive(Clone, Copy)]
 pub struct Standing {
     /// Released and waiting messages are as many as the site keeps.
     pub full: bool,

@@ -3,7 +3,8 @@ use Rattle.std.proofs.Common.{◌≡◌, ◌≤◌, ◌<◌, ◌+◌, ℕ, suc, 
 use Rattle.std.specs.Prelude.{Option, Some, None, option_map}
 use Rattle.std.proofs.Math.Seq.{drop-cons}
 use Rattle.std.proofs.lemmas.List.{append-nil, append_assoc}
-use Rattle.rubis_schema.specs.FieldForms.{◌>>=◌, cut_at, number_of}
+use Rattle.rubis_numbers.specs.Numbers.{◌>>=◌, number_of}
+use Rattle.rubis_schema.specs.FieldForms.{cut_at}
 use Rattle.rubis_schema.specs.declared.limits.TheConstants.{COUNT_MAX}
 use Rattle.rubis_message.specs.Counts.{deps_of}
 use Rattle.rubis_message.specs.Grammar.{deps_text}

@@ -4,7 +4,7 @@ ghost use Rattle.std.specs.Prelude.{◌≡◌, bytes_eq};
 ghost use Rattle.rubis_message.specs.Words.{kind_of, shown_of};
 
 /// The first word of a request, or that of a message's shadow.
-#[derive(Clone, Copy, PartialEq, Eq)]
+#[derive(Clone, Copy)]
 pub enum RecordKind {
     User,
     Item,
@@ -19,7 +19,7 @@ pub enum RecordKind {
 }
 
 /// The second word of a `list` request.
-#[derive(Clone, Copy, PartialEq, Eq)]
+#[derive(Clone, Copy)]
 pub enum Shown {
     Users,
     Items,

@@ -11,10 +11,19 @@ use std::marker::Model;
 /// A shadow with its stamp, which meets the conditions of its record: the stamp has a count for each site, that of
 /// the origin is one less than the message's number, the red number is 0 if and only if the shadow is blue, and all ids
 /// and numbers are within their limits.
-#[derive(Drop, Clone)]
+#[derive(Clone)]
 pub struct Message {
     stamp: Stamp,
     shadow: Shadow,
+}
+
+impl Drop for Message {
+    fn drop(self) {
+        let Message {
+            stamp: _,
+            shadow: _,
+        } = self;
+    }
 }
 
 impl Model for Message {
@@ -53,14 +62,6 @@ impl Message {
         &self.shadow
     }
 
-    /// The stamp and the shadow.
-    pub fn into_parts(self) -> (Stamp, Shadow)
-        ensures value { (result.0 ≡ self.stamp) × (result.1 ≡ self.shadow) }
-        ensures conditions { IsMessage self }
-    {
-        (self.stamp, self.shadow)
-    }
-
     /// The message with counts of 0 for the further sites, `sites` in all. It takes no memory.
     ///
     /// # Errors
@@ -69,15 +70,10 @@ impl Message {
     pub fn widen(self, sites: u8) -> Result<Message, Message>
         ensures { result ≡ widening sites self }
     {
-        match self.stamp.widen(sites) {
-            Ok(stamp) => Ok(Message {
-                stamp,
-                shadow: self.shadow,
-            }),
-            Err(stamp) => Err(Message {
-                stamp,
-                shadow: self.shadow,
-            }),
+        let Message { stamp, shadow } = self;
+        match stamp.widen(sites) {
+            Ok(stamp) => Ok(Message { stamp, shadow }),
+            Err(stamp) => Err(Message { stamp, shadow }),
         }
     }
 

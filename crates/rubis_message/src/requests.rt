@@ -11,7 +11,7 @@ use rubis_shadow::{Ask, AskedClose, AskedRename, AskedRestock};
 use std::alloc::Global;
 
 /// What a user asks of a site.
-#[derive(Drop, PartialEq, Eq)]
+#[derive(Drop)]
 pub enum Request {
     Ask(Ask),
     /// Hand the token on to a site, a number up to `PASS_MAX`.

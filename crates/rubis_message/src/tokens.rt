@@ -5,7 +5,7 @@ pub const TOKEN_VERSION: &[u8] = b"1";
 
 /// The right to make red shadows, on its way: the number of its turn, the site that it is for, and how many red
 /// numbers were issued.
-#[derive(Clone, Copy, PartialEq, Eq)]
+#[derive(Clone, Copy)]
 pub struct Token {
     pub turn: u32,
     pub to: u8,
@@ -13,7 +13,7 @@ pub struct Token {
 }
 
 /// What one site sends to others.
-#[derive(Drop, PartialEq, Eq)]
+#[derive(Drop)]
 pub enum Packet {
     Msg(Message),
     Token(Token),

@@ -12,7 +12,7 @@ use rubis_schema::{RECORDS_MAX, Record};
 use std::alloc::{AllocError, Global};
 
 /// What a record is to several sites in one run.
-#[derive(Drop, PartialEq, Eq)]
+#[derive(Drop)]
 pub enum WorldInput {
     /// A request at a site, or what is none.
     Asked(u8, Option<Request>),

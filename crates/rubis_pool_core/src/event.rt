@@ -1,5 +1,5 @@
 /// What a worker does. Workers are numbered from 0.
-#[derive(Clone, Copy, PartialEq, Eq)]
+#[derive(Clone, Copy)]
 pub enum Event {
     /// The worker, being free, takes the first posted piece.
     Take(usize),

@@ -23,7 +23,7 @@ use std::mem;
 pub use tokens::Held;
 
 /// Why an intake answers no more than that.
-#[derive(Clone, Copy, PartialEq, Eq)]
+#[derive(Clone, Copy)]
 pub enum IntakeFault {
     /// The message is refused.
     Refused(Refusal),
@@ -48,7 +48,6 @@ impl From<AllocFailed<Message>> for IntakeFault {
 }
 
 /// What a site has taken in: the log of released messages, those that wait, and the token.
-#[derive(Drop)]
 pub struct Intake {
     messages: Messages,
     // How many red numbers were issued, if the site holds the token.
@@ -58,6 +57,19 @@ pub struct Intake {
     site: u8,
     sites: u8,
     keep: u32,
+}
+
+impl Drop for Intake {
+    fn drop(self) {
+        let Intake {
+            messages: _,
+            held: _,
+            last: _,
+            site: _,
+            sites: _,
+            keep: _,
+        } = self;
+    }
 }
 
 impl Model for Intake {

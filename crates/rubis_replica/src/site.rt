@@ -30,12 +30,22 @@ use std::thread::Threads;
 
 /// One site: what it has taken in, and its tables, which follow its log. Released shadows are pending until they are
 /// applied to the tables: as one batch once at least `batch` are pending, and before any decision or listing.
-#[derive(Drop)]
 pub struct Site<G: Gate = Free> {
     intake: Intake,
     follower: Follower<G>,
     batch: u32,
     alloc: Global,
+}
+
+impl<G: Gate + Drop> Drop for Site<G> {
+    fn drop(self) {
+        let Site {
+            intake: _,
+            follower: _,
+            batch: _,
+            alloc: _,
+        } = self;
+    }
 }
 
 impl<G: Gate> Model for Site<G> {

@@ -1,65 +1,21 @@
 -- What a single field is read as: each value from its own text, and from no other.
 use Rattle.std.proofs.Common.{◌≡◌, ℕ, ◌<◌, ◌≤◌, ◌^◌, Bool, true, false, ◌&&◌, cond, List, ◌∷◌, ◌++◌, refl, sym, ap, subst, ◌∙◌, arith, decimal}
-use Rattle.std.specs.Prelude.{◌==◌, ◌+◌, ◌-◌, nat_le, nat_lt, ℤ, pos, negsuc, unsigned_abs, IsTrue, slice_index, drop, [], option_map, Option, Some, None, bytes_eq, Decides}
-use Rattle.std.specs.Str.Parse.{digits_value}
-use Rattle.std.specs.Cmp.Lexicographic.{bytes_decides}
-use Rattle.std.proofs.lemmas.Bool.Decides.{nat_tests, Decides-eqb, Decides-ltb, Decides-and}
-use Rattle.std.proofs.lemmas.Fmt.{decimal_is_IsNumeral, decimal_nonempty}
+use Rattle.std.specs.Prelude.{◌==◌, ◌+◌, ◌-◌, nat_lt, ℤ, pos, negsuc, unsigned_abs, IsTrue, slice_index, drop, [], option_map, Option, Some, None, Decides}
+use Rattle.std.proofs.lemmas.Bool.Decides.{Decides-eqb, Decides-ltb, Decides-and}
+use Rattle.std.proofs.lemmas.Fmt.{decimal_nonempty}
 use Rattle.std.proofs.lemmas.Option.{cond_some, same_Some}
 use Rattle.std.proofs.lemmas.Bool.{ne_eqb}
-use Rattle.rubis_schema.specs.FieldForms.{IsField, ◌>>=◌, below_zero_of, cut_at, id_of, name_of, nick_of, number_of, only_if, rating_of, text_of}
+use Rattle.rubis_numbers.specs.Numbers.{IsField, ◌>>=◌, below_zero_of, number_of, only_if, rating_of}
+use Rattle.rubis_numbers.specs.declared.numbers.TheConstants.{RATING_MAX}
+use Rattle.rubis_numbers.proofs.Decimals.{decimal_at}
+use Rattle.rubis_numbers.proofs.NumberLaws.{number_is, passed, there}
+use Rattle.rubis_schema.specs.FieldForms.{cut_at, id_of, name_of, nick_of, text_of}
 use Rattle.rubis_schema.specs.Ids.{IsId, id_text, int_text}
 use Rattle.rubis_schema.specs.Texts.{IsName, IsNick, IsText, is_name, is_nick, is_text}
 use Rattle.rubis_schema.specs.declared.ids.Id.{Id}
-use Rattle.rubis_schema.specs.declared.limits.TheConstants.{RATING_MAX, SEQ_MAX}
-use Rattle.rubis_schema.proofs.Decimals.{decimal_at}
+use Rattle.rubis_schema.specs.declared.limits.TheConstants.{SEQ_MAX}
 use Rattle.rubis_schema.proofs.IdTexts.{decimal_free}
 use Rattle.rubis_schema.proofs.Marks.{cut_back, cut_only}
-
-pub le_decides : (m n : ℕ) → Decides (nat_le m n) (m ≤ n)
-le_decides m n = ((λ e. grind (arith, nat_tests)), (λ h. grind (arith, nat_tests)))
-
--- a value that passes the test is there
-pub there : {A : Type 0} {P : Type 0} (test : Bool) (x : A) → Decides test P → P → only_if test x ≡ Some x
-there test x decides h = ap (λ b. only_if b x) (decides.1 h)
-
--- and what is there passed it
-pub passed : {A : Type 0} {P : Type 0} (test : Bool) (x y : A) → Decides test P → only_if test x ≡ Some y → P × (x ≡ y)
-passed test x y decides e = let c = cond_some test x y e in (decides.0 c.0, c.1)
-
--- what is found where the field is the text of a value, and where it is that of none
-pub found : {A : Type 0} {Fits : A → Type 0} {text : A → List ℕ} {read : List ℕ → Option A} → IsField Fits text read
-    → (field : List ℕ) (x : A) → Fits x → field ≡ text x → Some x ≡ read field
-found {read} law field x h is = sym (ap read is ∙ law.back x h)
-
-none_by : {A : Type 0} (o : Option A) → ((x : A) → o ≡ Some x → ⊥) → None ≡ o
-none_by None n = refl
-none_by (Some x) n = absurd (n x refl)
-
-pub refused : {A : Type 0} {Fits : A → Type 0} {text : A → List ℕ} {read : List ℕ → Option A} → IsField Fits text read
-    → (field : List ℕ) → ((x : A) → Fits x → field ≡ text x → ⊥) → None ≡ read field
-refused {read} law field none = none_by (read field) (λ x e. let w = law.only field x e in none x w.0 w.1)
-
-number_decides : (high : ℕ) (field : List ℕ)
-    → Decides (nat_le (digits_value 10 field) high && bytes_eq field (decimal (digits_value 10 field)))
-    ((digits_value 10 field ≤ high) × (field ≡ decimal (digits_value 10 field)))
-number_decides high field =
-    Decides-and _ _ (le_decides (digits_value 10 field) high) (bytes_decides field (decimal (digits_value 10 field)))
-
-pub number_back : (n : ℕ) → n < 2 ^ 64 → digits_value 10 (decimal n) ≡ n
-number_back n h = (decimal_is_IsNumeral n h).1
-
-pub number_is : (high : ℕ) → high < 2 ^ 64 → IsField (λ n. n ≤ high) decimal (number_of high)
-unfolding number_of
-number_is high fits = record {
-  back = λ n h.
-      let same = number_back n (omega (arith, h, fits)) in
-      there _ _ (number_decides high (decimal n)) (subst (λ m. (m ≤ high) × (decimal n ≡ decimal m)) (sym same) (h, refl))
-      ∙ ap Some same;
-  only = λ field n e.
-      let c = passed _ _ n (number_decides high field) e in
-      subst (λ m. (m ≤ high) × (field ≡ decimal m)) c.1 c.0;
-}
 
 -- ---- what is read in steps
 

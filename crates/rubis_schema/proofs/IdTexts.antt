@@ -4,7 +4,7 @@ use Rattle.std.specs.List.{All}
 use Rattle.std.specs.Int.{IsInRange}
 use Rattle.std.proofs.lemmas.List.Elements.{All-from_get_or}
 use Rattle.std.proofs.lemmas.Fmt.{length-decimal-le}
-use Rattle.rubis_schema.proofs.Decimals.{decimal_at}
+use Rattle.rubis_numbers.proofs.Decimals.{decimal_at}
 
 -- a number's text has no byte but digits
 pub decimal_free : (n mark : ℕ) → n < 2 ^ 64 → ¬ (IsInRange 48 57 mark) → All (λ b. b ≢ mark) (decimal n)

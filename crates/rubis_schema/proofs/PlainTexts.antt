@@ -9,7 +9,7 @@ use Rattle.std.proofs.lemmas.List.Folds.{list_all-append, list_any-append, list_
 use Rattle.rubis_schema.specs.FieldList.{all_plain, comma, is_mark, is_plain}
 use Rattle.rubis_schema.specs.Ids.{id_text}
 use Rattle.rubis_schema.specs.declared.ids.Id.{Id}
-use Rattle.rubis_schema.proofs.Decimals.{decimal_at}
+use Rattle.rubis_numbers.proofs.Decimals.{decimal_at}
 
 no_mark : (b : ℕ) → IsInRange 48 57 b → is_mark b ≡ false
 no_mark b h =

@@ -1,9 +1,9 @@
 -- The laws of the order of keys, which its impls name.
 use Rattle.std.proofs.Common.{ℕ, ◌≡◌, List, [], ◌∷◌, Bool, true, false, refl, sym, ap, ◌∙◌, subst}
-use Rattle.std.specs.Prelude.{Decides, ◌&&◌, nat_eq, Some}
+use Rattle.std.specs.Prelude.{Decides, ◌&&◌, nat_eq}
 use mathlib.Core.Bool.{true≢false}
 use Rattle.std.proofs.lemmas.Bool.Decides.{Decides-eqb, same_from_decides}
-use Rattle.std.specs.Cmp.{IsTotalOrder, IsEquivalence, IsPartialOrder, Equal-is, tied_itself, eq_by_cmp_equiv, partial_order_from_agreeing_total}
+use Rattle.std.specs.Cmp.{IsTotalOrder, IsEquivalence, Equal-is, tied_itself, eq_by_cmp_equiv}
 use Rattle.std.specs.Cmp.Lexicographic.{on_texts, bytes_decides}
 use Rattle.std.specs.Ordering.{is_eq}
 use Rattle.std.specs.FinMap.{IsAntisymmetric, slice_cmp-IsAntisymmetric, nat_cmp-IsAntisymmetric}
@@ -101,11 +101,5 @@ pub tied-key_eq : (k l : RowKey) → tied k l ≡ key_eq k l
 tied-key_eq k l = same_from_decides _ _ (Decides-tied k l) (Decides-key_eq k l)
 
 -- ---- the laws that the comparisons of keys have to keep
-pub key_ties : (k l : RowKey) → key_eq k l ≡ tied k l
-key_ties k l = sym (tied-key_eq k l)
-
 pub key_eq_equiv : IsEquivalence key_eq
 key_eq_equiv = subst (λ (E : RowKey → RowKey → Bool). IsEquivalence E) (λ i k l. tied-key_eq k l i) (eq_by_cmp_equiv key_total)
-
-pub key_partial_order : IsPartialOrder key_eq (λ k l. Some (key_order k l))
-key_partial_order = partial_order_from_agreeing_total key_order key_total (λ k l. refl) key_ties

@@ -60,17 +60,3 @@ impl<T: Clone> Clone for Boxed<T> {
         Ok(Boxed { inner })
     }
 }
-
-impl<T: PartialEq> PartialEq for Boxed<T> {
-    ghost eq = { λ x y. T.eq x y };
-
-    ghost laws = { T.laws };
-
-    fn eq(&self, other: &Boxed<T>) -> bool {
-        self.inner == other.inner
-    }
-}
-
-impl<T: Eq> Eq for Boxed<T> {
-    ghost laws = { T.Eq.laws };
-}

@@ -6,7 +6,7 @@ use crate::row_keys::RowKey;
 use std::hash::{Hash, Hasher};
 
 /// One of the five tables whose rows have ids.
-#[derive(Clone, Copy, PartialEq, Eq)]
+#[derive(Clone, Copy)]
 pub enum IdTable {
     User,
     Item,

@@ -5,9 +5,9 @@ ghost use Rattle.rubis_schema.specs.Ids.{id_text};
 
 use crate::field_list::Fields;
 use crate::limits::{ID_TEXT_MAX, SEQ_MAX};
-use crate::numbers::read_number;
 use crate::short_texts::ShortText;
 use crate::splits::split_once;
+use rubis_numbers::read_number;
 use std::alloc::{AllocError, Global};
 use std::hash::{Hash, Hasher};
 

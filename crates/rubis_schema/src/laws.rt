@@ -1,11 +1,12 @@
 // What the readings of single fields promise by themselves.
 
 ghost use Rattle.std.specs.Prelude.{ℕ, ◌<◌, ◌≤◌, ◌^◌, decimal, unsigned_abs};
-ghost use Rattle.rubis_schema.specs.FieldForms.{IsField, id_of, name_of, nick_of, number_of, rating_of, text_of};
+ghost use Rattle.rubis_numbers.specs.Numbers.{IsField, number_of, rating_of};
+ghost use Rattle.rubis_schema.specs.FieldForms.{id_of, name_of, nick_of, text_of};
 ghost use Rattle.rubis_schema.specs.Ids.{IsId, id_text, int_text};
 ghost use Rattle.rubis_schema.specs.Texts.{IsName, IsNick, IsText};
 
-use crate::limits::RATING_MAX;
+use rubis_numbers::RATING_MAX;
 
 /// Each value within its limits is read back from its own text, and from no other.
 pub fn fields_have_one_reading()

@@ -34,18 +34,19 @@ pub use key_hashes::{Hashes, KeyHasher, KeyHashes, NickHashes};
 pub use laws::fields_have_one_reading;
 pub use limits::{
     AMOUNT_MAX, BATCH_MAX, CAT_MAX, CATEGORIES, COUNT_MAX, COUNTED_MAX, COUNTS_TEXT_MAX, KEEP_MAX,
-    NAME_MAX, NICK_MAX, NUMBER_TEXT_MAX, PASS_MAX, QUANTITY_MAX, RATING_MAX, RECORDS_MAX, SEQ_MAX,
-    SHARDS_MAX, SITES_MAX, TEXT_MAX, TURN_MAX, WORKERS_MAX,
+    NAME_MAX, NICK_MAX, NUMBER_TEXT_MAX, PASS_MAX, QUANTITY_MAX, RECORDS_MAX, SEQ_MAX, SHARDS_MAX,
+    SITES_MAX, TEXT_MAX, TURN_MAX, WORKERS_MAX,
 };
 pub use listings::Listing;
 pub use lists::Items;
 pub use nicks::Nick;
 pub use number_texts::push_digits;
-pub use numbers::{push_int, push_number, read_number, read_rating};
+pub use numbers::{push_int, push_number};
 pub use records::Record;
 pub use refusals::Refusal;
 pub use row_keys::{RowKey, Table, key_cmp};
 pub use rows::{Best, BidRow, CatRow, CommentRow, ItemRow, PurchaseRow, Row, Sale, UserRow};
+pub use rubis_numbers::{RATING_MAX, read_number, read_rating};
 pub use shared::Shared;
 pub use short_texts::ShortText;
 pub use splits::split_once;

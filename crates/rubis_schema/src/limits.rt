@@ -45,9 +45,6 @@ pub const CATEGORIES: u16 = 1000;
 /// The greatest category.
 pub const CAT_MAX: u64 = CATEGORIES as u64 - 1;
 
-/// The greatest rating of a comment; the least is as far below 0.
-pub const RATING_MAX: u8 = 5;
-
 /// The most bytes of a nickname; the least is 1.
 pub const NICK_MAX: usize = 20;
 

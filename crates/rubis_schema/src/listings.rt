@@ -1,7 +1,7 @@
 use crate::ids::Id;
 
 /// What a listing shows: one variant for each form of `list`.
-#[derive(Clone, Copy, PartialEq, Eq)]
+#[derive(Clone, Copy)]
 pub enum Listing {
     Users,
     /// The items of a category.

@@ -20,7 +20,7 @@ pub enum RowKey {
 }
 
 /// One of the seven tables.
-#[derive(Clone, Copy, PartialEq, Eq)]
+#[derive(Clone, Copy)]
 pub enum Table {
     Users,
     Items,
@@ -142,37 +142,5 @@ impl Hash for RowKey {
             RowKey::Nick(nick) => state.write(nick.as_bytes()),
             RowKey::Cat(cat) => state.write_u16(*cat),
         }
-    }
-}
-
-impl PartialOrd for RowKey {
-    ghost use Rattle.std.specs.Prelude.{Some};
-    ghost use Rattle.rubis_schema.specs.Keys.{key_order};
-    ghost use Rattle.rubis_schema.specs.KeyLaws.{key_partial_order};
-
-    ghost partial_cmp = { λ a b. Some (key_order a b) };
-
-    ghost laws = { key_partial_order };
-
-    fn partial_cmp(&self, other: &RowKey) -> Option<Ordering> {
-        Some(key_cmp(self, other))
-    }
-}
-
-impl Ord for RowKey {
-    ghost use Rattle.std.proofs.Common.{rules};
-    ghost use Rattle.rubis_schema.specs.Keys.{key_order};
-    ghost use Rattle.rubis_schema.specs.KeyLaws.{key_total, key_ties};
-
-    ghost cmp = { key_order };
-
-    ghost total = { key_total };
-
-    ghost matches_partial_cmp = { Prim.search rules };
-
-    ghost matches_eq = { key_ties };
-
-    fn cmp(&self, other: &RowKey) -> Ordering {
-        key_cmp(self, other)
     }
 }

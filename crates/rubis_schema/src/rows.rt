@@ -10,7 +10,7 @@ use std::alloc::AllocError;
 
 /// A user: the nickname, how many items the user listed, how many pieces the user bought, and the sum and the count
 /// of the comments to the user.
-#[derive(Clone, Copy, PartialEq, Eq)]
+#[derive(Clone, Copy)]
 pub struct UserRow {
     pub nick: Nick,
     pub items: u64,
@@ -20,14 +20,14 @@ pub struct UserRow {
 }
 
 /// The best bid of an item so far.
-#[derive(Clone, Copy, PartialEq, Eq)]
+#[derive(Clone, Copy)]
 pub struct Best {
     pub bid: Id,
     pub amount: u64,
 }
 
 /// Whether an item can still be bid for, and who won it if not.
-#[derive(Clone, Copy, PartialEq, Eq)]
+#[derive(Clone, Copy)]
 pub enum Sale {
     Open,
     /// Ended, with the winning bid if there is one.
@@ -36,7 +36,7 @@ pub enum Sale {
 
 /// An item: `stock` pieces are left and `sold` were bought; bids begin at `start`, and `price` buys a piece at once
 /// (0: that can't be done).
-#[derive(Drop, Clone, PartialEq, Eq)]
+#[derive(Drop, Clone)]
 pub struct ItemRow {
     pub seller: Id,
     pub name: Name,
@@ -51,7 +51,7 @@ pub struct ItemRow {
 }
 
 /// A bid, with the red number of its shadow.
-#[derive(Clone, Copy, PartialEq, Eq)]
+#[derive(Clone, Copy)]
 pub struct BidRow {
     pub item: Id,
     pub bidder: Id,
@@ -78,7 +78,7 @@ pub struct CommentRow {
 }
 
 /// A category: how many items were listed in it, and how many of them didn't end.
-#[derive(Clone, Copy, PartialEq, Eq)]
+#[derive(Clone, Copy)]
 pub struct CatRow {
     pub items: u64,
     pub live: i64,
@@ -95,7 +95,7 @@ impl CatRow {
 
 /// A row of one of the seven tables. A nickname's row holds the id of its user. The larger rows are in boxes, so that tables
 /// stay small; a comment's, which nothing changes, is shared with the messages that brought it.
-#[derive(Drop, Clone, PartialEq, Eq)]
+#[derive(Drop, Clone)]
 pub enum Row {
     User(Boxed<UserRow>),
     Item(Boxed<ItemRow>),

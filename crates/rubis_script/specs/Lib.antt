@@ -1,5 +1,4 @@
 pub mod Inputs
-pub mod Replies
 pub mod SiteRuns
 pub mod Windows
 pub mod Replays

@@ -20,14 +20,14 @@ ghost use Rattle.rubis_engine.specs.Text.{rows_text};
 ghost use Rattle.rubis_script.specs.Windows.{AreHeld, held_by};
 ghost use Rattle.rubis_engine.specs.declared.service.Course.TheVariants as Course;
 
-use crate::replies::{
-    write_arrival, write_arrivals, write_listed_text, write_passed, write_refusal, write_sent,
-    write_taken,
-};
+use crate::windows::{hold, window_of, write_arrivals};
 use rubis_engine::{InputRecord, OutOfMemory, Reply, Service, Sink};
 use rubis_listing::Counted;
 use rubis_message::{Message, Packet, ReadFault, Request, Token, read_packet, read_request};
 use rubis_replica::{Config, Fault, Free, Gate, Site};
+use rubis_replies::{
+    write_arrival, write_listed_text, write_passed, write_refusal, write_sent, write_taken,
+};
 use rubis_schema::{Listing, Refusal};
 use rubis_shadow::Ask;
 use std::alloc::{AllocError, Global};
@@ -171,26 +171,6 @@ fn answer_packet<G: Gate, R: Threads + Wait + Sync>(
     match packet {
         Packet::Msg(message) => answer_message(rt, site, reply, message),
         Packet::Token(token) => answer_token(site, reply, token),
-    }
-}
-
-// Holds one more message.
-fn hold(window: &mut Vec<Message>, message: Message) -> Result<(), OutOfMemory>
-    ensures { OnOk result (window.new.items ≡ window.old.items ++ message ∷ []) }
-{
-    match window.push(message) {
-        Ok(()) => Ok(()),
-        Err(_) => Err(OutOfMemory),
-    }
-}
-
-// How many messages are taken in together: as many as a batch has, where workers apply the batch before meanwhile. With one
-// worker each is taken in as it comes, since nobody would work meanwhile.
-fn window_of(config: &Config) -> usize {
-    if config.workers() > 1 {
-        config.batch() as usize
-    } else {
-        1
     }
 }
 

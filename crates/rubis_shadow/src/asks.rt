@@ -2,14 +2,14 @@ use crate::shadows::{NewBid, NewItem};
 use rubis_schema::{CommentRow, Id, Nick, PurchaseRow, Shared};
 
 /// A seller who ends an item's sale.
-#[derive(Clone, Copy, PartialEq, Eq)]
+#[derive(Clone, Copy)]
 pub struct AskedClose {
     pub item: Id,
     pub seller: Id,
 }
 
 /// A seller who has more pieces of an item.
-#[derive(Clone, Copy, PartialEq, Eq)]
+#[derive(Clone, Copy)]
 pub struct AskedRestock {
     pub item: Id,
     pub seller: Id,
@@ -17,14 +17,14 @@ pub struct AskedRestock {
 }
 
 /// A user who wants another nickname.
-#[derive(Clone, Copy, PartialEq, Eq)]
+#[derive(Clone, Copy)]
 pub struct AskedRename {
     pub user: Id,
     pub nick: Nick,
 }
 
 /// What a user asks of a site.
-#[derive(Drop, Clone, PartialEq, Eq)]
+#[derive(Drop)]
 pub enum Ask {
     User(Nick),
     Item(Shared<NewItem>),

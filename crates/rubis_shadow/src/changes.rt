@@ -4,7 +4,7 @@ use rubis_schema::{Best, Id, Nick, Row, RowKey};
 use std::alloc::AllocError;
 
 /// What a part does to the row of its key.
-#[derive(Drop, Clone, PartialEq, Eq)]
+#[derive(Drop, Clone)]
 pub enum Change {
     /// A new row.
     Insert(Row),
@@ -42,7 +42,7 @@ impl Change {
 }
 
 /// One part of a shadow: a change of the row at a key.
-#[derive(Drop, Clone, PartialEq, Eq)]
+#[derive(Drop)]
 pub struct Effect {
     pub key: RowKey,
     pub change: Change,
@@ -76,7 +76,7 @@ pub enum MisfitKind {
 }
 
 /// What a change does with a row that is there: whether the row stays, and why the change doesn't fit, if it doesn't.
-#[derive(Clone, Copy, PartialEq, Eq)]
+#[derive(Clone, Copy)]
 pub struct Fate {
     pub stays: bool,
     pub misfit: Option<MisfitKind>,

@@ -7,7 +7,7 @@ use rubis_schema::{Id, RowKey};
 use std::marker::Model;
 
 /// At most three keys, in order. Contracts see those that are left.
-#[derive(Clone, Drop)]
+#[derive(Drop)]
 pub struct Keys {
     first: Option<RowKey>,
     second: Option<RowKey>,

@@ -6,7 +6,7 @@ use std::alloc::AllocError;
 
 /// A part with its place: the message's place in the log, from 1, the part's place in its message, from 1, and the
 /// message's id.
-#[derive(Drop, Clone, PartialEq, Eq)]
+#[derive(Drop)]
 pub struct Numbered {
     pub entry: u32,
     pub part: u8,
@@ -29,7 +29,7 @@ impl Numbered {
 }
 
 /// A part that didn't fit, by its place, and why.
-#[derive(Clone, Copy, PartialEq, Eq)]
+#[derive(Clone, Copy)]
 pub struct Misfit {
     pub entry: u32,
     pub part: u8,

@@ -55,7 +55,7 @@ pub enum Shadow {
 }
 
 /// Red shadows are totally ordered, blue ones only follow causality.
-#[derive(Clone, Copy, PartialEq, Eq)]
+#[derive(Clone, Copy)]
 pub enum Colour {
     Red,
     Blue,

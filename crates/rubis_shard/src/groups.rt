@@ -4,7 +4,7 @@ ghost use Rattle.rubis_shard.specs.Groups.{listing_of, table_of};
 use rubis_schema::{Id, Listing, Table};
 
 /// Rows that belong together.
-#[derive(Clone, Copy, PartialEq, Eq)]
+#[derive(Clone, Copy)]
 pub enum Group {
     /// The items of a category.
     Items(u16),

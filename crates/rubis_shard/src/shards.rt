@@ -28,7 +28,6 @@ use std::marker::Model;
 
 /// One shard of a set: the rows whose home it is, and the misfits that were met there. Contracts see its number, how
 /// many shards its set has, and what is folded on it.
-#[derive(Drop)]
 pub struct Shard {
     number: usize,
     shards: usize,
@@ -36,6 +35,18 @@ pub struct Shard {
     store: Option<Boxed<Store>>,
     hashes: Hashes,
     alloc: Global,
+}
+
+impl Drop for Shard {
+    fn drop(self) {
+        let Shard {
+            number: _,
+            shards: _,
+            store: _,
+            hashes: _,
+            alloc: _,
+        } = self;
+    }
 }
 
 impl Model for Shard {
@@ -55,7 +66,7 @@ impl Model for Shard {
 }
 
 /// How many of a share's parts are done.
-#[derive(Clone, Copy, PartialEq, Eq)]
+#[derive(Clone, Copy)]
 pub struct Applied {
     pub done: usize,
 }

@@ -23,9 +23,14 @@ use std::mem;
 
 /// The tables of a site, as all shards of a set in order of number. Contracts see the list of the shards, which may be
 /// empty where the shards were taken out.
-#[derive(Drop)]
 pub struct Tables {
     shards: Vec<Shard>,
+}
+
+impl Drop for Tables {
+    fn drop(self) {
+        let Tables { shards: _ } = self;
+    }
 }
 
 impl Model for Tables {

@@ -7,7 +7,7 @@ pub trait Gate: Sync {
 }
 
 /// The gate that does nothing.
-#[derive(Drop, Clone, Copy, PartialEq, Eq)]
+#[derive(Drop, Clone, Copy)]
 pub struct Free;
 
 impl Gate for Free {

@@ -12,10 +12,10 @@ use Rattle.rubis_laws.proofs.Refusing.{refusals_change_nothing}
 use Rattle.rubis_replica.specs.declared.faults.Fault.TheVariants as fault
 use Rattle.rubis_engine.specs.Text.{rows_text}
 use Rattle.rubis_engine.proofs.TextFacts.{text-goes}
+use Rattle.rubis_sites.specs.Worlds.{ComesTo, Steps, WorldState}
+use Rattle.rubis_sites.specs.declared.faults.WorldFault.{WorldFault}
+use Rattle.rubis_sites.specs.declared.faults.WorldFault.TheVariants.{BadEvent, NoSuchPacket, Site, Memory}
 use Rattle.rubis_world.specs.Running.{IsTold, answer_in_world}
-use Rattle.rubis_world.specs.Worlds.{ComesTo, Steps, WorldState}
-use Rattle.rubis_world.specs.declared.faults.WorldFault.{WorldFault}
-use Rattle.rubis_world.specs.declared.faults.WorldFault.TheVariants.{BadEvent, NoSuchPacket, Site, Memory}
 
 goes_on : (keep : ℕ) (w : World) (n : ℕ) (fields : List (List ℕ)) (more : List (List (List ℕ)))
     → let step = world_step keep w n (world_input (length w.sites) fields) in world_answers keep w n (fields ∷ more) ≡ step.1 ++ world_answers keep step.0 (n + 1) more

@@ -1,5 +1,3 @@
-pub mod Moves
 pub mod Keeping
-pub mod Beginning
 pub mod Answering
 pub mod Checking

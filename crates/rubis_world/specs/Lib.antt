@@ -1,5 +1,3 @@
-pub mod Faults
-pub mod Setup
 pub mod Worlds
 pub mod Telling
 pub mod Running

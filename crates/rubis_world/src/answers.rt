@@ -1,19 +1,19 @@
 // The records that answer an event.
 
-ghost use Rattle.std.specs.Prelude.{◌≡◌, ◌++◌, ◌∷◌, [], OnOk, Some, map, option_map};
+ghost use Rattle.std.specs.Prelude.{◌≡◌, ◌++◌, ◌∷◌, [], OnOk, Some, map};
 ghost use Rattle.rubis_model.specs.Answers.{refused_row};
 ghost use Rattle.rubis_model.specs.WorldRecords.{event_rows, happened_rows, refusal_row, sent_rows, site_row, world_row};
-ghost use Rattle.rubis_model.specs.System.{packet_at};
 ghost use Rattle.rubis_engine.specs.Text.{rows_text};
 
 use crate::site_rows::SiteRows;
 use rubis_engine::{Reply, Sink};
 use rubis_listing::RowSink;
 use rubis_message::{Happened, Packet};
-use rubis_schema::{Fields, Refusal, push_number};
-use rubis_script::{
+use rubis_replies::{
     write_arrival, write_handed_on, write_listed, write_refusal, write_sent, write_taken,
 };
+use rubis_schema::{Fields, Refusal, push_number};
+use rubis_sites::packet;
 use std::alloc::AllocError;
 
 /// Says that the world refuses the record.
@@ -28,16 +28,6 @@ pub fn write_no_event(reply: &mut Reply, refusal: Refusal) -> Result<(), AllocEr
     push_number(fields, u64::from(refusal.code()))?;
     fields.push(refusal.name().as_bytes())?;
     reply.sink.write_fields(fields)
-}
-
-/// The packet with that number, counted from 1, if it was sent.
-pub fn packet(sent: &[Packet], number: u64) -> Option<&Packet>
-    ensures { option_map (λ p. p.now) result ≡ packet_at sent.now number }
-{
-    if number == 0 {
-        return None;
-    }
-    sent.get(number as usize - 1)
 }
 
 // The packet that answers a request.

@@ -2,17 +2,14 @@
 #![tactic(auto)]
 
 mod answers;
-mod config;
+mod checks;
 mod desk;
-mod faults;
 mod run;
 mod site_rows;
-mod sites;
 mod world;
 
-pub use config::WorldConfig;
 pub use desk::WorldDesk;
-pub use faults::WorldFault;
 pub use rubis_message::Happened;
+pub use rubis_sites::{WorldConfig, WorldFault};
 pub use run::{run_world, run_world_desk, run_world_to_exit};
 pub use world::World;

@@ -9,13 +9,13 @@ ghost use Rattle.rubis_message.specs.declared.answers.Verdict.TheVariants.{Agree
 ghost use Rattle.rubis_model.specs.Verdict.{verdict};
 ghost use Rattle.rubis_model.specs.WorldRecords.{logs_of};
 ghost use Rattle.rubis_replica.specs.declared.faults.Fault.TheVariants as Fault;
-ghost use Rattle.rubis_world.specs.Worlds.{Asks, ComesTo, IsCheckFault, Steps, left_at, opening_world};
-ghost use Rattle.rubis_world.specs.declared.faults.WorldFault.TheVariants as WorldFault;
+ghost use Rattle.rubis_sites.specs.Worlds.{Asks, ComesTo, Steps, left_at, opening_world};
+ghost use Rattle.rubis_sites.specs.declared.faults.WorldFault.TheVariants as WorldFault;
+ghost use Rattle.rubis_world.specs.Worlds.{IsCheckFault};
 
-use crate::config::WorldConfig;
-use crate::faults::WorldFault;
-use crate::sites::Sites;
+use crate::checks::check;
 use rubis_message::{Happened, Packet, Request, Verdict};
+use rubis_sites::{Sites, WorldConfig, WorldFault};
 use std::alloc::{AllocError, Global};
 use std::marker::Model;
 use std::sync::Wait;
@@ -26,10 +26,12 @@ use std::thread::Threads;
 #[derive(Drop)]
 pub struct World {
     sites: Sites,
+    alloc: Global,
 }
 
 impl Model for World {
-    ghost use Rattle.rubis_world.specs.Worlds.{IsWorld, WorldState};
+    ghost use Rattle.rubis_sites.specs.Worlds.{WorldState};
+    ghost use Rattle.rubis_world.specs.Worlds.{IsWorld};
 
     ghost Value = { WorldState };
 
@@ -46,6 +48,7 @@ impl World {
     {
         Ok(World {
             sites: Sites::new(alloc, config)?,
+            alloc,
         })
     }
 
@@ -103,7 +106,7 @@ impl World {
         ensures faults { IfErr result (IsCheckFault self.new) }
         ensures run { InRun self.new.world }
     {
-        self.sites.check(rt)
+        check(rt, self.alloc, &mut self.sites)
     }
 
     /// All packets that were sent, in the order in which they were sent.

@@ -10,7 +10,7 @@ use rubis_schema::Refusal;
 const TURN_MAX: u32 = 1_000_000_000;
 
 /// The token, where the site holds it.
-#[derive(Clone, Copy, PartialEq, Eq)]
+#[derive(Clone, Copy)]
 pub struct Held {
     /// The turn that the site took it in, 0 where it held it from the start.
     pub turn: u32,

@@ -11,7 +11,7 @@ pub returns-clause-agrees : goal.returns-clause-agrees
 returns-clause-agrees g c = if_ok_so _ _ c.check.result (λ found is. is ∙ agree c.self.inside.sites c.self.invariant) c.check.ensures.verdict
 
 pub returns-clause-run : goal.returns-clause-run
-returns-clause-run g c = told c.check.new.self (stayed c.self.inside.sites c.check.new.self c.check.ensures.same c.self.invariant)
+returns-clause-run g c = told c.check.new.sites (stayed c.self.inside.sites c.check.new.sites c.check.ensures.same c.self.invariant)
 
 pub invariant_of-self : goal.invariant_of-self
-invariant_of-self g c = stayed c.self.inside.sites c.check.new.self c.check.ensures.same c.self.invariant
+invariant_of-self g c = stayed c.self.inside.sites c.check.new.sites c.check.ensures.same c.self.invariant

@@ -1,0 +1,14 @@
+use Rattle.std.proofs.Common.{◌≡◌, ◌∷◌, [], rules, subst}
+use Rattle.std.specs.Prelude.{codes}
+use Rattle.rubis_schema.specs.Ids.{id_text}
+use Rattle.rubis_message.specs.Grammar.{message_record}
+use Rattle.rubis_model.specs.Answers.{reply, send_row}
+use Rattle.rubis_engine.proofs.RowFacts.{on_ok}
+use Rattle.rubis_replies.proofs.replies.write_sent.Goals as goal
+
+pub returns : goal.returns
+returns g c =
+    let told = reply c.args.number (codes "ok" ∷ id_text c.args.message.now.stamp.id ∷ []) in
+    let sent : c.append_message.new.fields ≡ send_row (message_record c.args.message.now) = search rules in
+    on_ok c.put.result (λ two. g.met.S.RowSink.adds_more (told ∷ []) (send_row (message_record c.args.message.now) ∷ [])
+    c.args.sink.now c.write_accepted.new.sink c.put.new.self c.in_ok-write_accepted.ensures (subst (λ r. g.S.RowSink.adds (r ∷ []) c.write_accepted.new.sink c.put.new.self) sent two)) c.put.ensures

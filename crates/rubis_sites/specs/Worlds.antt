@@ -1,0 +1,51 @@
+-- Several sites with their packets, and what their calls answer.
+use Rattle.std.specs.Prelude.{◌≡◌, ℕ, ◌<◌, List, length, map, Result, Ok, Err, IfSome, slice_get, slice_index_or}
+use Rattle.std.specs.List.{range_with_len}
+use Rattle.rubis_schema.specs.declared.refusals.Refusal.{Refusal}
+use Rattle.rubis_schema.specs.declared.refusals.Refusal.TheVariants as refusal
+use Rattle.rubis_message.specs.declared.answers.Happened.{Happened}
+use Rattle.rubis_model.specs.System.{World, start}
+use Rattle.rubis_replica.specs.State.{SiteState}
+use Rattle.rubis_replica.specs.declared.faults.Fault.TheVariants as fault
+use Rattle.rubis_sites.specs.declared.faults.WorldFault.{WorldFault}
+use Rattle.rubis_sites.specs.declared.faults.WorldFault.TheVariants.{BadEvent, NoSuchPacket, Site, Memory}
+
+-- how many messages each site keeps, the sites with their packets, and how many parts each site has left of the batch that
+-- it has begun
+pub record WorldState : Type 0 where
+  pub keep : ℕ
+  pub world : World
+  pub left : List ℕ
+
+-- `sites` sites with nothing done
+abbrev pub opening_world : ℕ → ℕ → WorldState
+opening_world keep sites = record { keep = keep; world = start sites; left = map (λ i. 0) (range_with_len 0 sites) }
+
+-- what a site has left; it is behind where that is something
+abbrev pub left_at : WorldState → ℕ → ℕ
+left_at s i = slice_index_or s.left i 0
+
+-- each site is at the place of its number
+abbrev pub AreAtPlaces : ℕ → List SiteState → Type 0
+AreAtPlaces keep sites = (i : ℕ) → IfSome (slice_get sites i) (λ s. s.place ≡ record { site = i; sites = length sites; keep = keep })
+
+-- the call comes to that world; how far the tables are may change
+abbrev pub ComesTo : WorldState → WorldState → World → Type 0
+ComesTo old new w = (new.keep ≡ old.keep) × (new.world ≡ w)
+
+-- the call answers as the step says, and comes to its world; where a site is behind or memory runs out, it stays at its own
+abbrev pub Steps : WorldState → WorldState → World × Result Happened Refusal → Result Happened WorldFault → Type 0
+Steps old new step (Ok h) = ComesTo old new step.0 × (step.1 ≡ Ok h)
+Steps old new step (Err BadEvent) = (new ≡ old) × (step.1 ≡ Err refusal.BadEvent)
+Steps old new step (Err NoSuchPacket) = (new ≡ old) × (step.1 ≡ Err refusal.NoSuchPacket)
+Steps old new step (Err (Site (fault.Refused r))) = ComesTo old new old.world × (step.1 ≡ Err r)
+Steps old new step (Err (Site fault.Behind)) = ComesTo old new old.world
+Steps old new step (Err (Site fault.Memory)) = ⊥
+Steps old new step (Err Memory) = ComesTo old new old.world
+
+-- site i alone was asked: the tables of the others are as far as they were. Where it was behind it says so, and nothing
+-- changes; and it says so only where it is
+pub record Asks (i : ℕ) (old new : WorldState) (result : Result Happened WorldFault) : Type 0 where
+  pub others : (j : ℕ) → (j ≡ i → ⊥) → left_at new j ≡ left_at old j
+  pub waits : 0 < left_at old i → (result ≡ Err (Site fault.Behind)) × (new ≡ old)
+  pub says : result ≡ Err (Site fault.Behind) → 0 < left_at new i

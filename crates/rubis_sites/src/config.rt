@@ -1,0 +1,91 @@
+ghost use Rattle.std.specs.Prelude.{◌≡◌, ◌<◌};
+ghost use Rattle.std.specs.Option.{SomeIff};
+ghost use Rattle.rubis_replica.specs.Setup.{IsCount};
+ghost use Rattle.rubis_schema.specs.declared.limits.TheConstants.{KEEP_MAX, SITES_MAX};
+ghost use Rattle.rubis_sites.specs.Setup.{IsWorldSetup, WorldSetup, setup_at};
+
+use rubis_replica::Config;
+use rubis_schema::Hashes;
+use std::marker::Model;
+
+/// How the sites of a world are set up: how many they are; and of each, how many shards its tables have, how many workers
+/// apply shadows to them, how many shadows make a batch, and how many messages it keeps; and what the maps of all hash by, which
+/// no answer depends on and no contract sees.
+#[derive(Drop)]
+pub struct WorldConfig {
+    sites: u8,
+    shards: u8,
+    workers: u8,
+    batch: u32,
+    keep: u32,
+    hashes: Hashes,
+}
+
+impl Model for WorldConfig {
+    ghost use Rattle.rubis_sites.specs.Setup.{IsWorldSetup, WorldSetup};
+
+    ghost Value = { WorldSetup };
+
+    ghost view = { λ c. record { sites = c.sites; shards = c.shards; workers = c.workers; batch = c.batch; keep = c.keep } };
+
+    ghost invariant = { λ c. IsWorldSetup (record { sites = c.sites; shards = c.shards; workers = c.workers; batch = c.batch; keep = c.keep }) };
+}
+
+impl WorldConfig {
+    /// The configuration with these numbers and hashes that are the same in each run, if each number is within its limits: 1 to
+    /// 16 sites, 1 to 64 shards, 1 to 16 workers,
+    /// batches of 1 to 65,536, and 1 to 1,000,000 messages kept at each site.
+    pub fn new(sites: u8, shards: u8, workers: u8, batch: u32, keep: u32) -> Option<WorldConfig>
+        ensures { let setup : WorldSetup = record { sites = sites; shards = shards; workers = workers; batch = batch; keep = keep } in SomeIff result (IsWorldSetup setup) setup }
+    {
+        let _first = Config::new(0, sites, shards, workers, batch, keep)?;
+        Some(WorldConfig {
+            sites,
+            shards,
+            workers,
+            batch,
+            keep,
+            hashes: Hashes::fixed(),
+        })
+    }
+
+    /// The same configuration, with these hashes.
+    pub fn with_hashes(self, hashes: Hashes) -> WorldConfig
+        ensures { result ≡ self }
+    {
+        WorldConfig { hashes, ..self }
+    }
+
+    /// How many sites there are.
+    pub fn sites(&self) -> u8
+        ensures value { result ≡ self.now.sites }
+        ensures limits { IsCount result SITES_MAX }
+    {
+        self.sites
+    }
+
+    /// How many messages each site keeps.
+    pub fn keep(&self) -> u32
+        ensures value { result ≡ self.now.keep }
+        ensures limits { IsCount result KEEP_MAX }
+    {
+        self.keep
+    }
+
+    /// The configuration of one of the sites.
+    pub fn site(&self, site: u8) -> Config
+        requires { site < self.now.sites }
+        ensures { result ≡ setup_at self.now site }
+    {
+        Config::new(
+            site,
+            self.sites,
+            self.shards,
+            self.workers,
+            self.batch,
+            self.keep,
+        )
+        .unwrap()
+        .with_hashes(self.hashes)
+    }
+}

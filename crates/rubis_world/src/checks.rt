@@ -1,0 +1,120 @@
+// What an auditor says of the sites of a world.
+
+ghost use Rattle.std.specs.Prelude.{◌≡◌, ◌<◌, ◌≤◌, IfErr, IfOk, Err, Some, ℕ, false, length, true};
+ghost use Rattle.rubis_schema.specs.declared.limits.TheConstants.{SITES_MAX};
+ghost use Rattle.rubis_model.specs.Verdict.{verdict};
+ghost use Rattle.rubis_model.specs.WorldRecords.{log_of, logs_of};
+ghost use Rattle.rubis_audit.specs.Walks.{HaveMessagesAmong};
+ghost use Rattle.rubis_replica.specs.declared.faults.Fault.TheVariants as Fault;
+ghost use Rattle.rubis_sites.specs.Worlds.{ComesTo, left_at};
+ghost use Rattle.rubis_sites.specs.declared.faults.WorldFault.TheVariants as WorldFault;
+ghost use Rattle.rubis_world.specs.Worlds.{IsCheckFault, SomeBehind};
+
+use rubis_audit::{Log, audit};
+use rubis_message::{Happened, Message, Verdict};
+use rubis_replica::Fault;
+use rubis_schema::{Fields, Items, Listing};
+use rubis_sites::{Sites, WorldFault};
+use std::alloc::{AllocError, Global};
+use std::sync::Wait;
+use std::thread::Threads;
+
+// A copy of the messages, in their order.
+fn copied(alloc: Global, messages: &[Message]) -> Result<Items<Message>, AllocError>
+    ensures { IfOk result (λ copy. copy ≡ messages.now) }
+{
+    let mut copy = Items::new(alloc);
+    for message in messages {
+        copy.push(message.copy()?)?;
+    }
+    Ok(copy)
+}
+
+// Whether some site has begun a batch that isn't whole.
+fn some_behind(sites: &Sites) -> bool
+    ensures some { result ≡ true → SomeBehind sites.now }
+    ensures none { result ≡ false → (i : ℕ) → i < length sites.now.world.sites → left_at sites.now i ≡ 0 }
+{
+    'places: for site in 0..sites.len() {
+        if sites.is_behind(site) {
+            return true;
+        }
+    }
+    false
+}
+
+// The rows of a site's tables.
+fn tables<R: Threads + Wait + Sync>(
+    rt: &R,
+    sites: &mut Sites,
+    site: usize,
+) -> Result<Items<Fields>, WorldFault>
+    requires { site < length sites.old.world.sites }
+    ensures same { ComesTo sites.old sites.new sites.old.world }
+    ensures rows { IfOk result (λ rows. Some rows ≡ (log_of sites.old.world site).rows) }
+    ensures faults { IfErr result (IsCheckFault sites.new) }
+{
+    if sites.is_behind(site) {
+        return Err(WorldFault::Site(Fault::Behind));
+    }
+    match sites.list(rt, site, &Listing::Tables)? {
+        Happened::Rows(rows) => Ok(rows),
+        _ => unreachable!(),
+    }
+}
+
+// The log of a site, with its tables.
+fn log<R: Threads + Wait + Sync>(
+    rt: &R,
+    alloc: Global,
+    sites: &mut Sites,
+    site: usize,
+) -> Result<Log, WorldFault>
+    requires site { site < length sites.old.world.sites }
+    requires few { length sites.old.world.sites ≤ SITES_MAX }
+    ensures same { ComesTo sites.old sites.new sites.old.world }
+    ensures log { IfOk result (λ log. log ≡ log_of sites.old.world site) }
+    ensures faults { IfErr result (IsCheckFault sites.new) }
+{
+    let rows = tables(rt, sites, site)?;
+    let messages = copied(alloc, sites.history(site))?;
+    Ok(Log::new(site as u8, messages, Some(rows)))
+}
+
+// The logs of all sites, each with its tables.
+fn logs<R: Threads + Wait + Sync>(
+    rt: &R,
+    alloc: Global,
+    sites: &mut Sites,
+) -> Result<Vec<Log>, WorldFault>
+    requires { length sites.old.world.sites ≤ SITES_MAX }
+    ensures same { ComesTo sites.old sites.new sites.old.world }
+    ensures logs { IfOk result (λ logs. logs.items ≡ logs_of sites.old.world) }
+    ensures faults { IfErr result (IsCheckFault sites.new) }
+{
+    let mut logs = Vec::new(alloc);
+    'places: for site in 0..sites.len() {
+        logs.push(log(rt, alloc, sites, site)?)?;
+    }
+    Ok(logs)
+}
+
+/// The auditor's verdict on the logs of all sites, each with its tables.
+pub fn check<R: Threads + Wait + Sync>(
+    rt: &R,
+    alloc: Global,
+    sites: &mut Sites,
+) -> Result<Verdict, WorldFault>
+    requires few { length sites.old.world.sites ≤ SITES_MAX }
+    requires among { HaveMessagesAmong (length sites.old.world.sites) (logs_of sites.old.world) }
+    ensures same { ComesTo sites.old sites.new sites.old.world }
+    ensures verdict { IfOk result (λ found. found ≡ verdict (logs_of sites.old.world)) }
+    ensures waits { (i : ℕ) → i < length sites.old.world.sites → 0 < left_at sites.old i → (result ≡ Err (WorldFault.Site Fault.Behind)) × (sites.new ≡ sites.old) }
+    ensures faults { IfErr result (IsCheckFault sites.new) }
+{
+    if some_behind(sites) {
+        return Err(WorldFault::Site(Fault::Behind));
+    }
+    let logs = logs(rt, alloc, sites)?;
+    Ok(audit(alloc, &logs, sites.len() as u8)?)
+}
