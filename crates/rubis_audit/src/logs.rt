@@ -15,6 +15,7 @@ pub struct Log {
 }
 
 impl Drop for Log {
+    // Proved here, once: a derived drop is proved anew in each crate that lets a log go.
     fn drop(self) {
         let Log {
             site: _,

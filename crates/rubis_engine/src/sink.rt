@@ -29,6 +29,7 @@ pub struct Sink {
 }
 
 impl Drop for Sink {
+    // Proved here, once: a derived drop is proved anew in each crate that lets a sink go.
     fn drop(self) {
         let Sink {
             before: _,

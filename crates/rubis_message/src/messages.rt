@@ -18,6 +18,7 @@ pub struct Message {
 }
 
 impl Drop for Message {
+    // Proved here, once: a derived drop is proved anew in each crate that lets a message go.
     fn drop(self) {
         let Message {
             stamp: _,

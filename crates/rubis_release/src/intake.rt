@@ -60,6 +60,7 @@ pub struct Intake {
 }
 
 impl Drop for Intake {
+    // Proved here, once: a derived drop is proved anew in each crate that lets an intake go.
     fn drop(self) {
         let Intake {
             messages: _,

@@ -38,6 +38,7 @@ pub struct Site<G: Gate = Free> {
 }
 
 impl<G: Gate + Drop> Drop for Site<G> {
+    // Proved here, once: a derived drop is proved anew in each crate that lets a site go.
     fn drop(self) {
         let Site {
             intake: _,

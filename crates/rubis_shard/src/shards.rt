@@ -38,6 +38,7 @@ pub struct Shard {
 }
 
 impl Drop for Shard {
+    // Proved here, once: a derived drop is proved anew in each crate that lets a shard go.
     fn drop(self) {
         let Shard {
             number: _,

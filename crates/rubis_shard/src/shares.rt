@@ -8,6 +8,7 @@ pub struct Share {
 }
 
 impl Drop for Share {
+    // Proved here, once: a derived drop is proved anew in each crate that lets a share go.
     fn drop(self) {
         let Share {
             number: _,

@@ -28,6 +28,7 @@ pub struct Tables {
 }
 
 impl Drop for Tables {
+    // Proved here, once: a derived drop is proved anew in each crate that lets tables go.
     fn drop(self) {
         let Tables { shards: _ } = self;
     }
