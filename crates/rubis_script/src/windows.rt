@@ -12,7 +12,7 @@ use rubis_schema::{Fields, Refusal};
 use std::alloc::AllocError;
 
 /// Holds one more message.
-pub fn hold(window: &mut Vec<Message>, message: Message) -> Result<(), OutOfMemory>
+pub(crate) fn hold(window: &mut Vec<Message>, message: Message) -> Result<(), OutOfMemory>
     ensures { OnOk result (window.new.items ≡ window.old.items ++ message ∷ []) }
 {
     match window.push(message) {
@@ -23,7 +23,7 @@ pub fn hold(window: &mut Vec<Message>, message: Message) -> Result<(), OutOfMemo
 
 /// How many messages are taken in together: as many as a batch has, where workers apply the batch before meanwhile. With one
 /// worker each is taken in as it comes, since nobody would work meanwhile.
-pub fn window_of(config: &Config) -> usize {
+pub(crate) fn window_of(config: &Config) -> usize {
     if config.workers() > 1 {
         config.batch() as usize
     } else {
@@ -32,7 +32,7 @@ pub fn window_of(config: &Config) -> usize {
 }
 
 /// Says what became of messages that arrived together, the first of which is the record with that number.
-pub fn write_arrivals(
+pub(crate) fn write_arrivals(
     fields: &mut Fields,
     sink: &mut Sink,
     first: u64,
