@@ -8,9 +8,16 @@ use std::alloc::{AllocError, Global};
 use std::marker::Model;
 
 /// The name of an item: 1 to 64 bytes from space to `~`. Contracts see its bytes.
-#[derive(Drop, Clone)]
+#[derive(Clone)]
 pub struct Name {
     bytes: Vec<u8>,
+}
+
+impl Drop for Name {
+    // Proved here, once: a derived drop is proved anew in each crate that lets a name go.
+    fn drop(self) {
+        let Name { bytes: _ } = self;
+    }
 }
 
 impl Model for Name {
@@ -25,9 +32,16 @@ impl Model for Name {
 }
 
 /// The text of a comment: 0 to 200 bytes from space to `~`. Contracts see its bytes.
-#[derive(Drop, Clone)]
+#[derive(Clone)]
 pub struct Text {
     bytes: Vec<u8>,
+}
+
+impl Drop for Text {
+    // Proved here, once: a derived drop is proved anew in each crate that lets a text go.
+    fn drop(self) {
+        let Text { bytes: _ } = self;
+    }
 }
 
 impl Model for Text {

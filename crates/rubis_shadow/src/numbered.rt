@@ -6,7 +6,6 @@ use std::alloc::AllocError;
 
 /// A part with its place: the message's place in the log, from 1, the part's place in its message, from 1, and the
 /// message's id.
-#[derive(Drop)]
 pub struct Numbered {
     pub entry: u32,
     pub part: u8,
@@ -14,7 +13,33 @@ pub struct Numbered {
     pub effect: Effect,
 }
 
+impl Drop for Numbered {
+    // Proved here, once: a derived drop is proved anew in each crate that lets a part go.
+    fn drop(self) {
+        let Numbered {
+            entry: _,
+            part: _,
+            id: _,
+            effect: _,
+        } = self;
+    }
+}
+
 impl Numbered {
+    /// Its effect, taken out.
+    #[inline(always)]
+    pub fn into_effect(self) -> Effect
+        ensures { result ≡ self.effect }
+    {
+        let Numbered {
+            entry: _,
+            part: _,
+            id: _,
+            effect,
+        } = self;
+        effect
+    }
+
     /// An equal part.
     pub fn copy(&self) -> Result<Numbered, AllocError>
         ensures { IfOk result (λ part. part ≡ self.now) }

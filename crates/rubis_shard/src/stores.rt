@@ -93,17 +93,12 @@ impl Store {
         ensures folded { held_by self.new ≡ step (held_by self.old) part }
         ensures room { (n : ℕ) → HasRoom self.old (n + 1) → HasRoom self.new n }
     {
-        let Numbered {
-            entry,
-            part,
-            id,
-            effect,
-        } = part;
+        let (entry, place, id) = (part.entry, part.part, part.id);
         self.spare -= 1;
-        if let Some(kind) = self.rows.put_effect(effect) {
+        if let Some(kind) = self.rows.put_effect(part.into_effect()) {
             self.misfits.push_reserved(Misfit {
                 entry,
-                part,
+                part: place,
                 id,
                 kind,
             });
