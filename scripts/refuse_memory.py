@@ -196,11 +196,17 @@ class Tried:
 
 
 class Scenario(Tried):
-    """Calls, each of which is made again where memory is refused."""
+    """Calls, each of which is made again where memory is refused; or the scenario is run again, if the call changes nothing."""
 
     def answers(self, wrote: bytes) -> bytes:
-        lines = wrote.splitlines(keepends=True)
-        return b"".join(line for line in lines if not line.startswith((b"! ", b"scenario ")))
+        """What was answered the last time that it was run."""
+        answers: list[bytes] = []
+        for line in wrote.splitlines(keepends=True):
+            if line.startswith(b"scenario "):
+                answers = []
+            elif not line.startswith(b"! "):
+                answers.append(line)
+        return b"".join(answers)
 
     def begin(self, made: pathlib.Path) -> None:
         super().begin(made)

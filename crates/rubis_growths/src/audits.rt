@@ -4,7 +4,7 @@ ghost use Rattle.std.specs.Prelude.{◌≡◌, All};
 ghost use Rattle.rubis_message.specs.Message.{sites_of};
 
 use crate::records::Window;
-use crate::tries::{GaveUp, again};
+use crate::tries::{Stop, again};
 use rubis_audit::{Log, Verdict, audit};
 use rubis_message::{Message, ReadFault};
 use rubis_schema::Items;
@@ -25,7 +25,7 @@ fn audit_shop(alloc: Global) -> Result<Verdict, ReadFault> {
 }
 
 /// An audit of the log of a shop, in which more is bought than there is.
-pub fn audit_of_a_shop<R: Print + AllocGlobal>(rt: &R) -> Result<(), GaveUp> {
+pub fn audit_of_a_shop<R: Print + AllocGlobal>(rt: &R) -> Result<(), Stop> {
     let verdict = again!(rt, "audit", audit_shop(rt.alloc()));
     let _ = println!(rt; "{verdict:?}");
     Ok(())

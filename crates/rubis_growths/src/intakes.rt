@@ -4,7 +4,7 @@ ghost use Rattle.std.specs.Prelude.{◌≡◌};
 
 use crate::records::packet;
 use crate::telling::tell_refused;
-use crate::tries::{GaveUp, TRIES, again};
+use crate::tries::{Stop, TRIES, again};
 use rubis_message::Message;
 use rubis_release::{Arrival, Intake};
 use rubis_schema::{Nick, Refusal};
@@ -24,9 +24,9 @@ impl Peer {
         &mut self,
         rt: &R,
         message: Message,
-    ) -> Result<Result<Arrival, Refusal>, GaveUp> {
+    ) -> Result<Result<Arrival, Refusal>, Stop> {
         if message.stamp().deps.len() != 2 {
-            return Err(GaveUp);
+            return Err(Stop::GaveUp);
         }
         let waiting = self.intake.waiting();
         let back = match self.intake.admit(message) {
@@ -36,12 +36,12 @@ impl Peer {
         tell_refused(rt, "Intake::admit", self.intake.waiting() == waiting);
         match self.intake.admit(back) {
             Ok(answer) => Ok(answer),
-            Err(_) => Err(GaveUp),
+            Err(_) => Err(Stop::GaveUp),
         }
     }
 
     // Has the message at a place arrive.
-    fn arrive<R: Print + AllocGlobal>(&mut self, rt: &R, place: u32) -> Result<Arrival, GaveUp> {
+    fn arrive<R: Print + AllocGlobal>(&mut self, rt: &R, place: u32) -> Result<Arrival, Stop> {
         for _ in 0..TRIES {
             let message = again!(rt, "read_packet", packet(rt.alloc(), place));
             let waiting = self.intake.waiting();
@@ -50,12 +50,12 @@ impl Peer {
             }
             tell_refused(rt, "Intake::arrive", self.intake.waiting() == waiting);
         }
-        Err(GaveUp)
+        Err(Stop::GaveUp)
     }
 }
 
 /// Messages that arrive out of order.
-pub fn intake<R: Print + AllocGlobal>(rt: &R) -> Result<(), GaveUp> {
+pub fn intake<R: Print + AllocGlobal>(rt: &R) -> Result<(), Stop> {
     let intake = again!(rt, "Intake::new", Intake::new(rt.alloc(), 1, 2, 100));
     let mut peer = Peer { intake };
     for place in 0..20 {
@@ -72,11 +72,11 @@ pub fn intake<R: Print + AllocGlobal>(rt: &R) -> Result<(), GaveUp> {
 }
 
 // The site makes the message of a new user: its number.
-fn make_user<R: Print>(rt: &R, site: &mut Intake, nick: Nick) -> Result<u32, GaveUp> {
+fn make_user<R: Print>(rt: &R, site: &mut Intake, nick: Nick) -> Result<u32, Stop> {
     for _ in 0..TRIES {
         let standing = site.standing();
         if standing.full || !standing.current {
-            return Err(GaveUp);
+            return Err(Stop::GaveUp);
         }
         let released = site.log().len();
         if let Ok(message) = site.generated(Shadow::User(nick)) {
@@ -84,14 +84,14 @@ fn make_user<R: Print>(rt: &R, site: &mut Intake, nick: Nick) -> Result<u32, Gav
         }
         tell_refused(rt, "Intake::generated", site.log().len() == released);
     }
-    Err(GaveUp)
+    Err(Stop::GaveUp)
 }
 
 /// A site that makes messages.
-pub fn own_messages<R: Print + AllocGlobal>(rt: &R) -> Result<(), GaveUp> {
+pub fn own_messages<R: Print + AllocGlobal>(rt: &R) -> Result<(), Stop> {
     let mut site = again!(rt, "Intake::new", Intake::new(rt.alloc(), 0, 2, 100));
     for nick in [b"ann".as_slice(), b"bob", b"cat", b"dan", b"eve"] {
-        let nick = Nick::read(nick).ok_or(GaveUp)?;
+        let nick = Nick::read(nick).ok_or(Stop::GaveUp)?;
         let seq = make_user(rt, &mut site, nick)?;
         let _ = println!(rt; "message {seq}");
     }

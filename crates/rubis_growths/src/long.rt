@@ -3,7 +3,7 @@
 use crate::peers::{Peer, tell_arrival};
 use crate::records::{MESSAGES, Window, all_records};
 use crate::telling::tell_rows;
-use crate::tries::{GaveUp, again};
+use crate::tries::{Stop, again};
 use rubis_audit::run_audit;
 use rubis_replica::Config;
 use rubis_schema::Listing;
@@ -18,7 +18,7 @@ use std::thread::Threads;
 const WINDOW: u32 = 7;
 
 // Lists the tables, the log and the misfits.
-fn list_three<R: Print + Threads + Wait + Sync>(rt: &R, peer: &mut Peer) -> Result<(), GaveUp> {
+fn list_three<R: Print + Threads + Wait + Sync>(rt: &R, peer: &mut Peer) -> Result<(), Stop> {
     let mut number = MESSAGES;
     for listing in [Listing::Tables, Listing::Log, Listing::Misfits] {
         number = number.saturating_add(1);
@@ -31,7 +31,7 @@ fn list_three<R: Print + Threads + Wait + Sync>(rt: &R, peer: &mut Peer) -> Resu
 /// The messages arrive one by one.
 pub fn every_growth_site<R: Print + AllocGlobal + Threads + Wait + Sync>(
     rt: &R,
-) -> Result<(), GaveUp> {
+) -> Result<(), Stop> {
     let mut peer = Peer::new(rt, WINDOW)?;
     for place in 0..MESSAGES {
         let arrival = peer.arrive(rt, place)?;
@@ -43,7 +43,7 @@ pub fn every_growth_site<R: Print + AllocGlobal + Threads + Wait + Sync>(
 /// The messages arrive in windows.
 pub fn every_growth_windows<R: Print + AllocGlobal + Threads + Wait + Sync>(
     rt: &R,
-) -> Result<(), GaveUp> {
+) -> Result<(), Stop> {
     let mut peer = Peer::new(rt, WINDOW)?;
     for turn in 0..MESSAGES.div_ceil(WINDOW) {
         let from = turn.saturating_mul(WINDOW);
@@ -64,8 +64,8 @@ fn tell_end<R: Print>(rt: &R, ended: Result<Count, RunFault>) {
 /// A run over the same records.
 pub fn every_growth_script<R: Print + AllocGlobal + Threads + Wait + Sync>(
     rt: &R,
-) -> Result<(), GaveUp> {
-    let config = Config::new(1, 2, 5, 4, 7, 1000).ok_or(GaveUp)?;
+) -> Result<(), Stop> {
+    let config = Config::new(1, 2, 5, 4, 7, 1000).ok_or(Stop::GaveUp)?;
     let records = again!(rt, "records", all_records(rt.alloc()));
     let mut writer = io::writer(rt);
     tell_end(
@@ -93,8 +93,8 @@ audit
 ";
 
 /// A run of two sites, with batches of two messages.
-pub fn whole_world<R: Print + AllocGlobal + Threads + Wait + Sync>(rt: &R) -> Result<(), GaveUp> {
-    let config = WorldConfig::new(2, 5, 4, 2, 1000).ok_or(GaveUp)?;
+pub fn whole_world<R: Print + AllocGlobal + Threads + Wait + Sync>(rt: &R) -> Result<(), Stop> {
+    let config = WorldConfig::new(2, 5, 4, 2, 1000).ok_or(Stop::GaveUp)?;
     let mut writer = io::writer(rt);
     tell_end(
         rt,
@@ -114,7 +114,7 @@ msg,1,0,5,4,4:0,close,0.3,9,0.4
 ";
 
 /// An audit of the log of a sale.
-pub fn whole_audit<R: Print + AllocGlobal>(rt: &R) -> Result<(), GaveUp> {
+pub fn whole_audit<R: Print + AllocGlobal>(rt: &R) -> Result<(), Stop> {
     let mut writer = io::writer(rt);
     tell_end(rt, run_audit(rt.alloc(), SALE, &mut writer, 2));
     Ok(())

@@ -1,6 +1,7 @@
 //! Scenarios over the public calls of the crates, to be run with memory refused at one call after another. Each argument names
-//! one; they are run in turn. Each call that is refused memory is made again, so the answers are the same in every run, and
-//! lines that begin with an exclamation mark tell what was refused, and what that left.
+//! one; they are run in turn. A call that is refused memory is made again, or, if it changes nothing, its scenario is run again.
+//! So the answers of the last time are the same in every run, and lines that begin with an exclamation mark tell what was
+//! refused, and what that left.
 #![tactic(auto)]
 
 mod audits;
@@ -21,10 +22,11 @@ use std::process::ExitCode;
 use std::sync::Wait;
 use std::thread::Threads;
 use std::{env, io};
-use tries::{GaveUp, again};
+use telling::tell_refused;
+use tries::{Stop, TRIES};
 
 // Runs the scenario of that name.
-fn run<R: Print + AllocGlobal + Threads + Wait + Sync>(rt: &R, name: &str) -> Result<(), GaveUp> {
+fn run<R: Print + AllocGlobal + Threads + Wait + Sync>(rt: &R, name: &str) -> Result<(), Stop> {
     match name {
         "every_growth_site" => long::every_growth_site(rt),
         "every_growth_windows" => long::every_growth_windows(rt),
@@ -54,18 +56,32 @@ fn run<R: Print + AllocGlobal + Threads + Wait + Sync>(rt: &R, name: &str) -> Re
         "audit" => audits::audit_of_a_shop(rt),
         "world_calls" => worlds::world_calls(rt),
         "world_behind" => worlds::world_behind(rt),
-        _ => Err(GaveUp),
+        _ => Err(Stop::GaveUp),
     }
+}
+
+// Runs the scenario of that name, and again where a call that changes nothing was refused memory.
+fn run_to_end<R: Print + AllocGlobal + Threads + Wait + Sync>(
+    rt: &R,
+    name: &str,
+) -> Result<(), Stop> {
+    for _ in 0..TRIES {
+        let _ = println!(rt; "scenario {name}");
+        match run(rt, name) {
+            Err(Stop::Refused) => {}
+            ended => return ended,
+        }
+    }
+    Err(Stop::GaveUp)
 }
 
 // Runs scenarios in turn, as long as each comes to its end.
 fn run_all<R: Print + AllocGlobal + Threads + Wait + Sync>(
     rt: &R,
     names: &[String],
-) -> Result<(), GaveUp> {
+) -> Result<(), Stop> {
     for name in names {
-        let _ = println!(rt; "scenario {name}");
-        run(rt, name)?;
+        run_to_end(rt, name)?;
     }
     Ok(())
 }
@@ -77,18 +93,24 @@ fn read_names(rt: &HostRuntime) -> io::Result<Vec<String>> {
 }
 
 // The same, read again where memory is refused.
-fn names(rt: &HostRuntime) -> Result<Vec<String>, GaveUp> {
-    Ok(again!(rt, "args", read_names(rt)))
+fn names(rt: &HostRuntime) -> Result<Vec<String>, Stop> {
+    for _ in 0..TRIES {
+        if let Ok(names) = read_names(rt) {
+            return Ok(names);
+        }
+        tell_refused(rt, "args", true);
+    }
+    Err(Stop::GaveUp)
 }
 
 fn main(rt: HostRuntime) -> ExitCode {
     let ended = match names(&rt) {
         Ok(names) => run_all(&rt, &names),
-        Err(gave_up) => Err(gave_up),
+        Err(stop) => Err(stop),
     };
     match ended {
         Ok(()) => ExitCode::SUCCESS,
-        Err(GaveUp) => {
+        Err(_) => {
             let _ = println!(&rt; "? gave up");
             ExitCode::from(1)
         }

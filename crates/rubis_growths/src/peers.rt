@@ -4,7 +4,7 @@ ghost use Rattle.std.specs.Prelude.{◌≡◌};
 
 use crate::records::{Window, packet};
 use crate::telling::{tell_behind, tell_refused};
-use crate::tries::{GaveUp, TRIES, again};
+use crate::tries::{Stop, TRIES, again};
 use rubis_message::Arrival;
 use rubis_replica::{Arrived, Config, Fault, Free, Site};
 use rubis_schema::{Fields, Items, Listing, Refusal};
@@ -21,8 +21,8 @@ pub struct Peer {
 
 impl Peer {
     /// A site with five shards and four workers, and batches of that many messages.
-    pub fn new<R: Print + AllocGlobal>(rt: &R, batch: u32) -> Result<Peer, GaveUp> {
-        let config = Config::new(1, 2, 5, 4, batch, 1000).ok_or(GaveUp)?;
+    pub fn new<R: Print + AllocGlobal>(rt: &R, batch: u32) -> Result<Peer, Stop> {
+        let config = Config::new(1, 2, 5, 4, batch, 1000).ok_or(Stop::GaveUp)?;
         let site = again!(rt, "Site::new", Site::new(rt.alloc(), &config, Free));
         Ok(Peer { site })
     }
@@ -33,7 +33,7 @@ impl Peer {
     }
 
     /// Applies what a site that is behind has left, again and again.
-    pub fn catch_up<R: Print>(&mut self, rt: &R) -> Result<(), GaveUp> {
+    pub fn catch_up<R: Print>(&mut self, rt: &R) -> Result<(), Stop> {
         for _ in 0..TRIES {
             if let Ok(parts) = self.site.catch_up() {
                 let _ = println!(rt; "! Site::catch_up: {parts} parts");
@@ -41,7 +41,7 @@ impl Peer {
             }
             tell_refused(rt, "Site::catch_up", self.site.is_behind());
         }
-        Err(GaveUp)
+        Err(Stop::GaveUp)
     }
 
     // Tells what a fault left of a site that had released that many messages, and catches up if the site is behind.
@@ -51,7 +51,7 @@ impl Peer {
         name: &str,
         released: usize,
         fault: Fault,
-    ) -> Result<(), GaveUp> {
+    ) -> Result<(), Stop> {
         let same = self.released() == released;
         match fault {
             Fault::Memory => {
@@ -62,7 +62,7 @@ impl Peer {
                 tell_behind(rt, name, same);
                 self.catch_up(rt)
             }
-            Fault::Refused(_) => Err(GaveUp),
+            Fault::Refused(_) => Err(Stop::GaveUp),
         }
     }
 
@@ -71,7 +71,7 @@ impl Peer {
         &mut self,
         rt: &R,
         place: u32,
-    ) -> Result<Arrival, GaveUp> {
+    ) -> Result<Arrival, Stop> {
         for _ in 0..TRIES {
             let Ok(message) = packet(rt.alloc(), place) else {
                 tell_refused(rt, "read_packet", true);
@@ -83,7 +83,7 @@ impl Peer {
                 Err(fault) => self.overcome(rt, "Site::arrive", released, fault)?,
             }
         }
-        Err(GaveUp)
+        Err(Stop::GaveUp)
     }
 
     /// The rows of a listing.
@@ -91,7 +91,7 @@ impl Peer {
         &mut self,
         rt: &R,
         listing: &Listing,
-    ) -> Result<Items<Fields>, GaveUp> {
+    ) -> Result<Items<Fields>, Stop> {
         for _ in 0..TRIES {
             let released = self.released();
             match self.site.list(rt, listing) {
@@ -99,11 +99,11 @@ impl Peer {
                 Err(fault) => self.overcome(rt, "Site::list", released, fault)?,
             }
         }
-        Err(GaveUp)
+        Err(Stop::GaveUp)
     }
 
     /// Applies what is pending: how many messages that were.
-    pub fn cut<R: Print + Threads + Wait + Sync>(&mut self, rt: &R) -> Result<u32, GaveUp> {
+    pub fn cut<R: Print + Threads + Wait + Sync>(&mut self, rt: &R) -> Result<u32, Stop> {
         for _ in 0..TRIES {
             let released = self.released();
             match self.site.cut(rt) {
@@ -111,7 +111,7 @@ impl Peer {
                 Err(fault) => self.overcome(rt, "Site::cut", released, fault)?,
             }
         }
-        Err(GaveUp)
+        Err(Stop::GaveUp)
     }
 
     // Has messages arrive together: the answers, those that weren't taken in, and why not.
@@ -137,7 +137,7 @@ impl Peer {
         rt: &R,
         window: Window,
         first: u32,
-    ) -> Result<(), GaveUp> {
+    ) -> Result<(), Stop> {
         let mut window = window;
         let mut number = first;
         for _ in 0..TRIES {
@@ -151,7 +151,7 @@ impl Peer {
             };
             self.overcome(rt, "Site::arrive_all", released.saturating_add(more), fault)?;
         }
-        Err(GaveUp)
+        Err(Stop::GaveUp)
     }
 }
 

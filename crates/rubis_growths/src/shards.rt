@@ -1,16 +1,17 @@
 // Shards and tables.
 
 ghost use Rattle.std.specs.Prelude.{◌≡◌, ◌<◌, ◌≤◌, length, IfOk};
-ghost use Rattle.rubis_pieces.specs.Batches.{AreUnfinished};
+ghost use Rattle.rubis_folds.specs.Batches.{AreUnfinished};
 ghost use Rattle.rubis_pieces.specs.Pieces.{IsShareOf};
 
 use crate::records::{Window, message, packet_text};
 use crate::teams::tell_finished;
 use crate::telling::{tell_refused, tell_rows};
-use crate::tries::{GaveUp, TRIES, again};
+use crate::tries::{Stop, TRIES, again};
+use rubis_folds::apply_batch;
 use rubis_listing as listings;
 use rubis_message::{Message, ReadFault};
-use rubis_pieces::{Left, apply_batch, misfits, split};
+use rubis_pieces::{Left, misfits, split};
 use rubis_schema::{Fields, Id, Items, Listing, Table, shard_of};
 use rubis_shadow::Numbered;
 use rubis_shard::{Group, Shard, Share, Tables};
@@ -129,13 +130,13 @@ fn users_portion(alloc: Global) -> Result<Portion, ReadFault> {
 }
 
 /// A share that is folded as far as memory goes, and then from there on.
-pub fn short_apply<R: Print + AllocGlobal>(rt: &R) -> Result<(), GaveUp> {
+pub fn short_apply<R: Print + AllocGlobal>(rt: &R) -> Result<(), Stop> {
     let portion = again!(rt, "Shard::new", users_portion(rt.alloc()));
     let (mut portion, done) = portion.apply(0);
     if done < portion.len() {
         let _ = println!(rt; "! Shard::apply: {done} done");
         if again!(rt, "Shard::keys", portion.users(rt.alloc())) != done {
-            return Err(GaveUp);
+            return Err(Stop::GaveUp);
         }
         (portion, _) = portion.apply(done);
     }
@@ -145,11 +146,7 @@ pub fn short_apply<R: Print + AllocGlobal>(rt: &R) -> Result<(), GaveUp> {
 }
 
 // Folds the part at a place, again where memory is refused.
-fn apply_one<R: Print + AllocGlobal>(
-    rt: &R,
-    portion: Portion,
-    at: usize,
-) -> Result<Portion, GaveUp> {
+fn apply_one<R: Print + AllocGlobal>(rt: &R, portion: Portion, at: usize) -> Result<Portion, Stop> {
     let (portion, is_done) = portion.apply_next(at);
     if is_done {
         return Ok(portion);
@@ -158,23 +155,23 @@ fn apply_one<R: Print + AllocGlobal>(
     tell_refused(rt, "Shard::apply_next", users == at);
     match portion.apply_next(at) {
         (portion, true) => Ok(portion),
-        (_, false) => Err(GaveUp),
+        (_, false) => Err(Stop::GaveUp),
     }
 }
 
 // Links the shard's rows, again where memory is refused.
-fn link_rows<R: Print>(rt: &R, portion: &mut Portion) -> Result<(), GaveUp> {
+fn link_rows<R: Print>(rt: &R, portion: &mut Portion) -> Result<(), Stop> {
     for _ in 0..TRIES {
         if portion.link_rows().is_ok() {
             return Ok(());
         }
         tell_refused(rt, "Shard::link_rows", true);
     }
-    Err(GaveUp)
+    Err(Stop::GaveUp)
 }
 
 /// A share that is folded part by part.
-pub fn shard<R: Print + AllocGlobal>(rt: &R) -> Result<(), GaveUp> {
+pub fn shard<R: Print + AllocGlobal>(rt: &R) -> Result<(), Stop> {
     let mut portion = again!(rt, "Shard::new", users_portion(rt.alloc()));
     for at in 0..portion.len() {
         portion = apply_one(rt, portion, at)?;
@@ -186,12 +183,12 @@ pub fn shard<R: Print + AllocGlobal>(rt: &R) -> Result<(), GaveUp> {
 }
 
 // Tables of five shards with a shop's messages.
-fn shop_tables<R: Print + AllocGlobal>(rt: &R, messages: &[Message]) -> Result<Tables, GaveUp> {
+fn shop_tables<R: Print + AllocGlobal>(rt: &R, messages: &[Message]) -> Result<Tables, Stop> {
     let mut tables = again!(rt, "Tables::new", Tables::new(rt.alloc(), 5));
     let mut at = 0;
     for _ in 0..TRIES {
         if tables.is_empty() || at > messages.len() || messages.len() > 1000 {
-            return Err(GaveUp);
+            return Err(Stop::GaveUp);
         }
         let from = at;
         if apply_upto(&mut tables, messages, &mut at, messages.len()).is_ok() {
@@ -200,7 +197,7 @@ fn shop_tables<R: Print + AllocGlobal>(rt: &R, messages: &[Message]) -> Result<T
         let done = at.saturating_sub(from);
         let _ = println!(rt; "! apply_upto: {done} done");
     }
-    Err(GaveUp)
+    Err(Stop::GaveUp)
 }
 
 // How many users there are.
@@ -218,14 +215,14 @@ fn count_items(alloc: Global, tables: &Tables) -> Result<usize, AllocError> {
 }
 
 // Links the rows of the bids on the cup, again where memory is refused.
-fn link_bids<R: Print>(rt: &R, tables: &mut Tables) -> Result<(), GaveUp> {
+fn link_bids<R: Print>(rt: &R, tables: &mut Tables) -> Result<(), Stop> {
     for _ in 0..TRIES {
         if tables.link_rows(&Listing::Bids(CUP)).is_ok() {
             return Ok(());
         }
         tell_refused(rt, "Tables::link_rows", true);
     }
-    Err(GaveUp)
+    Err(Stop::GaveUp)
 }
 
 // How many bids there are on the cup.
@@ -239,7 +236,7 @@ fn count_misfits(alloc: Global, tables: &Tables) -> Result<usize, AllocError> {
 }
 
 // Tells how much the tables show.
-fn tell_counts<R: Print>(rt: &R, alloc: Global, tables: &Tables) -> Result<(), GaveUp> {
+fn tell_counts<R: Print>(rt: &R, alloc: Global, tables: &Tables) -> Result<(), Stop> {
     let users = again!(rt, "Tables::rows", count_users(alloc, tables));
     let items = again!(rt, "Tables::listed", count_items(alloc, tables));
     let bids = again!(rt, "Tables::group", count_bids(alloc, tables));
@@ -249,7 +246,7 @@ fn tell_counts<R: Print>(rt: &R, alloc: Global, tables: &Tables) -> Result<(), G
 }
 
 /// Tables, and what they show.
-pub fn tables<R: Print + AllocGlobal>(rt: &R) -> Result<(), GaveUp> {
+pub fn tables<R: Print + AllocGlobal>(rt: &R) -> Result<(), Stop> {
     let messages = again!(rt, "read_packet", Window::shop(rt.alloc())).messages;
     let mut tables = shop_tables(rt, &messages)?;
     link_bids(rt, &mut tables)?;
@@ -270,7 +267,7 @@ fn rows_of(alloc: Global, tables: &Tables, listing: &Listing) -> Result<Items<Fi
 }
 
 // Tells the listings of tables.
-fn tell_tables<R: Print>(rt: &R, alloc: Global, tables: &Tables) -> Result<(), GaveUp> {
+fn tell_tables<R: Print>(rt: &R, alloc: Global, tables: &Tables) -> Result<(), Stop> {
     let mut number: u32 = 0;
     for listing in [
         Listing::Users,
@@ -292,7 +289,7 @@ fn tell_tables<R: Print>(rt: &R, alloc: Global, tables: &Tables) -> Result<(), G
 }
 
 // Tells the listing of a log.
-fn tell_log<R: Print>(rt: &R, alloc: Global, messages: &[Message]) -> Result<(), GaveUp> {
+fn tell_log<R: Print>(rt: &R, alloc: Global, messages: &[Message]) -> Result<(), Stop> {
     tell_rows(rt, 8, &again!(rt, "log", listings::log(alloc, messages)));
     Ok(())
 }
@@ -303,7 +300,7 @@ fn rows_of_misfits(alloc: Global, tables: &Tables) -> Result<Items<Fields>, Allo
 }
 
 /// The nine listings of tables and of their log.
-pub fn nine_listings<R: Print + AllocGlobal>(rt: &R) -> Result<(), GaveUp> {
+pub fn nine_listings<R: Print + AllocGlobal>(rt: &R) -> Result<(), Stop> {
     let alloc = rt.alloc();
     let messages = again!(rt, "read_packet", Window::shop(alloc)).messages;
     let tables = shop_tables(rt, &messages)?;
@@ -322,7 +319,7 @@ fn tell_shares<R: Print + Threads + Sync>(
     rt: &R,
     alloc: Global,
     messages: &[Message],
-) -> Result<(), GaveUp>
+) -> Result<(), Stop>
     requires { length messages.now ≤ 1000 }
 {
     let shares = again!(rt, "split", split(rt, alloc, messages, 1, 5));
@@ -339,7 +336,7 @@ fn apply_shares<R: Print>(
     alloc: Global,
     tables: &mut Tables,
     messages: &[Message],
-) -> Result<Items<Left>, GaveUp>
+) -> Result<Items<Left>, Stop>
     requires some { 0 < length tables.old }
     requires entries { length messages.now ≤ 1000 }
     ensures { IfOk result (AreUnfinished 0 (length tables.new)) }
@@ -350,16 +347,16 @@ fn apply_shares<R: Print>(
     tell_refused(rt, "apply_batch", true);
     match apply_batch(alloc, tables, messages, 1) {
         Ok(left) => Ok(left),
-        Err(_) => Err(GaveUp),
+        Err(_) => Err(Stop::GaveUp),
     }
 }
 
 /// A batch that is cut into shares, applied by one thread, and finished where memory was refused.
-pub fn batch_in_shares<R: Print + AllocGlobal + Threads + Sync>(rt: &R) -> Result<(), GaveUp> {
+pub fn batch_in_shares<R: Print + AllocGlobal + Threads + Sync>(rt: &R) -> Result<(), Stop> {
     let alloc = rt.alloc();
     let messages = again!(rt, "read_packet", Window::shop(alloc)).messages;
     if messages.len() > 1000 {
-        return Err(GaveUp);
+        return Err(Stop::GaveUp);
     }
     tell_shares(rt, alloc, &messages)?;
     let mut tables = again!(rt, "Tables::new", Tables::new(alloc, 5));

@@ -5,7 +5,7 @@ ghost use Rattle.std.specs.Prelude.{◌≡◌};
 use crate::peers::{Peer, tell_arrival};
 use crate::records::{Window, request};
 use crate::telling::{tell_refused, tell_rows};
-use crate::tries::{GaveUp, TRIES, again};
+use crate::tries::{Stop, TRIES, again};
 use rubis_message::Request;
 use rubis_replica::{Config, Fault, Free, Site};
 use rubis_schema::Listing;
@@ -26,10 +26,10 @@ impl Single {
         &mut self,
         rt: &R,
         text: &str,
-    ) -> Result<u32, GaveUp> {
+    ) -> Result<u32, Stop> {
         for _ in 0..TRIES {
             let Request::Ask(ask) = again!(rt, "read_request", request(rt.alloc(), text, 1)) else {
-                return Err(GaveUp);
+                return Err(Stop::GaveUp);
             };
             let released = self.site.history().len();
             match self.site.request(rt, ask) {
@@ -37,16 +37,16 @@ impl Single {
                 Err(Fault::Memory) => {
                     tell_refused(rt, "Site::request", self.site.history().len() == released);
                 }
-                Err(_) => return Err(GaveUp),
+                Err(_) => return Err(Stop::GaveUp),
             }
         }
-        Err(GaveUp)
+        Err(Stop::GaveUp)
     }
 }
 
 /// Requests at a site with one worker, which is never behind.
-pub fn site_request<R: Print + AllocGlobal + Threads + Wait + Sync>(rt: &R) -> Result<(), GaveUp> {
-    let config = Config::new(0, 1, 5, 1, 64, 100).ok_or(GaveUp)?;
+pub fn site_request<R: Print + AllocGlobal + Threads + Wait + Sync>(rt: &R) -> Result<(), Stop> {
+    let config = Config::new(0, 1, 5, 1, 64, 100).ok_or(Stop::GaveUp)?;
     let site = again!(rt, "Site::new", Site::new(rt.alloc(), &config, Free));
     let mut single = Single { site };
     for text in [
@@ -68,7 +68,7 @@ pub fn site_request<R: Print + AllocGlobal + Threads + Wait + Sync>(rt: &R) -> R
 fn with_pending<R: Print + AllocGlobal + Threads + Wait + Sync>(
     rt: &R,
     messages: u32,
-) -> Result<Peer, GaveUp> {
+) -> Result<Peer, Stop> {
     let mut peer = Peer::new(rt, 1000)?;
     for place in 0..messages {
         let arrival = peer.arrive(rt, place)?;
@@ -78,7 +78,7 @@ fn with_pending<R: Print + AllocGlobal + Threads + Wait + Sync>(
 }
 
 /// A cut of what is pending, in a batch that workers share.
-pub fn site_cut<R: Print + AllocGlobal + Threads + Wait + Sync>(rt: &R) -> Result<(), GaveUp> {
+pub fn site_cut<R: Print + AllocGlobal + Threads + Wait + Sync>(rt: &R) -> Result<(), Stop> {
     let mut peer = with_pending(rt, 40)?;
     peer.cut(rt)?;
     let rest = peer.cut(rt)?;
@@ -88,16 +88,14 @@ pub fn site_cut<R: Print + AllocGlobal + Threads + Wait + Sync>(rt: &R) -> Resul
 }
 
 /// A listing, before which what is pending is applied.
-pub fn site_list<R: Print + AllocGlobal + Threads + Wait + Sync>(rt: &R) -> Result<(), GaveUp> {
+pub fn site_list<R: Print + AllocGlobal + Threads + Wait + Sync>(rt: &R) -> Result<(), Stop> {
     let mut peer = with_pending(rt, 40)?;
     tell_rows(rt, 41, &peer.list(rt, &Listing::Users)?);
     Ok(())
 }
 
 /// Messages that arrive together at a site with messages pending.
-pub fn site_arrive_all<R: Print + AllocGlobal + Threads + Wait + Sync>(
-    rt: &R,
-) -> Result<(), GaveUp> {
+pub fn site_arrive_all<R: Print + AllocGlobal + Threads + Wait + Sync>(rt: &R) -> Result<(), Stop> {
     let mut peer = with_pending(rt, 20)?;
     let window = again!(rt, "read_packet", Window::new(rt.alloc(), 20, 40));
     peer.arrive_all(rt, window, 21)?;

@@ -2,17 +2,18 @@
 
 ghost use Rattle.std.specs.Prelude.{◌<◌, ◌≤◌, IfOk, length};
 ghost use Rattle.std.specs.List.{All};
-ghost use Rattle.rubis_pieces.specs.Batches.{AreUnfinished, Belong};
-ghost use Rattle.rubis_pieces.specs.Work.{IsPiece};
+ghost use Rattle.rubis_folds.specs.Batches.{AreUnfinished, Belong};
+ghost use Rattle.rubis_folds.specs.Work.{IsPiece};
 ghost use Rattle.rubis_shard.specs.Holdings.{AreInOrder};
 
 use crate::records::Window;
 use crate::telling::{tell_refused, tell_rows};
-use crate::tries::{GaveUp, TRIES, again};
+use crate::tries::{Stop, TRIES, again};
 use rubis_board::Poster;
+use rubis_folds::finish;
 use rubis_listing::tables as list_tables;
 use rubis_message::Message;
-use rubis_pieces::{Left, Piece, Places, finish, gather};
+use rubis_pieces::{Left, Piece, Places, gather};
 use rubis_pool_core::{Event, Pool, run};
 use rubis_schema::{Id, Items, PurchaseRow, Row, RowKey, shard_of};
 use rubis_shadow::{Change, Effect, Numbered};
@@ -121,9 +122,9 @@ fn accounts_for_both(worked: &Worked) -> bool {
 }
 
 // Tells what two workers made of two shares: whether all was done.
-fn tell_worked<R: Print>(rt: &R, worked: &Worked) -> Result<bool, GaveUp> {
+fn tell_worked<R: Print>(rt: &R, worked: &Worked) -> Result<bool, Stop> {
     if !accounts_for_both(worked) {
-        return Err(GaveUp);
+        return Err(Stop::GaveUp);
     }
     if worked.left.is_empty() {
         let _ = println!(rt; "two shares are done");
@@ -137,7 +138,7 @@ fn tell_worked<R: Print>(rt: &R, worked: &Worked) -> Result<bool, GaveUp> {
 /// Two shares that two workers fold while a closure runs. If no memory is there to begin, both lists come back.
 pub fn two_shares_beside<R: Print + AllocGlobal + Threads + Wait + Sync>(
     rt: &R,
-) -> Result<(), GaveUp> {
+) -> Result<(), Stop> {
     for _ in 0..TRIES {
         let (shards, shares) = again!(rt, "two_shares", two_shares(rt.alloc()));
         let (worked, seven) = apply_beside(rt, rt.alloc(), shards, shares, 2, &Free, || 7);
@@ -154,13 +155,13 @@ pub fn two_shares_beside<R: Print + AllocGlobal + Threads + Wait + Sync>(
             }
         }
     }
-    Err(GaveUp)
+    Err(Stop::GaveUp)
 }
 
 /// Two shares that two workers fold, which are given again if no memory is there to begin.
 pub fn two_shares_again<R: Print + AllocGlobal + Threads + Wait + Sync>(
     rt: &R,
-) -> Result<(), GaveUp> {
+) -> Result<(), Stop> {
     for _ in 0..TRIES {
         let (shards, shares) = again!(rt, "two_shares", two_shares(rt.alloc()));
         let worked = match apply_all(rt, rt.alloc(), shards, shares, 2, &Free) {
@@ -169,12 +170,12 @@ pub fn two_shares_again<R: Print + AllocGlobal + Threads + Wait + Sync>(
                 let same = back.shards.len() == 2 && back.shares.len() == 2;
                 tell_refused(rt, "apply_all", same);
                 let Ok(tables) = Tables::from_shards(back.shards.into()) else {
-                    return Err(GaveUp);
+                    return Err(Stop::GaveUp);
                 };
                 let (shards, shares) = (tables.into_shards(), back.shares.into());
                 match apply_all(rt, rt.alloc(), shards, shares, 2, &Free) {
                     Ok(worked) => worked,
-                    Err(_) => return Err(GaveUp),
+                    Err(_) => return Err(Stop::GaveUp),
                 }
             }
         };
@@ -182,7 +183,7 @@ pub fn two_shares_again<R: Print + AllocGlobal + Threads + Wait + Sync>(
             return Ok(());
         }
     }
-    Err(GaveUp)
+    Err(Stop::GaveUp)
 }
 
 /// Finishes what is left of a batch, and tells the rows of the tables.
@@ -190,7 +191,7 @@ pub fn tell_finished<R: Print + AllocGlobal>(
     rt: &R,
     tables: &mut Tables,
     left: Items<Left>,
-) -> Result<(), GaveUp>
+) -> Result<(), Stop>
     requires { AreUnfinished 0 (length tables.old) left }
 {
     let mut left: Vec<Left> = left.into();
@@ -204,7 +205,11 @@ pub fn tell_finished<R: Print + AllocGlobal>(
         1,
         &again!(rt, "tables", list_tables(rt.alloc(), tables)),
     );
-    if left.is_empty() { Ok(()) } else { Err(GaveUp) }
+    if left.is_empty() {
+        Ok(())
+    } else {
+        Err(Stop::GaveUp)
+    }
 }
 
 // Has workers apply messages, again where memory is refused.
@@ -212,7 +217,7 @@ fn apply_shared<R: Print + AllocGlobal + Threads + Wait + Sync>(
     rt: &R,
     tables: &mut Tables,
     messages: &[Message],
-) -> Result<Items<Left>, GaveUp>
+) -> Result<Items<Left>, Stop>
     requires some { 0 < length tables.old }
     requires few { length messages.now ≤ 1000 }
     ensures { IfOk result (AreUnfinished 0 (length tables.new)) }
@@ -229,16 +234,16 @@ fn apply_shared<R: Print + AllocGlobal + Threads + Wait + Sync>(
         rt, alloc, tables, messages, &mut at, upto, 4, &mut pace, &Free,
     ) {
         Ok(left) => Ok(left),
-        Err(_) => Err(GaveUp),
+        Err(_) => Err(Stop::GaveUp),
     }
 }
 
 /// A batch of a log, applied by workers.
-pub fn shared_batch<R: Print + AllocGlobal + Threads + Wait + Sync>(rt: &R) -> Result<(), GaveUp> {
+pub fn shared_batch<R: Print + AllocGlobal + Threads + Wait + Sync>(rt: &R) -> Result<(), Stop> {
     let alloc = rt.alloc();
     let messages = again!(rt, "read_packet", Window::shop(alloc)).messages;
     if messages.len() > 1000 {
-        return Err(GaveUp);
+        return Err(Stop::GaveUp);
     }
     let mut tables = again!(rt, "Tables::new", Tables::new(alloc, 5));
     let left = apply_shared(rt, &mut tables, &messages)?;
@@ -250,10 +255,10 @@ fn apply_as_cut<R: Print + AllocGlobal + Threads + Wait + Sync>(
     rt: &R,
     tables: &mut Tables,
     messages: &[Message],
-) -> Result<bool, GaveUp> {
+) -> Result<bool, Stop> {
     let (alloc, shards, upto) = (rt.alloc(), tables.len(), messages.len());
     if shards == 0 || upto == 0 || upto > 1000 {
-        return Err(GaveUp);
+        return Err(Stop::GaveUp);
     }
     let cut = again!(
         rt,
@@ -275,7 +280,7 @@ fn apply_as_cut<R: Print + AllocGlobal + Threads + Wait + Sync>(
 }
 
 /// A batch that is cut into shares, applied by workers.
-pub fn cut_batch<R: Print + AllocGlobal + Threads + Wait + Sync>(rt: &R) -> Result<(), GaveUp> {
+pub fn cut_batch<R: Print + AllocGlobal + Threads + Wait + Sync>(rt: &R) -> Result<(), Stop> {
     let alloc = rt.alloc();
     let messages = again!(rt, "read_packet", Window::shop(alloc)).messages;
     let mut tables = again!(rt, "Tables::new", Tables::new(alloc, 5));
@@ -284,7 +289,7 @@ pub fn cut_batch<R: Print + AllocGlobal + Threads + Wait + Sync>(rt: &R) -> Resu
             return Ok(());
         }
     }
-    Err(GaveUp)
+    Err(Stop::GaveUp)
 }
 
 // Pieces 0 and 1, as a list.
@@ -305,29 +310,29 @@ const SCHEDULE: [Event; 6] = [
 ];
 
 // Performs an event, again where memory is refused.
-fn step<R: Print>(rt: &R, pool: &mut Pool, event: Event) -> Result<bool, GaveUp> {
+fn step<R: Print>(rt: &R, pool: &mut Pool, event: Event) -> Result<bool, Stop> {
     for _ in 0..TRIES {
         if let Ok(done) = pool.step(event) {
             return Ok(done);
         }
         tell_refused(rt, "Pool::step", true);
     }
-    Err(GaveUp)
+    Err(Stop::GaveUp)
 }
 
 // Posts both pieces.
-fn post_both<R: Print>(rt: &R, alloc: Global, pool: &mut Pool) -> Result<(), GaveUp> {
+fn post_both<R: Print>(rt: &R, alloc: Global, pool: &mut Pool) -> Result<(), Stop> {
     for number in 0..2usize {
         let piece = again!(rt, "piece", piece(alloc, number));
         if pool.post(piece).is_err() {
-            return Err(GaveUp);
+            return Err(Stop::GaveUp);
         }
     }
     Ok(())
 }
 
 // Performs the events of the schedule, and tells of each whether it was done.
-fn tell_steps<R: Print>(rt: &R, pool: &mut Pool) -> Result<(), GaveUp> {
+fn tell_steps<R: Print>(rt: &R, pool: &mut Pool) -> Result<(), Stop> {
     for event in SCHEDULE {
         let done = step(rt, pool, event)?;
         let _ = println!(rt; "{done}");
@@ -336,14 +341,14 @@ fn tell_steps<R: Print>(rt: &R, pool: &mut Pool) -> Result<(), GaveUp> {
 }
 
 /// The machine of every schedule, event by event; what it returns is gathered.
-pub fn pool<R: Print + AllocGlobal>(rt: &R) -> Result<(), GaveUp> {
+pub fn pool<R: Print + AllocGlobal>(rt: &R) -> Result<(), Stop> {
     let alloc = rt.alloc();
     let mut pool = again!(rt, "Pool::new", Pool::new(alloc, 2, 2));
     post_both(rt, alloc, &mut pool)?;
     tell_steps(rt, &mut pool)?;
     let places = again!(rt, "Places::new", Places::new(alloc, 2));
     let Ok(gathered) = gather(pool.into_back(), places) else {
-        return Err(GaveUp);
+        return Err(Stop::GaveUp);
     };
     let (shards, left) = (gathered.shards.len(), gathered.left.len());
     let _ = println!(rt; "shards {shards}, left {left}");
@@ -357,7 +362,7 @@ fn run_schedule(alloc: Global) -> Result<usize, AllocError> {
 }
 
 /// The machine of every schedule, at once; and the board of two pieces.
-pub fn schedule_and_board<R: Print + AllocGlobal + Wait>(rt: &R) -> Result<(), GaveUp> {
+pub fn schedule_and_board<R: Print + AllocGlobal + Wait>(rt: &R) -> Result<(), Stop> {
     let returned = again!(rt, "run", run_schedule(rt.alloc()));
     let _ = println!(rt; "returned {returned}");
     let mut poster = again!(rt, "Poster::new", Poster::new(rt.alloc(), 2));

@@ -1,25 +1,33 @@
-// Calls that are made again where memory is refused.
+// Calls that are made again, and scenarios that are run again, where memory is refused.
 
-/// A call was refused memory in each try, or answered what it may not.
-#[derive(Clone, Copy, Debug)]
-pub struct GaveUp;
+use crate::telling::tell_refused;
+use std::io::Print;
+
+/// Why a scenario didn't come to its end.
+#[derive(Clone, Copy)]
+pub enum Stop {
+    /// A call that changes nothing was refused memory, which was told: the scenario is to be run again.
+    Refused,
+    /// A call was refused memory in each try, or answered what it may not.
+    GaveUp,
+}
 
 /// How often a call is made where memory is refused.
 pub const TRIES: u32 = 3;
 
-/// What a call answers that changes nothing. Where it is refused memory, that is told, and it is made once more. A closure would
-/// say this in a function, but proving each closure takes longer than the second call.
+/// Tells that a call that changes nothing was refused memory.
+pub fn refused<R: Print>(rt: &R, name: &str) -> Stop {
+    tell_refused(rt, name, true);
+    Stop::Refused
+}
+
+/// What a call answers that changes nothing. Where it is refused memory, that is told, and the scenario is run again: to make
+/// the call again here would make each scenario twice as long to prove, and so would a closure.
 macro_rules! again {
     ($rt:expr, $name:literal, $call:expr) => {
         match $call {
             Ok(value) => value,
-            Err(_) => {
-                crate::telling::tell_refused($rt, $name, true);
-                match $call {
-                    Ok(value) => value,
-                    Err(_) => return Err(crate::tries::GaveUp),
-                }
-            }
+            Err(_) => return Err(crate::tries::refused($rt, $name)),
         }
     };
 }

@@ -2,7 +2,7 @@
 
 use crate::records::{CUP, message, request};
 use crate::telling::{tell_refused, tell_row};
-use crate::tries::{GaveUp, TRIES, again};
+use crate::tries::{Stop, TRIES, again};
 use rubis_message::{Message, Request, Token, write_message, write_token};
 use rubis_schema::{Fields, Id, Name, Table, Text};
 use rubis_shadow::{Ask, Effect, MisfitKind, PlainTables};
@@ -10,7 +10,7 @@ use std::alloc::{AllocError, Global};
 use std::io::Print;
 
 // Adds a field, again where memory is refused.
-fn push<R: Print>(rt: &R, fields: &mut Fields, text: &[u8]) -> Result<(), GaveUp> {
+fn push<R: Print>(rt: &R, fields: &mut Fields, text: &[u8]) -> Result<(), Stop> {
     let len = fields.len();
     for _ in 0..TRIES {
         if fields.push(text).is_ok() {
@@ -18,11 +18,11 @@ fn push<R: Print>(rt: &R, fields: &mut Fields, text: &[u8]) -> Result<(), GaveUp
         }
         tell_refused(rt, "Fields::push", fields.len() == len);
     }
-    Err(GaveUp)
+    Err(Stop::GaveUp)
 }
 
 // Adds an id, a name and a text.
-fn push_three<R: Print>(rt: &R, alloc: Global, fields: &mut Fields) -> Result<(), GaveUp> {
+fn push_three<R: Print>(rt: &R, alloc: Global, fields: &mut Fields) -> Result<(), Stop> {
     let id = Id {
         site: 7,
         seq: 1_000_000,
@@ -30,13 +30,13 @@ fn push_three<R: Print>(rt: &R, alloc: Global, fields: &mut Fields) -> Result<()
     let text = again!(rt, "Id::write", id.write(alloc));
     push(rt, fields, &text)?;
     let name = again!(rt, "Name::read", Name::read(alloc, b"a ~"));
-    push(rt, fields, name.ok_or(GaveUp)?.as_bytes())?;
+    push(rt, fields, name.ok_or(Stop::GaveUp)?.as_bytes())?;
     let text = again!(rt, "Text::read", Text::read(alloc, b"late"));
-    push(rt, fields, text.ok_or(GaveUp)?.as_bytes())
+    push(rt, fields, text.ok_or(Stop::GaveUp)?.as_bytes())
 }
 
 /// Fields of a record, each of which takes memory.
-pub fn fields<R: Print + AllocGlobal>(rt: &R) -> Result<(), GaveUp> {
+pub fn fields<R: Print + AllocGlobal>(rt: &R) -> Result<(), Stop> {
     let mut fields = Fields::new(rt.alloc());
     push_three(rt, rt.alloc(), &mut fields)?;
     let copy = again!(rt, "Fields::copy", fields.copy());
@@ -45,7 +45,7 @@ pub fn fields<R: Print + AllocGlobal>(rt: &R) -> Result<(), GaveUp> {
 }
 
 // A message, read, copied and written.
-fn tell_message<R: Print>(rt: &R, alloc: Global) -> Result<(), GaveUp> {
+fn tell_message<R: Print>(rt: &R, alloc: Global) -> Result<(), Stop> {
     let message = again!(rt, "read_packet", message(alloc, CUP, 2));
     let copy = again!(rt, "Message::copy", message.copy());
     let record = again!(rt, "write_message", write_message(alloc, &copy));
@@ -54,7 +54,7 @@ fn tell_message<R: Print>(rt: &R, alloc: Global) -> Result<(), GaveUp> {
 }
 
 // A token, written.
-fn tell_token<R: Print>(rt: &R, alloc: Global) -> Result<(), GaveUp> {
+fn tell_token<R: Print>(rt: &R, alloc: Global) -> Result<(), Stop> {
     let token = Token {
         turn: 1,
         to: 1,
@@ -66,7 +66,7 @@ fn tell_token<R: Print>(rt: &R, alloc: Global) -> Result<(), GaveUp> {
 }
 
 /// Records, read and written.
-pub fn records<R: Print + AllocGlobal>(rt: &R) -> Result<(), GaveUp> {
+pub fn records<R: Print + AllocGlobal>(rt: &R) -> Result<(), Stop> {
     let alloc = rt.alloc();
     tell_message(rt, alloc)?;
     tell_token(rt, alloc)?;
@@ -77,7 +77,7 @@ pub fn records<R: Print + AllocGlobal>(rt: &R) -> Result<(), GaveUp> {
             let _ = println!(rt; "bid {amount}");
             Ok(())
         }
-        _ => Err(GaveUp),
+        _ => Err(Stop::GaveUp),
     }
 }
 
@@ -91,14 +91,14 @@ fn apply<R: Print>(
     rt: &R,
     tables: &mut PlainTables,
     effect: &Effect,
-) -> Result<Option<MisfitKind>, GaveUp> {
+) -> Result<Option<MisfitKind>, Stop> {
     for _ in 0..TRIES {
         if let Ok(misfit) = tables.apply(effect) {
             return Ok(misfit);
         }
         tell_refused(rt, "PlainTables::apply", true);
     }
-    Err(GaveUp)
+    Err(Stop::GaveUp)
 }
 
 // Applies the parts of a message.
@@ -107,7 +107,7 @@ fn apply_parts<R: Print>(
     alloc: Global,
     tables: &mut PlainTables,
     message: &Message,
-) -> Result<(), GaveUp> {
+) -> Result<(), Stop> {
     let stamp = *message.stamp();
     for place in 0..3 {
         let Some(part) = message.shadow().effect(stamp.id, stamp.red, place) else {
@@ -121,7 +121,7 @@ fn apply_parts<R: Print>(
 }
 
 /// The parts of a new item, applied to plain tables.
-pub fn plain_tables<R: Print + AllocGlobal>(rt: &R) -> Result<(), GaveUp> {
+pub fn plain_tables<R: Print + AllocGlobal>(rt: &R) -> Result<(), Stop> {
     let alloc = rt.alloc();
     let message = again!(rt, "read_packet", message(alloc, CUP, 2));
     let mut tables = again!(rt, "PlainTables::new", PlainTables::new(alloc));

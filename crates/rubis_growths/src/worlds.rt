@@ -1,7 +1,7 @@
 // The calls of several sites.
 
 use crate::telling::{tell_behind, tell_refused};
-use crate::tries::{GaveUp, TRIES, again};
+use crate::tries::{Stop, TRIES, again};
 use rubis_message::{Happened, Request};
 use rubis_replica::Fault;
 use rubis_schema::{Listing, Nick};
@@ -15,8 +15,8 @@ use std::thread::Threads;
 const USERS: u64 = 20;
 
 // Two sites, each with `workers` workers and batches of `batch` messages.
-fn two_sites<R: Print + AllocGlobal>(rt: &R, workers: u8, batch: u32) -> Result<World, GaveUp> {
-    let config = WorldConfig::new(2, 5, workers, batch, 1000).ok_or(GaveUp)?;
+fn two_sites<R: Print + AllocGlobal>(rt: &R, workers: u8, batch: u32) -> Result<World, Stop> {
+    let config = WorldConfig::new(2, 5, workers, batch, 1000).ok_or(Stop::GaveUp)?;
     Ok(again!(rt, "World::new", World::new(rt.alloc(), &config)))
 }
 
@@ -71,7 +71,7 @@ fn tell_event<R: Print + Threads + Wait + Sync>(
     world: &mut World,
     site: u8,
     event: &Event,
-) -> Result<End, GaveUp> {
+) -> Result<End, Stop> {
     for _ in 0..TRIES {
         let sent = world.packets().len();
         let answer = happen(rt, world, site, event);
@@ -86,10 +86,10 @@ fn tell_event<R: Print + Threads + Wait + Sync>(
                 tell_behind(rt, "World", same);
                 return Ok(End::Behind);
             }
-            Err(_) => return Err(GaveUp),
+            Err(_) => return Err(Stop::GaveUp),
         }
     }
-    Err(GaveUp)
+    Err(Stop::GaveUp)
 }
 
 // Has events happen at sites, each of which is answered.
@@ -97,17 +97,17 @@ fn tell_events<R: Print + Threads + Wait + Sync>(
     rt: &R,
     world: &mut World,
     events: &[(u8, Event)],
-) -> Result<(), GaveUp> {
+) -> Result<(), Stop> {
     for (site, event) in events {
         if tell_event(rt, world, *site, event)? == End::Behind {
-            return Err(GaveUp);
+            return Err(Stop::GaveUp);
         }
     }
     Ok(())
 }
 
 // Tells the auditor's verdict.
-fn tell_check<R: Print + Threads + Wait + Sync>(rt: &R, world: &mut World) -> Result<(), GaveUp> {
+fn tell_check<R: Print + Threads + Wait + Sync>(rt: &R, world: &mut World) -> Result<(), Stop> {
     for _ in 0..TRIES {
         match world.check(rt) {
             Ok(verdict) => {
@@ -115,17 +115,17 @@ fn tell_check<R: Print + Threads + Wait + Sync>(rt: &R, world: &mut World) -> Re
                 return Ok(());
             }
             Err(WorldFault::Memory) => tell_refused(rt, "World::check", true),
-            Err(_) => return Err(GaveUp),
+            Err(_) => return Err(Stop::GaveUp),
         }
     }
-    Err(GaveUp)
+    Err(Stop::GaveUp)
 }
 
 /// Each call of a world whose sites apply each message as it comes, so that none is ever behind.
-pub fn world_calls<R: Print + AllocGlobal + Threads + Wait + Sync>(rt: &R) -> Result<(), GaveUp> {
+pub fn world_calls<R: Print + AllocGlobal + Threads + Wait + Sync>(rt: &R) -> Result<(), Stop> {
     let mut world = two_sites(rt, 1, 1)?;
-    let ann = Nick::read(b"ann").ok_or(GaveUp)?;
-    let bob = Nick::read(b"bob").ok_or(GaveUp)?;
+    let ann = Nick::read(b"ann").ok_or(Stop::GaveUp)?;
+    let bob = Nick::read(b"bob").ok_or(Stop::GaveUp)?;
     let events = [
         (0, Event::User(ann)),
         (0, Event::Pass(1)),
@@ -147,20 +147,20 @@ fn nick_of(number: u64) -> Option<Nick> {
 
 /// A site to which many messages came decides an ask: first it applies them, in shares. If memory for a part is refused then,
 /// the site is behind, sends nothing, and answers no more.
-pub fn world_behind<R: Print + AllocGlobal + Threads + Wait + Sync>(rt: &R) -> Result<(), GaveUp> {
+pub fn world_behind<R: Print + AllocGlobal + Threads + Wait + Sync>(rt: &R) -> Result<(), Stop> {
     let mut world = two_sites(rt, 4, 1000)?;
     for number in 0..USERS {
-        let nick = nick_of(number).ok_or(GaveUp)?;
+        let nick = nick_of(number).ok_or(Stop::GaveUp)?;
         let events = [(0, Event::User(nick)), (1, Event::Deliver(number + 1))];
         tell_events(rt, &mut world, &events)?;
     }
     let events = [(0, Event::Pass(1)), (1, Event::Deliver(USERS + 1))];
     tell_events(rt, &mut world, &events)?;
-    let zed = Nick::read(b"zed").ok_or(GaveUp)?;
+    let zed = Nick::read(b"zed").ok_or(Stop::GaveUp)?;
     if tell_event(rt, &mut world, 1, &Event::User(zed))? == End::Behind {
         return match tell_event(rt, &mut world, 1, &Event::ListUsers)? {
             End::Behind => Ok(()),
-            End::Answered => Err(GaveUp),
+            End::Answered => Err(Stop::GaveUp),
         };
     }
     tell_check(rt, &mut world)
