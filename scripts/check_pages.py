@@ -212,9 +212,9 @@ def check_links(page: pathlib.Path, fix: bool) -> tuple[int, list[str]]:
 
 def check_callers(page: pathlib.Path) -> tuple[int, list[str]]:
     """Each piece of code on the page for callers stands so in the tests, where it is proved."""
-    proved = squeezed((CRATES / "rubis_tests_streams/src/callers.rt").read_text())
+    proved = squeezed((CRATES / "rubis_tests/src/callers.rt").read_text())
     pieces = re.findall(r"```rust\n(.*?)```", page.read_text(), re.S)
-    return len(pieces), [f"{page.name}: no such code in rubis_tests_streams: {piece.splitlines()[0]}" for piece in pieces if squeezed(piece) not in proved]
+    return len(pieces), [f"{page.name}: no such code in rubis_tests: {piece.splitlines()[0]}" for piece in pieces if squeezed(piece) not in proved]
 
 
 def crates_of_list() -> list[tuple[str, set[str]]]:

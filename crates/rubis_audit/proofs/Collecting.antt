@@ -10,8 +10,8 @@ use Rattle.rubis_engine.specs.Accounts.{AnswersRecord}
 use Rattle.rubis_engine.specs.Accounts.Ending.{AtEnd}
 use Rattle.rubis_engine.specs.Text.{rows_text}
 use Rattle.rubis_engine.specs.declared.service.Course.TheVariants.{GoesOn, Ends}
+use Rattle.rubis_walks.specs.Walks.{HaveMessagesAmong}
 use Rattle.rubis_audit.specs.Running.{AreRead, HasMessagesAmong, IsCurrentAmong, account_from, audit_text, logs_so_far, read_behind}
-use Rattle.rubis_audit.specs.Walks.{HaveMessagesAmong}
 
 some_same : {X : Type 0} (a b : X) → Some a ≡ Some b → a ≡ b
 some_same a b e = cc

@@ -1,11 +1,3 @@
-pub mod SiteTests
-pub mod Comparing
-pub mod Finding
-pub mod Showing
-pub mod Knowing
-pub mod Judging
-pub mod Walking
-pub mod LineFacts
 pub mod Collecting
 pub mod Placing
 pub mod Widened

@@ -1,9 +1,3 @@
-pub mod Lookups
-pub mod Seen
-pub mod Contents
-pub mod Past
-pub mod Walks
-pub mod Lines
 pub mod Running
 pub mod Places
 pub mod Widening

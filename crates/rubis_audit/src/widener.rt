@@ -1,7 +1,7 @@
 // A service that widens the records of an audit: a record in, one out.
 
 ghost use Rattle.std.proofs.Common.{rules};
-ghost use Rattle.std.specs.Prelude.{◌≡◌, ◌++◌, ◌∷◌, ◌≤◌, [], ℕ, List, OnOk, codes, refl};
+ghost use Rattle.std.specs.Prelude.{◌≡◌, ◌++◌, ◌∷◌, ◌≤◌, [], ℕ, List, OnOk, refl};
 ghost use Rattle.rubis_schema.specs.declared.limits.TheConstants.{COUNTED_MAX};
 ghost use Rattle.rubis_message.specs.Grammar.{message_record};
 ghost use Rattle.rubis_message.specs.Message.{sites_of};
@@ -9,15 +9,15 @@ ghost use Rattle.rubis_message.specs.Widening.{widened};
 ghost use Rattle.rubis_model.specs.AuditRecords.{line_record};
 ghost use Rattle.rubis_model.specs.WidenedRecords.{widened_line};
 ghost use Rattle.rubis_engine.specs.Text.{rows_text};
-ghost use Rattle.rubis_audit.specs.Lines.{IsAmongLine, line_as};
+ghost use Rattle.rubis_walks.specs.Lines.{IsAmongLine, line_as};
 ghost use Rattle.rubis_audit.specs.Places.{logs_at, place_after};
 ghost use Rattle.rubis_audit.specs.declared.widener.Place.TheVariants.{BeforeLogs};
 ghost use Rattle.rubis_audit.specs.Widening.{bad_record, widening_from};
 
-use crate::lines::{Line, read_line};
 use rubis_engine::{Answering, Course, InputRecord, OutOfMemory, Reply, Service, Sink};
 use rubis_message::{Message, append_message};
 use rubis_schema::{Fields, push_number};
+use rubis_walks::{Line, read_line};
 use std::alloc::{AllocError, Global};
 use std::marker::Model;
 

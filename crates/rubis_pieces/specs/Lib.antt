@@ -4,6 +4,4 @@ pub mod Shares
 pub mod Faults
 pub mod Gathered
 pub mod Places
-pub mod Batches
 pub mod Misfits
-pub mod Work

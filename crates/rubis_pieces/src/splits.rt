@@ -55,7 +55,11 @@ fn deal_message(list: &mut Vec<Share>, entry: &LogEntry<'_>) -> Result<(), Alloc
     Ok(())
 }
 
-// The shares of a batch, as `split` gives them, made by the caller's thread alone.
+/// The shares of a batch, as `split` gives them, made by the caller's thread alone.
+///
+/// # Errors
+///
+/// `AllocError` if memory runs out.
 pub fn split_alone(
     alloc: Global,
     batch: &[Message],

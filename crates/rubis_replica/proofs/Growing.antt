@@ -8,29 +8,20 @@ use Rattle.rubis_shadow.specs.declared.shadows.Shadow.{Shadow}
 use Rattle.rubis_shadow.proofs.InLimits.{opening_in_limits}
 use Rattle.rubis_schema.specs.declared.refusals.Refusal.{Refusal}
 use Rattle.rubis_message.specs.Message.{Message, sites_of}
+use Rattle.rubis_message.specs.declared.answers.Arrival.{Arrival}
 use Rattle.rubis_message.specs.declared.tokens.Token.{Token}
 use Rattle.rubis_model.specs.Log.{cores, fold_of}
-use Rattle.rubis_model.specs.Settle.{first_ready, settle}
-use Rattle.rubis_model.specs.Site.{Place, Replica, after_made, arrived, is_full, is_repeat, made, not_ours, passed, passing}
+use Rattle.rubis_model.specs.Site.{Place, Replica, after_made, arrived, made, passed, passing}
 use Rattle.rubis_shard.specs.Holdings.{HoldsLog, union}
-use Rattle.rubis_pieces.specs.Batches.{AreUnfinished}
+use Rattle.rubis_folds.specs.Batches.{AreUnfinished}
 use Rattle.rubis_shard.proofs.Unions.{union_of_log}
 use Rattle.rubis_workers.specs.Logs.{AreWithin, StaysWithin}
-use Rattle.rubis_replica.specs.Follow.{Follower, FollowsAt, FollowsLog}
-use Rattle.rubis_replica.specs.Progress.{IsProgress, Progress, resting_at}
-use Rattle.rubis_replica.proofs.Following.{all_done, follows_more, holds_none, rests_at, rests_holds}
-
-abbrev pub Extends : List Message → List Message → Type 0
-Extends log new = (more : List Message) × (new ≡ log ++ more)
-
--- the settled log is the log and some more
-settle_extends : (n : ℕ) (log waiting : List Message) → Extends log (settle n log waiting).0
-settle_extends zero log waiting = ([], sym (append-nil log))
-settle_extends (suc n) log waiting =
-    elim (first_ready log waiting) as (λ o. Extends log (elim o as (λ _. List Message × List Message) [ None ↦ (log, waiting) | Some p ↦ settle n (log ++ p.0 ∷ []) p.1 ]).0) [
-      | None ↦ ([], sym (append-nil log))
-      | Some p ↦ let r = settle_extends n (log ++ p.0 ∷ []) p.1 in (p.0 ∷ r.0, r.1 ∙ append_assoc log (p.0 ∷ []) r.0)
-    ]
+use Rattle.rubis_follower.specs.Arrivals.{TakesFirst}
+use Rattle.rubis_follower.specs.Follow.{Follower, FollowsAt, FollowsLog}
+use Rattle.rubis_follower.specs.Progress.{IsProgress, Progress, resting_at}
+use Rattle.rubis_follower.proofs.Following.{all_done, follows_more, holds_none, rests_at, rests_holds}
+use Rattle.rubis_follower.proofs.Extending.{Extends, arrived_extends, settle_extends}
+use Rattle.rubis_follower.proofs.Comings.{taken_extends}
 
 pub follows_extended : (p q : Place) (log new : List Message) (f : Follower) → q ≡ p → Extends log new → FollowsAt p.sites log f → FollowsAt q.sites new f
 follows_extended p q log new f same e h =
@@ -55,23 +46,17 @@ follows_made p q s new x f same e h =
 
 -- ---- a message that arrives
 
-none_more : (s : Replica) → Extends s.log s.log
-none_more s = ([], sym (append-nil s.log))
-
-one_of : {A : Type 0} (b : Bool) (log : List Message) (x y : Replica × A) → Extends log x.0.log → Extends log y.0.log → Extends log (cond b x y).0.log
-one_of true log x y h g = h
-one_of false log x y h g = g
-
-pub arrived_extends : (p : Place) (s : Replica) (m : Message) → Extends s.log (arrived p s m).0.log
-arrived_extends p s m =
-    one_of (not_ours p s m) s.log _ _ (none_more s)
-    (one_of (is_repeat s m) s.log _ _ (none_more s)
-    (one_of (is_full p.keep s) s.log _ _ (none_more s) (settle_extends (length (s.waiting ++ m ∷ [])) s.log (s.waiting ++ m ∷ []))))
-
 pub follows_arrived : (p q : Place) (s new : Replica) (m : Message) (f : Follower) → q ≡ p → new ≡ (arrived p s m).0 → FollowsAt p.sites s.log f → FollowsAt q.sites new.log f
 follows_arrived p q s new m f same e h =
     let more = arrived_extends p s m in
     follows_extended p q s.log new.log f same (more.0, ap (λ (r : Replica). r.log) e ∙ more.1) h
+
+-- ---- messages that arrive one after the other
+
+pub follows_taken : (p q : Place) (old new : Replica) (messages : List Message) (answers : List (Result Arrival Refusal)) (rest : List Message) (f : Follower) → q ≡ p
+    → TakesFirst p old new messages answers rest → FollowsAt p.sites old.log f → FollowsAt q.sites new.log f
+follows_taken p q old new messages answers rest f same h follows =
+    follows_extended p q old.log new.log f same (taken_extends p old new messages answers rest h) follows
 
 -- ---- the token, which leaves the log
 

@@ -1,7 +1,8 @@
 -- How a site is set up.
-use Rattle.std.specs.Prelude.{ℕ, ◌<◌, ◌≤◌}
+use Rattle.std.specs.Prelude.{ℕ, ◌<◌}
 use Rattle.rubis_schema.specs.declared.limits.TheConstants.{BATCH_MAX, KEEP_MAX, SHARDS_MAX, SITES_MAX, WORKERS_MAX}
 use Rattle.rubis_model.specs.Site.{Place}
+use Rattle.rubis_follower.specs.Counts.{IsCount}
 
 -- the site, one of `sites`; its shards, workers and batches; how many messages it keeps
 pub record Setup : Type 0 where
@@ -11,11 +12,6 @@ pub record Setup : Type 0 where
   pub workers : ℕ
   pub batch : ℕ
   pub keep : ℕ
-
--- n is from 1 to most
-pub record IsCount (n most : ℕ) : Type 0 where
-  pub positive : 1 ≤ n
-  pub small : n ≤ most
 
 -- each number is within its limits
 pub record IsSetup (s : Setup) : Type 0 where

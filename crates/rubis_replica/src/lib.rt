@@ -1,14 +1,10 @@
 //! One site: its configuration, and its calls.
 #![tactic(auto)]
 
-mod arriving;
 mod config;
-mod faults;
-mod follower;
 mod site;
 
-pub use arriving::Arrived;
 pub use config::Config;
-pub use faults::Fault;
+pub use rubis_follower::{Arrived, Fault};
 pub use rubis_workers::{Free, Gate};
 pub use site::Site;

@@ -7,12 +7,12 @@ use Rattle.rubis_model.specs.Log.{core, cores}
 use Rattle.rubis_model.proofs.CoreLists.{cores_append}
 use Rattle.rubis_shard.specs.Holdings.{HoldsLog}
 use Rattle.rubis_shard.specs.States.{ShardState}
-use Rattle.rubis_pieces.specs.Batches.{HoldsBut, TakesBatch, parts_left}
-use Rattle.rubis_pieces.specs.declared.pieces.Left.{Left}
-use Rattle.rubis_workers.specs.Logs.{AppliesUpto, IsCut, StaysWithin, parts_between}
+use Rattle.rubis_folds.specs.Batches.{HoldsBut, TakesBatch, parts_left}
 use Rattle.rubis_pieces.specs.Shares.{AreShares}
-use Rattle.rubis_workers.specs.Work.{AppliesBatch, IsApplied}
-use Rattle.rubis_workers.specs.declared.batches.Worked.{Worked}
+use Rattle.rubis_pieces.specs.declared.pieces.Left.{Left}
+use Rattle.rubis_team.specs.Work.{AppliesBatch, IsApplied}
+use Rattle.rubis_team.specs.declared.batches.Worked.{Worked}
+use Rattle.rubis_workers.specs.Logs.{AppliesUpto, IsCut, StaysWithin, parts_between}
 use Rattle.rubis_workers.specs.declared.cuts.Cut.{Cut}
 use Rattle.rubis_workers.proofs.Between.{between_meets, few_between, front_meets, nothing_between, some_between}
 use Rattle.rubis_workers.proofs.NextMessage.{log_within}

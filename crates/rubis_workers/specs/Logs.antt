@@ -7,7 +7,7 @@ use Rattle.rubis_message.specs.Message.{IsMessage, Message, sites_of}
 use Rattle.rubis_model.specs.Log.{cores, fold_of, parts_of}
 use Rattle.rubis_shard.specs.Holdings.{HoldsLog}
 use Rattle.rubis_shard.specs.States.{ShardState}
-use Rattle.rubis_pieces.specs.Batches.{AreUnfinished, HoldsBut, parts_left}
+use Rattle.rubis_folds.specs.Batches.{AreUnfinished, HoldsBut, parts_left}
 use Rattle.rubis_pieces.specs.Shares.{AreShares}
 use Rattle.rubis_pieces.specs.declared.pieces.Left.{Left}
 use Rattle.rubis_workers.specs.declared.cuts.Cut.{Cut}

@@ -1,18 +1,17 @@
 ghost use Rattle.std.specs.Prelude.{◌≡◌, ◌<◌, ◌≤◌, IfOk, List, OnErr, length};
 ghost use Rattle.rubis_message.specs.Message as message;
 ghost use Rattle.rubis_shard.specs.Holdings.{IsSet};
-ghost use Rattle.rubis_pieces.specs.Batches.{parts_left};
+ghost use Rattle.rubis_folds.specs.Batches.{parts_left};
 ghost use Rattle.rubis_workers.specs.Logs.{AppliesUpto, IsCut};
 
-use crate::batches::{TeamResult, Worked, apply_by_team};
 use crate::cuts::Cut;
 use crate::folding::{apply_upto, count_left};
-use crate::gate::{Gate, take_each};
 use crate::pace::Pace;
 use rubis_message::Message;
 use rubis_pieces::Left;
 use rubis_schema::Items;
 use rubis_shard::{Shard, Tables};
+use rubis_team::{Gate, TeamResult, Worked, apply_by_team};
 use std::alloc::{AllocError, Global};
 use std::sync::Wait;
 use std::thread::Threads;
@@ -79,6 +78,13 @@ pub fn apply_cut<G: Gate, R: Threads + Wait + Sync, A, F: FnOnce() -> A>(
             *tables = again(unstarted.shards);
             (Err(AllocError), answer)
         }
+    }
+}
+
+// The caller's thread takes each of the shards, as the one worker of a batch.
+fn take_each<G: Gate>(gate: &G, shards: usize) {
+    for number in 0..shards {
+        gate.taken(number);
     }
 }
 

@@ -5,7 +5,7 @@ ghost use Rattle.std.specs.List.{flat_map};
 ghost use Rattle.rubis_message.specs.Message.{IsMessage};
 ghost use Rattle.rubis_model.specs.Log.{cores, parts_of};
 ghost use Rattle.rubis_shard.specs.Holdings.{HoldsLog};
-ghost use Rattle.rubis_pieces.specs.Batches.{parts_left};
+ghost use Rattle.rubis_folds.specs.Batches.{parts_left};
 ghost use Rattle.rubis_workers.specs.Logs.{StaysWithin};
 
 use rubis_message::Message;

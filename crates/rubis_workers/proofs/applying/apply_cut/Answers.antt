@@ -3,11 +3,11 @@ use Rattle.std.specs.Prelude.{IfOk, slice_range}
 use Rattle.rubis_model.specs.Log.{cores}
 use Rattle.rubis_shard.specs.States.{ShardState}
 use Rattle.rubis_shard.specs.Holdings.{AreInOrder}
-use Rattle.rubis_pieces.specs.Batches.{parts_left}
+use Rattle.rubis_folds.specs.Batches.{parts_left}
 use Rattle.rubis_pieces.specs.Shares.{AreShares}
 use Rattle.rubis_pieces.specs.declared.gathers.Gathered.{Gathered}
-use Rattle.rubis_pieces.proofs.Folded.{belongs, set_again}
-use Rattle.rubis_workers.specs.Work.{AppliesBatch, AreWorked}
+use Rattle.rubis_folds.proofs.Folded.{belongs, set_again}
+use Rattle.rubis_team.specs.Work.{AppliesBatch, AreWorked}
 use Rattle.rubis_workers.proofs.Applied.{applies_cut, cut_applied, few_of_cut}
 use Rattle.rubis_workers.proofs.applying.apply_cut.Goals as goal
 

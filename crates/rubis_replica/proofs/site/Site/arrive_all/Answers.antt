@@ -2,15 +2,15 @@ use Rattle.std.proofs.Common.{◌≡◌, ◌∙◌, ap, length, List, sym, subst
 use Rattle.std.specs.Prelude.{◌⊎◌, IfSome}
 use Rattle.rubis_message.specs.Message.{Message}
 use Rattle.rubis_release.specs.Intake.{Intake}
-use Rattle.rubis_replica.specs.Ahead.{TakesAhead}
-use Rattle.rubis_replica.specs.Arrivals.{AreNext}
+use Rattle.rubis_follower.specs.Ahead.{TakesAhead}
+use Rattle.rubis_follower.specs.Arrivals.{AreNext}
 use Rattle.rubis_workers.specs.Logs.{AreWithin}
-use Rattle.rubis_replica.specs.Follow.{FollowsLog}
-use Rattle.rubis_replica.specs.Progress.{IsAhead, IsTried, keeping, resting_at}
+use Rattle.rubis_follower.specs.Follow.{FollowsLog}
+use Rattle.rubis_follower.specs.Progress.{IsAhead, IsTried, keeping, resting_at}
 use Rattle.rubis_replica.specs.State.{SiteState}
-use Rattle.rubis_replica.proofs.Applications.{goes_ahead}
-use Rattle.rubis_replica.proofs.Comings.{follows_taken, stops}
-use Rattle.rubis_replica.proofs.Growing.{follows_on}
+use Rattle.rubis_follower.proofs.Applications.{goes_ahead}
+use Rattle.rubis_follower.proofs.Comings.{stops}
+use Rattle.rubis_replica.proofs.Growing.{follows_on, follows_taken}
 use Rattle.rubis_replica.proofs.Kept.{log_counts}
 use Rattle.rubis_replica.proofs.site.Site.arrive_all.Goals as goal
 

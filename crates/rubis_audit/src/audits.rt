@@ -1,0 +1,33 @@
+// The audit: a walk over one log after another.
+
+ghost use Rattle.std.specs.Prelude.{◌≡◌, ◌≤◌, IfOk};
+ghost use Rattle.rubis_schema.specs.declared.limits.TheConstants.{COUNTED_MAX};
+ghost use Rattle.rubis_message.specs.declared.answers.Verdict.TheVariants.{Agree};
+ghost use Rattle.rubis_model.specs.Audit.{AreSound};
+ghost use Rattle.rubis_model.specs.Verdict.{verdict};
+ghost use Rattle.rubis_walks.specs.Walks.{HaveMessagesAmong};
+
+use rubis_message::Verdict;
+use rubis_walks::{Log, Seen, walk};
+use std::alloc::{AllocError, Global};
+
+/// The first fault of these logs, in order, or Agree if there is none. Logs of which it says Agree are sound: they causally
+/// serialize one RedBlue order, and the invariants hold over all of them.
+///
+/// # Errors
+///
+/// `AllocError` if memory runs out.
+pub fn audit(alloc: Global, logs: &[Log], sites: u8) -> Result<Verdict, AllocError>
+    requires few { sites ≤ COUNTED_MAX }
+    requires among { HaveMessagesAmong sites logs.now }
+    ensures verdict { IfOk result (λ found. found ≡ verdict logs.now) }
+    ensures sound { IfOk result (λ found. found ≡ Agree → AreSound logs.now) }
+{
+    let mut seen = Seen::new(alloc);
+    for at in 0..logs.len() {
+        if let Some((kind, entry)) = walk(alloc, &mut seen, logs, at, sites)? {
+            return Ok(Verdict::Found(kind, at + 1, entry));
+        }
+    }
+    Ok(Verdict::Agree)
+}

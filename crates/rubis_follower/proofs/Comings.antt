@@ -1,0 +1,69 @@
+-- Messages that arrive one after the other.
+use Rattle.std.proofs.Common.{◌≡◌, ℕ, ◌<◌, ◌≤◌, List, [], ◌∷◌, ◌++◌, length, length-append, refl, sym, ap, ◌∙◌, subst, append_assoc, arith}
+use Rattle.std.specs.Prelude.{IfSome, None, Option, Result, Some, reverse}
+use Rattle.std.proofs.lemmas.List.{append-nil, reverse-append}
+use Rattle.rubis_schema.specs.declared.refusals.Refusal.{Refusal}
+use Rattle.rubis_message.specs.Message.{Message}
+use Rattle.rubis_message.specs.declared.answers.Arrival.{Arrival}
+use Rattle.rubis_model.specs.Site.{Place, Replica, arrived}
+use Rattle.rubis_follower.specs.Arrivals.{IsStop, TakesFirst, after_all, answers_to}
+use Rattle.rubis_follower.specs.declared.faults.Fault.{Fault}
+use Rattle.rubis_follower.specs.declared.faults.Fault.TheVariants.{Memory}
+use Rattle.rubis_follower.proofs.Extending.{Extends, arrived_extends}
+
+-- ---- one message more
+
+after_more : (p : Place) (s : Replica) (ms : List Message) (m : Message) → after_all p s (ms ++ m ∷ []) ≡ (arrived p (after_all p s ms) m).0
+after_more p s [] m = refl
+after_more p s (x ∷ ms) m = after_more p (arrived p s x).0 ms m
+
+answers_more : (p : Place) (s : Replica) (ms : List Message) (m : Message)
+    → answers_to p s (ms ++ m ∷ []) ≡ answers_to p s ms ++ (arrived p (after_all p s ms) m).1 ∷ []
+answers_more p s [] m = refl
+answers_more p s (x ∷ ms) m = ap (λ l. (arrived p s x).1 ∷ l) (answers_more p (arrived p s x).0 ms m)
+
+-- nothing is taken in
+pub takes_none : (p : Place) (s : Replica) (messages : List Message) → TakesFirst p s s messages [] messages
+takes_none p s messages = record { taken = []; parts = refl; state = refl; told = refl }
+
+-- the first of the rest too
+pub takes_next : (p : Place) (old now new : Replica) (messages rest : List Message) (answers : List (Result Arrival Refusal)) (m : Message) (a : Result Arrival Refusal)
+    → TakesFirst p old now messages answers (m ∷ rest) → (new, a) ≡ arrived p now m → TakesFirst p old new messages (answers ++ a ∷ []) rest
+takes_next p old now new messages rest answers m a h e = record {
+  taken = h.taken ++ m ∷ [];
+  parts = h.parts ∙ sym (append_assoc h.taken (m ∷ []) rest);
+  state = ap (λ r. r.0) e ∙ ap (λ s. (arrived p s m).0) h.state ∙ sym (after_more p old h.taken m);
+  told = (λ i. h.told i ++ ap (λ r. r.1) e i ∷ []) ∙ ap (λ s. answers_to p old h.taken ++ (arrived p s m).1 ∷ []) h.state
+      ∙ sym (answers_more p old h.taken m);
+}
+
+-- the last of a list is the first of it reversed
+pub last_first : (xs ys : List Message) (m : Message) → xs ≡ ys ++ m ∷ [] → reverse xs ≡ m ∷ reverse ys
+last_first xs ys m e = ap reverse e ∙ reverse-append ys (m ∷ [])
+
+-- ---- the log grows
+
+all_extend : (p : Place) (s : Replica) (ms : List Message) → Extends s.log (after_all p s ms).log
+all_extend p s [] = ([], sym (append-nil s.log))
+all_extend p s (m ∷ ms) =
+    let one = arrived_extends p s m in
+    let more = all_extend p (arrived p s m).0 ms in
+    (one.0 ++ more.0, more.1 ∙ ap (λ l. l ++ more.0) one.1 ∙ append_assoc s.log one.0 more.0)
+
+-- a log that took messages in has grown
+pub taken_extends : (p : Place) (old new : Replica) (messages : List Message) (answers : List (Result Arrival Refusal)) (rest : List Message)
+    → TakesFirst p old new messages answers rest → Extends old.log new.log
+taken_extends p old new messages answers rest h =
+    let more = all_extend p old h.taken in
+    (more.0, ap (λ (r : Replica). r.log) h.state ∙ more.1)
+
+pub taken_longer : (p : Place) (old new : Replica) (messages : List Message) (answers : List (Result Arrival Refusal)) (rest : List Message)
+    → TakesFirst p old new messages answers rest → length old.log ≤ length new.log
+taken_longer p old new messages answers rest h =
+    let more = taken_extends p old new messages answers rest h in
+    omega (arith, ap length more.1, length-append old.log more.0)
+
+-- why not all were taken in
+pub stops : (left : ℕ) (rest : List Message) (o : Option Fault) → IfSome o (λ f. (f ≡ Memory) × (0 < length rest)) → IfSome o (IsStop left rest)
+stops left rest None h = tt
+stops left rest (Some f) h = subst (IsStop left rest) (sym h.0) h.1

@@ -1,0 +1,5 @@
+pub mod Following
+pub mod Cutting
+pub mod Applications
+pub mod Extending
+pub mod Comings

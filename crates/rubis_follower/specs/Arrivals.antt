@@ -1,0 +1,37 @@
+-- Messages that arrive at a site one after the other, and what it makes of them.
+use Rattle.std.specs.Prelude.{◌≡◌, ◌<◌, ◌+◌, ◌++◌, ◌⊎◌, ℕ, List, [], ◌∷◌, length, slice_range, Result}
+use Rattle.rubis_schema.specs.declared.refusals.Refusal.{Refusal}
+use Rattle.rubis_message.specs.Message.{Message}
+use Rattle.rubis_message.specs.declared.answers.Arrival.{Arrival}
+use Rattle.rubis_model.specs.Log.{cores}
+use Rattle.rubis_model.specs.Site.{Place, Replica, arrived}
+use Rattle.rubis_shard.specs.declared.shares.Share.{Share}
+use Rattle.rubis_pieces.specs.Shares.{AreShares}
+use Rattle.rubis_follower.specs.declared.faults.Fault.{Fault}
+use Rattle.rubis_follower.specs.declared.faults.Fault.TheVariants.{Refused, Behind, Memory}
+
+-- what a site comes to by messages that arrive, and what it answers to each
+abbrev pub after_all : Place → Replica → List Message → Replica
+after_all p s [] = s
+after_all p s (m ∷ ms) = after_all p (arrived p s m).0 ms
+
+abbrev pub answers_to : Place → Replica → List Message → List (Result Arrival Refusal)
+answers_to p s [] = []
+answers_to p s (m ∷ ms) = (arrived p s m).1 ∷ answers_to p (arrived p s m).0 ms
+
+-- the first of the messages were taken in, and each was answered; the others are the rest
+pub record TakesFirst (p : Place) (old new : Replica) (messages : List Message) (answers : List (Result Arrival Refusal)) (rest : List Message) : Type 0 where
+  pub taken : List Message
+  pub parts : messages ≡ taken ++ rest
+  pub state : new ≡ after_all p old taken
+  pub told : answers ≡ answers_to p old taken
+
+-- why not all of the messages were taken in, where the site wasn't behind: there was no memory for the first of the rest
+abbrev pub IsStop : ℕ → List Message → Fault → Type 0
+IsStop left rest (Refused r) = ⊥
+IsStop left rest Behind = 0 < left
+IsStop left rest Memory = 0 < length rest
+
+-- the shares of what a log has after its first `before` messages, if they were made
+abbrev pub AreNext : ℕ → ℕ → List Message → List Share → Type 0
+AreNext shards before log shares = (shares ≡ []) ⊎ AreShares shards (before + 1) (cores (slice_range log before (length log))) shares

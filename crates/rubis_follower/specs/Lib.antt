@@ -1,0 +1,6 @@
+pub mod Ahead
+pub mod Arrivals
+pub mod Counts
+pub mod Faults
+pub mod Follow
+pub mod Progress

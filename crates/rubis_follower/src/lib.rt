@@ -1,0 +1,10 @@
+//! What a site is made of: tables that follow its log, and messages that are taken in meanwhile.
+#![tactic(auto)]
+
+mod arriving;
+mod faults;
+mod follower;
+
+pub use arriving::{Ahead, Arrived, take_ahead};
+pub use faults::Fault;
+pub use follower::Follower;

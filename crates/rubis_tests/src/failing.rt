@@ -1,0 +1,164 @@
+// A site on readers and writers that fail.
+
+use crate::failing_streams::{FailingReader, FailingWriter};
+use crate::transcripts::{Talk, take_apart, usual};
+use rubis_replica::Free;
+use rubis_script::{RunFault, run_site, run_site_upto};
+use std::process::Abort;
+use std::sync::Wait;
+use std::thread::Threads;
+
+// A bit of everything.
+const EVERYTHING: &str = "\
+> user,ann
+reply,1,ok,0.1
+send,msg,1,0,1,1,0:0,user,ann
+> user,Bob
+reply,2,refused,1,BadRecord
+> user,bob
+reply,3,ok,0.2
+send,msg,1,0,2,2,1:0,user,bob
+> item,0.1,\"vase, \"\"blue\"\"\",7,2,100,150
+reply,4,ok,0.3
+send,msg,1,0,3,0,2:0,item,0.1,\"vase, \"\"blue\"\"\",7,2,100,150
+> bid,0.3,0.2,120
+reply,5,ok,0.4
+send,msg,1,0,4,3,3:0,bid,0.3,0.2,120
+> buy,0.3,0.2,1
+reply,6,ok,0.5
+send,msg,1,0,5,4,4:0,buy,0.3,0.2,1
+> comment,0.3,0.2,0.1,-5,late
+reply,7,ok,0.6
+send,msg,1,0,6,0,5:0,comment,0.3,0.2,0.1,-5,late
+> close,0.3,0.1
+reply,8,ok,0.7
+send,msg,1,0,7,5,6:0,close,0.3,7,0.4
+> pass,1
+reply,9,passed
+send,token,1,1,1,5
+> list,users
+reply,10,rows,2
+row,user,0.1,ann,1,0,-5,1
+row,user,0.2,bob,0,1,0,0
+";
+
+// An auction of two equal bids, at a site alone.
+const AUCTION: &str = "\
+> user,ann
+reply,1,ok,0.1
+send,msg,1,0,1,1,0,user,ann
+> user,bob
+reply,2,ok,0.2
+send,msg,1,0,2,2,1,user,bob
+> user,cat
+reply,3,ok,0.3
+send,msg,1,0,3,3,2,user,cat
+> item,0.1,lamp,7,1,100,0
+reply,4,ok,0.4
+send,msg,1,0,4,0,3,item,0.1,lamp,7,1,100,0
+> bid,0.4,0.2,500
+reply,5,ok,0.5
+send,msg,1,0,5,4,4,bid,0.4,0.2,500
+> bid,0.4,0.3,500
+reply,6,ok,0.6
+send,msg,1,0,6,5,5,bid,0.4,0.3,500
+> close,0.4,0.1
+reply,7,ok,0.7
+send,msg,1,0,7,6,6,close,0.4,7,0.5
+> list,items,7
+reply,8,rows,1
+row,item,0.4,0.1,lamp,7,1,0,100,0,2,0.5,500,closed,0.5
+> list,categories
+reply,9,rows,1
+row,category,7,1,0
+> list,bids,0.4
+reply,10,rows,2
+row,bid,0.5,0.4,0.2,500,4
+row,bid,0.6,0.4,0.3,500,5
+";
+
+// More calls than any writer here gets.
+const CALLS_MAX: usize = 1000;
+
+// Runs a site over each prefix of the records, with a reader that fails after it. Each run ends with Read, and has written a
+// prefix of the answers: all of them once it has read all records.
+fn read_until_each_byte<R: Abort + AllocGlobal + Threads + Wait + Sync>(
+    rt: &R,
+    talk: &Talk,
+    sites: u8,
+) {
+    let config = usual(rt, 0, sites);
+    let (said, heard) = (talk.said.as_bytes(), talk.heard.as_bytes());
+    for cut in 0..said.len() + 1 {
+        let mut out = Vec::new(rt.alloc());
+        let reader = FailingReader::new(&said[..cut]);
+        let end = run_site(rt, rt.alloc(), reader, &mut out, &config);
+        assert_eq!(rt; end.err(), Some(RunFault::Read), "after {cut} bytes");
+        assert!(rt; heard.starts_with(out.as_slice()), "after {cut} bytes");
+        assert!(rt; cut < said.len() || out.len() == heard.len());
+    }
+}
+
+#[test]
+fn a_reader_that_fails_after_any_byte(rt: HostRuntime) {
+    for (transcript, sites) in [(EVERYTHING, 2), (AUCTION, 1)] {
+        let talk = take_apart(rt.alloc(), transcript).expect(&rt, "memory");
+        read_until_each_byte(&rt, &talk, sites);
+    }
+}
+
+// The writer that fails at one of its calls, and how the run ended.
+fn write_until<R: Abort + AllocGlobal + Threads + Wait + Sync>(
+    rt: &R,
+    said: &[u8],
+    sites: u8,
+    bad: usize,
+) -> (FailingWriter, Option<RunFault>) {
+    let config = usual(rt, 0, sites);
+    let mut writer = FailingWriter::new(rt.alloc(), bad);
+    let end = run_site(rt, rt.alloc(), said, &mut writer, &config);
+    (writer, end.err())
+}
+
+// Runs a site with a writer that fails at its first call, at its second, and so on, until a run ends well. Each run before
+// ends with Write, and has written a prefix of the answers.
+fn write_until_each_call<R: Abort + AllocGlobal + Threads + Wait + Sync>(
+    rt: &R,
+    talk: &Talk,
+    sites: u8,
+) {
+    let heard = talk.heard.as_bytes();
+    for bad in 1..CALLS_MAX {
+        let (writer, fault) = write_until(rt, talk.said.as_bytes(), sites, bad);
+        if fault.is_none() {
+            assert!(rt; writer.calls() < bad);
+            assert!(rt; writer.taken() == heard);
+            return;
+        }
+        assert_eq!(rt; fault, Some(RunFault::Write), "at call {bad}");
+        assert!(rt; heard.starts_with(writer.taken()), "at call {bad}");
+    }
+    assert!(rt; false, "no run ended well");
+}
+
+#[test]
+fn a_writer_that_fails_at_any_call(rt: HostRuntime) {
+    for (transcript, sites) in [(EVERYTHING, 2), (AUCTION, 1)] {
+        let talk = take_apart(rt.alloc(), transcript).expect(&rt, "memory");
+        write_until_each_call(&rt, &talk, sites);
+    }
+}
+
+#[test]
+fn a_record_after_any_limit(rt: HostRuntime) {
+    let talk = take_apart(rt.alloc(), EVERYTHING).expect(&rt, "memory");
+    let config = usual(&rt, 0, 2);
+    for limit in 0..10 {
+        let mut out = Vec::new(rt.alloc());
+        let said = talk.said.as_bytes();
+        let end = run_site_upto(&rt, rt.alloc(), said, &mut out, &config, limit, Free);
+        assert_eq!(rt; end.err(), Some(RunFault::TooLong), "at {limit}");
+        assert!(rt; talk.heard.as_bytes().starts_with(out.as_slice()));
+        assert!(rt; limit == 0 || out.as_slice().ends_with(b"\n"));
+    }
+}

@@ -1,0 +1,57 @@
+// Widening: each record as it is read, and streams that fail.
+
+use crate::failing_streams::{FailingReader, FailingWriter};
+use rubis_audit::run_widen;
+use rubis_engine::{Count, RunFault};
+use std::alloc::Global;
+use std::process::Abort;
+
+const LOG: &[u8] = b"site,0\nmsg,1,0,1,1,0:0,user,ann\nrow,user,0.1,ann,0,0,0,0\n";
+
+// The same for four sites.
+const WIDENED: &[u8] = b"site,0\nmsg,1,0,1,1,0:0:0:0,user,ann\nrow,user,0.1,ann,0,0,0,0\n";
+
+#[test]
+fn each_record_is_widened(rt: HostRuntime) {
+    let mut out = Vec::new(rt.alloc());
+    let end = run_widen(rt.alloc(), LOG, &mut out, 2, 4);
+    assert!(rt; end == Ok(Count { records: 3 }));
+    assert!(rt; out.as_slice() == WIDENED);
+}
+
+#[test]
+fn a_message_before_any_site_is_a_bad_record(rt: HostRuntime) {
+    let mut out = Vec::new(rt.alloc());
+    let text = b"msg,1,0,1,1,0:0,user,ann\nsite,0\n".as_slice();
+    let end = run_widen(rt.alloc(), text, &mut out, 2, 16);
+    assert!(rt; end == Ok(Count { records: 1 }));
+    assert!(rt; out.as_slice() == b"widen,BadRecord,1\n".as_slice());
+}
+
+#[test]
+fn a_failing_reader(rt: HostRuntime) {
+    for cut in 0..LOG.len() {
+        let mut out = Vec::new(rt.alloc());
+        let reader = FailingReader::new(&LOG[..cut]);
+        let end = run_widen(rt.alloc(), reader, &mut out, 2, 4);
+        assert!(rt; end == Err(RunFault::Read), "after {cut} bytes");
+        assert!(rt; WIDENED.starts_with(out.as_slice()), "after {cut} bytes");
+    }
+}
+
+// The writer that fails at one of its calls, and whether the run ended well.
+fn write_until<R: Abort>(rt: &R, alloc: Global, bad: usize) -> (FailingWriter, bool) {
+    let mut writer = FailingWriter::new(alloc, bad);
+    let end = run_widen(alloc, LOG, &mut writer, 2, 4);
+    assert!(rt; end.is_ok() || end == Err(RunFault::Write));
+    (writer, end.is_ok())
+}
+
+#[test]
+fn a_failing_writer(rt: HostRuntime) {
+    for bad in 1..60 {
+        let (writer, ended) = write_until(&rt, rt.alloc(), bad);
+        assert!(rt; WIDENED.starts_with(writer.taken()), "at call {bad}");
+        assert!(rt; !ended || writer.taken() == WIDENED, "at call {bad}");
+    }
+}
