@@ -22,7 +22,7 @@ pub fn refused<R: Print>(rt: &R, name: &str) -> Stop {
 }
 
 /// What a call answers that changes nothing. Where it is refused memory, that is told, and the scenario is run again: to make
-/// the call again here would make each scenario twice as long to prove, and so would a closure.
+/// the call again here would put it into the scenario, and into its proof, twice. A closure would be three functions more.
 macro_rules! again {
     ($rt:expr, $name:literal, $call:expr) => {
         match $call {
