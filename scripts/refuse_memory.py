@@ -14,7 +14,8 @@ of a thread among them. Each scenario of GROWTHS is run so, and rubis on convers
 - What the long scenarios answer if nothing is refused is what conversations/ says.
 
 Every n is taken up to EACH, and then every STEP-th, until RUNS runs in a row met no refusal: how often memory is asked for
-depends a little on how threads take turns. With --all, every n is taken. With names, only these scenarios or commands are
+depends a little on how threads take turns. Where no run told what some run has to tell (SHOWN), those between are taken too,
+until one does. With --all, every n is taken. With names, only these scenarios or commands are
 run. REFUSE_JOBS is how many runs go on at once: as many as there are processors, if it isn't set. Each fault is told; the
 last line says how many calls were refused. The status is 1 if there was a fault.
 """
@@ -261,6 +262,20 @@ def calls_from(first: int, every: bool) -> list[int]:
     return calls
 
 
+def show(tried: Tried, made: pathlib.Path, last: int, pool: concurrent.futures.Executor) -> tuple[int, int]:
+    """Refuses the calls up to the last one that were passed over, until what has to be told is told. Which call it is that
+    leads to that depends on how threads take turns. How many runs there were, and how many of them met a refusal."""
+    runs = met = 0
+    for first in range(EACH + 1, last, RUNS):
+        if tried.is_shown:
+            break
+        answers = list(pool.map(lambda call: tried.is_refused(call, made), range(first, first + RUNS)))
+        runs, met = runs + len(answers), met + sum(answers)
+    if not tried.is_shown:
+        raise Fault(f"{tried.name}: no run told {SHOWN[tried.name].decode()}")
+    return runs, met
+
+
 def refuse_each(tried: Tried, made: pathlib.Path, every: bool, pool: concurrent.futures.Executor) -> tuple[int, int]:
     """Refuses one call after the other: how many runs there were, and how many of them met a refusal."""
     tried.begin(made)
@@ -270,11 +285,11 @@ def refuse_each(tried: Tried, made: pathlib.Path, every: bool, pool: concurrent.
         answers = list(pool.map(lambda call: tried.is_refused(call, made), calls))
         runs, met = runs + len(answers), met + sum(answers)
         if not any(answers):
-            if not tried.is_shown:
-                raise Fault(f"{tried.name}: no run told {SHOWN[tried.name].decode()}")
-            return runs, met
+            break
         last = calls[-1]
         calls = calls_from(last + (1 if every or last < EACH else STEP), every)
+    more, more_met = show(tried, made, calls[-1], pool)
+    return runs + more, met + more_met
 
 
 def main() -> int:
