@@ -6,7 +6,8 @@
 - Each definition or type that docs/MODEL.md reads aloud stands in a crate's `specs` or `src`.
 - Each call, definition and wrong body that docs/PROMISES.md names stands in a crate's `src`, `specs` or `must-fail`.
 - Each statement that docs/PROMISES.md quotes is its source, word for word.
-- Each wrong body is named in docs/PROMISES.md, in a row of a call of its own crate.
+- Each wrong body is named in docs/PROMISES.md, in a row of a call of its own crate, and is an edit: each old text of it occurs
+  once in its file. The gate passes over one that isn't.
 - Each link of README.md and docs/ to lines of a source, as [`name`](crates/..#L1-L2), names the lines of that function with
   its contract, or of that definition.
 - The table of crates in docs/ARCHITECTURE.md has the crates of crates.txt in their order, each with those that it stands on.
@@ -152,6 +153,24 @@ def check_edits(page: pathlib.Path, edits: dict[str, set[str]]) -> tuple[int, li
     return looked, faults
 
 
+def check_old_texts() -> tuple[int, list[str]]:
+    """Whether each old text of a wrong body occurs once in its file."""
+    count, faults = 0, []
+    for path in sorted(CRATES.glob("*/must-fail/*.edit")):
+        name, text = path.relative_to(TOP), path.read_text()
+        if not re.fullmatch(r"(file: .*\n(old: .*\nnew: .*\n)+)+", text):
+            faults.append(f"{name}: not a file, each with lines of old and new text")
+        source = ""
+        for kind, rest in re.findall(r"^(file|old): (.*)$", text, re.M):
+            if kind == "file":
+                source = (path.parent.parent / rest).read_text()
+                continue
+            count += 1
+            if source.count(rest) != 1:
+                faults.append(f"{name}: this doesn't stand once in its file: {rest}")
+    return count, faults
+
+
 def lines_of_function(lines: list[str], name: str) -> tuple[int, int] | str:
     """The lines from a public function's comment to its last clause, from 1; or what is wrong."""
     at = next((at for at, line in enumerate(lines) if re.match(rf"\s*pub fn {name}\b", line)), None)
@@ -267,7 +286,7 @@ def main() -> int:
     for path in CRATES.glob("*/must-fail/*.edit"):
         edits.setdefault(path.stem, set()).add(path.relative_to(CRATES).parts[0])
     everything = specs | code_names() | set(edits) | FOREIGN
-    found = [check_model(model, specs | code_names()), check_names(promises, everything), check_quotes(promises), check_edits(promises, edits), check_pictures(fix), check_callers(TOP / "docs/CALLING.md"), check_crates(TOP / "docs/ARCHITECTURE.md")]
+    found = [check_model(model, specs | code_names()), check_names(promises, everything), check_quotes(promises), check_edits(promises, edits), check_old_texts(), check_pictures(fix), check_callers(TOP / "docs/CALLING.md"), check_crates(TOP / "docs/ARCHITECTURE.md")]
     found += [check_links(page, fix) for page in [TOP / "README.md", *sorted(TOP.glob("docs/*.md"))]]
     looked = sum(count for count, _ in found) + len(edits)
     faults = [fault for _, part in found for fault in part]
