@@ -1,11 +1,11 @@
--- The batches of an application, one after the other, and the one that is kept for the next.
+-- The batches of an application, one after the other.
 use Rattle.std.proofs.Common.{◌≡◌, List, length, sym, ap, ◌∙◌, subst, inl, inr}
 use Rattle.std.specs.Prelude.{◌⊎◌, Result, Ok, Err}
 use Rattle.std.specs.declared.alloc.AllocError.{AllocError}
 use Rattle.rubis_message.specs.Message.{Message}
 use Rattle.rubis_workers.specs.declared.cuts.Cut.{Cut}
 use Rattle.rubis_follower.specs.Follow.{ComesTo, Follower, HasGone, IsLast}
-use Rattle.rubis_follower.specs.Progress.{BatchBegins, HasBegun, IsAhead, IsBetween, IsTried, Progress, keeping, resting_at}
+use Rattle.rubis_follower.specs.Progress.{BatchBegins, HasBegun, IsBetween, IsTried, Progress, resting_at}
 
 -- the first batch wasn't whole
 pub first_stops : (log : List Message) (old new : Progress) → (new ≡ old) ⊎ BatchBegins log old.kept old new → HasBegun log old new ⊎ IsBetween old new
@@ -51,12 +51,3 @@ last_tried log first f new k (Err e) last comes =
 pub has_gone : (log : List Message) (first f new : Follower) (k : Cut) (r : Result (Unit {0}) AllocError) → IsLast log first f k → ComesTo log k.upto f new r
     → HasGone log first f new
 has_gone log first f new k r last comes = record { follows = comes.follows; limits = comes.limits; tried = last_tried log first f new k r last comes; many = comes.many }
-
--- ---- what is kept
-
-pub goes_ahead : (before after : List Message) (old mid new : Progress) → IsTried before old mid
-    → (new ≡ mid) ⊎ ((mid ≡ resting_at (length before)) × (new ≡ keeping (length before) (length after))) → IsAhead before after old new
-goes_ahead before after old mid new tried kept = elim kept [
-  | inl same ↦ inl (subst (IsTried before old) (sym same) tried)
-  | inr next ↦ inr next.1
-]

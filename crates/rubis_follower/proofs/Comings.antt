@@ -1,15 +1,14 @@
 -- Messages that arrive one after the other.
-use Rattle.std.proofs.Common.{◌≡◌, ℕ, ◌<◌, ◌≤◌, List, [], ◌∷◌, ◌++◌, length, length-append, refl, sym, ap, ◌∙◌, subst, append_assoc, arith}
-use Rattle.std.specs.Prelude.{IfSome, None, Option, Result, Some, reverse}
+use Rattle.std.proofs.Common.{◌≡◌, ℕ, ◌≤◌, List, [], ◌∷◌, ◌++◌, length, length-append, refl, sym, ap, ◌∙◌, append_assoc, arith}
+use Rattle.std.specs.Prelude.{Result, reverse}
 use Rattle.std.proofs.lemmas.List.{append-nil, reverse-append}
 use Rattle.rubis_schema.specs.declared.refusals.Refusal.{Refusal}
 use Rattle.rubis_message.specs.Message.{Message}
 use Rattle.rubis_message.specs.declared.answers.Arrival.{Arrival}
 use Rattle.rubis_model.specs.Site.{Place, Replica, arrived}
-use Rattle.rubis_follower.specs.Arrivals.{IsStop, TakesFirst, after_all, answers_to}
-use Rattle.rubis_follower.specs.declared.faults.Fault.{Fault}
-use Rattle.rubis_follower.specs.declared.faults.Fault.TheVariants.{Memory}
-use Rattle.rubis_follower.proofs.Extending.{Extends, arrived_extends}
+use Rattle.rubis_follower.specs.Arrivals.{TakesFirst, after_all, answers_to}
+use Rattle.rubis_follower.specs.Follow.{Follower, FollowsAt}
+use Rattle.rubis_follower.proofs.Extending.{Extends, arrived_extends, follows_extended}
 
 -- ---- one message more
 
@@ -63,7 +62,8 @@ taken_longer p old new messages answers rest h =
     let more = taken_extends p old new messages answers rest h in
     omega (arith, ap length more.1, length-append old.log more.0)
 
--- why not all were taken in
-pub stops : (left : ℕ) (rest : List Message) (o : Option Fault) → IfSome o (λ f. (f ≡ Memory) × (0 < length rest)) → IfSome o (IsStop left rest)
-stops left rest None h = tt
-stops left rest (Some f) h = subst (IsStop left rest) (sym h.0) h.1
+-- and the tables that follow it follow it still
+pub follows_taken : (p q : Place) (old new : Replica) (messages : List Message) (answers : List (Result Arrival Refusal)) (rest : List Message) (f : Follower) → q ≡ p
+    → TakesFirst p old new messages answers rest → FollowsAt p.sites old.log f → FollowsAt q.sites new.log f
+follows_taken p q old new messages answers rest f same h follows =
+    follows_extended p q old.log new.log f same (taken_extends p old new messages answers rest h) follows

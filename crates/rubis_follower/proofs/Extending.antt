@@ -1,10 +1,14 @@
--- A site's log grows at its end.
-use Rattle.std.proofs.Common.{◌≡◌, ℕ, zero, suc, Bool, true, false, cond, List, [], ◌∷◌, ◌++◌, length, sym, ◌∙◌, append_assoc}
+-- A site's log grows at its end, and the tables that follow it follow it still.
+use Rattle.std.proofs.Common.{◌≡◌, ℕ, zero, suc, ◌≤◌, Bool, true, false, cond, List, [], ◌∷◌, ◌++◌, length, take, sym, ap, ◌∙◌, subst, append_assoc, arith}
 use Rattle.std.specs.Prelude.{Some, None}
-use Rattle.std.proofs.lemmas.List.{append-nil}
+use Rattle.std.proofs.lemmas.List.{append-nil, take-append-le}
+use Rattle.rubis_shadow.specs.Limits.{AllInLimits}
 use Rattle.rubis_message.specs.Message.{Message}
+use Rattle.rubis_model.specs.Log.{cores, fold_of}
 use Rattle.rubis_model.specs.Settle.{first_ready, settle}
 use Rattle.rubis_model.specs.Site.{Place, Replica, arrived, is_full, is_repeat, not_ours}
+use Rattle.rubis_follower.specs.Follow.{Follower, FollowsAt, FollowsLog}
+use Rattle.rubis_follower.proofs.Following.{follows_more}
 
 abbrev pub Extends : List Message → List Message → Type 0
 Extends log new = (more : List Message) × (new ≡ log ++ more)
@@ -32,3 +36,14 @@ arrived_extends p s m =
     one_of (not_ours p s m) s.log _ _ (none_more s)
     (one_of (is_repeat s m) s.log _ _ (none_more s)
     (one_of (is_full p.keep s) s.log _ _ (none_more s) (settle_extends (length (s.waiting ++ m ∷ [])) s.log (s.waiting ++ m ∷ []))))
+
+-- ---- the tables
+
+pub follows_extended : (p q : Place) (log new : List Message) (f : Follower) → q ≡ p → Extends log new → FollowsAt p.sites log f → FollowsAt q.sites new f
+follows_extended p q log new f same e h =
+    let inside : f.at ≤ length log = omega (arith, h.follows.inside, h.follows.progress.inside) in
+    let front : take f.at log ≡ take f.at new = sym (take-append-le f.at log e.0 inside) ∙ ap (take f.at) (sym e.1) in
+    subst (λ (y : Place). FollowsAt y.sites new f) (sym same) (record {
+      follows = subst (λ (l : List Message). FollowsLog l f) (sym e.1) (follows_more log e.0 f h.follows);
+      limits = subst (λ (xs : List Message). AllInLimits p.sites (fold_of (cores xs)).tables) front h.limits;
+    })

@@ -1,11 +1,11 @@
 -- Tables that follow a log: a batch that is whole or has begun, and a log that grows.
 use Rattle.std.proofs.Common.{◌≡◌, ℕ, ◌+◌, ◌-◌, ◌<◌, ◌≤◌, List, [], ◌∷◌, ◌++◌, length, length-append, take, refl, sym, ap, ◌∙◌, subst, arith, inl, inr}
-use Rattle.std.specs.Prelude.{◌⊎◌, OnErr, Result, Ok, Err}
+use Rattle.std.specs.Prelude.{◌⊎◌, All, OnErr, Result, Ok, Err}
 use Rattle.std.specs.declared.alloc.AllocError.{AllocError}
 use Rattle.std.proofs.lemmas.List.{take-append-le}
 use Rattle.std.proofs.lemmas.List.Sums.{sum_by-cons}
 use Rattle.rubis_shadow.specs.declared.changes.Effect.{Effect}
-use Rattle.rubis_message.specs.Message.{Message}
+use Rattle.rubis_message.specs.Message.{Message, sites_of}
 use Rattle.rubis_model.specs.Log.{cores}
 use Rattle.rubis_shard.specs.Holdings.{HoldsLog}
 use Rattle.rubis_shard.specs.States.{ShardState}
@@ -13,8 +13,8 @@ use Rattle.rubis_folds.specs.Batches.{AreUnfinished, EndsWhole, GoesOn as GoesOn
 use Rattle.rubis_pieces.specs.Shares.{AreShares}
 use Rattle.rubis_pieces.specs.declared.pieces.Left.{Left}
 use Rattle.rubis_folds.proofs.Folded.{holds_all}
-use Rattle.rubis_follower.specs.Follow.{Follower, FollowsLog, IsNoted, parts_to_do}
-use Rattle.rubis_workers.specs.Logs.{parts_between}
+use Rattle.rubis_follower.specs.Follow.{Follower, FollowsAt, FollowsLog, IsNoted, parts_to_do}
+use Rattle.rubis_workers.specs.Logs.{AreWithin, StaysWithin, parts_between}
 use Rattle.rubis_follower.specs.Progress.{BatchBegins, BatchGoesOn, IsProgress, Progress, resting_at}
 use Rattle.rubis_workers.proofs.Between.{below_or, between_inside, between_meets, few_between, nothing_between, slice_inside, some_between}
 
@@ -308,3 +308,13 @@ follows_more log more f h =
         )
       ];
     }
+
+-- ---- tables that were brought on
+
+pub follows_on : (sites : ℕ) (log read : List Message) (old new : Follower) → read ≡ log → All (λ m. sites_of m ≡ sites) log
+    → FollowsAt sites log old → FollowsLog read new → StaysWithin read old.at new.at → FollowsAt sites log new
+follows_on sites log read old new e all f h k = record {
+  follows = subst (λ (l : List Message). FollowsLog l new) e h;
+  limits = subst (λ (l : List Message). AreWithin sites l new.at) e
+      (k sites (subst (λ (l : List Message). All (λ m. sites_of m ≡ sites) l) (sym e) all) (subst (λ (l : List Message). AreWithin sites l old.at) (sym e) f.limits));
+}

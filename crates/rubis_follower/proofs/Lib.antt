@@ -3,3 +3,4 @@ pub mod Cutting
 pub mod Applications
 pub mod Extending
 pub mod Comings
+pub mod Kept

@@ -26,8 +26,8 @@ pub struct Arrived {
     pub fault: Option<Fault>,
 }
 
-/// What an intake came to by messages that arrived, and the shares of what was released. There are none where no memory was for
-/// them, and an empty list where none were to be made.
+// What an intake came to by messages that arrived, and the shares of what was released. There are none where no memory was for
+// them, and an empty list where none were to be made.
 #[derive(Drop)]
 pub struct Ahead {
     pub intake: Intake,
@@ -124,8 +124,8 @@ fn shares_behind<R: Threads + Sync>(
     }
 }
 
-/// Takes messages in, and makes the shares of what is released.
-pub fn take_ahead<R: Threads + Sync>(
+// Takes messages in, and makes the shares of what is released.
+pub(crate) fn take_ahead<R: Threads + Sync>(
     rt: &R,
     alloc: Global,
     intake: Intake,

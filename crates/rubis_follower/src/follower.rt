@@ -1,22 +1,26 @@
 // Tables that follow a log, batch by batch.
 
-ghost use Rattle.std.specs.Prelude.{◌≡◌, ◌≤◌, ◌<◌, ◌⊎◌, [], IfOk, IfSome, List, OnOk, OnErr, length};
+ghost use Rattle.std.specs.Prelude.{◌≡◌, ◌≤◌, ◌<◌, ◌⊎◌, [], All, IfNone, IfOk, IfSome, List, OnOk, OnErr, length};
 ghost use Rattle.rubis_schema.specs.declared.limits.TheConstants.{WORKERS_MAX};
 ghost use Rattle.rubis_message.specs.Message as message;
+ghost use Rattle.rubis_message.specs.Message.{sites_of};
 ghost use Rattle.rubis_model.specs.Listings.{table_rows};
 ghost use Rattle.rubis_shard.specs.Holdings.{HoldsLog, union};
 ghost use Rattle.rubis_folds.specs.Batches.{parts_left};
 ghost use Rattle.rubis_workers.specs.Logs.{StaysWithin, parts_between};
-ghost use Rattle.rubis_follower.specs.Arrivals.{AreNext};
-ghost use Rattle.rubis_follower.specs.Follow.{ComesTo, FollowsLog, HasGone, IsNextCut, IsNoted, IsToGo, parts_to_do};
-ghost use Rattle.rubis_follower.specs.Progress.{BatchBegins, BatchGoesOn, HasBegun, IsBetween, is_behind, keeping, resting_at};
+ghost use Rattle.rubis_follower.specs.Ahead.{TakesAhead};
+ghost use Rattle.rubis_follower.specs.Arrivals.{AreNext, IsStop, TakesFirst};
+ghost use Rattle.rubis_follower.specs.Follow.{ComesTo, FollowsAt, FollowsLog, HasGone, IsNextCut, IsNoted, IsToGo, parts_to_do};
+ghost use Rattle.rubis_follower.specs.Progress.{BatchBegins, BatchGoesOn, HasBegun, IsAhead, IsBetween, is_behind, keeping, resting_at};
 ghost use Rattle.rubis_follower.specs.Follow as model;
 ghost use Rattle.rubis_follower.specs.Counts.{IsCount};
 
+use crate::arriving::{Ahead, Arrived, take_ahead};
 use rubis_folds::finish;
 use rubis_listing::{SharedSink, list_tables, list_tables_shared};
 use rubis_message::Message;
 use rubis_pieces::Left;
+use rubis_release::Intake;
 use rubis_schema::{Hashes, Listing};
 use rubis_shard::{Share, Tables};
 use rubis_workers::{Cut, Gate, Pace, apply_batch, apply_cut, apply_upto, count_left, count_parts};
@@ -211,16 +215,11 @@ impl<G: Gate> Follower<G> {
         }
     }
 
-    /// The most workers of a batch. No answer depends on how many these are.
-    pub fn workers(&self) -> usize
+    // The most workers of a batch.
+    fn workers(&self) -> usize
         ensures { (0 < result) × (result ≤ 16) }
     {
         usize::from(self.workers)
-    }
-
-    /// How many threads a batch is worth. No answer depends on it.
-    pub fn pace(&self) -> Pace {
-        self.pace
     }
 
     // Applies the batch that ends with message `upto`, from the log.
@@ -389,13 +388,9 @@ impl<G: Gate> Follower<G> {
         self.follow_upto(rt, log, log.len())
     }
 
-    /// Applies all that is pending but for the last batch, where several threads are to apply it: then it is given as shares.
-    /// `None` where nothing is left to be tried.
-    pub fn follow_to_last<R: Threads + Wait + Sync>(
-        &mut self,
-        rt: &R,
-        log: &[Message],
-    ) -> Option<Cut>
+    // Applies all that is pending but for the last batch, where several threads are to apply it: then it is given as shares.
+    // `None` where nothing is left to be tried.
+    fn follow_to_last<R: Threads + Wait + Sync>(&mut self, rt: &R, log: &[Message]) -> Option<Cut>
         requires few { length log.now ≤ 1000000 }
         requires rests { self.old.progress.left ≡ 0 }
         requires follows { FollowsLog log.now self.old }
@@ -417,8 +412,8 @@ impl<G: Gate> Follower<G> {
         }
     }
 
-    /// Has the workers apply the last batch, where it was cut. Meanwhile `beside` is called once, on this thread.
-    pub fn follow_last<R: Threads + Wait + Sync, A, F: FnOnce() -> A>(
+    // Has the workers apply the last batch, where it was cut. Meanwhile `beside` is called once, on this thread.
+    fn follow_last<R: Threads + Wait + Sync, A, F: FnOnce() -> A>(
         &mut self,
         rt: &R,
         last: Option<Cut>,
@@ -438,16 +433,9 @@ impl<G: Gate> Follower<G> {
         }
     }
 
-    /// How many shards the tables have.
-    pub fn shards(&self) -> usize
-        ensures { result ≡ length self.now.tables }
-    {
-        self.tables.len()
-    }
-
-    /// Keeps what the log has after its first `before` messages as the next batch, with its shares where they were made,
-    /// where all before it is applied.
-    pub fn keep(&mut self, log: &[Message], before: usize, shares: Vec<Share>)
+    // Keeps what the log has after its first `before` messages as the next batch, with its shares where they were made,
+    // where all before it is applied.
+    fn keep(&mut self, log: &[Message], before: usize, shares: Vec<Share>)
         requires follows { FollowsLog log.now self.old }
         requires before { before ≤ length log.now }
         requires shares { AreNext (length self.old.tables) before log.now shares.items }
@@ -459,6 +447,54 @@ impl<G: Gate> Follower<G> {
             self.kept = log.len();
             self.shares = shares;
         }
+    }
+
+    /// Takes messages in that arrived together, one after the other, into the intake whose log these tables follow. What is
+    /// pending before is applied, by the workers meanwhile; what is released by the messages is kept as the next batch, where
+    /// all before it is applied. A message for which there is no memory comes back with all that follow it.
+    pub fn take_in<R: Threads + Wait + Sync>(
+        &mut self,
+        rt: &R,
+        intake: &mut Intake,
+        messages: Vec<Message>,
+    ) -> Arrived
+        requires sites { All (λ m. sites_of m ≡ intake.old.place.sites) messages.items }
+        requires rests { self.old.progress.left ≡ 0 }
+        requires follows { FollowsAt intake.old.place.sites intake.old.state.log self.old }
+        ensures follows { FollowsAt intake.new.place.sites intake.new.state.log self.new }
+        ensures place { intake.new.place ≡ intake.old.place }
+        ensures first { TakesFirst intake.old.place intake.old.state intake.new.state messages.items result.answers result.rest }
+        ensures none { IfNone result.fault (result.rest ≡ []) }
+        ensures fault { IfSome result.fault (IsStop self.old.progress.left result.rest) }
+        ensures progress { IsAhead intake.old.state.log intake.new.state.log self.old.progress self.new.progress }
+    {
+        let alloc = self.alloc;
+        let before = intake.log().len();
+        let shards = self.tables.len();
+        let workers = self.workers();
+        let pace = self.pace;
+        let last = self.follow_to_last(rt, intake.log());
+        let standing = intake.take();
+        let ahead = self.follow_last(
+            rt,
+            last,
+            move || -> Ahead
+                requires sites { All (λ m. sites_of m ≡ standing.place.sites) messages.items }
+                requires shards { 0 < shards }
+                requires workers { 0 < workers }
+                ensures ahead { TakesAhead shards standing messages.items result }
+            { take_ahead(rt, alloc, standing, messages, shards, workers, pace) },
+        );
+        let Ahead {
+            intake: grown,
+            arrived,
+            shares,
+        } = ahead;
+        *intake = grown;
+        if let Some(shares) = shares {
+            self.keep(intake.log(), before, shares);
+        }
+        arrived
     }
 
     /// Goes on with the batch that has begun, on this thread.

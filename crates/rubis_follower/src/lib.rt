@@ -5,6 +5,6 @@ mod arriving;
 mod faults;
 mod follower;
 
-pub use arriving::{Ahead, Arrived, take_ahead};
+pub use arriving::Arrived;
 pub use faults::Fault;
 pub use follower::Follower;

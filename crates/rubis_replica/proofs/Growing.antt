@@ -1,13 +1,13 @@
 -- A site's log grows at its end, and the tables that follow it follow it still.
 use Rattle.std.proofs.Common.{◌≡◌, ℕ, zero, suc, ◌<◌, ◌≤◌, Bool, true, false, cond, List, [], ◌∷◌, ◌++◌, length, take, sym, ap, ◌∙◌, subst, append_assoc, refl, arith, inl}
-use Rattle.std.specs.Prelude.{◌==◌, ◌||◌, Option, Some, None, All, Result, nat_le}
+use Rattle.std.specs.Prelude.{◌==◌, ◌||◌, Option, Some, None, Result, nat_le}
 use Rattle.std.proofs.Math.Seq.{take-length}
-use Rattle.std.proofs.lemmas.List.{append-nil, take-append-le}
+use Rattle.std.proofs.lemmas.List.{append-nil}
 use Rattle.rubis_shadow.specs.Limits.{AllInLimits}
 use Rattle.rubis_shadow.specs.declared.shadows.Shadow.{Shadow}
 use Rattle.rubis_shadow.proofs.InLimits.{opening_in_limits}
 use Rattle.rubis_schema.specs.declared.refusals.Refusal.{Refusal}
-use Rattle.rubis_message.specs.Message.{Message, sites_of}
+use Rattle.rubis_message.specs.Message.{Message}
 use Rattle.rubis_message.specs.declared.answers.Arrival.{Arrival}
 use Rattle.rubis_message.specs.declared.tokens.Token.{Token}
 use Rattle.rubis_model.specs.Log.{cores, fold_of}
@@ -15,22 +15,10 @@ use Rattle.rubis_model.specs.Site.{Place, Replica, after_made, arrived, made, pa
 use Rattle.rubis_shard.specs.Holdings.{HoldsLog, union}
 use Rattle.rubis_folds.specs.Batches.{AreUnfinished}
 use Rattle.rubis_shard.proofs.Unions.{union_of_log}
-use Rattle.rubis_workers.specs.Logs.{AreWithin, StaysWithin}
-use Rattle.rubis_follower.specs.Arrivals.{TakesFirst}
 use Rattle.rubis_follower.specs.Follow.{Follower, FollowsAt, FollowsLog}
 use Rattle.rubis_follower.specs.Progress.{IsProgress, Progress, resting_at}
-use Rattle.rubis_follower.proofs.Following.{all_done, follows_more, holds_none, rests_at, rests_holds}
-use Rattle.rubis_follower.proofs.Extending.{Extends, arrived_extends, settle_extends}
-use Rattle.rubis_follower.proofs.Comings.{taken_extends}
-
-pub follows_extended : (p q : Place) (log new : List Message) (f : Follower) → q ≡ p → Extends log new → FollowsAt p.sites log f → FollowsAt q.sites new f
-follows_extended p q log new f same e h =
-    let inside : f.at ≤ length log = omega (arith, h.follows.inside, h.follows.progress.inside) in
-    let front : take f.at log ≡ take f.at new = sym (take-append-le f.at log e.0 inside) ∙ ap (take f.at) (sym e.1) in
-    subst (λ (y : Place). FollowsAt y.sites new f) (sym same) (record {
-      follows = subst (λ (l : List Message). FollowsLog l f) (sym e.1) (follows_more log e.0 f h.follows);
-      limits = subst (λ (xs : List Message). AllInLimits p.sites (fold_of (cores xs)).tables) front h.limits;
-    })
+use Rattle.rubis_follower.proofs.Following.{all_done, holds_none, rests_at, rests_holds}
+use Rattle.rubis_follower.proofs.Extending.{Extends, arrived_extends, follows_extended, settle_extends}
 
 -- ---- a message that the site makes
 
@@ -50,13 +38,6 @@ pub follows_arrived : (p q : Place) (s new : Replica) (m : Message) (f : Followe
 follows_arrived p q s new m f same e h =
     let more = arrived_extends p s m in
     follows_extended p q s.log new.log f same (more.0, ap (λ (r : Replica). r.log) e ∙ more.1) h
-
--- ---- messages that arrive one after the other
-
-pub follows_taken : (p q : Place) (old new : Replica) (messages : List Message) (answers : List (Result Arrival Refusal)) (rest : List Message) (f : Follower) → q ≡ p
-    → TakesFirst p old new messages answers rest → FollowsAt p.sites old.log f → FollowsAt q.sites new.log f
-follows_taken p q old new messages answers rest f same h follows =
-    follows_extended p q old.log new.log f same (taken_extends p old new messages answers rest h) follows
 
 -- ---- the token, which leaves the log
 
@@ -99,17 +80,9 @@ follows_opening sites log f e p some holds =
     none_taken zero = refl
     none_taken (suc n) = refl
 
--- ---- tables that were brought on
+-- ---- with all of the log applied
 
-pub follows_on : (sites : ℕ) (log read : List Message) (old new : Follower) → read ≡ log → All (λ m. sites_of m ≡ sites) log
-    → FollowsAt sites log old → FollowsLog read new → StaysWithin read old.at new.at → FollowsAt sites log new
-follows_on sites log read old new e all f h k = record {
-  follows = subst (λ (l : List Message). FollowsLog l new) e h;
-  limits = subst (λ (l : List Message). AreWithin sites l new.at) e
-      (k sites (subst (λ (l : List Message). All (λ m. sites_of m ≡ sites) l) (sym e) all) (subst (λ (l : List Message). AreWithin sites l old.at) (sym e) f.limits));
-}
-
--- with all of the log applied, all of it stands
+-- all of it stands
 pub all_at : (log : List Message) (f : Follower) → FollowsLog log f → f.progress ≡ resting_at (length log) → take f.at log ≡ log
 all_at log f h e =
     let applied = ap (λ (p : Progress). p.applied) e in

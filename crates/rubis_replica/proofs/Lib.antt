@@ -1,4 +1,3 @@
 pub mod Growing
-pub mod Kept
 pub mod Deciding
 pub mod Listing

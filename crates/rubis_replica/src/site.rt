@@ -5,14 +5,13 @@ ghost use Rattle.rubis_model.specs.Log.{cores, fold_of};
 ghost use Rattle.rubis_model.specs.Runs.{listed, listing_rows};
 ghost use Rattle.rubis_model.specs.Site.{arrived, asked, opening_at, passed, took};
 ghost use Rattle.rubis_release.specs.Answers.{IsAdmitted};
-ghost use Rattle.rubis_follower.specs.Ahead.{TakesAhead};
 ghost use Rattle.rubis_follower.specs.Arrivals.{IsStop, TakesFirst};
 ghost use Rattle.rubis_follower.specs.Progress.{BatchGoesOn, IsAhead, IsBatched, IsProgress, is_behind, resting_at};
 ghost use Rattle.rubis_replica.specs.Setup.{setup_place};
 ghost use Rattle.rubis_replica.specs.State.{AddsRows, AnswersAsTheStep, IsDecision, IsCutFault, IsReadFault, Lists, NeedsNoTables, TakesIn, WaitsBehind, pending, with_all_applied};
 
 use crate::config::Config;
-use rubis_follower::{Ahead, Arrived, Fault, Follower, take_ahead};
+use rubis_follower::{Arrived, Fault, Follower};
 use rubis_generate::decide;
 use rubis_listing::{SharedSink, list_log, list_misfits};
 use rubis_message::{Arrival, Message, Taken, Token};
@@ -206,33 +205,7 @@ impl<G: Gate> Site<G> {
                 fault: Some(Fault::Behind),
             };
         }
-        let alloc = self.alloc;
-        let before = self.intake.log().len();
-        let shards = self.follower.shards();
-        let workers = self.follower.workers();
-        let pace = self.follower.pace();
-        let last = self.follower.follow_to_last(rt, self.intake.log());
-        let intake = self.intake.take();
-        let ahead = self.follower.follow_last(
-            rt,
-            last,
-            move || -> Ahead
-                requires sites { All (λ m. sites_of m ≡ intake.place.sites) messages.items }
-                requires shards { 0 < shards }
-                requires workers { 0 < workers }
-                ensures ahead { TakesAhead shards intake messages.items result }
-            { take_ahead(rt, alloc, intake, messages, shards, workers, pace) },
-        );
-        let Ahead {
-            intake,
-            arrived,
-            shares,
-        } = ahead;
-        self.intake = intake;
-        if let Some(shares) = shares {
-            self.follower.keep(self.intake.log(), before, shares);
-        }
-        arrived
+        self.follower.take_in(rt, &mut self.intake, messages)
     }
 
     /// Takes a token that arrived.
