@@ -1,4 +1,4 @@
-ghost use Rattle.std.specs.Prelude.{◌≡◌, ◌<◌, ◌≤◌, [], length, vec_len, IfOk, IfErr};
+ghost use Rattle.std.specs.Prelude.{◌≡◌, ◌<◌, ◌≤◌, [], length, min, vec_len, IfOk, IfErr};
 ghost use Rattle.std.specs.List.Sorted.{IsPermutation};
 ghost use Rattle.rubis_shard.specs.Holdings.{AreInOrder};
 ghost use Rattle.rubis_folds.specs.Batches.{Belong};
@@ -27,7 +27,7 @@ pub struct Worked {
 #[derive(Drop)]
 pub struct TeamResult {
     pub worked: Worked,
-    /// How many threads there were to take shards, the caller's included.
+    /// How many threads were to take shards: the caller's, and all others, any that the system refused to start too.
     pub team: usize,
     /// How many of the shards threads other than the caller's took.
     pub others: usize,
@@ -87,7 +87,8 @@ pub fn apply_by_team<G: Gate, R: Threads + Wait + Sync, A, F: FnOnce() -> A>(
     ensures alone { workers ≡ 1 → IfOk result.0 (λ r. r.others ≡ 0) }
     ensures back { IfErr result.0 (λ unstarted. (unstarted.shards ≡ shards.items) × (unstarted.shares ≡ shares.items)) }
     ensures answer { F.post beside result.1 }
-    ensures team { IfOk result.0 (λ r. (0 < r.team) × (r.team ≤ workers)) }
+    ensures team { IfOk result.0 (λ r. r.team ≡ min workers (length shards.items)) }
+    ensures few { IfOk result.0 (λ r. (0 < r.team) × (r.team ≤ workers)) }
 {
     let pieces = shards.len();
     let Ok(rooms) = Rooms::new(alloc, pieces, workers.min(pieces)) else {

@@ -1,7 +1,7 @@
 //! How many threads a batch is worth.
 
-ghost use Rattle.std.specs.Prelude.{◌≡◌, ◌<◌, ◌≤◌, ◌*◌, true};
-ghost use Rattle.rubis_workers.specs.Pace.{longer, ready, shorter};
+ghost use Rattle.std.specs.Prelude.{◌≡◌, ◌<◌, ◌≤◌, ◌*◌, nat_lt, true};
+ghost use Rattle.rubis_workers.specs.Pace.{longer, most, ready, shorter, threads};
 
 /// A thread is worth starting where it applies this many messages: the start costs as much as about thirty of them, and
 /// cutting the batch into shares and waiting for the thread as much as the others.
@@ -32,6 +32,7 @@ impl Pace {
     /// least one.
     pub fn most(workers: usize, shards: usize, messages: usize) -> usize
         requires { 0 < workers }
+        ensures threads { result ≡ most workers shards messages }
         ensures some { 0 < result }
         ensures workers { result ≤ workers }
         ensures few { 1 < result → (result ≤ shards) × (result ≤ messages) }
@@ -42,6 +43,7 @@ impl Pace {
     /// How many threads the next batch gets, the caller's included.
     pub fn threads(&self, workers: usize, shards: usize, messages: usize) -> usize
         requires { 0 < workers }
+        ensures threads { result ≡ threads self.now workers shards messages }
         ensures some { 0 < result }
         ensures workers { result ≤ workers }
         ensures few { 1 < result → (result ≤ shards) × (result ≤ messages) }
@@ -58,7 +60,8 @@ impl Pace {
     /// threads.
     pub fn cuts_ahead(&self, workers: usize, shards: usize, messages: usize) -> bool
         requires { 0 < workers }
-        ensures { result ≡ true → (1 < workers) × (1 < shards) × (1 < messages) × (self.now.alone ≡ 0) }
+        ensures several { result ≡ nat_lt 1 (threads self.now workers shards messages) }
+        ensures many { result ≡ true → (1 < workers) × (1 < shards) × (1 < messages) × (self.now.alone ≡ 0) }
     {
         self.threads(workers, shards, messages) > 1
     }
