@@ -27,7 +27,7 @@ pub struct Worked {
 #[derive(Drop)]
 pub struct TeamResult {
     pub worked: Worked,
-    /// How many threads were to take shards: the caller's, and all others, any that the system refused to start too.
+    /// How many threads were to take shards, the caller's included, and any that the system refused to start.
     pub team: usize,
     /// How many of the shards threads other than the caller's took.
     pub others: usize,

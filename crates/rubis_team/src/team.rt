@@ -47,7 +47,7 @@ pub struct Teamwork<A> {
     /// How many of them threads other than the caller's took.
     pub others: usize,
     pub answer: A,
-    /// How many threads were to take them: the caller's, and all others, any that the system refused to start too.
+    /// How many threads were to take them, the caller's included, and any that the system refused to start.
     pub team: usize,
 }
 
