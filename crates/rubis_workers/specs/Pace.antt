@@ -15,11 +15,11 @@ shorter messages p = record { alone = p.alone - messages; pause = p.pause }
 abbrev pub longer : Pace → Pace
 longer p = record { alone = min (2 * p.pause + 1) ALONE_MAX; pause = min (2 * p.pause + 1) ALONE_MAX }
 
--- the most threads that a batch of so many messages has work for: one for each of the workers, but no more than there are shards
--- or messages, and at least one
+-- the most threads that a batch has work for: one for each worker, but no more than there are shards or messages, and at
+-- least one
 abbrev pub most : ℕ → ℕ → ℕ → ℕ
 most workers shards messages = max (min (min workers shards) messages) 1
 
--- how many threads the next batch gets: the caller's alone while that has messages to apply alone, and then the most
+-- how many threads the next batch gets: one while the caller's thread has messages to apply alone, and otherwise the most
 abbrev pub threads : Pace → ℕ → ℕ → ℕ → ℕ
 threads p workers shards messages = cond (nat_lt 0 p.alone) 1 (most workers shards messages)
