@@ -7,6 +7,7 @@ use Rattle.csv.specs.Writing.{default_writer, escaped, field_text, fields_text, 
 use Rattle.csv.specs.declared.parser.State.TheVariants as st
 use Rattle.csv.proofs.RoundTrip.{read-write}
 use Rattle.rubis_model.specs.Settle.{Has}
+use Rattle.rubis_engine.specs.Lines.{SentLinesAreLines}
 use Rattle.rubis_engine.specs.Text.{input_records, plain_writer, rows_text}
 
 -- rows of any lengths are written as rows of one length
@@ -74,3 +75,10 @@ unfolding input_records
 rows_back rows some mark =
     ap (λ text. records_from default_config (length text + 1) st.StartRecord text) mark
     ∙ rows_from rows (length (rows_text rows) + 1) (let long = long_enough rows in omega (arith, long)) some
+
+-- the line of fields that are sent is `send,` and then their line
+pub sent_line : SentLinesAreLines
+unfolding is_blank fields_text
+sent_line [] few = absurd (omega (arith, few))
+sent_line (field ∷ []) few = absurd (omega (arith, few))
+sent_line (field ∷ next ∷ rest) few = refl

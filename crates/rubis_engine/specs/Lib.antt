@@ -1,4 +1,5 @@
 pub mod Text
+pub mod Lines
 pub mod Rows
 pub mod Reading
 pub mod Accounts

@@ -3,6 +3,7 @@
 
 mod fault;
 mod input_record;
+mod lines;
 mod meter;
 mod quoted_rows;
 mod record_list;
@@ -13,6 +14,7 @@ mod sink;
 
 pub use fault::{Count, OutOfMemory, RunFault};
 pub use input_record::InputRecord;
+pub use lines::sent_lines_are_read_as_sent;
 pub use record_list::Records;
 pub use reply::Reply;
 pub use run::{Run, end_run, next_record, run_upto, stop, write_out};

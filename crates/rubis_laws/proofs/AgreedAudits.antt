@@ -15,7 +15,7 @@ use Rattle.rubis_laws.proofs.Audited.{faultless_sound}
 use Rattle.rubis_laws.proofs.Verdicts.{agree_faultless}
 
 -- records of different lengths differ
-is_agree : (v : Verdict) → verdict_record v ≡ verdict_record Agree → v ≡ Agree
+pub is_agree : (v : Verdict) → verdict_record v ≡ verdict_record Agree → v ≡ Agree
 is_agree Agree e = refl
 is_agree (Found kind log entry) e = let l = ap length e in absurd cc
 

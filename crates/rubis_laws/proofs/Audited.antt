@@ -48,7 +48,7 @@ pub released_all : (i : ℕ) (past : List Message) → AllOrdered i past → Rel
 released_all i [] c = tt
 released_all i (v ∷ past) c = (c.0.ready, released_all i past c.1)
 
-checked_from : (i : ℕ) (past : List Message) → AllOrdered i past → AllFitting past → ((v : Message) → Has v past → IsFormed v)
+pub checked_from : (i : ℕ) (past : List Message) → AllOrdered i past → AllFitting past → ((v : Message) → Has v past → IsFormed v)
     → Checked (cores (reverse past))
 checked_from i [] c h f = tt
 checked_from i (v ∷ past) c h f =

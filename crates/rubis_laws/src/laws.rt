@@ -1,11 +1,17 @@
 // The laws of runs and of logs, each with its statement in rubis_model/specs.
 ghost use Rattle.rubis_model.specs.AgreedAudits.{AgreedAuditsAreSound};
 ghost use Rattle.rubis_model.specs.AuditRecords.{LinesAreReadAsWritten, LogsAreReadAsWritten};
+ghost use Rattle.rubis_model.specs.Convergence.{AllCanBeDelivered, AllHadAreReleased, DeliveredAreHad, DeliveringAllConverges, HavingAllConverges, NoMessageIsRefused};
 ghost use Rattle.rubis_model.specs.Forged.{NamesAreHeld, NamesStay, StockIsKept};
+ghost use Rattle.rubis_model.specs.Lack.{CompletedTablesAreEqual, LackIsReleased, LackIsReleasedInRuns, LackNeverWaits, LacksTheRest, OneRoundConverges, WaitingIsExplained};
+ghost use Rattle.rubis_model.specs.LackRecords.{LackFollowsTheAudit};
 ghost use Rattle.rubis_model.specs.Widening.{MeaningStays, VerdictStays, WidenedAreAmong};
 ghost use Rattle.rubis_model.specs.WidenedRecords.{AuditStays};
 ghost use Rattle.rubis_model.specs.Laws.{MeaningIsOne, FoldIsMeaning, CheckedLogsHold, DecidedShadowsFit, EqualSetsEqualTables, RunsAreInOrder, RunsKeepInvariants, RunsAgreeOnTables, RunsSendDeliverables, RefusalsChangeNothing, FaultlessLogsAreSound, RunsAreFaultless, AgreesWhereFaultless, AgreedLogsAreSound, RunsAgree};
+ghost use Rattle.rubis_model.specs.Processes.{ProcessesAgree, ProcessesAgreeOnTables, ProcessesAreARun, ProcessesAreInRun, ProcessesKeepInvariants, ProcessesKnowTheirOwn};
+ghost use Rattle.rubis_model.specs.Rebuild.{InputsRebuild, SitesAreRebuilt};
 ghost use Rattle.rubis_model.specs.RecordedRuns.{AuditsAgree, RecordsAreARun, RecordsKeepInvariants};
+ghost use Rattle.rubis_model.specs.Restarts.{AnswersStay, NothingIsLeftOut, ReadingsAreMoments, RecordingsReplay, RestartedAgree, RestartsChangeNothing};
 
 /// A log that passes the checks folds without misfit to the meaning of its set, and there is only one.
 pub fn fold_is_meaning()
@@ -42,6 +48,41 @@ pub fn every_run_keeps_invariants()
 /// Logs with equal sets have equal tables, at any two sites and moments of any two runs.
 pub fn every_run_agrees_on_tables()
     ensures { RunsAgreeOnTables }
+{}
+
+/// A site that has every message has released them all, and such sites have equal tables; and where sites keep as many
+/// messages as were sent, they come to that once each message was delivered, in any order and however often.
+pub fn every_run_converges()
+    ensures released { AllHadAreReleased }
+    ensures tables { HavingAllConverges }
+    ensures had { DeliveredAreHad }
+    ensures delivered { DeliveringAllConverges }
+    ensures taken { NoMessageIsRefused }
+    ensures possible { AllCanBeDelivered }
+{}
+
+/// Of logs that pass the checks together, what a log lacks of the others is released by a site with that log in the order in
+/// which it is listed, each message as it arrives; then the site has all messages of the logs, and such sites have equal
+/// tables. So after one round of that all sites of a run have all messages and equal tables.
+pub fn what_is_lacking_completes()
+    ensures rest { LacksTheRest }
+    ensures released { LackIsReleased }
+    ensures runs { LackIsReleasedInRuns }
+    ensures held { LackNeverWaits }
+    ensures tables { CompletedTablesAreEqual }
+    ensures round { OneRoundConverges }
+{}
+
+/// What is answered as lacking follows the audit: where that is Agree, the records are those of logs that pass the checks, and
+/// each log's lack is answered; else the auditor's record is.
+pub fn lack_follows_the_audit()
+    ensures { LackFollowsTheAudit }
+{}
+
+/// A message that waits at a site of a run waits for one that was sent, precedes it or has a smaller red number, and isn't
+/// in the site's log; and what is named by id or by red number is one.
+pub fn waiting_is_explained()
+    ensures { WaitingIsExplained }
 {}
 
 /// Among at most 16 sites, each packet of a run can be taken in by each of them.
@@ -96,6 +137,38 @@ pub fn records_are_a_run()
     ensures run { RecordsAreARun }
     ensures invariants { RecordsKeepInvariants }
     ensures audits { AuditsAgree }
+{}
+
+/// Separate processes are a run, if packets are carried unchanged: whenever a process reads a packet, one of them had sent it
+/// with the same fields. Then their logs causally serialize one RedBlue order and the invariants hold, equal sets of messages
+/// have equal tables, the verdict on their logs is Agree, and none answers NotOurs.
+pub fn processes_are_a_run()
+    ensures run { ProcessesAreARun }
+    ensures claims { ProcessesAreInRun }
+    ensures invariants { ProcessesKeepInvariants }
+    ensures tables { ProcessesAgreeOnTables }
+    ensures audits { ProcessesAgree }
+    ensures own { ProcessesKnowTheirOwn }
+{}
+
+/// Processes that stop at any moment, and are restarted on their recordings, are processes that never stopped: what a process
+/// answered stays as it was when it reads more. The verdict on their logs, each as it was at any moment, is Agree. A recording
+/// may be read again at any moment, and may lack records that changed nothing.
+pub fn restarts_change_nothing()
+    ensures answers { AnswersStay }
+    ensures processes { RestartsChangeNothing }
+    ensures audits { RestartedAgree }
+    ensures readings { ReadingsAreMoments }
+    ensures recordings { RecordingsReplay }
+    ensures whole { NothingIsLeftOut }
+{}
+
+/// A site that lost its disk can be made again from what the sites sent: a fresh one is given, for each packet that the site sent,
+/// what that counts and needs, and then the ask of its shadow. Then it sends the same packets again, its log has exactly what
+/// those count, and with it in its place the sites are a run that sent the same.
+pub fn sites_are_rebuilt()
+    ensures again { SitesAreRebuilt }
+    ensures inputs { InputsRebuild }
 {}
 
 /// In every log, forged ones too, no stock is below zero, and a nickname's row stays until its user is renamed.

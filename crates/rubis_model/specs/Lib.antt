@@ -24,4 +24,10 @@ pub mod Laws
 pub mod Widening
 pub mod WidenedRecords
 pub mod RecordedRuns
+pub mod Processes
+pub mod Restarts
 pub mod AgreedAudits
+pub mod Convergence
+pub mod Lack
+pub mod LackRecords
+pub mod Rebuild

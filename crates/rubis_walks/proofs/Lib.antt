@@ -6,3 +6,4 @@ pub mod Knowing
 pub mod Judging
 pub mod Walking
 pub mod LineFacts
+pub mod Merging

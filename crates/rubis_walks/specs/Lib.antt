@@ -4,3 +4,4 @@ pub mod Contents
 pub mod Past
 pub mod Walks
 pub mod Lines
+pub mod Lacks

@@ -1,0 +1,198 @@
+-- A site that lost its disk is made again from the messages and tokens that the sites sent.
+use Rattle.std.specs.Prelude.{◌≡◌, ◌↔◌, ℕ, ◌<◌, ◌≤◌, ◌==◌, Bool, ◌&&◌, not, nat_lt, nat_le, cond, is_some, filter, map, Option, Some, None, Result, List, [], ◌∷◌, ◌++◌, length, ◌⊎◌}
+use Rattle.std.specs.Option.{option_map_or}
+use Rattle.rubis_schema.specs.declared.ids.Id.{Id}
+use Rattle.rubis_schema.specs.declared.refusals.Refusal.{Refusal}
+use Rattle.rubis_shadow.specs.Shadows.{is_red}
+use Rattle.rubis_shadow.specs.declared.asks.Ask.{Ask}
+use Rattle.rubis_shadow.specs.declared.asks.Ask.TheVariants as ask
+use Rattle.rubis_shadow.specs.declared.shadows.NewItem.{NewItem}
+use Rattle.rubis_shadow.specs.declared.shadows.Shadow.{Shadow}
+use Rattle.rubis_shadow.specs.declared.shadows.Shadow.TheVariants as shadow
+use Rattle.rubis_message.specs.Message.{Message, dep}
+use Rattle.rubis_message.specs.declared.requests.Request.{Request}
+use Rattle.rubis_message.specs.declared.requests.Request.TheVariants as request
+use Rattle.rubis_message.specs.declared.tokens.Packet.{Packet}
+use Rattle.rubis_message.specs.declared.tokens.Packet.TheVariants as packet
+use Rattle.rubis_message.specs.declared.tokens.Token.{Token}
+use Rattle.rubis_model.specs.Laws.{Sent}
+use Rattle.rubis_model.specs.Log.{cores}
+use Rattle.rubis_model.specs.Meaning.{item_at}
+use Rattle.rubis_model.specs.Order.{Precedes}
+use Rattle.rubis_model.specs.Runs.{Input, input_step}
+use Rattle.rubis_model.specs.Runs.Input.{Asked, Came, Neither}
+use Rattle.rubis_model.specs.Settle.{Has, counted}
+use Rattle.rubis_model.specs.Site.{Place, Replica, opening_at, asked, arrived, took, passed}
+use Rattle.rubis_model.specs.System.{World, Event, AreEvents, site, place, sending, happens, run, start}
+use Rattle.rubis_model.specs.System.Event.{At, Deliver}
+
+-- ---- what a site sent
+
+-- what the site answers to a request, if it isn't a refusal
+abbrev pub sent_here : ℕ → World → ℕ → Request → List Packet
+sent_here keep w i (request.Ask ask) = sending packet.Msg (asked (place keep w i) (site w i) ask).1
+sent_here keep w i (request.Pass to) = sending packet.Token (passed (place keep w i) (site w i) to).1
+sent_here keep w i (request.List l) = []
+
+-- the packets that site i sends in these events, in order
+abbrev pub sent_by : ℕ → ℕ → List Event → World → List Packet
+sent_by i keep [] w = []
+sent_by i keep (At j r ∷ es) w = cond (j == i) (sent_here keep w j r) [] ++ sent_by i keep es (happens keep w (At j r)).0
+sent_by i keep (Deliver j k ∷ es) w = sent_by i keep es (happens keep w (Deliver j k)).0
+
+-- ---- what the fresh site is asked
+
+-- the seller of the item, by the message that offered it
+abbrev pub seller_in : List Message → Id → Id
+seller_in all id = option_map_or (λ (n : NewItem). n.seller) (item_at id (cores all)) (record { site = 0; seq = 0 })
+
+-- the ask of a shadow. A close and a restock don't say the seller, which the item's message does
+abbrev pub ask_of : List Message → Shadow → Ask
+ask_of all (shadow.User n) = ask.User n
+ask_of all (shadow.Item n) = ask.Item n
+ask_of all (shadow.Bid b) = ask.Bid b
+ask_of all (shadow.Buy p) = ask.Buy p
+ask_of all (shadow.Close c) = ask.Close (record { item = c.item; seller = seller_in all c.item })
+ask_of all (shadow.Comment c) = ask.Comment c
+ask_of all (shadow.Restock r) = ask.Restock (record { item = r.item; seller = seller_in all r.item; quantity = r.quantity })
+ask_of all (shadow.Rename r) = ask.Rename (record { user = r.user; nick = r.to })
+
+-- ---- what it is given before
+
+-- u is another site's, message m counts it, and the log lacks it
+abbrev pub is_lacking : ℕ → List Message → Message → Message → Bool
+is_lacking i log m u =
+    not (u.stamp.id.site == i) && (nat_lt (counted u.stamp.id.site log) u.stamp.id.seq && nat_le u.stamp.id.seq (dep m u.stamp.id.site))
+
+-- of all messages those that are lacking for m, in the order in which they stand
+abbrev pub lacking : ℕ → List Message → Message → List Message → List Message
+lacking i log m all = filter (is_lacking i log m) all
+
+-- these messages arrive, one after the other
+abbrev pub given : Place → Replica → List Message → Replica
+given p s [] = s
+given p s (m ∷ rest) = given p (arrived p s m).0 rest
+
+-- of two tokens the one with the smaller turn
+abbrev pub sooner : Token → Option Token → Token
+sooner t None = t
+sooner t (Some u) = cond (nat_le t.turn u.turn) t u
+
+-- of these tokens the one for site i that has the smallest turn above this
+abbrev pub next_token : ℕ → ℕ → List Token → Option Token
+next_token i last [] = None
+next_token i last (t ∷ tokens) = cond ((t.to == i) && nat_lt last t.turn) (Some (sooner t (next_token i last tokens))) (next_token i last tokens)
+
+abbrev pub with_token : Place → Replica → Option Token → Replica
+with_token p s None = s
+with_token p s (Some t) = (took p s t).0
+
+-- a site that doesn't hold the token is given its next one
+abbrev pub holding : Place → List Token → Replica → Replica
+holding p tokens s = cond (is_some s.held) s (with_token p s (next_token p.site s.last tokens))
+
+-- the site that makes message m: with what m counts, and with the token if m is red
+abbrev pub prepared : Place → List Token → List Message → Replica → Message → Replica
+prepared p tokens all s m = cond (is_red m.shadow) (holding p tokens (given p s (lacking p.site s.log m all))) (given p s (lacking p.site s.log m all))
+
+-- ---- the rebuilt site
+
+-- what a site comes to, and what it sends
+abbrev pub sends_as : {A : Type 0} → (A → Packet) → Replica × Result A Refusal → Replica × List Packet
+sends_as pack a = (a.0, sending pack a.1)
+
+-- what was sent is sent again: a message by the ask of its shadow, a token by passing it
+abbrev pub sent_again : Place → List Token → List Message → Replica → Packet → Replica × List Packet
+sent_again p tokens all s (packet.Msg m) = sends_as packet.Msg (asked p (prepared p tokens all s m) (ask_of all m.shadow))
+sent_again p tokens all s (packet.Token t) = sends_as packet.Token (passed p (holding p tokens s) t.to)
+
+-- what a site comes to, and what it sends, where its packets are sent again one after the other
+abbrev pub rebuilt : Place → List Token → List Message → Replica → List Packet → Replica × List Packet
+rebuilt p tokens all s [] = (s, [])
+rebuilt p tokens all s (x ∷ packets) =
+    ((rebuilt p tokens all (sent_again p tokens all s x).0 packets).0, (sent_again p tokens all s x).1 ++ (rebuilt p tokens all (sent_again p tokens all s x).0 packets).1)
+
+-- ---- the law
+
+-- v is w with another state at site i: the same was sent, and all other sites are as they were
+pub record InPlaceOf (i : ℕ) (w v : World) : Type 0 where
+  pub sent : v.sent ≡ w.sent
+  pub sites : length v.sites ≡ length w.sites
+  pub others : (j : ℕ) → (j ≡ i → ⊥) → site v j ≡ site w j
+
+-- m is a message of site i, or one that a message of site i counts
+abbrev pub Concerns : ℕ → World → Message → Type 0
+Concerns i w m = (m.stamp.id.site ≡ i) ⊎ ((u : Message) × Sent w u × (u.stamp.id.site ≡ i) × Precedes m u)
+
+-- site i, which sent these packets in a run to w, was rebuilt to this state, and sent those packets
+pub record IsRebuilt (n keep i : ℕ) (tokens : List Token) (w : World) (packets : List Packet) (result : Replica × List Packet) : Type 0 where
+  -- it sends again what it had sent, in order
+  pub again : result.1 ≡ packets
+  -- its log has exactly what it sent, and what that counts; all of that was in the log that was lost
+  pub log : (m : Message) → Has m result.0.log ↔ (Sent w m × Concerns i w m)
+  pub within : (m : Message) → Has m result.0.log → Has m (site w i).log
+  pub none_waits : result.0.waiting ≡ []
+  -- if the token is lost with the site, it holds it again once it is given its next one
+  pub token : (issued : ℕ) → (site w i).held ≡ Some issued → (holding (record { site = i; sites = n; keep = keep }) tokens result.0).held ≡ Some issued
+  -- with it in place of site i the sites are again a run, that sent the same
+  pub events : List Event
+  pub are_events : AreEvents n events
+  pub in_place : InPlaceOf i w (run keep events (start n))
+  pub here : site (run keep events (start n)) i ≡ result.0
+
+-- whatever happened at n sites: each site can be rebuilt from what it sent, the messages that this counts, and the tokens for it.
+-- These may stand in any order, and other messages and tokens that were sent may be lacking, or be there too
+abbrev pub SitesAreRebuilt : Type 0
+SitesAreRebuilt = (n keep i : ℕ) (events : List Event) (all : List Message) (tokens : List Token) → keep ≤ 1000000 → i < n → AreEvents n events
+    → ((m : Message) → Has m all → Sent (run keep events (start n)) m)
+    → ((m : Message) → Sent (run keep events (start n)) m → Concerns i (run keep events (start n)) m → Has m all)
+    → ((t : Token) → Has t tokens → Has (packet.Token t) (run keep events (start n)).sent)
+    → ((t : Token) → Has (packet.Token t) (run keep events (start n)).sent → t.to ≡ i → Has t tokens)
+    → IsRebuilt n keep i tokens (run keep events (start n)) (sent_by i keep events (start n))
+    (rebuilt (record { site = i; sites = n; keep = keep }) tokens all (opening_at i) (sent_by i keep events (start n)))
+
+-- ---- as a list of inputs
+
+-- what a fresh site is given for its token, where it doesn't hold it
+abbrev pub token_as : Option Token → List Input
+token_as None = []
+token_as (Some t) = Came (packet.Token t) ∷ []
+
+abbrev pub token_before : Place → List Token → Replica → List Input
+token_before p tokens s = cond (is_some s.held) [] (token_as (next_token p.site s.last tokens))
+
+abbrev pub inputs_before : Place → List Token → List Message → Replica → Message → List Input
+inputs_before p tokens all s m =
+    map (λ u. Came (packet.Msg u)) (lacking p.site s.log m all) ++ cond (is_red m.shadow) (token_before p tokens (given p s (lacking p.site s.log m all))) []
+
+abbrev pub inputs_for : Place → List Token → List Message → Replica → Packet → List Input
+inputs_for p tokens all s (packet.Msg m) = inputs_before p tokens all s m ++ Asked (request.Ask (ask_of all m.shadow)) ∷ []
+inputs_for p tokens all s (packet.Token t) = token_before p tokens s ++ Asked (request.Pass t.to) ∷ []
+
+abbrev pub inputs_to_rebuild : Place → List Token → List Message → Replica → List Packet → List Input
+inputs_to_rebuild p tokens all s [] = []
+inputs_to_rebuild p tokens all s (x ∷ packets) = inputs_for p tokens all s x ++ inputs_to_rebuild p tokens all (sent_again p tokens all s x).0 packets
+
+-- a site after these inputs, and the packets that it sends (the number of an input is only for its answer)
+abbrev pub after_inputs : Place → Replica → List Input → Replica
+after_inputs p s [] = s
+after_inputs p s (x ∷ inputs) = after_inputs p (input_step p s 1 x).0 inputs
+
+abbrev pub sent_on : Place → Replica → Input → List Packet
+sent_on p s (Asked (request.Ask a)) = sending packet.Msg (asked p s a).1
+sent_on p s (Asked (request.Pass to)) = sending packet.Token (passed p s to).1
+sent_on p s (Asked (request.List l)) = []
+sent_on p s (Came x) = []
+sent_on p s Neither = []
+
+abbrev pub sent_on_inputs : Place → Replica → List Input → List Packet
+sent_on_inputs p s [] = []
+sent_on_inputs p s (x ∷ inputs) = sent_on p s x ++ sent_on_inputs p (input_step p s 1 x).0 inputs
+
+-- the rebuilt site is one that was given these inputs, and each packet among them is one of those that were sent
+abbrev pub InputsRebuild : Type 0
+InputsRebuild = (p : Place) (sent : List Packet) (all : List Message) (tokens : List Token) (s : Replica) (packets : List Packet)
+    → ((m : Message) → Has m all → Has (packet.Msg m) sent) → ((t : Token) → Has t tokens → Has (packet.Token t) sent)
+    → (after_inputs p s (inputs_to_rebuild p tokens all s packets) ≡ (rebuilt p tokens all s packets).0)
+    × (sent_on_inputs p s (inputs_to_rebuild p tokens all s packets) ≡ (rebuilt p tokens all s packets).1)
+    × ((x : Packet) → Has (Came x) (inputs_to_rebuild p tokens all s packets) → Has x sent)
