@@ -127,3 +127,7 @@ pub progress-told : {R : Type 0} (rem : R → Option (List ℕ)) (a : Records R)
     (old now : Option (List ℕ)) (sink : List ℕ) (n : ℕ) (input : List ℕ) → window ≡ []
     → HasComeSoFar rem a all (told_by s n) old now sink n input → HasComeSoFar rem a all (held_by s window n) old now sink n input
 progress-told rem a all s window old now sink n input none p = rw none p
+
+pub told-kept : (old s : SiteState) (window window2 : List Message) (n : ℕ) (sink sink2 : List ℕ) → window2 ≡ []
+    → Keeps (held_by old window n) (told_by s n) sink sink2 → Keeps (held_by old window n) (held_by s window2 n) sink sink2
+told-kept old s window window2 n sink sink2 none keeps = subst (λ w. Keeps (held_by old window n) (held_by s w n) sink sink2) (sym none) keeps

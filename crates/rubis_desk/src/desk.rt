@@ -1,7 +1,7 @@
 // A site as a service: a record in, its answers out.
 
 ghost use Rattle.std.proofs.Common.{rules};
-ghost use Rattle.std.specs.Prelude.{◌≡◌, ◌≤◌, ◌<◌, ◌+◌, ◌++◌, ◌∷◌, ◌^◌, [], IfOk, None, OnOk, length, refl};
+ghost use Rattle.std.specs.Prelude.{◌≡◌, ◌≤◌, ◌<◌, ◌+◌, ◌++◌, ◌∷◌, ◌^◌, [], IfOk, List, None, OnOk, ℕ, length, refl};
 ghost use Rattle.rubis_shadow.specs.Limits.{IsAsk};
 ghost use Rattle.rubis_message.specs.Grammar.{IsPacket, IsRequest};
 ghost use Rattle.rubis_message.specs.Message.{sites_of};
@@ -13,6 +13,7 @@ ghost use Rattle.rubis_model.specs.Runs.Input.{Asked, Came};
 ghost use Rattle.rubis_message.specs.Readings.{packet_of};
 ghost use Rattle.rubis_model.specs.Site.{opening_at};
 ghost use Rattle.rubis_replica.specs.Setup.{setup_place};
+ghost use Rattle.rubis_pieces_of_text.specs.Parsed.{FitsIn, meant};
 ghost use Rattle.rubis_engine.specs.Accounts.{AnswersRecord, Keeps};
 ghost use Rattle.rubis_desk.specs.Inputs.{IsAnswered, IsReadOf, answer_of};
 ghost use Rattle.rubis_desk.specs.SiteRuns.{told_by};
@@ -24,6 +25,7 @@ use crate::windows::{hold, window_of, write_arrivals};
 use rubis_engine::{InputRecord, OutOfMemory, Reply, Service, Sink};
 use rubis_listing::Counted;
 use rubis_message::{Message, Packet, ReadFault, Request, Token, read_packet, read_request};
+use rubis_pieces_of_text::Parsed;
 use rubis_replica::{Config, Fault, Free, Gate, Site};
 use rubis_replies::{
     write_arrival, write_listed_text, write_passed, write_refusal, write_sent, write_taken,
@@ -262,9 +264,9 @@ impl<G: Gate> Desk<G> {
         window.len() < self.window
     }
 
-    // Takes in the messages that are held, the last of the records so far, and answers them, if there are any.
+    /// Takes in the messages that are held, the last of the records so far, and answers them, if there are any.
     #[inline(always)]
-    pub(crate) fn flush<R: Threads + Wait + Sync>(
+    pub fn flush<R: Threads + Wait + Sync>(
         &mut self,
         rt: &R,
         answered: u64,
@@ -335,6 +337,111 @@ impl<G: Gate> Desk<G> {
                 self.respond_to(rt, fields, read, reply)
             }
         }
+    }
+}
+
+impl<G: Gate> Desk<G> {
+    /// How many sites there are.
+    pub fn sites(&self) -> u8
+        ensures same { result ≡ self.now.site.place.sites }
+        ensures few { result ≤ 16 }
+    {
+        self.sites
+    }
+
+    // Answers what a record was read as.
+    fn respond_parsed<R: Threads + Wait + Sync>(
+        &mut self,
+        rt: &R,
+        parsed: Parsed,
+        reply: &mut Reply,
+    ) -> Result<(), OutOfMemory>
+        requires { FitsIn self.old.site.place.sites parsed }
+        ensures place { self.new.site.place ≡ self.old.site.place }
+        ensures answered { OnOk result (IsAnswered reply.old.number (meant parsed) self.old.site self.new.site reply.old.sink reply.new.sink) }
+    {
+        match parsed {
+            Parsed::Came(packet) => answer_packet(rt, &mut self.site, reply, packet),
+            Parsed::Asked(request) => answer_request(rt, &mut self.site, reply, request),
+            Parsed::Neither => refuse(reply, Refusal::BadRecord),
+        }
+    }
+
+    // Takes in the messages that are held, and answers what the next record was read as.
+    fn answer_parsed<R: Threads + Wait + Sync>(
+        &mut self,
+        rt: &R,
+        answered: u64,
+        parsed: Parsed,
+        window: &mut Vec<Message>,
+        reply: &mut Reply,
+    ) -> Result<(), OutOfMemory>
+        requires held { AreHeld self.old.site.place window.old.items answered }
+        requires room { answered + 1 < 2 ^ 64 }
+        requires fits { FitsIn self.old.site.place.sites parsed }
+        ensures place { self.new.site.place ≡ self.old.site.place }
+        ensures empty { window.new.items ≡ [] }
+        ensures goes { OnOk result ((fields : List (List ℕ)) → input_of self.old.site.place.sites fields ≡ meant parsed
+            → AnswersRecord Course.GoesOn (held_by self.old.site window.old.items (answered + 1)) (held_by self.new.site window.new.items (answered + 1 + 1)) reply.old.sink reply.new.sink fields) }
+    {
+        self.flush(rt, answered, window, reply)?;
+        reply.number = answered + 1;
+        self.respond_parsed(rt, parsed, reply)
+    }
+
+    /// Takes in the messages that are held, if there is no room for one more.
+    pub fn make_room<R: Threads + Wait + Sync>(
+        &mut self,
+        rt: &R,
+        answered: u64,
+        window: &mut Vec<Message>,
+        reply: &mut Reply,
+    ) -> Result<(), OutOfMemory>
+        requires held { AreHeld self.old.site.place window.old.items answered }
+        ensures place { self.new.site.place ≡ self.old.site.place }
+        ensures held { AreHeld self.new.site.place window.new.items answered }
+        ensures kept { OnOk result (Keeps (held_by self.old.site window.old.items (answered + 1)) (held_by self.new.site window.new.items (answered + 1)) reply.old.sink reply.new.sink) }
+    {
+        if self.has_room(window) {
+            return Ok(());
+        }
+        self.flush(rt, answered, window, reply)
+    }
+
+    /// Holds what the next record was read as, if it is a message and messages are held at all; otherwise takes in those that are
+    /// held, and answers it.
+    pub fn take_parsed<R: Threads + Wait + Sync>(
+        &mut self,
+        rt: &R,
+        answered: u64,
+        parsed: Parsed,
+        window: &mut Vec<Message>,
+        reply: &mut Reply,
+    ) -> Result<(), OutOfMemory>
+        requires held { AreHeld self.old.site.place window.old.items answered }
+        requires room { answered + 1 < 2 ^ 64 }
+        requires fits { FitsIn self.old.site.place.sites parsed }
+        ensures place { self.new.site.place ≡ self.old.site.place }
+        ensures held { OnOk result (AreHeld self.new.site.place window.new.items (answered + 1)) }
+        ensures goes { OnOk result ((fields : List (List ℕ)) → input_of self.old.site.place.sites fields ≡ meant parsed
+            → AnswersRecord Course.GoesOn (held_by self.old.site window.old.items (answered + 1)) (held_by self.new.site window.new.items (answered + 1 + 1)) reply.old.sink reply.new.sink fields) }
+    {
+        if self.window > 1 {
+            return match parsed {
+                Parsed::Came(Packet::Msg(message)) => hold(window, message),
+                Parsed::Came(Packet::Token(token)) => {
+                    let other = Parsed::Came(Packet::Token(token));
+                    self.answer_parsed(rt, answered, other, window, reply)
+                }
+                Parsed::Asked(request) => {
+                    self.answer_parsed(rt, answered, Parsed::Asked(request), window, reply)
+                }
+                Parsed::Neither => {
+                    self.answer_parsed(rt, answered, Parsed::Neither, window, reply)
+                }
+            };
+        }
+        self.answer_parsed(rt, answered, parsed, window, reply)
     }
 }
 

@@ -156,7 +156,7 @@ no_fault shards ns (Twice p) many each f =
 no_fault shards ns (Missing p) many each f = let l = f.1 in f.2 (p, omega (arith, l, many), each p l)
 
 -- and is the only one in order
-same_order : (shards : ℕ) (list ds : List Done) → length list ≡ shards → ((k : ℕ) → k < shards
+pub same_order : (shards : ℕ) (list ds : List Done) → length list ≡ shards → ((k : ℕ) → k < shards
     → slice_get (numbers_of list) k ≡ Some k)
     → IsInOrder shards list ds → ds ≡ list
 same_order shards list ds many each h = same_lists ds list (h.many ∙ sym many) (λ k e l.

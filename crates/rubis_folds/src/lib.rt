@@ -2,7 +2,11 @@
 #![tactic(auto)]
 
 mod batches;
+mod following;
 mod rests;
+mod waiting;
 
 pub use batches::{apply_batch, fold_share};
+pub use following::{follow, follow_rest, homes_of};
 pub use rests::finish;
+pub use waiting::count_behind;

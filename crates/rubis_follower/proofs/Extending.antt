@@ -8,7 +8,7 @@ use Rattle.rubis_model.specs.Log.{cores, fold_of}
 use Rattle.rubis_model.specs.Settle.{first_ready, settle}
 use Rattle.rubis_model.specs.Site.{Place, Replica, arrived, is_full, is_repeat, not_ours}
 use Rattle.rubis_follower.specs.Follow.{Follower, FollowsAt, FollowsLog}
-use Rattle.rubis_follower.proofs.Following.{follows_more}
+use Rattle.rubis_follower.proofs.Standing.{follows_more}
 
 abbrev pub Extends : List Message → List Message → Type 0
 Extends log new = (more : List Message) × (new ≡ log ++ more)
@@ -41,8 +41,8 @@ arrived_extends p s m =
 
 pub follows_extended : (p q : Place) (log new : List Message) (f : Follower) → q ≡ p → Extends log new → FollowsAt p.sites log f → FollowsAt q.sites new f
 follows_extended p q log new f same e h =
-    let inside : f.at ≤ length log = omega (arith, h.follows.inside, h.follows.progress.inside) in
-    let front : take f.at log ≡ take f.at new = sym (take-append-le f.at log e.0 inside) ∙ ap (take f.at) (sym e.1) in
+    let inside : f.progress.upto ≤ length log = h.follows.progress.inside in
+    let front : take f.progress.upto log ≡ take f.progress.upto new = sym (take-append-le f.progress.upto log e.0 inside) ∙ ap (take f.progress.upto) (sym e.1) in
     subst (λ (y : Place). FollowsAt y.sites new f) (sym same) (record {
       follows = subst (λ (l : List Message). FollowsLog l f) (sym e.1) (follows_more log e.0 f h.follows);
       limits = subst (λ (xs : List Message). AllInLimits p.sites (fold_of (cores xs)).tables) front h.limits;

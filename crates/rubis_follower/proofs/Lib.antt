@@ -1,6 +1,4 @@
-pub mod Following
-pub mod Cutting
-pub mod Applications
+pub mod Standing
 pub mod Extending
 pub mod Comings
 pub mod Kept

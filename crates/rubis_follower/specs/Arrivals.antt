@@ -1,12 +1,9 @@
 -- Messages that arrive at a site one after the other, and what it makes of them.
-use Rattle.std.specs.Prelude.{◌≡◌, ◌<◌, ◌+◌, ◌++◌, ◌⊎◌, ℕ, List, [], ◌∷◌, length, slice_range, Result}
+use Rattle.std.specs.Prelude.{◌≡◌, ◌<◌, ◌++◌, ℕ, List, [], ◌∷◌, length, Result}
 use Rattle.rubis_schema.specs.declared.refusals.Refusal.{Refusal}
 use Rattle.rubis_message.specs.Message.{Message}
 use Rattle.rubis_message.specs.declared.answers.Arrival.{Arrival}
-use Rattle.rubis_model.specs.Log.{cores}
 use Rattle.rubis_model.specs.Site.{Place, Replica, arrived}
-use Rattle.rubis_shard.specs.declared.shares.Share.{Share}
-use Rattle.rubis_pieces.specs.Shares.{AreShares}
 use Rattle.rubis_follower.specs.declared.faults.Fault.{Fault}
 use Rattle.rubis_follower.specs.declared.faults.Fault.TheVariants.{Refused, Behind, Memory}
 
@@ -31,7 +28,3 @@ abbrev pub IsStop : ℕ → List Message → Fault → Type 0
 IsStop left rest (Refused r) = ⊥
 IsStop left rest Behind = 0 < left
 IsStop left rest Memory = 0 < length rest
-
--- the shares of what a log has after its first `before` messages, if they were made
-abbrev pub AreNext : ℕ → ℕ → List Message → List Share → Type 0
-AreNext shards before log shares = (shares ≡ []) ⊎ AreShares shards (before + 1) (cores (slice_range log before (length log))) shares

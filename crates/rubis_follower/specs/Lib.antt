@@ -1,4 +1,3 @@
-pub mod Ahead
 pub mod Arrivals
 pub mod Counts
 pub mod Faults

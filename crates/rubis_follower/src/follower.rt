@@ -1,32 +1,28 @@
 // Tables that follow a log, batch by batch.
 
-ghost use Rattle.std.specs.Prelude.{◌≡◌, ◌≤◌, ◌<◌, ◌⊎◌, [], All, IfNone, IfOk, IfSome, List, OnOk, OnErr, length};
+ghost use Rattle.std.specs.Prelude.{◌≡◌, ◌≤◌, ◌<◌, ◌⊎◌, [], All, IfNone, IfOk, IfSome, OnOk, OnErr, length};
 ghost use Rattle.rubis_schema.specs.declared.limits.TheConstants.{WORKERS_MAX};
-ghost use Rattle.rubis_message.specs.Message as message;
 ghost use Rattle.rubis_message.specs.Message.{sites_of};
 ghost use Rattle.rubis_model.specs.Listings.{table_rows};
+ghost use Rattle.rubis_model.specs.Log.{cores};
 ghost use Rattle.rubis_shard.specs.Holdings.{HoldsLog, union};
-ghost use Rattle.rubis_folds.specs.Batches.{parts_left};
-ghost use Rattle.rubis_workers.specs.Logs.{StaysWithin, parts_between};
-ghost use Rattle.rubis_follower.specs.Ahead.{TakesAhead};
-ghost use Rattle.rubis_follower.specs.Arrivals.{AreNext, IsStop, TakesFirst};
-ghost use Rattle.rubis_follower.specs.Follow.{ComesTo, FollowsAt, FollowsLog, HasGone, IsNextCut, IsNoted, IsToGo, parts_to_do};
-ghost use Rattle.rubis_follower.specs.Progress.{BatchBegins, BatchGoesOn, HasBegun, IsAhead, IsBetween, is_behind, keeping, resting_at};
-ghost use Rattle.rubis_follower.specs.Follow as model;
+ghost use Rattle.rubis_folds.specs.Following.{HoldsTo, StopWithin};
+ghost use Rattle.rubis_workers.specs.Logs.{StaysWithin};
+ghost use Rattle.rubis_follower.specs.Arrivals.{IsStop, TakesFirst};
+ghost use Rattle.rubis_follower.specs.Follow.{ComesTo, FollowsAt, FollowsLog, GoesOnTo};
+ghost use Rattle.rubis_follower.specs.Progress.{HasBegun, IsAhead, IsBetween, IsProgress, is_behind, keeping, resting_at};
 ghost use Rattle.rubis_follower.specs.Counts.{IsCount};
 
-use crate::arriving::{Ahead, Arrived, take_ahead};
-use rubis_folds::finish;
+use crate::arriving::{Arrived, take_all};
+use rubis_folds::{count_behind, follow_rest};
 use rubis_listing::{SharedSink, list_tables, list_tables_shared};
 use rubis_message::Message;
-use rubis_pieces::Left;
 use rubis_release::Intake;
 use rubis_schema::{Hashes, Listing};
-use rubis_shard::{Share, Tables};
-use rubis_workers::{Cut, Gate, Pace, apply_batch, apply_cut, apply_upto, count_left, count_parts};
+use rubis_shard::Tables;
+use rubis_workers::{Gate, Pace, apply_batch, count_parts};
 use std::alloc::{AllocError, Global};
 use std::marker::Model;
-use std::mem;
 use std::sync::Wait;
 use std::thread::Threads;
 
@@ -45,12 +41,8 @@ pub struct Follower<G: Gate> {
     kept: usize,
     // How many messages of the log end the begun batch.
     upto: usize,
-    // How many messages stand in the tables, those of the begun batch too, but for what `rest` has of them.
-    at: usize,
-    // The shares of the begun batch that the workers left unfinished.
-    rest: Vec<Left>,
-    // The shares of the batch that is kept, where they were made.
-    shares: Vec<Share>,
+    // How many messages of the log stand in each shard, where a batch has begun. It has room for each.
+    stops: Vec<usize>,
     // How many of the begun batch's parts aren't done.
     left: u32,
     alloc: Global,
@@ -67,9 +59,7 @@ impl<G: Gate + Drop> Drop for Follower<G> {
             applied: _,
             kept: _,
             upto: _,
-            at: _,
-            rest: _,
-            shares: _,
+            stops: _,
             left: _,
             alloc: _,
         } = self;
@@ -77,19 +67,21 @@ impl<G: Gate + Drop> Drop for Follower<G> {
 }
 
 impl<G: Gate> Model for Follower<G> {
+    ghost use Rattle.std.specs.Prelude.{length};
     ghost use Rattle.std.specs.Coded.{codes};
+    ghost use Rattle.std.specs.Vec.{vec_capacity};
     ghost use Rattle.rubis_shard.specs.contracts.tables.Tables as shards;
     ghost use Rattle.rubis_schema.specs.declared.limits.TheConstants.{WORKERS_MAX};
     ghost use Rattle.rubis_follower.specs.Follow as model;
-    ghost use Rattle.rubis_follower.specs.Counts.{IsCount};
+    ghost use Rattle.rubis_follower.specs.Counts.{IsReady};
 
     ghost Value = { model.Follower };
 
     ghost coded = { Prim.hlevel (codes, shards.the_row.coded) };
 
-    ghost view = { λ f. record { progress = record { applied = f.applied; kept = f.kept; upto = f.upto; left = f.left }; at = f.at; rest = f.rest.items; shares = f.shares.items; tables = f.tables } };
+    ghost view = { λ f. record { progress = record { applied = f.applied; kept = f.kept; upto = f.upto; left = f.left }; stops = f.stops.items; tables = f.tables } };
 
-    ghost invariant = { λ f. IsCount f.workers WORKERS_MAX };
+    ghost invariant = { λ f. IsReady f.workers WORKERS_MAX (length f.tables) (vec_capacity f.stops) };
 }
 
 impl<G: Gate + Drop> Follower<G> {
@@ -103,7 +95,7 @@ impl<G: Gate + Drop> Follower<G> {
     ) -> Result<Follower<G>, AllocError>
         requires shards { 0 < shards }
         requires workers { IsCount workers WORKERS_MAX }
-        ensures progress { IfOk result (λ follower. (follower.progress ≡ resting_at 0) × (follower.at ≡ 0) × (follower.rest ≡ []) × (follower.shares ≡ [])) }
+        ensures progress { IfOk result (λ follower. follower.progress ≡ resting_at 0) }
         ensures some { IfOk result (λ follower. 0 < length follower.tables) }
         ensures tables { IfOk result (λ follower. HoldsLog (length follower.tables) [] follower.tables) }
     {
@@ -115,9 +107,7 @@ impl<G: Gate + Drop> Follower<G> {
             applied: 0,
             kept: 0,
             upto: 0,
-            at: 0,
-            rest: Vec::new(alloc),
-            shares: Vec::new(alloc),
+            stops: Vec::with_capacity(alloc, usize::from(shards))?,
             left: 0,
             alloc,
         })
@@ -176,167 +166,41 @@ impl<G: Gate> Follower<G> {
         &self.tables
     }
 
-    // Notes how far the batch that ends with message `upto` has come.
-    fn note(&mut self, log: &[Message], upto: usize)
-        requires few { length log.now ≤ 1000000 }
-        requires on { self.old.progress.applied ≤ self.old.at }
-        requires inside { self.old.at ≤ upto }
-        requires within { upto ≤ length log.now }
-        requires ahead { self.old.progress.applied ≤ self.old.progress.kept }
-        requires cut { self.old.progress.kept ≤ length log.now }
-        requires rest { parts_left self.old.rest ≤ 3000000 }
-        requires some { 0 < parts_to_do log.now self.old.rest self.old.at upto → parts_to_do log.now self.old.rest self.old.at upto < length (parts_between log.now self.old.progress.applied upto) }
-        ensures noted { IsNoted log.now self.old.progress self.new }
-        ensures upto { self.new.progress.upto ≡ upto }
-        ensures at { self.new.at ≡ self.old.at }
-        ensures rest { self.new.rest ≡ self.old.rest }
-        ensures shares { self.new.shares ≡ self.old.shares }
-        ensures tables { self.new.tables ≡ self.old.tables }
+    // All up to message `upto` is applied.
+    fn rest_at(&mut self, upto: usize)
+        ensures { self.new ≡ record self.old { progress = resting_at upto } }
     {
+        self.applied = upto;
+        self.kept = upto;
         self.upto = upto;
-        self.left = count_left(&self.rest) + count_parts(&log[self.at..upto]);
-        if self.left == 0 {
-            self.applied = upto;
-            self.kept = upto;
-        }
+        self.left = 0;
     }
 
-    // Notes how far the batch has come that ends with message `upto`, of which all stands but what the workers left.
-    fn note_rest(&mut self, upto: usize)
-        requires rest { parts_left self.old.rest ≤ 3000000 }
-        ensures whole { parts_left self.old.rest ≡ 0 → self.new ≡ record self.old { progress = resting_at upto } }
-        ensures begun { 0 < parts_left self.old.rest → self.new ≡ record self.old { progress = record self.old.progress { upto = upto; left = parts_left self.old.rest } } }
-    {
-        self.upto = upto;
-        self.left = count_left(&self.rest);
-        if self.left == 0 {
-            self.applied = upto;
-            self.kept = upto;
-        }
-    }
-
-    // The most workers of a batch.
-    fn workers(&self) -> usize
-        ensures { (0 < result) × (result ≤ 16) }
-    {
-        usize::from(self.workers)
-    }
-
-    // Applies the batch that ends with message `upto`, from the log.
-    fn follow_log<R: Threads + Wait + Sync>(
-        &mut self,
-        rt: &R,
-        log: &[Message],
-        upto: usize,
-    ) -> Result<(), AllocError>
+    // Notes how far the batch has come that ends with message `upto`, where each shard stands at its stop.
+    fn note(&mut self, log: &[Message], upto: usize) -> Result<(), AllocError>
         requires few { length log.now ≤ 1000000 }
+        requires progress { IsProgress log.now self.old.progress }
         requires rests { self.old.progress.left ≡ 0 }
-        requires follows { FollowsLog log.now self.old }
-        requires none { self.old.shares ≡ [] }
-        requires on { self.old.at ≤ upto }
+        requires pending { self.old.progress.applied < upto }
         requires within { upto ≤ length log.now }
-        ensures follows { FollowsLog log.now self.new }
-        ensures limits { StaysWithin log.now self.old.at self.new.at }
-        ensures ok { OnOk result (self.new.progress ≡ resting_at upto) }
-        ensures err { OnErr result ((self.new.progress ≡ self.old.progress) ⊎ BatchBegins log.now upto self.old.progress self.new.progress) }
-        ensures many { length self.new.tables ≡ length self.old.tables }
+        requires some { 0 < length self.old.tables }
+        requires stops { StopWithin self.old.progress.applied upto self.old.stops }
+        requires holds { HoldsTo (length self.old.tables) (cores log.now) self.old.stops self.old.tables }
+        ensures { ComesTo log.now upto self.old self.new result }
     {
-        let workers = self.workers();
-        let left = apply_batch(
-            rt,
-            self.alloc,
-            &mut self.tables,
-            log,
-            &mut self.at,
-            upto,
-            workers,
-            &mut self.pace,
-            &self.gate,
-        )?;
-        self.rest = left.into();
-        self.note(log, upto);
-        if self.left > 0 {
+        let from = self.applied;
+        let parts = count_parts(&log[from..upto]);
+        let left = count_behind(&log[from..upto], from, &self.stops);
+        if left == 0 {
+            self.rest_at(upto);
+            return Ok(());
+        }
+        if left == parts {
             return Err(AllocError);
         }
-        Ok(())
-    }
-
-    // The batch that ends with message `upto`, by the shares that are kept, if they are its shares.
-    fn kept_cut(&mut self, log: &[Message], upto: usize) -> Option<Cut>
-        requires few { length log.now ≤ 1000000 }
-        requires follows { FollowsLog log.now self.old }
-        requires within { upto ≤ length log.now }
-        ensures same { self.new ≡ record self.old { shares = [] } }
-        ensures cut { IfSome result (λ cut. IsNextCut log.now self.new cut × (cut.upto ≡ upto)) }
-    {
-        let shares = mem::replace(&mut self.shares, Vec::new(self.alloc));
-        if shares.is_empty() || upto != self.kept || self.at >= upto {
-            return None;
-        }
-        Some(Cut::of(log, self.at, upto, shares))
-    }
-
-    // The batch that ends with message `upto` as shares, where it gets several threads: those that are kept, or else new ones.
-    fn cut<R: Threads + Sync>(
-        &mut self,
-        rt: &R,
-        log: &[Message],
-        upto: usize,
-    ) -> Result<Option<Cut>, AllocError>
-        requires few { length log.now ≤ 1000000 }
-        requires follows { FollowsLog log.now self.old }
-        requires on { self.old.at ≤ upto }
-        requires within { upto ≤ length log.now }
-        ensures same { self.new ≡ record self.old { shares = [] } }
-        ensures cut { IfOk result (λ o. IfSome o (λ cut. IsNextCut log.now self.new cut × (cut.upto ≡ upto))) }
-    {
-        if let Some(cut) = self.kept_cut(log, upto) {
-            return Ok(Some(cut));
-        }
-        let shards = self.tables.len();
-        let messages = upto - self.at;
-        if self.pace.threads(self.workers(), shards, messages) == 1 {
-            return Ok(None);
-        }
-        Ok(Some(Cut::new(rt, self.alloc, log, self.at, upto, shards)?))
-    }
-
-    // Has the workers apply a batch by its shares. Meanwhile `beside` is called once, on this thread.
-    fn follow_cut<R: Threads + Wait + Sync, A, F: FnOnce() -> A>(
-        &mut self,
-        rt: &R,
-        cut: Cut,
-        beside: F,
-    ) -> (Result<(), AllocError>, A)
-        requires rests { self.old.progress.left ≡ 0 }
-        requires cut { (log : List message.Message) × FollowsLog log self.old × IsNextCut log self.old cut }
-        requires none { self.old.shares ≡ [] }
-        requires beside { F.pre beside }
-        ensures comes { (log : List message.Message) → FollowsLog log self.old → IsNextCut log self.old cut → ComesTo log cut.upto self.old self.new result.0 }
-        ensures answer { F.post beside result.1 }
-    {
-        let upto = cut.upto;
-        let workers = self.workers();
-        let (applied, answer) = apply_cut(
-            rt,
-            self.alloc,
-            &mut self.tables,
-            cut,
-            workers,
-            &mut self.pace,
-            &self.gate,
-            beside,
-        );
-        let Ok(left) = applied else {
-            return (Err(AllocError), answer);
-        };
-        self.rest = left.into();
-        self.at = upto;
-        self.note_rest(upto);
-        if self.left > 0 {
-            return (Err(AllocError), answer);
-        }
-        (Ok(()), answer)
+        self.upto = upto;
+        self.left = left;
+        Err(AllocError)
     }
 
     // Applies the batch that ends with message `upto`.
@@ -349,21 +213,33 @@ impl<G: Gate> Follower<G> {
         requires few { length log.now ≤ 1000000 }
         requires rests { self.old.progress.left ≡ 0 }
         requires follows { FollowsLog log.now self.old }
-        requires on { self.old.at ≤ upto }
+        requires on { self.old.progress.applied ≤ upto }
         requires within { upto ≤ length log.now }
-        ensures follows { FollowsLog log.now self.new }
-        ensures limits { StaysWithin log.now self.old.at self.new.at }
-        ensures ok { OnOk result (self.new.progress ≡ resting_at upto) }
-        ensures err { OnErr result ((self.new.progress ≡ self.old.progress) ⊎ BatchBegins log.now upto self.old.progress self.new.progress) }
-        ensures many { length self.new.tables ≡ length self.old.tables }
+        ensures { ComesTo log.now upto self.old self.new result }
     {
-        match self.kept_cut(log, upto) {
-            Some(cut) => {
-                let (ended, ()) = self.follow_cut(rt, cut, || ());
-                ended
-            }
-            None => self.follow_log(rt, log, upto),
+        let from = self.applied;
+        if from == upto {
+            self.rest_at(upto);
+            return Ok(());
         }
+        let workers = usize::from(self.workers);
+        let ended = apply_batch(
+            rt,
+            self.alloc,
+            &mut self.tables,
+            log,
+            from,
+            upto,
+            &mut self.stops,
+            workers,
+            &mut self.pace,
+            &self.gate,
+        );
+        if ended.is_ok() {
+            self.rest_at(upto);
+            return Ok(());
+        }
+        self.note(log, upto)
     }
 
     /// Applies all that is pending: what is kept as a batch of its own, and then what is pending besides. Where memory runs out
@@ -377,7 +253,7 @@ impl<G: Gate> Follower<G> {
         requires rests { self.old.progress.left ≡ 0 }
         requires follows { FollowsLog log.now self.old }
         ensures follows { FollowsLog log.now self.new }
-        ensures limits { StaysWithin log.now self.old.at self.new.at }
+        ensures limits { StaysWithin log.now self.old.progress.upto self.new.progress.upto }
         ensures ok { OnOk result (self.new.progress ≡ resting_at (length log.now)) }
         ensures err { OnErr result (HasBegun log.now self.old.progress self.new.progress ⊎ IsBetween self.old.progress self.new.progress) }
     {
@@ -388,70 +264,22 @@ impl<G: Gate> Follower<G> {
         self.follow_upto(rt, log, log.len())
     }
 
-    // Applies all that is pending but for the last batch, where several threads are to apply it: then it is given as shares.
-    // `None` where nothing is left to be tried.
-    fn follow_to_last<R: Threads + Wait + Sync>(&mut self, rt: &R, log: &[Message]) -> Option<Cut>
-        requires few { length log.now ≤ 1000000 }
-        requires rests { self.old.progress.left ≡ 0 }
-        requires follows { FollowsLog log.now self.old }
-        ensures follows { FollowsLog log.now self.new }
-        ensures limits { StaysWithin log.now self.old.at self.new.at }
-        ensures last { IsToGo log.now self.old self.new result }
-        ensures many { length self.new.tables ≡ length self.old.tables }
-    {
-        if self.kept < log.len() && self.follow_upto(rt, log, self.kept).is_err() {
-            return None;
-        }
-        match self.cut(rt, log, log.len()) {
-            Ok(Some(cut)) => Some(cut),
-            Ok(None) => {
-                let _ = self.follow_log(rt, log, log.len());
-                None
-            }
-            Err(_) => None,
-        }
-    }
-
-    // Has the workers apply the last batch, where it was cut. Meanwhile `beside` is called once, on this thread.
-    fn follow_last<R: Threads + Wait + Sync, A, F: FnOnce() -> A>(
-        &mut self,
-        rt: &R,
-        last: Option<Cut>,
-        beside: F,
-    ) -> A
-        requires to_go { (log : List message.Message) × FollowsLog log self.old × ((first : model.Follower) × IsToGo log first self.old last) }
-        requires beside { F.pre beside }
-        ensures gone { (log : List message.Message) (first : model.Follower) → FollowsLog log self.old → IsToGo log first self.old last → HasGone log first self.old self.new }
-        ensures answer { F.post beside result }
-    {
-        match last {
-            Some(cut) => {
-                let (_, answer) = self.follow_cut(rt, cut, beside);
-                answer
-            }
-            None => beside(),
-        }
-    }
-
-    // Keeps what the log has after its first `before` messages as the next batch, with its shares where they were made,
-    // where all before it is applied.
-    fn keep(&mut self, log: &[Message], before: usize, shares: Vec<Share>)
+    // Keeps what the log has after its first `before` messages as the next batch, where all before it is applied.
+    fn keep(&mut self, log: &[Message], before: usize)
         requires follows { FollowsLog log.now self.old }
         requires before { before ≤ length log.now }
-        requires shares { AreNext (length self.old.tables) before log.now shares.items }
         ensures follows { FollowsLog log.now self.new }
-        ensures at { self.new.at ≡ self.old.at }
+        ensures upto { self.new.progress.upto ≡ self.old.progress.upto }
         ensures kept { (self.new.progress ≡ self.old.progress) ⊎ ((self.old.progress ≡ resting_at before) × (self.new.progress ≡ keeping before (length log.now))) }
     {
         if self.left == 0 && self.applied == before && self.kept == before {
             self.kept = log.len();
-            self.shares = shares;
         }
     }
 
     /// Takes messages in that arrived together, one after the other, into the intake whose log these tables follow. What is
-    /// pending before is applied, by the workers meanwhile; what is released by the messages is kept as the next batch, where
-    /// all before it is applied. A message for which there is no memory comes back with all that follow it.
+    /// pending before is applied first; what is released by the messages is kept as the next batch, where all before it is
+    /// applied. A message for which there is no memory comes back with all that follow it.
     pub fn take_in<R: Threads + Wait + Sync>(
         &mut self,
         rt: &R,
@@ -468,32 +296,10 @@ impl<G: Gate> Follower<G> {
         ensures fault { IfSome result.fault (IsStop self.old.progress.left result.rest) }
         ensures progress { IsAhead intake.old.state.log intake.new.state.log self.old.progress self.new.progress }
     {
-        let alloc = self.alloc;
         let before = intake.log().len();
-        let shards = self.tables.len();
-        let workers = self.workers();
-        let pace = self.pace;
-        let last = self.follow_to_last(rt, intake.log());
-        let standing = intake.take();
-        let ahead = self.follow_last(
-            rt,
-            last,
-            move || -> Ahead
-                requires sites { All (λ m. sites_of m ≡ standing.place.sites) messages.items }
-                requires shards { 0 < shards }
-                requires workers { 0 < workers }
-                ensures ahead { TakesAhead shards standing messages.items result }
-            { take_ahead(rt, alloc, standing, messages, shards, workers, pace) },
-        );
-        let Ahead {
-            intake: grown,
-            arrived,
-            shares,
-        } = ahead;
-        *intake = grown;
-        if let Some(shares) = shares {
-            self.keep(intake.log(), before, shares);
-        }
+        let _ = self.follow(rt, intake.log());
+        let arrived = take_all(self.alloc, intake, messages);
+        self.keep(intake.log(), before);
         arrived
     }
 
@@ -502,19 +308,16 @@ impl<G: Gate> Follower<G> {
         requires few { length log.now ≤ 1000000 }
         requires begun { 0 < self.old.progress.left }
         requires follows { FollowsLog log.now self.old }
-        ensures follows { FollowsLog log.now self.new }
-        ensures limits { StaysWithin log.now self.old.at self.new.at }
-        ensures ok { OnOk result (self.new.progress ≡ resting_at self.old.progress.upto) }
-        ensures err { OnErr result (BatchGoesOn self.old.progress self.new.progress) }
+        ensures { GoesOnTo log.now self.old self.new result }
     {
-        finish(&mut self.tables, &mut self.rest);
         let upto = self.upto;
-        if !self.rest.is_empty() {
-            self.note(log, upto);
-            return Err(AllocError);
+        follow_rest(&mut self.tables, log, &mut self.stops, upto);
+        let left = count_behind(&log[self.applied..upto], self.applied, &self.stops);
+        if left == 0 {
+            self.rest_at(upto);
+            return Ok(());
         }
-        let ended = apply_upto(&mut self.tables, log, &mut self.at, upto);
-        self.note(log, upto);
-        ended
+        self.left = left;
+        Err(AllocError)
     }
 }

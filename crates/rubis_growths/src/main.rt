@@ -46,7 +46,6 @@ fn run<R: Print + AllocGlobal + Threads + Wait + Sync>(rt: &R, name: &str) -> Re
         "two_shares_again" => teams::two_shares_again(rt),
         "two_shares_beside" => teams::two_shares_beside(rt),
         "shared_batch" => teams::shared_batch(rt),
-        "cut_batch" => teams::cut_batch(rt),
         "intake" => intakes::intake(rt),
         "own_messages" => intakes::own_messages(rt),
         "site_request" => sites::site_request(rt),

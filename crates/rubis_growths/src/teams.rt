@@ -10,7 +10,7 @@ use crate::records::Window;
 use crate::telling::{tell_refused, tell_rows};
 use crate::tries::{Stop, TRIES, again};
 use rubis_board::Poster;
-use rubis_folds::finish;
+use rubis_folds::{count_behind, finish, follow_rest};
 use rubis_listing::tables as list_tables;
 use rubis_message::Message;
 use rubis_pieces::{Left, Piece, Places, gather};
@@ -18,7 +18,7 @@ use rubis_pool_core::{Event, Pool, run};
 use rubis_schema::{Id, Items, PurchaseRow, Row, RowKey, shard_of};
 use rubis_shadow::{Change, Effect, Numbered};
 use rubis_shard::{Shard, Share, Tables};
-use rubis_workers::{Cut, Free, Pace, Worked, apply_all, apply_batch, apply_beside, apply_cut};
+use rubis_workers::{Free, Pace, Worked, apply_all, apply_batch, apply_beside};
 use std::alloc::{AllocError, Global};
 use std::io::Print;
 use std::sync::Wait;
@@ -212,29 +212,32 @@ pub fn tell_finished<R: Print + AllocGlobal>(
     }
 }
 
-// Has workers apply messages, again where memory is refused.
+// Has workers apply messages, and goes on with them where memory is refused.
 fn apply_shared<R: Print + AllocGlobal + Threads + Wait + Sync>(
     rt: &R,
     tables: &mut Tables,
     messages: &[Message],
-) -> Result<Items<Left>, Stop>
+) -> Result<(), Stop>
     requires some { 0 < length tables.old }
+    requires shards { length tables.old ≤ 255 }
     requires few { length messages.now ≤ 1000 }
-    ensures { IfOk result (AreUnfinished 0 (length tables.new)) }
 {
-    let (mut pace, mut at, upto) = (Pace::new(), 0, messages.len());
+    let (mut pace, upto, shards) = (Pace::new(), messages.len(), tables.len());
     let alloc = rt.alloc();
-    if let Ok(left) = apply_batch(
-        rt, alloc, tables, messages, &mut at, upto, 4, &mut pace, &Free,
-    ) {
-        return Ok(left);
+    let mut stops = again!(rt, "Vec::with_capacity", Vec::with_capacity(alloc, shards));
+    let applied = apply_batch(
+        rt, alloc, tables, messages, 0, upto, &mut stops, 4, &mut pace, &Free,
+    );
+    if applied.is_ok() {
+        return Ok(());
     }
-    tell_refused(rt, "apply_batch", true);
-    match apply_batch(
-        rt, alloc, tables, messages, &mut at, upto, 4, &mut pace, &Free,
-    ) {
-        Ok(left) => Ok(left),
-        Err(_) => Err(Stop::GaveUp),
+    let parts = count_behind(messages, 0, &stops);
+    let _ = println!(rt; "! apply_batch: {parts} parts");
+    follow_rest(tables, messages, &mut stops, upto);
+    if count_behind(messages, 0, &stops) == 0 {
+        Ok(())
+    } else {
+        Err(Stop::GaveUp)
     }
 }
 
@@ -246,50 +249,9 @@ pub fn shared_batch<R: Print + AllocGlobal + Threads + Wait + Sync>(rt: &R) -> R
         return Err(Stop::GaveUp);
     }
     let mut tables = again!(rt, "Tables::new", Tables::new(alloc, 5));
-    let left = apply_shared(rt, &mut tables, &messages)?;
-    tell_finished(rt, &mut tables, left)
-}
-
-// Cuts the messages into shares and has workers apply them: whether there was memory to begin.
-fn apply_as_cut<R: Print + AllocGlobal + Threads + Wait + Sync>(
-    rt: &R,
-    tables: &mut Tables,
-    messages: &[Message],
-) -> Result<bool, Stop> {
-    let (alloc, shards, upto) = (rt.alloc(), tables.len(), messages.len());
-    if shards == 0 || upto == 0 || upto > 1000 {
-        return Err(Stop::GaveUp);
-    }
-    let cut = again!(
-        rt,
-        "Cut::new",
-        Cut::new(rt, alloc, messages, 0, upto, shards)
-    );
-    let mut pace = Pace::new();
-    let (left, ()) = apply_cut(rt, alloc, tables, cut, 4, &mut pace, &Free, || ());
-    match left {
-        Ok(left) => {
-            tell_finished(rt, tables, left)?;
-            Ok(true)
-        }
-        Err(_) => {
-            tell_refused(rt, "apply_cut", true);
-            Ok(false)
-        }
-    }
-}
-
-/// A batch that is cut into shares, applied by workers.
-pub fn cut_batch<R: Print + AllocGlobal + Threads + Wait + Sync>(rt: &R) -> Result<(), Stop> {
-    let alloc = rt.alloc();
-    let messages = again!(rt, "read_packet", Window::shop(alloc)).messages;
-    let mut tables = again!(rt, "Tables::new", Tables::new(alloc, 5));
-    for _ in 0..TRIES {
-        if apply_as_cut(rt, &mut tables, &messages)? {
-            return Ok(());
-        }
-    }
-    Err(Stop::GaveUp)
+    apply_shared(rt, &mut tables, &messages)?;
+    tell_rows(rt, 1, &again!(rt, "tables", list_tables(alloc, &tables)));
+    Ok(())
 }
 
 // Pieces 0 and 1, as a list.

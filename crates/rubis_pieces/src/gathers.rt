@@ -1,7 +1,7 @@
 ghost use Rattle.std.specs.Prelude.{◌≡◌, ◌+◌, ◌<◌, ◌≤◌, ◌++◌, ◌∷◌, [], map as each, flat_map, length, IfSome, IfNone, IfOk, IfErr};
 ghost use Rattle.std.specs.Vec.{vec_len, vec_capacity};
 ghost use Rattle.rubis_pieces.specs.Faults.{AllUnseen, IsFault, IsGatherable, numbers_of};
-ghost use Rattle.rubis_pieces.specs.Gathered.{IsGathered, left_of};
+ghost use Rattle.rubis_pieces.specs.Gathered.{IsCounted, IsGathered, IsInOrder, left_of};
 
 use crate::pieces::{Done, Left};
 use rubis_schema::Items;
@@ -30,6 +30,13 @@ pub struct GatherFault {
 pub struct Gathered {
     pub shards: Items<Shard>,
     pub left: Items<Left>,
+}
+
+/// The shards by number, and how much of each one's work is done.
+#[derive(Drop)]
+pub struct Counted {
+    pub shards: Items<Shard>,
+    pub dones: Items<usize>,
 }
 
 /// The room for gathering the shards of a set. Contracts see how many there are.
@@ -93,6 +100,25 @@ fn first_fault(list: &[Done], seen: &mut [bool]) -> Option<FaultKind>
     None
 }
 
+/// Puts the shards of a set in order of number. `seen` has a flag for each shard, none of which is set. Where the list isn't each
+/// shard of the set once, it comes back with the first fault.
+pub fn in_order(list: Vec<Done>, seen: &mut [bool]) -> Result<Vec<Done>, GatherFault>
+    requires { AllUnseen seen.old }
+    ensures order { IfOk result (λ ordered. IsInOrder (length seen.old) list.items ordered.items) }
+    ensures fault { IfErr result (λ fault. IsFault (length seen.old) (numbers_of list.items) fault.kind) }
+    ensures back { IfErr result (λ fault. fault.back ≡ list.items) }
+{
+    let mut list = list;
+    if let Some(kind) = first_fault(&list, seen) {
+        return Err(GatherFault {
+            kind,
+            back: list.into(),
+        });
+    }
+    list.sort_unstable_by_key(|done| done.shard.number());
+    Ok(list)
+}
+
 /// Puts each shard at its number, with the room of `places`, and says which shares aren't folded whole. Where the list
 /// isn't each shard of the set once, all comes back with the first fault.
 pub fn gather(list: Vec<Done>, places: Places) -> Result<Gathered, GatherFault>
@@ -105,14 +131,7 @@ pub fn gather(list: Vec<Done>, places: Places) -> Result<Gathered, GatherFault>
         mut shards,
         mut left,
     } = places;
-    let mut list = list;
-    if let Some(kind) = first_fault(&list, &mut seen) {
-        return Err(GatherFault {
-            kind,
-            back: list.into(),
-        });
-    }
-    list.sort_unstable_by_key(|done| done.shard.number());
+    let list = in_order(list, &mut seen)?;
     put_all(list, &mut shards, &mut left);
     Ok(Gathered {
         shards: shards.into(),
@@ -145,5 +164,50 @@ fn put_all(list: Vec<Done>, shards: &mut Vec<Shard>, left: &mut Vec<Left>)
 {
     for done in list {
         put_down(done, shards, left);
+    }
+}
+
+/// Puts each shard at its number, with the room of `places`, and how much is done of each beside it. Where the list isn't each shard
+/// of the set once, all comes back with the first fault.
+pub fn gather_counted(
+    list: Vec<Done>,
+    places: Places,
+    dones: Vec<usize>,
+) -> Result<Counted, GatherFault>
+    requires none { dones.items ≡ [] }
+    requires room { places ≤ vec_capacity dones }
+    ensures counted { IfOk result (IsCounted places list.items) }
+    ensures fault { IfErr result (λ fault. IsFault places (numbers_of list.items) fault.kind) }
+    ensures back { IfErr result (λ fault. fault.back ≡ list.items) }
+{
+    let Places {
+        mut seen,
+        mut shards,
+        left: _,
+    } = places;
+    let mut dones = dones;
+    let list = in_order(list, &mut seen)?;
+    count_all(list, &mut shards, &mut dones);
+    Ok(Counted {
+        shards: shards.into(),
+        dones: dones.into(),
+    })
+}
+
+// Puts all shards down in turn, and how much is done of each.
+fn count_all(list: Vec<Done>, shards: &mut Vec<Shard>, dones: &mut Vec<usize>)
+    requires shards { vec_len shards.old + length list.items ≤ vec_capacity shards.old }
+    requires dones { vec_len dones.old + length list.items ≤ vec_capacity dones.old }
+    ensures shards { shards.new.items ≡ shards.old.items ++ each (λ d. d.shard) list.items }
+    ensures dones { dones.new.items ≡ dones.old.items ++ each (λ d. d.done) list.items }
+{
+    for done in list {
+        let Done {
+            shard,
+            share: _,
+            done,
+        } = done;
+        shards.push_reserved(shard);
+        dones.push_reserved(done);
     }
 }

@@ -29,7 +29,6 @@ use Rattle.rubis_follower.specs.Progress.{Progress, resting_at}
 use Rattle.rubis_replica.specs.State.{AnswersAsTheStep, IsDecision, SiteState, decision_at, with_all_applied}
 use Rattle.rubis_follower.specs.declared.faults.Fault.{Fault}
 use Rattle.rubis_follower.specs.declared.faults.Fault.TheVariants.{Refused, Behind, Memory}
-use Rattle.rubis_follower.proofs.Following.{rests_holds}
 use Rattle.rubis_replica.proofs.Growing.{all_at, log_in_limits, tables_of_log}
 use Rattle.rubis_schema.specs.declared.refusals.Refusal.{Refusal}
 
@@ -87,8 +86,8 @@ module _ (old : SiteState) (place : Place) (state : Replica) (batch : ℕ) (f : 
   -- and its misfits too
   pub log_misfits : (ms : List Misfit) → AreOfTheLog f.tables ms → ms ≡ (fold_of (cores old.state.log)).misfits
   log_misfits ms h =
-      let whole_log : take f.at state.log ≡ old.state.log = all_at state.log f follows.follows all_applied ∙ ap (λ (r : Replica). r.log) same_state in
-      h (length f.tables) (cores (take f.at state.log)) follows.follows.some (rests_holds state.log f follows.follows (ap (λ (x : Progress). x.left) all_applied)) ∙ ap (λ l. (fold_of (cores l)).misfits) whole_log
+      let whole_log : take f.progress.applied state.log ≡ old.state.log = all_at state.log f all_applied ∙ ap (λ (r : Replica). r.log) same_state in
+      h (length f.tables) (cores (take f.progress.applied state.log)) follows.follows.some (follows.follows.rests (ap (λ (x : Progress). x.left) all_applied)) ∙ ap (λ l. (fold_of (cores l)).misfits) whole_log
 
   -- so it decides by the model
   pub same_decision : (st : Standing) (ask : Ask) → st ≡ standing_of place.keep state → decision_at old ask ≡ decision (row_by_key (union f.tables)) st ask

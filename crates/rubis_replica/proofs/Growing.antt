@@ -1,5 +1,5 @@
 -- A site's log grows at its end, and the tables that follow it follow it still.
-use Rattle.std.proofs.Common.{◌≡◌, ℕ, zero, suc, ◌<◌, ◌≤◌, Bool, true, false, cond, List, [], ◌∷◌, ◌++◌, length, take, sym, ap, ◌∙◌, subst, append_assoc, refl, arith, inl}
+use Rattle.std.proofs.Common.{◌≡◌, ℕ, zero, suc, ◌<◌, ◌≤◌, Bool, true, false, cond, List, [], ◌∷◌, ◌++◌, length, take, sym, ap, ◌∙◌, subst, append_assoc, refl, arith}
 use Rattle.std.specs.Prelude.{◌==◌, ◌||◌, Option, Some, None, Result, nat_le}
 use Rattle.std.proofs.Math.Seq.{take-length}
 use Rattle.std.proofs.lemmas.List.{append-nil}
@@ -13,11 +13,9 @@ use Rattle.rubis_message.specs.declared.tokens.Token.{Token}
 use Rattle.rubis_model.specs.Log.{cores, fold_of}
 use Rattle.rubis_model.specs.Site.{Place, Replica, after_made, arrived, made, passed, passing}
 use Rattle.rubis_shard.specs.Holdings.{HoldsLog, union}
-use Rattle.rubis_folds.specs.Batches.{AreUnfinished}
 use Rattle.rubis_shard.proofs.Unions.{union_of_log}
-use Rattle.rubis_follower.specs.Follow.{Follower, FollowsAt, FollowsLog}
+use Rattle.rubis_follower.specs.Follow.{Follower, FollowsAt}
 use Rattle.rubis_follower.specs.Progress.{IsProgress, Progress, resting_at}
-use Rattle.rubis_follower.proofs.Following.{all_done, holds_none, rests_at, rests_holds}
 use Rattle.rubis_follower.proofs.Extending.{Extends, arrived_extends, follows_extended, settle_extends}
 
 -- ---- a message that the site makes
@@ -58,22 +56,17 @@ follows_passed p q s new to a f same e h = follows_same p q s new f same (ap (λ
 
 -- ---- the opening tables
 
-pub follows_opening : (sites : ℕ) (log : List Message) (f : Follower) → log ≡ [] → (f.progress ≡ resting_at 0) × (f.at ≡ 0) × (f.rest ≡ []) × (f.shares ≡ []) → 0 < length f.tables
+pub follows_opening : (sites : ℕ) (log : List Message) (f : Follower) → log ≡ [] → f.progress ≡ resting_at 0 → 0 < length f.tables
     → HoldsLog (length f.tables) [] f.tables → FollowsAt sites log f
 follows_opening sites log f e p some holds =
     subst (λ (l : List Message). FollowsAt sites l f) (sym e) (record {
       follows = record {
-        progress = subst (IsProgress []) (sym p.0) (record { on = omega arith; inside = omega arith; ahead = omega arith; within = omega arith; rests = λ z. refl; begun = λ l. absurd (omega (arith, l)) });
-        on = omega (arith, p.1, ap (λ (x : Progress). x.applied) p.0);
-        inside = omega (arith, p.1);
-        left = ap (λ (x : Progress). x.left) p.0 ∙ sym (all_done [] f.rest f.at f.progress.upto p.2 (omega (arith, p.1, ap (λ (x : Progress). x.upto) p.0)));
+        progress = subst (IsProgress []) (sym p) (record { on = omega arith; inside = omega arith; ahead = omega arith; within = omega arith; rests = λ z. refl; begun = λ l. absurd (omega (arith, l)) });
         some = some;
-        unfinished = subst (AreUnfinished 0 (length f.tables)) (sym p.2) tt;
-        holds = holds_none (length f.tables) [] f.at f.rest f.tables p.2
-            (subst (λ (xs : List Message). HoldsLog (length f.tables) (cores xs) f.tables) (sym (none_taken f.at)) holds);
-        next = inl p.3;
+        rests = λ z. subst (λ (xs : List Message). HoldsLog (length f.tables) (cores xs) f.tables) (sym (none_taken f.progress.applied)) holds;
+        begun = λ l. absurd (let none = ap (λ (x : Progress). x.left) p in omega (arith, l, none));
       };
-      limits = subst (λ (xs : List Message). AllInLimits sites (fold_of (cores xs)).tables) (sym (none_taken f.at)) (opening_in_limits sites);
+      limits = subst (λ (xs : List Message). AllInLimits sites (fold_of (cores xs)).tables) (sym (none_taken f.progress.upto)) (opening_in_limits sites);
     })
   where
     none_taken : (n : ℕ) → take n (let xs : List Message = [] in xs) ≡ []
@@ -83,20 +76,18 @@ follows_opening sites log f e p some holds =
 -- ---- with all of the log applied
 
 -- all of it stands
-pub all_at : (log : List Message) (f : Follower) → FollowsLog log f → f.progress ≡ resting_at (length log) → take f.at log ≡ log
-all_at log f h e =
-    let applied = ap (λ (p : Progress). p.applied) e in
-    let at : f.at ≡ length log = rests_at log f h (ap (λ (p : Progress). p.left) e) ∙ applied in
-    ap (λ n. take n log) at ∙ take-length log
+pub all_at : (log : List Message) (f : Follower) → f.progress ≡ resting_at (length log) → take f.progress.applied log ≡ log
+all_at log f e = ap (λ (p : Progress). take p.applied log) e ∙ take-length log
 
 -- the tables are those of the whole log
 pub tables_of_log : (sites : ℕ) (log : List Message) (f : Follower) → FollowsAt sites log f → f.progress ≡ resting_at (length log)
     → union f.tables ≡ (fold_of (cores log)).tables
 tables_of_log sites log f h e =
-    union_of_log (length f.tables) (cores (take f.at log)) f.tables h.follows.some (rests_holds log f h.follows (ap (λ (p : Progress). p.left) e))
-    ∙ ap (λ xs. (fold_of (cores xs)).tables) (all_at log f h.follows e)
+    union_of_log (length f.tables) (cores (take f.progress.applied log)) f.tables h.follows.some (h.follows.rests (ap (λ (p : Progress). p.left) e))
+    ∙ ap (λ xs. (fold_of (cores xs)).tables) (all_at log f e)
 
 -- and within the limits
 pub log_in_limits : (sites : ℕ) (log : List Message) (f : Follower) → FollowsAt sites log f → f.progress ≡ resting_at (length log)
     → AllInLimits sites (fold_of (cores log)).tables
-log_in_limits sites log f h e = subst (λ (xs : List Message). AllInLimits sites (fold_of (cores xs)).tables) (all_at log f h.follows e) h.limits
+log_in_limits sites log f h e =
+    subst (λ (xs : List Message). AllInLimits sites (fold_of (cores xs)).tables) (ap (λ (p : Progress). take p.upto log) e ∙ take-length log) h.limits

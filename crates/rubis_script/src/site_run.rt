@@ -7,7 +7,8 @@ ghost use Rattle.rubis_replica.specs.Setup.{setup_place};
 ghost use Rattle.rubis_engine.specs.Progress.{WrotePrefix};
 ghost use Rattle.rubis_engine.specs.Text.{input_records, rows_text};
 
-use rubis_desk::{Desk, run_desk};
+use rubis_ahead::run_desk_by;
+use rubis_desk::Desk;
 use rubis_engine::{Count, RunFault};
 use rubis_replica::{Config, Free, Gate};
 use rubis_schema::RECORDS_MAX;
@@ -47,7 +48,8 @@ pub fn run_site_upto<G: Gate + Drop, T: Threads + Wait + Sync, R: Read + Drop, W
         WrotePrefix (λ records. rows_text (output_of (setup_place config.now) records)) (W.contents writer.old) (W.contents writer.new) (input_records input)) }
 {
     let mut desk = Desk::new(alloc, config, gate)?;
-    run_desk(rt, alloc, reader, writer, &mut desk, limit)
+    let workers = usize::from(config.workers());
+    run_desk_by(rt, alloc, reader, writer, &mut desk, limit, workers)
 }
 
 /// Runs a site over at most 4,000,000 records, as `run_site_upto`.
@@ -101,7 +103,8 @@ pub fn run_site_to_exit<T: Threads + Wait + Sync, R: Read + Drop, W: Write>(
         WrotePrefix (λ records. rows_text (output_of (setup_place config.now) records)) (W.contents writer.old) (W.contents writer.new) (input_records input)) }
 {
     let mut desk = Desk::new(alloc, config, Free)?;
-    let ended = run_desk(rt, alloc, reader, writer, &mut desk, RECORDS_MAX);
+    let workers = usize::from(config.workers());
+    let ended = run_desk_by(rt, alloc, reader, writer, &mut desk, RECORDS_MAX, workers);
     mem::forget(desk);
     ended
 }

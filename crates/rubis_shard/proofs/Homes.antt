@@ -281,3 +281,17 @@ folds_last_err (Err u) ts at x z there is =
 pub if_ok : {A E : Type 0} (P Q : Type 0) → (P → Q) → (r : Result A E) → OnOk r P → OnOk r Q
 if_ok P Q f (Ok x) h = f h
 if_ok P Q f (Err x) h = tt
+
+-- ---- one shard alone
+pub one_kept : {E : Type 0} (r : Result (Unit {0}) E) (x y : ShardState) (ns : List Numbered) → OnOk r (y ≡ with_parts x ns)
+    → OnErr r (y ≡ x) → (y.number ≡ x.number) × (y.shards ≡ x.shards)
+one_kept (Ok u) x y ns ok err = (ap (λ (s : ShardState). s.number) ok, ap (λ (s : ShardState). s.shards) ok)
+one_kept (Err u) x y ns ok err = (ap (λ (s : ShardState). s.number) err, ap (λ (s : ShardState). s.shards) err)
+
+pub folds_one_ok : {E : Type 0} (r : Result (Unit {0}) E) (ts : List ShardState) (at : ℕ) (x y : ShardState) (ns : List Numbered)
+    → AreInOrder ts → slice_get ts at ≡ Some x → OnOk r (y ≡ with_parts x (parts_at x.shards x.number ns))
+    → OnOk r (FoldsOn at (parts_at (length ts) at ns) ts (set ts at y))
+folds_one_ok (Ok u) ts at x y ns order there is =
+    folds_on ts at x y (parts_at (length ts) at ns) there
+    (is ∙ (λ i. with_parts x (parts_at ((order at x there).1 i) ((order at x there).0 i) ns)))
+folds_one_ok (Err u) ts at x y ns order there is = tt

@@ -11,3 +11,4 @@ pub mod Messages
 pub mod Listed
 pub mod Entries
 pub mod Groups
+pub mod PartHomes

@@ -4,10 +4,12 @@ ghost use Rattle.rubis_model.specs.Log.{fold_on, parts_of};
 ghost use Rattle.rubis_shard.specs.Entries.{core_of, numbered_of};
 ghost use Rattle.rubis_shard.specs.Holdings.{home_or, parts_at, AreInOrder};
 ghost use Rattle.rubis_shard.specs.Messages.{at_place, FoldsFrom};
+ghost use Rattle.rubis_shard.specs.PartHomes.{AreHomesOf};
 ghost use Rattle.rubis_shard.specs.Stores.{held_by, HasRoom};
 
 use crate::entries::LogEntry;
 use crate::message_parts::MessageParts;
+use crate::part_homes::PartHomes;
 use crate::shard_store::Store;
 use crate::shards::Shard;
 use rubis_schema::{Row, shard_of};
@@ -16,9 +18,10 @@ use std::alloc::{AllocError, Global};
 
 // The home of the entry's part at this place, or the number of shards where there is none.
 #[inline(always)]
-fn home_at(entry: &LogEntry<'_>, shards: usize, place: u8) -> usize
+pub(crate) fn home_at(entry: &LogEntry<'_>, shards: usize, place: u8) -> usize
     requires { 0 < shards }
-    ensures { result ≡ home_or shards (slice_get (parts_of (core_of entry.now)) place) }
+    ensures home { result ≡ home_or shards (slice_get (parts_of (core_of entry.now)) place) }
+    ensures within { result ≤ shards }
 {
     match entry.shadow.key(entry.id, place) {
         Some(key) => shard_of(&key, shards),
@@ -39,6 +42,22 @@ impl<'a> MessageParts<'a> {
             first: home_at(entry, shards, 0),
             second: home_at(entry, shards, 1),
             third: home_at(entry, shards, 2),
+        }
+    }
+
+    /// The parts of this entry, on that many shards, with these homes.
+    #[inline(always)]
+    pub fn with(entry: &LogEntry<'a>, shards: usize, homes: &PartHomes) -> MessageParts<'a>
+        requires { AreHomesOf shards (core_of entry.now) homes.now }
+        ensures entry { result.entry ≡ entry.now }
+        ensures shards { result.shards ≡ shards }
+    {
+        MessageParts {
+            entry: *entry,
+            shards,
+            first: usize::from(homes.first),
+            second: usize::from(homes.second),
+            third: usize::from(homes.third),
         }
     }
 
@@ -86,9 +105,9 @@ impl<'a> MessageParts<'a> {
         self.home_from(2, from, second)
     }
 
-    // The row of the first part that is in a box or shared, where it has one, if its home is the shard.
+    /// The row of the first part that is in a box or shared, where it has one, if its home is the shard.
     #[inline(always)]
-    fn boxed_row(&self, alloc: Global, at: usize) -> Result<Option<Row>, AllocError>
+    pub fn boxed_row(&self, alloc: Global, at: usize) -> Result<Option<Row>, AllocError>
         requires { at < self.now.shards }
         ensures { IfOk result (λ row. self.now.first ≡ at → HasBoxedRow (slice_get (parts_of (core_of self.now.entry)) 0) row) }
     {

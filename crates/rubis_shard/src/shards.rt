@@ -12,11 +12,14 @@ ghost use Rattle.rubis_shard.specs.Entries.{core_of, numbered_of};
 ghost use Rattle.rubis_shard.specs.Messages.{emptied};
 ghost use Rattle.rubis_shard.specs.Holdings.{parts_at};
 ghost use Rattle.rubis_shadow.specs.BoxedRows.{HasBoxedRow};
+ghost use Rattle.rubis_shard.specs.PartHomes.{AreHomesOf};
 ghost use Rattle.rubis_shard.specs.Rows.{tables_in};
 ghost use Rattle.rubis_shard.specs.Stores.{held_by, HasRoom};
 ghost use Rattle.rubis_shard.specs.Written.{shown};
 
+use crate::entries::LogEntry;
 use crate::message_parts::MessageParts;
+use crate::part_homes::PartHomes;
 use crate::picks::picked_in_order;
 use crate::row_map::Rows;
 use crate::shard_store::Store;
@@ -238,6 +241,27 @@ impl Shard {
         message.fold_at(store.get_mut(), self.number, row);
         self.put_store(store);
         Ok(())
+    }
+
+    /// Folds those parts of an entry of the log on whose home it is, by the homes of its parts. Without memory nothing
+    /// changes.
+    #[inline(always)]
+    pub fn take_on(&mut self, entry: &LogEntry<'_>, homes: &PartHomes) -> Result<(), AllocError>
+        requires number { self.old.number < self.old.shards }
+        requires homes { AreHomesOf self.old.shards (core_of entry.now) homes.now }
+        ensures ok { OnOk result (self.new ≡ with_parts self.old (parts_at self.old.shards self.old.number (numbered_of entry.now))) }
+        ensures err { OnErr result (self.new ≡ self.old) }
+    {
+        let at = self.number;
+        if usize::from(homes.first) != at
+            && usize::from(homes.second) != at
+            && usize::from(homes.third) != at
+        {
+            return Ok(());
+        }
+        let message = MessageParts::with(entry, self.shards, homes);
+        let row = message.boxed_row(self.alloc, at)?;
+        self.fold_message(&message, row)
     }
 
     // What is held, or an empty store where it is out.

@@ -2,7 +2,7 @@ ghost use Rattle.std.specs.Prelude.{◌≡◌, ◌<◌, ◌≤◌, [], map as ea
 ghost use Rattle.std.specs.List.{All};
 ghost use Rattle.rubis_schema.specs.Keys.{home};
 ghost use Rattle.rubis_shadow.specs.Tables.{rows_of};
-ghost use Rattle.rubis_shard.specs.Holdings.{AreInOrder, FoldsAtHome, FoldsOn, HoldsLog, IsSet, TakesOn, union};
+ghost use Rattle.rubis_shard.specs.Holdings.{AreInOrder, FoldsAtHome, FoldsOn, HoldsLog, IsSet, TakesOn, parts_at, union};
 ghost use Rattle.rubis_shard.specs.Entries.{core_of, numbered_of};
 ghost use Rattle.rubis_shard.specs.Groups.{group_of};
 ghost use Rattle.rubis_shard.specs.Listed.{listed_of};
@@ -14,6 +14,7 @@ use crate::groups::Group;
 use crate::message_parts::MessageParts;
 use crate::messages::fold_from;
 use crate::orders::put_in_order;
+use crate::part_homes::PartHomes;
 use crate::shards::{Applied, Shard};
 use crate::shares::Share;
 use rubis_schema::{Hashes, Items, Listing, Row, RowKey, Table, View, shard_of};
@@ -215,6 +216,18 @@ impl Tables {
         ensures folded { FoldsOn share.now.number (slice_range share.now.effects from result.done) self.old self.new }
     {
         self.shards[share.number].apply(share, from)
+    }
+
+    /// Folds those parts of the message that is this entry of a log whose home is that shard: all of them, or none where memory is
+    /// refused.
+    pub fn take_on(&mut self, number: usize, entry: &LogEntry<'_>) -> Result<(), AllocError>
+        requires there { number < length self.old }
+        requires few { length self.old ≤ 255 }
+        ensures ok { OnOk result (FoldsOn number (parts_at (length self.old) number (numbered_of entry.now)) self.old self.new) }
+        ensures err { OnErr result (self.new ≡ self.old) }
+    {
+        let homes = PartHomes::of(entry, self.shards.len());
+        self.shards[number].take_on(entry, &homes)
     }
 
     /// Folds all parts of the message that is this entry of a log, each on its home shard: done whole, or not at all where

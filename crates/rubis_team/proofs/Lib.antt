@@ -1,3 +1,4 @@
 mod Lists
 mod Moved
 mod Folded
+mod Counts

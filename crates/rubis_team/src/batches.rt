@@ -7,6 +7,7 @@ ghost use Rattle.rubis_team.specs.Work.{AreWorked, AppliesBatch};
 
 use crate::gate::Gate;
 use crate::rooms::Rooms;
+use crate::task::FoldShares;
 use crate::team::{Teamwork, fan_out};
 use rubis_board::Poster;
 use rubis_pieces::{Left, Piece, gather};
@@ -112,7 +113,7 @@ pub fn apply_by_team<G: Gate, R: Threads + Wait + Sync, A, F: FnOnce() -> A>(
         others,
         answer,
         team,
-    } = fan_out(rt, &board, pass, mine, others, gate, beside);
+    } = fan_out(rt, &board, pass, mine, others, &FoldShares, gate, beside);
     board.close(pass);
     match gather(list, places) {
         Ok(gathered) => {

@@ -1,17 +1,16 @@
-ghost use Rattle.std.specs.Prelude.{◌≡◌, ◌<◌, ◌≤◌, IfOk, List, OnErr, length};
-ghost use Rattle.rubis_message.specs.Message as message;
-ghost use Rattle.rubis_shard.specs.Holdings.{IsSet};
-ghost use Rattle.rubis_folds.specs.Batches.{parts_left};
-ghost use Rattle.rubis_workers.specs.Logs.{AppliesUpto, IsCut};
+ghost use Rattle.std.specs.Prelude.{◌≡◌, ℕ, ◌+◌, ◌<◌, ◌≤◌, [], length, map as each, slice_index, take, true, OnOk, OnErr};
+ghost use Rattle.std.specs.Vec.{vec_capacity};
+ghost use Rattle.rubis_model.specs.Log.{cores};
+ghost use Rattle.rubis_shard.specs.Holdings.{HoldsLog, IsSet};
+ghost use Rattle.rubis_workers.specs.Logs.{AppliesTo, AppliesWhole};
 
-use crate::cuts::Cut;
-use crate::folding::{apply_upto, count_left};
+use crate::folding::apply_upto;
 use crate::pace::Pace;
+use rubis_folds::homes_of;
 use rubis_message::Message;
-use rubis_pieces::Left;
 use rubis_schema::Items;
 use rubis_shard::{Shard, Tables};
-use rubis_team::{Gate, TeamResult, Worked, apply_by_team};
+use rubis_team::{Followed, Gate, follow_by_team};
 use std::alloc::{AllocError, Global};
 use std::sync::Wait;
 use std::thread::Threads;
@@ -27,60 +26,6 @@ fn again(shards: Items<Shard>) -> Tables
     }
 }
 
-/// Applies a batch that is cut into shares, as far as memory goes, by at most `workers` threads, from 1 to 16, and no more than
-/// there are shards or messages. Meanwhile `beside` is called once, on the caller's thread. The answer has the shares that
-/// aren't folded whole, with how much of each is. Where no part could be folded, that is an error, and nothing changes.
-pub fn apply_cut<G: Gate, R: Threads + Wait + Sync, A, F: FnOnce() -> A>(
-    rt: &R,
-    alloc: Global,
-    tables: &mut Tables,
-    cut: Cut,
-    workers: usize,
-    pace: &mut Pace,
-    gate: &G,
-    beside: F,
-) -> (Result<Items<Left>, AllocError>, A)
-    requires some { 0 < length tables.old }
-    requires cut { (log : List message.Message) × IsCut (length tables.old) log cut }
-    requires workers { (0 < workers) × (workers ≤ 16) }
-    requires beside { F.pre beside }
-    ensures applied { (log : List message.Message) → IsCut (length tables.old) log cut → IfOk result.0 (AppliesUpto log cut.from cut.upto tables.old tables.new cut.upto) }
-    ensures few { IfOk result.0 (λ left. parts_left left ≤ 3000000) }
-    ensures err { OnErr result.0 (tables.new ≡ tables.old) }
-    ensures answer { F.post beside result.1 }
-{
-    let Cut {
-        shares,
-        parts,
-        from,
-        upto,
-    } = cut;
-    let shards = tables.len();
-    let messages = upto.saturating_sub(from);
-    let most = Pace::most(workers, shards, messages);
-    let (result, answer) = apply_by_team(rt, alloc, tables.take(), shares, most, gate, beside);
-    match result {
-        Ok(result) => {
-            let TeamResult {
-                worked,
-                team,
-                others,
-            } = result;
-            let Worked { shards: list, left } = worked;
-            *tables = again(list);
-            pace.learn(team - 1, (messages / shards).saturating_mul(others));
-            if count_left(left.as_slice()) == parts {
-                return (Err(AllocError), answer);
-            }
-            (Ok(left), answer)
-        }
-        Err(unstarted) => {
-            *tables = again(unstarted.shards);
-            (Err(AllocError), answer)
-        }
-    }
-}
-
 // The caller's thread takes each of the shards, as the one worker of a batch.
 fn take_each<G: Gate>(gate: &G, shards: usize) {
     for number in 0..shards {
@@ -88,70 +33,165 @@ fn take_each<G: Gate>(gate: &G, shards: usize) {
     }
 }
 
+// Each of the shards stands there.
+fn stop_all(stops: &mut Vec<usize>, shards: usize, at: usize)
+    requires room { shards ≤ vec_capacity stops.old }
+    ensures many { length stops.new.items ≡ shards }
+    ensures at { (k : ℕ) → k < shards → slice_index stops.new.items k ≡ at }
+    ensures room { vec_capacity stops.new ≡ vec_capacity stops.old }
+{
+    stops.clear();
+    for _ in 0..shards {
+        stops.push_reserved(at);
+    }
+}
+
+// Each shard stands where it came to in a batch after message `from`; whether each did all `messages` of it.
+fn stop_each(stops: &mut Vec<usize>, dones: &[usize], from: usize, messages: usize) -> bool
+    requires room { length dones.now ≤ vec_capacity stops.old }
+    requires within { (k : ℕ) → k < length dones.now → slice_index dones.now k ≤ messages }
+    requires few { from + messages ≤ 1000000 }
+    ensures stops { stops.new.items ≡ each (λ d. from + d) dones.now }
+    ensures whole { result ≡ true → (k : ℕ) → k < length dones.now → slice_index dones.now k ≡ messages }
+    ensures room { vec_capacity stops.new ≡ vec_capacity stops.old }
+{
+    stops.clear();
+    let mut whole = true;
+    for at in 0..dones.len() {
+        stops.push_reserved(from + dones[at]);
+        if dones[at] != messages {
+            whole = false;
+        }
+    }
+    whole
+}
+
 // Applies a batch of a log on the caller's thread, which first takes each shard.
 fn apply_alone<G: Gate>(
+    tables: &mut Tables,
+    log: &[Message],
+    from: usize,
+    upto: usize,
+    stops: &mut Vec<usize>,
+    gate: &G,
+) -> Result<(), AllocError>
+    requires few { length log.now ≤ 1000000 }
+    requires within { upto ≤ length log.now }
+    requires on { from ≤ upto }
+    requires some { 0 < length tables.old }
+    requires room { length tables.old ≤ vec_capacity stops.old }
+    ensures ok { OnOk result (AppliesWhole log.now from upto tables.old tables.new) }
+    ensures err { OnErr result (AppliesTo log.now from upto tables.old tables.new stops.new.items) }
+    ensures room { vec_capacity stops.new ≡ vec_capacity stops.old }
+{
+    let shards = tables.len();
+    take_each(gate, shards);
+    let mut at = from;
+    if apply_upto(tables, log, &mut at, upto).is_ok() {
+        return Ok(());
+    }
+    stop_all(stops, shards, at);
+    Err(AllocError)
+}
+
+// Applies a batch of a log by a team of at most `most` threads, straight from its messages.
+fn apply_together<G: Gate, R: Threads + Wait + Sync>(
+    rt: &R,
     alloc: Global,
     tables: &mut Tables,
     log: &[Message],
-    at: &mut usize,
+    from: usize,
     upto: usize,
+    stops: &mut Vec<usize>,
+    most: usize,
+    pace: &mut Pace,
     gate: &G,
-) -> Result<Items<Left>, AllocError>
+) -> Result<(), AllocError>
     requires few { length log.now ≤ 1000000 }
     requires within { upto ≤ length log.now }
-    requires pending { at.old < upto }
+    requires pending { from < upto }
     requires some { 0 < length tables.old }
-    ensures applied { IfOk result (AppliesUpto log.now at.old upto tables.old tables.new at.new) }
-    ensures few { IfOk result (λ left. parts_left left ≤ 3000000) }
-    ensures at { OnErr result (at.new ≡ at.old) }
-    ensures err { OnErr result (tables.new ≡ tables.old) }
+    requires shards { length tables.old ≤ 255 }
+    requires most { (0 < most) × (most ≤ 16) }
+    requires room { length tables.old ≤ vec_capacity stops.old }
+    ensures ok { OnOk result (AppliesWhole log.now from upto tables.old tables.new) }
+    ensures err { OnErr result (AppliesTo log.now from upto tables.old tables.new stops.new.items) }
+    ensures room { vec_capacity stops.new ≡ vec_capacity stops.old }
 {
-    take_each(gate, tables.len());
-    let from = *at;
-    let _ = apply_upto(tables, log, at, upto);
-    if *at == from {
-        return Err(AllocError);
+    let batch = &log[from..upto];
+    let shards = tables.len();
+    let messages = upto - from;
+    stop_all(stops, shards, from);
+    let homes = homes_of(alloc, batch, shards)?;
+    let (result, ()) = follow_by_team(
+        rt,
+        alloc,
+        tables.take(),
+        batch,
+        &homes,
+        from as u32 + 1,
+        most,
+        gate,
+        || (),
+    );
+    match result {
+        Ok(followed) => {
+            let Followed {
+                shards: list,
+                dones,
+                team,
+                others,
+            } = followed;
+            *tables = again(list);
+            pace.learn(team - 1, (messages / shards).saturating_mul(others));
+            if stop_each(stops, dones.as_slice(), from, messages) {
+                Ok(())
+            } else {
+                Err(AllocError)
+            }
+        }
+        Err(back) => {
+            *tables = again(back);
+            Err(AllocError)
+        }
     }
-    Ok(Items::new(alloc))
 }
 
-/// Applies the messages of a log after message `at`, up to message `upto`, as one batch, as far as memory goes, by as many of
-/// the workers as its pace says, from 1 to 16. Where that is one thread, the caller's takes each shard, and folds the messages
-/// in place; else the batch is cut into shares, and a team takes the shards. Either way the gate is called for each shard.
-/// Up to message `at` the log then stands in the tables, but for the shares of the answer, with how much of each is folded.
-/// Where nothing could be applied, that is an error, and nothing changes. A log has at most 1,000,000 messages.
+/// Applies the messages of a log after message `from`, up to message `upto`, as one batch, as far as memory goes, by as many of
+/// the workers as its pace says, from 1 to 16. Where that is one thread, the caller's takes each shard, and folds message after
+/// message; else a team takes the shards, and folds straight from the messages on each. Either way the gate is called for each
+/// shard. On an error `stops` says how far each shard stands. A log has at most 1,000,000 messages.
 pub fn apply_batch<G: Gate, R: Threads + Wait + Sync>(
     rt: &R,
     alloc: Global,
     tables: &mut Tables,
     log: &[Message],
-    at: &mut usize,
+    from: usize,
     upto: usize,
+    stops: &mut Vec<usize>,
     workers: usize,
     pace: &mut Pace,
     gate: &G,
-) -> Result<Items<Left>, AllocError>
+) -> Result<(), AllocError>
     requires few { length log.now ≤ 1000000 }
     requires within { upto ≤ length log.now }
-    requires on { at.old ≤ upto }
+    requires on { from ≤ upto }
     requires some { 0 < length tables.old }
+    requires shards { length tables.old ≤ 255 }
     requires workers { (0 < workers) × (workers ≤ 16) }
-    ensures applied { IfOk result (AppliesUpto log.now at.old upto tables.old tables.new at.new) }
-    ensures few { IfOk result (λ left. parts_left left ≤ 3000000) }
-    ensures at { OnErr result (at.new ≡ at.old) }
-    ensures err { OnErr result (tables.new ≡ tables.old) }
+    requires room { length tables.old ≤ vec_capacity stops.old }
+    ensures ok { OnOk result (AppliesWhole log.now from upto tables.old tables.new) }
+    ensures err { OnErr result (AppliesTo log.now from upto tables.old tables.new stops.new.items) }
+    ensures room { vec_capacity stops.new ≡ vec_capacity stops.old }
 {
-    let messages = upto - *at;
+    let messages = upto - from;
     if messages == 0 {
-        return Ok(Items::new(alloc));
+        return Ok(());
     }
-    if pace.threads(workers, tables.len(), messages) == 1 {
+    let most = pace.threads(workers, tables.len(), messages);
+    if most == 1 {
         pace.rest(messages);
-        return apply_alone(alloc, tables, log, at, upto, gate);
+        return apply_alone(tables, log, from, upto, stops, gate);
     }
-    let cut = Cut::new(rt, alloc, log, *at, upto, tables.len())?;
-    let (applied, ()) = apply_cut(rt, alloc, tables, cut, workers, pace, gate, || ());
-    let left = applied?;
-    *at = upto;
-    Ok(left)
+    apply_together(rt, alloc, tables, log, from, upto, stops, most, pace, gate)
 }

@@ -5,11 +5,9 @@ ghost use Rattle.std.specs.List.{flat_map};
 ghost use Rattle.rubis_message.specs.Message.{IsMessage};
 ghost use Rattle.rubis_model.specs.Log.{cores, parts_of};
 ghost use Rattle.rubis_shard.specs.Holdings.{HoldsLog};
-ghost use Rattle.rubis_folds.specs.Batches.{parts_left};
 ghost use Rattle.rubis_workers.specs.Logs.{StaysWithin};
 
 use rubis_message::Message;
-use rubis_pieces::Left;
 use rubis_shard::{LogEntry, Tables};
 use std::alloc::AllocError;
 
@@ -53,18 +51,6 @@ pub fn count_parts(messages: &[Message]) -> u32
     let mut parts = 0;
     for message in messages {
         parts += u32::from(message.shadow().count_parts());
-    }
-    parts
-}
-
-/// How many parts of the shares are still to be folded.
-pub fn count_left(rest: &[Left]) -> u32
-    requires { parts_left rest.now ≤ 3000000 }
-    ensures { result ≡ parts_left rest.now }
-{
-    let mut parts = 0;
-    for left in rest {
-        parts += left.share.effects.len().saturating_sub(left.done) as u32;
     }
     parts
 }

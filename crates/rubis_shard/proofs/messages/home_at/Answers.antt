@@ -19,15 +19,15 @@ unfolding home_of
 by_key shards None = refl
 by_key shards (Some e) = refl
 
-pub returns-in-Some : goal.returns-in-Some
+pub returns-in-Some-clause-home : goal.returns-in-Some-clause-home
 unfolding home_of
-returns-in-Some c =
+returns-in-Some-clause-home c =
     c.shard_of.ensures.home
     ∙ ap (home_of c.args.shards) (sym c.in-Some.is ∙ c.key.ensures c.args.entry.now.red)
     ∙ by_key c.args.shards (slice_get (parts_of (core_of c.args.entry.now)) c.args.place)
 
-pub returns-in-None : goal.returns-in-None
+pub returns-in-None-clause-home : goal.returns-in-None-clause-home
 unfolding home_of
-returns-in-None c =
+returns-in-None-clause-home c =
     ap (home_of c.args.shards) (sym c.in-None.is ∙ c.key.ensures c.args.entry.now.red)
     ∙ by_key c.args.shards (slice_get (parts_of (core_of c.args.entry.now)) c.args.place)

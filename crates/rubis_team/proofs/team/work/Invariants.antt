@@ -1,7 +1,6 @@
 use Rattle.std.proofs.Common.{◌≡◌, ◌≤◌, length}
 use Rattle.std.specs.List.{AllZip}
 use Rattle.std.specs.Vec.{vec_capacity}
-use Rattle.rubis_folds.specs.Work.{IsWorked}
 use Rattle.rubis_team.specs.Work.{having}
 use Rattle.rubis_team.proofs.team.work.Given as goal
 
@@ -9,4 +8,4 @@ abbrev pub invariant-loop : goal.invariant-loop
 invariant-loop g l =
     (goal.iterator-loop g).can_next l.iterator' × (goal.iterator-loop g).is_finite l.iterator'
     × (l.pass ≡ having l.fn.pass l.pass.taken l.pass.seen_none)
-    × AllZip IsWorked l.pass.taken l.room.items × (length l.fn.pass.posted ≤ vec_capacity l.room)
+    × AllZip (g.T.Task.Worked l.task) l.pass.taken l.room.items × (length l.fn.pass.posted ≤ vec_capacity l.room)

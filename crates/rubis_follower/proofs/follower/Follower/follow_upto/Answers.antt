@@ -1,96 +1,28 @@
-use Rattle.std.proofs.Common.{◌≡◌, sym, subst}
-use Rattle.std.specs.Prelude.{IfSome}
-use Rattle.rubis_follower.specs.Follow.{ComesTo, FollowsLog, IsNextCut}
-use Rattle.rubis_follower.proofs.Cutting.{comes_from}
-use Rattle.rubis_follower.proofs.Following.{without_shares}
+use Rattle.std.proofs.Common.{rules, ◌≡◌, ◌∙◌, ◌<◌, length, refl, sym, ap, subst, arith}
+use Rattle.std.specs.Prelude.{Ok, Err}
+use Rattle.rubis_workers.specs.Logs.{AppliesTo, AppliesWhole}
+use Rattle.rubis_follower.specs.Follow.{ComesTo, Follower, FollowsLog}
+use Rattle.rubis_follower.proofs.Standing.{comes_from, comes_whole, err_of, ok_of}
 use Rattle.rubis_follower.proofs.follower.Follower.follow_upto.Goals as goal
 
-pub returns-in-Some-clause-follows : goal.returns-in-Some-clause-follows
-returns-in-Some-clause-follows g c =
+pub returns-then-is_ok : goal.returns-then-is_ok
+returns-then-is_ok g c =
     let log = c.args.log.now in
-    let mid = c.kept_cut.new.self in
-    let k = subst (λ o. IfSome o (λ x. IsNextCut log mid x × (x.upto ≡ c.args.upto))) c.in-Some.is c.kept_cut.ensures.cut in
-    let follows = subst (FollowsLog log) (sym c.kept_cut.ensures.same) (without_shares log c.args.self.now c.requires.follows) in
-    let comes = subst (λ n. ComesTo log n c.args.self.now c.follow_cut-ended.new.self c.follow_cut-ended.result.0) k.1
-    (comes_from log c.in-Some.cut.upto c.args.self.now mid c.follow_cut-ended.new.self c.follow_cut-ended.result.0 c.kept_cut.ensures.same
-    (c.follow_cut-ended.ensures.comes log follows k.0)) in
-    comes.follows
+    let old : Follower = record { progress = record { applied = c.self.inside.applied; kept = c.self.inside.kept; upto = c.self.inside.upto; left = c.self.inside.left }; stops = c.self.inside.stops.items; tables = c.self.inside.tables } in
+    let h = subst (FollowsLog log) (sym c.self.view_is) c.requires.follows in
+    let rests = subst (λ (f : Follower). f.progress.left ≡ 0) (sym c.self.view_is) c.requires.rests in
+    let new = c.apply_batch-ended.new.tables in
+    let whole = ok_of _ c.apply_batch-ended.result (search rules) c.apply_batch-ended.ensures.ok in
+    let mid : Follower = record { progress = old.progress; stops = c.apply_batch-ended.new.stops.items; tables = new } in
+    subst (λ (f : Follower). ComesTo log c.args.upto f c.rest_at-then-is_ok.new.self (Ok tt)) c.self.view_is
+    (comes_whole log c.args.upto old mid c.rest_at-then-is_ok.new.self c.requires.within h.some (sym (h.progress.rests rests)) whole.many
+    (whole.holds (h.rests rests)) whole.limits c.rest_at-then-is_ok.ensures)
 
-pub returns-in-Some-clause-limits : goal.returns-in-Some-clause-limits
-returns-in-Some-clause-limits g c =
+pub returns : goal.returns
+returns g c =
     let log = c.args.log.now in
-    let mid = c.kept_cut.new.self in
-    let k = subst (λ o. IfSome o (λ x. IsNextCut log mid x × (x.upto ≡ c.args.upto))) c.in-Some.is c.kept_cut.ensures.cut in
-    let follows = subst (FollowsLog log) (sym c.kept_cut.ensures.same) (without_shares log c.args.self.now c.requires.follows) in
-    let comes = subst (λ n. ComesTo log n c.args.self.now c.follow_cut-ended.new.self c.follow_cut-ended.result.0) k.1
-    (comes_from log c.in-Some.cut.upto c.args.self.now mid c.follow_cut-ended.new.self c.follow_cut-ended.result.0 c.kept_cut.ensures.same
-    (c.follow_cut-ended.ensures.comes log follows k.0)) in
-    comes.limits
-
-pub returns-in-Some-clause-ok : goal.returns-in-Some-clause-ok
-returns-in-Some-clause-ok g c =
-    let log = c.args.log.now in
-    let mid = c.kept_cut.new.self in
-    let k = subst (λ o. IfSome o (λ x. IsNextCut log mid x × (x.upto ≡ c.args.upto))) c.in-Some.is c.kept_cut.ensures.cut in
-    let follows = subst (FollowsLog log) (sym c.kept_cut.ensures.same) (without_shares log c.args.self.now c.requires.follows) in
-    let comes = subst (λ n. ComesTo log n c.args.self.now c.follow_cut-ended.new.self c.follow_cut-ended.result.0) k.1
-    (comes_from log c.in-Some.cut.upto c.args.self.now mid c.follow_cut-ended.new.self c.follow_cut-ended.result.0 c.kept_cut.ensures.same
-    (c.follow_cut-ended.ensures.comes log follows k.0)) in
-    comes.ok
-
-pub returns-in-Some-clause-err : goal.returns-in-Some-clause-err
-returns-in-Some-clause-err g c =
-    let log = c.args.log.now in
-    let mid = c.kept_cut.new.self in
-    let k = subst (λ o. IfSome o (λ x. IsNextCut log mid x × (x.upto ≡ c.args.upto))) c.in-Some.is c.kept_cut.ensures.cut in
-    let follows = subst (FollowsLog log) (sym c.kept_cut.ensures.same) (without_shares log c.args.self.now c.requires.follows) in
-    let comes = subst (λ n. ComesTo log n c.args.self.now c.follow_cut-ended.new.self c.follow_cut-ended.result.0) k.1
-    (comes_from log c.in-Some.cut.upto c.args.self.now mid c.follow_cut-ended.new.self c.follow_cut-ended.result.0 c.kept_cut.ensures.same
-    (c.follow_cut-ended.ensures.comes log follows k.0)) in
-    comes.err
-
-pub returns-in-Some-clause-many : goal.returns-in-Some-clause-many
-returns-in-Some-clause-many g c =
-    let log = c.args.log.now in
-    let mid = c.kept_cut.new.self in
-    let k = subst (λ o. IfSome o (λ x. IsNextCut log mid x × (x.upto ≡ c.args.upto))) c.in-Some.is c.kept_cut.ensures.cut in
-    let follows = subst (FollowsLog log) (sym c.kept_cut.ensures.same) (without_shares log c.args.self.now c.requires.follows) in
-    let comes = subst (λ n. ComesTo log n c.args.self.now c.follow_cut-ended.new.self c.follow_cut-ended.result.0) k.1
-    (comes_from log c.in-Some.cut.upto c.args.self.now mid c.follow_cut-ended.new.self c.follow_cut-ended.result.0 c.kept_cut.ensures.same
-    (c.follow_cut-ended.ensures.comes log follows k.0)) in
-    comes.many
-
-pub returns-in-None-clause-follows : goal.returns-in-None-clause-follows
-returns-in-None-clause-follows g c =
-    let l = c.follow_log.ensures in
-    let comes = comes_from c.args.log.now c.args.upto c.args.self.now c.kept_cut.new.self c.follow_log.new.self c.follow_log.result c.kept_cut.ensures.same
-    (record { follows = l.follows; limits = l.limits; ok = l.ok; err = l.err; many = l.many }) in
-    comes.follows
-
-pub returns-in-None-clause-limits : goal.returns-in-None-clause-limits
-returns-in-None-clause-limits g c =
-    let l = c.follow_log.ensures in
-    let comes = comes_from c.args.log.now c.args.upto c.args.self.now c.kept_cut.new.self c.follow_log.new.self c.follow_log.result c.kept_cut.ensures.same
-    (record { follows = l.follows; limits = l.limits; ok = l.ok; err = l.err; many = l.many }) in
-    comes.limits
-
-pub returns-in-None-clause-ok : goal.returns-in-None-clause-ok
-returns-in-None-clause-ok g c =
-    let l = c.follow_log.ensures in
-    let comes = comes_from c.args.log.now c.args.upto c.args.self.now c.kept_cut.new.self c.follow_log.new.self c.follow_log.result c.kept_cut.ensures.same
-    (record { follows = l.follows; limits = l.limits; ok = l.ok; err = l.err; many = l.many }) in
-    comes.ok
-
-pub returns-in-None-clause-err : goal.returns-in-None-clause-err
-returns-in-None-clause-err g c =
-    let l = c.follow_log.ensures in
-    let comes = comes_from c.args.log.now c.args.upto c.args.self.now c.kept_cut.new.self c.follow_log.new.self c.follow_log.result c.kept_cut.ensures.same
-    (record { follows = l.follows; limits = l.limits; ok = l.ok; err = l.err; many = l.many }) in
-    comes.err
-
-pub returns-in-None-clause-many : goal.returns-in-None-clause-many
-returns-in-None-clause-many g c =
-    let l = c.follow_log.ensures in
-    let comes = comes_from c.args.log.now c.args.upto c.args.self.now c.kept_cut.new.self c.follow_log.new.self c.follow_log.result c.kept_cut.ensures.same
-    (record { follows = l.follows; limits = l.limits; ok = l.ok; err = l.err; many = l.many }) in
-    comes.many
+    let old : Follower = record { progress = record { applied = c.self.inside.applied; kept = c.self.inside.kept; upto = c.self.inside.upto; left = c.self.inside.left }; stops = c.self.inside.stops.items; tables = c.self.inside.tables } in
+    let to = err_of _ c.apply_batch-ended.result (search rules) c.apply_batch-ended.ensures.err in
+    let mid : Follower = record { progress = old.progress; stops = c.apply_batch-ended.new.stops.items; tables = c.apply_batch-ended.new.tables } in
+    subst (λ (f : Follower). ComesTo log c.args.upto f c.note.new.self c.note.result) c.self.view_is
+    (comes_from log c.args.upto old mid c.note.new.self c.note.result refl to.many c.note.ensures)

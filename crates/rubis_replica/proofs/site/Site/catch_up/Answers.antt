@@ -1,9 +1,11 @@
-use Rattle.rubis_follower.proofs.Following.{follows_on}
+use Rattle.std.proofs.Common.{sym, subst}
+use Rattle.rubis_workers.specs.Logs.{AreWithin}
+use Rattle.rubis_follower.proofs.Standing.{follows_on}
 use Rattle.rubis_follower.proofs.Kept.{log_counts}
 use Rattle.rubis_replica.proofs.site.Site.catch_up.Goals as goal
 
 pub invariant_of-self : goal.invariant_of-self
-invariant_of-self g c = follows_on c.self.inside.intake.place.sites c.self.inside.intake.state.log c.log.result.now c.self.inside.follower c.finish.new.self c.log.ensures.value (log_counts c.self.inside.intake c.log.ensures.conditions) c.self.invariant c.finish.ensures.follows c.finish.ensures.limits
+invariant_of-self g c = follows_on c.self.inside.intake.place.sites c.self.inside.intake.state.log c.log.result.now c.self.inside.follower c.finish.new.self c.log.ensures.value (log_counts c.self.inside.intake c.log.ensures.conditions) c.self.invariant c.finish.ensures.follows (λ sites all first. subst (AreWithin sites c.log.result.now) (sym c.finish.ensures.upto) first)
 
 pub invariant_of-self-2 : goal.invariant_of-self-2
-invariant_of-self-2 g c = follows_on c.self.inside.intake.place.sites c.self.inside.intake.state.log c.log.result.now c.self.inside.follower c.finish.new.self c.log.ensures.value (log_counts c.self.inside.intake c.log.ensures.conditions) c.self.invariant c.finish.ensures.follows c.finish.ensures.limits
+invariant_of-self-2 g c = follows_on c.self.inside.intake.place.sites c.self.inside.intake.state.log c.log.result.now c.self.inside.follower c.finish.new.self c.log.ensures.value (log_counts c.self.inside.intake c.log.ensures.conditions) c.self.invariant c.finish.ensures.follows (λ sites all first. subst (AreWithin sites c.log.result.now) (sym c.finish.ensures.upto) first)

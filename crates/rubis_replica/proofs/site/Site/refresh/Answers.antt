@@ -1,4 +1,4 @@
-use Rattle.rubis_follower.proofs.Following.{follows_on}
+use Rattle.rubis_follower.proofs.Standing.{follows_on}
 use Rattle.rubis_follower.proofs.Kept.{log_counts}
 use Rattle.rubis_replica.proofs.site.Site.refresh.Goals as goal
 

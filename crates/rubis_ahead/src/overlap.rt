@@ -1,0 +1,54 @@
+// A chunk of text is read while the desk answers.
+
+ghost use Rattle.std.specs.Prelude.{◌≡◌, ◌≤◌, ◌<◌, ◌+◌, ◌^◌, [], IfOk, OnOk, length};
+ghost use Rattle.std.specs.Thread.{IsSync};
+ghost use Rattle.rubis_ahead.specs.Runs.{GoesOn, IsSound};
+ghost use Rattle.rubis_engine.specs.Text.{input_records};
+ghost use Rattle.rubis_pieces_of_text.specs.Parsed.{AreParsed};
+ghost use Rattle.rubis_pieces_of_text.specs.Runs.{flat};
+
+use crate::answering::answer_all;
+use crate::backlog::Backlog;
+use rubis_desk::Desk;
+use rubis_engine::OutOfMemory;
+use rubis_pieces_of_text::{Run, read_parts};
+use rubis_replica::Gate;
+use std::alloc::Global;
+use std::sync::Wait;
+use std::thread::{Threads, join_mut};
+
+/// Reads the records of a piece of text by that many other threads, while the desk answers all that was read ahead on this one.
+pub fn read_beside<G: Gate, T: Threads + Wait + Sync>(
+    rt: &T,
+    alloc: Global,
+    piece: &[u8],
+    readers: usize,
+    desk: &mut Desk<G>,
+    backlog: &mut Backlog,
+) -> Result<Vec<Run>, OutOfMemory>
+    requires sound { IsSound desk.old.site backlog.old }
+    requires room { backlog.old.answered + length backlog.old.ahead + 1 < 2 ^ 64 }
+    ensures place { OnOk result (desk.new.site.place ≡ desk.old.site.place) }
+    ensures sound { OnOk result (IsSound desk.new.site backlog.new) }
+    ensures all { OnOk result (backlog.new.ahead ≡ []) }
+    ensures count { OnOk result (backlog.new.answered ≡ backlog.old.answered + length backlog.old.ahead) }
+    ensures goes { OnOk result (GoesOn desk.old.site backlog.old desk.new.site backlog.new) }
+    ensures parsed { IfOk result (λ list. AreParsed desk.old.site.place.sites (input_records piece.now) (flat list.items)) }
+{
+    let sites = desk.sites();
+    let (list, answered) = join_mut(
+        rt,
+        &mut || -> Result<Vec<Run>, OutOfMemory>
+            requires { IsSync T.row × (sites ≤ 16) }
+            ensures { IfOk result (λ list. AreParsed sites (input_records piece.entry.now) (flat list.items)) }
+        { read_parts(rt, alloc, piece, sites, readers) },
+        &mut || -> Result<(), OutOfMemory>
+            requires { IsSync T.row × IsSound desk.now.site backlog.now × (backlog.now.answered + length backlog.now.ahead + 1 < 2 ^ 64) }
+            ensures { OnOk result ((desk.exit.now.site.place ≡ desk.entry.now.site.place) × IsSound desk.exit.now.site backlog.exit.now × (backlog.exit.now.ahead ≡ [])
+                × (backlog.exit.now.answered ≡ backlog.entry.now.answered + length backlog.entry.now.ahead)
+                × GoesOn desk.entry.now.site backlog.entry.now desk.exit.now.site backlog.exit.now) }
+        { answer_all(rt, desk, backlog) },
+    );
+    answered?;
+    list
+}

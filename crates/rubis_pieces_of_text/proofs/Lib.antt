@@ -1,0 +1,8 @@
+pub mod StreamFacts
+pub mod CutFacts
+pub mod QuoteFacts
+pub mod ChunkFacts
+pub mod ParsedFacts
+pub mod AheadFacts
+pub mod PartFacts
+pub mod RunFacts

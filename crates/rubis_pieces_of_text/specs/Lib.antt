@@ -1,0 +1,6 @@
+pub mod Streams
+pub mod Chunked
+pub mod Standings
+pub mod Parsed
+pub mod Steps
+pub mod Runs

@@ -1,0 +1,16 @@
+//! A text of CSV by pieces that are read apart.
+#![tactic(auto)]
+
+mod ahead;
+mod chunks;
+mod cuts;
+mod held;
+mod parsed;
+mod parts;
+mod standing;
+
+pub use ahead::Ahead;
+pub use chunks::{ChunkFault, Chunks};
+pub use cuts::whole_end;
+pub use parsed::{Parsed, Run, read_piece};
+pub use parts::read_parts;

@@ -1,0 +1,32 @@
+//! The homes of the parts of a message, a byte each.
+
+ghost use Rattle.std.specs.Prelude.{◌≤◌, ◌<◌};
+ghost use Rattle.rubis_shard.specs.Entries.{core_of};
+ghost use Rattle.rubis_shard.specs.PartHomes.{AreHomesOf};
+
+use crate::entries::LogEntry;
+use crate::messages::home_at;
+
+/// The home of each part of a message, among at most 255 shards. Where there is no part, it is the number of shards.
+#[derive(Clone, Copy)]
+pub struct PartHomes {
+    pub first: u8,
+    pub second: u8,
+    pub third: u8,
+}
+
+impl PartHomes {
+    /// Those of the message of this entry.
+    #[inline(always)]
+    pub fn of(entry: &LogEntry<'_>, shards: usize) -> PartHomes
+        requires some { 0 < shards }
+        requires few { shards ≤ 255 }
+        ensures { AreHomesOf shards (core_of entry.now) result }
+    {
+        PartHomes {
+            first: home_at(entry, shards, 0) as u8,
+            second: home_at(entry, shards, 1) as u8,
+            third: home_at(entry, shards, 2) as u8,
+        }
+    }
+}
