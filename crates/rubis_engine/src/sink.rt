@@ -93,6 +93,17 @@ fn push_plain(text: &mut Vec<u8>, first: &[&[u8]], plain: &[u8]) -> Result<(), A
     Ok(())
 }
 
+// Adds a plain row that begins with no other fields.
+#[inline(always)]
+fn push_line(text: &mut Vec<u8>, plain: &[u8]) -> Result<(), AllocError>
+    requires { 0 < length plain.now }
+    ensures { OnOk result (text.new.items ≡ text.old.items ++ plain_row [] plain.now) }
+{
+    text.extend_from_slice(&plain[1..])?;
+    text.push(b'\n')?;
+    Ok(())
+}
+
 // Adds a row in which some field calls for quotes, by what is kept for such rows.
 fn push_quoted(
     text: &mut Vec<u8>,
@@ -156,7 +167,14 @@ impl Sink {
         ensures ok { OnOk result (self.new ≡ self.old ++ row_text plain_writer fields.now) }
         ensures err { OnErr result (self.new ≡ []) }
     {
-        self.write_after(&[], fields)
+        let added = match plain_text(&[], fields) {
+            Some(text) => push_line(&mut self.text, text),
+            None => push_quoted(&mut self.text, &mut self.quoted, &[], fields),
+        };
+        if added.is_err() {
+            self.clear();
+        }
+        added
     }
 
     /// Adds a row that begins with the fields `first` and goes on with those of a record. Without memory for it no

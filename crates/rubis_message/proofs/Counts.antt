@@ -1,13 +1,20 @@
 -- Counts that are joined by `:`.
-use Rattle.std.proofs.Common.{◌≡◌, ◌≤◌, ◌<◌, ◌+◌, ℕ, suc, List, [], ◌∷◌, ◌++◌, length, get_or, drop, decimal, refl, ap, sym, ◌∙◌, arith, length-drop}
-use Rattle.std.specs.Prelude.{Option, Some, None, option_map}
+use Rattle.std.proofs.Common.{◌≡◌, ◌≤◌, ◌<◌, ◌+◌, ◌||◌, ℕ, suc, List, [], ◌∷◌, ◌++◌, length, get_or, drop, decimal, refl, ap, sym, ◌∙◌, arith, length-drop, true}
+use Rattle.std.specs.Prelude.{Option, Some, None, not, option_map}
 use Rattle.std.proofs.Math.Seq.{drop-cons}
+use Rattle.std.proofs.lemmas.Bool.{not-true}
+use Rattle.std.proofs.lemmas.List.Folds.{list_any-append}
 use Rattle.std.proofs.lemmas.List.{append-nil, append_assoc}
 use Rattle.rubis_numbers.specs.Numbers.{◌>>=◌, number_of}
 use Rattle.rubis_schema.specs.FieldForms.{cut_at}
+use Rattle.rubis_schema.specs.FieldList.{is_mark, is_plain}
 use Rattle.rubis_schema.specs.declared.limits.TheConstants.{COUNT_MAX}
 use Rattle.rubis_message.specs.Counts.{deps_of}
 use Rattle.rubis_message.specs.Grammar.{deps_text}
+
+-- two texts that call for no quotes, one behind the other
+pub plain_both : (a b : List ℕ) → is_plain a ≡ true → is_plain b ≡ true → is_plain (a ++ b) ≡ true
+plain_both a b first second = ap not (list_any-append is_mark a b ∙ (λ i. not-true _ first i || not-true _ second i))
 
 -- one more count in front
 text_before : (c : ℕ) (rest text marked more : List ℕ) → text ≡ deps_text rest → (0 < length rest → marked ≡ 58 ∷ text)

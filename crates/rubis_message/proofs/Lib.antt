@@ -3,4 +3,5 @@ pub mod Counts
 pub mod Fields
 pub mod Forms
 pub mod Records
+pub mod Versions
 pub mod Widening

@@ -1,6 +1,7 @@
 // The counts of a stamp.
 
-ghost use Rattle.std.specs.Prelude.{◌≡◌, ◌<◌, ◌≤◌, [], ◌∷◌, ◌++◌, IfSome, OnErr, OnOk, length};
+ghost use Rattle.std.specs.Prelude.{◌≡◌, ◌<◌, ◌≤◌, [], ◌∷◌, ◌++◌, IfSome, OnErr, OnOk, length, true};
+ghost use Rattle.rubis_schema.specs.FieldList.{is_plain};
 ghost use Rattle.rubis_message.specs.Counts.{deps_of};
 ghost use Rattle.rubis_message.specs.Grammar.{deps_text};
 
@@ -32,7 +33,8 @@ pub fn read_deps(text: &[u8], sites: u8) -> Option<Deps>
 
 // The counts as they are written.
 fn text_of(deps: &Deps) -> ShortText<COUNTS_TEXT_MAX>
-    ensures { result ≡ deps_text deps.now }
+    ensures value { result ≡ deps_text deps.now }
+    ensures plain { is_plain result ≡ true }
 {
     let counts = deps.as_slice();
     let mut text = ShortText::new();
@@ -50,5 +52,5 @@ pub fn push_deps(fields: &mut Fields, deps: &Deps) -> Result<(), AllocError>
     ensures ok { OnOk result (fields.new ≡ fields.old ++ deps_text deps.now ∷ []) }
     ensures err { OnErr result (fields.new ≡ fields.old) }
 {
-    fields.push(text_of(deps).as_bytes())
+    fields.push_plain(text_of(deps).as_bytes())
 }

@@ -118,12 +118,13 @@ fn push_shadow(fields: &mut Fields, shadow: &Shadow) -> Result<(), AllocError>
     }
 }
 
+#[tactic(auto, using(crate::proofs::Versions::version_plain))]
 fn push_message(fields: &mut Fields, message: &Message) -> Result<(), AllocError>
     ensures { OnOk result (fields.new ≡ fields.old ++ message_record message.now) }
 {
     let stamp = message.stamp();
     fields.push_plain(b"msg")?;
-    fields.push(message.shadow().version())?;
+    fields.push_plain(message.shadow().version())?;
     push_number(fields, u64::from(stamp.id.site))?;
     push_number(fields, u64::from(stamp.id.seq))?;
     push_number(fields, u64::from(stamp.red))?;

@@ -15,6 +15,7 @@ use rubis_schema::{Fields, Items, Refusal, push_number};
 use std::alloc::AllocError;
 
 // Begins the reply to the record with that number.
+#[inline(always)]
 fn begin(fields: &mut Fields, number: u64, word: &[u8]) -> Result<(), AllocError>
     requires { is_plain word.now ≡ true }
     ensures { OnOk result (fields.new ≡ reply number (word.now ∷ [])) }

@@ -1,5 +1,5 @@
 -- The digits of a number, two at a time.
-use Rattle.std.proofs.Common.{◌≡◌, ◌∙◌, ◌≤◌, ◌<◌, ◌+◌, ◌/◌, ◌%◌, ◌^◌, ◌++◌, ◌∷◌, [], ℕ, length, decimal, ap, arith, append_assoc, length-append}
+use Rattle.std.proofs.Common.{◌≡◌, ◌∙◌, ◌≤◌, ◌<◌, ◌+◌, ◌/◌, ◌%◌, ◌^◌, ◌++◌, ◌∷◌, [], ℕ, List, length, decimal, ap, sym, arith, append_assoc, length-append}
 use Rattle.std.proofs.lemmas.Fmt.{decimal_digit, decimal_step, length-decimal-le}
 
 pub one_digit : (n : ℕ) → n < 10 → length (decimal n) ≡ 1
@@ -17,6 +17,19 @@ more_digits n low fits =
 
 pub two_longer : (n : ℕ) → 100 ≤ n → n < 2 ^ 64 → length (decimal n) ≡ length (decimal (n / 100)) + 2
 two_longer n low fits = ap length (more_digits n low fits) ∙ length-append _ _
+
+-- four digits, behind a text and those before them
+pub four_more : (old : List ℕ) (n : ℕ) → 10000 ≤ n → n < 2 ^ 64
+    → ((old ++ decimal (n / 100 / 100)) ++ (48 + n / 100 % 100 / 10) ∷ (48 + n / 100 % 100 % 10) ∷ []) ++ (48 + n % 100 / 10) ∷ (48 + n % 100 % 10) ∷ [] ≡ old ++ decimal n
+four_more old n low fits =
+    let two : List ℕ = (48 + n / 100 % 100 / 10) ∷ (48 + n / 100 % 100 % 10) ∷ [] in
+    let last : List ℕ = (48 + n % 100 / 10) ∷ (48 + n % 100 % 10) ∷ [] in
+    let front : (old ++ decimal (n / 100 / 100)) ++ two ≡ old ++ decimal (n / 100) =
+    append_assoc old (decimal (n / 100 / 100)) two ∙ ap (λ xs. old ++ xs) (sym (more_digits (n / 100) (omega (arith, low)) (omega (arith, fits)))) in
+    ap (λ xs. xs ++ last) front ∙ append_assoc old (decimal (n / 100)) last ∙ ap (λ xs. old ++ xs) (sym (more_digits n (omega (arith, low)) fits))
+
+pub four_longer : (n : ℕ) → 10000 ≤ n → n < 2 ^ 64 → length (decimal n) ≡ length (decimal (n / 100 / 100)) + 4
+four_longer n low fits = omega (arith, two_longer n (omega (arith, low)) fits, two_longer (n / 100) (omega (arith, low)) (omega (arith, fits)))
 
 -- the longest is that of 2^64 - 1
 pub at_most_twenty : (n : ℕ) → n < 2 ^ 64 → length (decimal n) ≤ 20

@@ -177,6 +177,7 @@ impl Fields {
     }
 
     /// Adds a number as a field at the end. Without memory for it the record stays as it was.
+    #[inline(always)]
     pub fn push_number(&mut self, number: u64) -> Result<(), AllocError>
         ensures ok { OnOk result (self.new ≡ self.old ++ decimal number ∷ []) }
         ensures err { OnErr result (self.new ≡ self.old) }
@@ -186,6 +187,7 @@ impl Fields {
     }
 
     /// Adds two numbers with a point between them as a field at the end. Without memory for it the record stays as it was.
+    #[inline(always)]
     pub fn push_numbers(&mut self, first: u64, second: u64) -> Result<(), AllocError>
         ensures ok { OnOk result (self.new ≡ self.old ++ (decimal first ++ 46 ∷ decimal second) ∷ []) }
         ensures err { OnErr result (self.new ≡ self.old) }

@@ -46,21 +46,55 @@ fn push_short(text: &mut Vec<u8>, number: u64)
     }
 }
 
-// Appends the digits of a number from 100 on to the text, two at a time.
-fn push_long(text: &mut Vec<u8>, number: u64)
-    requires long { 100 ≤ number }
+// Appends the digits of a number below 10,000 to the text.
+#[inline(always)]
+fn push_middle(text: &mut Vec<u8>, number: u64)
+    requires middle { number < 10000 }
     requires room { vec_len text.old + length (decimal number) ≤ vec_capacity text.old }
     ensures text { text.new.items ≡ text.old.items ++ decimal number }
     ensures len { vec_len text.new ≡ vec_len text.old + length (decimal number) }
     ensures room { vec_capacity text.new ≡ vec_capacity text.old }
 {
-    let front = number / 100;
-    if front < 100 {
-        push_short(text, front);
+    if number < 100 {
+        push_short(text, number);
+    } else {
+        push_short(text, number / 100);
+        push_pair(text, number % 100);
+    }
+}
+
+// Appends the digits of a number from 10,000 on to the text, four at a time.
+fn push_long(text: &mut Vec<u8>, number: u64)
+    requires long { 10000 ≤ number }
+    requires room { vec_len text.old + length (decimal number) ≤ vec_capacity text.old }
+    ensures text { text.new.items ≡ text.old.items ++ decimal number }
+    ensures len { vec_len text.new ≡ vec_len text.old + length (decimal number) }
+    ensures room { vec_capacity text.new ≡ vec_capacity text.old }
+{
+    let rest = number / 100;
+    let front = rest / 100;
+    if front < 10000 {
+        push_middle(text, front);
     } else {
         push_long(text, front);
     }
+    push_pair(text, rest % 100);
     push_pair(text, number % 100);
+}
+
+// Appends the digits of a number, most often of one from 100 on, to the text.
+#[inline(never)]
+fn push_more(text: &mut Vec<u8>, number: u64)
+    requires room { vec_len text.old + length (decimal number) ≤ vec_capacity text.old }
+    ensures text { text.new.items ≡ text.old.items ++ decimal number }
+    ensures len { vec_len text.new ≡ vec_len text.old + length (decimal number) }
+    ensures room { vec_capacity text.new ≡ vec_capacity text.old }
+{
+    if number < 10000 {
+        push_middle(text, number);
+    } else {
+        push_long(text, number);
+    }
 }
 
 /// Appends the digits of a number to the text.
@@ -74,7 +108,7 @@ pub fn push_digits(text: &mut Vec<u8>, number: u64)
     if number < 100 {
         push_short(text, number);
     } else {
-        push_long(text, number);
+        push_more(text, number);
     }
 }
 

@@ -8,6 +8,7 @@ use itoa::Buffer;
 use std::alloc::AllocError;
 
 /// Adds a number as a field. Without memory for it the record stays as it was.
+#[inline(always)]
 pub fn push_number(fields: &mut Fields, number: u64) -> Result<(), AllocError>
     ensures ok { OnOk result (fields.new ≡ fields.old ++ decimal number ∷ []) }
     ensures err { OnErr result (fields.new ≡ fields.old) }

@@ -79,6 +79,7 @@ impl Shadow {
     }
 
     /// The version of the format in which the shadow is written, by its kind.
+    #[inline(always)]
     pub fn version(&self) -> &'static [u8]
         ensures { result.now ≡ version_of self.now }
     {

@@ -1,5 +1,5 @@
-use Rattle.std.proofs.Common.{◌-◌, length, arith, ap, ◌∙◌}
-use Rattle.rubis_message.proofs.Counts.{text_more}
+use Rattle.std.proofs.Common.{◌-◌, length, arith, ap, ◌∙◌, decimal, get_or}
+use Rattle.rubis_message.proofs.Counts.{plain_both, text_more}
 use Rattle.rubis_message.proofs.stamps.text_of.Goals as goal
 use Rattle.rubis_message.proofs.stamps.text_of.Goals.{then-site-counts, else-site-counts}
 
@@ -14,4 +14,9 @@ loop-site-preserved c = (
     | then-site-counts w ↦ omega (arith, ap length (w.text-is ∙ w.put_byte.ensures), c.put_number.ensures.short)
     | else-site-counts w ↦ omega (arith, ap length w.text-is, c.put_number.ensures.short)
   ],
+  rw c.put_number.ensures.text (plain_both (decimal (get_or c.as_slice-counts.result.now (c.loop-site.site - 1) 0)) c.if-site-counts.text c.put_number.ensures.plain
+      (elim c.if-site-counts.branch [
+        | then-site-counts w ↦ rw (w.text-is, w.put_byte.ensures) c.loop-site.invariant.2
+        | else-site-counts w ↦ rw w.text-is c.loop-site.invariant.2
+      ])),
 )
