@@ -1,5 +1,5 @@
 -- An audit that is answered Agree was given sound logs.
-use Rattle.std.proofs.Common.{ℕ, ◌≡◌, ◌≤◌, List, [], ◌∷◌, length, refl, sym, ap, ◌∙◌, subst, arith}
+use Rattle.std.proofs.Common.{ℕ, ◌≡◌, ◌≤◌, List, [], length, refl, sym, ap, ◌∙◌}
 use Rattle.std.specs.Prelude.{Result, Ok, Err, reverse}
 use Rattle.std.proofs.lemmas.List.{reverse-reverse}
 use Rattle.rubis_schema.specs.declared.limits.TheConstants.{COUNTED_MAX}

@@ -1,6 +1,6 @@
 -- A site that has had every message has released it, and so such sites have the same tables.
 use Rattle.std.proofs.Common.{◌≡◌, ◌∙◌, ℕ, ◌+◌, ◌≤◌, ◌<◌, List, [], ◌∷◌, refl, sym, ap, subst, inl, inr, ⊎_elim, arith}
-use Rattle.std.specs.Prelude.{reverse}
+use Rattle.std.specs.Prelude.{◌⊎◌, reverse}
 use Rattle.std.proofs.lemmas.Bool.{cases_lt}
 use Rattle.rubis_message.specs.Message.{Message, dep}
 use Rattle.rubis_model.specs.Checks.{SameSet}
@@ -74,25 +74,27 @@ pub empty : (xs : List Message) → ((x : Message) → Has x xs → ⊥) → xs 
 empty [] n = refl
 empty (x ∷ xs) n = absurd (n x (inl refl))
 
--- ---- a site that has all messages
-module _ (w : World) (s : Sound w) (r : AllRest w) (i : ℕ) (has : HasAll w i) where
+-- ---- a site that has some of the messages that were sent, and with each all that were released before it
+module _ (w : World) (s : Sound w) (r : AllRest w) (i : ℕ) (These : Message → Type 0) (sent : (m : Message) → These m → Sent w m) (has : (m : Message) → These m → Has m (site w i).log ⊎ Has m (site w i).waiting) where
   -- one that was ready after messages that are in the log is there too
-  one_there : (past : List Message) (m : Message) → Released (m ∷ past) → Sent w m → ((x : Message) → Has x past → Has x (reverse (site w i).log))
+  one_there : (past : List Message) (m : Message) → Released (m ∷ past) → These m → ((x : Message) → Has x past → Has x (reverse (site w i).log))
       → Has m (reverse (site w i).log)
   one_there past m p a within = ⊎_elim (λ h. has_back m (site w i).log h)
-      (λ h. absurd ((rests_at w i r).unready m h (ready_forth (site w i).log m (still_ready w past (reverse (site w i).log) m s p (s.good i).released (s.good i).log_sent a within (λ l. (rests_at w i r).apart.not_logged m h (has_reverse m (site w i).log l))))))
+      (λ h. absurd ((rests_at w i r).unready m h (ready_forth (site w i).log m (still_ready w past (reverse (site w i).log) m s p (s.good i).released (s.good i).log_sent (sent m a) within (λ l. (rests_at w i r).apart.not_logged m h (has_reverse m (site w i).log l))))))
       (has m a)
 
   -- so all are there that were released anywhere
-  past_there : (past : List Message) → Released past → ((x : Message) → Has x past → Sent w x) → (x : Message) → Has x past
+  pub past_there : (past : List Message) → Released past → ((x : Message) → Has x past → These x) → (x : Message) → Has x past
       → Has x (reverse (site w i).log)
   past_there [] p all x h = absurd h
   past_there (m ∷ past) p all x (inl e) =
       subst (λ q. Has q (reverse (site w i).log)) (sym e) (one_there past m p (all m (inl refl)) (past_there past p.1 (λ y k. all y (inr k))))
   past_there (m ∷ past) p all x (inr h) = past_there past p.1 (λ y k. all y (inr k)) x h
 
+-- ---- a site that has all messages
+module _ (w : World) (s : Sound w) (r : AllRest w) (i : ℕ) (has : HasAll w i) where
   logged_all : (m : Message) → Sent w m → Has m (site w i).log
-  logged_all m a = has_reverse m (site w i).log (past_there (reverse (site w m.stamp.id.site).log) (s.good m.stamp.id.site).released (s.good m.stamp.id.site).log_sent m (s.home.home m a))
+  logged_all m a = has_reverse m (site w i).log (past_there w s r i (Sent w) (λ x h. h) has (reverse (site w m.stamp.id.site).log) (s.good m.stamp.id.site).released (s.good m.stamp.id.site).log_sent m (s.home.home m a))
 
   pub released_all : HasReleasedAll w i
   released_all = record {

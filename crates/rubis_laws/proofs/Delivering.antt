@@ -23,7 +23,7 @@ use Rattle.rubis_model.specs.Laws.{Sent}
 use Rattle.rubis_model.specs.Order.{Released}
 use Rattle.rubis_model.specs.Settle.{Has, Settles, counted, settle}
 use Rattle.rubis_model.specs.Settle.Settles.{Rest, Release}
-use Rattle.rubis_model.specs.Site.{Replica, opening_at, settled, not_ours, is_repeat, is_full, after_came, arrival_of, arrived, took}
+use Rattle.rubis_model.specs.Site.{Place, Replica, opening_at, settled, not_ours, is_repeat, is_full, after_came, arrival_of, arrived, took}
 use Rattle.rubis_model.specs.Sound.{Sound}
 use Rattle.rubis_model.specs.System.{World, Event, AreEvents, site, place, with_site, packet_at, coming, happens, run, start}
 use Rattle.rubis_model.specs.System.Event.{At, Deliver}
@@ -40,7 +40,7 @@ use Rattle.rubis_laws.proofs.Runs.{sound_run, room_of}
 use Rattle.rubis_laws.proofs.RunsInOrder.{unique}
 
 -- ---- a list in which each stands once is no longer than one that has all of it
-split_at : {A : Type 0} (x : A) (ys : List A) → Has x ys → (front : List A) × (back : List A) × (ys ≡ front ++ x ∷ back)
+pub split_at : {A : Type 0} (x : A) (ys : List A) → Has x ys → (front : List A) × (back : List A) × (ys ≡ front ++ x ∷ back)
 split_at x [] h = absurd h
 split_at x (y ∷ ys) (inl e) = ([], ys, ap (λ q. q ∷ ys) (sym e))
 split_at x (y ∷ ys) (inr h) = let k = split_at x ys h in (y ∷ k.0, k.1, ap (λ q. y ∷ q) k.2)
@@ -115,7 +115,7 @@ settles_had m _ _ _ _ (Release log front back log' waiting' u n r s) h =
         (λ q. ⊎_elim (λ e. inl (subst (λ x. Has x (log ++ u ∷ [])) (sym e) (has_last u log))) (λ b. inr (has_right m front back b)) q)
         (has_append m front (u ∷ back) k)
 
-settled_had : (s : Replica) (m : Message) → Had s m → Had (settled s) m
+pub settled_had : (s : Replica) (m : Message) → Had s m → Had (settled s) m
 settled_had s m h = settles_had m s.log s.waiting (settle (length s.waiting) s.log s.waiting).0 (settle (length s.waiting) s.log s.waiting).1 (settle_settles (length s.waiting) s.log s.waiting (omega arith)) h
 
 pub came_had : (s : Replica) (m u : Message) → Had s u ⊎ (u ≡ m) → Had (after_came s m) u
@@ -123,17 +123,17 @@ came_had s m u h = settled_had (record s { waiting = s.waiting ++ m ∷ [] }) u
     (⊎_elim (λ k. ⊎_elim (λ l. inl l) (λ q. inr (has_left u s.waiting (m ∷ []) q)) k) (λ e. inr (subst (λ x. Has x (s.waiting ++ m ∷ [])) (sym e) (has_last m s.waiting))) h)
 
 -- ---- what is had stays so
-pub arrived_keeps : (keep : ℕ) (w : World) (i : ℕ) (m u : Message) → Had (site w i) u → Had (arrived (place keep w i) (site w i) m).0 u
-arrived_keeps keep w i m u h =
-    cond_both (not_ours (place keep w i) (site w i) m) (site w i, Err NotOurs) _ (λ (p : Replica × Result Arrival Refusal). Had p.0 u) (λ _. h)
-    (λ _. cond_both (is_repeat (site w i) m) (site w i, Ok arrival.Repeat) _ (λ (p : Replica × Result Arrival Refusal). Had p.0 u) (λ _. h)
-    (λ _. cond_both (is_full keep (site w i)) (site w i, Err Full) _ (λ (p : Replica × Result Arrival Refusal). Had p.0 u) (λ _. h)
-    (λ _. came_had (site w i) m u (inl h))))
+pub arrived_keeps : (p : Place) (s : Replica) (m u : Message) → Had s u → Had (arrived p s m).0 u
+arrived_keeps p s m u h =
+    cond_both (not_ours p s m) (s, Err NotOurs) _ (λ (q : Replica × Result Arrival Refusal). Had q.0 u) (λ _. h)
+    (λ _. cond_both (is_repeat s m) (s, Ok arrival.Repeat) _ (λ (q : Replica × Result Arrival Refusal). Had q.0 u) (λ _. h)
+    (λ _. cond_both (is_full p.keep s) (s, Err Full) _ (λ (q : Replica × Result Arrival Refusal). Had q.0 u) (λ _. h)
+    (λ _. came_had s m u (inl h))))
 
-took_keeps : (keep : ℕ) (w : World) (i : ℕ) (t : Token) (u : Message) → Had (site w i) u → Had (took (place keep w i) (site w i) t).0 u
-took_keeps keep w i t u h =
-    cond_both (not (t.to == i)) (site w i, Err NotForMe) _ (λ (p : Replica × Result Taken Refusal). Had p.0 u) (λ _. h)
-    (λ _. cond_both (nat_le t.turn (site w i).last) (site w i, Ok taken.Repeat) _ (λ (p : Replica × Result Taken Refusal). Had p.0 u) (λ _. h) (λ _. h))
+pub took_keeps : (p : Place) (s : Replica) (t : Token) (u : Message) → Had s u → Had (took p s t).0 u
+took_keeps p s t u h =
+    cond_both (not (t.to == p.site)) (s, Err NotForMe) _ (λ (q : Replica × Result Taken Refusal). Had q.0 u) (λ _. h)
+    (λ _. cond_both (nat_le t.turn s.last) (s, Ok taken.Repeat) _ (λ (q : Replica × Result Taken Refusal). Had q.0 u) (λ _. h) (λ _. h))
 
 with_keeps : (w : World) (i j : ℕ) (x : Replica) (u : Message) → i < length w.sites → (Had (site w i) u → Had x u) → Had (site w j) u
     → Had (site (with_site w i x) j) u
@@ -143,16 +143,16 @@ coming_keeps_had : (keep : ℕ) (w : World) (i j : ℕ) (u : Message) → i < le
     → Had (site (coming keep w i o).0 j) u
 coming_keeps_had keep w i j u l None = λ h. h
 coming_keeps_had keep w i j u l (Some (packet.Msg m)) =
-    with_keeps w i j (arrived (place keep w i) (site w i) m).0 u l (arrived_keeps keep w i m u)
+    with_keeps w i j (arrived (place keep w i) (site w i) m).0 u l (arrived_keeps (place keep w i) (site w i) m u)
 coming_keeps_had keep w i j u l (Some (packet.Token t)) =
-    with_keeps w i j (took (place keep w i) (site w i) t).0 u l (took_keeps keep w i t u)
+    with_keeps w i j (took (place keep w i) (site w i) t).0 u l (took_keeps (place keep w i) (site w i) t u)
 
 deliver_keeps : (keep : ℕ) (w : World) (i k j : ℕ) (u : Message) → Had (site w j) u → Had (site (happens keep w (Deliver i k)).0 j) u
 deliver_keeps keep w i k j u =
     at_one (λ v. Had (site w j) u → Had (site v j) u) w i (coming keep w i (packet_at w.sent k)) (λ h. h)
     (λ l. coming_keeps_had keep w i j u l (packet_at w.sent k))
 
-coming_sent : (keep : ℕ) (w : World) (i : ℕ) (o : Option Packet) → (coming keep w i o).0.sent ≡ w.sent
+pub coming_sent : (keep : ℕ) (w : World) (i : ℕ) (o : Option Packet) → (coming keep w i o).0.sent ≡ w.sent
 coming_sent keep w i None = refl
 coming_sent keep w i (Some (packet.Msg m)) = refl
 coming_sent keep w i (Some (packet.Token t)) = refl
@@ -160,6 +160,20 @@ coming_sent keep w i (Some (packet.Token t)) = refl
 pub deliver_sent : (keep : ℕ) (w : World) (i k : ℕ) → (happens keep w (Deliver i k)).0.sent ≡ w.sent
 deliver_sent keep w i k =
     at_one (λ v. v.sent ≡ w.sent) w i (coming keep w i (packet_at w.sent k)) refl (λ _. coming_sent keep w i (packet_at w.sent k))
+
+-- a site that has only messages of a list, and not m of it, has fewer
+pub fewer_than : (v : World) (i : ℕ) (m : Message) (xs : List Message) → Sound v → AllRest v → ((u : Message) → Had (site v i) u → Has u xs) → Has m xs
+    → is_repeat (site v i) m ≡ false → length (site v i).log + length (site v i).waiting < length xs
+fewer_than v i m xs s r within h e =
+    let q = or_parts (list_any (λ u. same_id m.stamp.id u.stamp.id) (site v i).log) (list_any (λ u. same_id m.stamp.id u.stamp.id) (site v i).waiting) e in
+    let new : Has m (reverse (site v i).log ++ (site v i).waiting) → ⊥ = λ h. ⊎_elim (λ k. unlisted m (site v i).log q.0 (has_reverse m (site v i).log k)) (λ k. unlisted m (site v i).waiting q.1 k) (has_append m (reverse (site v i).log) (site v i).waiting h) in
+    let each : Singly (reverse (site v i).log ++ (site v i).waiting) = singly_both (reverse (site v i).log) (site v i).waiting (singly_released (reverse (site v i).log) (s.good i).released) (rests_at v i r).apart.singly (λ x h k. (rests_at v i r).apart.not_logged x k (has_reverse x (site v i).log h)) in
+    let l : length (m ∷ (reverse (site v i).log ++ (site v i).waiting)) ≤ length xs = no_longer (m ∷ (reverse (site v i).log ++ (site v i).waiting)) xs (new, each) inner in
+    omega (arith, l, length-append (reverse (site v i).log) (site v i).waiting, length-reverse (site v i).log)
+  where
+    inner : (x : Message) → Has x (m ∷ (reverse (site v i).log ++ (site v i).waiting)) → Has x xs
+    inner x (inl e) = subst (λ y. Has y xs) (sym e) h
+    inner x (inr k) = ⊎_elim (λ a. within x (inl (has_reverse x (site v i).log a))) (λ a. within x (inr a)) (has_append x (reverse (site v i).log) (site v i).waiting k)
 
 -- ---- what is delivered is had
 pub by_id : (m : Message) (xs : List Message) → list_any (λ u. same_id m.stamp.id u.stamp.id) xs ≡ true
@@ -190,30 +204,25 @@ module _ (w : World) (s : Sound w) (r : AllRest w) (i : ℕ) (m : Message) (a : 
       (λ k. let f = by_id m (site w i).waiting k in inr (subst (λ x. Has x (site w i).waiting) (same_message f.0 ((s.good i).waiting_sent f.0 f.1) f.2) f.1))
       (or_cases (list_any (λ u. same_id m.stamp.id u.stamp.id) (site w i).log) (list_any (λ u. same_id m.stamp.id u.stamp.id) (site w i).waiting) e)
 
-  -- a site that misses one has fewer than were sent
-  pub fewer : is_repeat (site w i) m ≡ false → length (site w i).log + length (site w i).waiting < message_count w.sent
-  fewer e =
-      let q = or_parts (list_any (λ u. same_id m.stamp.id u.stamp.id) (site w i).log) (list_any (λ u. same_id m.stamp.id u.stamp.id) (site w i).waiting) e in
-      let new : Has m (reverse (site w i).log ++ (site w i).waiting) → ⊥ = λ h. ⊎_elim (λ k. unlisted m (site w i).log q.0 (has_reverse m (site w i).log k)) (λ k. unlisted m (site w i).waiting q.1 k) (has_append m (reverse (site w i).log) (site w i).waiting h) in
-      let each : Singly (reverse (site w i).log ++ (site w i).waiting) = singly_both (reverse (site w i).log) (site w i).waiting (singly_released (reverse (site w i).log) (s.good i).released) (rests_at w i r).apart.singly (λ x h k. (rests_at w i r).apart.not_logged x k (has_reverse x (site w i).log h)) in
-      let l : length (m ∷ (reverse (site w i).log ++ (site w i).waiting)) ≤ length (messages_of w.sent) = no_longer (m ∷ (reverse (site w i).log ++ (site w i).waiting)) (messages_of w.sent) (new, each) within in
-      let c = messages_length w.sent in
-      let d = length-append (reverse (site w i).log) (site w i).waiting in
-      let b = length-reverse (site w i).log in
-      omega arith
-    where
-      within : (x : Message) → Has x (m ∷ (reverse (site w i).log ++ (site w i).waiting)) → Has x (messages_of w.sent)
-      within x (inl e) = message_in x w.sent (subst (λ y. Sent w y) (sym e) a)
-      within x (inr h) =
-          message_in x w.sent (⊎_elim (λ k. (s.good i).log_sent x k) (λ k. (s.good i).waiting_sent x k) (has_append x (reverse (site w i).log) (site w i).waiting h))
+  -- a site that misses one has fewer than any list that has all messages that were sent
+  pub fewer_among : (all : List Message) → ((x : Message) → Sent w x → Has x all) → is_repeat (site w i) m ≡ false
+      → length (site w i).log + length (site w i).waiting < length all
+  fewer_among all has e = fewer_than w i m all s r (λ u h. has u (⊎_elim (λ k. (s.good i).log_sent u (has_back u (site w i).log k)) ((s.good i).waiting_sent u) h)) (has m a) e
 
-  pub arrived_had : (keep : ℕ) → message_count w.sent ≤ keep → Had (arrived (place keep w i) (site w i) m).0 m
-  arrived_had keep room =
+  pub fewer : is_repeat (site w i) m ≡ false → length (site w i).log + length (site w i).waiting < message_count w.sent
+  fewer e = subst (λ n. length (site w i).log + length (site w i).waiting < n) (messages_length w.sent) (fewer_among (messages_of w.sent) (λ x h. message_in x w.sent h) e)
+
+  -- so it is taken in by a site that keeps as many as such a list has
+  pub had_among : (keep : ℕ) (all : List Message) → ((x : Message) → Sent w x → Has x all) → length all ≤ keep → Had (arrived (place keep w i) (site w i) m).0 m
+  had_among keep all has room =
       cond_both (not_ours (place keep w i) (site w i) m) (site w i, Err NotOurs) _ (λ (p : Replica × Result Arrival Refusal). Had p.0 m) (λ e. absurd (is_ours keep e))
       (λ _. cond_both (is_repeat (site w i) m) (site w i, Ok arrival.Repeat) _ (λ (p : Replica × Result Arrival Refusal). Had p.0 m) (λ e. repeat_had e)
       (λ new. cond_both (is_full keep (site w i)) (site w i, Err Full) _ (λ (p : Replica × Result Arrival Refusal). Had p.0 m)
-      (λ e. absurd (let k = leb-true keep (length (site w i).log + length (site w i).waiting) e in let f = fewer new in omega arith))
+      (λ e. absurd (let k = leb-true keep (length (site w i).log + length (site w i).waiting) e in let f = fewer_among all has new in omega arith))
       (λ _. came_had (site w i) m m (inr refl))))
+
+  pub arrived_had : (keep : ℕ) → message_count w.sent ≤ keep → Had (arrived (place keep w i) (site w i) m).0 m
+  arrived_had keep room = had_among keep (messages_of w.sent) (λ x h. message_in x w.sent h) (subst (λ n. n ≤ keep) (sym (messages_length w.sent)) room)
 
   delivered_now : (keep k : ℕ) → message_count w.sent ≤ keep → i < length w.sites → packet_at w.sent k ≡ Some (packet.Msg m)
       → Had (site (happens keep w (Deliver i k)).0 i) m

@@ -11,7 +11,7 @@ use Rattle.rubis_schema.specs.declared.row_keys.RowKey.{RowKey}
 use Rattle.rubis_schema.specs.declared.row_keys.RowKey.TheVariants as key
 use Rattle.rubis_shadow.specs.Parts.{refers_of, winner_key}
 use Rattle.rubis_shadow.specs.declared.shadows.Shadow.{Shadow}
-use Rattle.rubis_shadow.specs.declared.shadows.Shadow.TheVariants.{User, Item, Bid, Close}
+use Rattle.rubis_shadow.specs.declared.shadows.Shadow.TheVariants.{Close}
 use Rattle.rubis_message.specs.Message.{Message, dep}
 use Rattle.rubis_model.specs.Checks.{Fits, StandsIn, nick_taken, stock_short, wrong_category, wrong_winner}
 use Rattle.rubis_model.specs.Log.{Core, core, cores}

@@ -12,7 +12,7 @@ use Rattle.rubis_schema.specs.declared.rows.Row.TheVariants as row
 use Rattle.rubis_schema.specs.declared.row_keys.RowKey.{RowKey}
 use Rattle.rubis_schema.specs.declared.row_keys.RowKey.TheVariants as key
 use Rattle.rubis_schema.specs.Keys.{same_id}
-use Rattle.rubis_model.specs.Meaning.{when, as_user, as_item, as_bid, as_purchase, as_comment, lists_item_of, bought_by, rating_for, rates, sold_of, restocked_of, bids_on, closes, last_rename, later, nick_after, nick_at, renames, is_same_nick, lists_in, closes_in, higher, earlier, choose, count, user_row, item_row, best_of, sale_after, meaning_row, named}
+use Rattle.rubis_model.specs.Meaning.{when, as_user, as_item, as_bid, as_purchase, as_comment, lists_item_of, bought_by, rating_for, rates, sold_of, restocked_of, bids_on, closes, last_rename, nick_after, nick_at, renames, is_same_nick, lists_in, closes_in, higher, earlier, choose, count, user_row, item_row, best_of, sale_after, meaning_row, named}
 use Rattle.rubis_shadow.specs.Shadows.{is_red}
 use Rattle.rubis_model.specs.Checks.{Follows, has_id, CheckedFrom, Checked, SameSet}
 use Rattle.rubis_model.proofs.Commute.{same_tables}

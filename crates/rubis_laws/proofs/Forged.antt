@@ -31,7 +31,7 @@ use Rattle.rubis_model.specs.Log.{Core, Folded, fold_of, fold_on, number_parts, 
 use Rattle.rubis_model.specs.Meaning.{as_item, meaning_row, restocked_of, when}
 use Rattle.rubis_model.specs.Forged.{IsKept, NamesAreHeld, NamesStay, StockIsKept, frees, holder, named_by, still_named, supplied, supply_at}
 use Rattle.rubis_laws.proofs.FoldIsMeaning.{effects_after, fold_push_parts, get-effects_after, opening_rows}
-use Rattle.rubis_laws.proofs.Pushes.{at_id_push, by_pushes, first_push, or_none}
+use Rattle.rubis_laws.proofs.Pushes.{by_pushes, or_none}
 use Rattle.rubis_laws.proofs.RowsOfUser.{at_key}
 
 -- ---- one more message, whatever it is

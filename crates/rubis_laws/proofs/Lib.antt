@@ -48,11 +48,17 @@ pub mod Processes
 pub mod ProcessLaws
 pub mod OwnMessages
 pub mod Restarts
+pub mod NewRecords
 pub mod ProcessExamples
 pub mod AgreedAudits
 pub mod Resting
 pub mod Converging
 pub mod Delivering
+pub mod Moments
+pub mod Nicknames
+pub mod ProcessesConverging
+pub mod DeliveredExamples
+pub mod WorstOrderExample
 pub mod Lacking
 pub mod LackingRuns
 pub mod LackingWaiting

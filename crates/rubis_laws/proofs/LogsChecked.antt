@@ -117,7 +117,7 @@ checked_end before [] m c f = (subst (λ l. Follows l m) (search Rattle.std.proo
 checked_end before (x ∷ xs) m c f =
     (c.0, checked_end (before ++ x ∷ []) xs m c.1 (subst (λ l. Follows l m) (sym (append_assoc before (x ∷ []) xs)) f))
 
-checked_back : (w : World) (past : List Message) → Sound w → Released past → ((x : Message) → Has x past → Sent w x) → Checked (cores (reverse past))
+pub checked_back : (w : World) (past : List Message) → Sound w → Released past → ((x : Message) → Has x past → Sent w x) → Checked (cores (reverse past))
 checked_back w [] s r all = tt
 checked_back w (m ∷ past) s r all =
     subst Checked (sym (back_push m past)) (checked_end [] (cores (reverse past)) (core m) (checked_back w past s r.1 (λ x h. all x (inr h)))

@@ -34,16 +34,16 @@ use Rattle.rubis_laws.proofs.Runs.{sound_run}
 -- ---- a message is carried from site 0 to site 1, which then lists its log
 
 -- each of the two sites keeps as many messages as it may
-abbrev most : ℕ → ℕ
+abbrev pub most : ℕ → ℕ
 most i = 1000000
 
-abbrev reads : ℕ → List (List ℕ) → Reading
+abbrev pub reads : ℕ → List (List ℕ) → Reading
 reads site fields = record { site = site; fields = fields }
 
-abbrev ann_is_asked : List (List ℕ)
+abbrev pub ann_is_asked : List (List ℕ)
 ann_is_asked = codes "user" ∷ codes "ann" ∷ []
 
-abbrev ann_is_sent : List (List ℕ)
+abbrev pub ann_is_sent : List (List ℕ)
 ann_is_sent = codes "msg" ∷ codes "1" ∷ codes "0" ∷ codes "1" ∷ codes "1" ∷ codes "0:0" ∷ codes "user" ∷ codes "ann" ∷ []
 
 abbrev ann_comes : List Reading
@@ -53,7 +53,7 @@ ann_comes = reads 0 ann_is_asked ∷ reads 1 ann_is_sent ∷ reads 1 (codes "lis
 abbrev ann_by : Rows → List (List (List ℕ))
 ann_by rows = (told (asked_rows 1) (generating (process 2 most 0) (opening_at 0) (decision rows (standing_of 1000000 (opening_at 0)) (ask.User (codes "ann"))))).1 ++ []
 
-abbrev ann_answers : List (List (List ℕ))
+abbrev pub ann_answers : List (List (List ℕ))
 ann_answers = (codes "reply" ∷ codes "1" ∷ codes "ok" ∷ codes "0.1" ∷ []) ∷ (codes "send" ∷ ann_is_sent) ∷ []
 
 ann_is_read : answers_of 2 most (reads 0 ann_is_asked ∷ []) 0 ≡ ann_by (rows_at [])
@@ -64,7 +64,7 @@ ann_by_meaning : ann_by (meaning_row []) ≡ ann_answers
 unfolding meaning_row digits
 ann_by_meaning = refl
 
-ann_is_answered : answers_of 2 most (reads 0 ann_is_asked ∷ []) 0 ≡ ann_answers
+pub ann_is_answered : answers_of 2 most (reads 0 ann_is_asked ∷ []) 0 ≡ ann_answers
 ann_is_answered = ann_is_read ∙ ap ann_by (λ i key. (fold_is_meaning [] tt (omega arith)).0.rows key i) ∙ ann_by_meaning
 
 ann_is_shown : answers_of 2 most ann_comes 1 ≡
@@ -77,11 +77,11 @@ ann_is_shown = refl
 
 -- ---- it is carried unchanged
 
-not_some : {A : Type 0} (o : Option A) (x : A) → o ≡ None → o ≡ Some x → ⊥
+pub not_some : {A : Type 0} (o : Option A) (x : A) → o ≡ None → o ≡ Some x → ⊥
 not_some None x e f = absurd cc
 not_some (Some y) x e f = absurd cc
 
-no_packet_asked : packet_of 2 ann_is_asked ≡ None
+pub no_packet_asked : packet_of 2 ann_is_asked ≡ None
 unfolding packet_of take_packet
 no_packet_asked = refl
 
@@ -89,7 +89,7 @@ no_packet_listed : packet_of 2 (codes "list" ∷ codes "log" ∷ []) ≡ None
 unfolding packet_of take_packet
 no_packet_listed = refl
 
-ann_was_sent : WasSent 2 most (reads 0 ann_is_asked ∷ []) ann_is_sent
+pub ann_was_sent : WasSent 2 most (reads 0 ann_is_asked ∷ []) ann_is_sent
 ann_was_sent = (0, omega arith, subst (Has (codes "send" ∷ ann_is_sent)) (sym ann_is_answered) (inr (inl refl)))
 
 ann_is_carried : Carried 2 most ann_comes
@@ -160,7 +160,7 @@ forged_is_not_carried c =
 
 -- ---- a process that forgets what it had read
 
-bob_is_asked : List (List ℕ)
+abbrev pub bob_is_asked : List (List ℕ)
 bob_is_asked = codes "user" ∷ codes "bob" ∷ []
 
 forgetful : List Moment
@@ -190,7 +190,7 @@ ann_is_first : first_nick (state_of 2 most (reads 0 ann_is_asked ∷ []) 0).log 
 ann_is_first = ann_is_read_first ∙ by_meaning (codes "ann") ∙ ann_is_meant
 
 bob_is_read_first : first_nick (site_after (process 2 most 0) (opening_at 0) 1 (has_read 0 forgetful)).log ≡ asked_first (codes "bob") (rows_at [])
-unfolding forgetful bob_is_asked request_of take_request take_kind kind_of nick_of
+unfolding forgetful request_of take_request take_kind kind_of nick_of
 bob_is_read_first = refl
 
 bob_is_meant : asked_first (codes "bob") (meaning_row []) ≡ codes "bob"

@@ -1,11 +1,9 @@
 -- Two worlds that differ at one site, and what that site is given.
-use Rattle.std.proofs.Common.{◌≡◌, ◌∙◌, ℕ, ◌+◌, ◌≤◌, ◌<◌, Bool, true, false, cond, Option, Some, None, List, [], ◌∷◌, ◌++◌, length, length-append, get_or, set, refl, sym, ap, subst, inl, inr, ⊎_elim, arith}
+use Rattle.std.proofs.Common.{◌≡◌, ◌∙◌, ℕ, ◌+◌, ◌≤◌, ◌<◌, Bool, true, false, cond, Option, Some, None, List, [], ◌∷◌, ◌++◌, length, get_or, set, refl, sym, ap, subst, inl, inr, ⊎_elim, arith}
 use Rattle.std.specs.Prelude.{◌⊎◌, reverse, filter, nat_lt, slice_set, ◌==◌, Result, Ok, Err}
-use Rattle.std.specs.List.{list_any}
-use Rattle.std.proofs.lemmas.Bool.{cases_lt, cases_eq, cond_both, and_parts, eqb-true, leb-true, or_parts}
+use Rattle.std.proofs.lemmas.Bool.{cases_lt, cases_eq, cond_both, and_parts, eqb-true, leb-true}
 use Rattle.std.proofs.lemmas.Bool.Decides.{nat_tests}
 use Rattle.std.proofs.lemmas.List.{length-set, length-reverse, get_or-set_same, get_or-set_other}
-use Rattle.rubis_schema.specs.Keys.{same_id}
 use Rattle.rubis_schema.specs.declared.refusals.Refusal.{Refusal}
 use Rattle.rubis_schema.specs.declared.refusals.Refusal.TheVariants.{Full, NotOurs, BadEvent}
 use Rattle.rubis_message.specs.Message.{Message}
@@ -29,9 +27,9 @@ use Rattle.rubis_model.proofs.Lists.{has_left, has_right, has_append, push_cases
 use Rattle.rubis_model.proofs.OneOutcome.{settle_settles}
 use Rattle.rubis_model.proofs.Settling.{counted_reverse, reds_reverse}
 use Rattle.rubis_laws.proofs.Converging.{counted_most, reds_most, still_ready, ready_forth, empty, rests_run}
-use Rattle.rubis_laws.proofs.Delivering.{Had, no_longer, singly_both, singly_released, number_of, came_had, arrived_keeps, repeat_had, run_sites}
+use Rattle.rubis_laws.proofs.Delivering.{Had, no_longer, singly_released, number_of, came_had, arrived_keeps, repeat_had, fewer_than, run_sites}
 use Rattle.rubis_laws.proofs.Keeps.{start_sites}
-use Rattle.rubis_laws.proofs.Resting.{AllRest, Singly, rests_at, unlisted}
+use Rattle.rubis_laws.proofs.Resting.{AllRest, rests_at}
 use Rattle.rubis_laws.proofs.Runs.{sound_run, room_of}
 
 -- ---- an event at a site that there is, or isn't
@@ -227,26 +225,6 @@ arrived_from p s m u = arriving p s m (λ x. Had x u → Had s u ⊎ (u ≡ m)) 
 pub arrived_token : (p : Place) (s : Replica) (m : Message) → ((arrived p s m).0.held ≡ s.held) × ((arrived p s m).0.last ≡ s.last)
 arrived_token p s m = arriving p s m (λ x. (x.held ≡ s.held) × (x.last ≡ s.last)) (refl, refl) (refl, refl)
 
--- a site that has only messages of a list, and not m of it, has fewer
-fewer_than : (v : World) (i : ℕ) (m : Message) (xs : List Message) → Sound v → AllRest v → ((u : Message) → Had (site v i) u → Has u xs) → Has m xs
-    → is_repeat (site v i) m ≡ false → length (site v i).log + length (site v i).waiting < length xs
-fewer_than v i m xs s r within h e =
-    let q = or_parts (list_any_log) (list_any_waiting) e in
-    let new : Has m (reverse (site v i).log ++ (site v i).waiting) → ⊥ = λ h. ⊎_elim (λ k. unlisted m (site v i).log q.0 (has_reverse m (site v i).log k)) (λ k. unlisted m (site v i).waiting q.1 k) (has_append m (reverse (site v i).log) (site v i).waiting h) in
-    let each : Singly (reverse (site v i).log ++ (site v i).waiting) = singly_both (reverse (site v i).log) (site v i).waiting (singly_released (reverse (site v i).log) (s.good i).released) (rests_at v i r).apart.singly (λ x h k. (rests_at v i r).apart.not_logged x k (has_reverse x (site v i).log h)) in
-    let l : length (m ∷ (reverse (site v i).log ++ (site v i).waiting)) ≤ length xs = no_longer (m ∷ (reverse (site v i).log ++ (site v i).waiting)) xs (new, each) inner in
-    omega (arith, l, length-append (reverse (site v i).log) (site v i).waiting, length-reverse (site v i).log)
-  where
-    list_any_log : Bool
-    list_any_log = list_any (λ u. same_id m.stamp.id u.stamp.id) (site v i).log
-
-    list_any_waiting : Bool
-    list_any_waiting = list_any (λ u. same_id m.stamp.id u.stamp.id) (site v i).waiting
-
-    inner : (x : Message) → Has x (m ∷ (reverse (site v i).log ++ (site v i).waiting)) → Has x xs
-    inner x (inl e) = subst (λ y. Has y xs) (sym e) h
-    inner x (inr k) = ⊎_elim (λ a. within x (inl (has_reverse x (site v i).log a))) (λ a. within x (inr a)) (has_append x (reverse (site v i).log) (site v i).waiting k)
-
 -- ---- the site that is rebuilt is given messages
 
 -- v is a world of a run that is w with another state at site i, which has no more than site i of w has in its log
@@ -317,7 +295,7 @@ module _ (n keep i : ℕ) (some : 1 ≤ n) (few : keep ≤ 1000000) (inside : i 
         state = e ∙ ap (λ p. (arrived p (site v i) u).0) (at_place v f.reached);
         had = λ y k. subst (λ q. Had q y) (sym e) (⊎_elim
             (λ q. ⊎_elim (λ c. subst (Had x) (sym c) (taken_in room v u f b h not_own)) (λ c. absurd c) q)
-            (λ q. arrived_keeps keep v i u y q) k);
+            (λ q. arrived_keeps (place keep v i) (site v i) u y q) k);
         held = ap (λ (q : Replica). q.held) e ∙ (arrived_token (place keep v i) (site v i) u).0;
         last = ap (λ (q : Replica). q.last) e ∙ (arrived_token (place keep v i) (site v i) u).1;
       }

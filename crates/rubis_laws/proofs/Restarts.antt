@@ -26,7 +26,7 @@ nothing_in : {A : Type 0} (c d : List A) → c ++ d ≡ [] → (c ≡ []) × (d 
 nothing_in [] d e = (refl, e)
 nothing_in (x ∷ c) d e = absurd cc
 
-split_append : {A : Type 0} (xs ys c d : List A) → xs ++ ys ≡ c ++ d → ((e : List A) × (xs ≡ c ++ e) × (d ≡ e ++ ys)) ⊎ ((e : List A) × (c ≡ xs ++ e) × (ys ≡ e ++ d))
+pub split_append : {A : Type 0} (xs ys c d : List A) → xs ++ ys ≡ c ++ d → ((e : List A) × (xs ≡ c ++ e) × (d ≡ e ++ ys)) ⊎ ((e : List A) × (c ≡ xs ++ e) × (ys ≡ e ++ d))
 split_append xs ys [] d e = inl (xs, refl, sym e)
 split_append [] ys (z ∷ c) d e = inr (z ∷ c, refl, e)
 split_append (x ∷ xs) ys (z ∷ c) d e =
@@ -81,7 +81,7 @@ module _ (p : Place) where
   abbrev next : Replica → ℕ → List (List ℕ) → Replica
   next s n fields = (input_step p s n (input_of p.sites fields)).0
 
-  short_state : (full short : List (List (List ℕ))) (s : Replica) (n m : ℕ) → IsShortened p s short full → site_after p s n short ≡ site_after p s m full
+  pub short_state : (full short : List (List (List ℕ))) (s : Replica) (n m : ℕ) → IsShortened p s short full → site_after p s n short ≡ site_after p s m full
   short_state [] short s n m e = ap (site_after p s n) e
   short_state (x ∷ full) short s n m (inl h) =
       short_state full short s n (m + 1) h.1 ∙ ap (λ t. site_after p t (m + 1) full) (sym h.0 ∙ same_state p s 1 m (input_of p.sites x))
@@ -137,13 +137,13 @@ read_first i (r ∷ rest) (x ∷ records) more e = at (r.site == i) refl e (read
     at true is e own other = own_first i r rest x records is (let h : x ≡ r.fields = cc in h) (own (let q : records ++ more ≡ read_by i rest = cc in q))
     at false is e own other = other_first i r rest (x ∷ records) is (other e)
 
-read_on_more : (i : ℕ) (so_far : List (List (List ℕ))) (a b : List Moment) → read_on i so_far (a ++ b) ≡ read_on i (read_on i so_far a) b
+pub read_on_more : (i : ℕ) (so_far : List (List (List ℕ))) (a b : List Moment) → read_on i so_far (a ++ b) ≡ read_on i (read_on i so_far a) b
 read_on_more i so_far [] b = refl
 read_on_more i so_far (Reads j fields ∷ a) b = read_on_more i (cond (j == i) (so_far ++ fields ∷ []) so_far) a b
 read_on_more i so_far (Restarts j ∷ a) b = read_on_more i (cond (j == i) [] so_far) a b
 read_on_more i so_far (Replays j fields ∷ a) b = read_on_more i (cond (j == i) (so_far ++ fields ∷ []) so_far) a b
 
-recorded_more : (a b : List Moment) → recorded (a ++ b) ≡ recorded a ++ recorded b
+pub recorded_more : (a b : List Moment) → recorded (a ++ b) ≡ recorded a ++ recorded b
 recorded_more [] b = refl
 recorded_more (Reads i fields ∷ a) b = ap (λ l. record { site = i; fields = fields } ∷ l) (recorded_more a b)
 recorded_more (Restarts i ∷ a) b = recorded_more a b

@@ -1,17 +1,15 @@
 -- An audit of records whose messages were widened answers the same.
-use Rattle.std.proofs.Common.{ℕ, ◌≡◌, ◌+◌, ◌≤◌, ◌<◌, List, [], ◌∷◌, ◌++◌, Option, Some, None, refl, sym, ap, ◌∙◌, subst, inl, inr, arith}
-use Rattle.std.specs.Prelude.{map, reverse, option_and_then, option_map, Result, Ok, Err}
+use Rattle.std.proofs.Common.{ℕ, ◌≡◌, ◌+◌, ◌≤◌, List, [], ◌∷◌, ◌++◌, Option, Some, None, refl, sym, ap, ◌∙◌, arith}
+use Rattle.std.specs.Prelude.{map, reverse, option_and_then, option_map, Ok}
 use Rattle.std.specs.Option.{option_map_or}
 use Rattle.std.proofs.lemmas.List.{map-append, reverse-append}
 use Rattle.rubis_schema.specs.declared.limits.TheConstants.{COUNTED_MAX}
-use Rattle.rubis_message.specs.Message.{Message}
 use Rattle.rubis_message.specs.Widening.{widened}
 use Rattle.rubis_message.proofs.Widening.{sites_widened, widened_is}
 use Rattle.rubis_model.specs.Audit.{AreAmong}
-use Rattle.rubis_model.specs.AuditRecords.{Line, IsLine, line_of, line_record, with_line, logs_after, verdict_record, audit_record, audit_of}
+use Rattle.rubis_model.specs.AuditRecords.{Line, IsLine, line_of, line_record, with_line, logs_after, verdict_record, audit_record}
 use Rattle.rubis_model.specs.AuditRecords.Line.{Begin, Next, Claim}
 use Rattle.rubis_model.specs.Logs.{Log}
-use Rattle.rubis_model.specs.Settle.{Has}
 use Rattle.rubis_model.specs.Verdict.{verdict}
 use Rattle.rubis_model.specs.Widening.{widened_log}
 use Rattle.rubis_model.specs.WidenedRecords.{widened_line, widened_record, AuditStays}

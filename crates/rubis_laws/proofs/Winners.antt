@@ -1,6 +1,6 @@
 -- Over all sites: one close an item, and its winner is the highest of all its bids.
-use Rattle.std.proofs.Common.{ℕ, ◌≡◌, ◌+◌, ◌≤◌, ◌<◌, List, true, sym, ap, ◌∙◌, subst, arith, Option, Some, None, inl, inr, ⊎_elim}
-use Rattle.std.specs.Prelude.{option_map, option_and_then, ◌⊎◌, ◌-◌, IfSome, is_some}
+use Rattle.std.proofs.Common.{◌≡◌, ◌+◌, ◌≤◌, ◌<◌, List, true, sym, ap, ◌∙◌, subst, arith, Option, Some, None, inl, inr, ⊎_elim}
+use Rattle.std.specs.Prelude.{option_map, option_and_then, ◌⊎◌, ◌-◌, IfSome}
 use Rattle.std.proofs.lemmas.Bool.{cases_order}
 use mathlib.Core.Bool.{true≢false}
 use Rattle.rubis_schema.specs.declared.ids.Id.{Id}

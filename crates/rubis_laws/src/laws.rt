@@ -1,17 +1,18 @@
 // The laws of runs and of logs, each with its statement in rubis_model/specs.
 ghost use Rattle.rubis_model.specs.AgreedAudits.{AgreedAuditsAreSound};
 ghost use Rattle.rubis_model.specs.AuditRecords.{LinesAreReadAsWritten, LogsAreReadAsWritten};
-ghost use Rattle.rubis_model.specs.Convergence.{AllCanBeDelivered, AllHadAreReleased, DeliveredAreHad, DeliveringAllConverges, HavingAllConverges, NoMessageIsRefused};
+ghost use Rattle.rubis_model.specs.Convergence.{AllCanBeDelivered, AllHadAreReleased, DeliveredAreHad, DeliveringAllConverges, HavingAllConverges, MomentsAreReleased, NoMessageIsRefused};
 ghost use Rattle.rubis_model.specs.Forged.{NamesAreHeld, NamesStay, StockIsKept};
 ghost use Rattle.rubis_model.specs.Lack.{CompletedTablesAreEqual, LackIsReleased, LackIsReleasedInRuns, LackNeverWaits, LacksTheRest, OneRoundConverges, WaitingIsExplained};
 ghost use Rattle.rubis_model.specs.LackRecords.{LackFollowsTheAudit};
 ghost use Rattle.rubis_model.specs.Widening.{MeaningStays, VerdictStays, WidenedAreAmong};
 ghost use Rattle.rubis_model.specs.WidenedRecords.{AuditStays};
 ghost use Rattle.rubis_model.specs.Laws.{MeaningIsOne, FoldIsMeaning, CheckedLogsHold, DecidedShadowsFit, EqualSetsEqualTables, RunsAreInOrder, RunsKeepInvariants, RunsAgreeOnTables, RunsSendDeliverables, RefusalsChangeNothing, FaultlessLogsAreSound, RunsAreFaultless, AgreesWhereFaultless, AgreedLogsAreSound, RunsAgree};
-ghost use Rattle.rubis_model.specs.Processes.{ProcessesAgree, ProcessesAgreeOnTables, ProcessesAreARun, ProcessesAreInRun, ProcessesKeepInvariants, ProcessesKnowTheirOwn};
+ghost use Rattle.rubis_model.specs.Nicknames.{NicknamesAreUnique, RedsAreInOneOrder};
+ghost use Rattle.rubis_model.specs.Processes.{ProcessesAgree, ProcessesAgreeOnTables, ProcessesAreARun, ProcessesAreInRun, ProcessesConverge, ProcessesKeepInvariants, ProcessesKnowTheirOwn};
 ghost use Rattle.rubis_model.specs.Rebuild.{InputsRebuild, SitesAreRebuilt};
 ghost use Rattle.rubis_model.specs.RecordedRuns.{AuditsAgree, RecordsAreARun, RecordsKeepInvariants};
-ghost use Rattle.rubis_model.specs.Restarts.{AnswersStay, NothingIsLeftOut, ReadingsAreMoments, RecordingsReplay, RestartedAgree, RestartsChangeNothing};
+ghost use Rattle.rubis_model.specs.Restarts.{AnswersStay, NewRecordsAreRead, NothingIsLeftOut, ReadingsAreMoments, RecordingsReplay, RestartedAgree, RestartedConverge, RestartsChangeNothing};
 
 /// A log that passes the checks folds without misfit to the meaning of its set, and there is only one.
 pub fn fold_is_meaning()
@@ -50,10 +51,12 @@ pub fn every_run_agrees_on_tables()
     ensures { RunsAgreeOnTables }
 {}
 
-/// A site that has every message has released them all, and such sites have equal tables; and where sites keep as many
-/// messages as were sent, they come to that once each message was delivered, in any order and however often.
+/// A site that has every message that was sent has released them all, and such sites have equal tables; if sites keep as many
+/// messages as were sent, they get there once each message was delivered, in any order and however often. And a site that has
+/// every message sent up to some moment has released these, whatever was sent since.
 pub fn every_run_converges()
     ensures released { AllHadAreReleased }
+    ensures moments { MomentsAreReleased }
     ensures tables { HavingAllConverges }
     ensures had { DeliveredAreHad }
     ensures delivered { DeliveringAllConverges }
@@ -139,9 +142,17 @@ pub fn records_are_a_run()
     ensures audits { AuditsAgree }
 {}
 
+/// Over all sites of a run, nicknames are unique: at each point of the one order of its red messages, no nickname has two users.
+/// Two sites may show one nickname for two users at one moment, since one of them may not have a rename yet.
+pub fn nicknames_are_unique()
+    ensures unique { NicknamesAreUnique }
+    ensures order { RedsAreInOneOrder }
+{}
+
 /// Separate processes are a run, if packets are carried unchanged: whenever a process reads a packet, one of them had sent it
 /// with the same fields. Then their logs causally serialize one RedBlue order and the invariants hold, equal sets of messages
-/// have equal tables, the verdict on their logs is Agree, and none answers NotOurs.
+/// have equal tables, the verdict on their logs is Agree, and none answers NotOurs. Processes that have read all messages have
+/// released exactly these, and have equal tables.
 pub fn processes_are_a_run()
     ensures run { ProcessesAreARun }
     ensures claims { ProcessesAreInRun }
@@ -149,18 +160,22 @@ pub fn processes_are_a_run()
     ensures tables { ProcessesAgreeOnTables }
     ensures audits { ProcessesAgree }
     ensures own { ProcessesKnowTheirOwn }
+    ensures converge { ProcessesConverge }
 {}
 
 /// Processes that stop at any moment, and are restarted on their recordings, are processes that never stopped: what a process
-/// answered stays as it was when it reads more. The verdict on their logs, each as it was at any moment, is Agree. A recording
-/// may be read again at any moment, and may lack records that changed nothing.
+/// answered stays as it was when it reads more. The verdict on their logs, each as it was at any moment, is Agree, and processes
+/// that have read all messages have equal tables, however often they were restarted. A recording may be read again at any
+/// moment, and may lack records that changed nothing; after that the process may read new records.
 pub fn restarts_change_nothing()
     ensures answers { AnswersStay }
     ensures processes { RestartsChangeNothing }
     ensures audits { RestartedAgree }
+    ensures converge { RestartedConverge }
     ensures readings { ReadingsAreMoments }
     ensures recordings { RecordingsReplay }
     ensures whole { NothingIsLeftOut }
+    ensures new { NewRecordsAreRead }
 {}
 
 /// A site that lost its disk can be made again from what the sites sent: a fresh one is given, for each packet that the site sent,

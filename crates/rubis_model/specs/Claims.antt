@@ -1,5 +1,5 @@
 -- What is claimed of messages and of logs that have some of them: of those of a run, and of those that an auditor is given.
-use Rattle.std.specs.Prelude.{◌≡◌, ℕ, ◌+◌, true, List, [], Option, Some}
+use Rattle.std.specs.Prelude.{◌≡◌, ◌+◌, true, [], Option, Some}
 use Rattle.rubis_schema.specs.declared.ids.Id.{Id}
 use Rattle.rubis_schema.specs.declared.row_keys.RowKey.TheVariants as key
 use Rattle.rubis_schema.specs.declared.rows.ItemRow.{ItemRow}

@@ -28,6 +28,7 @@ pub mod Processes
 pub mod Restarts
 pub mod AgreedAudits
 pub mod Convergence
+pub mod Nicknames
 pub mod Lack
 pub mod LackRecords
 pub mod Rebuild

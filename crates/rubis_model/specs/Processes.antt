@@ -1,5 +1,5 @@
 -- Sites as separate processes, with packets carried between them, and the run of the model that they are.
-use Rattle.std.specs.Prelude.{◌≡◌, ◌↔◌, ℕ, ◌+◌, ◌<◌, ◌≤◌, ◌==◌, cond, List, [], ◌∷◌, ◌++◌, length, Some, IfSome, IsSome}
+use Rattle.std.specs.Prelude.{◌≡◌, ◌↔◌, ◌⊎◌, ℕ, ◌+◌, ◌<◌, ◌≤◌, ◌==◌, cond, List, [], ◌∷◌, ◌++◌, length, Some, IfSome, IsSome}
 use Rattle.rubis_schema.specs.declared.limits.TheConstants.{COUNTED_MAX}
 use Rattle.rubis_schema.specs.declared.refusals.Refusal.TheVariants.{NotOurs}
 use Rattle.rubis_message.specs.Message.{Message}
@@ -125,3 +125,26 @@ ProcessesAgree =
 abbrev pub ProcessesKnowTheirOwn : Type 0
 ProcessesKnowTheirOwn =
     OfProcesses (λ sites keep readings. (i n : ℕ) → i < sites → ¬ (Has (refused_row n NotOurs) (answers_of sites keep readings i)))
+
+-- ---- everything delivered, everything equal
+
+-- the process has read each message that the processes sent, but for its own
+abbrev pub HasReadAll : ℕ → (ℕ → ℕ) → List Reading → ℕ → Type 0
+HasReadAll sites keep readings i = (fields : List (List ℕ)) (m : Message) → WasSent sites keep readings fields
+    → packet_of sites fields ≡ Some (packet.Msg m) → Has fields (read_by i readings) ⊎ (m.stamp.id.site ≡ i)
+
+-- it keeps as many messages as were sent: some list of that length at most has them all
+abbrev pub KeepsAll : ℕ → (ℕ → ℕ) → List Reading → ℕ → Type 0
+KeepsAll sites keep readings i = (all : List Message) × ((m : Message) → IsSentMessage sites keep readings m → Has m all) × (length all ≤ keep i)
+
+-- nothing waits at a site in that state, and its log has exactly the messages that the processes sent
+pub record HasExactlySent (sites : ℕ) (keep : ℕ → ℕ) (readings : List Reading) (s : Replica) : Type 0 where
+  pub none_waits : s.waiting ≡ []
+  pub released : (m : Message) → IsSentMessage sites keep readings m ↔ Has m s.log
+
+-- so processes that have read all messages have released all of them, and have equal tables, whatever they were asked meanwhile
+abbrev pub ProcessesConverge : Type 0
+ProcessesConverge = OfProcesses (λ sites keep readings. (i j : ℕ) → i < sites → j < sites → HasReadAll sites keep readings i → HasReadAll sites keep readings j
+    → KeepsAll sites keep readings i → KeepsAll sites keep readings j
+    → HasExactlySent sites keep readings (state_of sites keep readings i) × HasExactlySent sites keep readings (state_of sites keep readings j)
+    × ((fold_of (cores (state_of sites keep readings i).log)).tables ≡ (fold_of (cores (state_of sites keep readings j).log)).tables))

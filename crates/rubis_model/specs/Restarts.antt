@@ -5,8 +5,9 @@ use Rattle.rubis_message.specs.Readings.{packet_of}
 use Rattle.rubis_message.specs.declared.answers.Verdict.TheVariants.{Agree}
 use Rattle.rubis_message.specs.declared.tokens.Packet.{Packet}
 use Rattle.rubis_model.specs.Answers.{send_row}
+use Rattle.rubis_model.specs.Log.{cores, fold_of}
 use Rattle.rubis_model.specs.Logs.{Log, shown_rows}
-use Rattle.rubis_model.specs.Processes.{Carried, Reading, WasSent, process, read_by, site_after, state_of}
+use Rattle.rubis_model.specs.Processes.{Carried, HasExactlySent, HasReadAll, KeepsAll, Reading, WasSent, process, read_by, site_after, state_of}
 use Rattle.rubis_model.specs.Runs.{answers, input_of, input_step, output_of}
 use Rattle.rubis_model.specs.Settle.{Has}
 use Rattle.rubis_model.specs.Site.{Place, Replica, opening_at}
@@ -43,6 +44,10 @@ read_on i so_far (Replays j fields ∷ rest) = read_on i (cond (j == i) (so_far 
 abbrev pub has_read : ℕ → List Moment → List (List (List ℕ))
 has_read i moments = read_on i [] moments
 
+-- the state of the process, from what it has read since its last start
+abbrev pub state_since_start : ℕ → (ℕ → ℕ) → List Moment → ℕ → Replica
+state_since_start sites keep moments i = site_after (process sites keep i) (opening_at i) 1 (has_read i moments)
+
 -- `short` is `full` without some of the records that change nothing where they are read, from state s on
 abbrev pub IsShortened : Place → Replica → List (List (List ℕ)) → List (List (List ℕ)) → Type 0
 IsShortened p s short [] = short ≡ []
@@ -77,7 +82,7 @@ CarriedWithRestarts sites keep moments = (before later : List Moment) (i : ℕ) 
 pub record NeverStopped (sites : ℕ) (keep : ℕ → ℕ) (moments : List Moment) : Type 0 where
   pub carried : Carried sites keep (recorded moments)
   pub states : (i : ℕ) (before later : List Moment) → moments ≡ before ++ later → (first rest : List Reading) × (recorded moments ≡ first ++ rest)
-      × (site_after (process sites keep i) (opening_at i) 1 (has_read i before) ≡ state_of sites keep first i)
+      × (state_since_start sites keep before i ≡ state_of sites keep first i)
   pub sent : (fields : List (List ℕ)) → WasEverSent sites keep moments fields ↔ WasSent sites keep (recorded moments) fields
 
 abbrev pub RestartsChangeNothing : Type 0
@@ -91,7 +96,7 @@ pub record WasLogSinceStart (sites : ℕ) (keep : ℕ → ℕ) (moments : List M
   pub later : List Moment
   pub parts : moments ≡ before ++ later
   pub within : log.site < sites
-  pub messages : log.messages ≡ (site_after (process sites keep log.site) (opening_at log.site) 1 (has_read log.site before)).log
+  pub messages : log.messages ≡ (state_since_start sites keep before log.site).log
   pub rows : IfSome log.rows (λ rows. rows ≡ shown_rows log.messages)
 
 -- so the verdict on their logs, each as it was at any moment, before or after restarts, is Agree
@@ -99,6 +104,21 @@ abbrev pub RestartedAgree : Type 0
 RestartedAgree =
     (sites : ℕ) (keep : ℕ → ℕ) (moments : List Moment) → 1 ≤ sites → sites ≤ COUNTED_MAX → ((i : ℕ) → keep i ≤ 1000000) → AreReplayed sites keep moments
     → CarriedWithRestarts sites keep moments → (logs : List Log) → ((log : Log) → Has log logs → WasLogSinceStart sites keep moments log) → verdict logs ≡ Agree
+
+-- the process has read its whole recording again, perhaps without records that changed nothing
+abbrev pub IsLevel : ℕ → (ℕ → ℕ) → List Moment → ℕ → Type 0
+IsLevel sites keep moments i = IsShortened (process sites keep i) (opening_at i) (has_read i moments) (read_by i (recorded moments))
+
+-- so processes that have read all messages have released all of them, and have equal tables, however often they were restarted
+abbrev pub RestartedConverge : Type 0
+RestartedConverge = (sites : ℕ) (keep : ℕ → ℕ) (moments : List Moment) → 1 ≤ sites → sites ≤ COUNTED_MAX → ((i : ℕ) → keep i ≤ 1000000)
+    → AreReplayed sites keep moments → CarriedWithRestarts sites keep moments → (i j : ℕ) → i < sites → j < sites
+    → IsLevel sites keep moments i → IsLevel sites keep moments j
+    → HasReadAll sites keep (recorded moments) i → HasReadAll sites keep (recorded moments) j
+    → KeepsAll sites keep (recorded moments) i → KeepsAll sites keep (recorded moments) j
+    → HasExactlySent sites keep (recorded moments) (state_since_start sites keep moments i)
+    × HasExactlySent sites keep (recorded moments) (state_since_start sites keep moments j)
+    × ((fold_of (cores (state_since_start sites keep moments i).log)).tables ≡ (fold_of (cores (state_since_start sites keep moments j).log)).tables)
 
 -- ---- when the conditions hold
 
@@ -123,3 +143,10 @@ RecordingsReplay = (sites j : ℕ) (keep : ℕ → ℕ) (moments : List Moment) 
 -- the recording itself is a case of this
 abbrev pub NothingIsLeftOut : Type 0
 NothingIsLeftOut = (p : Place) (s : Replica) (records : List (List (List ℕ))) → IsShortened p s records records
+
+-- and a process that has read its whole recording again may read a new record, if that is a packet only one that was sent
+abbrev pub NewRecordsAreRead : Type 0
+NewRecordsAreRead = (sites j : ℕ) (keep : ℕ → ℕ) (moments : List Moment) (fields : List (List ℕ)) → AreReplayed sites keep moments → CarriedWithRestarts sites keep moments
+    → IsLevel sites keep moments j → ((p : Packet) → packet_of sites fields ≡ Some p → WasEverSent sites keep moments fields)
+    → AreReplayed sites keep (moments ++ Reads j fields ∷ []) × CarriedWithRestarts sites keep (moments ++ Reads j fields ∷ [])
+    × IsLevel sites keep (moments ++ Reads j fields ∷ []) j

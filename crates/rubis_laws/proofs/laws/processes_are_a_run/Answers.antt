@@ -1,6 +1,7 @@
 use Rattle.rubis_laws.proofs.OwnMessages.{processes_own}
 use Rattle.rubis_laws.proofs.ProcessLaws.{processes_agree, processes_in_run, processes_keep, processes_same_tables}
 use Rattle.rubis_laws.proofs.Processes.{processes_run}
+use Rattle.rubis_laws.proofs.ProcessesConverging.{processes_converge}
 use Rattle.rubis_laws.proofs.laws.processes_are_a_run.Goals as goal
 
 pub returns-clause-run : goal.returns-clause-run
@@ -20,3 +21,6 @@ returns-clause-audits c = processes_agree
 
 pub returns-clause-own : goal.returns-clause-own
 returns-clause-own c = processes_own
+
+pub returns-clause-converge : goal.returns-clause-converge
+returns-clause-converge c = processes_converge

@@ -1,5 +1,7 @@
 use Rattle.rubis_laws.proofs.Processes.{answers_stay}
 use Rattle.rubis_laws.proofs.Restarts.{nothing_left_out, readings_are_moments, recordings_replay, restarted_agree, restarts_change_nothing}
+use Rattle.rubis_laws.proofs.ProcessesConverging.{restarted_converge}
+use Rattle.rubis_laws.proofs.NewRecords.{new_records_are_read}
 use Rattle.rubis_laws.proofs.laws.restarts_change_nothing.Goals as goal
 
 pub returns-clause-answers : goal.returns-clause-answers
@@ -19,3 +21,9 @@ returns-clause-recordings c = recordings_replay
 
 pub returns-clause-whole : goal.returns-clause-whole
 returns-clause-whole c = nothing_left_out
+
+pub returns-clause-converge : goal.returns-clause-converge
+returns-clause-converge c = restarted_converge
+
+pub returns-clause-new : goal.returns-clause-new
+returns-clause-new c = new_records_are_read
