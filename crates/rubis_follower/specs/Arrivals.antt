@@ -1,20 +1,12 @@
--- Messages that arrive at a site one after the other, and what it makes of them.
-use Rattle.std.specs.Prelude.{◌≡◌, ◌<◌, ◌++◌, ℕ, List, [], ◌∷◌, length, Result}
+-- Messages that arrive at a site one after the other: how many of them it took in, and why not all.
+use Rattle.std.specs.Prelude.{◌≡◌, ◌<◌, ◌++◌, ℕ, List, length, Result}
 use Rattle.rubis_schema.specs.declared.refusals.Refusal.{Refusal}
 use Rattle.rubis_message.specs.Message.{Message}
 use Rattle.rubis_message.specs.declared.answers.Arrival.{Arrival}
-use Rattle.rubis_model.specs.Site.{Place, Replica, arrived}
+pub use Rattle.rubis_model.specs.Arrivals.{after_all, answers_to}
+use Rattle.rubis_model.specs.Site.{Place, Replica}
 use Rattle.rubis_follower.specs.declared.faults.Fault.{Fault}
 use Rattle.rubis_follower.specs.declared.faults.Fault.TheVariants.{Refused, Behind, Memory}
-
--- what a site comes to by messages that arrive, and what it answers to each
-abbrev pub after_all : Place → Replica → List Message → Replica
-after_all p s [] = s
-after_all p s (m ∷ ms) = after_all p (arrived p s m).0 ms
-
-abbrev pub answers_to : Place → Replica → List Message → List (Result Arrival Refusal)
-answers_to p s [] = []
-answers_to p s (m ∷ ms) = (arrived p s m).1 ∷ answers_to p (arrived p s m).0 ms
 
 -- the first of the messages were taken in, and each was answered; the others are the rest
 pub record TakesFirst (p : Place) (old new : Replica) (messages : List Message) (answers : List (Result Arrival Refusal)) (rest : List Message) : Type 0 where

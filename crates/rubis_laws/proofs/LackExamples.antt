@@ -8,7 +8,8 @@ use Rattle.rubis_shadow.specs.declared.shadows.Shadow.TheVariants as shadow
 use Rattle.rubis_message.specs.Message.{Message}
 use Rattle.rubis_message.specs.declared.answers.Arrival.TheVariants as arrival
 use Rattle.rubis_message.specs.declared.answers.Verdict.TheVariants.{Agree}
-use Rattle.rubis_model.specs.Lack.{after, answers_to, awaited, awaited_red, lacked, merged}
+use Rattle.rubis_model.specs.Arrivals.{after_all, answers_to}
+use Rattle.rubis_model.specs.Lack.{awaited, awaited_red, lacked, merged}
 use Rattle.rubis_model.specs.Logs.{Log}
 use Rattle.rubis_model.specs.Site.{Place, Replica, opening_at}
 use Rattle.rubis_model.specs.Verdict.{verdict}
@@ -64,7 +65,7 @@ replica log waiting = record { log = log; waiting = waiting; held = None; last =
 second_is_sent : answers_to (at 1) (replica (ann ∷ chair ∷ []) []) (lacked logs (ann ∷ chair ∷ [])) ≡ Ok (arrival.Released 1) ∷ Ok (arrival.Released 1) ∷ []
 second_is_sent = refl
 
-second_has_all : after (at 1) (replica (ann ∷ chair ∷ []) []) (lacked logs (ann ∷ chair ∷ [])) ≡ replica (ann ∷ chair ∷ lamp ∷ bob ∷ []) []
+second_has_all : after_all (at 1) (replica (ann ∷ chair ∷ []) []) (lacked logs (ann ∷ chair ∷ [])) ≡ replica (ann ∷ chair ∷ lamp ∷ bob ∷ []) []
 second_has_all = refl
 
 -- ---- each premise is needed

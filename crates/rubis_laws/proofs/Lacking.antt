@@ -12,7 +12,8 @@ use Rattle.rubis_message.specs.Message.{Message}
 use Rattle.rubis_message.specs.declared.answers.Arrival.{Arrival}
 use Rattle.rubis_message.specs.declared.answers.Arrival.TheVariants as arrival
 use Rattle.rubis_model.specs.Audit.{AreFaultless, Logged}
-use Rattle.rubis_model.specs.Lack.{is_among, firsts, merged, lacked, completed, LacksTheRest, after, answers_to, Completes, LackIsReleased}
+use Rattle.rubis_model.specs.Arrivals.{after_all, answers_to}
+use Rattle.rubis_model.specs.Lack.{is_among, firsts, merged, lacked, completed, LacksTheRest, Completes, LackIsReleased}
 use Rattle.rubis_model.specs.Logs.{Log}
 use Rattle.rubis_model.specs.Order.{Released, StandsBefore}
 use Rattle.rubis_model.specs.Settle.{Has, Ready, counted, reds, settle}
@@ -283,7 +284,7 @@ arrives p log held last m r other room =
     longer e = let a = length-append log (m ∷ []) in omega (arith, e, a)
 
 abbrev Ends : Place → List Message → Option ℕ → ℕ → List Message → Type 0
-Ends p log held last more = (answers_to p (quiet log held last) more ≡ map (λ m. Ok (arrival.Released 1)) more) × (after p (quiet log held last) more ≡ quiet (log ++ more) held last)
+Ends p log held last more = (answers_to p (quiet log held last) more ≡ map (λ m. Ok (arrival.Released 1)) more) × (after_all p (quiet log held last) more ≡ quiet (log ++ more) held last)
 
 all_arrive : (p : Place) (log : List Message) (held : Option ℕ) (last : ℕ) (more : List Message) → Released (reverse (log ++ more))
     → ((m : Message) → Has m more → m.stamp.id.site ≢ p.site) → length (log ++ more) ≤ p.keep → Ends p log held last more
@@ -292,7 +293,7 @@ all_arrive p log held last (m ∷ more) r others room =
     let one = arrives p log held last m (released_front log more m r) (others m (inl refl)) (let a = length-append log (m ∷ more) in omega (arith, a, room)) in
     let rest = all_arrive p (log ++ m ∷ []) held last more (released_on log more m r) (λ x h. others x (inr h)) (subst (λ q. length q ≤ p.keep) (sym (append_assoc log (m ∷ []) more)) room) in (
       (λ i. (one i).1 ∷ answers_to p (one i).0 more) ∙ ap (λ q. Ok (arrival.Released 1) ∷ q) rest.0,
-      ap (λ (q : Replica × Result Arrival Refusal). after p q.0 more) one ∙ rest.1 ∙ ap (λ q. quiet q held last) (append_assoc log (m ∷ []) more),
+      ap (λ (q : Replica × Result Arrival Refusal). after_all p q.0 more) one ∙ rest.1 ∙ ap (λ q. quiet q held last) (append_assoc log (m ∷ []) more),
     )
 
 -- ---- logs that pass the checks
@@ -366,7 +367,7 @@ module _ (logs : List Log) (f : AreFaultless logs) where
   completes p s r on w others room =
       let a = all_arrive p s.log s.held s.last (lacked logs s.log) (completed_released s.log r on) others room in record {
         answers = subst (λ q. answers_to p (record s { waiting = q }) (lacked logs s.log) ≡ map (λ m. Ok (arrival.Released 1)) (lacked logs s.log)) (sym w) a.0;
-        state = subst (λ q. after p (record s { waiting = q }) (lacked logs s.log) ≡ record s { log = completed logs s.log; waiting = q }) (sym w) a.1;
+        state = subst (λ q. after_all p (record s { waiting = q }) (lacked logs s.log) ≡ record s { log = completed logs s.log; waiting = q }) (sym w) a.1;
         all = completed_all s.log r on;
       }
 

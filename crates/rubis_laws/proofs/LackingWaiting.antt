@@ -15,7 +15,8 @@ use Rattle.rubis_message.specs.declared.answers.Happened.{Happened}
 use Rattle.rubis_message.specs.declared.tokens.Packet.TheVariants as packet
 use Rattle.rubis_model.specs.Audit.{Logged}
 use Rattle.rubis_model.specs.Convergence.{message_count}
-use Rattle.rubis_model.specs.Lack.{lacked, after, answers_to, IsTakenIn, LackNeverWaits}
+use Rattle.rubis_model.specs.Arrivals.{after_all, answers_to}
+use Rattle.rubis_model.specs.Lack.{lacked, IsTakenIn, LackNeverWaits}
 use Rattle.rubis_model.specs.Laws.{Sent}
 use Rattle.rubis_model.specs.Order.{Released}
 use Rattle.rubis_model.specs.Settle.{Has}
@@ -131,7 +132,7 @@ module _ (keep : ℕ) (few : keep ≤ 1000000) (w : World) (s : Sound w) (r : Al
       (λ ec. taken_of (length (after_came (site w i) m).log - length (site w i).log) (released_now ea eb ec))))
 
 abbrev Taken : Place → Replica → List Message → List Message → Type 0
-Taken p s front more = ((a : Result Arrival Refusal) → Has a (answers_to p s more) → IsTakenIn a) × ((x : Message) → Has x front ⊎ Has x more → Has x (after p s more).log)
+Taken p s front more = ((a : Result Arrival Refusal) → Has a (answers_to p s more) → IsTakenIn a) × ((x : Message) → Has x front ⊎ Has x more → Has x (after_all p s more).log)
 
 all_taken : (keep : ℕ) → keep ≤ 1000000 → (more front : List Message) (w : World) (i : ℕ) (p : Place) → Sound w → AllRest w → i < length w.sites → message_count w.sent ≤ keep
     → Released (reverse (front ++ more)) → ((x : Message) → Has x more → Sent w x) → ((x : Message) → Has x front → Has x (site w i).log) → place keep w i ≡ p

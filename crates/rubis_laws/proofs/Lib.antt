@@ -71,3 +71,4 @@ pub mod Rebuilt
 pub mod RebuiltSites
 pub mod RebuildExamples
 pub mod RebuildInputs
+pub mod GivenAll

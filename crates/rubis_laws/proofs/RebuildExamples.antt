@@ -20,7 +20,8 @@ use Rattle.rubis_generate.specs.Lookup.{Rows}
 use Rattle.rubis_model.specs.Laws.{Sent}
 use Rattle.rubis_model.specs.Log.{cores}
 use Rattle.rubis_model.specs.Meaning.{meaning_row}
-use Rattle.rubis_model.specs.Rebuild.{IsRebuilt, ask_of, given, holding, lacking, prepared, rebuilt, sent_again, sent_by, sent_here, sends_as}
+use Rattle.rubis_model.specs.Arrivals.{after_all}
+use Rattle.rubis_model.specs.Rebuild.{IsRebuilt, ask_of, holding, lacking, prepared, rebuilt, sent_again, sent_by, sent_here, sends_as}
 use Rattle.rubis_model.specs.Settle.{Has}
 use Rattle.rubis_model.specs.Site.{Place, Replica, asked, generating, opening_at, passed, rows_at, standing_of}
 use Rattle.rubis_model.specs.System.{World, Event, AreEvents, site, run, start}
@@ -239,7 +240,7 @@ abbrev without_messages : Place → List Token → List Message → Replica → 
 without_messages p ts all s m = holding p ts s
 
 abbrev without_token : Place → List Token → List Message → Replica → Message → Replica
-without_token p ts all s m = given p s (lacking p.site s.log m all)
+without_token p ts all s m = after_all p s (lacking p.site s.log m all)
 
 none_sent : (ps : List Packet) → ps ≡ [] → ps ≡ packet.Msg bid ∷ [] → ⊥
 none_sent ps e f = absurd (cc)

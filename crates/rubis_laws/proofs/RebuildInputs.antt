@@ -8,7 +8,8 @@ use Rattle.rubis_message.specs.declared.requests.Request.TheVariants as request
 use Rattle.rubis_message.specs.declared.tokens.Packet.{Packet}
 use Rattle.rubis_message.specs.declared.tokens.Packet.TheVariants as packet
 use Rattle.rubis_message.specs.declared.tokens.Token.{Token}
-use Rattle.rubis_model.specs.Rebuild.{InputsRebuild, after_inputs, ask_of, given, holding, inputs_before, inputs_for, inputs_to_rebuild, is_lacking, lacking, next_token, prepared, sent_again, sent_on, sent_on_inputs, token_as, token_before, with_token}
+use Rattle.rubis_model.specs.Arrivals.{after_all}
+use Rattle.rubis_model.specs.Rebuild.{InputsRebuild, after_inputs, ask_of, holding, inputs_before, inputs_for, inputs_to_rebuild, is_lacking, lacking, next_token, prepared, sent_again, sent_on, sent_on_inputs, token_as, token_before, with_token}
 use Rattle.rubis_model.specs.Runs.{Input, input_step}
 use Rattle.rubis_model.specs.Runs.Input.{Asked, Came}
 use Rattle.rubis_model.specs.Settle.{Has}
@@ -35,7 +36,7 @@ lead_on p s t u xs ys a b = (
   sent_append p s xs ys ∙ ap (λ ps. ps ++ sent_on_inputs p (after_inputs p s xs) ys) a.1 ∙ ap (λ r. sent_on_inputs p r ys) a.0 ∙ b.1,
 )
 
-messages_lead : (p : Place) (s : Replica) (us : List Message) → LeadTo p s (map (λ u. Came (packet.Msg u)) us) (given p s us)
+messages_lead : (p : Place) (s : Replica) (us : List Message) → LeadTo p s (map (λ u. Came (packet.Msg u)) us) (after_all p s us)
 messages_lead p s [] = (refl, refl)
 messages_lead p s (u ∷ us) = messages_lead p (arrived p s u).0 us
 
@@ -53,7 +54,7 @@ holding_leads p tokens s =
 
 prepared_leads : (p : Place) (tokens : List Token) (all : List Message) (s : Replica) (m : Message) → LeadTo p s (inputs_before p tokens all s m) (prepared p tokens all s m)
 prepared_leads p tokens all s m =
-    let g = given p s (lacking p.site s.log m all) in
+    let g = after_all p s (lacking p.site s.log m all) in
     lead_on p s g (prepared p tokens all s m) (map (λ u. Came (packet.Msg u)) (lacking p.site s.log m all)) (cond (is_red m.shadow) (token_before p tokens g) [])
     (messages_lead p s (lacking p.site s.log m all))
     (either_leads p g (holding p tokens g) g (token_before p tokens g) [] (is_red m.shadow) (holding_leads p tokens g) (refl, refl))
@@ -105,8 +106,8 @@ module _ (p : Place) (sent : List Packet) (all : List Message) (tokens : List To
   inputs_were s (packet.Msg m) x h =
       ⊎_elim (λ k. ⊎_elim
       (λ q. let u = in_map x (lacking p.site s.log m all) q in subst (λ y. Has y sent) (sym u.2) (were u.0 (filter_has (is_lacking p.site s.log m) u.0 all u.1).0))
-      (in_either (Came x) (token_before p tokens (given p s (lacking p.site s.log m all))) [] (is_red m.shadow) (Has x sent) (before_was (given p s (lacking p.site s.log m all)) x) (λ q. absurd q))
-      (has_append (Came x) (map (λ u. Came (packet.Msg u)) (lacking p.site s.log m all)) (cond (is_red m.shadow) (token_before p tokens (given p s (lacking p.site s.log m all))) []) k))
+      (in_either (Came x) (token_before p tokens (after_all p s (lacking p.site s.log m all))) [] (is_red m.shadow) (Has x sent) (before_was (after_all p s (lacking p.site s.log m all)) x) (λ q. absurd q))
+      (has_append (Came x) (map (λ u. Came (packet.Msg u)) (lacking p.site s.log m all)) (cond (is_red m.shadow) (token_before p tokens (after_all p s (lacking p.site s.log m all))) []) k))
       (λ k. absurd (not_asked x (request.Ask (ask_of all m.shadow)) k))
       (has_append (Came x) (inputs_before p tokens all s m) (Asked (request.Ask (ask_of all m.shadow)) ∷ []) h)
   inputs_were s (packet.Token t) x h =

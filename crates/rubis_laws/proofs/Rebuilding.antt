@@ -16,7 +16,8 @@ use Rattle.rubis_message.specs.declared.tokens.Packet.{Packet}
 use Rattle.rubis_message.specs.declared.tokens.Packet.TheVariants as packet
 use Rattle.rubis_model.specs.Laws.{Sent}
 use Rattle.rubis_model.specs.Order.{Released}
-use Rattle.rubis_model.specs.Rebuild.{InPlaceOf, given}
+use Rattle.rubis_model.specs.Arrivals.{after_all}
+use Rattle.rubis_model.specs.Rebuild.{InPlaceOf}
 use Rattle.rubis_model.specs.Settle.{Has, Settles, counted, reds, settle}
 use Rattle.rubis_model.specs.Settle.Settles.{Rest, Release}
 use Rattle.rubis_model.specs.Site.{Place, Replica, opening_at, settled, not_ours, is_repeat, is_full, after_came, arrived, asked, took, passed}
@@ -240,7 +241,7 @@ spot n keep i = record { site = i; sites = n; keep = keep }
 pub record Gave (n keep i : ℕ) (w v : World) (us : List Message) : Type 0 where
   pub next : World
   pub fed : Fed n keep i w next
-  pub state : site next i ≡ given (spot n keep i) (site v i) us
+  pub state : site next i ≡ after_all (spot n keep i) (site v i) us
   pub had : (x : Message) → Has x us ⊎ Had (site v i) x → Had (site next i) x
   pub held : (site next i).held ≡ (site v i).held
   pub last : (site next i).last ≡ (site v i).last
@@ -309,7 +310,7 @@ module _ (n keep i : ℕ) (some : 1 ≤ n) (few : keep ≤ 1000000) (inside : i 
       let k = give_all room us g.next g.fed (λ x h. each x (inr h)) in record {
         next = k.next;
         fed = k.fed;
-        state = k.state ∙ ap (λ s. given (spot n keep i) s us) g.state;
+        state = k.state ∙ ap (λ s. after_all (spot n keep i) s us) g.state;
         had = λ x h. ⊎_elim (λ q. ⊎_elim (λ c. k.had x (inr (g.had x (inl (inl c))))) (λ c. k.had x (inl c)) q) (λ q. k.had x (inr (g.had x (inr q)))) h;
         held = k.held ∙ g.held;
         last = k.last ∙ g.last;

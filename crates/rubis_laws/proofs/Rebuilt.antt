@@ -27,7 +27,8 @@ use Rattle.rubis_model.specs.Checks.{SameSet}
 use Rattle.rubis_model.specs.Laws.{Sent}
 use Rattle.rubis_model.specs.Log.{cores}
 use Rattle.rubis_model.specs.Order.{Precedes}
-use Rattle.rubis_model.specs.Rebuild.{Concerns, InPlaceOf, ask_of, given, holding, is_lacking, lacking, next_token, prepared, sends_as, sent_again, sooner, with_token}
+use Rattle.rubis_model.specs.Arrivals.{after_all}
+use Rattle.rubis_model.specs.Rebuild.{Concerns, InPlaceOf, ask_of, holding, is_lacking, lacking, next_token, prepared, sends_as, sent_again, sooner, with_token}
 use Rattle.rubis_model.specs.Settle.{Has, counted, reds, settle}
 use Rattle.rubis_model.specs.Site.{Place, Replica, opening_at, made, after_made, red_for, issued_after, counts, generating, rows_at, standing_of, asked, took}
 use Rattle.rubis_model.specs.Sound.{Sound}
@@ -301,7 +302,7 @@ module _ (n keep i : ℕ) (some : 1 ≤ n) (few : keep ≤ 1000000) (inside : i 
       next = give.next;
       fed = give.fed;
       caught = caught;
-      state = give.state ∙ sym (ap (λ b. cond b (holding (spot n keep i) tokens (given (spot n keep i) (site v i) (lacking i (site v i).log (made (place keep w i) (site w i) x) all))) (given (spot n keep i) (site v i) (lacking i (site v i).log (made (place keep w i) (site w i) x) all))) r);
+      state = give.state ∙ sym (ap (λ b. cond b (holding (spot n keep i) tokens (after_all (spot n keep i) (site v i) (lacking i (site v i).log (made (place keep w i) (site w i) x) all))) (after_all (spot n keep i) (site v i) (lacking i (site v i).log (made (place keep w i) (site w i) x) all))) r);
       red = λ q. absurd (true≢false (sym q ∙ r));
       token = kept;
     }
@@ -312,7 +313,7 @@ module _ (n keep i : ℕ) (some : 1 ≤ n) (few : keep ≤ 1000000) (inside : i 
           fed = h.fed;
           caught = record { there = λ u q. subst (Has u) (sym h.log) (caught.there u q); none_waits = h.waiting ∙ caught.none_waits };
           state = h.state ∙ ap (holding (spot n keep i) tokens) give.state
-              ∙ sym (ap (λ b. cond b (holding (spot n keep i) tokens (given (spot n keep i) (site v i) (lacking i (site v i).log (made (place keep w i) (site w i) x) all))) (given (spot n keep i) (site v i) (lacking i (site v i).log (made (place keep w i) (site w i) x) all))) r);
+              ∙ sym (ap (λ b. cond b (holding (spot n keep i) tokens (after_all (spot n keep i) (site v i) (lacking i (site v i).log (made (place keep w i) (site w i) x) all))) (after_all (spot n keep i) (site v i) (lacking i (site v i).log (made (place keep w i) (site w i) x) all))) r);
           red = λ _. (h.held, h.last);
           token = inl (h.held, h.last);
         }

@@ -3,6 +3,7 @@ ghost use Rattle.rubis_model.specs.AgreedAudits.{AgreedAuditsAreSound};
 ghost use Rattle.rubis_model.specs.AuditRecords.{LinesAreReadAsWritten, LogsAreReadAsWritten};
 ghost use Rattle.rubis_model.specs.Convergence.{AllCanBeDelivered, AllHadAreReleased, DeliveredAreHad, DeliveringAllConverges, HavingAllConverges, MomentsAreReleased, NoMessageIsRefused};
 ghost use Rattle.rubis_model.specs.Forged.{NamesAreHeld, NamesStay, StockIsKept};
+ghost use Rattle.rubis_model.specs.Given.{GivenAreReleased, GivenConverge, GivenHaveTheTablesOfTheRun};
 ghost use Rattle.rubis_model.specs.Lack.{CompletedTablesAreEqual, LackIsReleased, LackIsReleasedInRuns, LackNeverWaits, LacksTheRest, OneRoundConverges, WaitingIsExplained};
 ghost use Rattle.rubis_model.specs.LackRecords.{LackFollowsTheAudit};
 ghost use Rattle.rubis_model.specs.Widening.{MeaningStays, VerdictStays, WidenedAreAmong};
@@ -62,6 +63,15 @@ pub fn every_run_converges()
     ensures delivered { DeliveringAllConverges }
     ensures taken { NoMessageIsRefused }
     ensures possible { AllCanBeDelivered }
+{}
+
+/// A new site that is given all messages of a run, one by one or many at a time, in any order and repeated at will, has released
+/// exactly these, and has the tables of each other such site, and of each site of the run that has released them. What `arrive`
+/// and `arrive_all` of a site promise is what it is given here, whatever its batch, shards and workers.
+pub fn given_sites_converge()
+    ensures released { GivenAreReleased }
+    ensures tables { GivenConverge }
+    ensures run { GivenHaveTheTablesOfTheRun }
 {}
 
 /// Of logs that pass the checks together, what a log lacks of the others is released by a site with that log in the order in

@@ -8,6 +8,7 @@ use Rattle.rubis_message.specs.Message.{Message, dep}
 use Rattle.rubis_message.specs.declared.answers.Arrival.{Arrival}
 use Rattle.rubis_message.specs.declared.answers.Arrival.TheVariants as arrival
 use Rattle.rubis_message.specs.declared.tokens.Packet.TheVariants as packet
+use Rattle.rubis_model.specs.Arrivals.{after_all, answers_to}
 use Rattle.rubis_model.specs.Audit.{AreAmong, AreFaultless, Logged}
 use Rattle.rubis_model.specs.Convergence.{AfterDeliveries, HasReleasedAll, message_count}
 use Rattle.rubis_model.specs.Laws.{EveryRun, Sent, WasLogOf, tables_at}
@@ -15,7 +16,7 @@ use Rattle.rubis_model.specs.Log.{cores, fold_of}
 use Rattle.rubis_model.specs.Logs.{Log}
 use Rattle.rubis_model.specs.Order.{Precedes, StandsBefore}
 use Rattle.rubis_model.specs.Settle.{Has, counted, reds}
-use Rattle.rubis_model.specs.Site.{Place, Replica, arrived}
+use Rattle.rubis_model.specs.Site.{Place, Replica}
 use Rattle.rubis_model.specs.System.{World, Event, packet_at, place, site}
 use Rattle.rubis_model.specs.System.Event.{Deliver}
 
@@ -50,21 +51,11 @@ LacksTheRest = (logs : List Log) → AreFaultless logs → (log : Log) → Has l
 
 -- ---- sending it
 
--- a site after these messages arrived, one after the other
-abbrev pub after : Place → Replica → List Message → Replica
-after p s [] = s
-after p s (m ∷ ms) = after p (arrived p s m).0 ms
-
--- what it answered to each
-abbrev pub answers_to : Place → Replica → List Message → List (Result Arrival Refusal)
-answers_to p s [] = []
-answers_to p s (m ∷ ms) = (arrived p s m).1 ∷ answers_to p (arrived p s m).0 ms
-
 -- a site to which all that its log lacks is sent releases each message as it arrives, and then has exactly the messages of
 -- the logs
 pub record Completes (logs : List Log) (p : Place) (s : Replica) : Type 0 where
   pub answers : answers_to p s (lacked logs s.log) ≡ map (λ m. Ok (arrival.Released 1)) (lacked logs s.log)
-  pub state : after p s (lacked logs s.log) ≡ record s { log = completed logs s.log }
+  pub state : after_all p s (lacked logs s.log) ≡ record s { log = completed logs s.log }
   pub all : (m : Message) → Has m (completed logs s.log) ↔ Logged logs m
 
 -- logs that pass the checks complete a site with one of these logs at which nothing waits, that keeps as many and made
@@ -93,7 +84,7 @@ abbrev pub LackNeverWaits : Type 0
 LackNeverWaits = EveryRun (λ w. (logs : List Log) → ((log : Log) → Has log logs → WasLogOf w log) → (log : Log) → Has log logs → log.site < length w.sites
     → log.messages ≡ (site w log.site).log → (keep : ℕ) → keep ≤ 1000000 → message_count w.sent ≤ keep
     → ((a : Result Arrival Refusal) → Has a (answers_to (place keep w log.site) (site w log.site) (lacked logs (site w log.site).log)) → IsTakenIn a)
-    × ((m : Message) → Logged logs m → Has m (after (place keep w log.site) (site w log.site) (lacked logs (site w log.site).log)).log))
+    × ((m : Message) → Logged logs m → Has m (after_all (place keep w log.site) (site w log.site) (lacked logs (site w log.site).log)).log))
 
 -- what logs that pass the checks come to by that has equal tables
 abbrev pub CompletedTablesAreEqual : Type 0

@@ -1,6 +1,7 @@
 pub mod Log
 pub mod Settle
 pub mod Site
+pub mod Arrivals
 pub mod Listings
 pub mod Answers
 pub mod Runs
@@ -32,3 +33,4 @@ pub mod Nicknames
 pub mod Lack
 pub mod LackRecords
 pub mod Rebuild
+pub mod Given

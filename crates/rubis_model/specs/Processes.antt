@@ -10,6 +10,7 @@ use Rattle.rubis_message.specs.declared.tokens.Packet.TheVariants as packet
 use Rattle.rubis_model.specs.Answers.{refused_row, send_row}
 use Rattle.rubis_model.specs.Checks.{SameSet}
 use Rattle.rubis_model.specs.Claims.{KeepInvariants, SerializeOneOrder}
+use Rattle.rubis_model.specs.Convergence.{HasExactly}
 use Rattle.rubis_model.specs.Laws.{InRun}
 use Rattle.rubis_model.specs.Log.{cores, fold_of}
 use Rattle.rubis_model.specs.Logs.{Log, shown_rows}
@@ -138,9 +139,8 @@ abbrev pub KeepsAll : ℕ → (ℕ → ℕ) → List Reading → ℕ → Type 0
 KeepsAll sites keep readings i = (all : List Message) × ((m : Message) → IsSentMessage sites keep readings m → Has m all) × (length all ≤ keep i)
 
 -- nothing waits at a site in that state, and its log has exactly the messages that the processes sent
-pub record HasExactlySent (sites : ℕ) (keep : ℕ → ℕ) (readings : List Reading) (s : Replica) : Type 0 where
-  pub none_waits : s.waiting ≡ []
-  pub released : (m : Message) → IsSentMessage sites keep readings m ↔ Has m s.log
+abbrev pub HasExactlySent : ℕ → (ℕ → ℕ) → List Reading → Replica → Type 0
+HasExactlySent sites keep readings s = HasExactly (IsSentMessage sites keep readings) s
 
 -- so processes that have read all messages have released all of them, and have equal tables, whatever they were asked meanwhile
 abbrev pub ProcessesConverge : Type 0

@@ -15,6 +15,7 @@ use Rattle.rubis_message.specs.declared.requests.Request.TheVariants as request
 use Rattle.rubis_message.specs.declared.tokens.Packet.{Packet}
 use Rattle.rubis_message.specs.declared.tokens.Packet.TheVariants as packet
 use Rattle.rubis_message.specs.declared.tokens.Token.{Token}
+use Rattle.rubis_model.specs.Arrivals.{after_all}
 use Rattle.rubis_model.specs.Laws.{Sent}
 use Rattle.rubis_model.specs.Log.{cores}
 use Rattle.rubis_model.specs.Meaning.{item_at}
@@ -22,7 +23,7 @@ use Rattle.rubis_model.specs.Order.{Precedes}
 use Rattle.rubis_model.specs.Runs.{Input, input_step}
 use Rattle.rubis_model.specs.Runs.Input.{Asked, Came, Neither}
 use Rattle.rubis_model.specs.Settle.{Has, counted}
-use Rattle.rubis_model.specs.Site.{Place, Replica, opening_at, asked, arrived, took, passed}
+use Rattle.rubis_model.specs.Site.{Place, Replica, opening_at, asked, took, passed}
 use Rattle.rubis_model.specs.System.{World, Event, AreEvents, site, place, sending, happens, run, start}
 use Rattle.rubis_model.specs.System.Event.{At, Deliver}
 
@@ -68,11 +69,6 @@ is_lacking i log m u =
 abbrev pub lacking : ℕ → List Message → Message → List Message → List Message
 lacking i log m all = filter (is_lacking i log m) all
 
--- these messages arrive, one after the other
-abbrev pub given : Place → Replica → List Message → Replica
-given p s [] = s
-given p s (m ∷ rest) = given p (arrived p s m).0 rest
-
 -- of two tokens the one with the smaller turn
 abbrev pub sooner : Token → Option Token → Token
 sooner t None = t
@@ -93,7 +89,7 @@ holding p tokens s = cond (is_some s.held) s (with_token p s (next_token p.site 
 
 -- the site that makes message m: with what m counts, and with the token if m is red
 abbrev pub prepared : Place → List Token → List Message → Replica → Message → Replica
-prepared p tokens all s m = cond (is_red m.shadow) (holding p tokens (given p s (lacking p.site s.log m all))) (given p s (lacking p.site s.log m all))
+prepared p tokens all s m = cond (is_red m.shadow) (holding p tokens (after_all p s (lacking p.site s.log m all))) (after_all p s (lacking p.site s.log m all))
 
 -- ---- the rebuilt site
 
@@ -163,7 +159,7 @@ token_before p tokens s = cond (is_some s.held) [] (token_as (next_token p.site 
 
 abbrev pub inputs_before : Place → List Token → List Message → Replica → Message → List Input
 inputs_before p tokens all s m =
-    map (λ u. Came (packet.Msg u)) (lacking p.site s.log m all) ++ cond (is_red m.shadow) (token_before p tokens (given p s (lacking p.site s.log m all))) []
+    map (λ u. Came (packet.Msg u)) (lacking p.site s.log m all) ++ cond (is_red m.shadow) (token_before p tokens (after_all p s (lacking p.site s.log m all))) []
 
 abbrev pub inputs_for : Place → List Token → List Message → Replica → Packet → List Input
 inputs_for p tokens all s (packet.Msg m) = inputs_before p tokens all s m ++ Asked (request.Ask (ask_of all m.shadow)) ∷ []
