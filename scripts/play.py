@@ -3,11 +3,12 @@
 
     scripts/play.py PROGRAM [FILE..]
 
-A conversation is a text file. Its first line is the command, `$ rubis site --sites 2`; a line that begins with `> ` is
-a record of the input, and the lines below it are the answers to it. Lines before the command that begin with `#` are
-notes. It is played under several settings of batch, shards and workers, which change no answer; what the command sets
-itself stays as it is. Lines before the command that begin with `% ` give the settings in place of these, as
-`% --batch 1 7 64 --workers 1 16`: each choice of a value for each option.
+A conversation is a text file of one command or several, each a run of its own. A line as `$ rubis site --sites 2` is the
+command; below it a line that begins with `> ` is a record of the input, and the lines below that are the answers to it.
+Lines that begin with `#` are notes. A command is played under several settings of batch, shards and workers, which change
+no answer; what it sets itself stays as it is. Lines before it that begin with `% ` give the settings in place of these, as
+`% --batch 1 7 64 --workers 1 16`: each choice of a value for each option. Lines between `* 4 3003` and `*` are repeated
+for each n from 4 to 3003, with the numbers for `{n}` and `{n-1}`.
 
 An example is a block of a page that begins with ```console: what follows `$ ` is run by a shell, and the lines below it
 are what it writes on standard output; its status has to be 0. The examples of a page are run one after the other in a new folder, which looks
@@ -19,6 +20,7 @@ With no FILE: all of conversations/, README.md and docs/. Each difference is tol
 how many were played. The status is 1 where something differed.
 """
 
+import dataclasses
 import itertools
 import os
 import pathlib
@@ -93,28 +95,78 @@ def settings_in(line: str) -> list[list[str]]:
     return [[part for pair in chosen for part in pair] for chosen in itertools.product(*options)]
 
 
-def play_conversation(program: pathlib.Path, path: pathlib.Path, name: str) -> int:
-    """Plays a conversation under each of its settings; how many those were."""
-    numbered = list(enumerate(path.read_text().splitlines(), 1))
-    own: list[list[str]] = []
-    while numbered and numbered[0][1].startswith(("#", "% ")):
-        line = numbered.pop(0)[1]
-        if line.startswith("% "):
-            own += settings_in(line[2:])
-    if not numbered or not numbered[0][1].startswith("$ rubis "):
+@dataclasses.dataclass
+class Run:
+    """A command of a conversation, its records and their answers; `last` is the last line of it in the file."""
+
+    words: list[str]
+    settings: list[list[str]]
+    last: int
+    records: list[str] = dataclasses.field(default_factory=list)
+    answers: list[tuple[int, str]] = dataclasses.field(default_factory=list)
+
+    def commands(self) -> list[list[str]]:
+        """The command under each of its settings."""
+        return [self.words + setting for setting in self.settings] or settings_of(self.words)
+
+    def play(self, program: pathlib.Path, name: str) -> None:
+        said = "".join(record + "\n" for record in self.records)
+        for command in self.commands():
+            shown = shlex.join(["rubis", *command])
+            done = subprocess.run([program, *command], input=said.encode(), capture_output=True, timeout=SECONDS)
+            compare(name, self.answers, self.last, done.stdout.decode("utf-8", "replace"), shown)
+            if done.returncode != 0:
+                raise Failed(f"{name}:{self.last}: {shown} ended with status {done.returncode}: {done.stderr.decode()}")
+
+
+def written_out(numbered: list[tuple[int, str]]) -> list[tuple[int, str]]:
+    """The lines of a file, each with its number, and those to repeat as often as they say."""
+    made: list[tuple[int, str]] = []
+    inside: list[tuple[int, str]] = []
+    turns = range(0)
+    for line, text in numbered:
+        if text == "*":
+            made += [(at, re.sub(r"{n(-1)?}", lambda found: str(n + int(found.group(1) or 0)), it)) for n in turns for at, it in inside]
+            inside, turns = [], range(0)
+        elif text.startswith("* "):
+            first, last = text.split()[1:]
+            turns = range(int(first), int(last) + 1)
+        elif turns:
+            inside.append((line, text))
+        else:
+            made.append((line, text))
+    return made
+
+
+def runs_of(path: pathlib.Path, name: str) -> list[Run]:
+    """The commands of a conversation, each with what follows it."""
+    runs: list[Run] = []
+    settings: list[list[str]] = []
+    for line, text in written_out(list(enumerate(path.read_text().splitlines(), 1))):
+        if text.startswith("% "):
+            settings += settings_in(text[2:])
+        elif text.startswith("$ rubis "):
+            runs.append(Run(shlex.split(text)[2:], settings, line))
+            settings = []
+        elif not text.startswith("#"):
+            if not runs:
+                raise Failed(f"{name}:{line}: the command is missing, as `$ rubis site`")
+            runs[-1].last = line
+            if text.startswith("> "):
+                runs[-1].records.append(text[2:])
+            else:
+                runs[-1].answers.append((line, text))
+    if not runs:
         raise Failed(f"{name}:1: the command is missing, as `$ rubis site`")
-    words = shlex.split(numbered.pop(0)[1])[2:]
-    said = "".join(text[2:] + "\n" for _, text in numbered if text.startswith("> "))
-    heard = [(line, text) for line, text in numbered if not text.startswith("> ")]
-    last = numbered[-1][0] if numbered else 1
-    commands = [words + setting for setting in own] or settings_of(words)
-    for command in commands:
-        shown = shlex.join(["rubis", *command])
-        done = subprocess.run([program, *command], input=said.encode(), capture_output=True, timeout=SECONDS)
-        compare(name, heard, last, done.stdout.decode("utf-8", "replace"), shown)
-        if done.returncode != 0:
-            raise Failed(f"{name}:{last}: {shown} ended with status {done.returncode}: {done.stderr.decode()}")
-    return len(commands)
+    return runs
+
+
+def play_conversation(program: pathlib.Path, path: pathlib.Path, name: str) -> int:
+    """Plays each command of a conversation under each of its settings; how many runs those were."""
+    runs = runs_of(path, name)
+    for run in runs:
+        run.play(program, name)
+    return sum(len(run.commands()) for run in runs)
 
 
 def examples_of(path: pathlib.Path) -> list[tuple[int, list[str], str, list[tuple[int, str]], int]]:

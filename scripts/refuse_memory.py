@@ -133,9 +133,11 @@ def library(folder: str) -> pathlib.Path:
 
 
 def conversation(name: str) -> tuple[list[str], list[str], list[list[str]]]:
-    """The words of its command, its records, and the lines that answer each of them (the first ones come before any)."""
+    """The words of its first command, its records, and the lines that answer each of them (the first ones come before any)."""
     words, records, answers = [], [], [[]]
     for line in (CONVERSATIONS / name).read_text().splitlines():
+        if words and line.startswith(("#", "$ ")):
+            break
         if line.startswith("$ rubis "):
             words = line.split()[2:]
         elif words and line.startswith("> "):
