@@ -1,0 +1,195 @@
+#!/usr/bin/env python3
+"""Runs a program on what no conversation can say: scripts/edge_runs.py PROGRAM
+
+- Records with bytes that are no text, with other ends of line, with quotes that stay open, and with a byte order mark.
+- A request with quotes, cut off after each of its bytes.
+- Input that fails: at once (it is a folder), and after four messages (a terminal that is gone).
+- Output that fails, and more records than a run may have: the greatest number, and one more.
+- Options at their greatest and least value and beyond, and the two faults of a command line that are the program's own.
+
+Each run has to write exactly what is said here, on standard output and on standard error, and to end with that status. Each
+difference is told; the last line says how many runs there were. The status is 1 where something differed."""
+
+import dataclasses
+import os
+import pathlib
+import pty
+import subprocess
+import sys
+import tty
+
+SECONDS = 120
+
+# How many records a run may have.
+MOST = 4_000_000
+
+ANN = b"reply,1,ok,0.1\nsend,msg,1,0,1,1,0,user,ann\n"
+
+
+@dataclasses.dataclass
+class Expected:
+    """A run: its command line and its input, and what it has to write; `said` is None for a text of clap's."""
+
+    words: str
+    text: bytes
+    wrote: bytes
+    status: int = 0
+    said: bytes | None = b""
+
+
+def malformed(*records: int) -> bytes:
+    """The answers to records that are outside the grammar."""
+    return b"".join(b"reply,%d,refused,1,BadRecord\n" % record for record in records)
+
+
+def odd_bytes() -> list[Expected]:
+    """Records that no text file shows as they are."""
+    twice = ANN + b"reply,2,refused,5,NickTaken\n"
+    item = b"user,ann\nitem,0.1,%s,7,1,100,0\n"
+    runs = [
+        (item % b"a\xff", ANN + malformed(2)),
+        (item % b"\x7f", ANN + malformed(2)),
+        (item % b"\x1f", ANN + malformed(2)),
+        (item % b"\x00", ANN + malformed(2)),
+        (item % b"~", ANN + b"reply,2,ok,0.2\nsend,msg,1,0,2,0,1,item,0.1,~,7,1,100,0\n"),
+        (b"user,an\xff\n", malformed(1)),
+        (b"comment,0.1,0.2,0.3,1,\xff\n", malformed(1)),
+        (b"\xff\n", malformed(1)),
+        (b"user,ann", ANN),
+        (b"user,ann\r\n", ANN),
+        (b"\n\nuser,ann\n", ANN),
+        (b"\r\n\r\nuser,ann\r\n\r\n", ANN),
+        (b"user,ann\ruser,ann\r", twice),
+        (b"\xef\xbb\xbfuser,ann\n", ANN),
+        (b"\xef\xbb\xbf\xef\xbb\xbfuser,ann\n", malformed(1)),
+        (b"user,ann\n\xef\xbb\xbfuser,ann\n", ANN + malformed(2)),
+        (b'"user","ann"\n', ANN),
+        (b'"us"er,"a"nn\n', ANN),
+        (b'user,"ann"', ANN),
+        (b'user,"ann', ANN),
+        (b'user,"ann\n', malformed(1)),
+        (b'user,"ann\nuser,bob\n', malformed(1)),
+        (b'user,a"nn"\n', malformed(1)),
+        (b"user, ann\n", malformed(1)),
+        (b",\n", malformed(1)),
+        (b'""\nuser,ann\n', malformed(1) + b"reply,2,ok,0.1\nsend,msg,1,0,1,1,0,user,ann\n"),
+    ]
+    return [Expected("site", text, wrote) for text, wrote in runs]
+
+
+def cut_off() -> list[Expected]:
+    """A request with quotes between two others, cut off after each byte: the last record is answered as far as it goes."""
+    item = b'item,0.1,"vase, ""blue""",7,1,100,0'
+    records = [b"user,ann", item, b"list,items,7"]
+    answers = {
+        b"user,a": b"reply,1,ok,0.1\nsend,msg,1,0,1,1,0,user,a\n",
+        b"user,an": b"reply,1,ok,0.1\nsend,msg,1,0,1,1,0,user,an\n",
+        b"user,ann": ANN,
+        item: b"reply,2,ok,0.2\nsend,msg,1,0,2,0,1," + item + b"\n",
+        b"list,items,7": b'reply,3,rows,1\nrow,item,0.2,0.1,"vase, ""blue""",7,1,0,100,0,0,none,0,open,none\n',
+    }
+    runs, text, wrote = [Expected("site", b"", b"")], b"", b""
+    for number, record in enumerate(records, 1):
+        for end in range(1, len(record) + 1):
+            runs.append(Expected("site", text + record[:end], wrote + answers.get(record[:end], malformed(number))))
+        text, wrote = text + record + b"\n", wrote + answers[record]
+        runs.append(Expected("site", text, wrote))
+    return runs
+
+
+def too_long() -> list[Expected]:
+    """Runs of as many records as there may be, and of one more."""
+    refused = malformed(*range(1, MOST + 1))
+    events = b"".join(b"world,%d,refused,30,BadEvent\n" % number for number in range(1, MOST + 1))
+    runs = []
+    for more, status, said in ((0, 0, b""), (1, 1, b"run fault: too long\n")):
+        many = MOST + more
+        runs += [
+            Expected("site", b"x\n" * many, refused, status, said),
+            Expected("world", b"x\n" * many, events, status, said),
+            Expected("audit", b"site,0\n" + b"row\n" * (many - 1), b"" if more else b"audit,Rows,1,0\n", status, said),
+            Expected("widen", b"site,0\n" * many, b"site,0\n" * MOST, status, said),
+        ]
+    return runs
+
+
+def command_lines() -> list[Expected]:
+    """Command lines with values at the ends of their ranges and beyond, and what else is wrong with one."""
+    good = [f"site --{option} {value}" for option, most in (("sites", 16), ("shards", 64), ("workers", 16), ("batch", 65536), ("keep", 1000000)) for value in (1, most)]
+    good += ["site --site 15 --sites 16", "world --sites 16 --shards 64 --workers 16 --batch 65536 --keep 1000000", "widen --sites 16 --to 16", "widen --to 1", "site --sites=2 --site=1"]
+    beyond = [f"site --{option} {value}" for option, most in (("sites", 16), ("shards", 64), ("workers", 16), ("batch", 65536), ("keep", 1000000)) for value in (0, most + 1)]
+    beyond += ["site --site 16 --sites 16", "world --sites 17", "audit --sites 17", "widen --to 17", "widen --to 0"]
+    wrong = ["", "frob", "user,ann", "--sites 2", "site extra", "site --frob 1", "site --to 3", "site --sites", "site --sites two"]
+    wrong += ["site --sites 2 --sites 2", "world --site 0", "audit --keep 1", "widen --site 0"]
+    fault = b"fault: site must be below sites\n"
+    own = [Expected(words, b"", b"", 2, fault) for words in ("site --site 1", "site --site 2 --sites 2", "site --site 7 --sites 3 --keep 5")]
+    own += [Expected(words, b"", b"", 2, b"fault: to must not be below sites\n") for words in ("widen --sites 3 --to 2", "widen --sites 16 --to 15")]
+    return [Expected(words, b"", b"") for words in good] + [Expected(words, b"", b"", 2, None) for words in beyond + wrong] + own
+
+
+def difference(expected: Expected, status: int, wrote: bytes, said: bytes) -> str | None:
+    """What is wrong with how a run ended, if anything."""
+    if status != expected.status:
+        return f"status {status}, not {expected.status}: {said[-200:]!r}"
+    if said != expected.said if expected.said is not None else not said:
+        return f"standard error has {said[-200:]!r}, not {expected.said!r}"
+    if wrote != expected.wrote:
+        return f"standard output ends in {wrote[-200:]!r}, not {expected.wrote[-200:]!r}"
+    return None
+
+
+def told(program: str, expected: Expected, **streams) -> str | None:
+    """Runs the program with that input, or with these streams, and says what is wrong, if anything."""
+    given = {} if "stdin" in streams else {"input": expected.text}
+    done = subprocess.run([program, *expected.words.split()], **{"stdout": subprocess.PIPE, "stderr": subprocess.PIPE, "timeout": SECONDS, **given, **streams})
+    wrong = difference(expected, done.returncode, done.stdout or b"", done.stderr)
+    return wrong and f"rubis {expected.words} < {expected.text[-60:]!r}: {wrong}"
+
+
+def failed_reads(program: str) -> list[str | None]:
+    """Input that can't be read."""
+    folder = os.open(pathlib.Path(program).parent, os.O_RDONLY)
+    runs = [told(program, Expected(words, b"", b"", 1, b"run fault: read\n"), stdin=folder) for words in ("site", "world", "audit", "widen")]
+    os.close(folder)
+    return runs
+
+
+def lost_terminals(program: str) -> list[str | None]:
+    """Input that fails behind four messages, which are answered first."""
+    text = b"".join(b"msg,1,0,%d,%d,%d:0,user,u%d\n" % (n, n, n - 1, n) for n in range(1, 5))
+    wrote = b"".join(b"reply,%d,released,1\n" % n for n in range(1, 5))
+    runs = []
+    for options in ("--batch 1 --workers 1", "--batch 64 --workers 1", "--batch 64 --workers 2", "--batch 3 --workers 4"):
+        reader, writer = pty.openpty()
+        tty.setraw(writer)
+        os.write(writer, text)
+        os.close(writer)
+        expected = Expected(f"site --site 1 --sites 2 {options}", text, wrote, 1, b"run fault: read\n")
+        runs.append(told(program, expected, stdin=reader))
+        os.close(reader)
+    return runs
+
+
+def failed_writes(program: str) -> list[str | None]:
+    """Output that can't be written; a run that has nothing to write is well all the same."""
+    fault = b"run fault: write\n"
+    runs = [("site", b"user,ann\n"), ("world", b"x\n"), ("audit", b""), ("widen", b"site,0\n")]
+    with open("/dev/full", "wb") as full:
+        wrong = [told(program, Expected(words, text, b"", 1, fault), stdout=full) for words, text in runs]
+        return wrong + [told(program, Expected(words, b"", b""), stdout=full) for words in ("site", "world", "widen")]
+
+
+def main() -> int:
+    program = str(pathlib.Path(sys.argv[1]).resolve())
+    answers = [told(program, expected) for expected in odd_bytes() + cut_off() + command_lines()]
+    answers += failed_reads(program) + lost_terminals(program) + failed_writes(program)
+    answers += [told(program, expected) for expected in too_long()]
+    faults = [answer for answer in answers if answer]
+    for fault in faults:
+        print(fault)
+    print(f"edge runs: {len(answers) - len(faults)} passed, {len(faults)} failed")
+    return 1 if faults else 0
+
+
+if __name__ == "__main__":
+    sys.exit(main())
