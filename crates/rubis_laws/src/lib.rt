@@ -3,6 +3,7 @@
 #![tactic(auto)]
 
 mod laws;
+mod limits;
 
 pub use laws::{
     agreed_logs_are_sound, audits_are_read_as_written, checked_logs_hold, decided_shadows_fit,
@@ -13,3 +14,4 @@ pub use laws::{
     restarts_change_nothing, sites_are_rebuilt, verdict_agrees_where_faultless,
     waiting_is_explained, what_is_lacking_completes,
 };
+pub use limits::limits_are_these_numbers;
