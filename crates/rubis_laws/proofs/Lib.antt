@@ -36,6 +36,8 @@ pub mod Verdicts
 pub mod Refusing
 pub mod ByMeaning
 pub mod Forged
+pub mod SiteStock
+pub mod Commuting
 pub mod AuditReadings
 pub mod Examples
 pub mod AuditExamples

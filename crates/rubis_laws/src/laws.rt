@@ -2,7 +2,8 @@
 ghost use Rattle.rubis_model.specs.AgreedAudits.{AgreedAuditsAreSound};
 ghost use Rattle.rubis_model.specs.AuditRecords.{LinesAreReadAsWritten, LogsAreReadAsWritten};
 ghost use Rattle.rubis_model.specs.Convergence.{AllCanBeDelivered, AllHadAreReleased, DeliveredAreHad, DeliveringAllConverges, HavingAllConverges, MomentsAreReleased, NoMessageIsRefused};
-ghost use Rattle.rubis_model.specs.Forged.{NamesAreHeld, NamesStay, StockIsKept};
+ghost use Rattle.rubis_model.specs.Commuting.{BlueMessagesCommute};
+ghost use Rattle.rubis_model.specs.Forged.{NamesAreHeld, NamesStay, SitesKeepStock, StockIsKept};
 ghost use Rattle.rubis_model.specs.Given.{GivenAreReleased, GivenConverge, GivenHaveTheTablesOfTheRun};
 ghost use Rattle.rubis_model.specs.Lack.{CompletedTablesAreEqual, LackIsReleased, LackIsReleasedInRuns, LackNeverWaits, LacksTheRest, OneRoundConverges, WaitingIsExplained};
 ghost use Rattle.rubis_model.specs.LackRecords.{LackFollowsTheAudit};
@@ -30,6 +31,12 @@ pub fn checked_logs_hold()
 /// The shadow of an ask that isn't refused at the tables of a log that passes the checks fits after it.
 pub fn decided_shadows_fit()
     ensures { DecidedShadowsFit }
+{}
+
+/// A blue message and another one may follow a log that passes the checks in either order, and the tables are the same: a restock
+/// and a purchase of the same item, too.
+pub fn blue_messages_commute()
+    ensures { BlueMessagesCommute }
 {}
 
 /// Logs that pass the checks and have equal sets fold to equal tables.
@@ -196,9 +203,11 @@ pub fn sites_are_rebuilt()
     ensures inputs { InputsRebuild }
 {}
 
-/// In every log, forged ones too, no stock is below zero, and a nickname's row stays until its user is renamed.
+/// In every log, forged ones too, no stock is below zero, and a nickname's row stays until its user is renamed. Of a log that a
+/// site can have that holds with no condition on sums.
 pub fn every_log_holds()
     ensures stock { StockIsKept }
+    ensures sites { SitesKeepStock }
     ensures names { NamesStay }
     ensures held { NamesAreHeld }
 {}

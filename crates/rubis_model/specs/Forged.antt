@@ -1,5 +1,5 @@
 -- What holds of every log, be its messages forged or not.
-use Rattle.std.specs.Prelude.{◌≡◌, ◌+◌, ◌^◌, ◌<◌, ℕ, Bool, false, ◌&&◌, cond, bytes_eq, List, [], ◌∷◌, ◌++◌, fold, Option, Some, None, option_map, IfSome}
+use Rattle.std.specs.Prelude.{◌≡◌, ◌+◌, ◌^◌, ◌<◌, ◌≤◌, ℕ, Bool, false, ◌&&◌, cond, bytes_eq, List, [], ◌∷◌, ◌++◌, length, fold, Option, Some, None, option_map, IfSome}
 use Rattle.std.specs.Option.{option_or}
 use Rattle.std.specs.FinMap as map
 use Rattle.rubis_schema.specs.Keys.{same_id}
@@ -11,8 +11,10 @@ use Rattle.rubis_schema.specs.declared.rows.Row.TheVariants as row
 use Rattle.rubis_shadow.specs.declared.shadows.NewItem.{NewItem}
 use Rattle.rubis_shadow.specs.declared.shadows.Shadow.{Shadow}
 use Rattle.rubis_shadow.specs.declared.shadows.Shadow.TheVariants.{User, Rename}
-use Rattle.rubis_model.specs.Log.{Core, fold_of}
+use Rattle.rubis_message.specs.Message.{IsMessage, Message}
+use Rattle.rubis_model.specs.Log.{Core, cores, fold_of}
 use Rattle.rubis_model.specs.Meaning.{as_item, restocked_of, when}
+use Rattle.rubis_model.specs.Settle.{Has}
 
 -- a rename of that user from that nickname
 abbrev pub frees : List ℕ → Id → Shadow → Bool
@@ -59,3 +61,8 @@ IsKept (Some s) r = (x : ItemRow) × (r ≡ Some (row.Item x)) × (x.sold + x.st
 -- no stock is below zero: each item's row is one of these
 abbrev pub StockIsKept : Type 0
 StockIsKept = (log : List Core) (i : Id) → IfSome (supply_at i log) (λ s. s < 2 ^ 64) → IsKept (supply_at i log) (map.get (fold_of log).tables (key.Item i))
+
+-- so in every log that a site can have, be its messages forged or not: the sums stay far below that
+abbrev pub SitesKeepStock : Type 0
+SitesKeepStock = (log : List Message) (i : Id) → ((m : Message) → Has m log → IsMessage m) → length log ≤ 1000000
+    → IsKept (supply_at i (cores log)) (map.get (fold_of (cores log)).tables (key.Item i))

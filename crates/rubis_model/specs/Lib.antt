@@ -9,6 +9,7 @@ pub mod Meaning
 pub mod Checks
 pub mod Shares
 pub mod Invariants
+pub mod Commuting
 pub mod Forged
 pub mod Order
 pub mod References

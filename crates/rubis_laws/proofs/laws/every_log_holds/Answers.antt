@@ -1,4 +1,5 @@
 use Rattle.rubis_laws.proofs.Forged.{names_are_held, names_stay, stock_is_kept}
+use Rattle.rubis_laws.proofs.SiteStock.{sites_keep_stock}
 use Rattle.rubis_laws.proofs.laws.every_log_holds.Goals as goal
 
 pub returns-clause-stock : goal.returns-clause-stock
@@ -9,3 +10,6 @@ returns-clause-names c = names_stay
 
 pub returns-clause-held : goal.returns-clause-held
 returns-clause-held c = names_are_held
+
+pub returns-clause-sites : goal.returns-clause-sites
+returns-clause-sites c = sites_keep_stock
