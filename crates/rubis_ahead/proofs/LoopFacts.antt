@@ -7,16 +7,16 @@ use Rattle.rubis_engine.specs.Accounts.{Account, Ending, Keeps}
 use Rattle.rubis_message.specs.Message.{Message, sites_of}
 use Rattle.rubis_message.specs.declared.tokens.Packet.TheVariants.{Msg}
 use Rattle.rubis_model.specs.Site.{Place}
-use Rattle.rubis_pieces_of_text.specs.Runs.{all_came}
-use Rattle.rubis_pieces_of_text.specs.Steps.{HasAhead}
-use Rattle.rubis_pieces_of_text.specs.declared.parsed.Parsed.TheVariants.{Came}
+use Rattle.rubis_reading.specs.Runs.{all_came}
+use Rattle.rubis_reading.specs.Steps.{HasAhead}
+use Rattle.rubis_reading.specs.declared.parsed.Parsed.TheVariants.{Came}
 use Rattle.rubis_model.specs.Runs.{answers}
 use Rattle.rubis_engine.specs.Text.{input_records}
-use Rattle.rubis_pieces_of_text.specs.Chunked.{HasPending}
-use Rattle.rubis_pieces_of_text.specs.declared.chunks.Chunks.{Chunks}
-use Rattle.rubis_pieces_of_text.specs.Parsed.{AreParsed, FitsIn}
-use Rattle.rubis_pieces_of_text.proofs.AheadFacts.{ahead-answered, ahead-kept, ahead-starts, all-fit}
-use Rattle.rubis_pieces_of_text.specs.declared.parsed.Parsed.{Parsed}
+use Rattle.rubis_reading.specs.Chunked.{HasPending}
+use Rattle.rubis_reading.specs.declared.chunks.Chunks.{Chunks}
+use Rattle.rubis_reading.specs.Parsed.{AreParsed, FitsIn}
+use Rattle.rubis_reading.proofs.AheadFacts.{ahead-answered, ahead-kept, ahead-starts, all-fit}
+use Rattle.rubis_reading.specs.declared.parsed.Parsed.{Parsed}
 use Rattle.rubis_replica.specs.State.{SiteState}
 use Rattle.rubis_ahead.specs.Runs.{HasReadAhead, IsSound, StandsWith}
 use Rattle.rubis_ahead.specs.declared.backlog.Backlog.{Backlog}

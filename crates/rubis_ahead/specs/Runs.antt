@@ -3,12 +3,12 @@ use Rattle.std.specs.Prelude.{◌+◌, ◌++◌, ℕ, All, List, Option}
 use Rattle.rubis_desk.specs.Windows.{AreHeld, held_by}
 use Rattle.rubis_engine.specs.Accounts.{Account}
 use Rattle.rubis_engine.specs.Text.{input_records}
-use Rattle.rubis_pieces_of_text.specs.Chunked.{HasPending}
-use Rattle.rubis_pieces_of_text.specs.Parsed.{FitsIn}
-use Rattle.rubis_pieces_of_text.specs.declared.parsed.Parsed.{Parsed}
-use Rattle.rubis_pieces_of_text.specs.declared.chunks.Chunks.{Chunks}
+use Rattle.rubis_reading.specs.Chunked.{HasPending}
+use Rattle.rubis_reading.specs.Parsed.{FitsIn}
+use Rattle.rubis_reading.specs.declared.parsed.Parsed.{Parsed}
+use Rattle.rubis_reading.specs.declared.chunks.Chunks.{Chunks}
 use Rattle.rubis_replica.specs.State.{SiteState}
-use Rattle.rubis_pieces_of_text.specs.Steps.{HasAhead}
+use Rattle.rubis_reading.specs.Steps.{HasAhead}
 use Rattle.rubis_ahead.specs.declared.backlog.Backlog.{Backlog}
 
 -- what is held and what was read ahead is of this site's system

@@ -3,14 +3,14 @@
 ghost use Rattle.std.specs.Prelude.{◌≡◌, ◌≤◌, ◌<◌, ◌+◌, ◌∷◌, ◌^◌, ◌⊎◌, [], All, OnOk, length};
 ghost use Rattle.rubis_ahead.specs.Runs.{GoesOn, GoesOnFrom, IsSound};
 ghost use Rattle.rubis_desk.specs.Windows.{AreHeld};
-ghost use Rattle.rubis_pieces_of_text.specs.Parsed.{FitsIn};
-ghost use Rattle.rubis_pieces_of_text.specs.Runs.{all_came, of_run};
+ghost use Rattle.rubis_reading.specs.Parsed.{FitsIn};
+ghost use Rattle.rubis_reading.specs.Runs.{all_came, of_run};
 
 use crate::backlog::Backlog;
 use rubis_desk::Desk;
 use rubis_engine::OutOfMemory;
 use rubis_message::Message;
-use rubis_pieces_of_text::{Parsed, Run};
+use rubis_reading::{Parsed, Run};
 use rubis_replica::Gate;
 use std::sync::Wait;
 use std::thread::Threads;

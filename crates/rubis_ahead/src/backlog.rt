@@ -4,7 +4,7 @@ ghost use Rattle.std.specs.Prelude.{◌≡◌, []};
 
 use rubis_engine::Reply;
 use rubis_message::Message;
-use rubis_pieces_of_text::Ahead;
+use rubis_reading::Ahead;
 use std::alloc::Global;
 
 /// What was read and isn't answered: the records that were read ahead, and the messages that are held, the last of the records

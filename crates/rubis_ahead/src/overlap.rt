@@ -4,14 +4,14 @@ ghost use Rattle.std.specs.Prelude.{◌≡◌, ◌≤◌, ◌<◌, ◌+◌, ◌^
 ghost use Rattle.std.specs.Thread.{IsSync};
 ghost use Rattle.rubis_ahead.specs.Runs.{GoesOn, IsSound};
 ghost use Rattle.rubis_engine.specs.Text.{input_records};
-ghost use Rattle.rubis_pieces_of_text.specs.Parsed.{AreParsed};
-ghost use Rattle.rubis_pieces_of_text.specs.Runs.{flat};
+ghost use Rattle.rubis_reading.specs.Parsed.{AreParsed};
+ghost use Rattle.rubis_reading.specs.Runs.{flat};
 
 use crate::answering::answer_all;
 use crate::backlog::Backlog;
 use rubis_desk::Desk;
 use rubis_engine::OutOfMemory;
-use rubis_pieces_of_text::{Run, read_parts};
+use rubis_reading::{Run, read_parts};
 use rubis_replica::Gate;
 use std::alloc::Global;
 use std::sync::Wait;

@@ -7,15 +7,15 @@ ghost use Rattle.rubis_engine.specs.Accounts.Ending.{AtEnd};
 ghost use Rattle.rubis_engine.specs.Accounts.{Account};
 ghost use Rattle.rubis_engine.specs.Progress.{IsCut, IsDone, IsTooLong, WrotePrefix};
 ghost use Rattle.rubis_engine.specs.Text.{input_records};
-ghost use Rattle.rubis_pieces_of_text.specs.Chunked.{HasPending, held_text};
-ghost use Rattle.rubis_pieces_of_text.specs.Streams.{IsWhole};
+ghost use Rattle.rubis_reading.specs.Chunked.{HasPending, held_text};
+ghost use Rattle.rubis_reading.specs.Streams.{IsWhole};
 
 use crate::answering::{answer_all, answer_some};
 use crate::backlog::Backlog;
 use crate::overlap::read_beside;
 use rubis_desk::{Desk, run_desk};
 use rubis_engine::{Count, OutOfMemory, RunFault};
-use rubis_pieces_of_text::{Ahead, ChunkFault, Chunks, read_parts};
+use rubis_reading::{Ahead, ChunkFault, Chunks, read_parts};
 use rubis_replica::Gate;
 use std::alloc::Global;
 use std::io::{Read, Write};

@@ -13,7 +13,7 @@ ghost use Rattle.rubis_model.specs.Runs.Input.{Asked, Came};
 ghost use Rattle.rubis_message.specs.Readings.{packet_of};
 ghost use Rattle.rubis_model.specs.Site.{opening_at};
 ghost use Rattle.rubis_replica.specs.Setup.{setup_place};
-ghost use Rattle.rubis_pieces_of_text.specs.Parsed.{FitsIn, meant};
+ghost use Rattle.rubis_reading.specs.Parsed.{FitsIn, meant};
 ghost use Rattle.rubis_engine.specs.Accounts.{AnswersRecord, Keeps};
 ghost use Rattle.rubis_desk.specs.Inputs.{IsAnswered, IsReadOf, answer_of};
 ghost use Rattle.rubis_desk.specs.SiteRuns.{told_by};
@@ -25,7 +25,7 @@ use crate::windows::{hold, window_of, write_arrivals};
 use rubis_engine::{InputRecord, OutOfMemory, Reply, Service, Sink};
 use rubis_listing::Counted;
 use rubis_message::{Message, Packet, ReadFault, Request, Token, read_packet, read_request};
-use rubis_pieces_of_text::Parsed;
+use rubis_reading::Parsed;
 use rubis_replica::{Config, Fault, Free, Gate, Site};
 use rubis_replies::{
     write_arrival, write_listed_text, write_passed, write_refusal, write_sent, write_taken,

@@ -1,8 +1,8 @@
 use Rattle.std.proofs.Common.{◌≡◌, ◌∙◌, ◌+◌, ◌++◌, All, ap, arith, length, length-append, subst, sym}
 use Rattle.rubis_desk.specs.Windows.{held_by}
-use Rattle.rubis_pieces_of_text.specs.Parsed.{FitsIn}
-use Rattle.rubis_pieces_of_text.specs.Runs.{of_run}
-use Rattle.rubis_pieces_of_text.specs.Steps.{HasAhead}
+use Rattle.rubis_reading.specs.Parsed.{FitsIn}
+use Rattle.rubis_reading.specs.Runs.{of_run}
+use Rattle.rubis_reading.specs.Steps.{HasAhead}
 use Rattle.rubis_ahead.proofs.LoopFacts.{all-back, all-front}
 use Rattle.rubis_ahead.proofs.answering.answer_all.Goals as goal
 

@@ -1,6 +1,6 @@
 use Rattle.std.proofs.Common.{◌≡◌, ◌+◌, All, length}
 use Rattle.rubis_desk.specs.Windows.{AreHeld}
-use Rattle.rubis_pieces_of_text.specs.Parsed.{FitsIn}
+use Rattle.rubis_reading.specs.Parsed.{FitsIn}
 use Rattle.rubis_ahead.specs.Runs.{GoesOn}
 use Rattle.rubis_ahead.proofs.answering.answer_all.Given as goal
 

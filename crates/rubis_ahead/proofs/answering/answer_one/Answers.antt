@@ -1,7 +1,7 @@
 use Rattle.std.proofs.Common.{◌+◌, ◌∷◌, ap, refl}
 use Rattle.std.proofs.lemmas.Result.{on_ok_weaker}
 use Rattle.rubis_desk.specs.Windows.{held_by}
-use Rattle.rubis_pieces_of_text.proofs.AheadFacts.{ahead-answered, ahead-kept}
+use Rattle.rubis_reading.proofs.AheadFacts.{ahead-answered, ahead-kept}
 use Rattle.rubis_ahead.proofs.answering.answer_one.Goals as goal
 
 pub returns-clause-goes : goal.returns-clause-goes

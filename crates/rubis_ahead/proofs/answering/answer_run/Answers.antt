@@ -1,7 +1,7 @@
 use Rattle.std.proofs.Common.{ap, arith, length}
 use Rattle.std.proofs.lemmas.Result.{on_ok_weaker}
-use Rattle.rubis_pieces_of_text.specs.Runs.{of_run}
-use Rattle.rubis_pieces_of_text.proofs.RunFacts.{came-length}
+use Rattle.rubis_reading.specs.Runs.{of_run}
+use Rattle.rubis_reading.proofs.RunFacts.{came-length}
 use Rattle.rubis_ahead.proofs.answering.answer_run.Goals as goal
 
 pub hold_run-requires-clause-room : goal.hold_run-requires-clause-room

@@ -1,8 +1,8 @@
 use Rattle.std.proofs.Common.{◌++◌, ◌≡◌, ◌∙◌, ◌+◌, ◌∷◌, All, ap, arith, length, subst, suc, sym, zero}
 use Rattle.rubis_desk.specs.Windows.{held_by}
-use Rattle.rubis_pieces_of_text.specs.Parsed.{FitsIn}
-use Rattle.rubis_pieces_of_text.specs.Runs.{of_run}
-use Rattle.rubis_pieces_of_text.proofs.AheadFacts.{ahead-answered, ahead-kept}
+use Rattle.rubis_reading.specs.Parsed.{FitsIn}
+use Rattle.rubis_reading.specs.Runs.{of_run}
+use Rattle.rubis_reading.proofs.AheadFacts.{ahead-answered, ahead-kept}
 use Rattle.rubis_ahead.proofs.answering.answer_some.Goals as goal
 
 pub steps-preserved : goal.steps-preserved

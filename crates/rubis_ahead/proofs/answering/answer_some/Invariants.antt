@@ -1,8 +1,8 @@
 use Rattle.std.proofs.Common.{◌≡◌, ◌+◌, All, List, Option, ℕ, length}
 use Rattle.rubis_desk.specs.Windows.{AreHeld, held_by}
 use Rattle.rubis_engine.specs.Accounts.{Account}
-use Rattle.rubis_pieces_of_text.specs.Parsed.{FitsIn}
-use Rattle.rubis_pieces_of_text.specs.Steps.{HasAhead}
+use Rattle.rubis_reading.specs.Parsed.{FitsIn}
+use Rattle.rubis_reading.specs.Steps.{HasAhead}
 use Rattle.rubis_ahead.specs.Runs.{StandsWith}
 use Rattle.rubis_ahead.proofs.answering.answer_some.Given as goal
 

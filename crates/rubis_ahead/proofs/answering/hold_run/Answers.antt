@@ -1,6 +1,6 @@
 use Rattle.std.proofs.Common.{◌≡◌, All, arith, length, subst, sym}
-use Rattle.rubis_pieces_of_text.specs.Parsed.{FitsIn}
-use Rattle.rubis_pieces_of_text.specs.Runs.{all_came}
+use Rattle.rubis_reading.specs.Parsed.{FitsIn}
+use Rattle.rubis_reading.specs.Runs.{all_came}
 use Rattle.rubis_ahead.proofs.LoopFacts.{all-held, run-held}
 use Rattle.rubis_ahead.proofs.answering.hold_run.Goals as goal
 

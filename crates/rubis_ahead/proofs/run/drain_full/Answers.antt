@@ -2,7 +2,7 @@ use Rattle.std.proofs.Common.{◌+◌}
 use Rattle.std.proofs.lemmas.Result.{on_ok_weaker}
 use Rattle.rubis_desk.specs.Windows.{held_by}
 use Rattle.rubis_engine.specs.Text.{input_records}
-use Rattle.rubis_pieces_of_text.proofs.AheadFacts.{ahead-written}
+use Rattle.rubis_reading.proofs.AheadFacts.{ahead-written}
 use Rattle.rubis_ahead.proofs.run.drain_full.Goals as goal
 
 pub returns-then-is_full-clause-goes : goal.returns-then-is_full-clause-goes

@@ -3,9 +3,9 @@ use Rattle.rubis_desk.specs.Windows.{held_by}
 use Rattle.rubis_engine.specs.Accounts.Ending.{AtEnd}
 use Rattle.rubis_engine.specs.Progress.{IsTooLong}
 use Rattle.rubis_engine.specs.Text.{input_records}
-use Rattle.rubis_pieces_of_text.specs.Chunked.{held_text}
-use Rattle.rubis_pieces_of_text.specs.Runs.{flat}
-use Rattle.rubis_pieces_of_text.proofs.AheadFacts.{ahead-done, ahead-read}
+use Rattle.rubis_reading.specs.Chunked.{held_text}
+use Rattle.rubis_reading.specs.Runs.{flat}
+use Rattle.rubis_reading.proofs.AheadFacts.{ahead-done, ahead-read}
 use Rattle.rubis_ahead.proofs.LoopFacts.{fits-read, held-end, parsed-read}
 use Rattle.rubis_ahead.proofs.run.end.Goals as goal
 

@@ -1,10 +1,10 @@
 use Rattle.std.proofs.Common.{◌≡◌, ◌∙◌, ◌+◌, All, ap, refl, subst, sym, take}
 use Rattle.rubis_desk.specs.Windows.{held_by}
 use Rattle.rubis_engine.specs.Text.{input_records}
-use Rattle.rubis_pieces_of_text.specs.Chunked.{held_text}
-use Rattle.rubis_pieces_of_text.specs.Parsed.{AreParsed, FitsIn}
-use Rattle.rubis_pieces_of_text.specs.Runs.{flat}
-use Rattle.rubis_pieces_of_text.proofs.AheadFacts.{ahead-read, all-fit}
+use Rattle.rubis_reading.specs.Chunked.{held_text}
+use Rattle.rubis_reading.specs.Parsed.{AreParsed, FitsIn}
+use Rattle.rubis_reading.specs.Runs.{flat}
+use Rattle.rubis_reading.proofs.AheadFacts.{ahead-read, all-fit}
 use Rattle.rubis_ahead.proofs.run.go_on.Goals as goal
 
 pub returns-clause-sound : goal.returns-clause-sound

@@ -1,8 +1,8 @@
 use Rattle.rubis_desk.specs.SiteRuns.{told_by}
 use Rattle.rubis_engine.specs.Text.{input_records}
 use Rattle.rubis_engine.proofs.RunFacts.{if_ok_so}
-use Rattle.rubis_pieces_of_text.specs.Chunked.{HasPending}
-use Rattle.rubis_pieces_of_text.proofs.AheadFacts.{if_some_so}
+use Rattle.rubis_reading.specs.Chunked.{HasPending}
+use Rattle.rubis_reading.proofs.AheadFacts.{if_some_so}
 use Rattle.rubis_ahead.proofs.LoopFacts.{sound-none, starts}
 use Rattle.rubis_ahead.proofs.run.run_desk_ahead.Goals as goal
 

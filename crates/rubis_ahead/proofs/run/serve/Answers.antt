@@ -2,7 +2,7 @@ use Rattle.std.proofs.Common.{refl}
 use Rattle.rubis_engine.specs.Text.{input_records}
 use Rattle.rubis_engine.specs.declared.fault.RunFault.TheVariants as fault
 use Rattle.rubis_engine.proofs.RunFacts.{handed_on}
-use Rattle.rubis_pieces_of_text.proofs.AheadFacts.{ahead-prefix, match-some}
+use Rattle.rubis_reading.proofs.AheadFacts.{ahead-prefix, match-some}
 use Rattle.rubis_ahead.proofs.run.serve.Goals as goal
 
 pub returns-in_err-count-clause-too_long : goal.returns-in_err-count-clause-too_long

@@ -3,8 +3,8 @@ use Rattle.std.proofs.lemmas.Result.{on_ok_weaker}
 use Rattle.rubis_desk.specs.Windows.{held_by}
 use Rattle.rubis_desk.proofs.WindowFacts.{held_none, told-kept}
 use Rattle.rubis_engine.proofs.RunFacts.{on_ok}
-use Rattle.rubis_pieces_of_text.specs.Parsed.{FitsIn}
-use Rattle.rubis_pieces_of_text.proofs.AheadFacts.{ahead-kept, ahead-written}
+use Rattle.rubis_reading.specs.Parsed.{FitsIn}
+use Rattle.rubis_reading.proofs.AheadFacts.{ahead-kept, ahead-written}
 use Rattle.rubis_ahead.proofs.run.settle.Goals as goal
 
 pub returns-clause-sound : goal.returns-clause-sound

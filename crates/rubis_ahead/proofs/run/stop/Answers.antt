@@ -3,7 +3,7 @@ use Rattle.std.specs.Prelude.{OnOk}
 use Rattle.rubis_desk.specs.Windows.{held_by}
 use Rattle.rubis_engine.specs.Accounts.Ending.{Cut}
 use Rattle.rubis_engine.proofs.RunFacts.{on_ok_both}
-use Rattle.rubis_pieces_of_text.proofs.AheadFacts.{ahead-too_long}
+use Rattle.rubis_reading.proofs.AheadFacts.{ahead-too_long}
 use Rattle.rubis_ahead.proofs.LoopFacts.{held-end, same-stands, stop-count}
 use Rattle.rubis_ahead.proofs.run.stop.Goals as goal
 

@@ -3,7 +3,7 @@ use Rattle.rubis_engine.specs.Progress.{IsTooLong}
 use Rattle.rubis_engine.specs.Text.{input_records}
 use Rattle.rubis_engine.specs.declared.fault.RunFault.TheVariants as fault
 use Rattle.rubis_engine.proofs.RunFacts.{handed_on}
-use Rattle.rubis_pieces_of_text.proofs.AheadFacts.{ahead-prefix}
+use Rattle.rubis_reading.proofs.AheadFacts.{ahead-prefix}
 use Rattle.rubis_ahead.proofs.run.turn.Goals as goal
 
 pub returns-in_err-stop-clause-memory : goal.returns-in_err-stop-clause-memory

@@ -4,7 +4,7 @@ use Rattle.rubis_engine.specs.Accounts.Ending.{Cut}
 use Rattle.rubis_engine.specs.Text.{input_records}
 use Rattle.rubis_engine.specs.declared.fault.RunFault.TheVariants as fault
 use Rattle.rubis_engine.proofs.RunFacts.{handed_on}
-use Rattle.rubis_pieces_of_text.proofs.AheadFacts.{ahead-cut, ahead-prefix}
+use Rattle.rubis_reading.proofs.AheadFacts.{ahead-cut, ahead-prefix}
 use Rattle.rubis_ahead.proofs.LoopFacts.{held-end}
 use Rattle.rubis_ahead.proofs.run.wait.Goals as goal
 

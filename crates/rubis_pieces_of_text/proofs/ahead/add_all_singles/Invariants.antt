@@ -1,7 +1,0 @@
-use Rattle.std.proofs.Common.{◌≡◌, ◌++◌}
-use Rattle.std.specs.Vec.Iter.{into_iter_items}
-use Rattle.rubis_pieces_of_text.specs.Runs.{flat}
-use Rattle.rubis_pieces_of_text.proofs.ahead.add_all_singles.Given as goal
-
-abbrev pub invariant-runs : goal.invariant-runs
-invariant-runs l = flat l.list.items ++ flat (into_iter_items l.rest) ≡ flat l.fn.list.items ++ flat (into_iter_items l.fn.rest)

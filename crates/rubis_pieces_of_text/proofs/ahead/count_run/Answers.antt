@@ -1,9 +1,0 @@
-use Rattle.std.proofs.Common.{ap, arith, length}
-use Rattle.rubis_pieces_of_text.specs.Runs.{of_run}
-use Rattle.rubis_pieces_of_text.proofs.RunFacts.{came-length}
-use Rattle.rubis_pieces_of_text.proofs.ahead.count_run.Goals as goal
-
-pub returns-in-Messages : goal.returns-in-Messages
-returns-in-Messages c =
-    let is = ap (λ r. length (of_run r)) c.in-Messages.is in
-    omega (arith, is, came-length c.in-Messages.list.items, c.len.ensures, c.in-Messages.list.ok)

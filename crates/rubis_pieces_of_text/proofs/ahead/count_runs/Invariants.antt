@@ -1,6 +1,0 @@
-use Rattle.std.proofs.Common.{◌≡◌, ◌+◌, drop}
-use Rattle.rubis_pieces_of_text.proofs.RunFacts.{counted}
-use Rattle.rubis_pieces_of_text.proofs.ahead.count_runs.Given as goal
-
-abbrev pub invariant-loop-run : goal.invariant-loop-run
-invariant-loop-run l = l.many + counted (drop l.run-index l.list) ≡ counted l.list

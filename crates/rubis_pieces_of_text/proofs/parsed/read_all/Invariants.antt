@@ -1,9 +1,0 @@
-use Rattle.std.proofs.Common.{List, ℕ}
-use Rattle.std.proofs.Common.{◌++◌}
-use Rattle.rubis_pieces_of_text.specs.Runs.{all_came, flat}
-use Rattle.rubis_engine.specs.Reading.{Gives}
-use Rattle.rubis_pieces_of_text.proofs.ParsedFacts.{HasParsed}
-use Rattle.rubis_pieces_of_text.proofs.parsed.read_all.Given as goal
-
-abbrev pub invariant-steps : goal.invariant-steps
-invariant-steps g l = (rows : List (List (List ℕ))) → Gives g.R.Read.remaining l.fn.records rows → HasParsed g.R.Read.remaining l.records l.sites rows (flat l.list.items ++ all_came l.messages.items)

@@ -1,0 +1,45 @@
+-- What handing a chunk on does to the records that are to come.
+use Rattle.std.proofs.Common.{◌≡◌, ◌≤◌, ◌<◌, ◌+◌, ◌-◌, ◌∷◌, [], ◌++◌, ◌∙◌, ℕ, List, length, take, drop, Option, Some, None, sym, refl, ap, arith, append_assoc, append-nil, length-append, take-append-drop}
+use Rattle.std.proofs.Transfers.{drop-appended}
+use Rattle.std.proofs.lemmas.List.{length-take-le}
+use Rattle.std.specs.Io.KnownBytes.{IsAtEnd, prepend_known}
+use Rattle.rubis_reading.specs.Streams.{IsWhole}
+use Rattle.rubis_engine.specs.Text.{input_records}
+use Rattle.rubis_reading.specs.Chunked.{HasPending}
+use Rattle.rubis_reading.specs.declared.chunks.Chunks.{Chunks}
+use Rattle.rubis_reading.proofs.StreamFacts.{cut-off}
+
+some-is : {A : Type 0} {x y : A} → Some x ≡ Some y → x ≡ y
+some-is e = cc e
+
+-- the end of the last line of a chunk, and what follows the chunk
+pub feed-left : (held : List ℕ) (many : ℕ) → many ≤ length held → 0 < many → (whole : IsWhole (take many held)) → drop (many - 1) held ≡ whole.last ∷ drop many held
+feed-left held many within some whole =
+    let size : length (take many held) ≡ many = length-take-le many held within in
+    let parts : length (take many held) ≡ length whole.front + 1 = ap length whole.is ∙ length-append whole.front (whole.last ∷ []) in
+    let front : length whole.front ≡ many - 1 = omega (arith, size, parts, some) in
+    let split : held ≡ whole.front ++ (whole.last ∷ drop many held) =
+    sym (take-append-drop many held) ∙ ap (λ t. t ++ drop many held) whole.is ∙ append_assoc whole.front (whole.last ∷ []) (drop many held) in
+    rw (← front) (drop-appended whole.front held (whole.last ∷ drop many held) split)
+
+-- the last bytes are those that are held
+pub last-held : {R : Type 0} (rem : R → Option (List ℕ)) (c : Chunks R) (rows : List (List (List ℕ))) → IsAtEnd (rem c.reader) → HasPending rem c rows → rows ≡ input_records c.held
+last-held rem c rows end h = h.reads ∙ ap input_records (bytes (rem c.reader) end h.source)
+  where
+    bytes : (k : Option (List ℕ)) → IsAtEnd k → prepend_known c.held k ≡ Some h.bytes → h.bytes ≡ c.held
+    bytes None end e = absurd cc
+    bytes (Some xs) end e = sym (some-is e) ∙ ap (λ t. c.held ++ t) end ∙ append-nil c.held
+
+-- a chunk is taken off
+pub taken : (held bytes : List ℕ) (known : Option (List ℕ)) (many : ℕ) → 0 < many → many ≤ length held → IsWhole (take many held)
+    → prepend_known held known ≡ Some bytes
+    → (left : List ℕ) × (prepend_known (drop (many - 1) held) known ≡ Some left) × (input_records bytes ≡ input_records (take many held) ++ input_records left)
+taken held bytes None many some within whole e = absurd cc
+taken held bytes (Some xs) many some within whole e =
+    let left : drop (many - 1) held ++ xs ≡ whole.last ∷ (drop many held ++ xs) = ap (λ t. t ++ xs) (feed-left held many within some whole) in
+    let split : bytes ≡ take many held ++ (drop many held ++ xs) =
+    sym (some-is e) ∙ ap (λ t. t ++ xs) (sym (take-append-drop many held)) ∙ append_assoc (take many held) (drop many held) xs in (
+      drop (many - 1) held ++ xs,
+      refl,
+      ap input_records split ∙ cut-off (take many held) (drop many held ++ xs) whole ∙ ap (λ t. input_records (take many held) ++ input_records t) (sym left),
+    )

@@ -1,0 +1,44 @@
+-- Runs of records.
+use Rattle.std.proofs.Common.{◌≡◌, ◌∙◌, ◌<◌, ◌≤◌, ◌+◌, ◌++◌, ◌∷◌, [], ℕ, suc, List, ap, append-nil, append_assoc, arith, drop, get_or, length, length-append, length-drop, refl, sym}
+use Rattle.std.proofs.lemmas.List.{at_drop_more, nil_from_length}
+use Rattle.rubis_message.specs.Message.{Message}
+use Rattle.rubis_message.specs.declared.tokens.Packet.TheVariants.{Msg}
+use Rattle.rubis_reading.specs.Runs.{all_came, flat, of_run}
+use Rattle.rubis_reading.specs.declared.parsed.Parsed.TheVariants.{Came}
+use Rattle.rubis_reading.specs.declared.parsed.Run.{Run}
+
+pub flat-both : (a b : List Run) → flat (a ++ b) ≡ flat a ++ flat b
+flat-both [] b = refl
+flat-both (r ∷ a) b = ap (λ t. of_run r ++ t) (flat-both a b) ∙ sym (append_assoc (of_run r) (flat a) (flat b))
+
+pub flat-more : (a : List Run) (r : Run) → flat (a ++ r ∷ []) ≡ flat a ++ of_run r
+flat-more a r = flat-both a (r ∷ []) ∙ ap (λ t. flat a ++ t) (append-nil (of_run r))
+
+pub came-more : (ms : List Message) (m : Message) → all_came (ms ++ m ∷ []) ≡ all_came ms ++ Came (Msg m) ∷ []
+came-more [] m = refl
+came-more (x ∷ ms) m = ap (λ t. Came (Msg x) ∷ t) (came-more ms m)
+
+pub came-length : (ms : List Message) → length (all_came ms) ≡ length ms
+came-length [] = refl
+came-length (m ∷ ms) = ap suc (came-length ms)
+
+-- how many records runs have
+abbrev pub counted : List Run → ℕ
+counted [] = 0
+counted (r ∷ rest) = length (of_run r) + counted rest
+
+pub counted-flat : (runs : List Run) → counted runs ≡ length (flat runs)
+counted-flat [] = refl
+counted-flat (r ∷ rest) = let more = counted-flat rest in let both = length-append (of_run r) (flat rest) in omega (arith, more, both)
+
+pub counted-drop : (runs : List Run) (i : ℕ) (r : Run) → i < length runs → counted (drop i runs) ≡ length (of_run (get_or runs i r)) + counted (drop (i + 1) runs)
+counted-drop runs i r lt = at_drop_more counted runs i r lt
+
+pub ruleset run_facts = (flat-more)
+
+pub ruleset came_facts = (came-more)
+
+pub ruleset count_facts = (counted-flat)
+
+pub counted-end : (runs : List Run) (i : ℕ) → length runs ≤ i → counted (drop i runs) ≡ 0
+counted-end runs i over = ap counted (nil_from_length (drop i runs) (omega (arith, length-drop i runs, over)))

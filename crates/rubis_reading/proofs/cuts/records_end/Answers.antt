@@ -1,0 +1,42 @@
+use Rattle.std.proofs.Common.{◌≡◌, ◌∙◌, ◌<◌, ap, arith, drop, get_or, inl, length, length-drop, refl, subst, sym, take}
+use Rattle.csv.specs.declared.parser.State.TheVariants as st
+use Rattle.rubis_reading.specs.Standings.{state_of}
+use Rattle.rubis_reading.specs.Streams.{EndsFrom, IsLike, stands}
+use Rattle.rubis_reading.proofs.QuoteFacts.{after-quote, front-ends, rest-ends}
+use Rattle.rubis_reading.proofs.cuts.records_end.Goals.{then-line-gt0-2, else-line-gt0-2}
+use Rattle.rubis_reading.proofs.cuts.records_end.Goals as goal
+
+pub quotes-init : goal.quotes-init
+unfolding stands
+quotes-init c = record { like = inl refl; within = omega arith; found = λ some. absurd (omega (arith, some)) }
+
+pub returns-then-line-gt0 : goal.returns-then-line-gt0
+returns-then-line-gt0 c some =
+    let line = c.last_line-line.result in
+    rest-ends (state_of c.quotes.at) c.args.text.now c.quotes.place line c.quotes.invariant.within c.quotes.invariant.like
+    (subst (λ r. EndsFrom (state_of c.quotes.at) r line) c.split_at.ensures.back (c.last_line-line.ensures.ends c.if-line-gt0.true))
+
+pub quotes-preserved : goal.quotes-preserved
+quotes-preserved c =
+    let text = c.args.text.now in
+    let place = c.quotes.place in
+    let s = state_of c.quotes.at in
+    let quote = c.in-Some.quote in
+    let rest = c.split_at.result.1.now in
+    let back : rest ≡ drop place text = c.split_at.ensures.back in
+    let run : c.split_at-in-quotes.result.0.now ≡ take quote (drop place text) = c.split_at-in-quotes.ensures.front ∙ ap (take quote) back in
+    let lt : quote < length (drop place text) = subst (λ r. quote < length r) back c.in-Some.ensures.some.0 in
+    let is : get_or (drop place text) quote 0 ≡ 34 = subst (λ r. get_or r quote 0 ≡ 34) back c.in-Some.ensures.some.2 in
+    let over = subst (λ r. IsLike (state_of c.over.result) (stands s r)) run c.over.ensures in
+    record {
+      like = after-quote s (state_of c.over.result) (state_of c.after-at.result) text place quote c.quotes.invariant.like lt is over c.after-at.ensures;
+      within = omega (arith, lt, length-drop place text, c.quotes.invariant.within);
+      found = λ some.
+          elim c.if-line-gt0-2.branch [
+            | then-line-gt0-2 w ↦ subst (λ e. EndsFrom st.StartRecord text e) (sym w.end-is) (
+                let line = c.last_line-line-in-quotes.result in
+                rest-ends s text place line c.quotes.invariant.within c.quotes.invariant.like
+                (front-ends s quote line (drop place text) (subst (λ r. EndsFrom s r line) run (c.last_line-line-in-quotes.ensures.ends w.if-line-gt0-2.true))))
+            | else-line-gt0-2 w ↦ subst (λ e. EndsFrom st.StartRecord text e) (sym w.end-is) (c.quotes.invariant.found (subst (λ e. 0 < e) w.end-is some))
+          ];
+    }

@@ -1,0 +1,12 @@
+use Rattle.std.proofs.Common.{◌≤◌, ◌<◌, length, take}
+use Rattle.csv.specs.declared.parser.State.TheVariants as st
+use Rattle.rubis_reading.specs.Standings.{state_of}
+use Rattle.rubis_reading.specs.Streams.{EndsFrom, IsLike, stands}
+use Rattle.rubis_reading.proofs.cuts.records_end.Given as goal
+
+abbrev pub invariant-quotes : goal.invariant-quotes
+invariant-quotes l = record {
+  like : IsLike (state_of l.at) (stands st.StartRecord (take l.place l.text));
+  within : l.place ≤ length l.text;
+  found : 0 < l.end → EndsFrom st.StartRecord l.text l.end;
+}

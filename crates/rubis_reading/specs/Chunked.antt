@@ -1,0 +1,28 @@
+-- What a source of chunks has still to give.
+use Rattle.std.specs.Prelude.{◌≡◌, ◌++◌, ℕ, List, Option, Some}
+use Rattle.std.specs.Io.KnownBytes.{prepend_known}
+use Rattle.rubis_engine.specs.Text.{input_records}
+use Rattle.rubis_reading.specs.declared.chunks.Chunks.{Chunks}
+
+-- the bytes that came from the reader and were not handed on
+abbrev pub held_text : {R : Type 0} → Chunks R → List ℕ
+held_text c = c.held
+
+-- all bytes that are not handed on
+abbrev pub pending_text : {R : Type 0} → (R → Option (List ℕ)) → Chunks R → Option (List ℕ)
+pending_text rem c = prepend_known (held_text c) (rem c.reader)
+
+-- a source of chunks has these records still to give
+pub record HasPending {R : Type 0} (rem : R → Option (List ℕ)) (c : Chunks R) (rows : List (List (List ℕ))) : Type 0 where
+  pub bytes : List ℕ
+  pub source : pending_text rem c ≡ Some bytes
+  pub reads : rows ≡ input_records bytes
+
+-- these bytes were taken off the front, and are whole records: what comes after them is read from there on
+abbrev pub TakesOff : {R : Type 0} → (R → Option (List ℕ)) → Chunks R → Chunks R → List ℕ → Type 0
+TakesOff rem old new chunk = (rows : List (List (List ℕ))) → HasPending rem old rows
+    → (more : List (List (List ℕ))) × (rows ≡ input_records chunk ++ more) × HasPending rem new more
+
+-- nothing was taken off
+abbrev pub KeepsPending : {R : Type 0} → (R → Option (List ℕ)) → Chunks R → Chunks R → Type 0
+KeepsPending rem old new = (rows : List (List (List ℕ))) → HasPending rem old rows → HasPending rem new rows

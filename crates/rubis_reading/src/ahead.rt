@@ -1,0 +1,149 @@
+// Records that were read and wait for their answers.
+
+ghost use Rattle.std.specs.Prelude.{◌≡◌, ◌++◌, ◌∷◌, [], length, IfNone, IfOk, IfSome, OnOk};
+ghost use Rattle.std.specs.Vec.Iter.{into_iter_items};
+ghost use Rattle.rubis_reading.specs.Runs.{all_came, flat, of_next, of_run};
+
+use crate::parsed::{Parsed, Run, push_run};
+use rubis_engine::OutOfMemory;
+use rubis_message::Packet;
+use std::alloc::Global;
+use std::marker::Model;
+use std::vec::IntoIter;
+
+// How many records a run has.
+fn count_run(run: &Run) -> usize
+    ensures { result ≡ length (of_run run.now) }
+{
+    match run {
+        Run::Messages(list) => list.len(),
+        Run::One(_) => 1,
+    }
+}
+
+// How many records several runs have, if a number can tell.
+#[tactic(auto, using(crate::proofs::RunFacts::count_facts))]
+fn count_runs(list: &[Run]) -> Option<usize>
+    ensures { IfSome result (λ many. many ≡ length (flat list.now)) }
+{
+    let mut many = 0;
+    for run in list {
+        let Some(more) = count_run(run).checked_add(many) else {
+            return None;
+        };
+        many = more;
+    }
+    Some(many)
+}
+
+// Puts the records of a run behind, one by one.
+fn add_singles(list: &mut Vec<Run>, run: Run) -> Result<(), OutOfMemory>
+    ensures { OnOk result (flat list.new.items ≡ flat list.old.items ++ of_run run) }
+{
+    let messages = match run {
+        Run::One(parsed) => return push_run(list, Run::One(parsed)),
+        Run::Messages(messages) => messages,
+    };
+    let mut rest = messages.into_iter();
+    'messages: for _ in 0..u64::MAX {
+        let Some(message) = rest.next() else {
+            return Ok(());
+        };
+        push_run(list, Run::One(Parsed::Came(Packet::Msg(message))))?;
+    }
+    Err(OutOfMemory)
+}
+
+// Puts the records of several runs behind, one by one.
+fn add_all_singles(list: &mut Vec<Run>, mut rest: IntoIter<Run>) -> Result<(), OutOfMemory>
+    ensures { OnOk result (flat list.new.items ≡ flat list.old.items ++ flat (into_iter_items rest)) }
+{
+    'runs: for _ in 0..u64::MAX {
+        let Some(run) = rest.next() else {
+            return Ok(());
+        };
+        add_singles(list, run)?;
+    }
+    Err(OutOfMemory)
+}
+
+/// Records that were read, in order. Contracts see those that are left.
+#[derive(Drop)]
+pub struct Ahead {
+    rest: IntoIter<Run>,
+    // How many records they are.
+    many: usize,
+    ghost same: { many ≡ length (flat (into_iter_items rest)) },
+}
+
+impl Model for Ahead {
+    ghost use Rattle.std.specs.Prelude.{List};
+    ghost use Rattle.std.specs.Vec.Iter.{into_iter_items};
+    ghost use Rattle.rubis_reading.specs.Runs.{flat};
+    ghost use Rattle.rubis_reading.specs.declared.parsed.Parsed.{Parsed};
+
+    ghost Value = { List Parsed };
+
+    ghost view = { λ a. flat (into_iter_items a.rest) };
+}
+
+impl Ahead {
+    /// None.
+    pub fn new(alloc: Global) -> Ahead
+        ensures { result ≡ [] }
+    {
+        Ahead {
+            rest: Vec::new(alloc).into_iter(),
+            many: 0,
+        }
+    }
+
+    /// What these runs have.
+    ///
+    /// # Errors
+    ///
+    /// Where they have more records than a number can tell.
+    pub fn of(list: Vec<Run>) -> Result<Ahead, OutOfMemory>
+        ensures { IfOk result (λ ahead. ahead ≡ flat list.items) }
+    {
+        let Some(many) = count_runs(list.as_slice()) else {
+            return Err(OutOfMemory);
+        };
+        Ok(Ahead {
+            rest: list.into_iter(),
+            many,
+        })
+    }
+
+    /// How many are left.
+    pub fn len(&self) -> usize
+        ensures { result ≡ length self.now }
+    {
+        self.many
+    }
+
+    /// The next, and where messages came together all of them.
+    pub fn next_run(&mut self) -> Option<Run>
+        ensures parts { self.old ≡ of_next result ++ self.new }
+        ensures none { IfNone result (self.old ≡ []) }
+    {
+        let Some(run) = self.rest.next() else {
+            return None;
+        };
+        self.many -= count_run(&run);
+        Some(run)
+    }
+
+    /// The same records, one by one.
+    pub fn singles(self, alloc: Global) -> Result<Ahead, OutOfMemory>
+        ensures { IfOk result (λ ahead. ahead ≡ self) }
+    {
+        let Ahead { rest, many } = self;
+        let mut list = Vec::new(alloc);
+        add_all_singles(&mut list, rest)?;
+        Ok(Ahead {
+            rest: list.into_iter(),
+            many,
+        })
+    }
+}

@@ -1,0 +1,90 @@
+// A source of chunks of text, each of whole records, over a reader.
+
+ghost use Rattle.std.specs.Prelude.{◌≡◌, ◌≤◌, ◌<◌, ◌-◌, drop, false, length, take, List, ℕ, IfSome, IfOk, OnOk};
+ghost use Rattle.rubis_reading.specs.Streams.{IsWhole};
+ghost use Rattle.rubis_engine.specs.Text.{input_records};
+ghost use Rattle.rubis_reading.specs.Chunked.{HasPending, KeepsPending, TakesOff, held_text, pending_text};
+
+use crate::cuts::whole_end;
+use crate::held::Held;
+use std::alloc::{AllocError, Global};
+use std::io::Read;
+
+/// Why no more text came.
+#[derive(Clone, Copy)]
+pub enum ChunkFault {
+    Read,
+    Memory,
+}
+
+/// The text of a reader, by chunks.
+#[derive(Drop)]
+pub struct Chunks<R> {
+    reader: R,
+    // What came from the reader and was not handed on. The byte that ends what was handed on stays as its first one, so no byte
+    // order mark can stand there.
+    held: Held,
+    // Where the reader puts what it gives.
+    block: Vec<u8>,
+}
+
+impl<R: Read + Drop> Chunks<R> {
+    /// The text of this reader, of which at most `size` bytes are asked for at a time.
+    pub fn new(alloc: Global, reader: R, size: usize) -> Result<Chunks<R>, AllocError>
+        ensures { IfOk result (λ chunks. IfSome (R.remaining reader) (λ input. HasPending R.remaining chunks (input_records input))) }
+    {
+        let mut block = Vec::new(alloc);
+        block.resize(size, 0)?;
+        Ok(Chunks {
+            reader,
+            held: Held::new(alloc),
+            block,
+        })
+    }
+}
+
+impl<R: Read> Chunks<R> {
+    /// The bytes that came and were not handed on.
+    pub fn held(&self) -> &[u8]
+        ensures { result.now ≡ held_text self.now }
+    {
+        self.held.bytes()
+    }
+
+    /// Asks the reader once for more, and says whether there was any. Where there was none the bytes that are held are the rest.
+    pub fn fill(&mut self) -> Result<bool, ChunkFault>
+        ensures keeps { OnOk result (KeepsPending R.remaining self.old self.new) }
+        ensures last { IfOk result (λ more. more ≡ false → (rows : List (List (List ℕ))) → HasPending R.remaining self.new rows → rows ≡ input_records (held_text self.new)) }
+    {
+        if self.block.is_empty() {
+            return Err(ChunkFault::Memory);
+        }
+        let Ok(given) = self.reader.read(&mut self.block) else {
+            return Err(ChunkFault::Read);
+        };
+        if self.held.put(&self.block[..given]).is_err() {
+            return Err(ChunkFault::Memory);
+        }
+        Ok(given > 0)
+    }
+
+    /// How many of the bytes that are held are whole records: as many as lie within `most` bytes, if a record ends there.
+    pub fn whole(&self, most: usize) -> usize
+        ensures within { result ≤ length (held_text self.now) }
+        ensures whole { 0 < result → IsWhole (take result (held_text self.now)) }
+    {
+        let held = self.held();
+        let front = whole_end(&held[..most.min(held.len())]);
+        if front > 1 { front } else { whole_end(held) }
+    }
+
+    /// Hands on that many bytes, which are whole records.
+    pub fn pass(&mut self, many: usize)
+        requires some { 0 < many }
+        requires within { many ≤ length (held_text self.old) }
+        requires whole { IsWhole (take many (held_text self.old)) }
+        ensures { TakesOff R.remaining self.old self.new (take many (held_text self.old)) }
+    {
+        self.held.pass(many - 1);
+    }
+}

@@ -1,0 +1,169 @@
+// What the records of a piece of text are.
+
+ghost use Rattle.std.specs.Prelude.{◌≡◌, ◌≤◌, ◌++◌, ◌∷◌, [], None, List, ℕ, IfOk, OnOk};
+ghost use Rattle.rubis_engine.specs.Reading.{Gives};
+ghost use Rattle.rubis_engine.specs.Text.{input_records};
+ghost use Rattle.rubis_message.specs.Readings.{packet_of};
+ghost use Rattle.rubis_reading.specs.Parsed.{AreParsed, IsParsed};
+ghost use Rattle.rubis_reading.specs.Runs.{all_came, flat, of_run};
+ghost use Rattle.rubis_message.specs.declared.tokens.Packet.TheVariants.{Msg};
+ghost use Rattle.rubis_reading.specs.declared.parsed.Parsed.TheVariants.{Came};
+
+use rubis_engine::{InputRecord, OutOfMemory, Records};
+use rubis_message::{Message, Packet, ReadFault, Request, read_packet, read_request};
+use std::alloc::Global;
+use std::io::Read;
+use std::mem;
+
+/// What a record is.
+#[derive(Drop)]
+pub enum Parsed {
+    /// What another site sends.
+    Came(Packet),
+    /// What a user asks.
+    Asked(Request),
+    /// Neither.
+    Neither,
+}
+
+// What a record is that is no packet.
+#[tactic(auto, using(crate::proofs::ParsedFacts::asked, crate::proofs::ParsedFacts::neither))]
+fn read_as_request(alloc: Global, fields: &InputRecord, sites: u8) -> Result<Parsed, OutOfMemory>
+    requires { packet_of sites fields.now ≡ None }
+    ensures { IfOk result (λ parsed. IsParsed sites fields.now parsed) }
+{
+    match read_request(alloc, fields, sites) {
+        Ok(request) => Ok(Parsed::Asked(request)),
+        Err(ReadFault::BadRecord) => Ok(Parsed::Neither),
+        Err(ReadFault::Memory) => Err(OutOfMemory),
+    }
+}
+
+/// What records are, one after the other: messages, which come in great numbers, in a list of their own.
+#[derive(Drop)]
+pub enum Run {
+    /// Messages of other sites.
+    Messages(Vec<Message>),
+    /// One record.
+    One(Parsed),
+}
+
+/// What a record is.
+#[tactic(auto, using(crate::proofs::ParsedFacts::came))]
+pub fn read_record(alloc: Global, fields: &InputRecord, sites: u8) -> Result<Parsed, OutOfMemory>
+    requires { sites ≤ 16 }
+    ensures { IfOk result (λ parsed. IsParsed sites fields.now parsed) }
+{
+    match read_packet(alloc, fields, sites) {
+        Ok(packet) => Ok(Parsed::Came(packet)),
+        Err(ReadFault::BadRecord) => read_as_request(alloc, fields, sites),
+        Err(ReadFault::Memory) => Err(OutOfMemory),
+    }
+}
+
+/// Puts a run behind.
+#[tactic(auto, using(crate::proofs::RunFacts::run_facts))]
+pub(crate) fn push_run(list: &mut Vec<Run>, run: Run) -> Result<(), OutOfMemory>
+    ensures { OnOk result (flat list.new.items ≡ flat list.old.items ++ of_run run) }
+{
+    match list.push(run) {
+        Ok(()) => Ok(()),
+        Err(_) => Err(OutOfMemory),
+    }
+}
+
+// Puts a message to those that came together.
+#[tactic(auto, using(crate::proofs::RunFacts::came_facts))]
+fn push_message(messages: &mut Vec<Message>, message: Message) -> Result<(), OutOfMemory>
+    ensures { OnOk result (all_came messages.new.items ≡ all_came messages.old.items ++ Came (Msg message) ∷ []) }
+{
+    match messages.push(message) {
+        Ok(()) => Ok(()),
+        Err(_) => Err(OutOfMemory),
+    }
+}
+
+// Puts the messages behind that came together, if there are any.
+#[inline(always)]
+fn keep_messages(list: &mut Vec<Run>, messages: Vec<Message>) -> Result<(), OutOfMemory>
+    ensures { OnOk result (flat list.new.items ≡ flat list.old.items ++ all_came messages.items) }
+{
+    if messages.is_empty() {
+        return Ok(());
+    }
+    push_run(list, Run::Messages(messages))
+}
+
+// Puts the messages behind that came together, and what came after them.
+fn keep_one(list: &mut Vec<Run>, messages: Vec<Message>, parsed: Parsed) -> Result<(), OutOfMemory>
+    ensures { OnOk result (flat list.new.items ≡ (flat list.old.items ++ all_came messages.items) ++ parsed ∷ []) }
+{
+    keep_messages(list, messages)?;
+    push_run(list, Run::One(parsed))
+}
+
+// Puts one more behind: a message to those that came together, or anything else after them.
+#[inline(always)]
+fn keep(
+    alloc: Global,
+    list: &mut Vec<Run>,
+    messages: &mut Vec<Message>,
+    parsed: Parsed,
+) -> Result<(), OutOfMemory>
+    ensures { OnOk result (flat list.new.items ++ all_came messages.new.items ≡ (flat list.old.items ++ all_came messages.old.items) ++ parsed ∷ []) }
+{
+    match parsed {
+        Parsed::Came(Packet::Msg(message)) => push_message(messages, message),
+        Parsed::Came(Packet::Token(token)) => {
+            let before = mem::replace(messages, Vec::new(alloc));
+            keep_one(list, before, Parsed::Came(Packet::Token(token)))
+        }
+        Parsed::Asked(request) => {
+            let before = mem::replace(messages, Vec::new(alloc));
+            keep_one(list, before, Parsed::Asked(request))
+        }
+        Parsed::Neither => {
+            let before = mem::replace(messages, Vec::new(alloc));
+            keep_one(list, before, Parsed::Neither)
+        }
+    }
+}
+
+// What all records of a reader are.
+fn read_all<R: Read>(
+    alloc: Global,
+    records: &mut Records<R>,
+    list: &mut Vec<Run>,
+    messages: &mut Vec<Message>,
+    sites: u8,
+) -> Result<(), OutOfMemory>
+    requires few { sites ≤ 16 }
+    requires none { list.old.items ≡ [] }
+    requires no_messages { messages.old.items ≡ [] }
+    ensures { OnOk result ((rows : List (List (List ℕ))) → Gives R.remaining records.old rows → AreParsed sites rows (flat list.new.items ++ all_came messages.new.items)) }
+{
+    'steps: for _ in 0..u64::MAX {
+        let Ok(found) = records.advance() else {
+            return Err(OutOfMemory);
+        };
+        if !found {
+            return Ok(());
+        }
+        let parsed = read_record(alloc, records.fields(), sites)?;
+        keep(alloc, list, messages, parsed)?;
+    }
+    Err(OutOfMemory)
+}
+
+/// What the records of a piece of text are, in order.
+pub fn read_piece(alloc: Global, piece: &[u8], sites: u8) -> Result<Vec<Run>, OutOfMemory>
+    requires { sites ≤ 16 }
+    ensures { IfOk result (λ list. AreParsed sites (input_records piece.now) (flat list.items)) }
+{
+    let mut list = Vec::new(alloc);
+    let mut messages = Vec::new(alloc);
+    let mut records = Records::new(alloc, piece);
+    read_all(alloc, &mut records, &mut list, &mut messages, sites)?;
+    keep_messages(&mut list, messages)?;
+    Ok(list)
+}

@@ -1,0 +1,61 @@
+// A piece of text is read by several threads.
+
+ghost use Rattle.std.specs.Prelude.{◌≡◌, ◌≤◌, ◌++◌, IfOk};
+ghost use Rattle.std.specs.Thread.{IsSync};
+ghost use Rattle.rubis_engine.specs.Text.{input_records};
+ghost use Rattle.rubis_reading.specs.Parsed.{AreParsed};
+ghost use Rattle.rubis_reading.specs.Runs.{flat};
+
+use crate::cuts::whole_end;
+use crate::parsed::{Run, read_piece};
+use rubis_engine::OutOfMemory;
+use std::alloc::Global;
+use std::thread;
+use std::thread::Threads;
+
+// What was read of the front of a piece, and then what was read of the rest.
+fn both(mut front: Vec<Run>, mut rest: Vec<Run>) -> Result<Vec<Run>, OutOfMemory>
+    ensures { IfOk result (λ list. list.items ≡ front.items ++ rest.items) }
+{
+    match front.append(&mut rest) {
+        Ok(()) => Ok(front),
+        Err(_) => Err(OutOfMemory),
+    }
+}
+
+/// What the records of a piece of text are, in order, read by at most `readers` threads, the caller's included: each reads whole
+/// records, and as much of the text as the others.
+pub fn read_parts<T: Threads + Sync>(
+    rt: &T,
+    alloc: Global,
+    piece: &[u8],
+    sites: u8,
+    readers: usize,
+) -> Result<Vec<Run>, OutOfMemory>
+    requires { sites ≤ 16 }
+    ensures { IfOk result (λ list. AreParsed sites (input_records piece.now) (flat list.items)) }
+{
+    if readers < 2 {
+        return read_piece(alloc, piece, sites);
+    }
+    let cut = whole_end(&piece[..piece.len() / readers]);
+    if cut < 2 {
+        return read_piece(alloc, piece, sites);
+    }
+    let (front, _) = piece.split_at(cut);
+    // The byte that ends the front stays before the rest, so no byte order mark can stand there.
+    let (_, rest) = piece.split_at(cut - 1);
+    let fewer = readers - 1;
+    let (first, others) = thread::join(
+        rt,
+        move || -> Result<Vec<Run>, OutOfMemory>
+            requires { sites ≤ 16 }
+            ensures { IfOk result (λ list. AreParsed sites (input_records front.entry.now) (flat list.items)) }
+        { read_piece(alloc, front, sites) },
+        move || -> Result<Vec<Run>, OutOfMemory>
+            requires { IsSync T.row × (sites ≤ 16) }
+            ensures { IfOk result (λ list. AreParsed sites (input_records rest.entry.now) (flat list.items)) }
+        { read_parts(rt, alloc, rest, sites, fewer) },
+    );
+    both(first?, others?)
+}
