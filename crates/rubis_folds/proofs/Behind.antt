@@ -1,11 +1,10 @@
 -- Shards that stand at stops of a log, and the parts that aren't done.
-use Rattle.std.proofs.Common.{◌≡◌, ℕ, zero, suc, ◌+◌, ◌-◌, ◌<◌, ◌≤◌, List, [], ◌∷◌, ◌++◌, length, take, drop, get_or, Bool, true, false, cond, refl, sym, ap, ◌∙◌, subst, arith, ⊎_elim}
-use Rattle.std.specs.Prelude.{Some, nat_eq, nat_lt, slice_get, slice_index, slice_range, filter, flat_map, map}
-use Rattle.std.proofs.lemmas.Bool.Decides.{Decides-eqb, nat_tests}
+use Rattle.std.proofs.Common.{◌≡◌, ℕ, ◌+◌, ◌-◌, ◌<◌, ◌≤◌, List, [], ◌∷◌, ◌++◌, length, take, drop, get_or, Bool, true, false, cond, refl, sym, ap, ◌∙◌, arith}
+use Rattle.std.specs.Prelude.{Some, nat_lt, slice_index, slice_range, filter, flat_map, map}
+use Rattle.std.proofs.lemmas.Bool.Decides.{nat_tests}
 use Rattle.std.proofs.Math.Seq.{take-add}
 use Rattle.std.proofs.lemmas.Grind.{flat_map-append}
 use Rattle.std.proofs.lemmas.List.{append-nil, drop-drop, get_or-map, length-append, length-drop, length-map, length-take, length-take-le, take_more, take-take}
-use Rattle.std.proofs.lemmas.Option.{slice_get-get_or, slice_get_within, get_or_from_slice_get}
 use Rattle.rubis_schema.specs.Keys.{home}
 use Rattle.rubis_schema.specs.declared.ids.Id.{Id}
 use Rattle.rubis_shadow.specs.declared.changes.Effect.{Effect}

@@ -2,17 +2,18 @@
 use Rattle.std.proofs.Common.{◌≡◌, ℕ, zero, suc, ◌+◌, ◌<◌, ◌≤◌, List, [], ◌∷◌, ◌++◌, length, take, get_or, refl, sym, ap, ◌∙◌, subst, arith}
 use Rattle.std.specs.Prelude.{Result, Ok, Err, OnErr, true}
 use Rattle.std.specs.Result.{is_err}
-use Rattle.std.proofs.lemmas.List.{get_or-map, length-map, take_more, take-map}
+use Rattle.std.proofs.lemmas.List.{append-nil, get_or-map, length-map, take_more, take-map}
 use Rattle.rubis_message.specs.Message.{Message}
-use Rattle.rubis_model.specs.Log.{Core, core, cores, share}
+use Rattle.rubis_model.specs.Log.{Core, core, cores, number_parts, numbered_from, parts_of, share}
 use Rattle.rubis_model.proofs.CoreLists.{cores_push}
 use Rattle.rubis_shard.specs.States.{ShardState, with_parts}
 use Rattle.rubis_shard.specs.Holdings.{parts_at}
 use Rattle.rubis_shard.specs.Entries.{core_of, numbered_of}
-use Rattle.rubis_shard.specs.PartHomes.{AreHomes, AreHomesOf}
+use Rattle.rubis_shard.specs.PartHomes.{AreHomes, AreHomesOf, NoneAt}
 use Rattle.rubis_shard.specs.declared.entries.LogEntry.{LogEntry}
 use Rattle.rubis_shard.specs.declared.part_homes.PartHomes.{PartHomes}
 use Rattle.rubis_shard.proofs.Folds.{with_append}
+use Rattle.rubis_shard.proofs.Parts.{parts_at_append}
 use Rattle.rubis_pieces.proofs.Dealt.{share_turn}
 use Rattle.rubis_folds.specs.Following.{IsFollowed}
 
@@ -43,6 +44,32 @@ follow_turn first i batch x m s now next l got counted is inv turn =
     turn ∙ (λ j. with_parts (inv j) (parts_at (inv j).shards (inv j).number (numbered_of m)))
     ∙ sym (with_append s a b)
     ∙ ap (with_parts s) (share_turn s.shards s.number first i batch x m a (a ++ b) l got counted is refl refl)
+
+-- a message of which the shard has no part is passed over
+passed : (shards k first i : ℕ) (batch : List Core) (homes : List PartHomes) (d : PartHomes) → i < length batch → k < shards
+    → AreHomes shards batch homes → NoneAt k (get_or homes i d)
+    → share shards first (take (suc i) batch) k ≡ share shards first (take i batch) k
+passed shards k first i [] homes d l within all none = absurd (omega (arith, l))
+passed shards k first i (m ∷ ms) [] d l within all none = absurd all
+passed shards k first zero (m ∷ ms) (h ∷ hs) d l within all none =
+    ap (parts_at shards k) (append-nil (number_parts first 1 m.id (parts_of m))) ∙ none shards first m within all.0
+passed shards k first (suc i) (m ∷ ms) (h ∷ hs) d l within all none =
+    parts_at_append shards k (number_parts first 1 m.id (parts_of m)) (numbered_from (first + 1) (take (suc i) ms))
+    ∙ ap (λ ps. parts_at shards k (number_parts first 1 m.id (parts_of m)) ++ ps)
+    (passed shards k (first + 1) i ms hs d (omega (arith, l)) within all.1 none)
+    ∙ sym (parts_at_append shards k (number_parts first 1 m.id (parts_of m)) (numbered_from (first + 1) (take i ms)))
+
+pub pass_turn : (first i : ℕ) (batch : List Message) (homes : List PartHomes) (d : PartHomes) (s now : ShardState)
+    → i < length batch → s.number < s.shards → AreHomes s.shards (cores batch) homes → NoneAt s.number (get_or homes i d)
+    → now ≡ with_parts s (share s.shards first (cores (take i batch)) s.number)
+    → now ≡ with_parts s (share s.shards first (cores (take (i + 1) batch)) s.number)
+pass_turn first i batch homes d s now l within all none inv =
+    let inside : i < length (cores batch) = (let many = length-map batch core in omega (arith, l, many)) in
+    let more : i + 1 ≡ suc i = omega arith in
+    let same = passed s.shards s.number first i (cores batch) homes d inside within all none in
+    inv ∙ ap (λ ms. with_parts s (share s.shards first ms s.number)) (sym (take-map core i batch))
+    ∙ ap (with_parts s) (sym same)
+    ∙ ap (λ ms. with_parts s (share s.shards first ms s.number)) (ap (λ n. take n (cores batch)) (sym more) ∙ take-map core (i + 1) batch)
 
 pub homes_turn : (shards i : ℕ) (batch : List Message) (x : Message) (m : LogEntry) (h : PartHomes) (now next : List PartHomes)
     → i < length batch → x ≡ get_or batch i x → core_of m ≡ core x → next ≡ now ++ h ∷ [] → AreHomesOf shards (core_of m) h

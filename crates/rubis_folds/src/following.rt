@@ -38,10 +38,15 @@ pub fn follow(shard: &mut Shard, batch: &[Message], homes: &[PartHomes], first: 
     requires homes { AreHomes shard.old.shards (cores batch.now) homes.now }
     ensures { IsFollowed first (cores batch.now) shard.old result shard.new }
 {
+    // Most messages have no part here, and their homes say so in less memory than they themselves.
+    let number = shard.number();
     for place in 0..batch.len() {
-        let entry = LogEntry::new(first + place as u32, &batch[place]);
-        if shard.take_on(&entry, &homes[place]).is_err() {
-            return place;
+        let homes = &homes[place];
+        if homes.has(number) {
+            let entry = LogEntry::new(first + place as u32, &batch[place]);
+            if shard.take_on(&entry, homes).is_err() {
+                return place;
+            }
         }
     }
     batch.len()

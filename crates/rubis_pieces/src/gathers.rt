@@ -100,9 +100,9 @@ fn first_fault(list: &[Done], seen: &mut [bool]) -> Option<FaultKind>
     None
 }
 
-/// Puts the shards of a set in order of number. `seen` has a flag for each shard, none of which is set. Where the list isn't each
-/// shard of the set once, it comes back with the first fault.
-pub fn in_order(list: Vec<Done>, seen: &mut [bool]) -> Result<Vec<Done>, GatherFault>
+// Puts the shards of a set in order of number. `seen` has a flag for each shard, none of which is set. Where the list isn't each
+// shard of the set once, it comes back with the first fault.
+fn in_order(list: Vec<Done>, seen: &mut [bool]) -> Result<Vec<Done>, GatherFault>
     requires { AllUnseen seen.old }
     ensures order { IfOk result (λ ordered. IsInOrder (length seen.old) list.items ordered.items) }
     ensures fault { IfErr result (λ fault. IsFault (length seen.old) (numbers_of list.items) fault.kind) }

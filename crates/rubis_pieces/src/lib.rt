@@ -6,9 +6,7 @@ mod ordering;
 mod pieces;
 mod splits;
 
-pub use gathers::{
-    Counted, FaultKind, GatherFault, Gathered, Places, gather, gather_counted, in_order,
-};
+pub use gathers::{Counted, FaultKind, GatherFault, Gathered, Places, gather, gather_counted};
 pub use ordering::misfits;
 pub use pieces::{Done, Left, Piece};
 pub use splits::{SPLIT_MIN, split, split_alone};

@@ -1,19 +1,26 @@
 -- One message folded on the shards of a set, home by home.
 use Rattle.std.proofs.Common.{◌≡◌, ℕ, zero, suc, ◌+◌, ◌<◌, ◌≤◌, List, [], ◌∷◌, length, get_or, set, refl, sym, ap, ◌∙◌, subst}
-use Rattle.std.proofs.Common.{arith, length-set, ⊎_elim, true, false, Bool}
-use Rattle.std.specs.Prelude.{Some, slice_get, Result, Ok, Err, OnOk, OnErr}
+use Rattle.std.proofs.Common.{arith, cond, length-set, ⊎_elim, true, false, Bool}
+use Rattle.std.specs.Prelude.{None, Option, Some, slice_get, Result, Ok, Err, OnOk, OnErr}
 use Rattle.std.specs.Result.{is_ok}
 use Rattle.std.proofs.lemmas.Bool.{cases_eq, cases_lt}
 use Rattle.std.proofs.lemmas.List.{append-nil, set-get_or}
 use Rattle.std.proofs.lemmas.Option.{slice_get-get_or, slice_get_past, slice_get_within, get_or_from_slice_get}
+use Rattle.rubis_schema.specs.Keys.{home}
+use Rattle.rubis_schema.specs.declared.ids.Id.{Id}
+use Rattle.rubis_shadow.specs.declared.changes.Effect.{Effect}
 use Rattle.rubis_shadow.specs.declared.numbered.Numbered.{Numbered}
+use Rattle.rubis_shadow.proofs.Lists.{few_parts}
 use Rattle.rubis_model.specs.Log.{Core, Folded, fold_on, number_parts, parts_of, share}
 use Rattle.rubis_model.specs.Shares.{part_of}
 use Rattle.rubis_shard.specs.States.{ShardState, with_parts}
-use Rattle.rubis_shard.specs.Holdings.{shard_of_log, parts_at, AreInOrder, FoldsOn, TakesOn}
-use Rattle.rubis_shard.specs.Messages.{FoldsFrom, emptied}
+use Rattle.rubis_shard.specs.Holdings.{home_or, shard_of_log, parts_at, AreInOrder, FoldsOn, TakesOn}
+use Rattle.rubis_shard.specs.Messages.{FoldsFrom, emptied, list_of}
+use Rattle.rubis_shard.specs.PartHomes.{NoneAt}
+use Rattle.rubis_shard.specs.declared.part_homes.PartHomes.{PartHomes}
+use Rattle.rubis_shard.proofs.Folds.{not_equal}
 use Rattle.rubis_shard.proofs.Logs.{shard_with_share}
-use Rattle.rubis_shard.proofs.Parts.{own_after}
+use Rattle.rubis_shard.proofs.Parts.{none_of_all, own_after}
 use Rattle.rubis_shard.proofs.Items.{written_here, written_elsewhere}
 
 set_twice : {X : Type 0} (xs : List X) (i : ℕ) (x y : X) → set (set xs i y) i x ≡ set xs i x
@@ -295,3 +302,19 @@ folds_one_ok (Ok u) ts at x y ns order there is =
     folds_on ts at x y (parts_at (length ts) at ns) there
     (is ∙ (λ i. with_parts x (parts_at ((order at x there).1 i) ((order at x there).0 i) ns)))
 folds_one_ok (Err u) ts at x y ns order there is = tt
+
+-- ---- messages of which a shard has no part
+apart : (shards k h entry part : ℕ) (id : Id) (o : Option Effect) → k < shards → ¬ (h ≡ k) → h ≡ home_or shards o
+    → parts_at shards k (number_parts entry part id (list_of o)) ≡ []
+apart shards k h entry part id None within other is = refl
+apart shards k h entry part id (Some e) within other is =
+    ap (λ b. cond b (record { entry = entry; part = part; id = id; effect = e } ∷ []) [])
+    (not_equal (home shards e.key) k (λ same. other (is ∙ same)))
+
+pub none_of_homes : (k : ℕ) (h : PartHomes) → ¬ (h.first ≡ k) → ¬ (h.second ≡ k) → ¬ (h.third ≡ k) → NoneAt k h
+none_of_homes k h first second third shards entry m within homes =
+    let ps = parts_of m in
+    none_of_all shards k entry m.id ps (few_parts m.id m.red m.shadow)
+    (apart shards k h.first entry 1 m.id (slice_get ps 0) within first homes.first)
+    (apart shards k h.second entry 2 m.id (slice_get ps 1) within second homes.second)
+    (apart shards k h.third entry 3 m.id (slice_get ps 2) within third homes.third)

@@ -30,14 +30,22 @@ pub parts_at_append : (shards k : ℕ) (a b : List Numbered)
     → parts_at shards k (a ++ b) ≡ parts_at shards k a ++ parts_at shards k b
 parts_at_append shards k = filter-append (λ n. nat_eq (home shards n.effect.key) k)
 
+pub none_of_all : (shards k entry : ℕ) (id : Id) (es : List Effect) → length es ≤ PARTS_MAX
+    → parts_at shards k (number_parts entry 1 id (list_of (slice_get es 0))) ≡ []
+    → parts_at shards k (number_parts entry 2 id (list_of (slice_get es 1))) ≡ []
+    → parts_at shards k (number_parts entry 3 id (list_of (slice_get es 2))) ≡ [] → parts_at shards k (number_parts entry 1 id es) ≡ []
+none_of_all shards k entry id es few a b c =
+    let second = number_parts entry 2 id (list_of (slice_get es 1)) in
+    let third = number_parts entry 3 id (list_of (slice_get es 2)) in
+    ap (parts_at shards k) (by_place entry id es few)
+    ∙ parts_at_append shards k (number_parts entry 1 id (list_of (slice_get es 0))) (second ++ third)
+    ∙ (λ i. a i ++ parts_at shards k (second ++ third))
+    ∙ parts_at_append shards k second third ∙ (λ i. b i ++ c i)
+
 pub none_at_all : (m : LogEntry) (shards k : ℕ) → parts_at shards k (at_place m 0) ≡ []
     → parts_at shards k (at_place m 1) ≡ []
     → parts_at shards k (at_place m 2) ≡ [] → parts_at shards k (numbered_of m) ≡ []
-none_at_all m shards k a b c =
-    ap (parts_at shards k) (by_place m.number m.id (parts_of (core_of m)) (few_parts m.id m.red m.shadow.now))
-    ∙ parts_at_append shards k (at_place m 0) (at_place m 1 ++ at_place m 2)
-    ∙ (λ i. a i ++ parts_at shards k (at_place m 1 ++ at_place m 2))
-    ∙ parts_at_append shards k (at_place m 1) (at_place m 2) ∙ (λ i. b i ++ c i)
+none_at_all m shards k a b c = none_of_all shards k m.number m.id (parts_of (core_of m)) (few_parts m.id m.red m.shadow.now) a b c
 
 -- rows at home stay so where only parts are folded on whose home it is
 pub own_after : (shards k : ℕ) (f g : Folded) (ns : List Numbered) → part_of shards k f.tables ≡ f.tables

@@ -45,7 +45,7 @@ impl<'a> MessageParts<'a> {
         }
     }
 
-    /// The parts of this entry, on that many shards, with these homes.
+    /// The same, where the homes of its parts are known.
     #[inline(always)]
     pub fn with(entry: &LogEntry<'a>, shards: usize, homes: &PartHomes) -> MessageParts<'a>
         requires { AreHomesOf shards (core_of entry.now) homes.now }

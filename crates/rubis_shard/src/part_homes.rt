@@ -1,8 +1,8 @@
 //! The homes of the parts of a message, a byte each.
 
-ghost use Rattle.std.specs.Prelude.{◌≤◌, ◌<◌};
+ghost use Rattle.std.specs.Prelude.{◌≡◌, ◌≤◌, ◌<◌, false};
 ghost use Rattle.rubis_shard.specs.Entries.{core_of};
-ghost use Rattle.rubis_shard.specs.PartHomes.{AreHomesOf};
+ghost use Rattle.rubis_shard.specs.PartHomes.{AreHomesOf, NoneAt};
 
 use crate::entries::LogEntry;
 use crate::messages::home_at;
@@ -16,7 +16,7 @@ pub struct PartHomes {
 }
 
 impl PartHomes {
-    /// Those of the message of this entry.
+    /// The homes of the parts of this entry.
     #[inline(always)]
     pub fn of(entry: &LogEntry<'_>, shards: usize) -> PartHomes
         requires some { 0 < shards }
@@ -28,5 +28,16 @@ impl PartHomes {
             second: home_at(entry, shards, 1) as u8,
             third: home_at(entry, shards, 2) as u8,
         }
+    }
+
+    /// Whether one of the parts has its home at shard `number`.
+    #[tactic(auto, using(crate::proofs::Homes::none_of_homes))]
+    #[inline(always)]
+    pub fn has(&self, number: usize) -> bool
+        ensures { result ≡ false → NoneAt number self.now }
+    {
+        usize::from(self.first) == number
+            || usize::from(self.second) == number
+            || usize::from(self.third) == number
     }
 }

@@ -243,8 +243,8 @@ impl Shard {
         Ok(())
     }
 
-    /// Folds those parts of an entry of the log on whose home it is, by the homes of its parts. Without memory nothing
-    /// changes.
+    /// Folds those parts of an entry of the log whose home is this shard; `homes` are the homes of all its parts. Without memory
+    /// nothing changes.
     #[inline(always)]
     pub fn take_on(&mut self, entry: &LogEntry<'_>, homes: &PartHomes) -> Result<(), AllocError>
         requires number { self.old.number < self.old.shards }
@@ -253,10 +253,7 @@ impl Shard {
         ensures err { OnErr result (self.new ≡ self.old) }
     {
         let at = self.number;
-        if usize::from(homes.first) != at
-            && usize::from(homes.second) != at
-            && usize::from(homes.third) != at
-        {
+        if !homes.has(at) {
             return Ok(());
         }
         let message = MessageParts::with(entry, self.shards, homes);

@@ -218,8 +218,7 @@ impl Tables {
         self.shards[share.number].apply(share, from)
     }
 
-    /// Folds those parts of the message that is this entry of a log whose home is that shard: all of them, or none where memory is
-    /// refused.
+    /// Folds the parts of this entry of a log whose home is shard `number`: all of them, or none where memory is refused.
     pub fn take_on(&mut self, number: usize, entry: &LogEntry<'_>) -> Result<(), AllocError>
         requires there { number < length self.old }
         requires few { length self.old ≤ 255 }

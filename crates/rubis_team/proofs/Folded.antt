@@ -1,15 +1,13 @@
 -- What the workers give back, whoever took what, gathered by number.
-use Rattle.std.proofs.Common.{◌≡◌, ◌<◌, ℕ, suc, List, [], ◌∷◌, length, refl, sym, ap, ◌∙◌, subst}
+use Rattle.std.proofs.Common.{◌≡◌, ◌<◌, suc, List, [], ◌∷◌, length, refl, sym, ap, ◌∙◌, subst}
 use Rattle.std.specs.Prelude.{IfOk, Result, Ok, Err}
 use Rattle.std.specs.List.{AllZip}
 use Rattle.std.specs.List.Sorted.{IsPermutation}
 use Rattle.std.proofs.lemmas.List.{length-map}
 use Rattle.std.proofs.lemmas.List.Sorted.{IsPermutation-sym, IsPermutation-trans, IsPermutation-map}
-use Rattle.rubis_model.specs.Log.{Core}
 use Rattle.rubis_shard.specs.States.{ShardState}
 use Rattle.rubis_shard.specs.Holdings.{AreInOrder}
 use Rattle.rubis_shard.specs.declared.shares.Share.{Share}
-use Rattle.rubis_pieces.specs.Shares.{AreShares}
 use Rattle.rubis_folds.specs.Batches.{Belong, AreFolded, AreFoldedTo, IsBegun}
 use Rattle.rubis_pieces.specs.Faults.{IsFault, numbers_of}
 use Rattle.rubis_pieces.specs.Gathered.{IsGathered, IsInOrder}

@@ -1,4 +1,4 @@
-//! A team of workers who take the shards of a batch from a board, fold each shard's share on it, and give it back.
+//! A team of workers who take the shards of a batch from a board, fold each shard's parts on it, and give it back.
 #![tactic(auto)]
 
 mod batches;

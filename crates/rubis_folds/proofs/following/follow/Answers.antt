@@ -6,22 +6,28 @@ use Rattle.rubis_shard.specs.PartHomes.{AreHomesOf}
 use Rattle.rubis_shard.specs.States.{ShardState}
 use Rattle.rubis_shard.specs.declared.part_homes.PartHomes.{PartHomes}
 use Rattle.rubis_shard.proofs.Folds.{of_ok}
-use Rattle.rubis_folds.proofs.Follows.{follow_turn, homes_at, homes_many, of_err, stops}
+use Rattle.rubis_folds.proofs.Follows.{follow_turn, homes_at, homes_many, of_err, pass_turn, stops}
 use Rattle.rubis_folds.proofs.following.follow.Goals as goal
+use Rattle.rubis_folds.proofs.following.follow.Goals.{then-has+else-is_err, else-has}
+
+abbrev none : PartHomes
+none = record { first = 0; second = 0; third = 0 }
 
 pub take_on-requires-clause-homes : goal.take_on-requires-clause-homes
 take_on-requires-clause-homes c =
     let same : c.loop-place.shard.shards ≡ c.args.shard.now.shards = ap (λ (s : ShardState). s.shards) c.loop-place.invariant in
-    let none : PartHomes = record { first = 0; second = 0; third = 0 } in
     subst (λ n. AreHomesOf n (core_of c.new-entry.result) (get_or c.args.homes.now c.loop-place.place none)) (sym same)
     (homes_at c.args.shard.now.shards c.loop-place.place c.args.batch.now c.args.homes.now c.index-batch-place.result
     c.new-entry.result none (search rules) (search rules) c.new-entry.ensures.core c.requires.homes)
 
 pub loop-place-preserved : goal.loop-place-preserved
-loop-place-preserved c =
-    follow_turn c.args.first c.loop-place.place c.args.batch.now c.index-batch-place.result c.new-entry.result
-    c.args.shard.now c.loop-place.shard c.take_on.new.self (search rules) (search rules) (search rules)
-    c.new-entry.ensures.core c.loop-place.invariant (of_ok _ c.take_on.result (search rules) c.take_on.ensures.ok)
+loop-place-preserved c = elim c.if-has.branch [
+  | then-has+else-is_err w ↦ w.shard-is ∙ follow_turn c.args.first c.loop-place.place c.args.batch.now w.index-batch-place.result w.new-entry.result
+      c.args.shard.now c.loop-place.shard w.take_on.new.self (search rules) (search rules) (search rules)
+      w.new-entry.ensures.core c.loop-place.invariant (of_ok _ w.take_on.result (search rules) w.take_on.ensures.ok)
+  | else-has w ↦ w.shard-is ∙ pass_turn c.args.first c.loop-place.place c.args.batch.now c.args.homes.now none c.args.shard.now c.loop-place.shard
+      (search rules) c.requires.number c.requires.homes (search rules) c.loop-place.invariant
+]
 
 pub bounds-homes-place : goal.bounds-homes-place
 bounds-homes-place c =

@@ -1,7 +1,4 @@
-use Rattle.std.proofs.Common.{rules, ◌≡◌, refl, sym, ap, ◌∙◌, length, take, arith}
-use Rattle.std.proofs.lemmas.List.{take_all}
-use Rattle.rubis_model.specs.Log.{cores}
-use Rattle.rubis_folds.specs.Following.{parts_behind}
+use Rattle.std.proofs.Common.{rules, length, arith}
 use Rattle.rubis_folds.proofs.Tallies.{behind_turn}
 use Rattle.rubis_folds.proofs.waiting.count_behind.Goals as goal
 

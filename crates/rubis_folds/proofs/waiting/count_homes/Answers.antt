@@ -1,4 +1,4 @@
-use Rattle.std.proofs.Common.{length, ◌∙◌, arith}
+use Rattle.std.proofs.Common.{length, arith}
 use Rattle.std.specs.Prelude.{slice_get}
 use Rattle.rubis_model.specs.Log.{parts_of}
 use Rattle.rubis_folds.proofs.Tallies.{message_parts}

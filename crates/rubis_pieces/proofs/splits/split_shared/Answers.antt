@@ -1,5 +1,5 @@
 use Rattle.std.proofs.Common.{◌≡◌, ◌-◌, ◌∙◌, ap, subst, arith}
-use Rattle.std.specs.Prelude.{Ok, IfOk, map}
+use Rattle.std.specs.Prelude.{IfOk, map}
 use Rattle.std.specs.List.{AllZip, range_with_len}
 use Rattle.rayon.specs.Numbers.{nat_range}
 use Rattle.rubis_model.specs.Log.{cores, numbered_from}

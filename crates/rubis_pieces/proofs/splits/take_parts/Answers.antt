@@ -1,4 +1,4 @@
-use Rattle.std.proofs.Common.{rules, arith, sym, ◌∙◌}
+use Rattle.std.proofs.Common.{rules, arith, sym}
 use Rattle.std.proofs.lemmas.List.{append-nil}
 use Rattle.rubis_model.specs.Log.{parts_of}
 use Rattle.rubis_shard.specs.Entries.{core_of}
