@@ -1,3 +1,5 @@
+//! Messages that arrive together, taken in one after the other.
+
 ghost use Rattle.std.specs.Prelude.{◌≡◌, ◌<◌, ◌≤◌, [], All, IfNone, IfSome, OnErr, OnOk, length, reverse};
 ghost use Rattle.std.specs.Vec.{vec_capacity, vec_len};
 ghost use Rattle.rubis_message.specs.Message.{sites_of};

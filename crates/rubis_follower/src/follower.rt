@@ -1,4 +1,4 @@
-// Tables that follow a log, batch by batch.
+//! Tables that follow a log, batch by batch.
 
 ghost use Rattle.std.specs.Prelude.{◌≡◌, ◌≤◌, ◌<◌, ◌⊎◌, [], All, IfNone, IfOk, IfSome, OnOk, OnErr, length};
 ghost use Rattle.rubis_schema.specs.declared.limits.TheConstants.{WORKERS_MAX};

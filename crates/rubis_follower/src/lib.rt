@@ -1,4 +1,4 @@
-//! What a site is made of: tables that follow its log, and messages that are taken in meanwhile.
+//! What a site is made of: tables that follow its log, and messages that are taken in.
 #![tactic(auto)]
 
 mod arriving;

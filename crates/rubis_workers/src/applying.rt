@@ -1,3 +1,5 @@
+//! Batches of a log, applied to tables as far as memory goes.
+
 ghost use Rattle.std.specs.Prelude.{◌≡◌, ℕ, ◌+◌, ◌<◌, ◌≤◌, [], length, map as each, slice_index, take, true, OnOk, OnErr};
 ghost use Rattle.std.specs.Vec.{vec_capacity};
 ghost use Rattle.rubis_model.specs.Log.{cores};

@@ -1,11 +1,11 @@
 //! How many threads a batch is worth.
 
-ghost use Rattle.std.specs.Prelude.{◌≡◌, ◌<◌, ◌≤◌, ◌*◌, nat_lt, true};
+ghost use Rattle.std.specs.Prelude.{◌≡◌, ◌<◌, ◌≤◌, ◌*◌};
 ghost use Rattle.rubis_workers.specs.Pace.{longer, most, ready, shorter, threads};
 
-/// A thread is worth starting where it applies this many messages: the start costs as much as about thirty of them, and
-/// cutting the batch into shares and waiting for the thread as much as the others.
-pub const WORTH: usize = 160;
+/// A thread is worth starting where it applies this many messages: the start, some 50 microseconds, costs as much as some 150 of
+/// them, and waiting for the thread as much again.
+pub const WORTH: usize = 320;
 
 /// The most messages that the caller's thread applies alone before the other workers are called again.
 pub const ALONE_MAX: usize = 65_536;
@@ -54,16 +54,6 @@ impl Pace {
         } else {
             Pace::most(workers, shards, messages)
         }
-    }
-
-    /// Whether messages are cut into shares before the batch that they make is applied: exactly where it would get several
-    /// threads.
-    pub fn cuts_ahead(&self, workers: usize, shards: usize, messages: usize) -> bool
-        requires { 0 < workers }
-        ensures several { result ≡ nat_lt 1 (threads self.now workers shards messages) }
-        ensures many { result ≡ true → (1 < workers) × (1 < shards) × (1 < messages) × (self.now.alone ≡ 0) }
-    {
-        self.threads(workers, shards, messages) > 1
     }
 
     /// The caller's thread applies a batch of that many messages alone.
