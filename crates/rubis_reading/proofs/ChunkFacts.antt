@@ -2,10 +2,11 @@
 use Rattle.std.proofs.Common.{◌≡◌, ◌≤◌, ◌<◌, ◌+◌, ◌-◌, ◌∷◌, [], ◌++◌, ◌∙◌, ℕ, List, length, take, drop, Option, Some, None, sym, refl, ap, arith, append_assoc, append-nil, length-append, take-append-drop}
 use Rattle.std.proofs.Transfers.{drop-appended}
 use Rattle.std.proofs.lemmas.List.{length-take-le}
-use Rattle.std.specs.Io.KnownBytes.{IsAtEnd, prepend_known}
+use Rattle.std.specs.Prelude.{Bool, Err, IfOk, Ok, OnOk, Result, false}
+use Rattle.std.specs.Io.KnownBytes.{Consumes, IsAtEnd, prepend_known}
 use Rattle.rubis_reading.specs.Streams.{IsWhole}
 use Rattle.rubis_engine.specs.Text.{input_records}
-use Rattle.rubis_reading.specs.Chunked.{HasPending}
+use Rattle.rubis_reading.specs.Chunked.{HasPending, IsFilled, KeepsPending}
 use Rattle.rubis_reading.specs.declared.chunks.Chunks.{Chunks}
 use Rattle.rubis_reading.proofs.StreamFacts.{cut-off}
 
@@ -29,6 +30,31 @@ last-held rem c rows end h = h.reads ∙ ap input_records (bytes (rem c.reader) 
     bytes : (k : Option (List ℕ)) → IsAtEnd k → prepend_known c.held k ≡ Some h.bytes → h.bytes ≡ c.held
     bytes None end e = absurd cc
     bytes (Some xs) end e = sym (some-is e) ∙ ap (λ t. c.held ++ t) end ∙ append-nil c.held
+
+pub ok-alike : {A E Q : Type 0} {P : A → Type 0} (r : Result A E) → ((x : A) → P x → Q) → IfOk r P → OnOk r Q
+ok-alike (Ok x) f h = f x h
+ok-alike (Err e) f h = tt
+
+-- bytes that come are behind those that are held
+pub filled-keeps : {R : Type 0} (rem : R → Option (List ℕ)) (old new : Chunks R) (more : Bool)
+    → IsFilled (rem old.reader) (rem new.reader) old.held new.held more → KeepsPending rem old new
+filled-keeps rem old new more f rows h = record {
+  bytes = h.bytes;
+  source = same (rem old.reader) (rem new.reader) f.consumed h.source;
+  reads = h.reads;
+}
+  where
+    same : (before after : Option (List ℕ)) → Consumes before after f.bytes → prepend_known old.held before ≡ Some h.bytes
+        → prepend_known new.held after ≡ Some h.bytes
+    same None after taken e = absurd cc
+    same (Some xs) None taken e = absurd taken
+    same (Some xs) (Some ys) taken e =
+        ap (λ t. Some (t ++ ys)) f.behind ∙ ap Some (append_assoc old.held f.bytes ys) ∙ ap (λ t. Some (old.held ++ t)) (sym taken) ∙ e
+
+pub filled-last : {R : Type 0} (rem : R → Option (List ℕ)) (old new : Chunks R) (more : Bool)
+    → IsFilled (rem old.reader) (rem new.reader) old.held new.held more → more ≡ false
+    → (rows : List (List (List ℕ))) → HasPending rem new rows → rows ≡ input_records new.held
+filled-last rem old new more f none rows h = last-held rem new rows (f.last none) h
 
 -- a chunk is taken off
 pub taken : (held bytes : List ℕ) (known : Option (List ℕ)) (many : ℕ) → 0 < many → many ≤ length held → IsWhole (take many held)

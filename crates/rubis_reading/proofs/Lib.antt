@@ -6,3 +6,4 @@ pub mod ParsedFacts
 pub mod AheadFacts
 pub mod PartFacts
 pub mod RunFacts
+mod HeldFacts

@@ -1,6 +1,6 @@
 -- What a source of chunks has still to give.
-use Rattle.std.specs.Prelude.{◌≡◌, ◌++◌, ℕ, List, Option, Some}
-use Rattle.std.specs.Io.KnownBytes.{prepend_known}
+use Rattle.std.specs.Prelude.{◌≡◌, ◌++◌, ℕ, Bool, List, Option, Some, false}
+use Rattle.std.specs.Io.KnownBytes.{Consumes, IsAtEnd, prepend_known}
 use Rattle.rubis_engine.specs.Text.{input_records}
 use Rattle.rubis_reading.specs.declared.chunks.Chunks.{Chunks}
 
@@ -22,6 +22,13 @@ pub record HasPending {R : Type 0} (rem : R → Option (List ℕ)) (c : Chunks R
 abbrev pub TakesOff : {R : Type 0} → (R → Option (List ℕ)) → Chunks R → Chunks R → List ℕ → Type 0
 TakesOff rem old new chunk = (rows : List (List (List ℕ))) → HasPending rem old rows
     → (more : List (List (List ℕ))) × (rows ≡ input_records chunk ++ more) × HasPending rem new more
+
+-- the reader put bytes behind those that are held, `more` if there were any; where there were none it is at its end
+pub record IsFilled (before after : Option (List ℕ)) (old new : List ℕ) (more : Bool) : Type 0 where
+  pub bytes : List ℕ
+  pub behind : new ≡ old ++ bytes
+  pub consumed : Consumes before after bytes
+  pub last : more ≡ false → IsAtEnd after
 
 -- nothing was taken off
 abbrev pub KeepsPending : {R : Type 0} → (R → Option (List ℕ)) → Chunks R → Chunks R → Type 0

@@ -1,4 +1,4 @@
-// Records that were read and wait for their answers.
+//! Records that were read and wait for their answers.
 
 ghost use Rattle.std.specs.Prelude.{◌≡◌, ◌++◌, ◌∷◌, [], length, IfNone, IfOk, IfSome, OnOk};
 ghost use Rattle.std.specs.Vec.Iter.{into_iter_items};

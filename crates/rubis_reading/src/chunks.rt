@@ -1,4 +1,4 @@
-// A source of chunks of text, each of whole records, over a reader.
+//! A source of chunks of text, each of whole records, over a reader.
 
 ghost use Rattle.std.specs.Prelude.{◌≡◌, ◌≤◌, ◌<◌, ◌-◌, drop, false, length, take, List, ℕ, IfSome, IfOk, OnOk};
 ghost use Rattle.rubis_reading.specs.Streams.{IsWhole};
@@ -6,16 +6,9 @@ ghost use Rattle.rubis_engine.specs.Text.{input_records};
 ghost use Rattle.rubis_reading.specs.Chunked.{HasPending, KeepsPending, TakesOff, held_text, pending_text};
 
 use crate::cuts::whole_end;
-use crate::held::Held;
-use std::alloc::{AllocError, Global};
+use crate::held::{ChunkFault, Held};
+use std::alloc::Global;
 use std::io::Read;
-
-/// Why no more text came.
-#[derive(Clone, Copy)]
-pub enum ChunkFault {
-    Read,
-    Memory,
-}
 
 /// The text of a reader, by chunks.
 #[derive(Drop)]
@@ -24,22 +17,20 @@ pub struct Chunks<R> {
     // What came from the reader and was not handed on. The byte that ends what was handed on stays as its first one, so no byte
     // order mark can stand there.
     held: Held,
-    // Where the reader puts what it gives.
-    block: Vec<u8>,
+    // How many bytes are asked for at a time.
+    size: usize,
 }
 
 impl<R: Read + Drop> Chunks<R> {
-    /// The text of this reader, of which at most `size` bytes are asked for at a time.
-    pub fn new(alloc: Global, reader: R, size: usize) -> Result<Chunks<R>, AllocError>
-        ensures { IfOk result (λ chunks. IfSome (R.remaining reader) (λ input. HasPending R.remaining chunks (input_records input))) }
+    /// The text of this reader, of which at least `size` bytes are asked for at a time.
+    pub fn new(alloc: Global, reader: R, size: usize) -> Chunks<R>
+        ensures { IfSome (R.remaining reader) (λ input. HasPending R.remaining result (input_records input)) }
     {
-        let mut block = Vec::new(alloc);
-        block.resize(size, 0)?;
-        Ok(Chunks {
+        Chunks {
             reader,
             held: Held::new(alloc),
-            block,
-        })
+            size,
+        }
     }
 }
 
@@ -56,16 +47,7 @@ impl<R: Read> Chunks<R> {
         ensures keeps { OnOk result (KeepsPending R.remaining self.old self.new) }
         ensures last { IfOk result (λ more. more ≡ false → (rows : List (List (List ℕ))) → HasPending R.remaining self.new rows → rows ≡ input_records (held_text self.new)) }
     {
-        if self.block.is_empty() {
-            return Err(ChunkFault::Memory);
-        }
-        let Ok(given) = self.reader.read(&mut self.block) else {
-            return Err(ChunkFault::Read);
-        };
-        if self.held.put(&self.block[..given]).is_err() {
-            return Err(ChunkFault::Memory);
-        }
-        Ok(given > 0)
+        self.held.fill(&mut self.reader, self.size)
     }
 
     /// How many of the bytes that are held are whole records: as many as lie within `most` bytes, if a record ends there.

@@ -1,4 +1,4 @@
-// Where a text may be cut.
+//! Where a text may be cut.
 
 ghost use Rattle.std.specs.Bool.{MatchBool};
 ghost use Rattle.std.specs.Prelude.{◌≡◌, ◌≤◌, ◌<◌, IfNone, IfSome, drop, get_or, length, take};

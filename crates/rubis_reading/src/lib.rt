@@ -10,7 +10,8 @@ mod parts;
 mod standing;
 
 pub use ahead::Ahead;
-pub use chunks::{ChunkFault, Chunks};
+pub use chunks::Chunks;
 pub use cuts::whole_end;
+pub use held::ChunkFault;
 pub use parsed::{Parsed, Run, read_piece};
 pub use parts::read_parts;

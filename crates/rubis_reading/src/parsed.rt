@@ -1,4 +1,4 @@
-// What the records of a piece of text are.
+//! What the records of a piece of text are.
 
 ghost use Rattle.std.specs.Prelude.{◌≡◌, ◌≤◌, ◌++◌, ◌∷◌, [], None, List, ℕ, IfOk, OnOk};
 ghost use Rattle.rubis_engine.specs.Reading.{Gives};
@@ -129,6 +129,12 @@ fn keep(
     }
 }
 
+// How many bytes of text a message takes at least, as a rule: where a piece has messages alone, their list never grows.
+const SHORT: usize = 48;
+
+// For how many messages there is room from the start, at most.
+const ROOM_MAX: usize = 16_384;
+
 // What all records of a reader are.
 fn read_all<R: Read>(
     alloc: Global,
@@ -161,7 +167,10 @@ pub fn read_piece(alloc: Global, piece: &[u8], sites: u8) -> Result<Vec<Run>, Ou
     ensures { IfOk result (λ list. AreParsed sites (input_records piece.now) (flat list.items)) }
 {
     let mut list = Vec::new(alloc);
-    let mut messages = Vec::new(alloc);
+    let room = (piece.len() / SHORT).min(ROOM_MAX);
+    let Ok(mut messages) = Vec::with_capacity(alloc, room) else {
+        return Err(OutOfMemory);
+    };
     let mut records = Records::new(alloc, piece);
     read_all(alloc, &mut records, &mut list, &mut messages, sites)?;
     keep_messages(&mut list, messages)?;

@@ -1,4 +1,4 @@
-// A piece of text is read by several threads.
+//! A piece of text is read by several threads.
 
 ghost use Rattle.std.specs.Prelude.{◌≡◌, ◌≤◌, ◌++◌, IfOk};
 ghost use Rattle.std.specs.Thread.{IsSync};

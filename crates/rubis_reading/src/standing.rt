@@ -1,4 +1,4 @@
-// Where the machine of CSV stands, as far as quotes and ends of records go.
+//! Where the machine of CSV stands, as far as quotes and ends of records go.
 
 ghost use Rattle.std.specs.Prelude.{◌≡◌};
 ghost use Rattle.csv.specs.Machine.{step};
