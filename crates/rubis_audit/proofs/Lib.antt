@@ -1,3 +1,4 @@
 pub mod Collecting
+pub mod Agreeing
 pub mod Placing
 pub mod Widened

@@ -1,3 +1,4 @@
 pub mod Running
 pub mod Places
+pub mod Soundness
 pub mod Widening

@@ -6,6 +6,7 @@ ghost use Rattle.rubis_engine.specs.Progress.{IsCut, IsDone, IsTooLong, WrotePre
 ghost use Rattle.rubis_engine.specs.Text.{input_records};
 ghost use Rattle.rubis_schema.specs.declared.limits.TheConstants.{COUNTED_MAX};
 ghost use Rattle.rubis_audit.specs.Running.{audit_account};
+ghost use Rattle.rubis_audit.specs.Soundness.{AgreesOnSoundLogs};
 
 use crate::auditor::Auditor;
 use rubis_engine::{Count, RunFault, run_upto};
@@ -15,7 +16,8 @@ use std::io::{Read, Write};
 use std::mem;
 
 /// Audits the logs of `sites` sites: reads at most 4,000,000 records of `reader`, until its end or the first malformed
-/// record, and appends the one record of the audit to `writer`.
+/// record, and appends the one record of the audit to `writer`. If that is `audit,Agree`, the logs that the input's records
+/// say are sound: they causally serialize one RedBlue order, and the invariants hold over all of them.
 ///
 /// # Errors
 ///
@@ -31,6 +33,8 @@ pub fn run_audit<R: Read + Drop, W: Write>(
     requires { sites ≤ COUNTED_MAX }
     ensures ok { IfOk result (λ count. IfSome (R.remaining reader) (λ input.
         IsDone (audit_account sites) 4000000 (W.contents writer.old) (W.contents writer.new) (input_records input) count.records)) }
+    ensures sound { IfOk result (λ _. IfSome (R.remaining reader) (λ input.
+        AgreesOnSoundLogs sites (W.contents writer.old) (W.contents writer.new) (input_records input))) }
     ensures too_long { IsErrOf result RunFault.TooLong → IfSome (R.remaining reader) (λ input.
         IsTooLong (audit_account sites) 4000000 (W.contents writer.old) (W.contents writer.new) (input_records input)) }
     ensures read { IsErrOf result RunFault.Read → IfSome (R.remaining reader) (λ input.
@@ -57,6 +61,8 @@ pub fn run_audit_to_exit<R: Read + Drop, W: Write>(
     requires { sites ≤ COUNTED_MAX }
     ensures ok { IfOk result (λ count. IfSome (R.remaining reader) (λ input.
         IsDone (audit_account sites) 4000000 (W.contents writer.old) (W.contents writer.new) (input_records input) count.records)) }
+    ensures sound { IfOk result (λ _. IfSome (R.remaining reader) (λ input.
+        AgreesOnSoundLogs sites (W.contents writer.old) (W.contents writer.new) (input_records input))) }
     ensures too_long { IsErrOf result RunFault.TooLong → IfSome (R.remaining reader) (λ input.
         IsTooLong (audit_account sites) 4000000 (W.contents writer.old) (W.contents writer.new) (input_records input)) }
     ensures read { IsErrOf result RunFault.Read → IfSome (R.remaining reader) (λ input.
