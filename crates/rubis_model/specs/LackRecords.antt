@@ -1,5 +1,5 @@
 -- The records that `rubis lack` writes of logs, and of the messages that wait at a site.
-use Rattle.std.specs.Prelude.{◌≡◌, ◌≤◌, ℕ, ◌+◌, List, [], ◌∷◌, ◌++◌, length, map, reverse, codes, decimal, Option, Some, None, Result, Ok, Err}
+use Rattle.std.specs.Prelude.{◌≡◌, ◌≤◌, ℕ, ◌+◌, ◌==◌, List, [], ◌∷◌, ◌++◌, filter, length, map, reverse, codes, decimal, Option, Some, None, Result, Ok, Err}
 use Rattle.std.specs.List.{filter_map, flat_map, range_with_len}
 use Rattle.rubis_schema.specs.Ids.{id_text}
 use Rattle.rubis_message.specs.Grammar.{message_record}
@@ -14,15 +14,31 @@ use Rattle.rubis_model.specs.Logs.{Log}
 use Rattle.rubis_model.specs.Site.{Replica}
 use Rattle.rubis_model.specs.Verdict.{verdict}
 
--- of the log of that number: how many it lacks, and each of them
-abbrev pub lack_rows : ℕ → List Message → List (List (List ℕ))
-lack_rows number messages =
-    (codes "lacks" ∷ decimal number ∷ decimal (length messages) ∷ []) ∷ map (λ m. codes "lack" ∷ decimal number ∷ message_record m) messages
+-- those of these messages that the site made
+abbrev pub made_at : ℕ → List Message → List Message
+made_at site messages = filter (λ m. m.stamp.id.site == site) messages
+
+-- how many messages the log of that number lacks, or how many are lost
+abbrev pub count_row : List ℕ → ℕ → ℕ → List (List ℕ)
+count_row word number many = word ∷ decimal number ∷ decimal many ∷ []
+
+-- one of the messages that it lacks
+abbrev pub lack_row : ℕ → Message → List (List ℕ)
+lack_row number m = codes "lack" ∷ decimal number ∷ message_record m
+
+-- how many it lacks, and each of them. A site can't be given messages that it made itself: where it lacks some of these, only how
+-- many they are
+abbrev pub named_or_lost : ℕ → List Message → List Message → List (List (List ℕ))
+named_or_lost number messages [] = count_row (codes "lacks") number (length messages) ∷ map (lack_row number) messages
+named_or_lost number messages (m ∷ own) = count_row (codes "lost") number (length (m ∷ own)) ∷ []
+
+abbrev pub lack_rows : ℕ → ℕ → List Message → List (List (List ℕ))
+lack_rows number site messages = named_or_lost number messages (made_at site messages)
 
 -- of the logs from that number on, among all logs
 abbrev pub lack_rows_from : ℕ → List Log → List Log → List (List (List ℕ))
 lack_rows_from number all [] = []
-lack_rows_from number all (log ∷ logs) = lack_rows number (lacked all log.messages) ++ lack_rows_from (number + 1) all logs
+lack_rows_from number all (log ∷ logs) = lack_rows number log.site (lacked all log.messages) ++ lack_rows_from (number + 1) all logs
 
 -- of logs with that verdict: what each lacks, or else the record of the verdict
 abbrev pub lack_rows_of : List Log → Verdict → List (List (List ℕ))

@@ -17,7 +17,7 @@ use Rattle.rubis_message.specs.declared.answers.Verdict.TheVariants.{Agree, Foun
 use Rattle.rubis_model.specs.Log.{core, cores}
 use Rattle.rubis_model.specs.Logs.{Log, shown_rows}
 use Rattle.rubis_model.specs.Listings.{table_rows}
-use Rattle.rubis_model.specs.Audit.{AreAmong, AreSound}
+use Rattle.rubis_model.specs.Audit.{AreAmong, AreFaultless, AreSound}
 use Rattle.rubis_model.specs.Settle.{Has, Ready}
 use Rattle.rubis_model.specs.Site.{counts}
 use Rattle.rubis_model.specs.Verdict.{checks, first_fault, first_of, found_or, last_red, log_fault, verdict, same_rows, verdict_from, wrong_rows}
@@ -190,12 +190,17 @@ logged_in (x ∷ logs) log m (inl e) k = has_left m x.messages (messages_of_logs
 logged_in (x ∷ logs) log m (inr h) k = has_right m x.messages (messages_of_logs logs) (logged_in logs log m h k)
 
 -- the walk saw that each message meets the conditions of its type
+over_among : (sites : ℕ) (seen : Seen) (k : ℕ) (logs : List Log) → length logs ≤ k → HaveMessagesAmong sites logs → Over seen k logs → AreAmong sites logs
+over_among sites seen k logs l among o v a = (
+  o.walked.known.formed v (has_left v (messages_of_logs (take k logs)) [] (subst (λ (ls : List Log). Has v (messages_of_logs ls)) (sym (take_all k logs l)) (logged_in logs a.0.0 v a.0.1 a.1))),
+  among a.0.0 a.0.1 v a.1,
+)
+
+pub over_faultless : (sites : ℕ) (seen : Seen) (k : ℕ) (logs : List Log) → length logs ≤ k → HaveMessagesAmong sites logs → Over seen k logs → AreFaultless logs
+over_faultless sites seen k logs l among o = agree_faultless sites logs (over_among sites seen k logs l among o) (sym (over_done seen k logs l o))
+
 pub over_sound : (sites : ℕ) (seen : Seen) (k : ℕ) (logs : List Log) → length logs ≤ k → HaveMessagesAmong sites logs → Over seen k logs → AreSound logs
-over_sound sites seen k logs l among o =
-    let formed : (m : Message) → Has m (messages_of_logs logs) → IsMessage m = λ m h.
-    o.walked.known.formed m (has_left m (messages_of_logs (take k logs)) [] (subst (λ (ls : List Log). Has m (messages_of_logs ls)) (sym (take_all k logs l)) h)) in
-    let all : AreAmong sites logs = λ v a. (formed v (logged_in logs a.0.0 v a.0.1 a.1), among a.0.0 a.0.1 v a.1) in
-    faultless_sound sites logs all (agree_faultless sites logs all (sym (over_done seen k logs l o)))
+over_sound sites seen k logs l among o = faultless_sound sites logs (over_among sites seen k logs l among o) (over_faultless sites seen k logs l among o)
 
 -- ---- what a walk over one log answers
 same_log : (logs : List Log) (at : ℕ) (log other : Log) → at < length logs → log ≡ get_or logs at log → slice_get logs at ≡ Some other → log ≡ other
