@@ -4,17 +4,30 @@
 Each conversation is played with batches of one message, one shard and one worker, and then under random batches, shards and
 workers: the answers have to be the same, byte for byte. Half of the sites take packets of another site in long runs, out of
 order, some of them forged, lost or repeated; a listing may come at any record. Each tenth conversation is played over pipes
-too, where a record is only written once the one before it is answered. A quarter as many conversations are those of a world of
+too, where a record is only written once the one before it is answered; there records end with a line feed, a carriage return
+or both, and some of their fields are in quotes. A tenth as many are texts of thousands of packets, longer than what a site with
+several workers reads at a time, with quotes, line ends between quotes, empty lines, byte order marks, each kind of line end
+and maybe a quote that is never closed: from a file, and over a pipe in pieces of 1 byte to 1 MiB, the answers are those of one
+worker. A quarter as many conversations are those of a world of
 up to 16 sites: packets come in any order, again, or not at all, the token goes round, and after each hundred records an
 audit has to agree. At the end all packets are delivered to all sites, whose tables then have to be the same. The logs of
 that world, whole and with a record left out, are then audited as they are and widened to more sites: the audits have to
 say the same. Nicknames are few, so that renames meet. The seed is fixed, so each run of this script plays the same
 conversations."""
 
+import os
 import random
 import subprocess
 import sys
+import tempfile
 import threading
+
+# How a record may end.
+ENDS = ["\n", "\r", "\r\n"]
+
+# How many bytes of a long text, and of a short one, are written to a pipe at once.
+LONG_PIECES = [500, 4_096, 65_536, 100_000, 1_048_576]
+SHORT_PIECES = [1, 2, 7, 64]
 
 # For how many seconds a site may leave a record of a pipe without an answer.
 WAIT = 60
@@ -193,8 +206,58 @@ def fault_in_site(program: str, dice: random.Random, is_live: bool) -> str | Non
     many = settings(dice)
     if answers(program, ["site", *command, *many], records) != alone:
         return "the answers differ"
-    if is_live and live_answers(program, ["site", *command, *many], records) != alone:
+    lines = [written(dice, record, dice.choice(ENDS)) for record in records]
+    if is_live and live_answers(program, ["site", *command, *many], lines) != alone:
         return "a record isn't answered before the next one is written"
+    return None
+
+
+def written(dice: random.Random, record: str, end: str) -> str:
+    """A record as text, with some of its fields in quotes."""
+    return ",".join(f'"{field}"' if dice.random() < 0.05 else field for field in record.split(",")) + end
+
+
+def odd_text(dice: random.Random, records: list[str]) -> bytes:
+    """Records as a text with all that CSV allows, and with what no record of a site is."""
+    parts = ["\ufeff" if dice.random() < 0.5 else ""]
+    for record in records:
+        parts.append(written(dice, record, dice.choice(ENDS) * dice.choice([1, 1, 1, 2])))
+        if dice.random() < 0.02:
+            parts.append(dice.choice(["\ufeff", '""', 'user,"ann', ""]) + dice.choice(ENDS) + dice.choice(['"', ""]) + dice.choice(ENDS))
+    if parts[-1].count('"') % 2 == 0 and dice.random() < 0.3:
+        parts.append('user,"never closed\n')
+    return "".join(parts).encode()
+
+
+def answers_by_pieces(program: str, command: list[str], text: bytes, size: int) -> bytes:
+    """The answers to a text that comes over a pipe in pieces of that size."""
+    with tempfile.TemporaryFile() as said:
+        with subprocess.Popen([program, *command], stdin=subprocess.PIPE, stdout=said) as site:
+            for start in range(0, len(text), size):
+                os.write(site.stdin.fileno(), text[start : start + size])
+            site.stdin.close()
+        said.seek(0)
+        return said.read()
+
+
+def answers_from_file(program: str, command: list[str], text: bytes) -> bytes:
+    with tempfile.TemporaryFile() as records:
+        records.write(text)
+        records.seek(0)
+        return subprocess.run([program, *command], stdin=records, capture_output=True, check=True).stdout
+
+
+def fault_in_text(program: str, dice: random.Random) -> str | None:
+    """Has one site answer a long text and a short one, and says what is wrong with its answers, if anything."""
+    command = ["site", "--site", "1", "--sites", "2"]
+    for many, pieces in ((dice.randint(2000, 15000), LONG_PIECES), (dice.randint(5, 40), SHORT_PIECES)):
+        text = odd_text(dice, packets(dice, many))
+        alone = answers_from_file(program, [*command, "--batch", "1", "--shards", "1", "--workers", "1"], text)
+        if answers_from_file(program, [*command, *settings(dice)], text) != alone:
+            return "the answers to a file differ"
+        for size in pieces:
+            if answers_by_pieces(program, [*command, *settings(dice)], text, size) != alone:
+                return f"the answers to a text in pieces of {size} bytes differ"
     return None
 
 
@@ -209,15 +272,15 @@ def answers(program: str, command: list[str], records: list[str]) -> bytes:
     return subprocess.run([program, *command], input=text, capture_output=True, check=True).stdout
 
 
-def live_answers(program: str, command: list[str], records: list[str]) -> bytes:
+def live_answers(program: str, command: list[str], lines: list[str]) -> bytes:
     """The answers to records of which each is written once the one before it is answered, or those so far where one isn't."""
     text = b""
     with subprocess.Popen([program, *command], stdin=subprocess.PIPE, stdout=subprocess.PIPE) as site:
         waits_too_long = threading.Timer(WAIT, site.kill)
         waits_too_long.start()
-        for record in records:
+        for line in lines:
             try:
-                site.stdin.write(f"{record}\n".encode())
+                site.stdin.write(line.encode())
                 site.stdin.flush()
             except BrokenPipeError:
                 break
@@ -237,13 +300,19 @@ def main() -> int:
     many = int(sys.argv[2]) if len(sys.argv) > 2 else 200
     seed = int(sys.argv[3]) if len(sys.argv) > 3 else 1
     worlds = many // 4
-    for number in range(many + worlds):
+    texts = many // 10
+    for number in range(many + worlds + texts):
         dice = random.Random(f"{seed} {number}")
-        fault = fault_in_site(program, dice, number % 10 == 0) if number < many else fault_in_world(program, dice)
+        if number < many:
+            fault = fault_in_site(program, dice, number % 10 == 0)
+        elif number < many + worlds:
+            fault = fault_in_world(program, dice)
+        else:
+            fault = fault_in_text(program, dice)
         if fault:
             print(f"random run {number} of seed {seed}: {fault}")
             return 1
-    print(f"random runs: {many + worlds} passed, 0 failed, {worlds} of them worlds")
+    print(f"random runs: {many + worlds + texts} passed, 0 failed, {worlds} of them worlds, {texts} long texts")
     return 0
 
 
