@@ -1,4 +1,4 @@
-// The desk answers records that were read ahead.
+//! The desk answers records that were read ahead.
 
 ghost use Rattle.std.specs.Prelude.{◌≡◌, ◌≤◌, ◌<◌, ◌+◌, ◌∷◌, ◌^◌, ◌⊎◌, [], All, OnOk, length};
 ghost use Rattle.rubis_ahead.specs.Runs.{GoesOn, GoesOnFrom, IsSound};

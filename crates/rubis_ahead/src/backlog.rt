@@ -1,4 +1,4 @@
-// What was read and isn't answered.
+//! What was read and isn't answered.
 
 ghost use Rattle.std.specs.Prelude.{◌≡◌, []};
 

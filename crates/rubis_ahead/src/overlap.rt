@@ -1,4 +1,4 @@
-// A chunk of text is read while the desk answers.
+//! A chunk of text is read while the desk answers.
 
 ghost use Rattle.std.specs.Prelude.{◌≡◌, ◌≤◌, ◌<◌, ◌+◌, ◌^◌, [], IfOk, OnOk, length};
 ghost use Rattle.std.specs.Thread.{IsSync};
@@ -11,14 +11,17 @@ use crate::answering::answer_all;
 use crate::backlog::Backlog;
 use rubis_desk::Desk;
 use rubis_engine::OutOfMemory;
-use rubis_reading::{Run, read_parts};
+use rubis_reading::{Run, read_parts, read_piece};
 use rubis_replica::Gate;
 use std::alloc::Global;
 use std::sync::Wait;
 use std::thread::{Threads, join_mut};
 
-/// Reads the records of a piece of text by that many other threads, while the desk answers all that was read ahead on this one.
-pub fn read_beside<G: Gate, T: Threads + Wait + Sync>(
+// How long a piece is at most for which no thread is started: what a pipe hands over at once.
+const SMALL: usize = 65_536;
+
+// Reads the records of a piece of text by that many other threads, while the desk answers all that was read ahead on this one.
+fn read_beside<G: Gate, T: Threads + Wait + Sync>(
     rt: &T,
     alloc: Global,
     piece: &[u8],
@@ -51,4 +54,31 @@ pub fn read_beside<G: Gate, T: Threads + Wait + Sync>(
     );
     answered?;
     list
+}
+
+/// Answers all that was read ahead, and reads the records of a piece of text: meanwhile, by that many other threads, or after it,
+/// where the piece is small.
+pub fn read_next<G: Gate, T: Threads + Wait + Sync>(
+    rt: &T,
+    alloc: Global,
+    piece: &[u8],
+    readers: usize,
+    desk: &mut Desk<G>,
+    backlog: &mut Backlog,
+) -> Result<Vec<Run>, OutOfMemory>
+    requires sound { IsSound desk.old.site backlog.old }
+    requires room { backlog.old.answered + length backlog.old.ahead + 1 < 2 ^ 64 }
+    ensures place { OnOk result (desk.new.site.place ≡ desk.old.site.place) }
+    ensures sound { OnOk result (IsSound desk.new.site backlog.new) }
+    ensures all { OnOk result (backlog.new.ahead ≡ []) }
+    ensures count { OnOk result (backlog.new.answered ≡ backlog.old.answered + length backlog.old.ahead) }
+    ensures goes { OnOk result (GoesOn desk.old.site backlog.old desk.new.site backlog.new) }
+    ensures parsed { IfOk result (λ list. AreParsed desk.old.site.place.sites (input_records piece.now) (flat list.items)) }
+{
+    if piece.len() > SMALL {
+        return read_beside(rt, alloc, piece, readers, desk, backlog);
+    }
+    let sites = desk.sites();
+    answer_all(rt, desk, backlog)?;
+    read_piece(alloc, piece, sites)
 }

@@ -1,4 +1,4 @@
-// A run of a site that reads ahead.
+//! A run of a site that reads ahead.
 
 ghost use Rattle.std.specs.Prelude.{◌≡◌, ◌≤◌, ◌<◌, ◌+◌, ◌^◌, ◌⊎◌, [], List, ℕ, Option, IfErr, IfNone, IfOk, IfSome, IsErrOf, MatchOption, OnOk, length, take};
 ghost use Rattle.rubis_ahead.specs.Runs.{GoesOnWriting, HasReadAhead, IsSound, OfEachAhead, StandsWith};
@@ -12,7 +12,7 @@ ghost use Rattle.rubis_reading.specs.Streams.{IsWhole};
 
 use crate::answering::{answer_all, answer_some};
 use crate::backlog::Backlog;
-use crate::overlap::read_beside;
+use crate::overlap::read_next;
 use rubis_desk::{Desk, run_desk};
 use rubis_engine::{Count, OutOfMemory, RunFault};
 use rubis_reading::{Ahead, ChunkFault, Chunks, read_parts};
@@ -23,10 +23,23 @@ use std::mem;
 use std::sync::Wait;
 use std::thread::Threads;
 
-// How many bytes are asked for at a time.
+// How many bytes there is room for when the reader is asked for more.
 const BLOCK: usize = 4_194_304;
-// How many of them are read while those before are answered: a part of what is at hand, between these.
-const CHUNK: usize = 524_288;
+
+// How long a chunk is at least and at most, where so much is at hand.
+const CHUNK_MIN: usize = 65_536;
+
+const CHUNK_MAX: usize = 524_288;
+
+// How many bytes are read while that many records are answered, of those at hand. Nothing goes on beside the first chunk of those
+// and beside the answers to the last, so chunks grow from a small one, each to twice the text of the records, some 64 bytes each,
+// and end with small ones.
+fn chunk_of(held: usize, ahead: usize) -> usize {
+    (held / 4)
+        .min(ahead.saturating_mul(128))
+        .max(CHUNK_MIN)
+        .min(CHUNK_MAX)
+}
 
 // How many threads read a chunk, beside the one that answers.
 fn readers_of(workers: usize) -> usize {
@@ -43,15 +56,14 @@ struct Source<R> {
 }
 
 impl<R: Read + Drop> Source<R> {
-    fn new(alloc: Global, reader: R, readers: usize) -> Result<Source<R>, RunFault>
-        ensures pending { IfOk result (λ source. IfSome (R.remaining reader) (λ input. HasPending R.remaining source.chunks (input_records input))) }
-        ensures faults { IfErr result (λ e. e ≡ RunFault.Memory) }
+    fn new(alloc: Global, reader: R, readers: usize) -> Source<R>
+        ensures { IfSome (R.remaining reader) (λ input. HasPending R.remaining result.chunks (input_records input)) }
     {
-        Ok(Source {
-            chunks: Chunks::new(alloc, reader, BLOCK)?,
+        Source {
+            chunks: Chunks::new(alloc, reader, BLOCK),
             readers,
             alloc,
-        })
+        }
     }
 }
 
@@ -158,7 +170,7 @@ fn go_on<G: Gate, T: Threads + Wait + Sync, R: Read>(
         HasReadAhead R.remaining source.new.chunks desk.new.site backlog.new all old now input)) }
 {
     let (piece, _) = source.chunks.held().split_at(many);
-    let list = read_beside(rt, source.alloc, piece, source.readers, desk, backlog)?;
+    let list = read_next(rt, source.alloc, piece, source.readers, desk, backlog)?;
     source.chunks.pass(many);
     let ahead = Ahead::of(list)?;
     backlog.ahead = ahead;
@@ -319,7 +331,8 @@ fn turn<G: Gate, T: Threads + Wait + Sync, R: Read, W: Write>(
         stop(rt, desk, backlog, writer, left)?;
         return Err(RunFault::TooLong);
     }
-    let many = source.chunks.whole(CHUNK);
+    let most = chunk_of(source.chunks.held().len(), backlog.ahead.len());
+    let many = source.chunks.whole(most);
     if many > 1 {
         go_on_writing(rt, source, desk, backlog, writer, many)?;
         return Ok(None);
@@ -377,7 +390,7 @@ fn run_desk_ahead<G: Gate, T: Threads + Wait + Sync, R: Read + Drop, W: Write>(
     ensures memory { IsErrOf result RunFault.Memory → IfSome (R.remaining reader) (λ input.
         WrotePrefix ((told_by desk.old.site 1).text AtEnd) (W.contents writer.old) (W.contents writer.new) (input_records input)) }
 {
-    let mut source = Source::new(alloc, reader, readers)?;
+    let mut source = Source::new(alloc, reader, readers);
     let mut backlog = Backlog::new(alloc);
     serve(rt, &mut source, desk, &mut backlog, writer, limit)
 }

@@ -9,7 +9,7 @@ use Rattle.rubis_ahead.proofs.run.go_on.Goals as goal
 
 pub returns-clause-sound : goal.returns-clause-sound
 returns-clause-sound g c =
-    let site = c.read_beside.new.desk.site in
+    let site = c.read_next.new.desk.site in
     let rows = input_records c.split_at.result.0.now in
     let items = flat c.in_ok-list.list.items in
     let parsed = subst (λ p. AreParsed p.sites rows items) (sym c.in_ok-list.ensures.place) c.in_ok-list.ensures.parsed in
@@ -20,8 +20,8 @@ returns-clause-sound g c =
 
 pub returns-clause-goes : goal.returns-clause-goes
 returns-clause-goes g c now all old input h =
-    let site = c.read_beside.new.desk.site in
-    let b = c.read_beside.new.backlog in
+    let site = c.read_next.new.desk.site in
+    let b = c.read_next.new.backlog in
     let n = b.answered + 1 in
     let chunk = take c.args.many (held_text c.args.source.now.chunks) in
     let piece : c.split_at.result.0.now ≡ chunk = c.split_at.ensures.front ∙ ap (take c.args.many) c.held.ensures in

@@ -11,44 +11,44 @@ serve-requires-clause-sound g c κs within = sound-none c.args.desk.now.site c.n
 
 pub returns-clause-ok : goal.returns-clause-ok
 returns-clause-ok g c =
-    let chunks = c.in_ok-source.source.chunks in
+    let chunks = c.new-source.result.chunks in
     let site = c.args.desk.now.site in
     let b = c.new-backlog.result in
     let said = c.new-backlog.ensures in
     let old = g.W.Write.contents c.args.writer.now in
     if_ok_so _ _ c.serve.result (λ count done. if_some_so (λ input. HasPending g.R.Read.remaining chunks (input_records input)) _ (g.R.Read.remaining c.args.reader)
     (λ input pending. done (told_by site 1) old input (starts g.R.Read.remaining chunks site b old input said.ahead said.window said.empty said.none pending))
-    c.in_ok-source.ensures.pending) c.serve.ensures.ok
+    c.new-source.ensures) c.serve.ensures.ok
 
 pub returns-clause-too_long : goal.returns-clause-too_long
 returns-clause-too_long g c e =
-    let chunks = c.in_ok-source.source.chunks in
+    let chunks = c.new-source.result.chunks in
     let site = c.args.desk.now.site in
     let b = c.new-backlog.result in
     let said = c.new-backlog.ensures in
     let old = g.W.Write.contents c.args.writer.now in
     if_some_so (λ input. HasPending g.R.Read.remaining chunks (input_records input)) _ (g.R.Read.remaining c.args.reader)
     (λ input pending. c.serve.ensures.too_long e (told_by site 1) old input (starts g.R.Read.remaining chunks site b old input said.ahead said.window said.empty said.none pending))
-    c.in_ok-source.ensures.pending
+    c.new-source.ensures
 
 pub returns-clause-read : goal.returns-clause-read
 returns-clause-read g c e =
-    let chunks = c.in_ok-source.source.chunks in
+    let chunks = c.new-source.result.chunks in
     let site = c.args.desk.now.site in
     let b = c.new-backlog.result in
     let said = c.new-backlog.ensures in
     let old = g.W.Write.contents c.args.writer.now in
     if_some_so (λ input. HasPending g.R.Read.remaining chunks (input_records input)) _ (g.R.Read.remaining c.args.reader)
     (λ input pending. c.serve.ensures.read e (told_by site 1) old input (starts g.R.Read.remaining chunks site b old input said.ahead said.window said.empty said.none pending))
-    c.in_ok-source.ensures.pending
+    c.new-source.ensures
 
 pub returns-clause-memory : goal.returns-clause-memory
 returns-clause-memory g c e =
-    let chunks = c.in_ok-source.source.chunks in
+    let chunks = c.new-source.result.chunks in
     let site = c.args.desk.now.site in
     let b = c.new-backlog.result in
     let said = c.new-backlog.ensures in
     let old = g.W.Write.contents c.args.writer.now in
     if_some_so (λ input. HasPending g.R.Read.remaining chunks (input_records input)) _ (g.R.Read.remaining c.args.reader)
     (λ input pending. c.serve.ensures.memory e (told_by site 1) old input (starts g.R.Read.remaining chunks site b old input said.ahead said.window said.empty said.none pending))
-    c.in_ok-source.ensures.pending
+    c.new-source.ensures
