@@ -21,8 +21,8 @@ pub(crate) fn hold(window: &mut Vec<Message>, message: Message) -> Result<(), Ou
     }
 }
 
-/// How many messages are taken in together: as many as a batch has, where workers apply the batch before meanwhile. With one
-/// worker each is taken in as it comes, since nobody would work meanwhile.
+/// How many messages are taken in together, where they are read one by one: as many as a batch has. With one worker each is taken
+/// in as it comes.
 pub(crate) fn window_of(config: &Config) -> usize {
     if config.workers() > 1 {
         config.batch() as usize

@@ -181,9 +181,8 @@ impl<G: Gate> Site<G> {
         Ok(arrival)
     }
 
-    /// Takes messages in that arrived from other sites, one after the other, each as `arrive` does. What is pending before is
-    /// applied, by the workers meanwhile; what is released by the messages is kept as the next batch, where all before it is
-    /// applied.
+    /// Takes messages in that arrived from other sites, one after the other, each as `arrive` does. What is pending is applied
+    /// before, by the workers; what is released by the messages is kept as the next batch, where all before it is applied.
     pub fn arrive_all<R: Threads + Wait + Sync>(
         &mut self,
         rt: &R,

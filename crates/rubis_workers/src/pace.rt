@@ -4,7 +4,7 @@ ghost use Rattle.std.specs.Prelude.{◌≡◌, ◌<◌, ◌≤◌, ◌*◌};
 ghost use Rattle.rubis_workers.specs.Pace.{longer, most, ready, shorter, threads};
 
 /// A thread is worth starting where it applies this many messages: the start, some 50 microseconds, costs as much as some 150 of
-/// them, and waiting for the thread as much again.
+/// them, and waiting for the thread as much again or more.
 pub const WORTH: usize = 320;
 
 /// The most messages that the caller's thread applies alone before the other workers are called again.
