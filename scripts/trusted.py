@@ -1,0 +1,108 @@
+#!/usr/bin/env python3
+"""The list of what is trusted, in docs/PROMISES.md.
+
+    scripts/trusted.py PROGRAM            compares it
+    scripts/trusted.py --write PROGRAM    writes it
+
+PROGRAM is the built rubis. The list has three parts:
+
+- the libraries of the toolchain that the program's crates stand on, by crates.txt, with those that these stand on;
+- the C functions whose contracts the proof assumes: those that `rt check --list-axioms` marks `reached`, and those that its
+  last line names for threads;
+- the C functions that the program calls, by its symbols.
+
+The second part is only read with --write, in crates/rubis_app, where the crates below are proved: on a new machine that
+check would take as long as the gate. Compared are the first part, and that the program calls no C function beyond the list.
+The last line says how many names were looked at; the status is 1 where something differed.
+"""
+
+import pathlib
+import re
+import subprocess
+import sys
+
+TOP = pathlib.Path(__file__).resolve().parent.parent
+PAGE = TOP / "docs/PROMISES.md"
+PROGRAM_CRATE = "rubis_app"
+BLOCK = re.compile(r"(?<=```text\n)libraries: .*?(?=```)", re.S)
+
+# How long a line of the list may be.
+WIDTH = 120
+
+
+def kit() -> pathlib.Path:
+    """The toolchain's folder."""
+    return pathlib.Path(subprocess.run(["rt", "doc"], capture_output=True, check=True, text=True).stdout.strip()).parent
+
+
+def libraries(tools: pathlib.Path) -> list[str]:
+    """The libraries that the program's crates stand on, and those that these stand on."""
+    lines = [line for line in (TOP / "crates.txt").read_text().splitlines() if line and not line.startswith("#")]
+    below = {name: rest.split() for name, rest in (line.split(":") for line in lines)}
+    found: set[str] = set()
+    open_names = [PROGRAM_CRATE]
+    while open_names:
+        name = open_names.pop()
+        if name in found:
+            continue
+        found.add(name)
+        deps = below.get(name)
+        open_names += re.findall(r"^dep (\w+)$", (tools / f"rlibs/{name}.rlib/format").read_text(), re.M) if deps is None else deps
+    return sorted(found - set(below))
+
+
+def assumed() -> list[str]:
+    """The C functions whose contracts the proof of the program assumes."""
+    ran = subprocess.run(["rt", "check", "--list-axioms"], cwd=TOP / "crates" / PROGRAM_CRATE, capture_output=True, text=True)
+    if "logic=proved" not in ran.stdout:
+        raise SystemExit(f"{PROGRAM_CRATE} isn't proved: {ran.stdout[-300:]}")
+    threads = re.findall(r"^logic=proved .*\bthreads=(\S+)", ran.stdout, re.M)
+    reached = [found.split("::")[-1] for found in re.findall(r"^  (\S+) +reached$", ran.stdout, re.M)]
+    return sorted({*reached, *",".join(threads).split(",")} - {""})
+
+
+def called(tools: pathlib.Path, program: str) -> list[str]:
+    """The C functions that the program calls."""
+    ran = subprocess.run(["llvm-nm", "-D", "--undefined-only", "-j", program], executable=tools / "toolchain/bin/clang", capture_output=True, check=True, text=True)
+    return sorted({name.partition("@")[0] for name in ran.stdout.split()})
+
+
+def listed() -> dict[str, list[str]]:
+    """The parts of the page's list, by their words."""
+    found = BLOCK.search(PAGE.read_text())
+    if not found:
+        raise SystemExit("docs/PROMISES.md has no list of what is trusted")
+    parts = re.split(r"^(\w+): ", found.group(), flags=re.M)[1:]
+    return {word: names.split() for word, names in zip(parts[::2], parts[1::2])}
+
+
+def laid_out(word: str, names: list[str]) -> str:
+    """A part of the list, in lines."""
+    lines = [f"{word}:"]
+    for name in names:
+        if len(lines[-1]) + len(name) >= WIDTH:
+            lines.append(" ")
+        lines[-1] += f" {name}"
+    return "\n".join(lines) + "\n"
+
+
+def main() -> int:
+    words = [word for word in sys.argv[1:] if word != "--write"]
+    tools = kit()
+    stands_on, calls = libraries(tools), called(tools, words[0])
+    if "--write" in sys.argv[1:]:
+        text = laid_out("libraries", stands_on) + laid_out("assumed", assumed()) + laid_out("called", calls)
+        PAGE.write_text(BLOCK.sub(lambda _: text, PAGE.read_text()))
+    now = listed()
+    faults = [f"docs/PROMISES.md: `{name}` is a library that is {'not listed' if name in stands_on else 'not used'}" for name in sorted(set(stands_on) ^ set(now["libraries"]))]
+    more = set(calls) - set(now["assumed"]) - set(now["called"])
+    faults += [f"docs/PROMISES.md: the program calls `{name}`, which isn't listed" for name in sorted(more)]
+    for fault in faults:
+        print(fault)
+    looked = len(stands_on) + len(calls)
+    print(f"trusted: {looked - len(faults)} passed, {len(faults)} failed")
+    return 1 if faults else 0
+
+
+if __name__ == "__main__":
+    sys.exit(main())
