@@ -12,9 +12,9 @@ for each n from 4 to 3003, with the numbers for `{n}` and `{n-1}`.
 
 An example is a block of a page that begins with ```console: what follows `$ ` is run by a shell, and the lines below it
 are what it writes on standard output; its status has to be 0. The examples of a page are run one after the other in a new folder, which looks
-like the top of the repository: `./rubis` is the program, and `examples`, `scripts`, `conversations` and `docs` are there.
-`ssh` is a stand-in that runs the command on this machine. A block that begins with ```console NAME.. needs the programs
-of these names, and is skipped, aloud, where one is missing.
+like the top of the repository: `./rubis` is the program, and `shop`, `scripts`, `conversations` and `docs` are there. A block that
+begins with ```console NAME.. needs the programs of these names, and modules of Debian's Python as python3:NAME; it is skipped, aloud,
+where one is missing.
 
 With no FILE: all of conversations/, README.md and docs/. Each difference is told by file and line; the last line says
 how many were played. The status is 1 where something differed.
@@ -197,17 +197,24 @@ def examples_of(path: pathlib.Path) -> list[tuple[int, list[str], str, list[tupl
     return made
 
 
+def is_there(need: str, paths: str) -> bool:
+    """Whether a program is in the search path, or a module in Debian's Python."""
+    if need.startswith("python3:"):
+        return subprocess.run(["/usr/bin/python3", "-c", f"import {need[8:]}"], capture_output=True).returncode == 0
+    return shutil.which(need, path=paths) is not None
+
+
 def play_examples(program: pathlib.Path, path: pathlib.Path, name: str) -> tuple[int, int]:
     """Runs the examples of a page; how many were run, and how many were skipped."""
     examples = examples_of(path)
     skipped, told = 0, []
-    paths = os.pathsep.join([str(TOP / "scripts/stand_ins"), os.environ.get("PATH", os.defpath), "/usr/sbin"])
+    paths = os.pathsep.join([os.environ.get("PATH", os.defpath), "/usr/sbin"])
     with tempfile.TemporaryDirectory() as folder, tempfile.TemporaryFile() as written:
         os.symlink(program, pathlib.Path(folder) / "rubis")
-        for part in ("examples", "scripts", "conversations", "docs"):
+        for part in ("shop", "scripts", "conversations", "docs"):
             os.symlink(TOP / part, pathlib.Path(folder) / part)
         for start, needs, command, output, last in examples:
-            missing = [need for need in needs if not shutil.which(need, path=paths)]
+            missing = [need for need in needs if not is_there(need, paths)]
             if missing:
                 if needs is not told:
                     print(f"{name}:{start}: the examples from here on are skipped: no {', '.join(missing)} on this machine")

@@ -1,0 +1,758 @@
+#!/usr/bin/env python3
+"""Tries the command `shop` on a built program: scripts/try_shop.py PROGRAM [NAME..]
+
+Each trial runs in a folder of its own, in which `./shop` is the command and `./rubis` the program. With names, only the trials of these
+names are run. A trial that needs what isn't installed is skipped, aloud. The last line says how many passed; the status is 1 if one
+failed."""
+
+import concurrent.futures
+import json
+import os
+import pathlib
+import shutil
+import signal
+import socket
+import subprocess
+import sys
+import tempfile
+import time
+from collections.abc import Callable
+from typing import Any
+
+TOP = pathlib.Path(__file__).resolve().parent.parent
+PYTHON = "/usr/bin/python3"
+SECONDS = 60
+AT_ONCE = 3         # most trials wait
+
+
+class Failed(Exception):
+    """What was expected and isn't so."""
+
+
+class Skipped(Exception):
+    """What is missing on this machine."""
+
+
+def expect(claim: bool, what: str) -> None:
+    if not claim:
+        raise Failed(what)
+
+
+class Folder:
+    """A folder in which a trial runs, and what it has running there."""
+
+    def __init__(self, path: str, program: pathlib.Path) -> None:
+        self.path = pathlib.Path(path)
+        os.symlink(program, self.path / "rubis")
+        os.symlink(TOP / "shop", self.path / "shop")
+        self.running: list[subprocess.Popen[bytes]] = []
+
+    def start(self, command: str) -> "subprocess.Popen[bytes]":
+        made = subprocess.Popen(["sh", "-c", f"exec {command}"], cwd=self.path, stdin=subprocess.DEVNULL, stdout=subprocess.DEVNULL,
+                                stderr=subprocess.DEVNULL, start_new_session=True)
+        self.running.append(made)
+        return made
+
+    def run(self, command: str, status: int = 0, says: str = "") -> str:
+        """What a command writes. It has to end with this status, and to say this on standard error."""
+        with tempfile.TemporaryFile() as written, tempfile.TemporaryFile() as told:
+            done = subprocess.run(["sh", "-c", command], cwd=self.path, stdin=subprocess.DEVNULL, stdout=written, stderr=told, timeout=SECONDS)
+            written.seek(0)
+            told.seek(0)
+            fault = told.read().decode().strip()
+            expect(done.returncode == status, f"`{command}` ended with status {done.returncode}: {fault}")
+            expect(says in fault, f"`{command}` said: {fault}")
+            return written.read().decode("utf-8", "surrogateescape")
+
+    def shop(self, words: str, status: int = 0, says: str = "", folder: str = "auction") -> str:
+        return self.run(f"./shop -C {folder} {words}", status, says)
+
+    def status(self, folder: str = "auction") -> dict[str, Any]:
+        found: dict[str, Any] = json.loads(self.run(f"./shop -C {folder} status --json; true"))
+        return found
+
+    def site(self, number: int, folder: str = "auction") -> dict[str, Any]:
+        found: dict[str, Any] = self.status(folder)["site"][number]
+        return found
+
+    def text(self, name: str) -> str:
+        return (self.path / name).read_text()
+
+    def wait(self, what: str, holds: Any) -> None:
+        end = time.monotonic() + SECONDS
+        while not holds():
+            expect(time.monotonic() < end, f"after {SECONDS} seconds still not: {what}")
+            time.sleep(0.05)
+
+    def kill(self, process: int) -> None:
+        os.kill(process, signal.SIGKILL)
+
+    def close(self) -> None:
+        for made in self.running:
+            try:
+                os.killpg(made.pid, signal.SIGKILL)
+            except ProcessLookupError:
+                pass
+            made.wait()
+        for settings in self.path.glob("*/shop.json"):
+            subprocess.run([self.path / "shop", "stop", settings.parent], capture_output=True)
+
+
+SALE = "user,ann user,bob item,0.1,lamp,7,3,100,80"
+
+
+def test_shop(at: Folder) -> None:
+    """Three sites: asks at each, the token comes, all agree; a shop that is started again stands where it stood."""
+    at.run("./shop start auction --sites 3")
+    expect(at.shop(f"ask 0 {SALE}") == "ok,0.1\nok,0.2\nok,0.3\n", "the answers")
+    expect(at.shop("ask 2 bid,0.3,0.2,500") == "ok,2.1\n", "a bid at another site")
+    expect(at.shop("ask 1 comment,0.3,0.2,0.1,5,good buy,0.3,0.2,1") == "ok,1.1\nok,1.2\n", "asks at the third")
+    at.shop("wait 0")
+    rows = at.shop("ask 0 list,tables")
+    for site in (1, 2):
+        at.shop(f"wait {site}")
+        expect(at.shop(f"ask {site} list,tables") == rows, f"the tables of site {site}")
+    expect(at.shop("audit") == "audit,Agree\n", "the audit")
+    status = at.status()
+    expect(status["well"] and status["token"] == 1 and status["token_turn"] == 2, f"where the token is: {status}")
+    expect([site["messages"] for site in status["site"]] == [6, 6, 6], "the messages of each site")
+    at.shop("stop")
+    at.shop("status", 3, "auction is not running (shop start)")
+    at.run("./shop start auction")
+    expect(at.shop("ask 0 list,tables") == rows, "the tables after a start")
+    at.shop("ask 0 user,cat")
+    at.shop("audit")
+
+
+def test_statuses(at: Folder) -> None:
+    """0 accepted, 1 refused, 2 misuse, 3 not running or out of time."""
+    at.shop("status", 3, "there is no shop")
+    at.shop("stop", 2, "there is no shop")
+    at.run("./shop start auction --sites 2")
+    expect(at.shop("ask 0 user,ann") == "ok,0.1\n", "accepted")
+    expect(at.shop("ask 0 user,ann", 1, "user,ann: the nickname belongs to a user") == "refused,5,NickTaken\n", "refused")
+    at.shop("ask 0 'item,0.1,\"lamp,7'", 2, "its quotes don't close")
+    at.shop("ask 5 user,eve", 2, "there is no site 5: this shop has 2")
+    at.shop("ask 0", 2, "there is no record to ask")
+    at.shop("start --sites 4", 2, "auction has --sites 2, and that stays")
+    at.shop("start --keep 10", 2, "can only become greater")
+    at.shop("frobnicate", 2, "shop --help")
+    at.shop("list 0 items", 2, "needs a key")
+    at.shop("show 0 item 0.9", 1, "site 0 has no item 0.9")
+    at.run("RUBIS=./none ./shop start other", 2, "there is no program ./none")
+    expect(at.shop("ask 0 user,bob --json") == '{"record": "user,bob", "answer": "ok", "id": "0.2", "message": "msg,1,0,2,2,1:0,user,bob"}\n', "JSON")
+    expect(at.shop("ask 0 --raw list,users").startswith("reply,4,rows,2\nrow,user,0.1,ann"), "the site's own lines; a listing isn't counted")
+
+
+def test_records_on_standard_input(at: Folder) -> None:
+    """Many records by one call, answered in their order; a bad one ends it before its piece is asked."""
+    at.run("./shop start auction")
+    at.shop(f"ask 0 {SALE}")
+    answers = at.run("seq -f bid,0.3,0.2,1%05.0f 2500 | ./shop -C auction ask 0 -").split()
+    expect(answers == [f"ok,0.{number}" for number in range(4, 2504)], "the answers")
+    at.run("printf 'user,cat\\r\\nuser,\"eve\\n' | ./shop -C auction ask 0 -", 2, "its quotes don't close")
+    expect("cat" not in at.shop("list 0 users"), "nothing of that piece was asked")
+    at.run("printf 'user,cat\\r\\nuser,dan' | ./shop -C auction ask 0 -")
+    expect("dan" in at.shop("list 0 users"), "a last line without its end")
+
+
+def test_rows(at: Folder) -> None:
+    """Rows have names, and go to a database."""
+    at.run("./shop start auction --sites 2")
+    at.shop("ask 0 user,ann user,bob 'item,0.1,\"a \"\"blue\"\" lamp, it'\"'\"'s old\",7,3,50,80' bid,0.3,0.2,60 buy,0.3,0.2,2 comment,0.3,0.2,0.1,-3,slow")
+    at.shop("wait 1")
+    item = json.loads(at.shop("show 1 item 0.3 --json"))
+    expect(item["name"] == 'a "blue" lamp, it\'s old' and item["stock"] == 1 and item["best"] == "0.4", f"the item: {item}")
+    expect("nickname  bob" in at.shop("show 0 user bob"), "a user by the nickname")
+    expect([row["amount"] for row in json.loads(at.shop("list 0 bids 0.3 --json"))] == [60], "the bids")
+    for kind, key in (("bid", "0.4"), ("purchase", "0.5"), ("comment", "0.6"), ("category", "7"), ("user", "0.1")):
+        at.shop(f"show 1 {kind} {key}")
+    at.shop("show 1 bid 0.5", 1)
+    expect(at.shop("list 0 users").startswith("id   nickname  items  bought  rating  comments\n0.1  ann "), "columns")
+    sql = at.shop("tables 1")
+    count = at.run(f"{PYTHON} -c 'import sqlite3, sys; d = sqlite3.connect(\":memory:\"); d.executescript(sys.stdin.read()); "
+                   "print(d.execute(\"select name, stock, winner from item\").fetchall())' <<'END'\n" + sql + "END\n")
+    expect(count == "[('a \"blue\" lamp, it\\'s old', 1, None)]\n", f"from the database: {count}")
+
+
+def test_log(at: Folder) -> None:
+    """Events, and what a site was asked."""
+    at.run("./shop start auction")
+    follower = subprocess.Popen([at.path / "shop", "-C", "auction", "log", "0", "-f"], cwd=at.path, stdout=subprocess.PIPE, text=True)
+    at.running.append(follower)                             # type: ignore[arg-type]
+    time.sleep(0.5)
+    at.shop("ask 0 user,ann")
+    assert follower.stdout
+    lines = [follower.stdout.readline().split(" ", 1)[1] for _ in range(3)]
+    expect(lines == ["< user,ann\n", "> reply,1,ok,0.1\n", "> send,msg,1,0,1,1,0,user,ann\n"], f"what is followed: {lines}")
+    expect(at.shop("log 0 -n 3") == "< user,ann\n> reply,1,ok,0.1\n> send,msg,1,0,1,1,0,user,ann\n", "the last lines")
+    at.shop("stop")
+    expect("supervisor: ended" in at.shop("log"), "events")
+    expect("up with 0 records" in at.shop("log"), "events of a site")
+
+
+def test_token(at: Folder) -> None:
+    """Asks at every site at once: each gets the token in turn, and each ask is there once."""
+    at.run("./shop start auction --sites 4")
+    at.shop(f"ask 0 {SALE}")
+    command = "for n in $(seq 25); do ./shop -C auction ask {0} bid,0.3,0.2,1{0}$((1000 + n)) || exit 1; done"
+    askers = [at.start("sh -c '" + command.format(site) + "'") for site in range(4)]
+    for asker in askers:
+        expect(asker.wait(SECONDS) == 0, "an asker's status")
+    for site in range(4):
+        at.shop(f"wait {site}")
+    expect(len(json.loads(at.shop("list 3 bids 0.3 --json"))) == 100, "the bids")
+    at.shop("audit")
+    holder = at.status()["token"]
+    at.shop(f"pass {holder} {(holder + 1) % 4}")
+    at.wait("the token", lambda: at.status()["token"] == (holder + 1) % 4)
+    at.shop(f"pass {holder} 0", 1, "the site doesn't hold the token")
+    at.shop(f"ask --no-wait {holder} user,eve", 1, "the site doesn't hold the token")
+
+
+def test_kill(at: Folder) -> None:
+    """After kill -9 of a keeper, of its program and of the supervisor the shop stands where it stood, torn lines or not."""
+    at.run("./shop start auction --sites 2")
+    at.shop(f"ask 0 {SALE}")
+    for turn in range(3):
+        keeper = at.site(0)["pid"]
+        children = pathlib.Path(f"/proc/{keeper}/task/{keeper}/children").read_text().split()
+        at.kill(int(children[0]) if turn == 1 and children else keeper)
+        expect(at.shop(f"ask 0 bid,0.3,0.2,{500 + turn}") == f"ok,0.{4 + turn}\n", "an asker sees nothing of it")
+    supervisor = at.status()["pid"]
+    at.kill(supervisor)
+    at.shop("ask 0 user,cat", 3, "is not running")
+    with open(at.path / "auction/0/out", "a") as out, open(at.path / "auction/0/kept", "a") as kept:
+        kept.write("user,ca")
+    os.truncate(at.path / "auction/0/out", os.path.getsize(at.path / "auction/0/out") - 7)
+    at.run("./shop start auction")
+    expect(at.shop("ask 0 user,dan") == "ok,0.7\n", "it knows what it made")
+    expect(at.text("auction/0/out") == at.run("grep -v '^list' auction/0/kept | ./rubis site --sites 2"), "the answers to what was kept")
+    at.shop("wait 1")
+    at.shop("audit")
+
+
+def test_away(at: Folder) -> None:
+    """Asks of a site that can't start, or without a holder of the token, end in time and say what is known."""
+    at.run("./shop start auction --sites 2")
+    at.shop(f"ask 0 {SALE}")
+    at.shop("stop")
+    out = at.text("auction/0/out")
+    (at.path / "auction/0/out").write_text(out.replace("lamp", "lump"))
+    at.run("./shop start auction", 3, 'out differs at line 6: it has "send,msg,1,0,3,0,2:0,item,0.1,lump')
+    at.shop("ask 0 user,cat --timeout 1", 3, "no answer within 1 s; nothing was given to it")
+    at.shop("ask 1 bid,0.3,0.2,500 --timeout 1", 3, "site 0 has the token (turn 0), and is not running; not accepted within 1 s")
+    expect(at.shop("ask 1 comment,0.3,0.2,0.1,5,good") == "ok,1.1\n", "blue asks go on")
+    at.shop("status", 1)
+    (at.path / "auction/0/out").write_text(out + "reply,4,ok,0.4\n")
+    at.shop("stop")
+    at.run("./shop start auction", 3, 'out differs at line 7: it has "reply,4,ok,0.4", and the answer is ""')
+    at.shop("stop")
+    (at.path / "auction/0/out").write_text(out)
+    at.run("./shop start auction")
+    expect(at.shop("ask 1 bid,0.3,0.2,500") == "ok,1.2\n", "the token comes back with its holder")
+
+
+def test_audit(at: Folder) -> None:
+    """Logs of earlier audits are audited too, so that a changed past is found."""
+    at.run("./shop start auction --sites 2")
+    at.shop("ask 0 user,ann")
+    at.shop("audit --save monday")
+    expect(at.text("monday").startswith("site,0\nmsg,1,0,1,1,0:0,user,ann\nrow,user,0.1,ann,0,0,0,0\nsite,1\n"), "the logs that were saved")
+    at.shop("ask 0 user,bob")
+    expect(at.shop("audit --with monday") == "audit,Agree\n", "the past is the same")
+    (at.path / "monday").write_text(at.text("monday").replace("ann", "eve"))
+    expect(at.shop("audit --with monday", 1).startswith("audit,Clash,"), "another past")
+
+
+def test_folder(at: Folder) -> None:
+    """A long path, one with a blank, and a folder that is removed while the shop runs."""
+    name = "a b/" + "x" * 120
+    at.run(f"./shop start '{name}'")
+    at.shop("ask 0 user,ann", folder=f"'{name}'")
+    supervisor = at.status(f"'{name}'")["pid"]
+    at.run(f"rm -r '{name}'")
+    at.wait("the end of the supervisor", lambda: not os.path.exists(f"/proc/{supervisor}"))
+
+
+class Server:
+    """A Redis server of a trial, and a shop of three sites over it: 0 and 1 in the folder a, 2 in the folder b."""
+
+    def __init__(self, at: Folder, *options: str) -> None:
+        if not shutil.which("redis-server"):
+            raise Skipped("no redis-server on this machine")
+        if subprocess.run([PYTHON, "-c", "import redis"], capture_output=True).returncode:
+            raise Skipped("no python3-redis on this machine")
+        with socket.socket() as free:
+            free.bind(("127.0.0.1", 0))
+            self.port = free.getsockname()[1]
+        self.at, self.options = at, " ".join(options)
+        self.over = f"redis://127.0.0.1:{self.port}/auction"
+        self.start()
+
+    def start(self) -> None:
+        words = f"--port {self.port} --bind 127.0.0.1 --appendonly yes --save ''"
+        self.process = self.at.start(f"redis-server {words} {self.options}")
+        self.at.wait("the server", lambda: self.say("ping") == "PONG\n")
+
+    def say(self, words: str) -> str:
+        return self.at.run(f"redis-cli -p {self.port} {words}; true")
+
+    def kill(self) -> None:
+        self.process.kill()
+        self.process.wait()
+
+    def start_shop(self) -> None:
+        self.at.run(f"./shop start a --sites 3 --here 0,1 --over {self.over}")
+        self.at.run(f"./shop start b --sites 3 --here 2 --over {self.over}")
+
+
+def sends(at: Folder, site: str) -> list[str]:
+    return [line for line in at.text(f"{site}/out").split("\n") if line.startswith("send,")]
+
+
+def test_streams(at: Folder) -> None:
+    """Two supervisors over a server: asks at any site from either; a server that lost its end, or all, is given it again."""
+    server = Server(at)
+    server.start_shop()
+    expect(at.shop(f"ask 0 {SALE}", folder="a") == "ok,0.1\nok,0.2\nok,0.3\n", "asks at site 0")
+    expect(at.shop("ask 2 bid,0.3,0.2,500 --published", folder="b") == "ok,2.1\n", "a bid at site 2")
+    expect(at.shop("ask 1 bid,0.3,0.2,600", folder="b") == "ok,1.1\n", "asked from the other machine")
+    at.shop("ask 2 user,ann", 1, "the nickname belongs to a user", folder="a")
+    expect(at.shop("audit", folder="b") == "audit,Agree\n", "the audit")
+    server.say("flushall")
+    at.wait("all packets again", lambda: all(int(server.say(f"xlen auction:{site}")) == count for site, count in ((0, 4), (1, 2), (2, 2))))
+    server.kill()
+    expect(at.shop("ask 2 comment,0.3,0.2,0.1,5,good", folder="b") == "ok,2.2\n", "blue asks go on without the server")
+    at.shop("status", 1, folder="b")
+    server.start()
+    at.shop("wait 0", folder="a")
+    expect("good" in at.shop("list 0 comments 0.1", folder="a"), "what was asked meanwhile")
+    at.run("./shop stop a")
+    at.wait("site 0 away", lambda: at.status("b")["site"][0]["state"] == "away")
+    at.shop("ask 0 user,eve --timeout 1", 3, "gives no answer", folder="b")
+    at.run("./shop stop b")
+
+
+def test_fence(at: Folder) -> None:
+    """A site whose folder has less than its stream is stopped before it gives a number twice, and rebuilt byte for byte, with the token."""
+    server = Server(at)
+    server.start_shop()
+    at.shop(f"ask 0 {SALE} 'item,0.1,\"vase, blue\",7,1,100,0' restock,0.3,0.1,2", folder="a")
+    at.shop("ask 2 rename,0.2,bea", folder="b")
+    at.shop("ask 0 bid,0.3,0.2,500 close,0.3,0.1", folder="a")
+    at.shop("wait 2", folder="b")
+    was = sends(at, "a/0")
+    expect(at.status("a")["token"] == 0, "site 0 holds the token")
+    at.shop("rebuild 0", 1, "a is running", folder="a")
+    at.run("./shop stop a; rm -r a/0")
+    at.run("./shop start a", 3, "its folder ends with 0-0 (shop rebuild 0)")
+    at.shop("ask 0 user,eve", 3, "nothing was given to it", folder="a")
+    at.run("./shop stop a")
+    expect("8 packets" in at.shop("rebuild 0", folder="a"), "what rebuild says")
+    expect(sends(at, "a/0") == was, "the same packets")
+    at.run("./shop start a")
+    expect(at.shop("ask 0 user,eve", folder="a") == "ok,0.8\n", "it holds the token still")
+    # kept loses its end: it starts only as long as nobody has more of it.
+    at.run("./shop stop a")
+    (at.path / "a/0/kept").write_text("user,ann\n")
+    (at.path / "a/0/out").unlink()
+    at.run("./shop start a", 3, "shop rebuild 0")
+    at.run("./shop stop a")
+    at.shop("rebuild 0", folder="a")
+    at.run("./shop start a")
+    at.shop("audit", folder="b")
+
+
+def test_lost_twice(at: Folder) -> None:
+    """A folder is lost, and the server has lost its end: what the others have of the site goes into its stream first."""
+    server = Server(at)
+    server.start_shop()
+    at.shop(f"ask 0 {SALE}", folder="a")
+    at.shop("ask 2 bid,0.3,0.2,500", folder="b")
+    at.shop("ask 0 bid,0.3,0.2,600", folder="a")
+    at.shop("ask 2 bid,0.3,0.2,700 comment,0.3,0.2,0.1,5,good", folder="b")
+    for folder, site in (("a", 0), ("a", 1), ("b", 2)):
+        at.shop(f"wait {site}", folder=folder)
+    was = sends(at, "a/0")
+    at.run("./shop stop a; ./shop stop b; rm -r a/0")
+    # Two messages and both tokens of site 0.
+    entries = server.say("xrange auction:0 - +").split("\n")
+    packets = list(zip(entries[0::3], entries[2::3]))
+    server.say("del auction:0")
+    for name, packet in packets[:2]:
+        server.say(f"xadd auction:0 {name} p '{packet}'")
+    at.run("./shop start a", 3, "shop rebuild 0")
+    at.run("./shop stop a")
+    at.shop("rebuild 0", 1, "site 2 may have more of site 0", folder="a")
+    at.run("./shop start b")
+    at.shop("rebuild 0", folder="a")
+    expect(sends(at, "a/0") == was, f"the same packets: {sends(at, 'a/0')}")
+    at.run("./shop start a")
+    expect(at.shop("ask 0 bid,0.3,0.2,800", folder="a") == "ok,0.5\n", "its next number, with one token in the shop")
+    for folder, site in (("a", 0), ("a", 1), ("b", 2)):
+        at.shop(f"wait {site}", folder=folder)
+    at.shop("audit", folder="b")
+
+
+def test_others_append(at: Folder) -> None:
+    """Where the server has lost messages of a site that isn't running, another site appends them."""
+    server = Server(at)
+    server.start_shop()
+    at.shop(f"ask 0 {SALE}", folder="a")
+    at.shop("wait 2", folder="b")
+    at.run("./shop stop a")
+    server.say("del auction:0")
+    at.wait("its messages again", lambda: server.say("xlen auction:0") == "3\n")
+    at.run("./shop start a")
+    expect(at.shop("ask 0 user,eve", folder="a") == "ok,0.4\n", "it goes on")
+    at.shop("audit", folder="b")
+
+
+def test_deleted(at: Folder) -> None:
+    """Entries that were deleted by hand are published again, at the end of a stream and within it."""
+    server = Server(at)
+    server.start_shop()
+    at.shop(f"ask 0 {SALE} user,cat", folder="a")
+    at.shop("wait 2", folder="b")
+    for name in ("4-0", "2-0"):
+        server.say(f"xdel auction:0 {name}")
+        at.wait("the entry again", lambda: server.say("xlen auction:0") == "4\n")
+    expect(at.shop("ask 0 user,dan", folder="a") == "ok,0.5\n", "it goes on")
+    at.shop("wait 2", folder="b")
+    at.shop("audit", folder="b")
+
+
+def test_copied(at: Folder) -> None:
+    """A copy of a folder doesn't serve, until it is adopted."""
+    server = Server(at)
+    server.start_shop()
+    at.shop(f"ask 0 {SALE}", folder="a")
+    at.shop("ask 2 bid,0.3,0.2,500", folder="b")
+    at.run("cp -a b c; ./shop start c", 3, "b/2 has it (shop adopt 2")
+    at.shop("ask 2 user,eve --timeout 1", 3, "nothing was given to it", folder="c")
+    at.run("./shop stop c")
+    at.shop("adopt 2", 1, "site 2 is running elsewhere", folder="c")
+    at.run("./shop stop b")
+    at.shop("adopt 2", folder="c")
+    at.run("./shop start b", 3, "c/2 has it")
+    at.run("./shop start c")
+    expect(at.shop("ask 2 bid,0.3,0.2,600", folder="c") == "ok,2.2\n", "it goes on")
+
+
+def test_full_server(at: Folder) -> None:
+    """Where the server is full, asks go on, and the status says that nothing is published."""
+    server = Server(at, "--maxmemory-policy noeviction")
+    server.start_shop()
+    at.shop(f"ask 0 {SALE}", folder="a")
+    at.shop("wait 2", folder="b")
+    server.say("config set maxmemory 1")
+    expect(at.shop("ask 0 user,cat", folder="a") == "ok,0.4\n", "an ask")
+    at.shop("ask 0 user,dan --published --timeout 2", 3, "accepted here, and not published", folder="a")
+    at.wait("a fault", lambda: "OOM" in at.status("a")["link"])
+    server.say("config set maxmemory 0")
+    at.shop("wait 2", folder="b")
+    expect("dan" in at.shop("list 2 users", folder="b"), "what was asked meanwhile")
+
+
+def test_access(at: Folder) -> None:
+    """A server with a user and a password, as the guide sets it up: what the shop needs is allowed, and no command shows the password."""
+    server = Server(at)
+    expect(server.say("acl setuser shop on '>secret' '~auction:*' '+@all' '-@dangerous'") == "OK\n", "the user")
+    server.say("acl setuser default off")
+    server.over = server.over.replace("//", "//shop:secret@")
+    server.start_shop()
+    at.shop(f"ask 0 {SALE}", folder="a")
+    at.shop("ask 1 bid,0.3,0.2,500", folder="b")
+    at.shop("show 2 item 0.3", folder="b")
+    at.shop("audit", folder="a")
+    expect("secret" not in at.shop("status --json", folder="a") + at.shop("log", folder="a"), "what is shown")
+    expect((at.path / "a/shop.json").stat().st_mode & 0o077 == 0, "who reads the settings")
+    at.run("./shop stop b; rm -r b/2; ./shop -C b rebuild 2 --anyway; ./shop start b")
+    at.run("./shop stop a")
+    at.run(f"./shop start a --over {server.over.replace('secret', 'other')}", 3, "invalid username-password")
+    expect("other" not in at.text("a/events"), "what is written down")
+
+
+def test_limits(at: Folder) -> None:
+    """Many askers, and readers that read nothing: others are served, and no buffer grows without end."""
+    at.run("./shop start auction")
+    at.shop(f"ask 0 {SALE}")
+    at.run("seq -f 'comment,0.3,0.2,0.1,5,%-200g' 3000 | ./shop -C auction ask 0 - > /dev/null")
+    readers = []
+    for request in (b'{"op": "follow", "site": 0}\n', b'{"op": "logs", "timeout": 60}\n') * 5:
+        reader = socket.socket(socket.AF_UNIX)
+        reader.connect(os.path.relpath(at.path / "auction/sock"))
+        reader.sendall(request)
+        readers.append(reader)
+    at.run("seq -f 'comment,0.3,0.2,0.1,5,%-200g' 9000 | ./shop -C auction ask 0 - > /dev/null")
+    supervisor = at.status()["pid"]
+    memory = next(int(line.split()[1]) for line in pathlib.Path(f"/proc/{supervisor}/status").read_text().split("\n") if line.startswith("VmRSS"))
+    expect(memory < 200_000, f"the supervisor takes {memory} KiB")
+    for _ in range(500):
+        reader = socket.socket(socket.AF_UNIX)
+        reader.connect(os.path.relpath(at.path / "auction/sock"))
+        readers.append(reader)
+    at.shop("ask 0 user,eve", 3, "others are connected; nothing was asked")
+    for reader in readers:
+        reader.close()
+    at.wait("room", lambda: subprocess.run([at.path / "shop", "-C", "auction", "ask", "0", "user,eve"], cwd=at.path, capture_output=True).returncode != 3)
+    line = at.run("head -c 20000000 /dev/zero | tr '\\0' x > long; ./shop -C auction ask 0 - < long", 2, "has at most 4096 bytes")
+    expect(line == "", "nothing was asked")
+
+
+def recorded(at: Folder) -> str:
+    """A shop with something to shorten, stopped; the tables of its sites."""
+    at.run("./shop start auction --sites 2")
+    at.shop(f"ask 0 {SALE}")
+    at.shop("ask 0 user,ann user,bob 'bid,0.3,0.2,5'", 1)
+    at.shop("ask 1 bid,0.3,0.2,500")
+    at.shop("wait 0")
+    rows = at.shop("ask 1 list,tables")
+    at.shop("shorten 0", 1, "auction is running")
+    at.shop("stop")
+    return rows
+
+
+def stands_where_it_stood(at: Folder, folder: str, rows: str) -> None:
+    """The site has the same tables and has sent the same packets; it goes on with the next number."""
+    at.run(f"./shop start {folder}")
+    expect(at.shop("ask 0 list,tables", folder=folder) == rows, "the same tables")
+    expect(sends(at, f"{folder}/0") == sends(at, "auction/0"), "the same packets")
+    expect(at.shop("ask 0 user,cat", folder=folder) == "ok,0.4\n", "the next number")
+    at.shop("audit", folder=folder)
+    at.run(f"./shop stop {folder}")
+
+
+def test_shorten(at: Folder) -> None:
+    """A recording without what changed nothing gives the same packets and tables."""
+    rows = recorded(at)
+    at.run("cp -r auction short; ./shop -C short shorten 0 > said")
+    expect(at.text("said") == "site 0: 5 of 8 records are left\n", at.text("said"))
+    expect(at.text("short/0/kept") == "user,ann\nuser,bob\nitem,0.1,lamp,7,3,100,80\npass,1\nmsg,1,1,1,3,3:0,bid,0.3,0.2,500\n", "what is left")
+    stands_where_it_stood(at, "short", rows)
+
+
+def test_killed_shorten(at: Folder) -> None:
+    """A shortening that is killed at any step leaves the old recording or the new one: these are the steps of shop_tool/keeper.py."""
+    rows = recorded(at)
+    at.run("cp -r auction short; ./shop -C short shorten 0")
+    new = {name: at.text(f"short/0/{name}") for name in ("kept", "out")}
+    steps: list[dict[str, int | None]] = [
+        {"kept.new": 10}, {"kept.new": None}, {"kept.new": None, "out.new": 10}, {"kept.new": None, "out.new": None}, {"kept": None, "out.new": None}]
+    for killed in steps:
+        at.run("rm -rf trial; cp -r auction trial")
+        for name, size in killed.items():
+            (at.path / "trial/0" / name).write_text(new[name.removesuffix(".new")][:size])
+        at.run("./shop start trial; ./shop stop trial")
+        expect(at.text("trial/0/kept") == (new["kept"] if "kept" in killed else at.text("auction/0/kept")), f"the old one or the new one: {killed}")
+        stands_where_it_stood(at, "trial", rows)
+
+
+def test_full(at: Folder) -> None:
+    """A site that is full goes on with a greater --keep, once its recording is shortened; in whichever order that is done."""
+    at.run("./shop start auction --keep 3")
+    at.shop(f"ask 0 {SALE} user,cat", 1, "keeps no more messages than --keep")
+    at.shop("stop")
+    at.run("./shop start auction --keep 100", 3, 'out differs at line 7: it has "reply,4,refused,2,Full"')
+    at.shop("stop")
+    expect(at.shop("shorten 0") == "site 0: 3 of 4 records are left\n", "what is left")
+    at.run("./shop start auction")
+    expect(at.shop("ask 0 user,dan") == "ok,0.4\n", "it goes on")
+    at.shop("audit")
+
+
+def test_carry(at: Folder) -> None:
+    """Users, open items and bids go to a new shop; it says what stays behind, asks before it begins, and goes on when it was cut."""
+    at.run("./shop start old --sites 2; ./shop start new --sites 3")
+    at.shop(f"ask 0 {SALE} item,0.1,cup,7,1,1,0 buy,0.3,0.2,1", folder="old")
+    at.shop("ask 1 bid,0.3,0.2,500 close,0.4,0.1 comment,0.3,0.2,0.1,5,good", folder="old")
+    said = at.run("./shop carry old new", 2, "say --yes")
+    expect("2 users, 1 open items, 1 bids on them" in said and "1 closed sales, 1 purchases, 1 comments" in said, f"what it says: {said}")
+    at.run("./shop carry old new --yes")
+    expect(at.text("new/carried.csv") == "user,0.1,0.1\nuser,0.2,0.2\nitem,0.3,0.3\nbid,1.1,0.4\n", "the map")
+    item = json.loads(at.shop("show 2 item 0.3 --json", folder="new") if not at.shop("wait 2", folder="new") else "")
+    expect((item["stock"], item["best"], item["amount"]) == (2, "0.4", 500), f"the item: {item}")
+    at.run("./shop carry old new --yes")
+    at.shop("audit", folder="new")
+    # Cut after two asks: it goes on where it was.
+    at.run("./shop start cut; cp new/carried.csv cut/; ./shop -C cut ask 0 user,ann user,bob; ./shop carry old cut --yes")
+    expect(at.shop("list 0 bids 0.3", folder="cut").split()[-2:] == ["500", "3"], "the bid")
+    at.shop("ask 0 user,zed", folder="cut")
+    at.run("./shop carry old cut --yes", 1, "has messages of its own")
+    at.shop("ask 0 user,zed", folder="old")
+    at.run("./shop carry old new --yes", 1, "old has changed since")
+
+
+def test_service(at: Folder) -> None:
+    """`shop run`, as systemd runs it: it says that it is ready, and ends at TERM."""
+    with socket.socket(socket.AF_UNIX, socket.SOCK_DGRAM) as ready:
+        ready.bind(str(at.path / "notify"))
+        ready.settimeout(SECONDS)
+        at.start(f"env NOTIFY_SOCKET={at.path}/notify ./shop run auction --sites 2")
+        expect(ready.recv(100) == b"READY=1", "that it is ready")
+    at.shop("ask 0 user,ann")
+    at.running[0].terminate()
+    expect(at.running[0].wait(SECONDS) == 0, "its status")
+    at.shop("status", 3, "is not running")
+
+
+# What the shell scripts that ran shops before did wrong, tried again. Each names what they did.
+
+
+def test_once_asks_hung(at: Folder) -> None:
+    """An asker hung for ever: of a site that had died, of an empty record, of the word `stop`, of a carriage return."""
+    at.run("./shop start auction --sites 2")
+    at.shop("ask 0 ''", 2, "an empty line is no record; nothing was asked")
+    at.shop("ask 0 \"$(printf 'user,dan\\rrest')\"", 2, "a record has no line end in it; nothing was asked")
+    at.shop("ask 0 \"$(printf 'user,dan\\nrest')\"", 2, "a record has no line end in it; nothing was asked")
+    expect(at.shop("ask 0 stop", 1, "the record isn't in the grammar") == "refused,1,BadRecord\n", "a word that is no record")
+    expect(at.shop("ask 0 user,ann") == "ok,0.1\n", "the site is up still")
+    # The site can't come up: its folder is locked by somebody else.
+    keeper = at.site(0)["pid"]
+    lock = at.start("flock auction/0/lock sleep 100")
+    at.kill(keeper)
+    at.wait("a fault", lambda: at.site(0)["state"] != "up" or at.site(0)["starts"] > 1)
+    at.shop("ask 0 user,bob --timeout 1", 3, "no answer within 1 s; nothing was given to it")
+    os.killpg(lock.pid, signal.SIGKILL)
+    expect(at.shop("ask 0 user,cat --timeout 50") == "ok,0.2\n", "it comes up by itself, and bob was never asked")
+
+
+def test_once_asks_got_slower(at: Folder) -> None:
+    """An ask read all that the site had ever answered."""
+    at.run("./shop start auction")
+    at.shop(f"ask 0 {SALE}")
+    at.run("seq -f bid,0.3,0.2,1%05.0f 20000 | ./shop -C auction ask 0 - > /dev/null")
+    began = time.monotonic()
+    at.shop("ask 0 bid,0.3,0.2,500")
+    expect(time.monotonic() - began < 2, "an ask behind 20,000 others")
+
+
+def test_once_two_starts_doubled_links(at: Folder) -> None:
+    """A second start doubled every link; and each restart sent the whole history again, as records of the other sites."""
+    at.run("./shop start auction --sites 3")
+    at.shop(f"ask 0 {SALE}")
+    at.run("./shop start auction", 0, "auction is running")
+    at.run("./shop start auction --sync", 2, "is running with other settings; stop it first")
+    for _ in range(3):
+        at.shop("stop")
+        at.shop("stop", 0, "auction is not running")
+        at.run("./shop start auction")
+        at.kill(at.site(1)["pid"])
+    at.shop("ask 1 bid,0.3,0.2,500")
+    for site in range(3):
+        at.shop(f"wait {site}")
+        expect("repeat" not in at.text(f"auction/{site}/out"), f"what came to site {site} came once")
+    expect([one["records"] for one in at.status()["site"]][2] == 4, "the records of a site that nobody asked")
+
+
+def test_once_another_start_damaged_the_shop(at: Folder) -> None:
+    """A site that was started as another one wrote messages in its name, and the audit still agreed."""
+    at.run("./shop start auction --sites 2")
+    at.shop(f"ask 0 {SALE}")
+    at.shop("stop")
+    at.run("./shop start auction --sites 3", 2, "auction has --sites 2, and that stays")
+    at.run("mv auction/0 aside; mv auction/1 auction/0; mv aside auction/1")
+    at.run("./shop start auction", 3, "is site 1 of 2")
+    at.run("./shop stop auction; mv auction/0 aside; mv auction/1 auction/0; mv aside auction/1; ./shop start auction")
+    at.shop("ask 1 bid,0.3,0.2,500")
+    at.shop("audit")
+
+
+def test_once_shortening_lost_the_shop(at: Folder) -> None:
+    """With an empty `out` all of `kept` was emptied, with status 0."""
+    at.run("./shop start auction")
+    at.shop(f"ask 0 {SALE} user,ann", 1)
+    at.shop("stop")
+    kept = at.text("auction/0/kept")
+    (at.path / "auction/0/out").write_text("")
+    expect(at.shop("shorten 0") == "site 0: 3 of 4 records are left\n", "what is left")
+    expect(at.text("auction/0/kept") == kept.removesuffix("user,ann\n"), "the records")
+    (at.path / "auction/0/out").unlink()
+    (at.path / "auction/0/kept").write_text("")
+    expect(at.shop("shorten 0") == "site 0: 0 of 0 records are left\n", "nothing is left of nothing")
+    (at.path / "auction/0/out").write_text("reply,1,ok,0.1\nsend,msg,1,0,1,1,0,user,ann\n")
+    at.shop("shorten 0", 1, 'out differs at line 1: it has "reply,1,ok,0.1", and the answer is ""; it is as it was')
+    expect(at.text("auction/0/out").startswith("reply,1,ok"), "nothing was changed")
+
+
+def test_once_a_full_disk_said_nothing(at: Folder) -> None:
+    """A disk that was full ended a site without a word, and what was asked then waited for ever."""
+    if not shutil.which("prlimit"):
+        raise Skipped("no prlimit on this machine")
+    run = at.start("sh -c 'ulimit -S -f 16; exec ./shop run auction'")
+    at.wait("the shop", lambda: (at.path / "auction/sock").exists())
+    at.shop(f"ask 0 {SALE}")
+    for number in range(100):
+        said = subprocess.run([at.path / "shop", "-C", "auction", "ask", "0", f"comment,0.3,0.2,0.1,5,{'x' * 150}{number}", "--timeout", "2"],
+                              cwd=at.path, capture_output=True, text=True)
+        if said.returncode:
+            break
+    expect(said.returncode == 3 and "File too large" in said.stderr, f"what the asker is told: {said.stderr}")
+    at.shop("status", 1)
+    expect("write out: File too large" in at.site(0)["fault"] or "write kept: File too large" in at.site(0)["fault"], f"the fault: {at.site(0)['fault']}")
+    at.run(f"prlimit --pid {run.pid} --fsize=unlimited")
+    at.wait("the site", lambda: at.site(0)["state"] == "up")
+    expect(at.shop("ask 0 user,cat").startswith("ok,0."), "it goes on")
+    at.shop("audit")
+
+
+def test_help(at: Folder) -> None:
+    """Each command has its help, and the man page and the completions are those of the command line."""
+    for command in at.run("./shop --help").split("COMMAND\n")[1].split("\n\n")[0].split("\n"):
+        if command.startswith("    ") and command[4] != " ":
+            expect("usage: shop" in at.run(f"./shop {command.split()[0]} --help"), command)
+    at.run(f"python3 {TOP}/scripts/write_shop_help.py --check")
+
+
+def test_units(at: Folder) -> None:
+    """The unit tests of shop_tool."""
+    done = subprocess.run([PYTHON, "-m", "unittest", "discover", "-s", "shop_tool/tests", "-t", "."], cwd=TOP, capture_output=True, text=True)
+    expect(done.returncode == 0, done.stderr)
+
+
+def test_types(at: Folder) -> None:
+    """The types of shop_tool, as mypy checks them."""
+    if subprocess.run([PYTHON, "-c", "import mypy"], capture_output=True).returncode:
+        raise Skipped("no python3-mypy on this machine")
+    words = ["--strict", "--cache-dir", str(at.path / "cache"), "shop_tool", "scripts/kill_shop.py", "scripts/try_shop.py"]
+    done = subprocess.run([PYTHON, "-m", "mypy", *words], cwd=TOP, capture_output=True, text=True)
+    expect(done.returncode == 0, done.stdout)
+
+
+def tried(test: Callable[[Folder], None], program: pathlib.Path) -> Exception | None:
+    """Why a trial failed or was skipped, or None."""
+    with tempfile.TemporaryDirectory() as path:
+        at = Folder(path, program)
+        try:
+            test(at)
+            return None
+        except Exception as fault:
+            return fault
+        finally:
+            at.close()
+
+
+def main() -> int:
+    if len(sys.argv) < 2:
+        print(__doc__, file=sys.stderr)
+        return 2
+    program = pathlib.Path(sys.argv[1]).resolve()
+    tests = {name[5:]: test for name, test in globals().items() if name.startswith("test_")}
+    passed, failed, skipped = 0, 0, 0
+    with concurrent.futures.ThreadPoolExecutor(AT_ONCE) as pool:
+        for name, fault in pool.map(lambda name: (name, tried(tests[name], program)), sys.argv[2:] or tests):
+            if fault is None:
+                passed += 1
+            elif isinstance(fault, Skipped):
+                skipped += 1
+                print(f"shop: the trial {name} was skipped: {fault}")
+            else:
+                failed += 1
+                print(f"shop: {name}: {fault if isinstance(fault, Failed) else repr(fault)}")
+    print(f"shop: {passed} passed, {failed} failed" + (f", {skipped} skipped" if skipped else ""))
+    return 1 if failed else 0
+
+
+if __name__ == "__main__":
+    sys.exit(main())

@@ -1,0 +1,204 @@
+#!/usr/bin/env python3
+"""Writes the man page and the completions of `shop` as its command line has them: scripts/write_shop_help.py [--check]
+
+It writes docs/shop.1, completions/shop.bash, completions/_shop and completions/shop.fish. With --check it compares them instead; the
+status is 1 where one differs."""
+
+import argparse
+import os
+import pathlib
+import re
+import sys
+from typing import NamedTuple
+
+TOP = pathlib.Path(__file__).resolve().parent.parent
+sys.path.insert(0, str(TOP))
+os.environ.pop("SHOP", None)
+
+from shop_tool.cli import ABOUT, EXAMPLES, NOTES, CommandLine      # noqa: E402
+
+WRITTEN_BY = "Written by scripts/write_shop_help.py; changes are lost."
+SITES = [str(site) for site in range(16)]
+OVER = ["files", "redis://"]
+
+
+class Option(NamedTuple):
+    names: list[str]            # as -n, --lines
+    value: str | None           # what stands behind it, or None
+    help: str
+
+
+class Command(NamedTuple):
+    name: str
+    about: str
+    words: list[argparse.Action]        # its positional arguments
+    options: list[Option]
+    examples: str
+
+
+def options_of(parser: argparse.ArgumentParser) -> list[Option]:
+    made = []
+    for action in parser._actions:
+        if action.option_strings:
+            value = None if action.nargs == 0 else action.metavar or action.dest.upper()
+            made.append(Option(list(action.option_strings), str(value) if value else None, str(action.help)))
+    return made
+
+
+def commands() -> list[Command]:
+    found = CommandLine()
+    abouts = {action.dest: str(action.help) for action in found.commands._choices_actions}
+    made = []
+    for name, parser in found.commands.choices.items():
+        words = [action for action in parser._actions if not action.option_strings]
+        examples = (parser.epilog or "").partition("examples:\n")[2]
+        made.append(Command(name, abouts[name], words, options_of(parser), examples))
+    return made
+
+
+def choices_of(command: Command, at: int) -> list[str]:
+    """What may stand as the word `at` of a command, where that can be listed."""
+    word = command.words[min(at, len(command.words) - 1)] if command.words else None
+    if word is None or at >= len(command.words) and word.nargs != "*":
+        return []
+    return [str(choice) for choice in word.choices] if word.choices else SITES if word.metavar in ("SITE", "TO") else []
+
+
+# The man page.
+
+
+def roff(text: str) -> str:
+    """Text of a man page: no hyphen that a reader may copy becomes a dash, and no line is a request."""
+    text = text.replace("\\", "\\e").replace("-", "\\-")
+    return re.sub(r"^([.'])", r"\\&\1", text, flags=re.M)
+
+
+def synopsis_of(command: Command) -> str:
+    parts = [f"[{'|'.join(option.names[:1])}{' ' + option.value if option.value else ''}]" for option in command.options if "--help" not in option.names]
+    for word in command.words:
+        name = str(word.metavar)
+        parts.append({"?": f"[{name}]", "*": f"{name}.."}.get(str(word.nargs), name))
+    return " ".join(parts)
+
+
+def man_page() -> str:
+    out = [
+        f'.\\" {WRITTEN_BY}', '.TH SHOP 1 "" "rubis 0.1.0" "User Commands"', ".SH NAME", "shop \\- runs a rubis shop of several sites", ".SH SYNOPSIS",
+        ".B shop", "[\\-C FOLDER] COMMAND ..", ".SH DESCRIPTION", roff(ABOUT), roff(NOTES.partition("\n")[0]), ".SH COMMANDS"]
+    for command in commands():
+        out += [".TP", f"\\fB{command.name}\\fR {roff(synopsis_of(command))}", roff(command.about[0].upper() + command.about[1:] + ".")]
+        for word in command.words:
+            if word.help:
+                out += [".RS", ".TP", roff(str(word.metavar)), roff(str(word.help)), ".RE"]
+        for option in command.options:
+            if "--help" not in option.names:
+                names = ", ".join(f"\\fB{roff(name)}\\fR" for name in option.names) + (f" {option.value}" if option.value else "")
+                out += [".RS", ".TP", names, roff(option.help), ".RE"]
+    out += [
+        ".SH EXIT STATUS", roff(NOTES.partition("Status: ")[2].strip()), ".SH ENVIRONMENT", ".TP", "SHOP", "The folder of the shop.", ".TP", "RUBIS",
+        "The program rubis; by default ./rubis beside the command, or else that of the search path.", ".TP", "NO_COLOR", "Without colours, even on a terminal.",
+        ".SH FILES", ".TP", "FOLDER/shop.json", "The settings of the shop.", ".TP", "FOLDER/events", "What happened.", ".TP", "FOLDER/SITE/kept, FOLDER/SITE/out",
+        "What a site was given, and its answers.", ".SH EXAMPLES", ".nf", roff(EXAMPLES.rstrip("\n")), ".fi", ".SH SEE ALSO", ".BR rubis (1)", ".br",
+        roff("docs/GUIDE.md says how to run a shop, by task; docs/MANUAL.md has every record, answer and refusal."), ""]
+    return "\n".join(out)
+
+
+# Completions.
+
+
+def bash_completion() -> str:
+    found = commands()
+    out = [
+        f"# Completion of shop for bash. {WRITTEN_BY}", "_shop() {", "    local word=${COMP_WORDS[COMP_CWORD]} before=${COMP_WORDS[COMP_CWORD - 1]} command= at=0 words= next",
+        "    for ((next = 1; next < COMP_CWORD; next++)); do", "        case ${COMP_WORDS[next]} in", "        -C) ((next++)) ;;", "        -*) ;;",
+        "        *) if [[ $command ]]; then ((at++)); else command=${COMP_WORDS[next]}; fi ;;", "        esac", "    done", "    case $command,$before in",
+        "    *,-C | *,--save | *,--with) mapfile -t COMPREPLY < <(compgen -f -- \"$word\"); return ;;",
+        f"    *,--over) words='{' '.join(OVER)}' ;;", f"    ,*) words='{' '.join(command.name for command in found)} -C --help' ;;"]
+    for command in found:
+        for at in range(len(command.words)):
+            if choices := choices_of(command, at):
+                out.append(f"    {command.name},*) [[ $at -eq {at} && $word != -* ]] && words='{' '.join(choices)}' ;;&")
+        options = " ".join(name for option in command.options for name in option.names if name.startswith("--"))
+        out.append(f"    {command.name},*) [[ $word == -* ]] && words='{options}' ;;&")
+    out += [
+        "    start,* | run,* | stop,* | carry,*) [[ $word != -* ]] && mapfile -t COMPREPLY < <(compgen -d -- \"$word\") && return ;;", "    esac",
+        '    mapfile -t COMPREPLY < <(compgen -W "$words" -- "$word")', "}", "complete -F _shop shop", ""]
+    return "\n".join(out)
+
+
+def quoted(text: str) -> str:
+    return "'" + text.replace("'", "'\\''") + "'"
+
+
+def zsh_text(text: str) -> str:
+    return text.replace("[", "(").replace("]", ")").replace(":", " -")
+
+
+def zsh_completion() -> str:
+    found = commands()
+    out = [f"#compdef shop\n# Completion of shop for zsh. {WRITTEN_BY}", "_shop() {", "    local context state line", "    local -a commands", "    commands=("]
+    out += [f"        {quoted(command.name + ':' + command.about.replace(':', ' -'))}" for command in found]
+    out += ["    )", "    _arguments -C '-C[the folder of the shop]:folder:_directories' '(-h --help)'{-h,--help}'[print the help]' '1: :->command' '*:: :->rest'",
+            "    case $state in", "    command) _describe command commands ;;", "    rest)", "        case $words[1] in"]
+    for command in found:
+        specs = []
+        for option in command.options:
+            for name in option.names:
+                values = "_files" if name in ("--save", "--with") else f"({' '.join(value.replace(':', chr(92) + ':') for value in OVER)})" if name == "--over" else ""
+                specs.append(quoted(f"{name}[{zsh_text(option.help)}]" + (f":{option.value.lower()}:{values}" if option.value else "")))
+        for at, word in enumerate(command.words):
+            values = f"({' '.join(choices)})" if (choices := choices_of(command, at)) else "_directories" if word.metavar in ("FOLDER", "OLD", "NEW") else ""
+            specs.append(quoted(f"{'*' if word.nargs == '*' else at + 1}:{str(word.metavar).lower()}:{values}"))
+        out += [f"        {command.name})", "            _arguments \\", " \\\n".join(f"                {spec}" for spec in specs), "            ;;"]
+    out += ["        esac", "        ;;", "    esac", "}", 'if [[ $zsh_eval_context[-1] == loadautofunc ]]; then _shop "$@"; else compdef _shop shop; fi', ""]
+    return "\n".join(out)
+
+
+def fish_text(text: str) -> str:
+    return "'" + text.replace("\\", "\\\\").replace("'", "\\'") + "'"
+
+
+def fish_completion() -> str:
+    found = commands()
+    out = [
+        f"# Completion of shop for fish. {WRITTEN_BY}", "complete -c shop -f", "complete -c shop -s h -l help -d 'Prints the help'",
+        "complete -c shop -s C -x -a '(__fish_complete_directories)' -d 'The folder of the shop'", f"set -l commands {' '.join(command.name for command in found)}"]
+    for command in found:
+        out.append(f"complete -c shop -n \"not __fish_seen_subcommand_from $commands\" -a {command.name} -d {fish_text(command.about)}")
+        inside = f'-n "__fish_seen_subcommand_from {command.name}"'
+        for option in command.options:
+            if "--help" in option.names:
+                continue
+            names = " ".join(f"-l {name[2:]}" if name.startswith("--") else f"-s {name[1:]}" for name in option.names)
+            values = f" -x -a '{' '.join(OVER)}'" if "--over" in option.names else " -r -F" if option.names[0] in ("--save", "--with") else " -x" if option.value else ""
+            out.append(f"complete -c shop {inside} {names}{values} -d {fish_text(option.help)}")
+        for at, word in enumerate(command.words):
+            if choices := choices_of(command, at):
+                out.append(f"complete -c shop {inside} -a '{' '.join(choices)}' -d {fish_text(str(word.metavar).lower())}")
+            elif word.metavar in ("FOLDER", "OLD", "NEW"):
+                out.append(f"complete -c shop {inside} -a '(__fish_complete_directories)'")
+    return "\n".join(out) + "\n"
+
+
+WRITTEN = {"docs/shop.1": man_page, "completions/shop.bash": bash_completion, "completions/_shop": zsh_completion, "completions/shop.fish": fish_completion}
+
+
+def main() -> int:
+    if sys.argv[1:] not in ([], ["--check"]):
+        print(__doc__, file=sys.stderr)
+        return 2
+    other = 0
+    for name, write in WRITTEN.items():
+        text, path = write(), TOP / name
+        if not sys.argv[1:]:
+            path.write_text(text)
+        elif not path.exists() or path.read_text() != text:
+            other += 1
+            print(f"{name}:1: isn't what the command line of shop says; scripts/write_shop_help.py writes it")
+    if sys.argv[1:]:
+        print(f"help of shop: {len(WRITTEN) - other} passed, {other} failed")
+    return 1 if other else 0
+
+
+if __name__ == "__main__":
+    sys.exit(main())

@@ -1,0 +1,93 @@
+"""ask and pass: what users and operators ask of a site."""
+
+import argparse
+import json
+import os
+import sys
+from collections.abc import Iterator
+from typing import Any, TextIO
+
+from . import client
+from .ends import Fault, Status
+from .records import COLUMNS, REFUSALS, row_of, why_not_one_record
+
+PIECE = 1000        # how many records of standard input are asked by one request
+
+
+def ask(args: argparse.Namespace) -> int:
+    """Asks a site, and prints each answer as it comes."""
+    if not args.records:
+        raise Fault(Status.MISUSE, "there is no record to ask")
+    sign = Printer(args)
+    for records in _pieces_of(sys.stdin) if args.records == ["-"] else [args.records]:
+        for record in records:
+            if why := why_not_one_record(os.fsencode(record)):
+                raise Fault(Status.MISUSE, f"{record[:80]!r}: {why}; nothing was asked" + (" of this piece" if sign.count else ""))
+        request = {
+            "op": "ask", "site": args.site, "records": records, "timeout": args.timeout, "fetch": not args.no_wait,
+            "published": args.published}
+        for answer in client.call(args.folder, request):
+            client.raise_fault(answer)
+            if not answer.get("end"):
+                sign.show(answer["record"], answer["lines"])
+    return sign.status
+
+
+def _pieces_of(file: TextIO) -> Iterator[list[str]]:
+    """The lines of standard input, some at a time; bytes that aren't text stay what they are."""
+    file.reconfigure(encoding="utf-8", errors="surrogateescape", newline="\n")     # type: ignore[attr-defined]
+    piece: list[str] = []
+    for line in file:
+        piece.append(line.removesuffix("\n").removesuffix("\r"))
+        if len(piece) == PIECE:
+            yield piece
+            piece = []
+    if piece:
+        yield piece
+
+
+class Printer:
+    """Prints answers as the options want them: in words, as the site's own lines, or as JSON, an object a line."""
+
+    def __init__(self, args: argparse.Namespace) -> None:
+        self.show = self._raw if args.raw else self._json if args.json else self._plain
+        self.status = Status.WELL
+        self.count = 0
+
+    def _noted(self, lines: list[str]) -> list[str]:
+        head = lines[0].split(",")
+        self.count += 1
+        if head[2] == "refused":
+            self.status = Status.REFUSED
+        return head
+
+    def _raw(self, record: str, lines: list[str]) -> None:
+        self._noted(lines)
+        print("\n".join(lines), flush=True)
+
+    def _plain(self, record: str, lines: list[str]) -> None:
+        head = self._noted(lines)
+        if head[2] == "rows":
+            print("".join(f"{line[4:]}\n" for line in lines[1:]), end="", flush=True)
+            return
+        print(",".join(head[2:]), flush=True)
+        if head[2] == "refused":
+            print(f"shop: {record}: {REFUSALS.get(head[4], head[4])}", file=sys.stderr)
+
+    def _json(self, record: str, lines: list[str]) -> None:
+        head = self._noted(lines)
+        said: dict[str, Any] = {"record": record, "answer": head[2]}
+        match head[2]:
+            case "refused":
+                said |= {"code": int(head[3]), "refusal": head[4], "meaning": REFUSALS.get(head[4])}
+            case "ok":
+                said |= {"id": head[3], "message": lines[1][5:]}
+            case "rows":
+                said["rows"] = [row_of(line) if line.split(",")[1] in COLUMNS else line[4:] for line in lines[1:]]
+        print(json.dumps(said), flush=True)
+
+
+def pass_token(args: argparse.Namespace) -> int:
+    """Hands the token on by hand; asks fetch it by themselves."""
+    args.records, args.json, args.raw, args.no_wait, args.published = [f"pass,{args.to}"], False, False, True, False
+    return ask(args)

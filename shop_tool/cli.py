@@ -1,0 +1,230 @@
+"""The command line of `shop`."""
+
+import argparse
+import os
+import sys
+from collections.abc import Callable
+from typing import NoReturn
+
+from .ends import Fault, Status
+from .records import COLUMNS, LISTINGS
+
+ABOUT = "Runs the sites of a rubis shop, carries their packets, and is how one asks and watches them."
+NOTES = """\
+The shop is the folder ./shop, or the one that -C or the variable SHOP names. The variable RUBIS names the program rubis.
+Status: 0 accepted, or all is well; 1 refused, or something isn't well; 2 misuse; 3 not running, or out of time.
+"""
+EXAMPLES = """\
+  shop start --sites 3                                     three sites on this machine
+  shop ask 0 user,ann user,bob item,0.1,lamp,7,1,100,0     ask site 0
+  shop ask 2 bid,0.3,0.2,500                               ask site 2; the token comes by itself
+  shop show 1 item 0.3                                     one row, as site 1 has it
+  shop status                                              how each site is
+  shop audit                                               do all sites agree?
+  shop stop
+"""
+
+
+class Words(argparse.ArgumentParser):
+    """Says what is wrong with the command line in one line."""
+
+    def error(self, message: str) -> NoReturn:
+        raise Fault(Status.MISUSE, f"{message} ({self.prog} --help)")
+
+
+def sites_of(text: str) -> tuple[int, ...]:
+    return tuple(int(part) for part in text.split(","))
+
+
+def count_of(text: str) -> int:
+    """A whole number that isn't negative."""
+    if not text.isdecimal():
+        raise argparse.ArgumentTypeError(f"{text!r} is no number")
+    return int(text)
+
+
+def seconds_of(text: str) -> float:
+    seconds = float(text)
+    if not 0 < seconds < 1e6:
+        raise ValueError
+    return seconds
+
+
+sites_of.__name__, seconds_of.__name__ = "list of sites", "number of seconds"
+
+
+class CommandLine:
+    def __init__(self) -> None:
+        self.words = Words(
+            prog="shop", description=ABOUT, epilog=f"{NOTES}\nexamples:\n{EXAMPLES}", formatter_class=argparse.RawDescriptionHelpFormatter)
+        self.words.add_argument("-C", dest="folder", metavar="FOLDER", default=os.environ.get("SHOP", "shop"), help="the folder of the shop")
+        self.commands = self.words.add_subparsers(dest="command", required=True, metavar="COMMAND")
+        self._life()
+        self._asks()
+        self._reading()
+        self._care()
+
+    def command(self, name: str, does: str, about: str, examples: str = "") -> argparse.ArgumentParser:
+        """A command that the function `does` of a module of the package runs; the module is loaded only then."""
+        parser: argparse.ArgumentParser = self.commands.add_parser(
+            name, help=about, description=about[0].upper() + about[1:] + ".", epilog=f"examples:\n{examples}" if examples else None,
+            formatter_class=argparse.RawDescriptionHelpFormatter)
+        parser.set_defaults(does=does)
+        return parser
+
+    @staticmethod
+    def site(parser: argparse.ArgumentParser, nargs: str | None = None, of: str = "the number of the site") -> None:
+        parser.add_argument("site", metavar="SITE", type=count_of, help=of, **({"nargs": nargs} if nargs else {}))    # type: ignore[arg-type]
+
+    @staticmethod
+    def timeout(parser: argparse.ArgumentParser, seconds: float) -> None:
+        parser.add_argument("--timeout", metavar="S", type=seconds_of, default=seconds, help=f"seconds until it gives up; {seconds:g} by default")
+
+    @staticmethod
+    def as_json(parser: argparse.ArgumentParser) -> None:
+        parser.add_argument("--json", action="store_true", help="print JSON")
+
+    def _life(self) -> None:
+        examples = """\
+  shop start auction --sites 3                    a shop in the folder auction, all on this machine
+  shop start auction                              the same again: its settings are kept in auction/shop.json
+  shop start auction --sites 3 --here 0,1 --over redis://10.0.0.5/auction
+                                                  sites 0 and 1; another machine says --here 2
+"""
+        for name, about in (("start", "start the sites of a shop in the background"), ("run", "run the sites of a shop in the foreground, for systemd")):
+            parser = self.command(name, f"running.{name}", about, examples.replace("shop start", f"shop {name}"))
+            parser.add_argument("named", metavar="FOLDER", nargs="?", help="the folder of the shop")
+            parser.add_argument("--sites", metavar="N", type=count_of, help="how many sites the shop has, 1 to 16; 1 by default. It stays")
+            parser.add_argument("--here", metavar="I,..", type=sites_of, help="which of them run here; all by default")
+            parser.add_argument("--over", metavar="WHAT", help="what carries their packets: files, or redis://HOST:PORT/NAME")
+            parser.add_argument("--sync", action=argparse.BooleanOptionalAction, help="have each record on the disk before it is answered")
+            parser.add_argument("--keep", metavar="K", type=count_of, help="how many messages a site keeps; 1,000,000 by default. It only grows")
+            for option in ("batch", "shards", "workers"):
+                parser.add_argument(f"--{option}", metavar="N", type=count_of, help=f"`rubis site --{option}`; it changes no answer")
+            if name == "start":
+                self.timeout(parser, 60)
+        self.command("stop", "running.stop", "stop them, once what they were given is answered").add_argument(
+            "named", metavar="FOLDER", nargs="?", help="the folder of the shop")
+        parser = self.command("status", "running.status", "show how each site is; the status is 0 if all is well")
+        self.as_json(parser)
+        self.timeout(parser, 10)
+        parser = self.command("log", "running.log", "show what happened, or what a site was asked and answered", """\
+  shop log                  the last events: starts, ends, faults
+  shop log 0 --lines 6      the last records of site 0 (<) and its answers (>)
+  shop log 0 --follow       and those that come, with their times
+""")
+        self.site(parser, "?", "the number of the site")
+        parser.add_argument("-f", "--follow", action="store_true", help="go on with what comes")
+        parser.add_argument("-n", "--lines", metavar="N", type=count_of, default=20, help="how many lines of the past; 20 by default")
+        parser = self.command("wait", "running.wait", "wait until a site has all that the others sent")
+        self.site(parser)
+        self.timeout(parser, 60)
+
+    def _asks(self) -> None:
+        parser = self.command("ask", "asks.ask", "ask a site, and print its answers", """\
+  shop ask 0 user,ann 'item,0.1,"vase, blue",7,1,100,0'
+  shop ask 0 - < records            the records on standard input, one a line
+  shop ask 1 bid,0.3,0.2,500        a site that needs the token fetches it
+  shop ask 1 list,bids,0.3
+""")
+        self.site(parser)
+        parser.add_argument("records", metavar="RECORD", nargs="*", help="a request or a listing; - reads them from standard input")
+        shown = parser.add_mutually_exclusive_group()
+        shown.add_argument("--json", action="store_true", help="print an object for each answer")
+        shown.add_argument("--raw", action="store_true", help="print the lines of the site")
+        parser.add_argument("--no-wait", action="store_true", help="don't fetch the token: a site without it answers NoToken")
+        parser.add_argument("--published", action="store_true", help="end only once the server has what was accepted")
+        self.timeout(parser, 10)
+        parser = self.command("pass", "asks.pass_token", "hand the token on by hand; asks fetch it by themselves")
+        self.site(parser, of="the site that holds it")
+        parser.add_argument("to", metavar="TO", type=count_of, help="the site that gets it")
+        self.timeout(parser, 10)
+
+    def _reading(self) -> None:
+        parser = self.command("list", "reading.list_rows", "list rows as a site has them", """\
+  shop list 0 users
+  shop list 0 items 7 --json        the items of category 7
+  shop list 0 bids 0.3              the bids on item 0.3
+""")
+        self.site(parser)
+        parser.add_argument("what", metavar="WHAT", choices=[*LISTINGS], help=", ".join(LISTINGS))
+        parser.add_argument("key", metavar="KEY", nargs="?", help="the category of items; the item of bids and purchases; the user of comments")
+        self.as_json(parser)
+        self.timeout(parser, 60)
+        kinds = [kind for kind in COLUMNS if kind != "misfit"]
+        parser = self.command("show", "reading.show", "show one row as a site has it", """\
+  shop show 0 item 0.3
+  shop show 0 user ann --json
+""")
+        self.site(parser)
+        parser.add_argument("kind", metavar="KIND", choices=kinds, help=", ".join(kinds))
+        parser.add_argument("key", metavar="KEY", help="its id; a user's nickname will do, and a category has its number")
+        self.as_json(parser)
+        self.timeout(parser, 60)
+        parser = self.command("tables", "reading.tables", "print all tables of a site as SQL", "  shop tables 0 | sqlite3 shop.db\n  shop tables 0 | psql shop\n")
+        self.site(parser)
+        self.timeout(parser, 600)
+        parser = self.command("audit", "reading.audit", "audit all sites; the status is 0 only if they agree", """\
+  shop audit --save monday          keep the logs that were audited
+  shop audit --with monday          audit them once more, so that a changed past is found
+""")
+        parser.add_argument("--save", metavar="FILE", help="keep the logs in this file")
+        parser.add_argument("--with", dest="logs", metavar="FILE", action="append", help="logs of an earlier audit")
+        self.timeout(parser, 600)
+
+    def _care(self) -> None:
+        parser = self.command("rebuild", "rebuild.rebuild", "make the folder of a lost site again from the streams; the shop here is stopped meanwhile", """\
+  shop stop; shop rebuild 1; shop start
+""")
+        self.site(parser)
+        parser.add_argument("--anyway", action="store_true", help="even where sites aren't running that may have more of it than the server")
+        parser = self.command("shorten", "shorten.shorten", "take refusals and repeats out of the recording of a site; the shop here is stopped meanwhile", """\
+  shop stop; shop shorten 0; shop start
+""")
+        self.site(parser)
+        parser = self.command("carry", "carry.carry", "carry users, open items and their bids of a shop to a new one", """\
+  shop start auction2 --sites 3; shop carry auction auction2
+""")
+        parser.add_argument("old", metavar="OLD", help="the folder of the old shop, which nobody asks meanwhile")
+        parser.add_argument("new", metavar="NEW", help="the folder of the new shop, whose site 0 nobody else asks meanwhile")
+        parser.add_argument("--site", metavar="SITE", type=count_of, default=0, help="the site of OLD whose tables are carried; 0 by default")
+        parser.add_argument("--yes", action="store_true", help="don't ask before it begins")
+        parser = self.command("adopt", "rebuild.adopt", "say that this folder has a site from now on, since it was moved or restored")
+        self.site(parser)
+
+
+def with_records(words: Words, command_line: list[str]) -> argparse.Namespace:
+    """Reads the command line; records may also stand behind options, which argparse doesn't see by itself."""
+    args, rest = words.parse_known_args(command_line)
+    if rest and (args.command != "ask" or any(word.startswith("-") for word in rest)):
+        words.error(f"unknown: {' '.join(rest)[:80]}")
+    if rest:
+        args.records += rest
+    if getattr(args, "named", None):
+        args.folder = args.named
+    return args
+
+
+def command_of(name: str) -> Callable[[argparse.Namespace], int]:
+    import importlib
+    module, _, function = name.partition(".")
+    command: Callable[[argparse.Namespace], int] = getattr(importlib.import_module(f"shop_tool.{module}"), function)
+    return command
+
+
+def main() -> NoReturn:
+    try:
+        args = with_records(CommandLine().words, sys.argv[1:])
+        status = command_of(args.does)(args)
+        sys.stdout.flush()
+    except Fault as fault:
+        print(f"shop: {fault.text}", file=sys.stderr)
+        status = fault.status
+    except BrokenPipeError:
+        os._exit(Status.REFUSED)        # the reader of standard output has gone
+    except KeyboardInterrupt:
+        status = 130
+    except OSError as fault:
+        print(f"shop: {fault.filename or ''}{': ' if fault.filename else ''}{fault.strerror or fault}", file=sys.stderr)
+        status = Status.AWAY
+    sys.exit(status)

@@ -1,0 +1,166 @@
+"""What a site has sent, taken in and holds, as it follows from the records that it kept and their answers."""
+
+import bisect
+import os
+from array import array
+from collections.abc import Iterator
+
+from .answers import Answer
+from .records import Message, Token, packet_of
+
+# The place of a packet among those of its site: (n, t) is the t-th token after own message n, and (n, 0) that message. It is the id of
+# the packet's entry in the site's stream, n-t.
+Place = tuple[int, int]
+NOWHERE: Place = (0, 0)
+
+
+class Prefix:
+    """Numbers that have come, and how many of 1, 2, 3 .. have come without a gap."""
+
+    def __init__(self) -> None:
+        self.upto = 0
+        self._beyond: set[int] = set()
+
+    def add(self, number: int) -> None:
+        if number == self.upto + 1:
+            self.upto += 1
+            while self.upto + 1 in self._beyond:
+                self.upto += 1
+                self._beyond.remove(self.upto)
+        elif number > self.upto:
+            self._beyond.add(number)
+
+    @property
+    def count(self) -> int:
+        return self.upto + len(self._beyond)
+
+
+class Sends:
+    """The packets of one site in the order in which it sent them, each with its place and where it stands in the file `out`."""
+
+    def __init__(self, out: str) -> None:
+        self._out = out
+        self._numbers = array("I")
+        self._tokens = array("I")
+        self._starts = array("Q")
+        self._sizes = array("H")
+        self.messages = 0
+
+    def __len__(self) -> int:
+        return len(self._numbers)
+
+    def add(self, is_message: bool, start: int, size: int) -> None:
+        tokens = 0
+        if is_message:
+            self.messages += 1
+        else:
+            tokens = self._tokens[-1] + 1 if self._tokens else 1
+        self._numbers.append(self.messages)
+        self._tokens.append(tokens)
+        self._starts.append(start)
+        self._sizes.append(size)
+
+    def place(self, index: int) -> Place:
+        return self._numbers[index], self._tokens[index]
+
+    @property
+    def last(self) -> Place:
+        return self.place(-1) if self._numbers else NOWHERE
+
+    def count_upto(self, place: Place) -> int:
+        """How many packets stand at this place or before it, so the index of the first one after it."""
+        index = bisect.bisect_left(self._numbers, place[0])
+        while index < len(self) and self.place(index) <= place:
+            index += 1
+        return index
+
+    def read(self, begin: int, end: int) -> list[tuple[Place, bytes]]:
+        """The packets from one index to another, read from `out`."""
+        if begin >= end:
+            return []
+        out = os.open(self._out, os.O_RDONLY)
+        try:
+            return [(self.place(at), os.pread(out, self._sizes[at], self._starts[at])) for at in range(begin, end)]
+        finally:
+            os.close(out)
+
+    def message(self, number: int) -> bytes | None:
+        """Own message `number`, if it was sent."""
+        if not 1 <= number <= self.messages:
+            return None
+        index = bisect.bisect_left(self._numbers, number)
+        return self.read(index, index + 1)[0][1]
+
+
+class Ledger:
+    """The state of one site that its supervisor needs. `note` takes each kept record with its answer, in their order."""
+
+    def __init__(self, site: int, sites: int, out: str) -> None:
+        self.site = site
+        self.records = 0            # kept and answered
+        self.kept_bytes = 0         # of the file `kept`, up to the record that was answered last
+        self.out_bytes = 0          # of the file `out`, up to its answer
+        self.sends = Sends(out)
+        self.have = [Prefix() for _ in range(sites)]    # messages of each other site, released or held
+        self.red = Prefix()         # red numbers of all messages that are here
+        self.holds_token = site == 0
+        self.turn = 0               # of the token that it took or passed last
+        self.issued = 0             # red numbers issued before the token came
+
+    @property
+    def messages(self) -> int:
+        return self.sends.messages + sum(prefix.count for prefix in self.have)
+
+    def note(self, record: bytes, answer: Answer) -> Message | Token | None:
+        """Takes in one record with its answer; returns the packet that was sent with it."""
+        self.records += 1
+        self.kept_bytes += len(record) + 1
+        sent = None
+        match answer.kind:
+            case b"ok" | b"passed":
+                sent = self._sent(answer)
+            case b"released" | b"held" | b"repeat":
+                self._came(record)
+            case b"holding":
+                self._took(record)
+        self.out_bytes += answer.size
+        return sent
+
+    def _sent(self, answer: Answer) -> Message | Token | None:
+        text = answer.lines[1][5:]
+        start = self.out_bytes + len(answer.lines[0]) + 1 + len(b"send,")
+        packet = packet_of(text)
+        self.sends.add(isinstance(packet, Message), start, len(text))
+        if isinstance(packet, Message):
+            if packet.red:
+                self.red.add(packet.red)
+        elif isinstance(packet, Token):
+            self.holds_token, self.turn = False, packet.turn
+        return packet
+
+    def _came(self, record: bytes) -> None:
+        packet = packet_of(record)
+        if isinstance(packet, Message) and packet.origin != self.site:
+            self.have[packet.origin].add(packet.number)
+            if packet.red:
+                self.red.add(packet.red)
+
+    def _took(self, record: bytes) -> None:
+        packet = packet_of(record)
+        if isinstance(packet, Token):
+            self.holds_token, self.turn, self.issued = True, packet.turn, packet.issued
+
+
+def packets_of(kept: str, origin: int, after: int) -> Iterator[tuple[int, bytes]]:
+    """Messages of a site with a number above `after` that stand in a file `kept`, each with its number."""
+    with open(kept, "rb") as file:
+        for line in file:
+            packet = packet_of(line.rstrip(b"\n")) if line.startswith(b"msg,") else None
+            if isinstance(packet, Message) and packet.origin == origin and packet.number > after:
+                yield packet.number, line.rstrip(b"\n")
+
+
+def tokens_of(kept: str) -> list[bytes]:
+    """The tokens that stand in a file `kept`."""
+    with open(kept, "rb") as file:
+        return [line.rstrip(b"\n") for line in file if line.startswith(b"token,")]

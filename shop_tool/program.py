@@ -1,0 +1,32 @@
+"""Which program `rubis` is used."""
+
+import os
+import shutil
+import subprocess
+import sys
+
+from .ends import Fault, Status
+
+
+def path() -> str:
+    """$RUBIS, or ./rubis beside the command `shop`, or the one of the search path."""
+    if named := os.environ.get("RUBIS"):
+        found = shutil.which(named)
+    else:
+        beside = os.path.join(os.path.dirname(os.path.abspath(sys.argv[0])), "rubis")
+        found = shutil.which(beside) or shutil.which("rubis")
+    if not found:
+        raise Fault(Status.MISUSE, f"there is no program {named or 'rubis'} (the variable RUBIS names it)")
+    return os.path.abspath(found)
+
+
+def checked_path() -> str:
+    """The program, once it has run: ./rubis of the repository proves and builds it first, and says so on standard error."""
+    program = path()
+    try:
+        done = subprocess.run([program, "--version"], stdin=subprocess.DEVNULL, stdout=subprocess.DEVNULL)
+    except OSError as fault:
+        raise Fault(Status.MISUSE, f"{program}: {fault.strerror}") from fault
+    if done.returncode:
+        raise Fault(Status.MISUSE, f"{program} --version ended with status {done.returncode}")
+    return program

@@ -1,0 +1,150 @@
+"""Records, packets and rows: what stands on the lines that a site reads and writes."""
+
+import csv
+import re
+from collections.abc import Callable
+from typing import NamedTuple
+
+RECORDS_OF_A_RUN = 4_000_000
+BYTES_OF_A_RECORD = 4096
+SITES_OF_A_SHOP = 16
+MESSAGES_OF_A_SITE = 1_000_000
+
+# Asks that only the holder of the token accepts.
+RED = frozenset({b"user", b"bid", b"buy", b"close", b"rename"})
+
+COLUMNS: dict[str, list[str]] = {
+    "user": ["id", "nickname", "items", "bought", "rating", "comments"],
+    "item": ["id", "seller", "name", "category", "stock", "sold", "start", "price", "bids", "best", "amount", "state", "winner"],
+    "bid": ["id", "item", "bidder", "amount", "red"],
+    "purchase": ["id", "item", "buyer", "quantity"],
+    "comment": ["id", "item", "from", "to", "rating", "text"],
+    "category": ["category", "items", "live"],
+    "misfit": ["entry", "part", "id", "kind"],
+}
+NUMBERS = frozenset({
+    "items", "bought", "rating", "comments", "category", "stock", "sold", "start", "price", "bids", "amount", "red", "quantity", "live",
+    "entry", "part",
+})
+LISTINGS = {
+    "users": "user", "items": "item", "bids": "bid", "purchases": "purchase", "comments": "comment", "categories": "category",
+    "misfits": "misfit",
+}
+
+REFUSALS = {
+    "BadRecord": "the record isn't in the grammar",
+    "Full": "the site keeps no more messages than --keep",
+    "NoToken": "the site doesn't hold the token",
+    "RedBehind": "the site hasn't released all red messages so far",
+    "NickTaken": "the nickname belongs to a user, or is the user's own",
+    "NoUser": "there is no such user",
+    "NoItem": "there is no such item",
+    "Closed": "the item's sale is closed",
+    "LowBid": "the amount is below the start price",
+    "StockShort": "the quantity is above the stock",
+    "NotSeller": "the user isn't the item's seller",
+    "OwnItem": "the bidder or buyer is the seller",
+    "NoBuyNow": "the item has no buy-now price",
+    "SelfComment": "the comment is addressed to its own author",
+    "BadTarget": "the token is passed to another site of the shop only",
+    "LastTurn": "the token has had its last turn",
+    "NotOurs": "the message claims that this site made it, and it didn't",
+    "NotForMe": "the token is for another site",
+}
+
+_FIELD = rb'(?:"(?:[^"]|"")*"|[^",]*)'
+_ONE_RECORD = re.compile(_FIELD + rb"(?:," + _FIELD + rb")*")
+
+Row = dict[str, "int | str"]
+
+
+def kind_of(record: bytes) -> bytes:
+    """The first field of a record."""
+    return record.split(b",", 1)[0]
+
+
+def is_listing(record: bytes) -> bool:
+    """Whether a record changes nothing and is kept nowhere."""
+    return record.startswith(b"list,")
+
+
+def why_not_one_record(record: bytes) -> str | None:
+    """Why a line isn't one record that a client may ask, or None. What passes is kept by a site byte for byte."""
+    if not record:
+        return "an empty line is no record"
+    if b"\n" in record or b"\r" in record:
+        return "a record has no line end in it"
+    if len(record) > BYTES_OF_A_RECORD:
+        return f"a record has at most {BYTES_OF_A_RECORD} bytes"
+    if record.startswith(b"\xef\xbb\xbf"):
+        return "a record doesn't begin with a byte order mark"
+    if kind_of(record) in (b"msg", b"token"):
+        return "packets of other sites come by themselves"
+    if record.startswith(b'"'):
+        return "the first field of a record has no quotes"
+    if b'"' in record and not _ONE_RECORD.fullmatch(record):
+        return "its quotes don't close, or stand inside a field"
+    return None
+
+
+def fields_of(line: str) -> list[str]:
+    """The fields of one line of CSV."""
+    return next(csv.reader([line])) if '"' in line else line.split(",")
+
+
+def line_of(fields: list[str]) -> str:
+    """One line of CSV with these fields, quoted where they have to be."""
+    return ",".join('"' + field.replace('"', '""') + '"' if set(field) & set('",') else field for field in fields)
+
+
+def row_of(line: str) -> Row:
+    """A line `row,KIND,..` of a listing by the names of its columns."""
+    _, kind, *values = fields_of(line)
+    row: Row = {"kind": kind}
+    for name, value in zip(COLUMNS[kind], values):
+        row[name] = int(value) if name in NUMBERS else value
+    return row
+
+
+class Message(NamedTuple):
+    """An accepted ask, as it goes to the other sites. `deps` counts what its origin had released of each site; `red` is 0 if it is blue."""
+
+    origin: int
+    number: int
+    red: int
+    deps: tuple[int, ...]
+    shadow: bytes
+
+
+class Token(NamedTuple):
+    """The permission to issue red messages, on its way to site `to`; so many red numbers were issued before."""
+
+    turn: int
+    to: int
+    issued: int
+
+
+def packet_of(text: bytes) -> Message | Token | None:
+    """Reads a packet that a site sent; None for another line."""
+    fields = text.split(b",", 6)
+    try:
+        if fields[0] == b"msg" and len(fields) == 7:
+            return Message(int(fields[2]), int(fields[3]), int(fields[4]), tuple(map(int, fields[5].split(b":"))), fields[6])
+        if fields[0] == b"token" and len(fields) == 5:
+            return Token(int(fields[2]), int(fields[3]), int(fields[4]))
+    except ValueError:
+        pass
+    return None
+
+
+def ask_of(shadow: bytes, seller_of: Callable[[bytes], bytes]) -> bytes:
+    """The ask that was answered by a message with this shadow; `seller_of` knows the seller of an item by its id."""
+    fields = shadow.split(b",")
+    match fields[0]:
+        case b"close":
+            return b",".join([b"close", fields[1], seller_of(fields[1])])
+        case b"restock":
+            return b",".join([b"restock", fields[1], seller_of(fields[1]), fields[2]])
+        case b"rename":
+            return b",".join([b"rename", fields[1], fields[3]])
+    return shadow

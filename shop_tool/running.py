@@ -1,0 +1,167 @@
+"""start, run, stop, status, log, wait: the life of a shop."""
+
+import argparse
+import collections
+import json
+import os
+import select
+import sys
+from typing import Any
+
+from . import client, program, settings
+from .answers import AnswerReader
+from .ends import Fault, Status
+from .render import GREEN, RED, YELLOW, coloured, print_columns
+
+STARTED_BY_OPTIONS = ("sites", "here", "over", "sync", "keep", "batch", "shards", "workers")
+STOP_SECONDS = 60.0
+
+
+def said_settings(args: argparse.Namespace) -> dict[str, Any]:
+    return {name: value for name in STARTED_BY_OPTIONS if (value := getattr(args, name)) is not None}
+
+
+def start(args: argparse.Namespace) -> int:
+    """Starts the supervisor in the background, and returns once the sites are up."""
+    now = settings.changed(args.folder, said_settings(args))
+    if client.connect(args.folder):
+        if said_settings(args) and now != settings.read(args.folder):
+            raise Fault(Status.MISUSE, f"{args.folder} is running with other settings; stop it first")
+        print(f"shop: {args.folder} is running", file=sys.stderr)
+        return Status.WELL
+    found = program.checked_path()
+    settings.write(args.folder, now)
+    said = _started(args.folder, found, args.timeout)
+    if said == "ready":
+        return Status.WELL
+    raise Fault(Status.AWAY, f"{said or 'the supervisor is starting still, or has ended'} (shop log)")
+
+
+def _started(folder: str, found: str, seconds: float) -> str:
+    """Runs `shop run` in a session of its own; what it says once each site is up, or isn't."""
+    get, put = os.pipe()
+    if os.fork() == 0:
+        os.setsid()
+        os.close(get)
+        os.set_inheritable(put, True)
+        nothing = os.open(os.devnull, os.O_RDWR)
+        events = os.open(f"{folder}/events", os.O_WRONLY | os.O_CREAT | os.O_APPEND, 0o600)
+        for number, file in enumerate((nothing, events, events)):
+            os.dup2(file, number)
+        environment = os.environ | {"SHOP_READY": str(put), "RUBIS": found}
+        os.execve(sys.executable, [sys.executable, os.path.realpath(sys.argv[0]), "run", folder], environment)
+    os.close(put)
+    said = b""
+    while not said.endswith(b"\n") and select.select([get], [], [], seconds)[0]:
+        if not (data := os.read(get, 4096)):
+            break
+        said += data
+    os.close(get)
+    return said.decode("utf-8", "replace").strip()
+
+
+def run(args: argparse.Namespace) -> int:
+    """Runs the supervisor in the foreground, until it is stopped."""
+    now = settings.changed(args.folder, said_settings(args))
+    found = program.checked_path()
+    settings.write(args.folder, now)
+    from . import supervisor
+    supervisor.run(args.folder, now, found)
+    return Status.WELL
+
+
+def stop(args: argparse.Namespace) -> int:
+    """Stops the sites, once what they were given is answered, and then the supervisor."""
+    if not os.path.isdir(args.folder):
+        raise Fault(Status.MISUSE, f"{args.folder}: there is no shop")
+    line = client.connect(args.folder)
+    if not line:
+        print(f"shop: {args.folder} is not running", file=sys.stderr)
+        return Status.WELL
+    with line:
+        line.settimeout(STOP_SECONDS)
+        try:
+            line.sendall(b'{"op": "stop"}\n')
+            while line.recv(4096):
+                pass
+        except TimeoutError:
+            raise Fault(Status.AWAY, f"{args.folder} has not ended within {STOP_SECONDS:g} s") from None
+        except OSError:
+            pass
+    return Status.WELL
+
+
+def status(args: argparse.Namespace) -> int:
+    answer = client.one(args.folder, {"op": "status"}, args.timeout)
+    shop = answer["shop"]
+    if args.json:
+        print(json.dumps(shop | {"well": answer["well"]}, indent=1))
+    else:
+        _print_status(shop)
+    return Status.WELL if answer["well"] else Status.REFUSED
+
+
+def _print_status(shop: dict[str, Any]) -> None:
+    print(f"{shop['folder']}: {shop['sites']} sites over {shop['over']}, process {shop['pid']}, up since {shop['since']}")
+    if shop["link"] != "up":
+        print(f"link: {coloured(shop['link'], RED)}")
+    token = f"site {shop['token']} holds it" if shop["token"] is not None else f"was passed to site {shop['token_sent_to']}"
+    wanted = shop["token_wanted_by"]
+    print(f"token: {token} (turn {shop['token_turn']})" + (f", wanted by {', '.join(map(str, wanted))}" if wanted else ""))
+    rows = [["site", "state", "since", "records", "messages", "behind", "sent", "waiting", "starts", "last fault"]]
+    for site in shop["site"]:
+        if "since" not in site:
+            rows.append([str(site["site"]), site["state"], *"-" * 8])
+            continue
+        behind = " ".join(f"{origin}:{count}" for origin, count in site["behind"].items() if count)
+        rows.append([
+            str(site["site"]), site["state"], site["since"], str(site["records"]), str(site["messages"]), behind or "-",
+            f"{site['published']}/{site['sent']}", str(site["waiting"]), str(site["starts"]), site["fault"] or "-"])
+    print_columns(rows, {"up": GREEN, "starting": YELLOW, "down": RED, "fenced": RED, "ended": RED, "away": YELLOW})
+
+
+def log(args: argparse.Namespace) -> int:
+    """Prints what happened, or a site's records and answers; with --follow also what comes."""
+    answers = client.call(args.folder, {"op": "follow", "site": args.site}) if args.follow else iter(())
+    _print_lines(_last_events(args) if args.site is None else _last_answers(args))
+    try:
+        for answer in answers:
+            client.raise_fault(answer)
+            print(answer["line"], flush=True)
+    except KeyboardInterrupt:
+        pass
+    return Status.WELL
+
+
+def _print_lines(lines: "collections.deque[str]") -> None:
+    for line in lines:
+        print(line)
+    sys.stdout.flush()
+
+
+def _last_events(args: argparse.Namespace) -> "collections.deque[str]":
+    try:
+        with open(f"{args.folder}/events", encoding="utf-8", errors="replace") as file:
+            return collections.deque((line.rstrip("\n") for line in file), args.lines)
+    except FileNotFoundError:
+        raise Fault(Status.AWAY, f"{args.folder}: there is no shop (shop start)") from None
+
+
+def _last_answers(args: argparse.Namespace) -> "collections.deque[str]":
+    last: collections.deque[str] = collections.deque((), args.lines)
+    folder = f"{args.folder}/{args.site}"
+    reader = AnswerReader()
+    try:
+        with open(f"{folder}/kept", "rb") as kept, open(f"{folder}/out", "rb") as out:
+            while data := out.read(1 << 20):
+                for answer in reader.feed(data):
+                    last.append("< " + os.fsdecode(kept.readline().rstrip(b"\n")))
+                    last.extend("> " + os.fsdecode(line) for line in answer.lines)
+    except FileNotFoundError:
+        raise Fault(Status.AWAY, f"site {args.site} doesn't run in {args.folder}") from None
+    return last
+
+
+def wait(args: argparse.Namespace) -> int:
+    client.one(args.folder, {"op": "wait", "site": args.site, "timeout": args.timeout}, args.timeout + 5)
+    return Status.WELL

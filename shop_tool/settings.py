@@ -1,0 +1,104 @@
+"""What a shop is: how many sites it has, which of them run here, and what carries their packets. FOLDER/shop.json has it."""
+
+import dataclasses
+import json
+import os
+import re
+from typing import Any
+
+from .ends import Fault, Status
+from .records import MESSAGES_OF_A_SITE, SITES_OF_A_SHOP
+
+FILES = "files"
+
+
+@dataclasses.dataclass(frozen=True)
+class Settings:
+    sites: int = 1
+    here: tuple[int, ...] = (0,)
+    over: str = FILES
+    sync: bool = False
+    keep: int = MESSAGES_OF_A_SITE
+    batch: int | None = None
+    shards: int | None = None
+    workers: int | None = None
+
+    @property
+    def shown_over(self) -> str:
+        """What carries the packets, without a password."""
+        return re.sub("//[^/]*@", "//", self.over)
+
+    @property
+    def server(self) -> tuple[str, str]:
+        """The URL of the Redis server, and the name under which the shop is there."""
+        url, name = self.over.rsplit("/", 1)
+        return url, name
+
+    def site_options(self) -> list[str]:
+        """The options that `rubis site` takes beside --site, --sites and --keep."""
+        named = (("batch", self.batch), ("shards", self.shards), ("workers", self.workers))
+        return [word for name, value in named if value is not None for word in (f"--{name}", str(value))]
+
+
+def path_of(folder: str) -> str:
+    return f"{folder}/shop.json"
+
+
+def read(folder: str) -> Settings | None:
+    """The settings of the shop in this folder, or None where there is no shop."""
+    try:
+        with open(path_of(folder)) as file:
+            has = json.load(file)
+        return Settings(**(has | {"here": tuple(has["here"])}))
+    except FileNotFoundError:
+        return None
+    except (ValueError, TypeError, KeyError) as fault:
+        raise Fault(Status.MISUSE, f"{path_of(folder)}: {fault}") from fault
+
+
+def existing(folder: str) -> Settings:
+    if settings := read(folder):
+        return settings
+    raise Fault(Status.AWAY, f"{folder}: there is no shop (shop start)")
+
+
+def changed(folder: str, said: dict[str, Any]) -> Settings:
+    """The settings with what a start says. How many sites there are stays as it was; --keep never becomes smaller."""
+    has = read(folder)
+    if has and said.get("sites", has.sites) != has.sites:
+        raise Fault(Status.MISUSE, f"{folder} has --sites {has.sites}, and that stays")
+    if has and said.get("keep", has.keep) < has.keep:
+        raise Fault(Status.MISUSE, f"{folder} has --keep {has.keep}, and that can only become greater")
+    sites = said.get("sites", 1)
+    settings = dataclasses.replace(has or Settings(sites=sites, here=tuple(range(sites))), **said)
+    check(settings)
+    return settings
+
+
+def check(settings: Settings) -> None:
+    if not 1 <= settings.sites <= SITES_OF_A_SHOP:
+        raise Fault(Status.MISUSE, f"--sites is 1 to {SITES_OF_A_SHOP}")
+    if not 1 <= settings.keep <= MESSAGES_OF_A_SITE:
+        raise Fault(Status.MISUSE, f"--keep is 1 to {MESSAGES_OF_A_SITE}")
+    if not settings.here or len(set(settings.here)) < len(settings.here) or not set(settings.here) <= set(range(settings.sites)):
+        raise Fault(Status.MISUSE, "--here names some of the shop's sites, each once, as --here 0,1; they are below --sites")
+    if settings.over == FILES:
+        if len(settings.here) < settings.sites:
+            raise Fault(Status.MISUSE, "sites on other machines need --over redis://HOST:PORT/NAME")
+    elif not re.fullmatch(r"rediss?://[^/]+/[\w.-]+", settings.over):
+        raise Fault(Status.MISUSE, "--over is files or redis://HOST:PORT/NAME")
+
+
+def write(folder: str, settings: Settings) -> None:
+    """Writes the settings, if they are new, so that a crash leaves the old or the new ones."""
+    os.makedirs(folder, mode=0o700, exist_ok=True)
+    if read(folder) == settings:
+        return
+    # A URL may have a password, so nobody else reads this.
+    file = os.open(f"{path_of(folder)}.new", os.O_WRONLY | os.O_CREAT | os.O_TRUNC, 0o600)
+    with os.fdopen(file, "w") as text:
+        json.dump(dataclasses.asdict(settings), text, indent=1)
+        text.write("\n")
+        text.flush()
+        os.fsync(text.fileno())
+    os.rename(f"{path_of(folder)}.new", path_of(folder))

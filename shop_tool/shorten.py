@@ -1,0 +1,27 @@
+"""shorten: takes out of a site's recording what changed nothing, so that a start replays less and the limit of records is further away."""
+
+import argparse
+import subprocess
+
+from . import program
+from .ends import Fault, Status
+from .site import keep_command
+from .supervisor import stopped_shop
+
+
+def shorten(args: argparse.Namespace) -> int:
+    """Shortens the recording of a site of a stopped shop. Killed at any moment, it is the old one or the new one."""
+    now = stopped_shop(args)
+    kept = f"{args.folder}/{args.site}/kept"
+    before = count_lines(kept)
+    command = keep_command(f"{args.folder}/{args.site}", args.site, now, program.path())
+    done = subprocess.run([*command, "--shorten"], stdin=subprocess.DEVNULL, capture_output=True, text=True)
+    if done.returncode:
+        raise Fault(Status.REFUSED, f"site {args.site}: {done.stderr.strip() or f'ended with status {done.returncode}'}; it is as it was")
+    print(f"site {args.site}: {count_lines(kept)} of {before} records are left")
+    return Status.WELL
+
+
+def count_lines(path: str) -> int:
+    with open(path, "rb") as file:
+        return sum(line.endswith(b"\n") for line in file)

@@ -1,0 +1,302 @@
+"""A site: its keeper's process, which is started again whenever it ends, and the records on their way through it."""
+
+import asyncio
+import collections
+import enum
+import os
+import sys
+import time
+from collections.abc import Iterator
+from typing import TYPE_CHECKING
+
+from .answers import Answer, AnswerReader
+from .ends import Fault, Status
+from .ledger import Ledger
+from .records import Token, is_listing
+from .settings import Settings
+from .signals import Signal
+from .times import stamp
+from .turns import Hold
+
+if TYPE_CHECKING:
+    from .supervisor import Supervisor
+
+FIRST_WAIT, LAST_WAIT = 0.1, 10.0   # seconds until a site that ended is started again: doubled each time
+CALM = 30.0                         # seconds after which a site that ends has the first wait again
+PIECE = 1 << 16
+
+
+class State(enum.StrEnum):
+    STARTING = "starting"
+    UP = "up"
+    DOWN = "down"           # it ended, and is started again
+    FENCED = "fenced"       # it would give numbers a second time, so it isn't started
+    ENDED = "ended"
+
+
+class Disagreement(Exception):
+    """The site's files aren't those that this supervisor knows."""
+
+
+class Pending:
+    """One record on its way through a site."""
+
+    __slots__ = ("record", "done", "is_given", "is_left", "releases")
+
+    def __init__(self, record: bytes) -> None:
+        self.record = record
+        self.done: asyncio.Future[Answer] = asyncio.get_running_loop().create_future()
+        self.is_given = False       # written to the keeper, so it may be kept
+        self.is_left = False        # nobody waits for its answer
+        self.releases = 0           # how often the site had released messages when it was answered
+
+
+def keep_command(folder: str, site: int, settings: Settings, program: str) -> list[str]:
+    """The command that keeps a site. With `rubis keep` it is [program, "keep", folder], with the same options behind."""
+    keeper = [sys.executable, f"{os.path.dirname(os.path.realpath(__file__))}/keeper.py", folder, "--program", program]
+    options = ["--site", str(site), "--sites", str(settings.sites), "--keep", str(settings.keep), *settings.site_options()]
+    return keeper + options + (["--sync"] if settings.sync else [])
+
+
+def is_kept(record: bytes) -> bool:
+    """Whether the keeper keeps a record. A listing changes nothing, so it isn't; `rubis keep` keeps all."""
+    return not is_listing(record)
+
+
+class Site:
+    def __init__(self, shop: "Supervisor", number: int) -> None:
+        self.shop, self.number = shop, number
+        self.folder = f"{shop.folder}/{number}"
+        self.ledger = Ledger(number, shop.settings.sites, f"{self.folder}/out")
+        self.state, self.since = State.STARTING, stamp()
+        self.starts = 0
+        self.fault: tuple[str, str] | None = None   # the last one: when, and what
+        self.fenced_by: str | None = None
+        self.process: asyncio.subprocess.Process | None = None
+        self.line: collections.deque[Pending] = collections.deque()     # the first is answered next
+        self.reader = AnswerReader()
+        self.up = asyncio.Event()                   # records can be given to it
+        self.known = asyncio.Event()                # what it kept before this supervisor has been read
+        self.opened = asyncio.Event()               # asks and packets may be given to it, as its folder has lost nothing
+        self.compared = asyncio.Event()             # it has been compared with what the others have of it
+        self.tried = asyncio.Event()                # its first start has succeeded or failed
+        self.hold = Hold()
+        self.is_passing = False
+        self.red_askers = 0                         # askers with a record under way that only the holder accepts
+        self.token_askers = 0                       # those of them that wait for the token
+        self.wanting: asyncio.Task[None] | None = None
+        self.passing_later: asyncio.TimerHandle | None = None
+        self.token_came, self.released = Signal(), Signal()
+        self.releases = 0
+
+    # Its process.
+
+    async def run(self) -> None:
+        """Starts the keeper, and again whenever it ends, until the shop is stopped or the site is fenced."""
+        wait = FIRST_WAIT
+        while not self.shop.stopping.is_set() and not self.fenced_by:
+            began, self.starts, faults = time.monotonic(), self.starts + 1, self.fault
+            self._become(State.STARTING)
+            status = await self._live()
+            self.up.clear()
+            if self.shop.stopping.is_set() or self.fenced_by:
+                break
+            self._become(State.DOWN)
+            wait = FIRST_WAIT if time.monotonic() - began > CALM else wait
+            self.shop.event(f"site {self.number}: ended with status {status}, is started again in {wait:.1f} s")
+            if self.fault == faults:
+                self.fault = stamp(), f"ended with status {status}"
+            self.tried.set()
+            await self.shop.pause(wait)
+            wait = min(2 * wait, LAST_WAIT)
+        self._become(State.FENCED if self.fenced_by else State.ENDED)
+        self.tried.set()
+        self._give_up()
+
+    async def _live(self) -> int | str:
+        """One life of the keeper; its status."""
+        command = keep_command(self.folder, self.number, self.shop.settings, self.shop.program)
+        try:
+            process = self.process = await asyncio.create_subprocess_exec(
+                *command, stdin=asyncio.subprocess.PIPE, stdout=asyncio.subprocess.PIPE, stderr=asyncio.subprocess.PIPE,
+                process_group=0, restore_signals=False)     # a file that is too long is a fault to tell, and so is a reader that has gone
+        except OSError as fault:
+            self.note_fault(f"{command[0]}: {fault.strerror}")
+            return "none"
+        assert process.stdout and process.stderr
+        if self.shop.stopping.is_set():
+            self.stop()         # it was asked for while the process was made
+        faults = asyncio.create_task(self._read_faults(process.stderr))
+        try:
+            await self._read_answers(process.stdout)
+        except (Disagreement, ValueError, OSError) as fault:
+            self.note_fault(str(fault))
+            if isinstance(fault, Disagreement):
+                self.fenced_by = self.fenced_by or str(fault)
+        finally:
+            self.up.clear()
+            if process.returncode is None and not self.shop.stopping.is_set() and not process.stdout.at_eof():
+                process.kill()
+        status = await process.wait()
+        await faults
+        return status
+
+    async def _read_faults(self, stream: asyncio.StreamReader) -> None:
+        rest = b""
+        while data := await stream.read(PIECE):
+            *lines, rest = (rest + data).split(b"\n")
+            for line in lines:
+                self.note_fault(line.decode("utf-8", "replace"))
+            rest = rest[:PIECE]
+
+    async def _read_answers(self, stream: asyncio.StreamReader) -> None:
+        head = b""
+        while b"\n" not in head:
+            if not (data := await stream.read(PIECE)):
+                return
+            head += data
+        line, _, data = head.partition(b"\n")
+        began = time.monotonic()
+        await self._catch_up(int(line.split(b",")[1]))
+        self._come_up(time.monotonic() - began)
+        while data or (data := await stream.read(PIECE)):
+            for answer in self.reader.feed(data):
+                if not self.line:
+                    raise Disagreement("it answered what it wasn't given")
+                self._take(self.line.popleft(), answer)
+            data = b""
+            self.shop.pass_on(self)
+
+    async def _catch_up(self, count: int) -> None:
+        """Reads on in `kept` and `out` from where this supervisor was. What was kept and not answered in time is answered there."""
+        given: Iterator[Pending] = iter([pending for pending in self.line if pending.is_given and is_kept(pending.record)])
+        self.reader = AnswerReader()
+        with open(f"{self.folder}/kept", "rb") as kept, open(f"{self.folder}/out", "rb") as out:
+            kept.seek(self.ledger.kept_bytes)
+            out.seek(self.ledger.out_bytes)
+            while data := out.read(1 << 20):
+                for answer in self.reader.feed(data):
+                    record = kept.readline().rstrip(b"\n")
+                    pending = next(given, None)
+                    if self.known.is_set() and (not pending or pending.record != record):
+                        raise Disagreement("its file `kept` has other records than it was given")
+                    self._note(record, answer)
+                    if pending:
+                        self._answer(pending, answer)
+                await asyncio.sleep(0)
+        if self.ledger.records != count:
+            raise ValueError(f"{count} records are kept, and {self.ledger.records} are answered")
+        # What is left wasn't kept, so it is given again, unless nobody waits for it.
+        self.line = collections.deque(pending for pending in self.line if not pending.done.done() and not pending.is_left)
+
+    def _come_up(self, seconds: float) -> None:
+        self.known.set()
+        self._become(State.UP)
+        self.shop.event(f"site {self.number}: up with {self.ledger.records} records and {self.ledger.sends.messages} own messages, "
+                        f"read in {seconds:.2f} s")
+        self._write(list(self.line))
+        self.up.set()
+        self.tried.set()
+        self.shop.news.tell()
+        self.shop.progress.tell()
+        self.shop.pass_on(self)
+
+    def note_fault(self, text: str) -> None:
+        self.fault = stamp(), text
+        self.shop.event(f"site {self.number}: {text}")
+
+    def fence(self, text: str) -> None:
+        """Stops the site for good: it would give numbers a second time."""
+        if not self.fenced_by:
+            self.fenced_by = text
+            self.note_fault(text)
+            self.opened.set()
+            self.compared.set()
+            self.kill()
+
+    def stop(self) -> None:
+        """Ends the keeper once what it was given is answered."""
+        if self.process and self.process.returncode is None and self.process.stdin:
+            self.process.stdin.close()
+
+    def kill(self) -> None:
+        if self.process and self.process.returncode is None:
+            self.process.kill()
+
+    def _become(self, state: State) -> None:
+        self.state, self.since = state, stamp()
+        self.shop.changes.tell()
+
+    def _give_up(self) -> None:
+        """Tells all who wait that no answer comes."""
+        for pending in self.line:
+            if not pending.done.done():
+                pending.done.set_exception(self.away(pending.is_given))
+                pending.done.exception()        # not all of them are awaited
+        self.line.clear()
+        self.token_came.tell()
+        self.released.tell()
+
+    def away(self, is_given: bool) -> Fault:
+        """Why no answer comes from a site that ended."""
+        why = self.fenced_by or "the shop is being stopped"
+        return Fault(Status.AWAY, f"site {self.number}: {why}; " + ("it may still be accepted" if is_given else "nothing was given to it"))
+
+    # Records.
+
+    def give(self, records: list[bytes]) -> list[Pending]:
+        """Gives it records, one behind the other. Each is given again when the keeper died before it kept it."""
+        if self.fenced_by or self.shop.stopping.is_set():
+            raise self.away(False)
+        given = [Pending(record) for record in records]
+        self.line.extend(given)
+        if self.up.is_set():
+            self._write(given)
+        return given
+
+    def leave(self, pending: list[Pending]) -> bool:
+        """Nobody waits for these any more: what wasn't given isn't given. Says whether one of them was given and isn't answered."""
+        for each in pending:
+            each.is_left = True
+        self.line = collections.deque(each for each in self.line if each.is_given or not each.is_left)
+        return any(each.is_given and not each.done.done() for each in pending)
+
+    def _write(self, pending: list[Pending]) -> None:
+        if pending and self.process and self.process.stdin:
+            self.process.stdin.write(b"".join(each.record + b"\n" for each in pending))
+            for each in pending:
+                each.is_given = True
+            if self.shop.is_followed(self.number):
+                self.shop.tell_followers(self.number, [b"< " + each.record for each in pending])
+
+    def _take(self, pending: Pending, answer: Answer) -> None:
+        if is_kept(pending.record):
+            self._note(pending.record, answer)
+        self._answer(pending, answer)
+
+    def _note(self, record: bytes, answer: Answer) -> None:
+        sent = self.ledger.note(record, answer)
+        kind = answer.kind
+        if isinstance(sent, Token):
+            self.is_passing = False
+            self.shop.wants.passed(sent.turn, sent.to)
+        elif kind == b"holding":
+            self.is_passing = False
+            self.hold.took()
+            self.shop.wants.passed(self.ledger.turn, self.number)
+            self.token_came.tell()
+        elif kind == b"released":
+            self.releases += 1
+            self.released.tell()
+        elif kind == b"refused" and record.startswith(b"pass,"):
+            self.is_passing = False
+        if sent:
+            self.shop.news.tell()
+        self.shop.progress.tell()
+
+    def _answer(self, pending: Pending, answer: Answer) -> None:
+        if self.shop.is_followed(self.number):
+            self.shop.tell_followers(self.number, [b"> " + line for line in answer.lines])
+        pending.releases = self.releases
+        if not pending.done.done():
+            pending.done.set_result(answer)

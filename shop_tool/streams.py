@@ -1,0 +1,208 @@
+"""A shop on a Redis server: a stream for each site with all that it sent, and what supervisors say to each other.
+
+| key | what it has |
+|---|---|
+| NAME:SITE | a stream: the site's packets in the order in which it sent them. Its own count makes the ids: message n is n-0, and the t-th token after it n-t |
+| NAME:owner:SITE | which folder on which machine runs the site |
+| NAME:status:SITE | how the site is; it expires when its supervisor has gone |
+| NAME:wants | a stream: wants of the token, and requests to other supervisors |
+| NAME:answer:ID | the answers to one such request; it expires |
+"""
+
+import asyncio
+import json
+import os
+import socket
+import time
+import zlib
+from collections.abc import Iterable
+from typing import Any, NamedTuple
+
+from .ledger import NOWHERE, Place
+from .settings import Settings
+
+STATUS_SECONDS = 3.5        # a status that isn't written again for so long expires
+ANSWER_SECONDS = 60
+WANTS = 1000                # how many entries the stream of wants keeps, about
+PAGE = 5000
+
+# Appends packets, if the last entry is the one that the caller knows; else returns the last id.
+APPEND = b"""
+local last = redis.call('XREVRANGE', KEYS[1], '+', '-', 'COUNT', 1)
+local id = last[1] and last[1][1] or '0-0'
+if id ~= ARGV[1] then return id end
+for at = 2, #ARGV, 2 do redis.call('XADD', KEYS[1], ARGV[at], 'p', ARGV[at + 1]) end
+return 'ok'
+"""
+
+# How many entries a stream has, its last one, and the greatest id that it ever had.
+STATE = b"""
+if redis.call('EXISTS', KEYS[1]) == 0 then return {0, '0-0', '', '0-0'} end
+local last = redis.call('XREVRANGE', KEYS[1], '+', '-', 'COUNT', 1)
+local info, greatest = redis.call('XINFO', 'STREAM', KEYS[1]), '0-0'
+for at = 1, #info, 2 do if info[at] == 'last-generated-id' then greatest = info[at + 1] end end
+return {redis.call('XLEN', KEYS[1]), last[1] and last[1][1] or '0-0', last[1] and last[1][2][2] or '', greatest}
+"""
+
+
+class StreamState(NamedTuple):
+    """A stream that was only appended to has as many entries as were sent up to its last one, which is its greatest."""
+
+    entries: int
+    last: Place
+    packet: bytes
+    greatest: Place
+
+
+def id_of(place: Place) -> bytes:
+    return b"%d-%d" % place
+
+
+def place_of(name: bytes) -> Place:
+    number, _, token = name.partition(b"-")
+    return int(number), int(token)
+
+
+def faults() -> tuple[type[BaseException], ...]:
+    """What goes wrong where the server is away, or refuses."""
+    import redis                    # type: ignore[import]
+    return redis.RedisError, OSError, asyncio.TimeoutError
+
+
+class Streams:
+    """One connection to the server of a shop."""
+
+    def __init__(self, settings: Settings) -> None:
+        import redis.asyncio        # type: ignore[import]
+        url, self.name = settings.server
+        self.sites = settings.sites
+        self.redis: Any = redis.asyncio.Redis.from_url(url, socket_timeout=10, socket_connect_timeout=3, socket_keepalive=True)
+        self._append = self.redis.register_script(APPEND)
+        self._state = self.redis.register_script(STATE)
+
+    async def __aenter__(self) -> "Streams":
+        return self
+
+    async def __aexit__(self, *_: object) -> None:
+        await self.redis.close()
+        await self.redis.connection_pool.disconnect()
+
+    def key(self, what: object) -> str:
+        return f"{self.name}:{what}"
+
+    # A site's stream.
+
+    async def state(self, site: int) -> StreamState:
+        entries, last, packet, greatest = await self._state(keys=[self.key(site)])
+        return StreamState(entries, place_of(last), packet, place_of(greatest))
+
+    async def append(self, site: int, last: Place, packets: list[tuple[Place, bytes]]) -> bool:
+        """Appends packets behind the entry `last`; False if that isn't the last one."""
+        words = [id_of(last)] + [word for place, text in packets for word in (id_of(place), text)]
+        return bool(await self._append(keys=[self.key(site)], args=words) == b"ok")
+
+    async def rewrite(self, site: int, packets: Iterable[tuple[Place, bytes]]) -> None:
+        """Puts a stream with these packets in place of the site's stream, at once."""
+        new = self.key(f"{site}:new")
+        await self.redis.delete(new)
+        pipe, count = self.redis.pipeline(transaction=False), 0
+        for place, text in packets:
+            pipe.xadd(new, {b"p": text}, id=id_of(place))
+            count += 1
+            if count % PAGE == 0:
+                await pipe.execute()
+        await pipe.execute()
+        if count:
+            await self.redis.rename(new, self.key(site))
+
+    async def read(self, after: dict[int, Place], count: int, block: int) -> dict[int, list[tuple[Place, bytes]]]:
+        """What sites sent after these places; waits so many milliseconds if there is nothing."""
+        found = await self.redis.xread({self.key(site): id_of(place) for site, place in after.items()}, count=count, block=block)
+        return {int(key.rsplit(b":", 1)[1]): [(place_of(name), fields.get(b"p", b"")) for name, fields in entries] for key, entries in found}
+
+    async def read_all(self, site: int) -> list[tuple[Place, bytes]]:
+        packets: list[tuple[Place, bytes]] = []
+        after = NOWHERE
+        while page := (await self.redis.xrange(self.key(site), b"(" + id_of(after), b"+", count=PAGE)):
+            packets += [(place_of(name), fields.get(b"p", b"")) for name, fields in page]
+            after = packets[-1][0]
+        return packets
+
+    async def message(self, site: int, number: int) -> bytes | None:
+        found = await self.redis.xrange(self.key(site), id_of((number, 0)), id_of((number, 0)))
+        text: bytes | None = found[0][1].get(b"p") if found else None
+        return text
+
+    # Owners and statuses.
+
+    async def owner(self, site: int, folder: str) -> str | None:
+        """Takes a site for this folder if nobody has it; who has it else."""
+        if await self.redis.set(self.key(f"owner:{site}"), owner_text(folder), nx=True):
+            return None
+        owner = (await self.redis.get(self.key(f"owner:{site}")) or b"").decode("utf-8", "replace")
+        return None if owner.split(" ", 1)[0] == identity(folder) else owner.split(" ", 1)[-1]
+
+    async def adopt(self, site: int, folder: str) -> None:
+        await self.redis.set(self.key(f"owner:{site}"), owner_text(folder))
+
+    async def tell(self, statuses: dict[int, dict[str, Any]]) -> list[int]:
+        """Writes statuses of sites; how many messages each stream has."""
+        pipe = self.redis.pipeline(transaction=False)
+        for site in range(self.sites):
+            pipe.xrevrange(self.key(site), count=1)
+        for site, status in statuses.items():
+            pipe.set(self.key(f"status:{site}"), json.dumps(status), px=int(1000 * STATUS_SECONDS))
+        found = await pipe.execute()
+        return [place_of(last[0][0])[0] if last else 0 for last in found[:self.sites]]
+
+    async def forget(self, sites: Iterable[int]) -> None:
+        """Takes back the statuses of sites that are stopped."""
+        for site in sites:
+            await self.redis.delete(self.key(f"status:{site}"))
+
+    async def statuses(self) -> dict[int, dict[str, Any]]:
+        """The statuses of all sites that run."""
+        found = await self.redis.mget([self.key(f"status:{site}") for site in range(self.sites)])
+        return {site: json.loads(text) for site, text in enumerate(found) if text}
+
+    # Wants and requests.
+
+    async def say(self, fields: dict[str, Any]) -> None:
+        await self.redis.xadd(self.key("wants"), fields, maxlen=WANTS, approximate=True)
+
+    async def hear(self, after: bytes) -> list[tuple[bytes, dict[bytes, bytes]]]:
+        found = await self.redis.xread({self.key("wants"): after}, block=2000)
+        entries: list[tuple[bytes, dict[bytes, bytes]]] = found[0][1] if found else []
+        return entries
+
+    async def call(self, request: dict[str, Any], site: int, seconds: float) -> list[dict[str, Any]] | None:
+        """What the supervisor of a site answers to a request; None if it gives no answer in time."""
+        name = f"{os.getpid()}.{time.time_ns()}.{site}"
+        await self.say({"call": name, "site": site, "request": json.dumps(request)})
+        until = time.monotonic() + seconds
+        while (left := until - time.monotonic()) > 0:
+            # The server takes whole seconds, and a socket waits no longer than its time-out.
+            if found := await self.redis.blpop(self.key(f"answer:{name}"), max(1, min(int(left), 5))):
+                answers: list[dict[str, Any]] = json.loads(zlib.decompress(found[1]))
+                return answers
+        return None
+
+    async def reply(self, name: str, answers: list[dict[str, Any]]) -> None:
+        pipe = self.redis.pipeline()
+        pipe.rpush(self.key(f"answer:{name}"), zlib.compress(json.dumps(answers).encode(), 1))
+        pipe.expire(self.key(f"answer:{name}"), ANSWER_SECONDS)
+        await pipe.execute()
+
+
+def identity(folder: str) -> str:
+    """Which folder this is: a copy of it is another one, and so is one of the same name on another machine."""
+    try:
+        with open("/etc/machine-id") as file:
+            machine = file.read().strip()[:12]
+    except OSError:
+        machine = ""
+    return f"{machine or 'nowhere'}:{os.stat(folder).st_ino}"
+
+
+def owner_text(folder: str) -> str:
+    return f"{identity(folder)} {socket.gethostname()}:{folder}"

@@ -1,0 +1,341 @@
+"""The supervisor of a shop: runs the sites of one folder, has their packets carried, and hands the token on. One thread, by asyncio."""
+
+import argparse
+import asyncio
+import fcntl
+import os
+import signal
+import socket
+import time
+from collections.abc import Coroutine
+from typing import TYPE_CHECKING, Any
+
+from .ends import Fault, Status
+from .ledger import Prefix
+from .records import RECORDS_OF_A_RUN, Message, Token, packet_of
+from .settings import FILES, Settings, existing
+from .signals import Signal
+from .site import Site, State
+from .times import stamp
+from .turns import SAY_AGAIN, Wants
+
+if TYPE_CHECKING:
+    from .link import Link
+
+EVENTS_BYTES = 16 << 20     # a start puts the events aside when there are more
+FOLLOWED_LINES = 10_000     # how many lines a follower may be behind before it is cut off
+LOCK_SECONDS = 5.0
+LOOK_SECONDS = 1.0          # how often it looks whether its folder is still there
+COMPARE_SECONDS = 3.0       # how long a start waits until its sites are compared with their streams
+STOP_SECONDS = 30.0         # how long a stop waits for what sites were given to be answered
+LAST_SECONDS = 2.0          # how long a stop waits for what was answered last to be published
+
+
+class Follower:
+    """Somebody who reads along: events, or a site's records and answers."""
+
+    def __init__(self) -> None:
+        self.lines: asyncio.Queue[str | None] = asyncio.Queue(FOLLOWED_LINES)
+        self.is_cut = False
+
+    def tell(self, line: str) -> None:
+        try:
+            self.lines.put_nowait(line)
+        except asyncio.QueueFull:
+            self.is_cut = True
+
+
+class Supervisor:
+    def __init__(self, folder: str, settings: Settings, program: str) -> None:
+        self.folder, self.settings, self.program = os.path.realpath(folder), settings, program
+        self.since = stamp()
+        self.stopping = asyncio.Event()
+        self.news = Signal()                        # a site has sent something, or came up
+        self.progress = Signal()                    # that, or a site took something in, or something was published
+        self.changes = Signal()                     # a site has another state
+        self.wants = Wants()
+        self.tasks: set[asyncio.Task[None]] = set()
+        self.followers: dict[int | None, set[Follower]] = {}
+        self.events = self._open_events()
+        self.sites = {number: Site(self, number) for number in settings.here}
+        self.link = self._new_link()
+        from .server import Server
+        self.server = Server(self)
+
+    def _new_link(self) -> "Link":
+        from .link import FileLink
+        if self.settings.over == FILES:
+            return FileLink(self)
+        from .stream_link import StreamLink
+        return StreamLink(self)
+
+    # Events, and who follows them.
+
+    def _open_events(self) -> int:
+        path = f"{self.folder}/events"
+        if os.path.exists(path) and os.path.getsize(path) > EVENTS_BYTES:
+            os.rename(path, f"{path}.before")
+        return os.open(path, os.O_WRONLY | os.O_CREAT | os.O_APPEND, 0o600)
+
+    def event(self, text: str) -> None:
+        line = f"{stamp()} {text}"
+        try:
+            os.write(self.events, line.encode("utf-8", "surrogateescape") + b"\n")
+        except OSError:
+            pass        # a full disk must not stop the sites that still answer
+        for follower in self.followers.get(None, ()):
+            follower.tell(line)
+
+    def is_followed(self, site: int) -> bool:
+        return site in self.followers
+
+    def tell_followers(self, site: int, lines: list[bytes]) -> None:
+        for follower in self.followers.get(site, ()):
+            for line in lines:
+                follower.tell(f"{stamp()} {os.fsdecode(line)}")
+
+    # Packets.
+
+    async def feed(self, site: Site, packets: list[bytes]) -> bool:
+        """Gives a site packets of others, but for those that it has; returns once they are answered, False if it is full."""
+        new = [packet for packet in packets if self._is_new(site, packet)]
+        is_full = False
+        for pending in site.give(new) if new else []:
+            refusal = (await pending.done).refusal
+            if refusal:
+                is_full = is_full or refusal == "Full"
+                site.note_fault(f"{pending.record[:80].decode('utf-8', 'replace')}: {refusal}")
+        self.pass_on(site)
+        return not is_full
+
+    def _is_new(self, site: Site, text: bytes) -> bool:
+        match packet_of(text):
+            case Message(origin=origin, number=number):
+                return origin != site.number and number > site.ledger.have[origin].upto
+            case Token(turn=turn, to=to):
+                self.wants.passed(turn, to)
+                return to == site.number and turn > site.ledger.turn
+        return False
+
+    # The token.
+
+    async def fetch_token(self, site: Site, until: float) -> None:
+        """Returns once the site may hold the token; TimeoutError if that takes longer. It is wanted once for all askers of a site."""
+        if site.ledger.holds_token and not site.is_passing:
+            return
+        site.token_askers += 1
+        try:
+            if not site.wanting or site.wanting.done():
+                site.wanting = asyncio.create_task(self._want(site))
+            await site.token_came.wait(max(until - time.monotonic(), 0.001))
+        finally:
+            site.token_askers -= 1
+
+    async def _want(self, site: Site) -> None:
+        while site.token_askers and not (site.ledger.holds_token and not site.is_passing):
+            await self.link.say_want(site.number, site.ledger.turn)
+            try:
+                await site.token_came.wait(SAY_AGAIN)
+            except TimeoutError:
+                pass
+
+    def hear_want(self, site: int, known: int) -> None:
+        if site in self.sites and self.sites[site].ledger.holds_token and not self.sites[site].is_passing:
+            return
+        self.wants.hear(site, known, time.monotonic())
+        for holder in self.sites.values():
+            self.pass_on(holder)
+
+    def pass_on(self, site: Site) -> None:
+        """Passes the token on, now or when the holder has had its time, if another site wants it."""
+        if not site.ledger.holds_token or site.is_passing or not site.up.is_set() or site.fenced_by or self.stopping.is_set():
+            return
+        now = time.monotonic()
+        to = self.wants.next(site.number, now)
+        if to is None:
+            return
+        left = site.hold.seconds_left(site.red_askers > 0, now)
+        if left <= 0:
+            site.is_passing = True
+            self.wants.drop(to)
+            site.give([b"pass,%d" % to])
+        elif not site.passing_later:
+            site.passing_later = asyncio.get_running_loop().call_later(left + 0.001, self._pass_later, site)
+
+    def _pass_later(self, site: Site) -> None:
+        site.passing_later = None
+        self.pass_on(site)
+
+    async def where_is_token(self, site: Site) -> str:
+        if site.ledger.holds_token:
+            return "it holds the token, and hasn't all red messages before it"
+        holder = self.wants.holder
+        said = f"site {holder} has the token (turn {self.wants.turn})"
+        if self.link.state != "up":
+            return f"{said}, as far as is known: the link is {self.link.state}"
+        return said if await self.link.is_running(holder) else f"{said}, and is not running"
+
+    # How it is.
+
+    def behind(self, site: Site) -> dict[int, int]:
+        """How many messages of each other site it hasn't, of those that were sent."""
+        def lack(origin: int, have: Prefix) -> int:
+            return max(0, self.link.sent(origin) - have.upto)
+        return {origin: lack(origin, have) for origin, have in enumerate(site.ledger.have) if origin != site.number}
+
+    def status_of(self, site: Site) -> dict[str, Any]:
+        ledger = site.ledger
+        return {
+            "site": site.number, "state": site.state, "since": site.since, "records": ledger.records,
+            "records_left": RECORDS_OF_A_RUN - ledger.records, "messages": ledger.messages, "own": ledger.sends.messages,
+            "has": {str(origin): have.upto for origin, have in enumerate(ledger.have) if origin != site.number},
+            "behind": {str(origin): count for origin, count in self.behind(site).items()},
+            "sent": len(ledger.sends), "published": self.link.published(site), "holds_token": ledger.holds_token and site.known.is_set(),
+            "turn": ledger.turn,
+            "waiting": len(site.line) + site.token_askers, "starts": site.starts,
+            "pid": site.process.pid if site.process and site.process.returncode is None else None, "fault": " ".join(site.fault) if site.fault else None,
+        }
+
+    async def status(self) -> tuple[bool, dict[str, Any]]:
+        """Whether all is well, and how the shop and each of its sites is."""
+        sites = []
+        for number in range(self.settings.sites):
+            if number in self.sites:
+                sites.append(self.status_of(self.sites[number]))
+            else:
+                sites.append(await self.link.status_of(number) or {"site": number, "state": "away"})
+        holder = next((one["site"] for one in sites if one.get("holds_token") and one["turn"] >= self.wants.turn), None)
+        well = self.link.state == "up" and all(one["state"] == State.UP for one in sites)
+        return well, {
+            "folder": self.folder, "sites": self.settings.sites, "over": self.settings.shown_over, "sync": self.settings.sync,
+            "keep": self.settings.keep, "pid": os.getpid(), "since": self.since, "link": self.link.state, "token": holder,
+            "token_turn": self.wants.turn, "token_sent_to": self.wants.holder, "token_wanted_by": self.wants.waiting(), "site": sites,
+        }
+
+    # Its life.
+
+    async def pause(self, seconds: float) -> None:
+        """Waits, but not beyond a stop."""
+        try:
+            await asyncio.wait_for(self.stopping.wait(), seconds)
+        except TimeoutError:
+            pass
+
+    def stop(self, why: str) -> None:
+        if not self.stopping.is_set():
+            self.event(f"supervisor: {why}")
+            self.stopping.set()
+            for site in self.sites.values():
+                site.stop()
+
+    async def run(self) -> None:
+        loop = asyncio.get_running_loop()
+        for number in (signal.SIGTERM, signal.SIGINT):
+            loop.add_signal_handler(number, self.stop, signal.Signals(number).name)
+        here = ", ".join(map(str, self.sites))
+        self.event(f"supervisor: started, process {os.getpid()}, sites {here} of {self.settings.sites} over {self.settings.shown_over}")
+        await self.server.listen()
+        sites = [self.task(site.run()) for site in self.sites.values()]
+        others = [self.task(self.link.run()), self.task(self._look_after_folder())]
+        await asyncio.gather(*(site.tried.wait() for site in self.sites.values()))
+        await self._compared()
+        self._say_ready()
+        await self.stopping.wait()
+        await asyncio.wait(sites, timeout=STOP_SECONDS)
+        for site in self.sites.values():
+            site.kill()         # what it was given and hasn't answered is answered after the next start
+        await asyncio.gather(*sites, return_exceptions=True)
+        await self._publish_last()
+        await self.server.close()
+        for task in others:
+            task.cancel()
+        await self.link.close()
+        self.event("supervisor: ended")
+
+    async def _compared(self) -> None:
+        """Waits a moment until it is known whether a site that is up is fenced."""
+        waits = [site.compared.wait() for site in self.sites.values() if site.up.is_set()]
+        try:
+            await asyncio.wait_for(asyncio.gather(*waits), COMPARE_SECONDS)
+        except TimeoutError:
+            pass
+
+    def task(self, work: Coroutine[Any, Any, None], is_needed: bool = True) -> "asyncio.Task[None]":
+        """A task. The fault of one that is needed ends the supervisor, since it would be a shop that only seems to run."""
+        def look(done: "asyncio.Task[None]") -> None:
+            if not done.cancelled() and (fault := done.exception()):
+                (self.stop if is_needed else self.event)(f"a fault of its own: {fault!r}")
+        task: asyncio.Task[None] = asyncio.create_task(work)
+        self.tasks.add(task)                        # a task that nobody holds may be forgotten
+        task.add_done_callback(self.tasks.discard)
+        task.add_done_callback(look)
+        return task
+
+    def _say_ready(self) -> None:
+        """Tells `shop start`, or systemd, that the sites are up, or why they aren't."""
+        down = [f"site {site.number}: {site.fault[1] if site.fault else site.state}" for site in self.sites.values() if site.fenced_by or not site.up.is_set()]
+        down += [f"link: {self.link.state}"] if self.link.state != "up" else []
+        if (ready := os.environ.pop("SHOP_READY", None)) is not None:
+            try:
+                os.write(int(ready), ("; ".join(down) or "ready").encode() + b"\n")
+            except OSError:
+                pass        # `shop start` had no time to wait for it
+            os.close(int(ready))
+        if notify := os.environ.get("NOTIFY_SOCKET"):
+            with socket.socket(socket.AF_UNIX, socket.SOCK_DGRAM) as to:
+                to.connect(notify.replace("@", "\0", 1))
+                to.send(b"READY=1")
+
+    async def _publish_last(self) -> None:
+        """Waits a moment until what was answered last is published; else that comes after the next start."""
+        until = time.monotonic() + LAST_SECONDS
+        while self.link.state == "up" and time.monotonic() < until:
+            if all(self.link.published(site) >= len(site.ledger.sends) for site in self.sites.values()):
+                break
+            await asyncio.sleep(0.02)
+
+    async def _look_after_folder(self) -> None:
+        """Ends the supervisor when its folder is gone: nobody could reach it."""
+        was = os.stat(self.folder).st_ino
+        while True:
+            await asyncio.sleep(LOOK_SECONDS)
+            try:
+                is_there = os.stat(self.folder).st_ino == was
+            except OSError:
+                is_there = False
+            if not is_there:
+                self.stop(f"{self.folder} is gone")
+                return
+
+
+def take_lock(folder: str, advice: str = "it may be about to end") -> int:
+    """Holds the shop's folder for this process. The supervisor before may be about to end, so it is given some seconds."""
+    lock = os.open(f"{folder}/lock", os.O_WRONLY | os.O_CREAT, 0o600)
+    until = time.monotonic() + LOCK_SECONDS
+    while True:
+        try:
+            fcntl.flock(lock, fcntl.LOCK_EX | fcntl.LOCK_NB)
+            return lock
+        except OSError:
+            if time.monotonic() > until:
+                raise Fault(Status.REFUSED, f"{folder} is running; {advice}") from None
+            time.sleep(0.05)
+
+
+def stopped_shop(args: argparse.Namespace) -> Settings:
+    """The settings of a shop that isn't running, nor is started before this process ends, for a command about one of its sites."""
+    now = existing(args.folder)
+    if args.site not in now.here:
+        raise Fault(Status.MISUSE, f"site {args.site} isn't one of {args.folder}: it has --here {','.join(map(str, now.here))}")
+    take_lock(args.folder, "stop it first")
+    return now
+
+
+def run(folder: str, settings: Settings, program: str) -> None:
+    """Runs the shop until it is stopped."""
+    os.umask(0o077)
+    take_lock(folder)
+
+    async def main() -> None:
+        await Supervisor(folder, settings, program).run()
+    asyncio.run(main())

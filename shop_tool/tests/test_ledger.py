@@ -1,0 +1,58 @@
+"""What a site has follows from its records and answers."""
+
+import tempfile
+import unittest
+
+from shop_tool.answers import AnswerReader
+from shop_tool.ledger import Ledger, Prefix, packets_of
+
+KEPT = [b"user,ann", b"pass,1", b"user,bob", b"comment,0.1,0.1,1.1,1,x", b"msg,1,1,2,3,1:1,user,cat", b"msg,1,1,1,2,1:0,user,dan",
+        b"token,1,2,0,3", b"bid,0.3,0.1,5", b"pass,1"]
+OUT = (b"reply,1,ok,0.1\nsend,msg,1,0,1,1,0:0,user,ann\nreply,2,passed\nsend,token,1,1,1,1\nreply,3,refused,3,NoToken\n"
+       b"reply,4,ok,0.2\nsend,msg,1,0,2,0,1:0,comment,0.1,0.1,1.1,1,x\nreply,5,held\nreply,6,released,2\nreply,7,holding\n"
+       b"reply,8,ok,0.3\nsend,msg,1,0,3,4,2:2,bid,0.3,0.1,5\nreply,9,passed\nsend,token,1,3,1,4\n")
+
+
+class Prefixes(unittest.TestCase):
+    def test_gaps_are_filled(self) -> None:
+        prefix = Prefix()
+        for number, upto in ((2, 0), (4, 0), (1, 2), (1, 2), (3, 4), (3, 4), (5, 5)):
+            prefix.add(number)
+            self.assertEqual(prefix.upto, upto)
+        self.assertEqual(prefix.count, 5)
+
+
+class Notes(unittest.TestCase):
+    def setUp(self) -> None:
+        self.file = tempfile.NamedTemporaryFile()
+        self.addCleanup(self.file.close)
+        self.file.write(OUT)
+        self.file.flush()
+        self.ledger = Ledger(0, 2, self.file.name)
+        self.states = []
+        for record, answer in zip(KEPT, AnswerReader().feed(OUT), strict=True):
+            self.ledger.note(record, answer)
+            self.states.append((self.ledger.holds_token, self.ledger.turn))
+
+    def test_the_token(self) -> None:
+        self.assertEqual(self.states, [(True, 0)] + [(False, 1)] * 5 + [(True, 2)] * 2 + [(False, 3)])
+        self.assertEqual(self.ledger.issued, 3)
+
+    def test_what_it_has(self) -> None:
+        self.assertEqual([prefix.upto for prefix in self.ledger.have], [0, 2])
+        self.assertEqual((self.ledger.red.upto, self.ledger.messages, self.ledger.records), (4, 5, 9))
+        self.assertEqual((self.ledger.kept_bytes, self.ledger.out_bytes), (sum(map(len, KEPT)) + 9, len(OUT)))
+
+    def test_what_it_sent(self) -> None:
+        sends = self.ledger.sends
+        self.assertEqual([place for place, _ in sends.read(0, len(sends))], [(1, 0), (1, 1), (2, 0), (3, 0), (3, 1)])
+        self.assertEqual([text for _, text in sends.read(1, 3)], [b"token,1,1,1,1", b"msg,1,0,2,0,1:0,comment,0.1,0.1,1.1,1,x"])
+        self.assertEqual([sends.count_upto(place) for place in ((0, 0), (1, 0), (1, 1), (1, 9), (3, 0), (9, 0))], [0, 1, 2, 2, 4, 5])
+        self.assertEqual((sends.message(3), sends.message(4), sends.message(0)), (b"msg,1,0,3,4,2:2,bid,0.3,0.1,5", None, None))
+        self.assertEqual(sends.last, (3, 1))
+
+    def test_packets_of_another_site(self) -> None:
+        with tempfile.NamedTemporaryFile() as kept:
+            kept.write(b"".join(record + b"\n" for record in KEPT))
+            kept.flush()
+            self.assertEqual(list(packets_of(kept.name, 1, 1)), [(2, KEPT[4])])
