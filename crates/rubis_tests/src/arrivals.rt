@@ -1,6 +1,6 @@
 // Messages for a site of two, and their arrival.
 
-ghost use Rattle.std.specs.Prelude.{◌≡◌, All};
+ghost use Rattle.std.specs.Prelude.{◌≡◌, All, IfOk};
 ghost use Rattle.rubis_message.specs.Message.{sites_of};
 
 use crate::records::message;
@@ -81,4 +81,17 @@ pub fn arrive_comment<G: Gate, R: Threads + Wait + Sync>(
     let text = comment_behind(alloc, before)?;
     arrive(rt, site, alloc, &text)?;
     Ok(())
+}
+
+/// Two comments that follow the three messages that the site has.
+pub fn two_comments<G: Gate>(alloc: Global, site: &Site<G>) -> Result<Vec<Message>, Fail>
+    requires { site.now.place.sites ≡ 2 }
+    ensures { IfOk result (λ window. All (λ m. sites_of m ≡ site.now.place.sites) window.items) }
+{
+    let first = comment_behind(alloc, 3)?;
+    let second = comment_behind(alloc, 4)?;
+    let mut window = Vec::new(alloc);
+    add_message(alloc, site, &mut window, &first)?;
+    add_message(alloc, site, &mut window, &second)?;
+    Ok(window)
 }

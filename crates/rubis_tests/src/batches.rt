@@ -1,10 +1,11 @@
-// A batch of three users over five shards, and shards that come back.
+// A batch of three users over five shards, one that several threads split, and shards that come back.
 
 ghost use Rattle.std.specs.Prelude.{◌≡◌, ◌+◌, ◌≤◌, length, IfOk};
 
+use crate::arrivals::{ANN, BOB, CUP, comment_behind};
 use crate::records::message;
 use rubis_message::Message;
-use rubis_pieces::{Done, FaultKind, Places, gather, split};
+use rubis_pieces::{Done, FaultKind, Places, SPLIT_MIN, gather, split, split_alone};
 use rubis_schema::Items;
 use rubis_shard::{Shard, Share};
 use std::alloc::{AllocError, Global};
@@ -43,8 +44,8 @@ fn each_part_goes_to_its_home(rt: HostRuntime) -> Result<(), Fail> {
     Ok(())
 }
 
-// The shard of this number of two, with an empty share.
-fn back(alloc: Global, number: usize) -> Result<Done, AllocError>
+// The shard of this number of two, with an empty share, of which so much is said to be done: a mark by which it is known again.
+fn back(alloc: Global, number: usize, done: usize) -> Result<Done, AllocError>
     requires { number ≤ 2 }
 {
     let share = Share {
@@ -54,59 +55,111 @@ fn back(alloc: Global, number: usize) -> Result<Done, AllocError>
     Ok(Done {
         shard: Shard::new(alloc, number, 3)?,
         share,
-        done: 0,
+        done,
     })
 }
 
-// What comes of gathering the shards of these numbers for a set of two: the fault and how many came back.
-fn fault(
+// The shards of these numbers, with the marks 7 and 8.
+fn shards_of(alloc: Global, first: usize, second: Option<usize>) -> Result<Vec<Done>, Fail> {
+    if first > 2 || second.is_some_and(|number| number > 2) {
+        return Err(Fail::from("no such shard"));
+    }
+    let mut list = Vec::new(alloc);
+    list.push(back(alloc, first, 7)?)?;
+    if let Some(number) = second {
+        list.push(back(alloc, number, 8)?)?;
+    }
+    Ok(list)
+}
+
+// Whether the list has these shards and marks, each with its own share.
+fn has_shards(list: &[Done], marks: &[(usize, usize)]) -> bool {
+    list.len() == marks.len()
+        && list.iter().zip(marks).all(|(done, mark)| done.shard.number() == mark.0
+            && done.share.number == mark.0
+            && done.done == mark.1)
+}
+
+// Whether gathering the shards of these numbers for a set of two answers that fault, and all of them come back as they came.
+fn is_refused(
     alloc: Global,
     first: usize,
     second: Option<usize>,
-) -> Result<Option<(FaultKind, usize)>, Fail> {
-    let mut list = Vec::new(alloc);
-    if first > 2 {
-        return Err(Fail::from("no such shard"));
-    }
-    list.push(back(alloc, first)?)?;
-    if let Some(second) = second {
-        if second > 2 {
-            return Err(Fail::from("no such shard"));
-        }
-        list.push(back(alloc, second)?)?;
-    }
-    match gather(list, Places::new(alloc, 2)?) {
-        Ok(gathered) => {
-            let placed = gathered
-                .shards
-                .as_slice()
-                .iter()
-                .enumerate()
-                .all(|(at, shard)| shard.number() == at);
-            if placed && gathered.left.is_empty() {
-                Ok(None)
-            } else {
-                Err(Fail::from("shards out of place"))
-            }
-        }
-        Err(fault) => Ok(Some((fault.kind, fault.back.len()))),
-    }
+    kind: FaultKind,
+) -> Result<bool, Fail> {
+    let list = shards_of(alloc, first, second)?;
+    let Err(fault) = gather(list, Places::new(alloc, 2)?) else {
+        return Ok(false);
+    };
+    let back = fault.back.as_slice();
+    let came = match second {
+        Some(number) => has_shards(back, &[(first, 7), (number, 8)]),
+        None => has_shards(back, &[(first, 7)]),
+    };
+    Ok(came && fault.kind == kind)
 }
 
 #[test]
 fn shards_are_gathered_by_number(rt: HostRuntime) -> Result<(), Fail> {
-    assert_eq!(rt; fault(rt.alloc(), 1, Some(0))?, None);
-    assert_eq!(rt;
-        fault(rt.alloc(), 0, Some(0))?,
-        Some((FaultKind::Twice(0), 2))
-    );
-    assert_eq!(rt;
-        fault(rt.alloc(), 0, Some(2))?,
-        Some((FaultKind::Stranger(2), 2))
-    );
-    assert_eq!(rt;
-        fault(rt.alloc(), 0, None)?,
-        Some((FaultKind::Missing(1), 1))
-    );
+    let list = shards_of(rt.alloc(), 1, Some(0))?;
+    let Ok(gathered) = gather(list, Places::new(rt.alloc(), 2)?) else {
+        return Err(Fail::from("not gathered"));
+    };
+    let numbers = gathered.shards.as_slice().iter().map(Shard::number);
+    assert!(rt; numbers.eq(0..2) && gathered.left.is_empty());
+    Ok(())
+}
+
+#[test]
+fn shards_that_are_no_set_come_back(rt: HostRuntime) -> Result<(), Fail> {
+    for (first, second, kind) in [
+        (0, Some(0), FaultKind::Twice(0)),
+        (0, Some(2), FaultKind::Stranger(2)),
+        (0, None, FaultKind::Missing(1)),
+    ] {
+        let refused = is_refused(rt.alloc(), first, second, kind)?;
+        assert!(rt; refused, "{kind:?}");
+    }
+    Ok(())
+}
+
+// The messages of a user, an item and many comments on it.
+fn many_messages(alloc: Global) -> Result<Vec<Message>, Fail> {
+    let mut batch = Vec::new(alloc);
+    batch.push(message(alloc, ANN, 2)?)?;
+    batch.push(message(alloc, BOB, 2)?)?;
+    batch.push(message(alloc, CUP, 2)?)?;
+    for before in 3..SPLIT_MIN as u32 {
+        batch.push(message(alloc, &comment_behind(alloc, before)?, 2)?)?;
+    }
+    Ok(batch)
+}
+
+// Whether two shares have the same parts of the same entries.
+fn are_same(share: &Share, other: &Share) -> bool {
+    let (parts, others) = (share.effects.as_slice(), other.effects.as_slice());
+    share.number == other.number
+        && parts.len() == others.len()
+        && parts.iter().zip(others).all(|(part, other)| part.entry == other.entry
+            && part.part == other.part
+            && part.effect.key == other.effect.key)
+}
+
+// From SPLIT_MIN messages on, several threads make the shares, if there are as many processors as shards; one there always is.
+#[test]
+fn a_large_batch_is_split_as_by_one_thread(rt: HostRuntime) -> Result<(), Fail> {
+    let batch = many_messages(rt.alloc())?;
+    if batch.len() > 1_000_000 {
+        return Err(Fail::from("too many"));
+    }
+    for shards in [1, 2, 4] {
+        let shared = split(&rt, rt.alloc(), &batch, 1, shards)?;
+        let alone = split_alone(rt.alloc(), &batch, 1, shards)?;
+        let same = shared
+            .iter()
+            .zip(&alone)
+            .all(|(share, other)| are_same(share, other));
+        assert!(rt; shared.len() == shards && alone.len() == shards && same);
+    }
     Ok(())
 }

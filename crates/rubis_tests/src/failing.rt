@@ -1,8 +1,8 @@
 // A site on readers and writers that fail.
 
-use crate::failing_streams::{FailingReader, FailingWriter};
+use crate::failing_streams::{FailingDelivery, FailingReader, FailingWriter};
 use crate::transcripts::{Talk, take_apart, usual};
-use rubis_replica::Free;
+use rubis_replica::{Config, Free};
 use rubis_script::{RunFault, run_site, run_site_upto};
 use std::process::Abort;
 use std::sync::Wait;
@@ -77,6 +77,18 @@ row,bid,0.5,0.4,0.2,500,4
 row,bid,0.6,0.4,0.3,500,5
 ";
 
+// Four messages that are a window where batches aren't smaller.
+const FOUR: &str = "\
+> msg,1,0,1,1,0:0,user,ann
+reply,1,released,1
+> msg,1,0,2,2,1:0,user,bob
+reply,2,released,1
+> msg,1,0,4,4,3:0,user,dan
+reply,3,held
+> msg,1,0,3,3,2:0,user,cat
+reply,4,released,2
+";
+
 // More calls than any writer here gets.
 const CALLS_MAX: usize = 1000;
 
@@ -104,6 +116,23 @@ fn a_reader_that_fails_after_any_byte(rt: HostRuntime) {
     for (transcript, sites) in [(EVERYTHING, 2), (AUCTION, 1)] {
         let talk = take_apart(rt.alloc(), transcript).expect(&rt, "memory");
         read_until_each_byte(&rt, &talk, sites);
+    }
+}
+
+// A window is held when the reader fails: all of it is answered, since it was read whole before.
+#[test]
+fn what_was_read_before_a_fault_is_answered(rt: HostRuntime) {
+    let talk = take_apart(rt.alloc(), FOUR).expect(&rt, "memory");
+    for (batch, workers) in [(1, 1), (64, 1), (3, 2), (64, 2), (64, 16)] {
+        let config = Config::new(1, 2, 4, workers, batch, 100).expect(&rt, "a configuration");
+        let mut out = Vec::new(rt.alloc());
+        let reader = FailingDelivery::new(talk.said.as_bytes());
+        let end = run_site(&rt, rt.alloc(), reader, &mut out, &config);
+        assert_eq!(rt; end.err(), Some(RunFault::Read), "{workers} workers");
+        assert!(rt;
+            out.as_slice() == talk.heard.as_bytes(),
+            "{workers} workers"
+        );
     }
 }
 

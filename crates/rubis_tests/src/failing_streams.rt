@@ -1,4 +1,4 @@
-// A reader and a writer that fail.
+// Readers and a writer that fail.
 
 ghost use Rattle.std.specs.Prelude.{◌≡◌, ◌≤◌, ◌+◌, Some, Ok, Err, IfOk, OnErr, [], length};
 
@@ -50,6 +50,41 @@ impl<'a> Read for FailingReader<'a> {
             }
             _ => Err(broken()),
         }
+    }
+}
+
+/// Gives a text at once, as far as there is room for it, and then an error, again and again, in place of its end. Contracts see
+/// the bytes that it still gives.
+#[derive(Drop)]
+pub struct FailingDelivery<'a> {
+    rest: &'a [u8],
+}
+
+impl<'a> Model for FailingDelivery<'a> {
+    ghost use Rattle.std.specs.Prelude.{ℕ, List};
+
+    ghost Value = { List ℕ };
+
+    ghost view = { λ r. r.rest.now };
+}
+
+impl<'a> FailingDelivery<'a> {
+    /// A reader that gives `text`, and then fails.
+    pub fn new(text: &'a [u8]) -> FailingDelivery<'a>
+        ensures { result ≡ text.now }
+    {
+        FailingDelivery { rest: text }
+    }
+}
+
+impl<'a> Read for FailingDelivery<'a> {
+    ghost remaining = { λ r. Some r };
+
+    fn read(&mut self, buf: &mut [u8]) -> io::Result<usize> {
+        if self.rest.is_empty() {
+            return Err(broken());
+        }
+        self.rest.read(buf)
     }
 }
 

@@ -1,13 +1,12 @@
 // Workers that really work at once, in each call that applies a batch.
 
-ghost use Rattle.std.specs.Prelude.{◌≡◌, ◌<◌, ◌≤◌, All, IfOk};
+ghost use Rattle.std.specs.Prelude.{◌≡◌, ◌<◌, ◌≤◌, IfOk};
 ghost use Rattle.rubis_shadow.specs.Limits.{IsAsk};
-ghost use Rattle.rubis_message.specs.Message.{sites_of};
 
-use crate::arrivals::{add_message, arrive_three, comment_behind};
+use crate::arrivals::{arrive_three, two_comments};
 use crate::gates::{Halves, Holding, HoldsTwo, Meeting, Numbers, Waiting};
 use crate::records::request;
-use rubis_message::{Arrival, Message, Request};
+use rubis_message::{Arrival, Request};
 use rubis_pieces::split;
 use rubis_replica::{Config, Gate, Site};
 use rubis_schema::Listing;
@@ -204,19 +203,6 @@ fn two_workers_meet_in_arrivals(rt: HostRuntime) -> Result<(), Fail> {
     assert!(rt; arrived.fault.is_none());
     assert!(rt; meeting.met());
     Ok(())
-}
-
-// Two comments that follow the three messages that the site has.
-fn two_comments<G: Gate>(alloc: Global, site: &Site<G>) -> Result<Vec<Message>, Fail>
-    requires { site.now.place.sites ≡ 2 }
-    ensures { IfOk result (λ window. All (λ m. sites_of m ≡ site.now.place.sites) window.items) }
-{
-    let first = comment_behind(alloc, 3)?;
-    let second = comment_behind(alloc, 4)?;
-    let mut window = Vec::new(alloc);
-    add_message(alloc, site, &mut window, &first)?;
-    add_message(alloc, site, &mut window, &second)?;
-    Ok(window)
 }
 
 // Has three messages arrive, then a window of two while those are applied, and cuts. Returns the number of answers to the

@@ -2,7 +2,7 @@
 
 ghost use Rattle.std.specs.Prelude.{◌≡◌};
 
-use crate::arrivals::{ANN, BOB, CUP, arrive_comment, arrive_three, comment_behind};
+use crate::arrivals::{ANN, BOB, CUP, arrive_comment, arrive_three, comment_behind, two_comments};
 use crate::gates::{Counting, Gathering, Holders};
 use crate::transcripts::add_line;
 use rubis_replica::{Config, Gate, Site};
@@ -72,6 +72,47 @@ fn the_gate_is_called_for_each_shard_in_every_application(rt: HostRuntime) -> Re
     ] {
         let counts = count_calls_of_workers(&rt, rt.alloc(), &records, batch)?;
         assert_eq!(rt; counts, [calls, calls, calls], "batches of {batch}");
+    }
+    Ok(())
+}
+
+// Has three messages arrive, then a window of two, then one more, and cuts. Returns how often the gate was called, as `Counting`
+// counts, before the window, after it, before the cut and after it, and how many messages the cut applied.
+fn count_calls_of_a_window<G: Gate, R: Threads + Wait + Sync>(
+    rt: &R,
+    site: &mut Site<G>,
+    alloc: Global,
+    taken: &AtomicU64,
+) -> Result<([u64; 4], u32), Fail>
+    requires { site.old.place.sites ≡ 2 }
+{
+    arrive_three(rt, site, alloc)?;
+    let pending = taken.load(Ordering::SeqCst);
+    let window = two_comments(alloc, site)?;
+    site.arrive_all(rt, window);
+    let arrived = taken.load(Ordering::SeqCst);
+    arrive_comment(rt, site, alloc, 5)?;
+    let before = taken.load(Ordering::SeqCst);
+    let cut = site.cut(rt)?;
+    Ok((
+        [pending, arrived, before, taken.load(Ordering::SeqCst)],
+        cut,
+    ))
+}
+
+// Three messages are pending when a window of two comes, so these are applied then: five shards are taken. The window stays
+// pending as a batch of its own, and the message after it is another: the cut applies both, and tells the sum. So the gate is
+// called fifteen times; where a follower forgot where the window ends, it would be ten.
+#[test]
+fn a_window_is_a_batch_of_its_own(rt: HostRuntime) -> Result<(), Fail> {
+    for workers in [1, 4] {
+        let taken = AtomicU64::new(0);
+        let config = Config::new(1, 2, 5, workers, 64, 100).ok_or("a configuration")?;
+        let mut site = Site::new(rt.alloc(), &config, Counting { taken: &taken })?;
+        let (counts, cut) = count_calls_of_a_window(&rt, &mut site, rt.alloc(), &taken)?;
+        let (once, thrice) = (1_001_001_001_001, 3_003_003_003_003);
+        assert_eq!(rt; counts, [0, once, once, thrice], "{workers} workers");
+        assert_eq!(rt; cut, 3, "{workers} workers");
     }
     Ok(())
 }
