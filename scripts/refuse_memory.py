@@ -1,5 +1,5 @@
 #!/usr/bin/env python3
-"""Runs programs again and again, each time with one more call for memory refused.
+"""Runs programs again and again, each time with one more call for memory refused, or with one more start of a thread.
 
     scripts/refuse_memory.py [--all] GROWTHS PROGRAM [NAME..]
 
@@ -12,11 +12,13 @@ of a thread among them. Each scenario of GROWTHS is run so, and rubis on convers
 - A run from records to text ends well with the whole text; or with a prefix of it and `run fault: memory`, rubis with
   status 1.
 - What the long scenarios answer if nothing is refused is what conversations/ says.
+- Where the start of a thread is refused, the n-th alone or all from the n-th on, the answers are those of a run in which
+  nothing is refused, and nothing is told: the caller's thread does the work.
 
 Every n is taken up to EACH, and then every STEP-th, until RUNS runs in a row met no refusal: how often memory is asked for
-depends a little on how threads take turns. Where no run told what some run has to tell (SHOWN), those between are taken too,
-until one does. With --all, every n is taken. With names, only these scenarios or commands are
-run. REFUSE_JOBS is how many runs go on at once: as many as there are processors, if it isn't set. Each fault is told; the
+depends a little on how threads take turns. Of the scenarios of WHOLE, every n is taken. Where no run told what some run has to
+tell (SHOWN), those between are taken too, until one does. With --all, every n is taken. With names, only these scenarios or
+commands are run. REFUSE_JOBS is how many runs go on at once: as many as there are processors, if it isn't set. Each fault is told; the
 last line says how many calls were refused. The status is 1 if there was a fault.
 """
 
@@ -28,6 +30,8 @@ import subprocess
 import sys
 import tempfile
 
+import play
+
 TOP = pathlib.Path(__file__).resolve().parent.parent
 CONVERSATIONS = TOP / "conversations"
 SCENARIOS = TOP / "crates/rubis_growths/src/main.rt"
@@ -35,6 +39,9 @@ SCENARIOS = TOP / "crates/rubis_growths/src/main.rt"
 # Every n is taken up to this one, and then every STEP-th.
 EACH = 400
 STEP = 37
+
+# The scenarios of which every n is taken.
+WHOLE = {"every_growth_site", "every_growth_windows", "every_growth_script", "short_apply"}
 
 # How many runs in a row without a refusal end a search.
 RUNS = 24
@@ -56,13 +63,20 @@ extern char *getenv(const char *);
 extern long strtol(const char *, char **, int);
 extern long write(int, const void *, size_t);
 extern int *__errno_location(void);
+extern void *dlsym(void *, const char *);
 
-static long refused_call;
-static long calls;
+static long refused_call, refused_start, refused_from;
+static long calls, starts;
+
+static long number(const char *name) {
+    char *text = getenv(name);
+    return text ? strtol(text, 0, 10) : 0;
+}
 
 __attribute__((constructor)) static void begin(void) {
-    char *text = getenv("REFUSED_CALL");
-    refused_call = text ? strtol(text, 0, 10) : 0;
+    refused_call = number("REFUSED_CALL");
+    refused_start = number("REFUSED_START");
+    refused_from = number("REFUSED_FROM");
 }
 
 static int is_refused(void) {
@@ -76,6 +90,16 @@ void *malloc(size_t size) { return is_refused() ? 0 : __libc_malloc(size); }
 void *realloc(void *old, size_t size) { return is_refused() ? 0 : __libc_realloc(old, size); }
 void *calloc(size_t count, size_t size) { return is_refused() ? 0 : __libc_calloc(count, size); }
 void *aligned_alloc(size_t align, size_t size) { return is_refused() ? 0 : __libc_memalign(align, size); }
+
+int pthread_create(void *thread, const void *attributes, void *(*run)(void *), void *given) {
+    long start = __atomic_add_fetch(&starts, 1, __ATOMIC_SEQ_CST);
+    if (start == refused_start || (refused_from && start >= refused_from)) {
+        write(2, "refused\n", 8);
+        return 11;
+    }
+    int (*begin)(void *, const void *, void *(*)(void *), void *) = dlsym((void *)-1, "pthread_create");
+    return begin(thread, attributes, run, given);
+}
 """
 
 # The scenarios that may end before their last answer, each with the line that then is the last: runs from records to text, and
@@ -85,6 +109,7 @@ ENDS = {
     "whole_world": b"! run fault: memory\n",
     "whole_audit": b"! run fault: memory\n",
     "world_behind": b"! World: behind, unchanged\n",
+    "world_behind_by_a_listing": b"! World: behind, unchanged\n",
 }
 
 # What has to be told in some run of a scenario.
@@ -94,6 +119,7 @@ SHOWN = {
     "every_growth_windows": rb"! Site::catch_up: \d+ parts",
     "two_shares_again": rb"! apply_all: memory, unchanged",
     "world_behind": rb"! World: behind, unchanged",
+    "world_behind_by_a_listing": rb"! World: behind, unchanged",
 }
 
 # What is answered if nothing is refused: a conversation, and how many of its records there are.
@@ -105,12 +131,13 @@ TEXTS = {
     "whole_audit": ("an_audit_of_a_sale_agrees.txt", None),
 }
 
-# What rubis is run on: its options beyond those of the conversation.
+# What rubis is run on: a conversation, and options beyond its own.
 COMMANDS = {
-    "two_hundred_packets.txt": ["--workers", "4", "--shards", "5", "--batch", "7"],
-    "a_bid_at_another_site_comes_too_late.txt": ["--workers", "4", "--shards", "5", "--batch", "2"],
-    "an_audit_of_a_sale_agrees.txt": [],
-    "logs_are_widened.txt": [],
+    "rubis site": ("two_hundred_packets.txt", ["--workers", "4", "--shards", "5", "--batch", "7"]),
+    "rubis site, a long listing": ("three_thousand_comments.txt", ["--workers", "4", "--shards", "4", "--batch", "65536"]),
+    "rubis world": ("a_bid_at_another_site_comes_too_late.txt", ["--workers", "4", "--shards", "5", "--batch", "2"]),
+    "rubis audit": ("an_audit_of_a_sale_agrees.txt", []),
+    "rubis widen": ("logs_are_widened.txt", []),
 }
 
 # What a scenario may tell of a refused call.
@@ -135,8 +162,8 @@ def library(folder: str) -> pathlib.Path:
 def conversation(name: str) -> tuple[list[str], list[str], list[list[str]]]:
     """The words of its first command, its records, and the lines that answer each of them (the first ones come before any)."""
     words, records, answers = [], [], [[]]
-    for line in (CONVERSATIONS / name).read_text().splitlines():
-        if words and line.startswith(("#", "$ ")):
+    for _, line in play.written_out(list(enumerate((CONVERSATIONS / name).read_text().splitlines(), 1))):
+        if words and line.startswith(("#", "% ", "$ ")):
             break
         if line.startswith("$ rubis "):
             words = line.split()[2:]
@@ -164,9 +191,9 @@ class Tried:
         self.whole = b""
         self.is_shown = name not in SHOWN
 
-    def run(self, call: int, made: pathlib.Path) -> tuple[int, bytes, bytes]:
-        """Runs it with that call for memory refused: its status and what it wrote."""
-        setting = {**os.environ, "LD_PRELOAD": str(made), "REFUSED_CALL": str(call)}
+    def run(self, number: int, made: pathlib.Path, what: str = "REFUSED_CALL") -> tuple[int, bytes, bytes]:
+        """Runs it with that call for memory refused, or that start of a thread: its status and what it wrote."""
+        setting = {**os.environ, "LD_PRELOAD": str(made), what: str(number)}
         try:
             ran = subprocess.run(self.words, input=self.text, capture_output=True, env=setting, timeout=SECONDS)
         except subprocess.TimeoutExpired:
@@ -186,6 +213,13 @@ class Tried:
 
     def check(self, status: int, wrote: bytes, said: bytes) -> None:
         raise NotImplementedError
+
+    def is_start_refused(self, number: int, made: pathlib.Path, what: str) -> bool:
+        """Runs it with that start of a thread refused, and checks that it answers as if none were: whether there was such a start."""
+        status, wrote, said = self.run(number, made, what)
+        if status or said.replace(MARK, b"") or wrote != self.whole:
+            raise Fault(f"{self.name}, {what}={number}: status {status}, {said[-200:]!r}, {wrote[-200:]!r}")
+        return MARK in said
 
     def is_refused(self, call: int, made: pathlib.Path) -> bool:
         """Runs it with that call refused, and checks what came of it: whether there was such a call."""
@@ -248,10 +282,10 @@ def tried_of(growths: str, program: str) -> list[Tried]:
     for name in re.findall(r'^ +"(\w+)" =>', SCENARIOS.read_text(), re.M):
         want = text_of(*TEXTS[name]) if name in TEXTS else None
         tried.append(Scenario(name, [growths, name], "", want))
-    for name, options in COMMANDS.items():
-        words, records, _ = conversation(name)
+    for name, (told, options) in COMMANDS.items():
+        words, records, _ = conversation(told)
         text = "".join(f"{record}\n" for record in records)
-        tried.append(Command(f"rubis {words[0]}", [program, *words, *options], text, text_of(name, None)))
+        tried.append(Command(name, [program, *words, *options], text, text_of(told, None)))
     return tried
 
 
@@ -281,6 +315,7 @@ def show(tried: Tried, made: pathlib.Path, last: int, pool: concurrent.futures.E
 def refuse_each(tried: Tried, made: pathlib.Path, every: bool, pool: concurrent.futures.Executor) -> tuple[int, int]:
     """Refuses one call after the other: how many runs there were, and how many of them met a refusal."""
     tried.begin(made)
+    every = every or tried.name in WHOLE
     runs = met = 0
     calls = calls_from(1, every)
     while True:
@@ -294,18 +329,31 @@ def refuse_each(tried: Tried, made: pathlib.Path, every: bool, pool: concurrent.
     return runs + more, met + more_met
 
 
+def refuse_starts(tried: Tried, made: pathlib.Path, pool: concurrent.futures.Executor) -> int:
+    """Refuses one start of a thread after the other, each alone and with all after it: how many runs met a refusal."""
+    met, first = 0, 1
+    while True:
+        numbers = range(first, first + RUNS)
+        alone = list(pool.map(lambda number: tried.is_start_refused(number, made, "REFUSED_START"), numbers))
+        later = list(pool.map(lambda number: tried.is_start_refused(number, made, "REFUSED_FROM"), numbers))
+        met, first = met + sum(alone) + sum(later), first + RUNS
+        if not any(alone):
+            return met
+
+
 def main() -> int:
     words = [word for word in sys.argv[1:] if word != "--all"]
     every = "--all" in sys.argv[1:]
     growths, program = (str(pathlib.Path(word).resolve()) for word in words[:2])
     chosen = [it for it in tried_of(growths, program) if not words[2:] or it.name in words[2:]]
-    runs = met = faults = 0
+    runs = met = starts = faults = 0
     threads = int(os.environ.get("REFUSE_JOBS", os.cpu_count() or 1))
     with tempfile.TemporaryDirectory() as folder, concurrent.futures.ThreadPoolExecutor(threads) as pool:
         made = library(folder)
         for tried in chosen:
             try:
                 ran, refused = refuse_each(tried, made, every, pool)
+                starts += refuse_starts(tried, made, pool)
             except Fault as fault:
                 print(f"fault: {fault}", flush=True)
                 faults += 1
@@ -314,7 +362,7 @@ def main() -> int:
                 print(f"{tried.name}: {refused} refused", flush=True)
             runs, met = runs + ran, met + refused
     how = "every call" if every else f"every call up to {EACH}, then every {STEP}th"
-    print(f"memory: {len(chosen)} scenarios and commands, {runs} runs, {met} calls refused ({how}), {faults} faults")
+    print(f"memory: {len(chosen)} scenarios and commands, {runs} runs, {met} calls refused ({how}), {starts} thread starts, {faults} faults")
     return 1 if faults else 0
 
 
