@@ -314,9 +314,9 @@ impl<G: Gate> Desk<G> {
         Ok(())
     }
 
-    // Holds the next record, if it is a message and messages are held at all; otherwise takes in those that are held, and
-    // answers it.
-    pub(crate) fn take<R: Threads + Wait + Sync>(
+    /// Holds the next record, if it is a message and messages are held at all; otherwise takes in those that are held, and
+    /// answers it.
+    pub fn take<R: Threads + Wait + Sync>(
         &mut self,
         rt: &R,
         answered: u64,

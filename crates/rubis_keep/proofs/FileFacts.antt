@@ -1,0 +1,103 @@
+-- Bytes that a writer took and a reader gave, one part after the other.
+use Rattle.std.proofs.Common.{◌≡◌, ◌∙◌, ◌≤◌, ◌<◌, ◌+◌, ◌-◌, ◌++◌, ◌∷◌, [], ◌&&◌, ℕ, zero, suc, Bool, true, false, List, Option, Some, None, IfSome, drop, eqb, get_or, length, take, refl, sym, ap, subst, arith, append_assoc, length-append}
+use lib.Pointwise.{pointwise}
+use Rattle.std.proofs.lemmas.Bool.{eqb-false}
+use Rattle.std.proofs.lemmas.List.{drop-take, get_or-append-add, get_or_append_left, get_or-drop, get_or-take, length-drop, length-take, length-take-le, take-append-drop, take-take, take_rest}
+use Rattle.rubis_keep.specs.Files.{DiffersFrom, IfDiffers}
+use Rattle.rubis_keep.specs.declared.fault.KeepFault.{KeepFault}
+use Rattle.rubis_keep.specs.declared.fault.KeepFault.TheVariants as fault
+use Rattle.std.specs.Io.KnownBytes.{Appends, Consumes, Keeps}
+use Rattle.csv.proofs.WriteFacts.{appends-more}
+
+pub take-more : (at n : ℕ) (bytes : List ℕ) → take at bytes ++ take n (take (length bytes - at) (drop at bytes)) ≡ take (at + n) bytes
+take-more at n bytes =
+    ap (λ t. take at bytes ++ take n t) (take_rest bytes at)
+    ∙ ap (λ t. t ++ take n (drop at bytes)) (sym (take-take at (at + n) bytes (omega arith)))
+    ∙ ap (λ t. take at (take (at + n) bytes) ++ t) (sym (drop-take at n bytes))
+    ∙ take-append-drop at (take (at + n) bytes)
+
+pub more-bound : (at n : ℕ) (bytes : List ℕ) → at ≤ length bytes → n ≤ length (take (length bytes - at) (drop at bytes)) → at + n ≤ length bytes
+more-bound at n bytes h l = let e = ap length (take_rest bytes at) in let f = length-drop at bytes in omega (arith, e, f)
+
+pub appends-front : (old mid new : Option (List ℕ)) (at n : ℕ) (bytes : List ℕ) → Appends old mid (take at bytes)
+    → Appends mid new (take n (take (length bytes - at) (drop at bytes))) → Appends old new (take (at + n) bytes)
+appends-front old mid new at n bytes f g = subst (Appends old new) (take-more at n bytes) (appends-more old mid new _ _ f g)
+
+pub appends-kept : (old mid new : Option (List ℕ)) (bytes : List ℕ) → Appends old mid bytes → Keeps mid new → Appends old new bytes
+appends-kept None mid new bytes f k = tt
+appends-kept (Some x) None new bytes f k = absurd f
+appends-kept (Some x) (Some y) None bytes f k = absurd k
+appends-kept (Some x) (Some y) (Some z) bytes f k = k ∙ f
+
+pub consumes-none : (known : Option (List ℕ)) → Consumes known known []
+consumes-none None = tt
+consumes-none (Some xs) = refl
+
+pub consumes-more : (a b c : Option (List ℕ)) (xs ys : List ℕ) → Consumes a b xs → Consumes b c ys → Consumes a c (xs ++ ys)
+consumes-more None b c xs ys f g = tt
+consumes-more (Some x) None c xs ys f g = absurd f
+consumes-more (Some x) (Some y) None xs ys f g = absurd g
+consumes-more (Some x) (Some y) (Some z) xs ys f g = f ∙ ap (λ t. xs ++ t) g ∙ sym (append_assoc xs ys z)
+
+pub consumes-kept : (a b c : Option (List ℕ)) (xs : List ℕ) → Consumes a b xs → Keeps b c → Consumes a c xs
+consumes-kept None b c xs f k = tt
+consumes-kept (Some x) None c xs f k = absurd f
+consumes-kept (Some x) (Some y) None xs f k = absurd k
+consumes-kept (Some x) (Some y) (Some z) xs f k = f ∙ ap (λ t. xs ++ t) (sym k)
+
+-- ---- where texts differ
+
+pub differ-at : (xs ys : List ℕ) → length xs ≡ length ys → pointwise eqb xs ys ≡ false → DiffersFrom xs ys
+differ-at [] [] l e = absurd (cc e)
+differ-at [] (y ∷ ys) l e = absurd (omega (arith, l))
+differ-at (x ∷ xs) [] l e = absurd (omega (arith, l))
+differ-at (x ∷ xs) (y ∷ ys) l e =
+    elim (eqb x y) as (λ t. eqb x y ≡ t → (t && pointwise eqb xs ys) ≡ false → DiffersFrom (x ∷ xs) (y ∷ ys)) [
+      | true ↦ λ same e2. let later = differ-at xs ys (omega (arith, l)) e2 in (suc later.0, omega (arith, later.1), omega (arith, later.2), later.3)
+      | false ↦ λ differ e2. (0, omega arith, omega arith, eqb-false x y differ)
+    ] refl e
+
+pub slice-at : (at n : ℕ) (text : List ℕ) → take (at + n - at) (drop at text) ≡ take n (drop at text)
+slice-at at n text = let e : at + n - at ≡ n = omega arith in rw e refl
+
+pub differs-later : (o mid new : Option (List ℕ)) (at n : ℕ) (text found : List ℕ) → at ≤ length text → Consumes o mid (take at text)
+    → Consumes mid new found → DiffersFrom found (take (at + n - at) (drop at text)) → IfSome o (λ old. DiffersFrom old text)
+differs-later None mid new at n text found l f g d = tt
+differs-later (Some old) None new at n text found l f g d = absurd f
+differs-later (Some old) (Some m) None at n text found l f g d = absurd g
+differs-later (Some old) (Some m) (Some rest) at n text found l f g d =
+    let k = d.0 in
+    let size = length-take-le at text l in
+    let within = ap length (slice-at at n text) in
+    let bound = length-take n (drop at text) in
+    let left = length-drop at text in
+    let whole : old ≡ take at text ++ (found ++ rest) = f ∙ ap (λ t. take at text ++ t) g in
+    let long = ap length whole ∙ length-append (take at text) (found ++ rest) in
+    let long2 = length-append found rest in
+    let here : get_or old (at + k) 0 ≡ get_or found k 0 =
+    ap (λ t. get_or t (at + k) 0) whole
+    ∙ ap (λ n. get_or (take at text ++ (found ++ rest)) (n + k) 0) (sym size)
+    ∙ get_or-append-add (take at text) (found ++ rest) k 0
+    ∙ get_or_append_left found rest 0 k d.2 in
+    let there : get_or text (at + k) 0 ≡ get_or (take (at + n - at) (drop at text)) k 0 =
+    sym (get_or-drop at text k 0)
+    ∙ sym (get_or-take n (drop at text) k 0 (omega (arith, d.1, within, bound)))
+    ∙ ap (λ t. get_or t k 0) (sym (slice-at at n text)) in
+    (at + k, omega (arith, d.1, within, bound, left), omega (arith, d.2, long, long2, size), λ e. d.3 (sym here ∙ e ∙ there))
+
+pub consumes-front : (o mid new : Option (List ℕ)) (at n : ℕ) (text found : List ℕ) → Consumes o mid (take at text)
+    → Consumes mid new found → found ≡ take (at + n - at) (drop at text) → Consumes o new (take (at + n) text)
+consumes-front o mid new at n text found f g e =
+    subst (Consumes o new) (ap (λ t. take at text ++ t) (e ∙ slice-at at n text ∙ ap (take n) (sym (take_rest text at))) ∙ take-more at n text)
+    (consumes-more o mid new (take at text) found f g)
+
+pub if-differs : (e : KeepFault) (P : Type 0) → P → IfDiffers e P
+if-differs (fault.ReadKept r) P p = tt
+if-differs (fault.ReadOut r) P p = tt
+if-differs (fault.ReadInput r) P p = tt
+if-differs (fault.WriteKept r) P p = tt
+if-differs (fault.WriteOut r) P p = tt
+if-differs (fault.Edited n) P p = tt
+if-differs (fault.Differs d) P p = p
+if-differs fault.Memory P p = tt
+if-differs fault.TooLong P p = tt

@@ -1,0 +1,14 @@
+pub mod LineFacts
+pub mod FileFacts
+pub mod RecordFacts
+pub mod WholeFacts
+pub mod PutFacts
+pub mod RestFacts
+pub mod EachFacts
+pub mod StandFacts
+pub mod SoundFacts
+pub mod LifeFacts
+pub mod CrashFacts
+pub mod CountFacts
+pub mod TellingFacts
+pub mod ShopFacts

@@ -1,0 +1,354 @@
+-- A run that goes on where an earlier one was cut off.
+use Rattle.std.proofs.Common.{◌≡◌, ◌∙◌, ◌+◌, ◌⊎◌, inl, inr, ◌++◌, ◌∷◌, [], ℕ, List, Option, Some, None, IfSome, false, length, take, refl, sym, ap, subst, arith, append_assoc}
+use Rattle.std.proofs.lemmas.List.{append-nil}
+use Rattle.std.proofs.Math.Seq.{take-append_seam}
+use Rattle.csv.specs.Machine.{next_record}
+use Rattle.csv.specs.Reading.{records_from, strip_bom}
+use Rattle.std.specs.Io.KnownBytes.{Appends, Consumes, IsAtEnd, Keeps}
+use Rattle.csv.proofs.WriteFacts.{appends-none}
+use Rattle.rubis_engine.specs.Accounts.{Account}
+use Rattle.rubis_engine.specs.Accounts.Ending.{AtEnd, Cut}
+use Rattle.rubis_engine.specs.Text.{input_records}
+use Rattle.rubis_keep.specs.Kept.{Begins, CutsTo, Ended, Fails, HasAnswered, IsFrontOf, Lived, Opens, OutEnds, Replayed, Rests, Stands, Wrote}
+use Rattle.rubis_keep.specs.Lines.{AreSound, begun_after, is_marked, kept_after, kept_of, whole_after, whole_lines}
+use Rattle.rubis_keep.specs.Places.{begun_bytes}
+use Rattle.rubis_keep.specs.Whole.{IsWhole}
+use Rattle.rubis_keep.proofs.FileFacts.{consumes-none}
+use Rattle.rubis_keep.proofs.LineFacts.{begun-append, kept-append}
+use Rattle.rubis_keep.proofs.RecordFacts.{records-append, none-whole}
+use Rattle.rubis_keep.proofs.RestFacts.{keeps-same, rests-ends}
+use Rattle.rubis_keep.proofs.StandFacts.{HaveFailed, HaveGone, each-stops, gone-failed}
+use Rattle.rubis_keep.proofs.SoundFacts.{kept-ends, kept-goes-on, kept-sound, sound-append, sound-back, sound-front, sound-kept, whole-append-after, whole-ends, whole-rest, whole-sound, whole-whole}
+use Rattle.rubis_keep.proofs.WholeFacts.{kept-whole, whole-append}
+
+-- a run over an input begins
+pub stands-start : (all more : Account) (told old base : List ℕ) (input log out : Option (List ℕ)) (begun : List ℕ) (number len : ℕ)
+    → HasAnswered all more told number base → begun ≡ [] → Stands all more told old base [] input input log log (Some old) out out begun number len len
+stands-start all more told old base input log out begun number len h e = record {
+  bytes = [];
+  taken = consumes-none input;
+  logged = appends-none log;
+  begins = e;
+  counted = omega arith;
+  rests = record {
+    since = [];
+    answered = subst (λ k. HasAnswered all more (told ++ []) number k) (sym (append-nil base)) (subst (λ t. HasAnswered all more t number base) (sym (append-nil told)) h);
+    wrote = record { added = []; left = old; unread = refl; appended = appends-none out; same = append-nil old; one = inl refl };
+  };
+}
+
+none-read : input_records [] ≡ []
+unfolding input_records records_from strip_bom next_record
+none-read = refl
+
+-- nothing is answered yet
+pub answered-none : (all : Account) → all.text Cut [] ≡ [] → HasAnswered all all [] 1 []
+answered-none all none = record {
+  count = ap (λ t. length t + 1) none-read;
+  text = λ e m. ap (λ t. all.text e (t ++ m)) none-read;
+  counted = λ m. ap (λ t. all.read (t ++ m)) none-read ∙ zero-more (all.read m) ∙ ap (λ t. length t + all.read m) (sym none-read);
+  none = none;
+  whole = none-whole;
+}
+  where
+    zero-more : (n : ℕ) → n ≡ 0 + n
+    zero-more n = omega arith
+
+at-end : (input : List ℕ) (later : Option (List ℕ)) (bytes : List ℕ) → Consumes (Some input) later bytes → IsAtEnd later → bytes ≡ input
+at-end input None bytes c e = absurd c
+at-end input (Some rest) bytes c e = sym (c ∙ ap (λ t. bytes ++ t) e ∙ append-nil bytes)
+
+known : (xs : List ℕ) (out : Option (List ℕ)) (added : List ℕ) → Appends (Some xs) out added → out ≡ Some (xs ++ added)
+known xs None added a = absurd a
+known xs (Some ys) added a = ap (λ t. Some t) a
+
+-- what was kept is answered, and all answers of before were found
+pub replayed : (all more : Account) (kept old : List ℕ) (later before out log : Option (List ℕ)) (begun : List ℕ) (number len : ℕ) → AreSound [] kept
+    → Stands all more [] old [] [] (Some kept) later log log before (Some old) out begun number 0 len → IsAtEnd later → (ended : Option (List ℕ)) → IsAtEnd ended → Keeps before ended
+    → Replayed all more kept old ended out number len
+replayed all more kept old later before out log begun number len sound s e ended at same =
+    let r = s.rests in
+    let w = r.wrote in
+    let whole : kept_after [] s.bytes ≡ whole_lines kept = ap (kept_after []) (at-end kept later s.bytes s.taken e) ∙ sound-kept [] kept sound in
+    let ends : ended ≡ Some w.left = still w.left ended (rw w.unread at same) in
+    let none : w.left ≡ [] = rw ends at at in
+    let all_found : old ++ w.added ≡ r.since = w.same ∙ ap (λ t. r.since ++ t) none ∙ append-nil r.since in
+    let answered = subst (λ k. HasAnswered all more r.since number k) whole r.answered in
+    record {
+      found = (
+        w.added ++ more.text AtEnd [],
+        sym (append_assoc old w.added (more.text AtEnd [])) ∙ ap (λ t. t ++ more.text AtEnd []) all_found
+            ∙ sym (answered.text AtEnd []) ∙ ap (all.text AtEnd) (append-nil (input_records (whole_lines kept))),
+      );
+      told = r.since;
+      answered = subst (HasAnswered all more r.since number) whole r.answered;
+      before_is = ends ∙ ap (λ t. Some t) none;
+      out_is = known old out w.added w.appended ∙ ap (λ t. Some t) all_found;
+      length_is = s.counted ∙ plain (length (kept_after [] s.bytes)) ∙ ap length whole;
+    }
+  where
+    plain : (n : ℕ) → 0 + n ≡ n
+    plain n = omega arith
+
+    still : (left : List ℕ) (known : Option (List ℕ)) → Keeps (Some left) known → known ≡ Some left
+    still left None k = absurd k
+    still left (Some xs) k = ap (λ t. Some t) k
+
+-- the log is cut back to its whole lines
+pub cut-back : (kept : List ℕ) (log log2 : Option (List ℕ)) (len : ℕ) → log ≡ Some kept → len ≡ length (whole_lines kept) → CutsTo log log2 len → log2 ≡ Some (whole_lines kept)
+cut-back kept log log2 len e f c =
+    let cut : log2 ≡ Some (take len kept) = rw e at c in
+    cut ∙ ap (λ n. Some (take n kept)) f ∙ ap (λ t. Some (take (length (whole_lines kept)) t)) (sym (whole-rest [] kept)) ∙ ap (λ t. Some t) (take-append_seam (whole_lines kept) (begun_after [] kept))
+
+none-right : (xs ys : List ℕ) → xs ++ ys ≡ [] → ys ≡ []
+none-right [] ys h = h
+none-right (x ∷ xs) ys h = absurd (cc h)
+
+-- the input ends
+pub lived : (all more : Account) (kept old told : List ℕ) (input later log log2 before out : Option (List ℕ)) (begun : List ℕ) (number len0 len : ℕ)
+    → AreSound [] kept → log ≡ Some (whole_lines kept) → Stands all more told [] (whole_lines kept) [] input later log log2 before (Some told) out begun number len0 len
+    → IsAtEnd later → IsFrontOf old (all.text AtEnd (input_records (whole_lines kept))) → Lived all kept old input later log2 out
+lived all more kept old told input later log log2 before out begun number len0 len sound e s end found =
+    let r = s.rests in
+    let w = r.wrote in
+    let none : w.left ≡ [] = none-left w.added r.since w.left w.one w.same in
+    let answered = r.answered in
+    let text : all.text Cut (input_records (whole_lines kept ++ kept_of s.bytes)) ≡ told ++ r.since =
+    ap (all.text Cut) (sym (append-nil (input_records (whole_lines kept ++ kept_of s.bytes)))) ∙ answered.text Cut []
+    ∙ ap (λ t. (told ++ r.since) ++ t) answered.none ∙ append-nil (told ++ r.since) in
+    record {
+      sound = sound;
+      found = found;
+      bytes = s.bytes;
+      taken = s.taken;
+      end = end;
+      log_is = known (whole_lines kept) log2 (kept_of s.bytes) (subst (λ l. Appends l log2 (kept_of s.bytes)) e s.logged);
+      out_is = known told out w.added w.appended ∙ ap (λ t. Some (told ++ t)) (w.same ∙ ap (λ t. r.since ++ t) none ∙ append-nil r.since)
+          ∙ ap (λ t. Some t) (sym text);
+      begins = λ m. (more.text AtEnd m, ap (λ t. t ++ more.text AtEnd m) text ∙ sym (answered.text AtEnd m));
+    }
+  where
+    none-left : (added since left : List ℕ) → (added ≡ []) ⊎ (left ≡ []) → added ≡ since ++ left → left ≡ []
+    none-left added since left (inl e) same = none-right since left (sym same ∙ e)
+    none-left added since left (inr e) same = e
+
+-- ---- it ends with a fault
+
+abbrev Beginning : Account → List ℕ → List ℕ → Type 0
+Beginning all kept told = (more : List (List (List ℕ))) → IsFrontOf told (all.text AtEnd (input_records (whole_lines kept) ++ more))
+
+-- nothing was kept
+still : (all : Account) (kept old told : List ℕ) (input out : Option (List ℕ)) → out ≡ Some told
+    → ((kept ≡ kept) × (told ≡ old)) ⊎ (AreSound [] kept × IsFrontOf old (all.text AtEnd (input_records (whole_lines kept))) × Beginning all kept told)
+    → Ended all kept old input input (Some kept) out
+still all kept old told input out e answers =
+    record { kept = kept; told = told; bytes = []; log_is = refl; out_is = e; taken = consumes-none input; sound = λ s. s; grows = inl refl; answers = answers }
+
+-- what was kept is no text of lines that are kept as they are, or it couldn't be read through
+pub unread : (all : Account) (kept old : List ℕ) (input : Option (List ℕ)) → Ended all kept old input input (Some kept) (Some old)
+unread all kept old input = still all kept old old input (Some old) refl (inl (refl, refl))
+
+-- the text of what was replayed begins that of all that was kept
+pub replay-fails : (all : Account) (kept old : List ℕ) (input past log log2 out : Option (List ℕ)) → AreSound [] kept
+    → Fails all [] old [] [] (Some kept) past log log2 (Some old) out → Ended all kept old input input (Some kept) out
+replay-fails all kept old input past log log2 out sound f = go past f.taken f.out_ends
+  where
+    with_found : (added : List ℕ) → Beginning all kept (old ++ added) → AreSound [] kept × IsFrontOf old (all.text AtEnd (input_records (whole_lines kept))) × Beginning all kept (old ++ added)
+    with_found added h = (sound, (added ++ (h []).0, sym (append_assoc old added (h []).0) ∙ (h []).1 ∙ ap (all.text AtEnd) (append-nil (input_records (whole_lines kept)))), h)
+
+    go : (later : Option (List ℕ)) → Consumes (Some kept) later (f.bytes ++ f.next) → OutEnds all [] old (Some old) out (kept_after [] f.bytes) → Ended all kept old input input (Some kept) out
+    go None c o = absurd c
+    go (Some rest) c (added, a, inl unread) = still all kept old (old ++ added) input out (known old out added a) (inl (refl, ap (λ t. old ++ t) unread.0 ∙ append-nil old))
+    go (Some rest) c (added, a, inr begins) = still all kept old (old ++ added) input out (known old out added a) (inr (with_found added (λ more.
+        let left = f.next ++ rest in
+        let lines : whole_lines kept ≡ kept_after [] f.bytes ++ kept_after (begun_after [] f.bytes) left =
+        sym (sound-kept [] kept sound) ∙ ap kept_of (c ∙ append_assoc f.bytes f.next rest) ∙ kept-append [] f.bytes left in
+        let later_lines = kept_after (begun_after [] f.bytes) left in
+        let records = ap input_records lines ∙ records-append (kept_after [] f.bytes) later_lines (kept-whole [] f.bytes) (kept-whole (begun_after [] f.bytes) left).unmarked in
+        let b = begins (input_records later_lines ++ more) in
+        (b.0, b.1 ∙ ap (all.text AtEnd) (sym (append_assoc (input_records (kept_after [] f.bytes)) (input_records later_lines) more) ∙ ap (λ t. t ++ more) (sym records))))))
+
+-- the log could not be cut back
+pub uncut : (all more : Account) (kept old : List ℕ) (input before out : Option (List ℕ)) (number len : ℕ) → AreSound [] kept → Replayed all more kept old before out number len
+    → Ended all kept old input input (Some kept) out
+uncut all more kept old input before out number len sound r =
+    still all kept old r.told input out r.out_is (inr (sound, r.found, λ m. (more.text AtEnd m, sym (r.answered.text AtEnd m))))
+
+-- a line could not be kept or answered
+pub live-fails : (all : Account) (kept old told : List ℕ) (input later log log2 out : Option (List ℕ)) → AreSound [] kept → log ≡ Some (whole_lines kept)
+    → Fails all told [] (whole_lines kept) [] input later log log2 (Some told) out → IsFrontOf old (all.text AtEnd (input_records (whole_lines kept)))
+    → Ended all kept old input later log2 out
+live-fails all kept old told input later log log2 out sound e f found = go f.out_ends
+  where
+    log_is : log2 ≡ Some (whole_lines kept ++ (kept_of f.bytes ++ f.torn))
+    log_is = known (whole_lines kept) log2 (kept_of f.bytes ++ f.torn) (subst (λ l. Appends l log2 (kept_of f.bytes ++ f.torn)) e f.logged)
+
+    whole_text : kept_of (f.bytes ++ f.next) ≡ (kept_of f.bytes ++ f.torn) ++ f.lost
+    whole_text = kept-append [] f.bytes f.next ∙ ap (λ t. kept_of f.bytes ++ t) f.parts ∙ sym (append_assoc (kept_of f.bytes) f.torn f.lost)
+
+    tail_sound : AreSound [] (kept_of f.bytes ++ f.torn)
+    tail_sound = sound-front [] (kept_of f.bytes ++ f.torn) f.lost (subst (AreSound []) whole_text (kept-sound (f.bytes ++ f.next)))
+
+    torn_sound : AreSound [] f.torn
+    torn_sound = subst (λ l. AreSound l f.torn) (kept-ends f.bytes) (sound-back [] (kept_of f.bytes) f.torn tail_sound)
+
+    sound_now : AreSound [] (whole_lines kept ++ (kept_of f.bytes ++ f.torn))
+    sound_now = sound-append [] (whole_lines kept) (kept_of f.bytes ++ f.torn) (whole-sound kept sound)
+        (subst (λ l. AreSound l (kept_of f.bytes ++ f.torn)) (sym (whole-ends kept sound)) tail_sound)
+
+    front_whole : IsWhole (whole_lines kept ++ kept_of f.bytes)
+    front_whole = whole-append (whole_lines kept) (kept_of f.bytes) (subst IsWhole (sound-kept [] kept sound) (kept-whole [] kept)) (kept-whole [] f.bytes)
+
+    front_ends : begun_after [] (whole_lines kept ++ kept_of f.bytes) ≡ []
+    front_ends = begun-append [] (whole_lines kept) (kept_of f.bytes) ∙ ap (λ s. begun_after s (kept_of f.bytes)) (whole-ends kept sound) ∙ kept-ends f.bytes
+
+    front_lines : whole_lines (whole_lines kept ++ kept_of f.bytes) ≡ whole_lines kept ++ kept_of f.bytes
+    front_lines = sym (append-nil (whole_lines (whole_lines kept ++ kept_of f.bytes))) ∙ ap (λ t. whole_lines (whole_lines kept ++ kept_of f.bytes) ++ t) (sym front_ends)
+        ∙ whole-rest [] (whole_lines kept ++ kept_of f.bytes)
+
+    lines : whole_lines (whole_lines kept ++ (kept_of f.bytes ++ f.torn)) ≡ (whole_lines kept ++ kept_of f.bytes) ++ whole_lines f.torn
+    lines = ap whole_lines (sym (append_assoc (whole_lines kept) (kept_of f.bytes) f.torn))
+        ∙ whole-append-after [] (whole_lines kept ++ kept_of f.bytes) f.torn
+        ∙ ap (λ t. t ++ whole_after (begun_after [] (whole_lines kept ++ kept_of f.bytes)) f.torn) front_lines
+        ∙ ap (λ s. (whole_lines kept ++ kept_of f.bytes) ++ whole_after s f.torn) front_ends
+
+    torn_unmarked : is_marked (whole_lines f.torn) ≡ false
+    torn_unmarked = subst (λ t. is_marked t ≡ false) (sound-kept [] f.torn torn_sound) (kept-whole [] f.torn).unmarked
+
+    records : input_records (whole_lines (whole_lines kept ++ (kept_of f.bytes ++ f.torn))) ≡ input_records (whole_lines kept ++ kept_of f.bytes) ++ input_records (whole_lines f.torn)
+    records = ap input_records lines ∙ records-append (whole_lines kept ++ kept_of f.bytes) (whole_lines f.torn) front_whole torn_unmarked
+
+    go : OutEnds all told [] (Some told) out (whole_lines kept ++ kept_of f.bytes) → Ended all kept old input later log2 out
+    go (added, a, inl unread) = absurd (unread.4 (none-right unread.1 unread.2 (sym unread.3)))
+    go (added, a, inr begins) = record {
+      kept = whole_lines kept ++ (kept_of f.bytes ++ f.torn);
+      told = told ++ added;
+      bytes = f.bytes ++ f.next;
+      log_is = log_is;
+      out_is = known told out added a;
+      taken = f.taken;
+      sound = λ s. sound_now;
+      grows = inr (
+        (kept_of f.bytes ++ f.torn, refl),
+        (f.lost, append_assoc (whole_lines kept) (kept_of f.bytes ++ f.torn) f.lost ∙ ap (λ t. whole_lines kept ++ t) (sym whole_text)),
+      );
+      answers = inr (
+        sound,
+        found,
+        λ more.
+            let b = begins (input_records (whole_lines f.torn) ++ more) in
+            (b.0, b.1 ∙ ap (all.text AtEnd) (sym (append_assoc (input_records (whole_lines kept ++ kept_of f.bytes)) (input_records (whole_lines f.torn)) more) ∙ ap (λ t. t ++ more) (sym records))),
+      );
+    }
+
+-- ---- the same of a run as the code has it
+
+pub replay-starts : (account : ℕ → Account) (kept old : List ℕ) (past before out log : Option (List ℕ)) (begun : List ℕ) (answered len : ℕ)
+    → (account 1).text Cut [] ≡ [] → begun ≡ [] → answered ≡ 0 → len ≡ 0 → Begins kept old past (Some kept) before out
+    → Stands (account 1) (account (answered + 1)) [] old [] [] (Some kept) past log log before (Some old) out begun (answered + 1) 0 len
+replay-starts account kept old past before out log begun answered len none e f k b =
+    rw (f, k, b.past_is, b.before_is, b.out_is) (stands-start (account 1) (account 1) [] old [] (Some kept) log (Some old) begun 1 0 (answered-none (account 1) none) e)
+
+pub replay-err : (account : ℕ → Account) (past past2 log log2 before out out2 : Option (List ℕ)) (begun : List ℕ) (answered len : ℕ)
+    → (account 1).text Cut [] ≡ [] → begun ≡ [] → answered ≡ 0 → len ≡ 0
+    → HaveFailed (account (answered + 1)) past log before out begun (answered + 1) len past2 log2 out2
+    → (kept old : List ℕ) (input : Option (List ℕ)) → Begins kept old past (Some kept) before out → Ended (account 1) kept old input input (Some kept) out2
+replay-err account past past2 log log2 before out out2 begun answered len none e f k h kept old input b =
+    replay-fails (account 1) kept old input past2 log log2 out2 b.sound
+    (h (account 1) [] old [] [] (Some kept) log (Some old) 0 (replay-starts account kept old past before out log begun answered len none e f k b))
+
+pub replay-ok : (account account2 : ℕ → Account) (past past2 before before2 ended out out2 : Option (List ℕ)) (begun begun2 : List ℕ) (answered answered2 len len2 : ℕ)
+    → (account 1).text Cut [] ≡ [] → begun ≡ [] → answered ≡ 0 → len ≡ 0
+    → HaveGone (account (answered + 1)) past None before out begun (answered + 1) len (account2 (answered2 + 1)) past2 None before2 out2 begun2 (answered2 + 1) len2
+    → IsAtEnd past2 → IsAtEnd ended → Keeps before2 ended
+    → (kept old : List ℕ) → Begins kept old past (Some kept) before out → Replayed (account 1) (account2 (answered2 + 1)) kept old ended out2 (answered2 + 1) len2
+replay-ok account account2 past past2 before before2 ended out out2 begun begun2 answered answered2 len len2 none e f k h end at same kept old b =
+    replayed (account 1) (account2 (answered2 + 1)) kept old past2 before2 out2 None begun2 (answered2 + 1) len2 b.sound
+    (h (account 1) [] old [] [] (Some kept) None (Some old) 0 (replay-starts account kept old past before out None begun answered len none e f k b)) end ended at same
+
+-- some answer of before was not found
+pub replay-unfound : (account account2 : ℕ → Account) (past past2 before before2 out out2 out3 : Option (List ℕ)) (begun begun2 : List ℕ) (answered answered2 len len2 : ℕ)
+    → (account 1).text Cut [] ≡ [] → begun ≡ [] → answered ≡ 0 → len ≡ 0 → out3 ≡ out2
+    → HaveGone (account (answered + 1)) past None before out begun (answered + 1) len (account2 (answered2 + 1)) past2 None before2 out2 begun2 (answered2 + 1) len2
+    → (kept old : List ℕ) (input : Option (List ℕ)) → Begins kept old past (Some kept) before out → Ended (account 1) kept old input input (Some kept) out3
+replay-unfound account account2 past past2 before before2 out out2 out3 begun begun2 answered answered2 len len2 none e f k same h kept old input b =
+    subst (Ended (account 1) kept old input input (Some kept)) (sym same)
+    (replay-err account past past2 None None before out out2 begun answered len none e f k
+    (gone-failed (account (answered + 1)) (account2 (answered2 + 1)) past past2 past2 None None None before before2 out out2 out2 begun begun2 (answered + 1) (answered2 + 1) len len2 h
+    (each-stops (account2 (answered2 + 1)) past2 None before2 out2 begun2 (answered2 + 1) len2)) kept old input b)
+
+-- ---- a whole run
+
+-- the log that was read through is one of lines that are kept as they are
+begins : (kept old : List ℕ) (first past log before out : Option (List ℕ)) → Opens kept old first past log before out → IfSome first (λ text. AreSound [] text) → Begins kept old past (Some kept) before out
+begins kept old first past log before out o sound =
+    record { past_is = o.past_is; log_is = refl; before_is = o.before_is; out_is = o.out_is; sound = rw o.first_is at sound }
+
+-- it ended before anything was answered
+pub run-unread : (all : Account) (first past log before input out : Option (List ℕ)) (kept old : List ℕ) → Opens kept old first past log before out → Ended all kept old input input log out
+run-unread all first past log before input out kept old o = rw (o.log_is, o.out_is) (unread all kept old input)
+
+pub run-unreplayed : (all : Account) (first past log before input out out2 : Option (List ℕ)) → IfSome first (λ text. AreSound [] text)
+    → ((kept old : List ℕ) (input : Option (List ℕ)) → Begins kept old past (Some kept) before out → Ended all kept old input input (Some kept) out2)
+    → (kept old : List ℕ) → Opens kept old first past log before out → Ended all kept old input input log out2
+run-unreplayed all first past log before input out out2 sound h kept old o = rw o.log_is (h kept old input (begins kept old first past log before out o sound))
+
+pub run-lived : (all more : Account) (first past log log2 before before2 input input2 out out2 out3 : Option (List ℕ)) (number len : ℕ) → IfSome first (λ text. AreSound [] text)
+    → ((kept old : List ℕ) → Begins kept old past (Some kept) before out → Replayed all more kept old before2 out2 number len)
+    → ((all : Account) (kept old : List ℕ) → AreSound [] kept → log ≡ Some kept → Replayed all more kept old before2 out2 number len → Lived all kept old input input2 log2 out3)
+    → (kept old : List ℕ) → Opens kept old first past log before out → Lived all kept old input input2 log2 out3
+run-lived all more first past log log2 before before2 input input2 out out2 out3 number len sound r h kept old o =
+    let b = begins kept old first past log before out o sound in
+    h all kept old b.sound o.log_is (r kept old b)
+
+pub run-ended : (all more : Account) (first past log log2 before before2 input input2 out out2 out3 : Option (List ℕ)) (number len : ℕ) → IfSome first (λ text. AreSound [] text)
+    → ((kept old : List ℕ) → Begins kept old past (Some kept) before out → Replayed all more kept old before2 out2 number len)
+    → ((all : Account) (kept old : List ℕ) → AreSound [] kept → log ≡ Some kept → Replayed all more kept old before2 out2 number len → Ended all kept old input input2 log2 out3)
+    → (kept old : List ℕ) → Opens kept old first past log before out → Ended all kept old input input2 log2 out3
+run-ended all more first past log log2 before before2 input input2 out out2 out3 number len sound r h kept old o =
+    let b = begins kept old first past log before out o sound in
+    h all kept old b.sound o.log_is (r kept old b)
+
+-- ---- after the replay
+
+kept-known : (kept : List ℕ) (log log2 : Option (List ℕ)) → log ≡ Some kept → Keeps log log2 → log2 ≡ Some kept
+kept-known kept None log2 e k = absurd (cc e)
+kept-known kept (Some xs) None e k = absurd k
+kept-known kept (Some xs) (Some ys) e k = ap (λ t. Some t) k ∙ e
+
+pub go-uncut : (more : Account) (input log log2 before out : Option (List ℕ)) (number len : ℕ) → Keeps log log2
+    → (all : Account) (kept old : List ℕ) → AreSound [] kept → log ≡ Some kept → Replayed all more kept old before out number len → Ended all kept old input input log2 out
+go-uncut more input log log2 before out number len keeps all kept old sound e r = rw (kept-known kept log log2 e keeps) (uncut all more kept old input before out number len sound r)
+
+live-starts : (all more : Account) (kept old : List ℕ) (input log before out : Option (List ℕ)) (begun : List ℕ) (number len : ℕ) → (r : Replayed all more kept old before out number len) → begun ≡ []
+    → Stands all more r.told [] (whole_lines kept) [] input input log log before (Some r.told) out begun number len len
+live-starts all more kept old input log before out begun number len r e =
+    subst (λ b. Stands all more r.told [] (whole_lines kept) [] input input log log b (Some r.told) out begun number len len) (sym r.before_is)
+    (subst (λ o. Stands all more r.told [] (whole_lines kept) [] input input log log (Some []) (Some r.told) o begun number len len) (sym r.out_is)
+    (stands-start all more r.told [] (whole_lines kept) input log (Some r.told) begun number len r.answered e))
+
+-- the same where `out` was told of the replay meanwhile
+told-of : (all more : Account) (kept old : List ℕ) (before out out1 : Option (List ℕ)) (number len : ℕ) → out1 ≡ out → Replayed all more kept old before out number len → Replayed all more kept old before out1 number len
+told-of all more kept old before out out1 number len same r = subst (λ o. Replayed all more kept old before o number len) (sym same) r
+
+pub go-err : (more : Account) (input input2 log log2 log3 before out out1 out2 : Option (List ℕ)) (begun : List ℕ) (number len : ℕ) → CutsTo log log2 len → begun ≡ [] → out1 ≡ out
+    → HaveFailed more input log2 before out1 begun number len input2 log3 out2
+    → (all : Account) (kept old : List ℕ) → AreSound [] kept → log ≡ Some kept → Replayed all more kept old before out number len → Ended all kept old input input2 log3 out2
+go-err more input input2 log log2 log3 before out out1 out2 begun number len cuts e same f all kept old sound known replayed =
+    let r = told-of all more kept old before out out1 number len same replayed in
+    live-fails all kept old r.told input input2 log2 log3 out2 sound (cut-back kept log log2 len known r.length_is cuts)
+    (f all r.told [] (whole_lines kept) [] input log2 (Some r.told) len (live-starts all more kept old input log2 before out1 begun number len r e)) r.found
+
+-- it ended before the first new record
+pub go-untold : (more : Account) (input log log2 before out out1 : Option (List ℕ)) (number len : ℕ) → CutsTo log log2 len → out1 ≡ out
+    → (all : Account) (kept old : List ℕ) → AreSound [] kept → log ≡ Some kept → Replayed all more kept old before out number len → Ended all kept old input input log2 out1
+go-untold more input log log2 before out out1 number len cuts same =
+    go-err more input input log log2 log2 before out out1 out1 [] number len cuts refl same (each-stops more input log2 before out1 [] number len)
+
+pub go-ok : (more more2 : Account) (input input2 log log2 log3 before before2 out out1 out2 : Option (List ℕ)) (begun begun2 : List ℕ) (number number2 len len2 : ℕ) → CutsTo log log2 len → begun ≡ [] → out1 ≡ out
+    → HaveGone more input log2 before out1 begun number len more2 input2 log3 before2 out2 begun2 number2 len2 → IsAtEnd input2
+    → (all : Account) (kept old : List ℕ) → AreSound [] kept → log ≡ Some kept → Replayed all more kept old before out number len → Lived all kept old input input2 log3 out2
+go-ok more more2 input input2 log log2 log3 before before2 out out1 out2 begun begun2 number number2 len len2 cuts e same g end all kept old sound known replayed =
+    let r = told-of all more kept old before out out1 number len same replayed in
+    lived all more2 kept old r.told input input2 log2 log3 before2 out2 begun2 number2 len len2 sound (cut-back kept log log2 len known r.length_is cuts)
+    (g all r.told [] (whole_lines kept) [] input log2 (Some r.told) len (live-starts all more kept old input log2 before out1 begun number len r e)) end r.found

@@ -1,0 +1,100 @@
+-- How the lines of an input go on.
+use Rattle.std.proofs.Common.{◌&&◌, ◌≡◌, ◌∙◌, ◌++◌, ◌∷◌, ◌+◌, ◌≤◌, ◌<◌, [], ℕ, List, Bool, true, false, cond, eqb, leb, get_or, length, take, refl, ap, sym, subst, arith, append_assoc, length-append}
+use Rattle.std.proofs.lemmas.Bool.{leb-true, leb-false, lt-leb}
+use Rattle.std.proofs.lemmas.List.{length-take, length-take-le, take_all, take_more, take-append-le}
+use Rattle.rubis_keep.specs.Places.{begun_bytes}
+use Rattle.rubis_keep.specs.Lines.{begun_after, is_sound, kept_after, kept_line, state_after}
+use Rattle.csv.specs.Machine.{step}
+use Rattle.csv.specs.Reading.{default_config}
+use Rattle.csv.specs.declared.parser.State.{State}
+
+pub kept-append : (line xs ys : List ℕ) → kept_after line (xs ++ ys) ≡ kept_after line xs ++ kept_after (begun_after line xs) ys
+kept-append line [] ys = refl
+kept-append line (b ∷ xs) ys =
+    elim (eqb b 10) as (λ t. cond t (kept_line line ++ kept_after [] (xs ++ ys)) (kept_after (line ++ b ∷ []) (xs ++ ys))
+    ≡ cond t (kept_line line ++ kept_after [] xs) (kept_after (line ++ b ∷ []) xs) ++ kept_after (cond t (begun_after [] xs) (begun_after (line ++ b ∷ []) xs)) ys) [
+      | true ↦ ap (λ r. kept_line line ++ r) (kept-append [] xs ys) ∙ sym (append_assoc (kept_line line) (kept_after [] xs) (kept_after (begun_after [] xs) ys))
+      | false ↦ kept-append (line ++ b ∷ []) xs ys
+    ]
+
+pub begun-append : (line xs ys : List ℕ) → begun_after line (xs ++ ys) ≡ begun_after (begun_after line xs) ys
+begun-append line [] ys = refl
+begun-append line (b ∷ xs) ys =
+    elim (eqb b 10) as (λ t. cond t (begun_after [] (xs ++ ys)) (begun_after (line ++ b ∷ []) (xs ++ ys))
+    ≡ begun_after (cond t (begun_after [] xs) (begun_after (line ++ b ∷ []) xs)) ys) [
+      | true ↦ begun-append [] xs ys
+      | false ↦ begun-append (line ++ b ∷ []) xs ys
+    ]
+
+pub state-append : (s : State) (xs ys : List ℕ) → state_after s (xs ++ ys) ≡ state_after (state_after s xs) ys
+state-append s [] ys = refl
+state-append s (c ∷ xs) ys = state-append (step default_config s c).0 xs ys
+
+-- ---- one byte more of a list that is read from its start
+
+pub state_take_more : (s : State) (xs : List ℕ) (i : ℕ) → i < length xs
+    → state_after s (take (i + 1) xs) ≡ (step default_config (state_after s (take i xs)) (get_or xs i 0)).0
+state_take_more s xs i h = ap (state_after s) (take_more xs i 0 h) ∙ state-append s (take i xs) (get_or xs i 0 ∷ [])
+
+pub begun_take_more : (line xs : List ℕ) (i : ℕ) → i < length xs
+    → begun_after line (take (i + 1) xs) ≡ begun_after (begun_after line (take i xs)) (get_or xs i 0 ∷ [])
+begun_take_more line xs i h = ap (begun_after line) (take_more xs i 0 h) ∙ begun-append line (take i xs) (get_or xs i 0 ∷ [])
+
+pub kept_take_more : (line xs : List ℕ) (i : ℕ) → i < length xs
+    → kept_after line (take (i + 1) xs) ≡ kept_after line (take i xs) ++ kept_after (begun_after line (take i xs)) (get_or xs i 0 ∷ [])
+kept_take_more line xs i h = ap (kept_after line) (take_more xs i 0 h) ∙ kept-append line (take i xs) (get_or xs i 0 ∷ [])
+
+-- ---- the first bytes of a line say what is kept of it
+
+begun-short : (line : List ℕ) → length line ≤ 4096 → begun_bytes line ≡ line
+begun-short line h = take_all 4097 line (omega arith)
+
+not-sound : (line : List ℕ) → 4096 < length line → is_sound line ≡ false
+not-sound line h = rw (lt-leb (length line) 4096 h) refl
+
+begun-length : (line : List ℕ) → 4096 < length line → length (begun_bytes line) ≡ 4097
+begun-length line h = length-take-le 4097 line (omega arith)
+
+pub kept_begun : (line : List ℕ) → kept_line (begun_bytes line) ≡ kept_line line
+kept_begun line =
+    elim (leb (length line) 4096) as (λ t. leb (length line) 4096 ≡ t → kept_line (begun_bytes line) ≡ kept_line line) [
+      | true ↦ λ e. ap kept_line (begun-short line (leb-true (length line) 4096 e))
+      | false ↦ λ e.
+          let long = leb-false (length line) 4096 e in
+          let size = begun-length line long in
+          rw (not-sound (begun_bytes line) (omega (arith, size)), not-sound line long) refl
+    ] refl
+
+pub sound_begun : (line : List ℕ) → is_sound (begun_bytes line) ≡ is_sound line
+sound_begun line =
+    elim (leb (length line) 4096) as (λ t. leb (length line) 4096 ≡ t → is_sound (begun_bytes line) ≡ is_sound line) [
+      | true ↦ λ e. ap is_sound (begun-short line (leb-true (length line) 4096 e))
+      | false ↦ λ e.
+          let long = leb-false (length line) 4096 e in
+          let size = begun-length line long in
+          rw (not-sound (begun_bytes line) (omega (arith, size)), not-sound line long) refl
+    ] refl
+
+pub begun_more : (line : List ℕ) (b : ℕ) → length (begun_bytes line) ≤ 4096 → begun_bytes (line ++ b ∷ []) ≡ begun_bytes line ++ b ∷ []
+begun_more line b h =
+    let size = length-take 4097 line in
+    let short : length line ≤ 4096 = omega (arith, size, h) in
+    take_all 4097 (line ++ b ∷ []) (omega (arith, length-append line (b ∷ []), short)) ∙ ap (λ l. l ++ b ∷ []) (sym (begun-short line short))
+
+pub begun_full : (line : List ℕ) (b : ℕ) → 4096 < length (begun_bytes line) → begun_bytes (line ++ b ∷ []) ≡ begun_bytes line
+begun_full line b h =
+    let size = length-take 4097 line in
+    take-append-le 4097 line (b ∷ []) (omega (arith, size, h))
+
+pub begun-pushed : (line begun new : List ℕ) (b : ℕ) → begun ≡ begun_bytes line → length begun ≤ 4096 → new ≡ begun ++ b ∷ [] → new ≡ begun_bytes (line ++ b ∷ [])
+begun-pushed line begun new b h l e = e ∙ ap (λ t. t ++ b ∷ []) h ∙ sym (begun_more line b (rw h at l))
+
+pub begun-stays : (line begun : List ℕ) (b : ℕ) → begun ≡ begun_bytes line → 4096 < length begun → begun ≡ begun_bytes (line ++ b ∷ [])
+begun-stays line begun b h l = h ∙ sym (begun_full line b (rw h at l))
+
+and_true : (b : Bool) → (b && true) ≡ b
+and_true true = refl
+and_true false = refl
+
+pub sound-ended : (line begun : List ℕ) → begun ≡ begun_bytes line → is_sound begun ≡ (is_sound line && true)
+sound-ended line begun h = ap is_sound h ∙ sound_begun line ∙ sym (and_true (is_sound line))

@@ -1,0 +1,8 @@
+use Rattle.std.proofs.Common.{◌≡◌, ℕ, List, take, true}
+use Rattle.rubis_keep.specs.Lines.{are_sound, begun_after}
+use Rattle.rubis_keep.specs.Places.{begun_bytes}
+use Rattle.rubis_keep.proofs.checking.check_bytes.Given as goal
+
+abbrev pub invariant-loop-byte : goal.invariant-loop-byte
+invariant-loop-byte l = (line : List ℕ) → l.fn.begun.items ≡ begun_bytes line
+    → (are_sound line (take l.byte-index l.piece) ≡ true) × (l.begun.items ≡ begun_bytes (begun_after line (take l.byte-index l.piece)))

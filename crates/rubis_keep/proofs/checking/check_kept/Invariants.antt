@@ -1,0 +1,9 @@
+use Rattle.std.proofs.Common.{◌≡◌, [], ℕ, List, true}
+use Rattle.std.specs.Io.KnownBytes.{Consumes}
+use Rattle.rubis_keep.specs.Lines.{are_sound, begun_after}
+use Rattle.rubis_keep.specs.Places.{begun_bytes}
+use Rattle.rubis_keep.proofs.checking.check_kept.Given as goal
+
+abbrev pub invariant-loop-turn : goal.invariant-loop-turn
+invariant-loop-turn g l = (bytes : List ℕ) × Consumes (g.C.Read.remaining l.fn.kept) (g.C.Read.remaining l.kept) bytes × (are_sound [] bytes ≡ true)
+    × (l.begun.items ≡ begun_bytes (begun_after [] bytes))

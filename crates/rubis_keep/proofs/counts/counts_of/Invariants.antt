@@ -1,0 +1,7 @@
+use Rattle.std.proofs.Common.{◌≡◌, map}
+use Rattle.std.specs.List.{range_with_len}
+use Rattle.rubis_model.specs.Settle.{counted}
+use Rattle.rubis_keep.proofs.counts.counts_of.Given as goal
+
+abbrev pub invariant-loop-site : goal.invariant-loop-site
+invariant-loop-site l = l.counts.items ≡ map (λ i. counted i l.messages) (range_with_len 0 l.site)

@@ -1,0 +1,21 @@
+use Rattle.std.proofs.Common.{false, inl, inr, refl}
+use Rattle.rubis_engine.proofs.RunFacts.{takes-at}
+use Rattle.rubis_keep.proofs.PutFacts.{puts-all}
+use Rattle.rubis_keep.proofs.RestFacts.{keeps-same}
+use Rattle.rubis_keep.proofs.EachFacts.{on_err}
+use Rattle.rubis_keep.proofs.feeding.stop.Goals as goal
+
+pub returns-in_err-advance-clause-err : goal.returns-in_err-advance-clause-err
+returns-in_err-advance-clause-err g c = on_err _ (inl (keeps-same _))
+
+pub returns-in_err-finish-clause-err : goal.returns-in_err-finish-clause-err
+returns-in_err-finish-clause-err g c = on_err _ c.in_err-finish.ensures.err
+
+pub returns-then-branch-clause-err : goal.returns-then-branch-clause-err
+returns-then-branch-clause-err g c =
+    let f = c.in_ok-finish.ensures.ok in
+    inr (f.0, f.1, puts-all _ _ _ _ f.0 f.2)
+
+pub returns-clause-ok : goal.returns-clause-ok
+returns-clause-ok g c =
+    (takes-at _ c.args.records.now c.advance.new.self _ false c.if-branch.false c.in_ok-advance.ensures.takes, refl, refl)

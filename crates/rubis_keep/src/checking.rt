@@ -1,0 +1,73 @@
+// What was kept, read through before it is answered again.
+
+ghost use Rattle.std.specs.Prelude.{◌≡◌, ◌∷◌, ◌++◌, ◌<◌, [], ℕ, List, IfOk, IfSome, OnOk, true, vec_len};
+ghost use Rattle.std.specs.Io.KnownBytes.{Consumes, IsAtEnd};
+ghost use Rattle.rubis_keep.specs.Lines.{AreSound, are_sound, begun_after};
+ghost use Rattle.rubis_keep.specs.Places.{begun_bytes};
+
+use crate::fault::KeepFault;
+use crate::lines::{LINE_MAX, is_sound};
+use std::alloc::{AllocError, Global};
+use std::io::{ErrorKind, Read};
+
+// How many bytes are read at once.
+const PIECE: usize = 65_536;
+
+// Takes one byte more. Whether the line that may end with it is kept as it is.
+#[tactic(auto, using(crate::proofs::LineFacts::sound_begun, crate::proofs::LineFacts::begun_more, crate::proofs::LineFacts::begun_full))]
+fn check_byte(begun: &mut Vec<u8>, byte: u8) -> Result<bool, AllocError>
+    ensures sound { IfOk result (λ sound. (line : List ℕ) → begun.old.items ≡ begun_bytes line → sound ≡ are_sound line (byte ∷ [])) }
+    ensures begun { OnOk result ((line : List ℕ) → begun.old.items ≡ begun_bytes line → begun.new.items ≡ begun_bytes (begun_after line (byte ∷ []))) }
+{
+    if byte == b'\n' {
+        let sound = is_sound(begun);
+        begun.clear();
+        return Ok(sound);
+    }
+    if begun.len() <= LINE_MAX {
+        begun.push(byte)?;
+    }
+    Ok(true)
+}
+
+// Takes the bytes of a piece, up to the first line that isn't kept as it is. Whether there is none. Counts the lines.
+#[tactic(auto, using(crate::proofs::LineFacts::begun_take_more, crate::proofs::SoundFacts::sound_take_more))]
+fn check_bytes(begun: &mut Vec<u8>, piece: &[u8], lines: &mut u64) -> Result<bool, AllocError>
+    ensures sound { IfOk result (λ sound. (line : List ℕ) → begun.old.items ≡ begun_bytes line → sound ≡ are_sound line piece.now) }
+    ensures begun { IfOk result (λ sound. sound ≡ true → (line : List ℕ) → begun.old.items ≡ begun_bytes line → begun.new.items ≡ begun_bytes (begun_after line piece.now)) }
+{
+    for byte in piece {
+        if !check_byte(begun, *byte)? {
+            return Ok(false);
+        }
+        if *byte == b'\n' {
+            *lines = lines.saturating_add(1);
+        }
+    }
+    Ok(true)
+}
+
+/// Reads what was kept, and refuses it if it has a line that isn't kept as it is.
+pub(crate) fn check_kept<C: Read>(alloc: Global, kept: &mut C) -> Result<(), KeepFault>
+    ensures { OnOk result (IfSome (C.remaining kept.old) (λ text. AreSound [] text)) }
+{
+    let mut piece = [0; PIECE];
+    let mut begun = Vec::new(alloc);
+    let mut lines = 0;
+    for _turn in 0..u64::MAX {
+        match kept.read(&mut piece) {
+            Ok(0) => return Ok(()),
+            Ok(given) => {
+                if !check_bytes(&mut begun, &piece[..given], &mut lines)? {
+                    return Err(KeepFault::Edited(lines.saturating_add(1)));
+                }
+            }
+            Err(e) => {
+                if e.kind() != ErrorKind::Interrupted {
+                    return Err(KeepFault::ReadKept(e));
+                }
+            }
+        }
+    }
+    Err(KeepFault::TooLong)
+}

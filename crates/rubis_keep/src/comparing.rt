@@ -1,0 +1,148 @@
+// Answers that are compared with those that were given before, as far as these go.
+
+ghost use Rattle.std.specs.Prelude.{◌≡◌, ◌≤◌, ◌<◌, IfErr, IfOk, IfSome, false, get_or, length, true};
+ghost use Rattle.std.specs.Io.KnownBytes.{Keeps};
+ghost use Rattle.rubis_keep.specs.Files.{DiffersFrom, Found, IfDiffers};
+
+use crate::fault::{Difference, KeepFault};
+use std::alloc::{AllocError, Global};
+use std::io::{ErrorKind, Read};
+
+// How many bytes are read of what stands there before at once.
+const AT_ONCE: usize = 4096;
+
+// How many bytes of a line are shown, where it differs.
+const SHOWN: usize = 200;
+
+// Whether two texts of one length are the same.
+fn is_same(found: &[u8], text: &[u8]) -> bool
+    requires { length found.now ≡ length text.now }
+    ensures same { result ≡ true → found.now ≡ text.now }
+    ensures differ { result ≡ false → DiffersFrom found.now text.now }
+{
+    found == text
+}
+
+// How many lines end in a text.
+pub(crate) fn ends_in(text: &[u8]) -> u64 {
+    let mut lines: u64 = 0;
+    for byte in text {
+        if *byte == b'\n' {
+            lines = lines.saturating_add(1);
+        }
+    }
+    lines
+}
+
+// How long the beginning is that two texts have in common.
+fn common(found: &[u8], text: &[u8]) -> usize
+    ensures found { result ≤ length found.now }
+    ensures text { result ≤ length text.now }
+{
+    let most = found.len().min(text.len());
+    for at in 0..most {
+        if found[at] != text[at] {
+            return at;
+        }
+    }
+    most
+}
+
+// Where the line begins in which a text ends.
+fn line_start(text: &[u8]) -> usize
+    ensures { result ≤ length text.now }
+{
+    let mut start = 0;
+    for at in 0..text.len() {
+        if text[at] == b'\n' {
+            start = at + 1;
+        }
+    }
+    start
+}
+
+// The first line of a text, or its beginning.
+fn first_line(text: &[u8]) -> &[u8] {
+    let most = SHOWN.min(text.len());
+    for at in 0..most {
+        if text[at] == b'\n' {
+            return &text[..at];
+        }
+    }
+    &text[..most]
+}
+
+// The beginning of a line that begins with the one text and goes on with the other.
+fn shown(alloc: Global, begun: &[u8], more: &[u8]) -> Result<String, AllocError> {
+    let mut line = Vec::new(alloc);
+    line.extend_from_slice(begun)?;
+    line.extend_from_slice(first_line(more))?;
+    String::from_utf8_lossy(alloc, first_line(&line))
+}
+
+// What differs: the text begins after `lines` whole lines, and what was found from its byte `at` on isn't its.
+fn difference(
+    alloc: Global,
+    text: &[u8],
+    at: usize,
+    found: &[u8],
+    lines: u64,
+) -> Result<Difference, AllocError>
+    requires { at ≤ length text.now }
+{
+    let more = &text[at..];
+    let same = common(found, more);
+    let begun = &text[..at + same];
+    let line = &begun[line_start(begun)..];
+    Ok(Difference {
+        line: lines.saturating_add(ends_in(begun)).saturating_add(1),
+        found: shown(alloc, line, &found[same..])?,
+        answered: shown(alloc, line, &more[same..])?,
+    })
+}
+
+/// What differs, as a fault.
+pub(crate) fn differ(alloc: Global, text: &[u8], at: usize, found: &[u8], lines: u64) -> KeepFault
+    requires { at ≤ length text.now }
+{
+    match difference(alloc, text, at, found, lines) {
+        Ok(difference) => KeepFault::Differs(difference),
+        Err(_) => KeepFault::Memory,
+    }
+}
+
+/// Compares a text, which begins after `lines` whole lines, with the next bytes of a reader, as far as it has any. Returns how
+/// many bytes of the text were found there.
+pub(crate) fn compare<O: Read>(
+    alloc: Global,
+    before: &mut O,
+    text: &[u8],
+    lines: u64,
+) -> Result<usize, KeepFault>
+    ensures found { IfOk result (λ n. Found (O.remaining before.old) (O.remaining before.new) text.now n) }
+    ensures differs { IfErr result (λ e. IfDiffers e (IfSome (O.remaining before.old) (λ old. DiffersFrom old text.now))) }
+{
+    let mut buffer = [0; AT_ONCE];
+    let mut at = 0;
+    for _turn in 0..u64::MAX {
+        if at >= text.len() {
+            return Ok(at);
+        }
+        let most = AT_ONCE.min(text.len() - at);
+        match before.read(&mut buffer[..most]) {
+            Ok(0) => return Ok(at),
+            Ok(given) => {
+                if !is_same(&buffer[..given], &text[at..at + given]) {
+                    return Err(differ(alloc, text, at, &buffer[..given], lines));
+                }
+                at += given;
+            }
+            Err(e) => {
+                if e.kind() != ErrorKind::Interrupted {
+                    return Err(KeepFault::ReadOut(e));
+                }
+            }
+        }
+    }
+    Err(KeepFault::TooLong)
+}

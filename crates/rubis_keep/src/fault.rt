@@ -1,0 +1,82 @@
+// Why a run that keeps its records ends early.
+
+use rubis_engine::{OutOfMemory, RunFault};
+use std::alloc::AllocError;
+use std::io;
+use thiserror::Error;
+
+/// The first line in which the answers of before and those to what was kept differ.
+#[derive(Debug, Drop, Error)]
+#[error("out differs at line {line}: it has {found:?}, and the answer is {answered:?}")]
+pub struct Difference {
+    /// The number of the line, counted from 1.
+    pub line: u64,
+    /// The beginning of that line as `out` has it. Empty if `out` ends before it.
+    pub found: String,
+    /// The beginning of that line as it is answered now. Empty if there is none.
+    pub answered: String,
+}
+
+/// Why a run that keeps its records ended early. The fault of a reader or a writer has the reason that the system gave.
+#[derive(Debug, Drop, Error)]
+pub enum KeepFault {
+    /// What was kept could not be read.
+    #[error("read kept: {0}")]
+    ReadKept(io::Error),
+    /// The answers so far could not be read.
+    #[error("read out: {0}")]
+    ReadOut(io::Error),
+    /// The input could not be read.
+    #[error("read: {0}")]
+    ReadInput(io::Error),
+    /// A record could not be kept.
+    #[error("write kept: {0}")]
+    WriteKept(io::Error),
+    /// An answer could not be written.
+    #[error("write out: {0}")]
+    WriteOut(io::Error),
+    /// The line of what was kept that has this number, counted from 1, is none that a run keeps.
+    #[error("kept was changed: line {0} is none that a run keeps")]
+    Edited(u64),
+    /// The answers so far are not those to what was kept.
+    #[error("{0}")]
+    Differs(Difference),
+    /// There was not enough memory.
+    #[error("memory")]
+    Memory,
+    /// There are more records than the limit.
+    #[error("too long")]
+    TooLong,
+}
+
+impl From<AllocError> for KeepFault {
+    ghost use Rattle.std.specs.Prelude.{◌≡◌};
+    ghost use Rattle.rubis_keep.specs.declared.fault.KeepFault.TheVariants.{Memory};
+
+    ghost from_gives = { λ _ fault. fault ≡ Memory };
+
+    fn from(_error: AllocError) -> KeepFault {
+        KeepFault::Memory
+    }
+}
+
+impl From<OutOfMemory> for KeepFault {
+    ghost use Rattle.std.specs.Prelude.{◌≡◌};
+    ghost use Rattle.rubis_keep.specs.declared.fault.KeepFault.TheVariants.{Memory};
+
+    ghost from_gives = { λ _ fault. fault ≡ Memory };
+
+    fn from(_error: OutOfMemory) -> KeepFault {
+        KeepFault::Memory
+    }
+}
+
+// A fault of a run over a text in memory.
+impl From<RunFault> for KeepFault {
+    fn from(fault: RunFault) -> KeepFault {
+        match fault {
+            RunFault::TooLong => KeepFault::TooLong,
+            RunFault::Read | RunFault::Write | RunFault::Memory => KeepFault::Memory,
+        }
+    }
+}

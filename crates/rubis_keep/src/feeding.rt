@@ -1,0 +1,141 @@
+// The answers of a site to a text of whole records.
+
+ghost use Rattle.std.specs.Prelude.{◌≡◌, ◌<◌, ◌+◌, ◌++◌, ◌^◌, [], IfOk, MatchBool, OnErr, OnOk, false, true};
+ghost use Rattle.rubis_engine.specs.Accounts.{AnswersRecord};
+ghost use Rattle.rubis_engine.specs.declared.service.Course.TheVariants.{GoesOn};
+ghost use Rattle.rubis_engine.specs.Reading.{Advances, fields_now};
+ghost use Rattle.rubis_desk.specs.SiteRuns.{told_by};
+ghost use Rattle.rubis_desk.specs.Windows.{AreHeld, held_by};
+ghost use Rattle.rubis_keep.specs.Kept.{FeedEnds, Finished, FinishedFront, InEachFeed, InEachRest, OutEnds, Rests};
+ghost use Rattle.rubis_keep.specs.Whole.{IsWhole};
+
+use crate::answers::Answers;
+use crate::clerk::Clerk;
+use crate::fault::KeepFault;
+use rubis_engine::Records;
+use rubis_replica::Gate;
+use std::io::{Read, Write};
+use std::sync::Wait;
+use std::thread::Threads;
+
+// Answers or holds the next record, if there is one.
+fn answer_next<G: Gate, T: Threads + Wait + Sync, R: Read>(
+    rt: &T,
+    records: &mut Records<R>,
+    clerk: &mut Clerk<G>,
+) -> Result<bool, KeepFault>
+    requires held { AreHeld clerk.old.desk.site.place clerk.old.window.items clerk.old.answered }
+    requires room { clerk.old.answered + 1 < 2 ^ 64 }
+    ensures next { IfOk result (λ found. MatchBool found
+        (Advances R.remaining records.old records.new true × AnswersRecord GoesOn (held_by clerk.old.desk.site clerk.old.window.items (clerk.old.answered + 1)) (held_by clerk.new.desk.site clerk.new.window.items (clerk.old.answered + 1 + 1)) clerk.old.reply.sink clerk.new.reply.sink (fields_now records.new)
+        × (clerk.new.answered ≡ clerk.old.answered + 1))
+        (Advances R.remaining records.old records.new false × (clerk.new ≡ clerk.old))) }
+    ensures held { OnOk result (AreHeld clerk.new.desk.site.place clerk.new.window.items clerk.new.answered) }
+{
+    if !records.advance()? {
+        return Ok(false);
+    }
+    let Clerk {
+        desk,
+        window,
+        reply,
+        answered,
+        ..
+    } = clerk;
+    desk.take(rt, *answered, records.fields(), window, reply)?;
+    *answered += 1;
+    desk.make_room(rt, *answered, window, reply)?;
+    Ok(true)
+}
+
+// Takes in the messages that are held, and puts the answers.
+fn finish<G: Gate, T: Threads + Wait + Sync, O: Read, W: Write>(
+    rt: &T,
+    clerk: &mut Clerk<G>,
+    answers: &mut Answers<O, W>,
+) -> Result<(), KeepFault>
+    requires held { AreHeld clerk.old.desk.site.place clerk.old.window.items clerk.old.answered }
+    ensures ok { OnOk result (Finished (held_by clerk.old.desk.site clerk.old.window.items (clerk.old.answered + 1)) (told_by clerk.new.desk.site (clerk.old.answered + 1)) clerk.old.reply.sink (O.remaining answers.old.before) (O.remaining answers.new.before) (W.contents answers.old.out) (W.contents answers.new.out)) }
+    ensures same { clerk.new.answered ≡ clerk.old.answered }
+    ensures empty { OnOk result (clerk.new.reply.sink ≡ []) }
+    ensures window { OnOk result (clerk.new.window.items ≡ []) }
+    ensures err { OnErr result (FinishedFront (held_by clerk.old.desk.site clerk.old.window.items (clerk.old.answered + 1)) (told_by clerk.new.desk.site (clerk.old.answered + 1)) clerk.old.reply.sink (O.remaining answers.old.before) (O.remaining answers.new.before) (W.contents answers.old.out) (W.contents answers.new.out)) }
+{
+    let Clerk {
+        desk,
+        window,
+        reply,
+        answered,
+        ..
+    } = clerk;
+    desk.flush(rt, *answered, window, reply)?;
+    answers.put_sink(&mut reply.sink)
+}
+
+// Ends a run that has answered as many records as it takes, unless there are no more.
+fn stop<G: Gate, T: Threads + Wait + Sync, R: Read, O: Read, W: Write>(
+    rt: &T,
+    records: &mut Records<R>,
+    clerk: &mut Clerk<G>,
+    answers: &mut Answers<O, W>,
+) -> Result<(), KeepFault>
+    requires held { AreHeld clerk.old.desk.site.place clerk.old.window.items clerk.old.answered }
+    ensures ok { OnOk result (Advances R.remaining records.old records.new false × (clerk.new ≡ clerk.old) × (answers.new ≡ answers.old)) }
+    ensures err { OnErr result (FinishedFront (held_by clerk.old.desk.site clerk.old.window.items (clerk.old.answered + 1)) (told_by clerk.new.desk.site (clerk.old.answered + 1)) clerk.old.reply.sink (O.remaining answers.old.before) (O.remaining answers.new.before) (W.contents answers.old.out) (W.contents answers.new.out)) }
+{
+    if records.advance()? {
+        finish(rt, clerk, answers)?;
+        return Err(KeepFault::TooLong);
+    }
+    Ok(())
+}
+
+// Answers records until there are no more, or as many as the clerk answers, and puts the answers where there is much of them.
+fn feed_records<G: Gate, T: Threads + Wait + Sync, R: Read, O: Read, W: Write>(
+    rt: &T,
+    records: &mut Records<R>,
+    clerk: &mut Clerk<G>,
+    answers: &mut Answers<O, W>,
+) -> Result<(), KeepFault>
+    requires held { AreHeld clerk.old.desk.site.place clerk.old.window.items clerk.old.answered }
+    ensures ok { OnOk result (InEachFeed R.remaining records.old (held_by clerk.old.desk.site clerk.old.window.items (clerk.old.answered + 1)) (O.remaining answers.old.before) (W.contents answers.old.out) clerk.old.reply.sink (clerk.old.answered + 1)
+        (FeedEnds R.remaining records.new (held_by clerk.new.desk.site clerk.new.window.items (clerk.new.answered + 1)) (O.remaining answers.new.before) (W.contents answers.new.out) clerk.new.reply.sink (clerk.new.answered + 1))) }
+    ensures held { OnOk result (AreHeld clerk.new.desk.site.place clerk.new.window.items clerk.new.answered) }
+    ensures err { OnErr result (InEachFeed R.remaining records.old (held_by clerk.old.desk.site clerk.old.window.items (clerk.old.answered + 1)) (O.remaining answers.old.before) (W.contents answers.old.out) clerk.old.reply.sink (clerk.old.answered + 1)
+        (λ all told old out0 kept. OutEnds all told old out0 (W.contents answers.new.out) kept)) }
+{
+    for _turn in 0..u64::MAX {
+        if clerk.answered >= clerk.limit {
+            return stop(rt, records, clerk, answers);
+        }
+        if !answer_next(rt, records, clerk)? {
+            return Ok(());
+        }
+        if clerk.reply.sink.is_full() {
+            answers.put_sink(&mut clerk.reply.sink)?;
+        }
+    }
+    Err(KeepFault::TooLong)
+}
+
+/// Answers a text of whole records.
+pub(crate) fn feed_chunk<G: Gate, T: Threads + Wait + Sync, O: Read, W: Write>(
+    rt: &T,
+    chunk: &[u8],
+    clerk: &mut Clerk<G>,
+    answers: &mut Answers<O, W>,
+) -> Result<(), KeepFault>
+    requires whole { IsWhole chunk.now }
+    requires empty { clerk.old.reply.sink ≡ [] }
+    requires window { clerk.old.window.items ≡ [] }
+    ensures ok { OnOk result (InEachRest (told_by clerk.old.desk.site (clerk.old.answered + 1)) (O.remaining answers.old.before) (W.contents answers.old.out) (clerk.old.answered + 1)
+        (λ all told old out0 kept. Rests all (told_by clerk.new.desk.site (clerk.new.answered + 1)) told old (O.remaining answers.new.before) out0 (W.contents answers.new.out) (clerk.new.answered + 1) (kept ++ chunk.now))) }
+    ensures empty { OnOk result (clerk.new.reply.sink ≡ []) }
+    ensures window { OnOk result (clerk.new.window.items ≡ []) }
+    ensures err { OnErr result (InEachRest (told_by clerk.old.desk.site (clerk.old.answered + 1)) (O.remaining answers.old.before) (W.contents answers.old.out) (clerk.old.answered + 1)
+        (λ all told old out0 kept. OutEnds all told old out0 (W.contents answers.new.out) (kept ++ chunk.now))) }
+{
+    let mut records = Records::new(clerk.alloc, chunk);
+    feed_records(rt, &mut records, clerk, answers)?;
+    finish(rt, clerk, answers)
+}

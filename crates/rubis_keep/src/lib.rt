@@ -1,0 +1,26 @@
+//! What a site that stays up is given, kept before it is answered, and answered again after a crash.
+#![tactic(auto)]
+
+mod answers;
+mod checking;
+mod clerk;
+mod comparing;
+mod counts;
+mod fault;
+mod feeding;
+mod keeping;
+mod laws;
+mod lines;
+mod pieces;
+mod run;
+mod site;
+mod writing;
+
+pub use answers::{Answers, Out};
+pub use clerk::Clerk;
+pub use fault::{Difference, KeepFault};
+pub use keeping::{KeptLines, Log, keep_next};
+pub use laws::{crash_and_restart, kept_shops_are_runs};
+pub use lines::{LINE_MAX, LineCutter};
+pub use run::{Recording, run_kept};
+pub use site::keep_site;
