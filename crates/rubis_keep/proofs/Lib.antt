@@ -12,3 +12,4 @@ pub mod CrashFacts
 pub mod CountFacts
 pub mod TellingFacts
 pub mod ShopFacts
+pub mod ShortenFacts

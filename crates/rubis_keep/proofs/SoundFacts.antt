@@ -116,7 +116,7 @@ whole-rest line (b ∷ t) =
     ] refl
 
 -- no line is begun after whole lines
-abbrev HasNoEnd : List ℕ → Type 0
+abbrev pub HasNoEnd : List ℕ → Type 0
 HasNoEnd [] = Unit {0}
 HasNoEnd (b ∷ line) = (eqb b 10 ≡ false) × HasNoEnd line
 
@@ -124,14 +124,22 @@ no-end-more : (line : List ℕ) (b : ℕ) → HasNoEnd line → eqb b 10 ≡ fal
 no-end-more [] b h e = (e, tt)
 no-end-more (c ∷ line) b h e = (h.0, no-end-more line b h.1 e)
 
-begun-line : (start line : List ℕ) → HasNoEnd line → begun_after start (line ++ 10 ∷ []) ≡ []
+pub begun-line : (start line : List ℕ) → HasNoEnd line → begun_after start (line ++ 10 ∷ []) ≡ []
 begun-line start [] h = refl
 begun-line start (b ∷ line) h = rw h.0 (begun-line (start ++ b ∷ []) line h.1)
 
-sound-line : (start line rest : List ℕ) → HasNoEnd line → IsTrue (is_sound (start ++ line)) → AreSound [] rest → AreSound start (line ++ 10 ∷ rest)
+pub sound-line : (start line rest : List ℕ) → HasNoEnd line → IsTrue (is_sound (start ++ line)) → AreSound [] rest → AreSound start (line ++ 10 ∷ rest)
 sound-line start [] rest h s r = (subst (λ l. IsTrue (is_sound l)) (append-nil start) s, r)
 sound-line start (b ∷ line) rest h s r =
     rw h.0 (sound-line (start ++ b ∷ []) line rest h.1 (subst (λ l. IsTrue (is_sound l)) (sym (append_assoc start (b ∷ []) line)) s) r)
+
+pub begun-no-end : (line text : List ℕ) → HasNoEnd line → HasNoEnd (begun_after line text)
+begun-no-end line [] h = h
+begun-no-end line (b ∷ text) h =
+    elim (eqb b 10) as (λ v. eqb b 10 ≡ v → HasNoEnd (cond v (begun_after [] text) (begun_after (line ++ b ∷ []) text))) [
+      | true ↦ λ e. begun-no-end [] text tt
+      | false ↦ λ e. begun-no-end (line ++ b ∷ []) text (no-end-more line b h e)
+    ] refl
 
 kept-line-sound : (line rest : List ℕ) → HasNoEnd line → AreSound [] rest → AreSound [] (kept_line line ++ rest)
 kept-line-sound line rest h r =

@@ -5,3 +5,4 @@ pub mod Whole
 pub mod Kept
 pub mod Crashes
 pub mod Shops
+pub mod Shortened

@@ -13,6 +13,7 @@ mod laws;
 mod lines;
 mod pieces;
 mod run;
+mod shortening;
 mod site;
 mod writing;
 
@@ -23,4 +24,5 @@ pub use keeping::{KeptLines, Log, keep_next};
 pub use laws::{crash_and_restart, kept_shops_are_runs};
 pub use lines::{LINE_MAX, LineCutter};
 pub use run::{Recording, run_kept};
+pub use shortening::shorten;
 pub use site::keep_site;

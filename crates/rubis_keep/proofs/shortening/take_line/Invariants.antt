@@ -1,0 +1,7 @@
+use Rattle.rubis_engine.specs.Text.{input_records}
+use Rattle.std.specs.Prelude.{Some}
+use Rattle.rubis_keep.proofs.ShortenFacts.{SoFar}
+use Rattle.rubis_keep.proofs.shortening.take_line.Given as goal
+
+abbrev pub invariant-loop-turn : goal.invariant-loop-turn
+invariant-loop-turn g l = SoFar (λ s. Some s.now) l.records (input_records l.line) l.fn.desk.site l.desk.site l.changed

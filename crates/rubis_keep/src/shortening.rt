@@ -1,0 +1,287 @@
+// What was kept, without the lines whose records changed nothing.
+
+ghost use Rattle.std.specs.Prelude.{◌≡◌, ◌≤◌, ◌++◌, ◌∷◌, [], ℕ, List, IfOk, OnOk, None, cond, false};
+ghost use Rattle.rubis_message.specs.Grammar.{IsPacket, IsRequest};
+ghost use Rattle.rubis_message.specs.Message.{sites_of};
+ghost use Rattle.rubis_schema.specs.declared.refusals.Refusal.{Refusal};
+ghost use Rattle.rubis_follower.specs.declared.faults.Fault.TheVariants as Fault;
+ghost use Rattle.rubis_message.specs.declared.tokens.Packet.TheVariants as Packet;
+ghost use Rattle.rubis_message.specs.Readings.{packet_of};
+ghost use Rattle.rubis_model.specs.Runs.{input_of};
+ghost use Rattle.rubis_model.specs.Runs.Input.{Asked, Came};
+ghost use Rattle.rubis_engine.specs.Text.{input_records};
+ghost use Rattle.rubis_model.specs.Site.{Replica, opening_at};
+ghost use Rattle.rubis_replica.specs.Setup.{setup_place};
+ghost use Rattle.rubis_keep.specs.Lines.{AreSound};
+ghost use Rattle.rubis_keep.specs.Shortened.{IsShort, Shortens, TakesRecord, TakesRecords};
+
+use crate::fault::KeepFault;
+use crate::writing::write_front;
+use rubis_desk::Desk;
+use rubis_engine::{InputRecord, OutOfMemory, Records};
+use rubis_message::{
+    Arrival, Message, Packet, ReadFault, Request, Taken, Token, read_packet, read_request,
+};
+use rubis_replica::{Config, Fault, Free, Gate, Site};
+use std::alloc::{AllocError, Global};
+use std::io::{ErrorKind, Read, Write};
+use std::mem;
+use std::sync::Wait;
+use std::thread::Threads;
+
+// How many bytes are read at once.
+const PIECE: usize = 65_536;
+
+// Takes a message in. Whether it changed the site.
+fn take_message<G: Gate, T: Threads + Wait + Sync>(
+    rt: &T,
+    site: &mut Site<G>,
+    message: Message,
+) -> Result<bool, OutOfMemory>
+    requires { sites_of message ≡ site.old.place.sites }
+    ensures place { site.new.place ≡ site.old.place }
+    ensures takes { IfOk result (TakesRecord site.old site.new (Came (Packet.Msg message))) }
+{
+    match site.arrive(rt, message) {
+        Ok(Arrival::Repeat) => Ok(false),
+        Ok(Arrival::Held) | Ok(Arrival::Released(_)) => Ok(true),
+        Err(Fault::Refused(_)) => Ok(false),
+        Err(Fault::Behind) | Err(Fault::Memory) => Err(OutOfMemory),
+    }
+}
+
+// Takes a token in. Whether it changed the site.
+fn take_token<G: Gate>(site: &mut Site<G>, token: Token) -> Result<bool, OutOfMemory>
+    ensures place { site.new.place ≡ site.old.place }
+    ensures takes { IfOk result (TakesRecord site.old site.new (Came (Packet.Token token))) }
+{
+    match site.token(token) {
+        Ok(Taken::Repeat) => Ok(false),
+        Ok(Taken::Holding) => Ok(true),
+        Err(Fault::Refused(_)) => Ok(false),
+        Err(Fault::Behind) | Err(Fault::Memory) => Err(OutOfMemory),
+    }
+}
+
+// Takes a packet in. Whether it changed the site.
+fn take_packet<G: Gate, T: Threads + Wait + Sync>(
+    rt: &T,
+    site: &mut Site<G>,
+    packet: Packet,
+) -> Result<bool, OutOfMemory>
+    requires { IsPacket site.old.place.sites packet }
+    ensures place { site.new.place ≡ site.old.place }
+    ensures takes { IfOk result (TakesRecord site.old site.new (Came packet)) }
+{
+    match packet {
+        Packet::Msg(message) => take_message(rt, site, message),
+        Packet::Token(token) => take_token(site, token),
+    }
+}
+
+// What a call of a site that failed did to it: nothing, if it was refused.
+fn unchanged(fault: Fault) -> Result<bool, OutOfMemory>
+    ensures { IfOk result (λ changed. (changed ≡ false) × (r : Refusal) × (fault ≡ Fault.Refused r)) }
+{
+    match fault {
+        Fault::Refused(_) => Ok(false),
+        Fault::Behind | Fault::Memory => Err(OutOfMemory),
+    }
+}
+
+// Takes a request. Whether it changed the site.
+fn take_request<G: Gate, T: Threads + Wait + Sync>(
+    rt: &T,
+    site: &mut Site<G>,
+    request: Request,
+) -> Result<bool, OutOfMemory>
+    requires { IsRequest site.old.place.sites request }
+    ensures place { site.new.place ≡ site.old.place }
+    ensures takes { IfOk result (TakesRecord site.old site.new (Asked request)) }
+{
+    match request {
+        Request::Ask(ask) => match site.request(rt, ask) {
+            Ok(_) => Ok(true),
+            Err(fault) => unchanged(fault),
+        },
+        Request::Pass(to) => match site.pass(to) {
+            Ok(_) => Ok(true),
+            Err(fault) => unchanged(fault),
+        },
+        Request::List(_) => Ok(false),
+    }
+}
+
+// Takes a record that is no packet. Whether it changed the site.
+fn take_other<G: Gate, T: Threads + Wait + Sync>(
+    rt: &T,
+    alloc: Global,
+    desk: &mut Desk<G>,
+    fields: &InputRecord,
+) -> Result<bool, OutOfMemory>
+    requires { packet_of desk.old.site.place.sites fields.now ≡ None }
+    ensures place { desk.new.site.place ≡ desk.old.site.place }
+    ensures takes { IfOk result (TakesRecord desk.old.site desk.new.site (input_of desk.old.site.place.sites fields.now)) }
+{
+    match read_request(alloc, fields, desk.sites()) {
+        Ok(request) => take_request(rt, &mut desk.site, request),
+        Err(ReadFault::BadRecord) => Ok(false),
+        Err(ReadFault::Memory) => Err(OutOfMemory),
+    }
+}
+
+// Takes a record. Whether it changed the site.
+fn take_record<G: Gate, T: Threads + Wait + Sync>(
+    rt: &T,
+    alloc: Global,
+    desk: &mut Desk<G>,
+    fields: &InputRecord,
+) -> Result<bool, OutOfMemory>
+    ensures place { desk.new.site.place ≡ desk.old.site.place }
+    ensures takes { IfOk result (TakesRecord desk.old.site desk.new.site (input_of desk.old.site.place.sites fields.now)) }
+{
+    match read_packet(alloc, fields, desk.sites()) {
+        Ok(packet) => take_packet(rt, &mut desk.site, packet),
+        Err(ReadFault::BadRecord) => take_other(rt, alloc, desk, fields),
+        Err(ReadFault::Memory) => Err(OutOfMemory),
+    }
+}
+
+// Takes the records of a line. Whether any of them changed the site.
+fn take_line<G: Gate, T: Threads + Wait + Sync>(
+    rt: &T,
+    alloc: Global,
+    desk: &mut Desk<G>,
+    line: &[u8],
+) -> Result<bool, KeepFault>
+    ensures place { desk.new.site.place ≡ desk.old.site.place }
+    ensures takes { IfOk result (TakesRecords desk.old.site desk.new.site (input_records line.now)) }
+{
+    let mut records = Records::new(alloc, line);
+    let mut changed = false;
+    for _turn in 0..u64::MAX {
+        if !records.advance()? {
+            return Ok(changed);
+        }
+        if take_record(rt, alloc, desk, records.fields())? {
+            changed = true;
+        }
+    }
+    Err(KeepFault::TooLong)
+}
+
+// Adds a byte to a line.
+fn push(line: &mut Vec<u8>, byte: u8) -> Result<(), AllocError>
+    ensures { OnOk result (line.new.items ≡ line.old.items ++ byte ∷ []) }
+{
+    line.push(byte)?;
+    Ok(())
+}
+
+// Adds a line to a text, if it is to be kept.
+fn add_if(is_kept: bool, line: &[u8], text: &mut Vec<u8>) -> Result<(), AllocError>
+    ensures { OnOk result (text.new.items ≡ cond is_kept (text.old.items ++ line.now) text.old.items) }
+{
+    if is_kept {
+        text.extend_from_slice(line)?;
+    }
+    Ok(())
+}
+
+// Takes the next byte. A line that ends with it is added to `text`, if any of its records changed the site.
+fn take_next<G: Gate, T: Threads + Wait + Sync>(
+    rt: &T,
+    desk: &mut Desk<G>,
+    line: &mut Vec<u8>,
+    byte: u8,
+    text: &mut Vec<u8>,
+) -> Result<(), KeepFault>
+    ensures place { desk.new.site.place ≡ desk.old.site.place }
+    ensures short { OnOk result ((s : Replica) (done told : List ℕ) → AreSound [] (done ++ byte ∷ [])
+        → IsShort desk.old.site.place s done line.old.items (told ++ text.old.items) desk.old.site.state
+        → IsShort desk.old.site.place s (done ++ byte ∷ []) line.new.items (told ++ text.new.items) desk.new.site.state) }
+{
+    push(line, byte)?;
+    if byte != b'\n' {
+        return Ok(());
+    }
+    let alloc = *text.allocator();
+    let changed = take_line(rt, alloc, desk, line)?;
+    add_if(changed, line, text)?;
+    line.clear();
+    Ok(())
+}
+
+// Takes the bytes of a piece.
+fn take_piece<G: Gate, T: Threads + Wait + Sync>(
+    rt: &T,
+    desk: &mut Desk<G>,
+    line: &mut Vec<u8>,
+    piece: &[u8],
+    text: &mut Vec<u8>,
+) -> Result<(), KeepFault>
+    ensures place { desk.new.site.place ≡ desk.old.site.place }
+    ensures short { OnOk result ((s : Replica) (done told : List ℕ) → AreSound [] (done ++ piece.now)
+        → IsShort desk.old.site.place s done line.old.items (told ++ text.old.items) desk.old.site.state
+        → IsShort desk.old.site.place s (done ++ piece.now) line.new.items (told ++ text.new.items) desk.new.site.state) }
+{
+    for byte in piece {
+        take_next(rt, desk, line, *byte, text)?;
+    }
+    Ok(())
+}
+
+// Reads what was kept to its end, and writes it without the lines whose records change nothing.
+fn shorten_at<G: Gate, T: Threads + Wait + Sync, P: Read, W: Write>(
+    rt: &T,
+    alloc: Global,
+    past: &mut P,
+    fresh: &mut W,
+    desk: &mut Desk<G>,
+) -> Result<(), KeepFault>
+    ensures { OnOk result (Shortens desk.old.site.place desk.old.site.state (P.remaining past.old) (W.contents fresh.old) (W.contents fresh.new)) }
+{
+    let mut line = Vec::new(alloc);
+    let mut text = Vec::new(alloc);
+    let mut piece = [0; PIECE];
+    for _turn in 0..u64::MAX {
+        match past.read(&mut piece) {
+            Ok(0) => return Ok(()),
+            Ok(given) => {
+                text.clear();
+                take_piece(rt, desk, &mut line, &piece[..given], &mut text)?;
+                if let Err(e) = write_front(fresh, &text) {
+                    return Err(KeepFault::WriteKept(e));
+                }
+            }
+            Err(e) => {
+                if e.kind() != ErrorKind::Interrupted {
+                    return Err(KeepFault::ReadKept(e));
+                }
+            }
+        }
+    }
+    Err(KeepFault::TooLong)
+}
+
+/// Writes what was kept without the lines whose records changed nothing where they were read: refusals, repeats and listings. A
+/// site that reads what is written comes to the same state, and sends the same packets in the same order. A last line without its
+/// end is left out.
+///
+/// # Errors
+///
+/// `ReadKept` or `WriteKept` if a file failed, and `Memory` if memory ran out.
+pub fn shorten<T: Threads + Wait + Sync, P: Read, W: Write>(
+    rt: &T,
+    alloc: Global,
+    past: &mut P,
+    fresh: &mut W,
+    config: &Config,
+) -> Result<(), KeepFault>
+    ensures { OnOk result (Shortens (setup_place config.now) (opening_at config.now.site) (P.remaining past.old) (W.contents fresh.old) (W.contents fresh.new)) }
+{
+    let mut desk = Desk::new(alloc, config, Free)?;
+    let ended = shorten_at(rt, alloc, past, fresh, &mut desk);
+    mem::forget(desk);
+    ended
+}
