@@ -5,6 +5,8 @@ use Rattle.clap.specs.Words.{Kinds, Text, fault_of}
 use Rattle.clap.specs.declared.error.kind.ErrorKind.{ErrorKind}
 use Rattle.clap.specs.declared.error.kind.ErrorKind.TheVariants.{DisplayHelp, DisplayVersion}
 use Rattle.rubis_cli.specs.CommandLine.{command_line}
+use Rattle.rubis_folder.specs.declared.fault.FolderFault.{FolderFault}
+use Rattle.rubis_folder.specs.declared.fault.FolderFault.TheVariants as folder
 
 -- help and the version are shown, and all else that `clap` says is a mistake
 abbrev pub status_by : ErrorKind → ℕ
@@ -12,12 +14,20 @@ status_by DisplayHelp = 0
 status_by DisplayVersion = 0
 status_by k = 2
 
+-- the status of a site in a folder that isn't run, or ended early: a folder of another site than was asked for is a mistake, and all
+-- else a fault of the run
+abbrev pub status_of : FolderFault → ℕ
+status_of folder.NotBelow = 2
+status_of (folder.IsOther setup) = 2
+status_of (folder.IsOld version) = 2
+status_of other = 1
+
 -- the status of words that are refused for one of these reasons
 abbrev pub IsStatusAmong : Kinds → ℕ → Type 0
 IsStatusAmong [] s = ⊥
 IsStatusAmong (k ∷ ks) s = (s ≡ status_by k) ⊎ IsStatusAmong ks s
 
 -- the status for these words: 1, since a fault may end any run; that of one of the reasons to refuse them; or, if there is
--- none, 0 for a run that went well, or 2 for a site that isn't below `sites` or a `to` that is
+-- none, 0 for a run that went well, or 2 for a site that isn't below `sites`, a `to` that is, or a folder of another site
 abbrev pub IsStatusOf : List Text → ℕ → Type 0
 IsStatusOf words s = (s ≡ 1) ⊎ IsStatusAmong (fault_of command_line words) s ⊎ ((fault_of command_line words ≡ []) × ((s ≡ 0) ⊎ (s ≡ 2)))

@@ -10,18 +10,21 @@ ghost use Rattle.clap.specs.Words.{kind_of};
 ghost use Rattle.rubis_replica.specs.Setup.{IsSetup};
 ghost use Rattle.rubis_app.specs.Setups.{setup_of, world_setup_of};
 ghost use Rattle.rubis_sites.specs.Setup.{IsWorldSetup};
-ghost use Rattle.rubis_app.specs.Statuses.{IsStatusOf, status_by};
+ghost use Rattle.rubis_app.specs.Statuses.{IsStatusOf, status_by, status_of};
 
 use clap::Error;
 use rubis_audit::{run_audit_to_exit, run_widen};
-use rubis_cli::{OptionFault, Options, Run, Setup, Widening, read_options};
+use rubis_cli::{KeepOptions, OptionFault, Options, Run, Setup, Widening, read_options};
+use rubis_folder::{FolderFault, Setup as Place, Wanted, keep_folder};
 use rubis_replica::Config;
 use rubis_schema::{Hashes, SITES_MAX};
 use rubis_script::{Count, RunFault, run_site_to_exit};
 use rubis_world::{WorldConfig, run_world_to_exit};
+use std::fs::{File, Files};
 use std::io::ErrorKind;
 use std::process::ExitCode;
 use std::random::RandomSource;
+use std::rt::Clock;
 use std::sync::Wait;
 use std::thread::Threads;
 use std::{env, io};
@@ -166,11 +169,94 @@ fn run_widener<R: Print + Eprint + Input + AllocGlobal>(rt: &R, counts: &Widenin
     end(rt, ended)
 }
 
+// Says why a site in a folder isn't run, or ended early.
+fn tell_fault<R: Eprint>(rt: &R, folder: &str, fault: &FolderFault) -> io::Result<()> {
+    match fault {
+        FolderFault::NotBelow => eprintln!(rt; "fault: site must be below sites"),
+        FolderFault::IsOther(
+            Place {
+                site,
+                sites,
+                keep,
+                ..
+            },
+        ) => eprintln!(rt; "fault: {folder} is site {site} of {sites}, and keeps {keep}"),
+        FolderFault::IsOld(version) => {
+            eprintln!(rt;
+                "fault: {folder} has answers of version {version}: --upgrade writes them anew"
+            )
+        }
+        FolderFault::NoSetup => eprintln!(rt; "run fault: {folder} has records, and no setup"),
+        FolderFault::IsRunning => eprintln!(rt; "run fault: {folder} is running"),
+        FolderFault::Folder(e) => eprintln!(rt; "run fault: {folder}: {e}"),
+        FolderFault::Lock(e) => eprintln!(rt; "run fault: lock: {e}"),
+        FolderFault::Setup(e) => eprintln!(rt; "run fault: setup: {e}"),
+        FolderFault::Kept(e) => eprintln!(rt; "run fault: open kept: {e}"),
+        FolderFault::Out(e) => eprintln!(rt; "run fault: open out: {e}"),
+        FolderFault::Closed(e) => eprintln!(rt; "run fault: write: {e}"),
+        FolderFault::Run(fault) => eprintln!(rt; "run fault: {fault}"),
+    }
+}
+
+// The status of a site in a folder that isn't run, or ended early: that of a command line that asks for another site, or of a fault.
+fn status_of(fault: &FolderFault) -> u8
+    ensures { result ≡ status_of fault.now }
+{
+    match fault {
+        FolderFault::NotBelow | FolderFault::IsOther(_) | FolderFault::IsOld(_) => MISUSE,
+        _ => FAULT,
+    }
+}
+
+// Runs a site in a folder.
+fn run_keep<
+    R: Files<File = File>
+        + Clock
+        + Print
+        + Eprint
+        + Input
+        + AllocGlobal
+        + RandomSource
+        + Threads
+        + Wait
+        + Sync,
+>(rt: &R, options: &KeepOptions) -> ExitCode
+    ensures { (exit_status result ≡ 0) ⊎ (exit_status result ≡ 1) ⊎ (exit_status result ≡ 2) }
+{
+    let wanted = Wanted {
+        site: options.site,
+        sites: options.sites,
+        keep: options.keep,
+        shards: options.shards,
+        workers: options.workers,
+        batch: options.batch,
+        is_synced: options.sync,
+        shortens: options.shorten,
+        upgrades: options.upgrade,
+    };
+    let folder = options.folder.as_str();
+    match keep_folder(rt, folder, &wanted) {
+        Ok(()) => ExitCode::SUCCESS,
+        Err(fault) => {
+            let _ = tell_fault(rt, folder, &fault);
+            ExitCode::from(status_of(&fault))
+        }
+    }
+}
+
 // Does what the words of the command line ask for.
-fn start<R: Print + Eprint + Input + AllocGlobal + RandomSource + Threads + Wait + Sync>(
-    rt: &R,
-    words: &[String],
-) -> ExitCode
+fn start<
+    R: Files<File = File>
+        + Clock
+        + Print
+        + Eprint
+        + Input
+        + AllocGlobal
+        + RandomSource
+        + Threads
+        + Wait
+        + Sync,
+>(rt: &R, words: &[String]) -> ExitCode
     ensures { IsStatusOf (map string_bytes words.now) (exit_status result) }
 {
     match read_options(rt.alloc(), words) {
@@ -178,6 +264,7 @@ fn start<R: Print + Eprint + Input + AllocGlobal + RandomSource + Threads + Wait
         Ok(Run::World(setup)) => run_sites(rt, &setup),
         Ok(Run::Audit(sites)) => run_auditor(rt, sites),
         Ok(Run::Widen(counts)) => run_widener(rt, &counts),
+        Ok(Run::Keep(options)) => run_keep(rt, &options),
         Err(OptionFault::Memory) => fail(rt, RunFault::Memory),
         Err(OptionFault::Words(error)) => tell(rt, &error),
     }

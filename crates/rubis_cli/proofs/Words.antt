@@ -16,6 +16,23 @@ pub number_read : (bits : ℕ) (t : Text) (r : Option ℕ) → ReadsOne (λ bs x
 number_read bits t (Some n) read numeral fits = read.0.1
 number_read bits t None read numeral fits = absurd (read.1.0 (numeral, fits))
 
+-- the same where the option may not be given
+pub given_read : (bits : ℕ) (t : Text) (r : Option ℕ) → ReadsOne (λ bs x. ParsesUnsigned bits 10 bs x × ExplainsUnsignedError 10 bs x × HasUnsignedDigitsIfOk bs x) t r → IsNumeral 10 (without_leading_plus t) → digits_value 10 (without_leading_plus t) < 2 ^ bits → r ≡ Some (digits_value 10 (without_leading_plus t))
+given_read bits t (Some n) read numeral fits = ap (λ m. Some m) read.0.1
+given_read bits t None read numeral fits = absurd (read.1.0 (numeral, fits))
+
+-- a text that is found is the one that is asked for, and where none is found none is
+pub text_found : (f g : Option Text) (t shown : Text) → Some shown ≡ f → f ≡ g → g ≡ Some t → shown ≡ t
+text_found f g t shown e same h = some_same shown t (e ∙ same ∙ h)
+  where
+    some_same : (x y : Text) → Some x ≡ Some y → x ≡ y
+    some_same x y h = cc h
+
+pub text_missing : (f g : Option Text) (t shown : Text) → None ≡ f → f ≡ g → g ≡ Some t → shown ≡ t
+text_missing (Some x) g t shown e same h = absurd (cc e)
+text_missing None (Some x) t shown e same h = absurd (cc same)
+text_missing None None t shown e same h = absurd (cc h)
+
 -- a command without global options
 pub third_is_false : (a b c d : Bool) → (a && (not b && (not c && d))) ≡ true → c ≡ false
 third_is_false true false false d h = refl

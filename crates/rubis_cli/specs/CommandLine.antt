@@ -1,18 +1,20 @@
 -- The command line: `rubis site`, with six options that take a number, `rubis world`, with five, `rubis audit`, with one,
--- and `rubis widen`, with two.
-use Rattle.std.specs.Prelude.{◌≡◌, ◌≢◌, ℕ, ◌-◌, ◌<◌, ◌^◌, List, [], ◌∷◌, Option, Some, ⊤, true, codes}
+-- `rubis widen`, with two, and `rubis keep`, with a folder, six options that take a number, and three that take none.
+use Rattle.std.specs.Prelude.{◌≡◌, ◌≢◌, ℕ, ◌-◌, ◌<◌, ◌^◌, Bool, List, [], ◌∷◌, Option, None, Some, ⊤, false, true, codes, string_bytes}
 use Rattle.std.specs.Str.Parse.{IsNumeral, digits_value, without_leading_plus}
-use Rattle.clap.specs.Words.{App, IsAmong, Kinds, Row, Rule, Text, kind_of, new_app, new_rule, one_of, subcommand_of, with_rule, with_subcommand}
+use Rattle.clap.specs.Words.{App, IsAmong, Kinds, Row, Rule, Text, first_of, kind_of, new_app, new_rule, one_of, subcommand_of, with_rule, with_subcommand}
+use Rattle.clap.specs.declared.builder.action.ArgAction.TheVariants.{SetTrue}
 use Rattle.clap.specs.declared.builder.value_parser.ValueParser.TheVariants.{Unsigned}
 use Rattle.clap.specs.declared.error.Error.{Error}
 use Rattle.clap.specs.declared.error.kind.ErrorKind.{ErrorKind}
 use Rattle.clap.specs.declared.error.kind.ErrorKind.TheVariants.{OutOfMemory}
 use Rattle.rubis_schema.specs.declared.limits.TheConstants.{BATCH_MAX, KEEP_MAX, SHARDS_MAX, SITES_MAX, WORKERS_MAX}
+use Rattle.rubis_cli.specs.declared.keep_options.KeepOptions.{KeepOptions}
 use Rattle.rubis_cli.specs.declared.options.OptionFault.{OptionFault}
 use Rattle.rubis_cli.specs.declared.options.OptionFault.TheVariants.{Memory, Words}
 use Rattle.rubis_cli.specs.declared.options.Options.{Options}
 use Rattle.rubis_cli.specs.declared.options.Run.{Run}
-use Rattle.rubis_cli.specs.declared.options.Run.TheVariants.{Audit, Site, Widen, World}
+use Rattle.rubis_cli.specs.declared.options.Run.TheVariants.{Audit, Keep, Site, Widen, World}
 use Rattle.rubis_cli.specs.declared.options.Setup.{Setup}
 use Rattle.rubis_cli.specs.declared.options.Widening.{Widening}
 
@@ -23,14 +25,16 @@ number_option name low high default = record (new_rule name) { long = Some name;
 abbrev pub sites_option : Rule
 sites_option = number_option (codes "sites") 1 SITES_MAX (codes "1")
 
--- the options that say how sites are set up
-abbrev pub with_setup : App → App
-with_setup a = with_rule (with_rule (with_rule (with_rule (with_rule a
-    sites_option)
+-- the options that say how the work of a site is done
+abbrev pub with_work : App → App
+with_work a = with_rule (with_rule (with_rule a
     (number_option (codes "shards") 1 SHARDS_MAX (codes "4")))
     (number_option (codes "workers") 1 WORKERS_MAX (codes "2")))
-    (number_option (codes "batch") 1 BATCH_MAX (codes "64")))
-    (number_option (codes "keep") 1 KEEP_MAX (codes "1000000"))
+    (number_option (codes "batch") 1 BATCH_MAX (codes "64"))
+
+-- the options that say how sites are set up
+abbrev pub with_setup : App → App
+with_setup a = with_rule (with_work (with_rule a sites_option)) (number_option (codes "keep") 1 KEEP_MAX (codes "1000000"))
 
 abbrev pub site_command : App
 site_command = with_setup (with_rule (new_app (codes "site")) (number_option (codes "site") 0 (SITES_MAX - 1) (codes "0")))
@@ -44,12 +48,36 @@ audit_command = with_rule (new_app (codes "audit")) sites_option
 abbrev pub widen_command : App
 widen_command = with_rule (with_rule (new_app (codes "widen")) sites_option) (number_option (codes "to") 1 SITES_MAX (codes "16"))
 
+-- an option that takes a number from `low` to `high`, and that has no value where it isn't given
+abbrev pub given_option : Text → ℕ → ℕ → Rule
+given_option name low high = record (new_rule name) { long = Some name; value_names = 1; parser = Some (Unsigned low high) }
+
+-- an option without a value
+abbrev pub flag_option : Text → Rule
+flag_option name = record (new_rule name) { long = Some name; action = Some SetTrue }
+
+abbrev pub folder_option : Rule
+folder_option = record (new_rule (codes "folder")) { value_names = 1; required = true }
+
+abbrev pub with_place : App → App
+with_place a = with_rule (with_rule (with_rule (with_rule a
+    folder_option)
+    (given_option (codes "site") 0 (SITES_MAX - 1)))
+    (given_option (codes "sites") 1 SITES_MAX))
+    (given_option (codes "keep") 1 KEEP_MAX)
+
+abbrev pub with_flags : App → App
+with_flags a = with_rule (with_rule (with_rule a (flag_option (codes "sync"))) (flag_option (codes "shorten"))) (flag_option (codes "upgrade"))
+
+abbrev pub keep_command : App
+keep_command = with_flags (with_work (with_place (new_app (codes "keep"))))
+
 -- the program has a version, and wants a command
 abbrev pub program_alone : App
 program_alone = let a = new_app (codes "rubis") in record a { top = record a.top { has_version = true; subcommand_required = true } }
 
 abbrev pub command_line : App
-command_line = with_subcommand (with_subcommand (with_subcommand (with_subcommand program_alone site_command.top) world_command.top) audit_command.top) widen_command.top
+command_line = with_subcommand (with_subcommand (with_subcommand (with_subcommand (with_subcommand program_alone site_command.top) world_command.top) audit_command.top) widen_command.top) keep_command.top
 
 -- n is the number of at most `bits` bits that the text writes: decimal digits, optionally after a plus sign
 abbrev pub IsNumberOf : ℕ → Option Text → ℕ → Type 0
@@ -71,14 +99,40 @@ pub record AreCountsIn (rows : List Row) (w : Widening) : Type 0 where
   pub sites : IsNumberOf 8 (one_of (codes "sites") rows) w.sites
   pub to : IsNumberOf 8 (one_of (codes "to") rows) w.to
 
--- what the words of a command line ask for: an audit, several sites or a widening where that is the command, or else a
--- site, with the options that stand after the command
+-- the same of an option that may not be given
+abbrev pub IsGivenNumber : ℕ → Option Text → Option ℕ → Type 0
+IsGivenNumber bits text n = (text ≡ None → n ≡ None)
+    × ((t : Text) → text ≡ Some t → IsNumeral 10 (without_leading_plus t) → digits_value 10 (without_leading_plus t) < 2 ^ bits → n ≡ Some (digits_value 10 (without_leading_plus t)))
+
+-- an option without a value is given
+abbrev pub IsFlag : Option Text → Bool → Type 0
+IsFlag text given = (text ≡ None → given ≡ false) × (text ≡ Some (codes "true") → given ≡ true) × (text ≡ Some (codes "false") → given ≡ false)
+
+abbrev pub IsText : Option Text → Text → Type 0
+IsText found text = (t : Text) → found ≡ Some t → text ≡ t
+
+pub record AreKeepOptionsIn (rows : List Row) (o : KeepOptions) : Type 0 where
+  pub folder : IsText (first_of (codes "folder") rows) (string_bytes o.folder)
+  pub site : IsGivenNumber 8 (one_of (codes "site") rows) o.site
+  pub sites : IsGivenNumber 8 (one_of (codes "sites") rows) o.sites
+  pub keep : IsGivenNumber 32 (one_of (codes "keep") rows) o.keep
+  pub shards : IsNumberOf 8 (one_of (codes "shards") rows) o.shards
+  pub workers : IsNumberOf 8 (one_of (codes "workers") rows) o.workers
+  pub batch : IsNumberOf 32 (one_of (codes "batch") rows) o.batch
+  pub sync : IsFlag (one_of (codes "sync") rows) o.sync
+  pub shorten : IsFlag (one_of (codes "shorten") rows) o.shorten
+  pub upgrade : IsFlag (one_of (codes "upgrade") rows) o.upgrade
+
+-- what the words of a command line ask for: an audit, several sites, a widening or a site that keeps its records where that is the
+-- command, or else a site, with the options that stand after the command
 abbrev pub IsAsked : List Text → Run → Type 0
 IsAsked words (Audit sites) = (rows : List Row) × (subcommand_of command_line words ≡ Some (codes "audit", rows)) × IsNumberOf 8 (one_of (codes "sites") rows) sites
 IsAsked words (World setup) = (rows : List Row) × (subcommand_of command_line words ≡ Some (codes "world", rows)) × IsSetupIn rows setup
 IsAsked words (Widen counts) = (rows : List Row) × (subcommand_of command_line words ≡ Some (codes "widen", rows)) × AreCountsIn rows counts
+IsAsked words (Keep options) = (rows : List Row) × (subcommand_of command_line words ≡ Some (codes "keep", rows)) × AreKeepOptionsIn rows options
 IsAsked words (Site options) =
-    (name : Text) × (rows : List Row) × (subcommand_of command_line words ≡ Some (name, rows)) × (name ≢ codes "audit") × (name ≢ codes "world") × (name ≢ codes "widen") × AreOptionsIn rows options
+    (name : Text) × (rows : List Row) × (subcommand_of command_line words ≡ Some (name, rows)) × (name ≢ codes "audit") × (name ≢ codes "world") × (name ≢ codes "widen") × (name ≢ codes "keep")
+    × AreOptionsIn rows options
 
 -- what an error of `clap` is called here
 abbrev pub fault_by : ErrorKind → Error → OptionFault

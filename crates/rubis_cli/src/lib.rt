@@ -2,6 +2,8 @@
 //! `clap`.
 #![tactic(auto)]
 
+mod keep_options;
 mod options;
 
+pub use keep_options::KeepOptions;
 pub use options::{OptionFault, Options, Run, Setup, Widening, read_options};

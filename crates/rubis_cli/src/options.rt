@@ -3,8 +3,9 @@
 ghost use Rattle.std.specs.Prelude.{◌≡◌, false, [], Some, codes, map, string_bytes, IfErr, IfOk};
 ghost use Rattle.rubis_schema.specs.declared.limits.TheConstants.{SITES_MAX};
 ghost use Rattle.clap.specs.Words.{app_of, fault_of, found_of, one_of, rows_of, rule_of};
-ghost use Rattle.rubis_cli.specs.CommandLine.{AreCountsIn, AreOptionsIn, IsAsked, IsFaultAmong, IsNumberOf, IsSetupIn, audit_command, command_line, number_option, program_alone, site_command, widen_command, with_setup, world_command};
+ghost use Rattle.rubis_cli.specs.CommandLine.{AreCountsIn, AreOptionsIn, IsAsked, IsFaultAmong, IsNumberOf, IsSetupIn, audit_command, command_line, number_option, program_alone, site_command, widen_command, with_setup, with_work, world_command};
 
+use crate::keep_options::{KeepOptions, keep_command, read_keep};
 use clap::builder::ValueParser;
 use clap::error::ErrorKind;
 use clap::{Arg, ArgMatches, Command, Error};
@@ -22,6 +23,8 @@ pub enum Run {
     Audit(u8),
     /// The records of an audit, widened.
     Widen(Widening),
+    /// A site that keeps its records.
+    Keep(KeepOptions),
 }
 
 /// Why nothing is run.
@@ -119,12 +122,11 @@ fn sites<'a>(alloc: Global) -> Arg<'a>
     )
 }
 
-// The options that say how sites are set up.
-fn with_setup<'a>(alloc: Global, command: Command<'a>) -> Result<Command<'a>, AllocError>
-    ensures { IfOk result (λ made. app_of made ≡ with_setup (app_of command.entry)) }
+/// The options that say how the work of a site is done.
+pub(crate) fn with_work<'a>(alloc: Global, command: Command<'a>) -> Result<Command<'a>, AllocError>
+    ensures { IfOk result (λ made. app_of made ≡ with_work (app_of command.entry)) }
 {
     command
-        .arg(sites(alloc))?
         .arg(number(
             alloc,
             "shards",
@@ -148,15 +150,22 @@ fn with_setup<'a>(alloc: Global, command: Command<'a>) -> Result<Command<'a>, Al
             BATCH_MAX as u64,
             "64",
             "How many released messages make a batch, 1 to 65536; changes no answer",
-        ))?
-        .arg(number(
-            alloc,
-            "keep",
-            1,
-            KEEP_MAX as u64,
-            "1000000",
-            "How many messages a site keeps, released and held, 1 to 1000000",
         ))
+}
+
+// The options that say how sites are set up.
+fn with_setup<'a>(alloc: Global, command: Command<'a>) -> Result<Command<'a>, AllocError>
+    ensures { IfOk result (λ made. app_of made ≡ with_setup (app_of command.entry)) }
+{
+    let command = command.arg(sites(alloc))?;
+    with_work(alloc, command)?.arg(number(
+        alloc,
+        "keep",
+        1,
+        KEEP_MAX as u64,
+        "1000000",
+        "How many messages a site keeps, released and held, 1 to 1000000",
+    ))
 }
 
 // The command that widens the records of an audit.
@@ -236,17 +245,19 @@ fn program<'a>(alloc: Global) -> Result<Command<'a>, AllocError>
     let program = program.subcommand(site(alloc)?)?;
     let program = program.subcommand(world(alloc)?)?;
     let program = program.subcommand(audit(alloc)?)?;
-    program.subcommand(widen(alloc)?)
+    let program = program.subcommand(widen(alloc)?)?;
+    program.subcommand(keep_command(alloc)?)
 }
 
-// A number that `clap` has read and found in its range.
-fn byte(matches: &ArgMatches<'_>, name: &str) -> u8
+/// A number that `clap` has read and found in its range.
+pub(crate) fn byte(matches: &ArgMatches<'_>, name: &str) -> u8
     ensures { IsNumberOf 8 (one_of name.now (rows_of (found_of matches.now))) result }
 {
     matches.get_one::<u8>(name).unwrap_or(0)
 }
 
-fn word(matches: &ArgMatches<'_>, name: &str) -> u32
+/// A longer one.
+pub(crate) fn word(matches: &ArgMatches<'_>, name: &str) -> u32
     ensures { IsNumberOf 32 (one_of name.now (rows_of (found_of matches.now))) result }
 {
     matches.get_one::<u32>(name).unwrap_or(0)
@@ -298,6 +309,8 @@ pub fn read_options(alloc: Global, words: &[String]) -> Result<Run, OptionFault>
                 Ok(Run::World(read_setup(inner)))
             } else if name == "widen" {
                 Ok(Run::Widen(counts(inner)))
+            } else if name == "keep" {
+                Ok(Run::Keep(read_keep(alloc, inner)?))
             } else {
                 Ok(Run::Site(site_options(inner)))
             }

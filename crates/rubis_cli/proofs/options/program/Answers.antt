@@ -15,4 +15,6 @@ returns c =
     let audit_local = third_is_false _ _ _ _ (ap is_plain c.in_ok-audit.ensures) in
     let three = c.in_ok-program-4.ensures.shape audit_local ∙ ap₂ with_subcommand two (ap top c.in_ok-audit.ensures) in
     let widen_local = third_is_false _ _ _ _ (ap is_plain c.in_ok-widen.ensures) in
-    IfOk-weaker c.subcommand-4.result _ _ (λ made h. h.shape widen_local ∙ ap₂ with_subcommand three (ap top c.in_ok-widen.ensures)) c.subcommand-4.ensures
+    let four = c.in_ok-program-5.ensures.shape widen_local ∙ ap₂ with_subcommand three (ap top c.in_ok-widen.ensures) in
+    let keep_local = third_is_false _ _ _ _ (ap is_plain c.in_ok-keep_command.ensures) in
+    IfOk-weaker c.subcommand-5.result _ _ (λ made h. h.shape keep_local ∙ ap₂ with_subcommand four (ap top c.in_ok-keep_command.ensures)) c.subcommand-5.ensures

@@ -1,0 +1,34 @@
+// Why a site in a folder isn't run, or ended early.
+
+use crate::setup::Setup;
+use rubis_keep::KeepFault;
+use std::io;
+
+/// Why a site in a folder isn't run, or ended early. A fault of a file has the reason that the system gave.
+#[derive(Drop)]
+pub enum FolderFault {
+    /// A site that isn't below the number of sites was asked for.
+    NotBelow,
+    /// The folder is that of a site that is set up so, and something else was asked for.
+    IsOther(Setup),
+    /// The answers in the folder are in the text of this version.
+    IsOld(u32),
+    /// There are records in the folder, and nothing says of which site.
+    NoSetup,
+    /// Another process runs the site.
+    IsRunning,
+    /// The folder wasn't made.
+    Folder(io::Error),
+    /// The lock failed.
+    Lock(io::Error),
+    /// What the folder says of its site couldn't be read or written.
+    Setup(io::Error),
+    /// What was kept couldn't be opened.
+    Kept(io::Error),
+    /// The answers couldn't be opened.
+    Out(io::Error),
+    /// Standard output failed.
+    Closed(io::Error),
+    /// The run ended with a fault.
+    Run(KeepFault),
+}

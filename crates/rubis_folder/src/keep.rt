@@ -1,0 +1,273 @@
+// A site in a folder, from its start to its end.
+
+ghost use Rattle.std.specs.Prelude.{◌≡◌, IfSome};
+ghost use Rattle.std.specs.Option.{SomeIff};
+ghost use Rattle.rubis_replica.specs.Setup.{setup_place};
+ghost use Rattle.rubis_folder.specs.Setups.{GoesOn, next_setup, opening_setup, place_of};
+
+use crate::fault::FolderFault;
+use crate::files::{LogFile, OutFile, begin, open, settle, take_lock};
+use crate::setup::{ANSWERS, Setup, read_setup, write_setup};
+use rubis_keep::{Answers, KeepFault, Recording, keep_site, shorten};
+use rubis_replica::Config;
+use rubis_schema::{Hashes, KEEP_MAX, RECORDS_MAX};
+use std::fs::{File, Files};
+use std::io::Read;
+use std::random::RandomSource;
+use std::rt::Clock;
+use std::sync::Wait;
+use std::thread::Threads;
+use std::{fs, io};
+
+/// What is asked of a site in a folder. What is `None` is as the folder has it; where it has nothing, the site is site 0 of one, and
+/// keeps as many messages as a site can.
+#[derive(Clone, Copy)]
+pub struct Wanted {
+    pub site: Option<u8>,
+    pub sites: Option<u8>,
+    pub keep: Option<u32>,
+    pub shards: u8,
+    pub workers: u8,
+    pub batch: u32,
+    /// Each record is on the disk before it is answered.
+    pub is_synced: bool,
+    /// What was kept is rewritten without what changed nothing, and no record is read.
+    pub shortens: bool,
+    /// Answers in the text of another version are written anew.
+    pub upgrades: bool,
+}
+
+impl Wanted {
+    // How a new site is set up.
+    fn opening(&self) -> Setup
+        ensures { result ≡ opening_setup self.now }
+    {
+        Setup {
+            site: self.site.unwrap_or(0),
+            sites: self.sites.unwrap_or(1),
+            keep: self.keep.unwrap_or(KEEP_MAX),
+            answers: ANSWERS,
+        }
+    }
+
+    // How a site goes on that was set up so: it may keep more. `None` if something else is asked for.
+    fn goes_on(&self, setup: Setup) -> Option<Setup>
+        ensures { SomeIff result (GoesOn self.now setup) (next_setup self.now setup) }
+    {
+        let keep = self.keep.unwrap_or(setup.keep);
+        let is_same = self.site.unwrap_or(setup.site) == setup.site
+            && self.sites.unwrap_or(setup.sites) == setup.sites;
+        if is_same && keep >= setup.keep {
+            Some(Setup { keep, ..setup })
+        } else {
+            None
+        }
+    }
+
+    // The configuration of a site that is set up so.
+    fn config<R: RandomSource>(&self, rt: &R, setup: Setup) -> Option<Config>
+        ensures { IfSome result (λ config. setup_place config ≡ place_of setup) }
+    {
+        let config = Config::new(
+            setup.site,
+            setup.sites,
+            self.shards,
+            self.workers,
+            self.batch,
+            setup.keep,
+        )?;
+        Some(config.with_hashes(Hashes::random(rt)))
+    }
+}
+
+// How the site in a folder is set up. A new one is set up as it is wanted.
+fn settled<R: Files<File = File> + AllocGlobal>(
+    rt: &R,
+    folder: &str,
+    wanted: &Wanted,
+) -> Result<Setup, FolderFault> {
+    if let Some(setup) = read_setup(rt, folder).map_err(FolderFault::Setup)? {
+        return Ok(setup);
+    }
+    let kept = open(rt, folder, "kept").map_err(FolderFault::Kept)?;
+    if kept.metadata().map_err(FolderFault::Kept)?.len() > 0 {
+        return Err(FolderFault::NoSetup);
+    }
+    let setup = wanted.opening();
+    if setup.site >= setup.sites {
+        return Err(FolderFault::NotBelow);
+    }
+    write_setup(rt, folder, setup).map_err(FolderFault::Setup)?;
+    Ok(setup)
+}
+
+// What was kept in a folder, opened for a run.
+fn open_kept<R: Files<File = File> + AllocGlobal>(
+    rt: &R,
+    folder: &str,
+    is_synced: bool,
+) -> io::Result<Recording<File, File, LogFile>> {
+    Ok(Recording {
+        first: open(rt, folder, "kept")?,
+        past: open(rt, folder, "kept")?,
+        log: LogFile {
+            file: open(rt, folder, "kept")?,
+            is_synced,
+        },
+    })
+}
+
+// How many records there may be where none is read: one piece may have been kept beyond the limit.
+const KEPT_MAX: u64 = RECORDS_MAX + 65_536;
+
+// Answers what was kept, and reads no record. The answers are compared with those of before, of which there are `len` bytes, and
+// the others are appended.
+fn complete<R: Files<File = File> + Print + AllocGlobal + Threads + Wait + Sync>(
+    rt: &R,
+    folder: &str,
+    config: &Config,
+    out: File,
+    len: u64,
+) -> Result<File, FolderFault> {
+    let mut recording = open_kept(rt, folder, true).map_err(FolderFault::Kept)?;
+    let before = open(rt, folder, "out").map_err(FolderFault::Out)?.take(len);
+    let out = OutFile::new(rt, folder, out, false, None);
+    let mut answers = Answers::new(rt.alloc(), before, out);
+    let mut none = io::empty();
+    keep_site(
+        rt,
+        &mut recording,
+        &mut none,
+        &mut answers,
+        config,
+        KEPT_MAX,
+    )
+    .map_err(FolderFault::Run)?;
+    Ok(answers.out.file)
+}
+
+// Writes the answers to what was kept anew, beside those of another version, and puts them in their place. What the folder says of
+// its site is written last: until then it asks for the same again.
+fn upgrade<R: Files<File = File> + Print + AllocGlobal + Threads + Wait + Sync>(
+    rt: &R,
+    folder: &str,
+    config: &Config,
+    setup: Setup,
+) -> Result<(), FolderFault> {
+    let fresh = begin(rt, folder, "out").map_err(FolderFault::Out)?;
+    let fresh = complete(rt, folder, config, fresh, 0)?;
+    settle(rt, folder, "out", &fresh).map_err(FolderFault::Out)?;
+    let new = Setup {
+        answers: ANSWERS,
+        ..setup
+    };
+    write_setup(rt, folder, new).map_err(FolderFault::Setup)
+}
+
+// Completes the answers to what was kept, as they are.
+fn complete_out<R: Files<File = File> + Print + AllocGlobal + Threads + Wait + Sync>(
+    rt: &R,
+    folder: &str,
+    config: &Config,
+) -> Result<File, FolderFault> {
+    let out = open(rt, folder, "out").map_err(FolderFault::Out)?;
+    let len = out.metadata().map_err(FolderFault::Out)?.len();
+    complete(rt, folder, config, out, len)
+}
+
+// Rewrites what was kept without what changed nothing. It is written beside what was kept and takes its name once it is on the disk,
+// which decides: the answers are emptied before, since they can be given again to either, and given again after.
+fn rewrite<R: Files<File = File> + Print + AllocGlobal + Threads + Wait + Sync>(
+    rt: &R,
+    folder: &str,
+    config: &Config,
+) -> Result<(), FolderFault> {
+    let out = complete_out(rt, folder, config)?;
+    let mut past = open(rt, folder, "kept").map_err(FolderFault::Kept)?;
+    let mut fresh = begin(rt, folder, "kept").map_err(FolderFault::Kept)?;
+    shorten(rt, rt.alloc(), &mut past, &mut fresh, config).map_err(FolderFault::Run)?;
+    out.set_len(0).map_err(FolderFault::Out)?;
+    out.sync_all().map_err(FolderFault::Out)?;
+    settle(rt, folder, "kept", &fresh).map_err(FolderFault::Kept)?;
+    complete_out(rt, folder, config)?;
+    Ok(())
+}
+
+// Runs the site in a folder over standard input and output.
+fn run<R: Files<File = File> + Print + Input + AllocGlobal + Threads + Wait + Sync>(
+    rt: &R,
+    folder: &str,
+    config: &Config,
+    is_synced: bool,
+    settles: Option<Setup>,
+) -> Result<(), FolderFault> {
+    let mut recording = open_kept(rt, folder, is_synced).map_err(FolderFault::Kept)?;
+    let before = open(rt, folder, "out").map_err(FolderFault::Out)?;
+    let len = before.metadata().map_err(FolderFault::Out)?.len();
+    let file = open(rt, folder, "out").map_err(FolderFault::Out)?;
+    let out = OutFile::new(rt, folder, file, true, settles);
+    let mut answers = Answers::new(rt.alloc(), before.take(len), out);
+    let mut live = rt.reader();
+    match keep_site(
+        rt,
+        &mut recording,
+        &mut live,
+        &mut answers,
+        config,
+        RECORDS_MAX,
+    ) {
+        Ok(()) => Ok(()),
+        Err(KeepFault::WriteOut(e)) if answers.out.is_closed => Err(FolderFault::Closed(e)),
+        Err(fault) => Err(FolderFault::Run(fault)),
+    }
+}
+
+/// Runs the site in a folder over standard input and output, until the input ends: it is made, if there is none, and otherwise goes
+/// on where the last run was cut off.
+///
+/// # Errors
+///
+/// `NotBelow`, `IsOther` and `IsOld` if something was asked for that isn't of this folder: nothing was changed then. Others say what
+/// failed.
+pub fn keep_folder<
+    R: Files<File = File>
+        + Clock
+        + Print
+        + Input
+        + AllocGlobal
+        + RandomSource
+        + Threads
+        + Wait
+        + Sync,
+>(rt: &R, folder: &str, wanted: &Wanted) -> Result<(), FolderFault> {
+    fs::create_dir_all(rt, folder).map_err(FolderFault::Folder)?;
+    let _lock = take_lock(rt, folder)?;
+    let setup = settled(rt, folder, wanted)?;
+    let Some(asked) = wanted.goes_on(setup) else {
+        return Err(FolderFault::IsOther(setup));
+    };
+    let Some(config) = wanted.config(rt, setup) else {
+        return Err(FolderFault::NotBelow);
+    };
+    if setup.answers != ANSWERS {
+        if !wanted.upgrades {
+            return Err(FolderFault::IsOld(setup.answers));
+        }
+        upgrade(rt, folder, &config, setup)?;
+    }
+    if wanted.shortens {
+        return rewrite(rt, folder, &config);
+    }
+    let Some(config) = wanted.config(rt, asked) else {
+        return Err(FolderFault::NotBelow);
+    };
+    let settles = if asked.keep > setup.keep {
+        Some(Setup {
+            answers: ANSWERS,
+            ..asked
+        })
+    } else {
+        None
+    };
+    run(rt, folder, &config, wanted.is_synced, settles)
+}
