@@ -1,0 +1,367 @@
+#!/usr/bin/env python3
+"""Kills and tears sites that `rubis keep` runs: scripts/kill_keep.py PROGRAM [LIVES [SEED]]
+
+A shop of two sites: each life of a site is given a few of its own requests and packets of the other, some of them cut off
+within a line, and is killed (kill -9) at a random moment, or ends with its input; then its `out` may be torn anywhere. After
+each life, and at the end, `out` has to be the beginning of what `rubis site` answers to the whole lines of `kept`, and at the
+end all of it, after all packets were carried; the logs and tables of both sites then have to agree in an audit.
+
+A small site: `out` is torn at each of its bytes, and `kept` at each of its bytes with the answers to what is left of it; each
+start has to complete them. Where `out` has more than that, or a byte of it or a line of `kept` was changed, the start has to
+say so with status 1, and change nothing. At each size up to that of its files, the site runs on a disk that is full then: it has to
+say so with status 1, and the next start to go on.
+
+What was kept is shortened, killed at random moments: `kept` is the old one or the new one, and at the end shorter, with the same
+logs and tables.
+
+The seed is in the first line of the output, so that a run can be repeated; LIVES is 60 for the gate."""
+
+import pathlib
+import random
+import resource
+import shutil
+import signal
+import subprocess
+import sys
+import tempfile
+import time
+
+# For how many seconds anything may last.
+WAIT = 60
+
+
+class Failure(Exception):
+    pass
+
+
+def check(holds: bool, what: str) -> None:
+    if not holds:
+        raise Failure(what)
+
+
+def whole_lines(text: bytes) -> bytes:
+    """A text up to its last line end."""
+    return text[: text.rfind(b"\n") + 1]
+
+
+class Shop:
+    """The program, and a folder for sites."""
+
+    def __init__(self, program: str, folder: pathlib.Path) -> None:
+        self.program = program
+        self.folder = folder
+
+    def site(self, name: str, *options: str) -> "Site":
+        return Site(self, self.folder / name, options)
+
+    def audit(self, sites: list["Site"]) -> bytes:
+        """The verdict on the logs and tables of these sites."""
+        entries = []
+        for site in sites:
+            kept = site.kept()
+            listed = site.answers(kept + b"list,log\nlist,tables\n")[len(site.answers(kept)) :]
+            entries.append(b"site,%d" % site.number)
+            for row in listed.split(b"\n"):
+                if row.startswith(b"row,log,"):
+                    entries.append(row.split(b",", 3)[3])
+                elif row.startswith(b"row,"):
+                    entries.append(row)
+        records = b"\n".join(entries) + b"\n"
+        done = subprocess.run([self.program, "audit", "--sites", str(len(sites))], input=records, capture_output=True, timeout=WAIT, check=True)
+        return done.stdout
+
+
+class Site:
+    """A site in a folder."""
+
+    def __init__(self, shop: Shop, folder: pathlib.Path, options: tuple[str, ...]) -> None:
+        self.shop = shop
+        self.folder = folder
+        self.options = options
+        self.number = int(options[options.index("--site") + 1]) if "--site" in options else 0
+
+    def command(self, *more: str) -> list[str]:
+        return [self.shop.program, "keep", str(self.folder), *self.options, *more]
+
+    def read(self, name: str) -> bytes:
+        path = self.folder / name
+        return path.read_bytes() if path.exists() else b""
+
+    def kept(self) -> bytes:
+        return whole_lines(self.read("kept"))
+
+    def answers(self, records: bytes) -> bytes:
+        """What a site that keeps nothing answers to these records."""
+        done = subprocess.run([self.shop.program, "site", *self.options], input=records, capture_output=True, timeout=WAIT, check=True)
+        return done.stdout
+
+    def run(self, records: bytes = b"", full: int | None = None, more: tuple[str, ...] = ()) -> subprocess.CompletedProcess:
+        """One life from its start to the end of its input, on a disk that takes so many bytes a file."""
+
+        def limit() -> None:
+            signal.signal(signal.SIGXFSZ, signal.SIG_IGN)
+            resource.setrlimit(resource.RLIMIT_FSIZE, (full, full))
+
+        return subprocess.run(
+            self.command(*more), input=records, capture_output=True, timeout=WAIT, preexec_fn=None if full is None else limit
+        )
+
+    def begins_well(self, when: str) -> None:
+        expected = self.answers(self.kept())
+        check(expected.startswith(self.read("out")), f"{when}: out is no beginning of the answers to kept")
+
+    def ends_well(self, when: str) -> None:
+        check(self.read("out") == self.answers(self.kept()), f"{when}: out isn't the answers to kept")
+
+
+def requests(dice: random.Random, made: list[int]) -> bytes:
+    """A request, or what isn't one."""
+    made[0] += 1
+    kind = dice.randrange(16)
+    some = dice.randrange(1, 40)
+    other = dice.randrange(1, 40)
+    if kind == 0:
+        return b'"open,%d\n' % some
+    if kind == 1:
+        return b"x" * dice.randrange(4000, 4200) + b"\n"
+    if kind == 2:
+        return b'item,0.%d,"a, ""b""",7,3,10,100\r\n' % some
+    if kind == 3:
+        return b"\n"
+    if kind == 4:
+        return b"list,users\n"
+    if kind == 5:
+        return b"\xef\xbb\xbfuser,mark\n"
+    if kind < 10:
+        return b"user,u%d\n" % made[0]
+    return b"bid,%d.%d,%d.%d,%d\n" % (some % 2, some, other % 2, other, dice.randrange(1, 9999))
+
+
+def sent(site: Site) -> list[bytes]:
+    """The packets that a site sent, as its whole lines say."""
+    return [line.removeprefix(b"send,") + b"\n" for line in whole_lines(site.read("out")).split(b"\n") if line.startswith(b"send,")]
+
+
+def live(dice: random.Random, site: Site, made: list[int], packets: list[bytes], kills: bool) -> bool:
+    """A life: whether it was killed."""
+    process = subprocess.Popen(site.command(), stdin=subprocess.PIPE, stdout=subprocess.DEVNULL, stderr=subprocess.PIPE)
+    end = time.monotonic() + dice.random() * 0.04
+    at = 0
+    try:
+        while time.monotonic() < end:
+            lines = [requests(dice, made) for _ in range(dice.randrange(1, 30))]
+            some = dice.randrange(20)
+            lines += packets[at : at + some]
+            at += some
+            dice.shuffle(lines)
+            text = b"".join(lines)
+            if dice.random() < 0.2:
+                text = text[: dice.randrange(len(text))]
+            process.stdin.write(text)
+            process.stdin.flush()
+            time.sleep(dice.random() * 0.002)
+    except BrokenPipeError:
+        pass
+    if kills:
+        process.kill()
+    try:
+        process.stdin.close()
+    except BrokenPipeError:
+        pass
+    said = process.stderr.read()
+    status = process.wait(WAIT)
+    check(kills or status == 0, f"status {status}: {said!r}")
+    return kills
+
+
+def kill_a_shop(shop: Shop, dice: random.Random, lives: int) -> str:
+    """Two sites that are killed, whose packets are carried, and then are audited."""
+    sites = [shop.site(str(number), "--site", str(number), "--sites", "2") for number in (0, 1)]
+    made = [0]
+    killed = 0
+    for _ in range(lives):
+        number = dice.randrange(2)
+        site = sites[number]
+        packets = sent(sites[1 - number])
+        dice.shuffle(packets)
+        if dice.random() < 0.1:
+            packets = [b"pass,%d\n" % (1 - number), *packets]
+        killed += live(dice, site, made, packets, dice.random() < 0.8)
+        site.begins_well(f"a life of site {number}")
+        if dice.random() < 0.5:
+            torn = site.read("out")
+            (site.folder / "out").write_bytes(torn[: dice.randrange(len(torn) + 1)])
+    for _ in range(3):
+        for number in (0, 1):
+            done = sites[number].run(b"".join(sent(sites[1 - number])))
+            check(done.returncode == 0, f"the last lives: {done.stderr!r}")
+    for site in sites:
+        site.run()
+        site.ends_well("the last lives")
+    verdict = shop.audit(sites)
+    check(verdict == b"audit,Agree\n", f"the audit says {verdict!r}")
+    return f"{lives} lives of two sites, {killed} of them killed: {sum(len(site.kept().splitlines()) for site in sites)} lines kept"
+
+
+SMALL = b'user,ann\nitem,0.1,"a, ""b""",7,3,10,100\n"open\nlist,users\nbid,0.2,0.1,20\n\nuser,ann\npass,0\n'
+
+
+def refuses(site: Site, what: str) -> None:
+    """A start that has to refuse what it finds, and to change nothing."""
+    before = (site.read("kept"), site.read("out"))
+    done = site.run(b"user,never\n")
+    check(done.returncode == 1 and done.stderr.startswith(b"run fault: "), f"{what}: status {done.returncode}, {done.stderr!r}")
+    check((site.read("kept"), site.read("out")) == before, f"{what}: something was changed")
+
+
+def tear_a_small_site(shop: Shop) -> str:
+    """`out` and `kept` torn at each byte."""
+    site = shop.site("small")
+    site.run(SMALL)
+    site.ends_well("a small site")
+    kept, out = site.read("kept"), site.read("out")
+    for size in range(len(out)):
+        (site.folder / "out").write_bytes(out[:size])
+        done = site.run()
+        check(done.returncode == 0 and site.read("out") == out, f"out torn at {size}: {done.stderr!r}")
+    for size in range(len(kept)):
+        (site.folder / "kept").write_bytes(kept[:size])
+        left = site.answers(whole_lines(kept[:size]))
+        (site.folder / "out").write_bytes(left[: len(left) * size // len(kept)])
+        done = site.run()
+        check(done.returncode == 0 and site.read("out") == left, f"kept torn at {size}: {done.stderr!r}")
+        check(site.read("kept") == whole_lines(kept[:size]), f"kept torn at {size} isn't cut")
+    return f"a small site torn at {len(out)} + {len(kept)} places"
+
+
+def change_a_small_site(shop: Shop, dice: random.Random) -> str:
+    """`out` with another byte or too many, and `kept` with a line that no run keeps."""
+    site = shop.site("changed")
+    site.run(SMALL)
+    kept, out = site.read("kept"), site.read("out")
+    places = range(len(out))
+    for at in places:
+        (site.folder / "out").write_bytes(out[:at] + bytes([out[at] ^ 1]) + out[at + 1 :])
+        refuses(site, f"out with another byte at {at}")
+    (site.folder / "out").write_bytes(out + b"reply,9,ok,0.9\n")
+    refuses(site, "out with a line too many")
+    (site.folder / "out").write_bytes(out)
+    for line in (b'user,"bob\n', b"x" * 5000 + b"\n", b"\xefuser,bob\n"):
+        lines = kept.splitlines(keepends=True)
+        lines.insert(dice.randrange(len(lines) + 1), line)
+        (site.folder / "kept").write_bytes(b"".join(lines))
+        refuses(site, f"kept with {line[:10]!r}")
+    return f"a small site changed at {len(places)} places"
+
+
+def fill_a_disk(shop: Shop) -> str:
+    """A disk that is full after each number of bytes."""
+    whole = shop.site("whole")
+    whole.run(SMALL)
+    largest = max(len(whole.read("kept")), len(whole.read("out")))
+    for size in range(largest):
+        site = shop.site("full")
+        shutil.rmtree(site.folder, ignore_errors=True)
+        done = site.run(SMALL, full=size)
+        check(done.returncode == 1 and done.stderr.startswith(b"run fault: "), f"a disk of {size} bytes: {done.returncode}, {done.stderr!r}")
+        if (site.folder / "setup").exists():
+            site.begins_well(f"a disk of {size} bytes")
+        done = site.run(SMALL)
+        check(done.returncode == 0, f"after a disk of {size} bytes: {done.stderr!r}")
+        site.ends_well(f"after a disk of {size} bytes")
+    return f"disks of 0 to {largest - 1} bytes"
+
+
+def packets_of(answers: bytes) -> list[bytes]:
+    return [line for line in answers.split(b"\n") if line.startswith(b"send,")]
+
+
+def shorten_a_site(shop: Shop, dice: random.Random, lives: int) -> str:
+    """What was kept is shortened, and the shortening killed."""
+    site = shop.site("short")
+    made = [0]
+    records = b"".join(requests(dice, made) for _ in range(2000))
+    done = site.run(records)
+    check(done.returncode == 0, f"a site to be shortened: {done.stderr!r}")
+    kept, out = site.read("kept"), site.read("out")
+    listed = [site.answers(kept + b"list,%s\n" % name)[len(out) :].split(b"\n")[1:] for name in (b"log", b"tables")]
+    began = time.monotonic()
+    done = site.run(more=("--shorten",))
+    check(done.returncode == 0 and done.stdout == b"", f"--shorten: {done.stderr!r}")
+    took = time.monotonic() - began
+    short = site.read("kept")
+    killed = 0
+    news = 0
+    for _ in range(lives):
+        (site.folder / "kept").write_bytes(kept)
+        (site.folder / "out").write_bytes(out)
+        process = subprocess.Popen(site.command("--shorten"), stdin=subprocess.DEVNULL, stdout=subprocess.DEVNULL, stderr=subprocess.PIPE)
+        time.sleep(dice.random() * took * 1.2)
+        process.kill()
+        _, said = process.communicate(timeout=WAIT)
+        killed += process.returncode != 0
+        check(process.returncode in (0, -signal.SIGKILL), f"--shorten: {said!r}")
+        now = site.read("kept")
+        check(now in (kept, short), "--shorten left neither the old file nor the new one")
+        news += now == short
+        site.begins_well("--shorten")
+    done = site.run(more=("--shorten",))
+    check(done.returncode == 0, f"--shorten: {done.stderr!r}")
+    site.ends_well("--shorten")
+    check(site.read("kept") == short and len(short) < len(kept), "--shorten left too much")
+    answers = site.read("out")
+    check(packets_of(answers) == packets_of(out), "a shortened site sends other packets")
+    for name, rows in zip((b"log", b"tables"), listed):
+        check(site.answers(site.read("kept") + b"list,%s\n" % name)[len(answers) :].split(b"\n")[1:] == rows, f"a shortened site has another {name}")
+    done = site.run(more=("--shorten",))
+    check(done.returncode == 0 and site.read("out") == answers, "--shorten of what is short")
+    return f"{len(kept.splitlines())} lines shortened to {len(site.kept().splitlines())}, {killed} of {lives} times killed, {news} times once it was done"
+
+
+def refuse_another_setup(shop: Shop) -> str:
+    """Options that say otherwise than the folder, and a second start."""
+    site = shop.site("two", "--site", "1", "--sites", "2")
+    site.run(b"list,users\n")
+    before = (site.read("kept"), site.read("out"), site.read("setup"))
+    for options in (("--site", "0"), ("--sites", "3"), ("--keep", "5")):
+        done = subprocess.run([shop.program, "keep", str(site.folder), *options], input=b"user,never\n", capture_output=True, timeout=WAIT)
+        text = f"fault: {site.folder} is site 1 of 2, and keeps 1000000\n"
+        check(done.returncode == 2 and done.stderr.decode() == text, f"{options}: status {done.returncode}, {done.stderr!r}")
+    check((site.read("kept"), site.read("out"), site.read("setup")) == before, "another setup: something was changed")
+    first = subprocess.Popen(site.command(), stdin=subprocess.PIPE, stdout=subprocess.PIPE)
+    try:
+        check(first.stdout.readline() == b"kept,1,0:0\n", "the first line of a run")
+        done = site.run()
+        check(done.returncode == 1 and done.stderr.decode() == f"run fault: {site.folder} is running\n", f"a second start: {done.stderr!r}")
+    finally:
+        first.stdin.close()
+        first.wait(WAIT)
+    return "other setups and a second start"
+
+
+def main() -> None:
+    if len(sys.argv) < 2:
+        sys.exit(__doc__)
+    program = str(pathlib.Path(sys.argv[1]).resolve())
+    lives = int(sys.argv[2]) if len(sys.argv) > 2 else 60
+    seed = int(sys.argv[3]) if len(sys.argv) > 3 else random.randrange(1 << 32)
+    print(f"kill_keep.py: seed {seed}, {lives} lives", flush=True)
+    dice = random.Random(seed)
+    with tempfile.TemporaryDirectory() as folder:
+        shop = Shop(program, pathlib.Path(folder))
+        try:
+            for done in (
+                lambda: kill_a_shop(shop, dice, lives),
+                lambda: tear_a_small_site(shop),
+                lambda: change_a_small_site(shop, dice),
+                lambda: fill_a_disk(shop),
+                lambda: shorten_a_site(shop, dice, max(10, lives // 3)),
+                lambda: refuse_another_setup(shop),
+            ):
+                print(f"  {done()}", flush=True)
+        except Failure as failure:
+            sys.exit(f"kill_keep.py: {failure}")
+
+
+if __name__ == "__main__":
+    main()
