@@ -5,8 +5,8 @@ _rubis() {
     if [[ $word == = ]]; then word=; elif [[ $before == = ]]; then before=${COMP_WORDS[COMP_CWORD - 2]}; fi
     [[ $COMP_CWORD -gt 1 ]] || command=
     case $command,$before in
-    ,*) words='site world audit widen help --help --version' ;;
-    help,*) words='site world audit widen' ;;
+    ,*) words='site world audit widen keep help --help --version' ;;
+    help,*) words='site world audit widen keep' ;;
     site,--site) words='0 1 2 3 4 5 6 7 8 9 10 11 12 13 14 15' ;;
     site,--sites) words='1 2 3 4 5 6 7 8 9 10 11 12 13 14 15 16' ;;
     site,--shards) words='1 2 4 8 16 32 64' ;;
@@ -25,6 +25,13 @@ _rubis() {
     widen,--sites) words='1 2 3 4 5 6 7 8 9 10 11 12 13 14 15 16' ;;
     widen,--to) words='1 2 3 4 5 6 7 8 9 10 11 12 13 14 15 16' ;;
     widen,*) words='--sites --to --help' ;;
+    keep,--site) words='0 1 2 3 4 5 6 7 8 9 10 11 12 13 14 15' ;;
+    keep,--sites) words='1 2 3 4 5 6 7 8 9 10 11 12 13 14 15 16' ;;
+    keep,--keep) words='1000000' ;;
+    keep,--shards) words='1 2 4 8 16 32 64' ;;
+    keep,--workers) words='1 2 3 4 5 6 7 8 9 10 11 12 13 14 15 16' ;;
+    keep,--batch) words='1 2 4 8 16 32 64 128 256 512 1024 2048 4096 8192 16384 32768 65536' ;;
+    keep,*) words='--site --sites --keep --shards --workers --batch --sync --shorten --upgrade --help' ;;
     esac
     mapfile -t COMPREPLY < <(compgen -W "$words" -- "$word")
 }

@@ -1,7 +1,7 @@
 # Completion of rubis for fish. Written by scripts/write_help.py; changes are lost.
 complete -c rubis -f
 complete -c rubis -s h -l help -d 'Prints the help'
-set -l commands site world audit widen
+set -l commands site world audit widen keep
 complete -c rubis -n "not __fish_seen_subcommand_from $commands help" -s V -l version -d 'Prints the version'
 complete -c rubis -n "not __fish_seen_subcommand_from $commands help" -a help -d 'Prints the help of a command'
 complete -c rubis -n "__fish_seen_subcommand_from help" -a "$commands"
@@ -23,3 +23,14 @@ complete -c rubis -n "__fish_seen_subcommand_from audit" -l sites -x -a '1 2 3 4
 complete -c rubis -n "not __fish_seen_subcommand_from $commands help" -a widen -d 'Rewrites logs for more sites, so that they can be audited with those of larger shops'
 complete -c rubis -n "__fish_seen_subcommand_from widen" -l sites -x -a '1 2 3 4 5 6 7 8 9 10 11 12 13 14 15 16' -d 'How many sites there are, 1 to 16, 1 by default'
 complete -c rubis -n "__fish_seen_subcommand_from widen" -l to -x -a '1 2 3 4 5 6 7 8 9 10 11 12 13 14 15 16' -d 'How many sites the messages are to count, 1 to 16 and not below --sites, 16 by default'
+complete -c rubis -n "not __fish_seen_subcommand_from $commands help" -a keep -d 'Runs a site that stays up: keeps each record before it is answered, and goes on after a crash'
+complete -c rubis -n "__fish_seen_subcommand_from keep" -l site -x -a '0 1 2 3 4 5 6 7 8 9 10 11 12 13 14 15' -d 'Which site this is, 0 to 15 and below --sites; by default what the folder says, or 0'
+complete -c rubis -n "__fish_seen_subcommand_from keep" -l sites -x -a '1 2 3 4 5 6 7 8 9 10 11 12 13 14 15 16' -d 'How many sites there are, 1 to 16; by default what the folder says, or 1'
+complete -c rubis -n "__fish_seen_subcommand_from keep" -l keep -x -a '1000000' -d 'How many messages the site keeps, 1 to 1000000; by default what the folder says, or 1000000'
+complete -c rubis -n "__fish_seen_subcommand_from keep" -l shards -x -a '1 2 4 8 16 32 64' -d 'How many shards the tables have, 1 to 64; changes no answer, 4 by default'
+complete -c rubis -n "__fish_seen_subcommand_from keep" -l workers -x -a '1 2 3 4 5 6 7 8 9 10 11 12 13 14 15 16' -d 'How many threads may apply a batch, 1 to 16; changes no answer, 2 by default'
+complete -c rubis -n "__fish_seen_subcommand_from keep" -l batch -x -a '1 2 4 8 16 32 64 128 256 512 1024 2048 4096 8192 16384 32768 65536' -d 'How many released messages make a batch, 1 to 65536; changes no answer, 64 by default'
+complete -c rubis -n "__fish_seen_subcommand_from keep" -l sync -d 'Has each record on the disk before it is answered'
+complete -c rubis -n "__fish_seen_subcommand_from keep" -l shorten -d 'Rewrites what was kept without the records that changed nothing, and reads none'
+complete -c rubis -n "__fish_seen_subcommand_from keep" -l upgrade -d 'Writes answers in the text of another version anew'
+complete -c rubis -n "__fish_seen_subcommand_from keep" -a "(__fish_complete_directories)"

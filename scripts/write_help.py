@@ -23,11 +23,16 @@ OFFERED = 16
 
 @dataclasses.dataclass
 class Option:
+    """An option that takes a number of a range, or that takes nothing."""
     name: str
     help: str
-    default: str
-    low: int
-    high: int
+    default: str | None = None
+    low: int = 0
+    high: int = 0
+
+    @property
+    def takes_number(self) -> bool:
+        return self.high > 0
 
     @property
     def range(self) -> str:
@@ -39,13 +44,14 @@ class Option:
         if self.high <= OFFERED:
             return [str(value) for value in range(self.low, self.high + 1)]
         powers = [1 << place for place in range(self.high.bit_length())]
-        return [str(value) for value in powers] if powers[-1] == self.high else [self.default]
+        return [str(value) for value in powers] if powers[-1] == self.high else [self.default or str(self.high)]
 
     @property
     def words(self) -> str:
         """Its help with its range, unless that is in it, and its default."""
-        has_range = f"{self.low} to {self.high}" in self.help.replace(",", "")
-        return self.help + ("" if has_range else f": {self.range}") + f", {int(self.default):,} by default"
+        has_range = not self.takes_number or f"{self.low} to {self.high}" in self.help.replace(",", "")
+        default = "" if self.default is None else f", {int(self.default):,} by default"
+        return self.help + ("" if has_range else f": {self.range}") + default
 
 
 @dataclasses.dataclass
@@ -53,6 +59,8 @@ class Command:
     name: str
     about: str
     options: list[Option]
+    # The name and the help of an argument that has to be given, if there is one.
+    argument: tuple[str, str] | None
 
 
 @dataclasses.dataclass
@@ -73,10 +81,18 @@ def options_of(program: str, command: str, text: str) -> list[Option]:
         words = " ".join(words.split())
         default = re.search(r" ?\[default: (.*?)\]", words)
         bounds = re.search(r"is not in (\d+)\.\.=(\d+)", said(program, command, f"--{name}", TOO_LARGE))
-        if default is None or bounds is None:
+        if bounds is None or (default is None and "by default" not in words):
             sys.exit(f"write_help.py: no default or no range of {command} --{name}")
-        made.append(Option(name, words.replace(default.group(0), ""), default.group(1), int(bounds.group(1)), int(bounds.group(2))))
+        own = words if default is None else words.replace(default.group(0), "")
+        made.append(Option(name, own, None if default is None else default.group(1), int(bounds.group(1)), int(bounds.group(2))))
+    for name, words in re.findall(r"^ {2,}--([\w-]+)  +(\S.*)", text, re.M):
+        made.append(Option(name, words))
     return made
+
+
+def argument_of(text: str) -> tuple[str, str] | None:
+    found = re.search(r"^Arguments:\n  <(\w+)>\s+(.*)", text, re.M)
+    return None if found is None else (found.group(1), found.group(2))
 
 
 def command_line_of(program: str) -> CommandLine:
@@ -86,7 +102,8 @@ def command_line_of(program: str) -> CommandLine:
     for name in re.findall(r"^  (\w+) ", part, re.M):
         if name != "help":
             own = said(program, name, "--help")
-            commands.append(Command(name, own.split("\n\n")[0].replace("\n", " "), options_of(program, name, own)))
+            about = own.split("\n\n")[0].replace("\n", " ")
+            commands.append(Command(name, about, options_of(program, name, own), argument_of(own)))
     return CommandLine(said(program, "--version").split()[-1], text.split("\n")[0], commands)
 
 
@@ -101,8 +118,8 @@ def roff(text: str) -> str:
 
 STATUSES = [
     ("0", "The run is done, whatever was refused; or the help or the version was asked for."),
-    ("1", "The run ended early. Standard error has one line: run fault: read, run fault: write, run fault: memory, or run fault: too long (more than 4,000,000 records)."),
-    ("2", "The command line isn't one. Standard error says why."),
+    ("1", "The run ended early. Standard error has one line: run fault: read, run fault: write, run fault: memory, or run fault: too long (more than 4,000,000 records); or, of rubis keep, what else failed and why."),
+    ("2", "The command line isn't one, or asks for another site than the folder has. Standard error says why."),
 ]
 
 
@@ -115,19 +132,24 @@ def man_page(line: CommandLine) -> str:
         ".SH SYNOPSIS",
     ]
     for command in line.commands:
-        options = " ".join(f"[\\fB\\-\\-{option.name}\\fR \\fIn\\fR]" for option in command.options)
-        out += [f".B rubis {command.name}", options, ".br"]
+        words = [] if command.argument is None else [f"\\fI{command.argument[0]}\\fR"]
+        number = {True: " \\fIn\\fR", False: ""}
+        words += [f"[\\fB\\-\\-{option.name}\\fR{number[option.takes_number]}]" for option in command.options]
+        out += [f".B rubis {command.name}", " ".join(words), ".br"]
     out[-1:] = [
         ".SH DESCRIPTION",
-        roff("Each site accepts requests locally, sends the accepted operations to its peers and applies theirs, despite delay, duplication or reordering. It reads records on standard input, one a line, and writes the answers on standard output. It opens no sockets and writes no files: sites are connected by carrying lines between them."),
+        roff("Each site accepts requests locally, sends the accepted operations to its peers and applies theirs, despite delay, duplication or reordering. It reads records on standard input, one a line, and writes the answers on standard output. It opens no sockets, and only rubis keep writes files: sites are connected by carrying lines between them."),
         ".PP",
-        roff("No answer depends on --batch, --shards or --workers. Each option takes a number; an option that is given twice is an error."),
+        roff("No answer depends on --batch, --shards or --workers. An option that is given twice is an error."),
         ".SH COMMANDS",
     ]
     for command in line.commands:
         out += [f".SS rubis {command.name}", roff(command.about) + "."]
+        if command.argument is not None:
+            out += [".TP", f".I {command.argument[0]}", roff(command.argument[1]) + "."]
         for option in command.options:
-            out += [".TP", f".BR \\-\\-{option.name} \" \\fIn\\fR\"", roff(option.words) + "."]
+            number = ' " \\fIn\\fR"' if option.takes_number else ""
+            out += [".TP", f".BR \\-\\-{option.name}{number}", roff(option.words) + "."]
     out += [
         ".SH OPTIONS",
         ".TP",
@@ -182,7 +204,8 @@ def bash_completion(line: CommandLine) -> str:
     ]
     for command in line.commands:
         for option in command.options:
-            out.append(f"    {command.name},--{option.name}) words='{' '.join(option.values)}' ;;")
+            if option.takes_number:
+                out.append(f"    {command.name},--{option.name}) words='{' '.join(option.values)}' ;;")
         out.append(f"    {command.name},*) words='{' '.join('--' + option.name for option in command.options)} --help' ;;")
     out += ["    esac", '    mapfile -t COMPREPLY < <(compgen -W "$words" -- "$word")', "}", "complete -F _rubis rubis", ""]
     return "\n".join(out)
@@ -191,7 +214,13 @@ def bash_completion(line: CommandLine) -> str:
 def zsh_completion(line: CommandLine) -> str:
     def spec(option: Option) -> str:
         words = option.help.replace("[", "(").replace("]", ")").replace(":", " -")
-        return quoted(f"--{option.name}=[{words}]:{option.range}, {int(option.default):,} by default:({' '.join(option.values)})")
+        if not option.takes_number:
+            return quoted(f"--{option.name}[{words}]")
+        default = "" if option.default is None else f", {int(option.default):,} by default"
+        return quoted(f"--{option.name}=[{words}]:{option.range}{default}:({' '.join(option.values)})")
+
+    def argument(command: Command) -> list[str]:
+        return [] if command.argument is None else [f"                {quoted('1:' + command.argument[0] + ':_files -/')}"]
 
     out = [
         "#compdef rubis",
@@ -212,7 +241,7 @@ def zsh_completion(line: CommandLine) -> str:
     for command in line.commands:
         out.append(f"        {command.name})")
         out.append("            _arguments '(-h --help)'{-h,--help}'[Prints the help]' \\")
-        out.append(" \\\n".join(f"                {spec(option)}" for option in command.options))
+        out.append(" \\\n".join([f"                {spec(option)}" for option in command.options] + argument(command)))
         out.append("            ;;")
     out += [
         "        help) _describe command commands ;;",
@@ -244,7 +273,10 @@ def fish_completion(line: CommandLine) -> str:
     for command in line.commands:
         out.append(f"complete -c rubis -n \"not __fish_seen_subcommand_from $commands help\" -a {command.name} -d {fish(command.about)}")
         for option in command.options:
-            out.append(f"complete -c rubis -n \"__fish_seen_subcommand_from {command.name}\" -l {option.name} -x -a {fish(' '.join(option.values))} -d {fish(option.words)}")
+            values = f" -x -a {fish(' '.join(option.values))}" if option.takes_number else ""
+            out.append(f"complete -c rubis -n \"__fish_seen_subcommand_from {command.name}\" -l {option.name}{values} -d {fish(option.words)}")
+        if command.argument is not None:
+            out.append(f"complete -c rubis -n \"__fish_seen_subcommand_from {command.name}\" -a \"(__fish_complete_directories)\"")
     return "\n".join(out) + "\n"
 
 
