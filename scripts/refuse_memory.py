@@ -109,7 +109,6 @@ ENDS = {
     "whole_world": b"! run fault: memory\n",
     "whole_audit": b"! run fault: memory\n",
     "world_behind": b"! World: behind, unchanged\n",
-    "world_behind_by_a_listing": b"! World: behind, unchanged\n",
 }
 
 # What has to be told in some run of a scenario.
@@ -119,7 +118,6 @@ SHOWN = {
     "every_growth_windows": rb"! Site::catch_up: \d+ parts",
     "two_shares_again": rb"! apply_all: memory, unchanged",
     "world_behind": rb"! World: behind, unchanged",
-    "world_behind_by_a_listing": rb"! World: behind, unchanged",
 }
 
 # What is answered if nothing is refused: a conversation, and how many of its records there are.
