@@ -1,11 +1,11 @@
 -- Runs that are cut off and start again.
-use Rattle.std.proofs.Common.{◌≡◌, ◌∙◌, ◌⊎◌, inl, inr, ◌++◌, ◌∷◌, [], ℕ, List, Option, Some, None, drop, take, refl, sym, ap, subst}
+use Rattle.std.proofs.Common.{◌≡◌, ◌∙◌, ◌⊎◌, inl, inr, ◌++◌, ◌∷◌, [], ℕ, List, Some, drop, take, refl, sym, ap, subst}
 use Rattle.std.proofs.lemmas.List.{append-nil, take-append-drop}
 use Rattle.rubis_engine.specs.Accounts.{Account}
 use Rattle.rubis_engine.specs.Accounts.Ending.{AtEnd, Cut}
 use Rattle.rubis_engine.specs.Text.{input_records}
 use Rattle.rubis_keep.specs.Crashes.{ComesBack, DifferencesAreFound, EditsAreFound, EndsLeft, Files, IsLeft, IsRefused, Life, LivesLeft, after_life, after_lives, files_of, goes_on}
-use Rattle.rubis_keep.specs.Kept.{Ended, IsFrontOf, Lived}
+use Rattle.rubis_keep.specs.Kept.{Ended, IsFrontOf}
 use Rattle.rubis_keep.specs.Lines.{AreSound, begun_after, kept_of, whole_lines}
 use Rattle.rubis_keep.proofs.LineFacts.{begun-append}
 use Rattle.rubis_keep.proofs.SoundFacts.{kept-ends, kept-goes-on, kept-sound, sound-append, sound-front, whole-ends, whole-rest, whole-sound}

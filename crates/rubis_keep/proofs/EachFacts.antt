@@ -1,5 +1,5 @@
 -- What holds of every run that rests or feeds, as it goes on.
-use Rattle.std.proofs.Common.{◌≡◌, ◌∙◌, ◌+◌, ◌++◌, [], ℕ, List, Option, refl, sym, ap, subst, true, false}
+use Rattle.std.proofs.Common.{◌≡◌, ◌+◌, ◌++◌, [], ℕ, List, Option, sym, subst, true, false}
 use Rattle.std.specs.Prelude.{OnErr, OnOk, Result, Ok, Err}
 use Rattle.rubis_engine.specs.Accounts.{Account, AnswersRecord}
 use Rattle.rubis_engine.specs.Accounts.Ending.{Cut}

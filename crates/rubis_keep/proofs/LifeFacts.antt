@@ -9,16 +9,14 @@ use Rattle.csv.proofs.WriteFacts.{appends-none}
 use Rattle.rubis_engine.specs.Accounts.{Account}
 use Rattle.rubis_engine.specs.Accounts.Ending.{AtEnd, Cut}
 use Rattle.rubis_engine.specs.Text.{input_records}
-use Rattle.rubis_keep.specs.Kept.{Begins, CutsTo, Ended, Fails, HasAnswered, IsFrontOf, Lived, Opens, OutEnds, Replayed, Rests, Stands, Wrote}
+use Rattle.rubis_keep.specs.Kept.{Begins, CutsTo, Ended, Fails, HasAnswered, IsFrontOf, Lived, Opens, OutEnds, Replayed, Stands}
 use Rattle.rubis_keep.specs.Lines.{AreSound, begun_after, is_marked, kept_after, kept_of, whole_after, whole_lines}
-use Rattle.rubis_keep.specs.Places.{begun_bytes}
 use Rattle.rubis_keep.specs.Whole.{IsWhole}
 use Rattle.rubis_keep.proofs.FileFacts.{consumes-none}
 use Rattle.rubis_keep.proofs.LineFacts.{begun-append, kept-append}
 use Rattle.rubis_keep.proofs.RecordFacts.{records-append, none-whole}
-use Rattle.rubis_keep.proofs.RestFacts.{keeps-same, rests-ends}
 use Rattle.rubis_keep.proofs.StandFacts.{HaveFailed, HaveGone, each-stops, gone-failed}
-use Rattle.rubis_keep.proofs.SoundFacts.{kept-ends, kept-goes-on, kept-sound, sound-append, sound-back, sound-front, sound-kept, whole-append-after, whole-ends, whole-rest, whole-sound, whole-whole}
+use Rattle.rubis_keep.proofs.SoundFacts.{kept-ends, kept-sound, sound-append, sound-back, sound-front, sound-kept, whole-append-after, whole-ends, whole-rest, whole-sound}
 use Rattle.rubis_keep.proofs.WholeFacts.{kept-whole, whole-append}
 
 -- a run over an input begins

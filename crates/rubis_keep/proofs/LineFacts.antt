@@ -1,5 +1,5 @@
 -- How the lines of an input go on.
-use Rattle.std.proofs.Common.{◌&&◌, ◌≡◌, ◌∙◌, ◌++◌, ◌∷◌, ◌+◌, ◌≤◌, ◌<◌, [], ℕ, List, Bool, true, false, cond, eqb, leb, get_or, length, take, refl, ap, sym, subst, arith, append_assoc, length-append}
+use Rattle.std.proofs.Common.{◌&&◌, ◌≡◌, ◌∙◌, ◌++◌, ◌∷◌, ◌+◌, ◌≤◌, ◌<◌, [], ℕ, List, Bool, true, false, cond, eqb, leb, get_or, length, take, refl, ap, sym, arith, append_assoc, length-append}
 use Rattle.std.proofs.lemmas.Bool.{leb-true, leb-false, lt-leb}
 use Rattle.std.proofs.lemmas.List.{length-take, length-take-le, take_all, take_more, take-append-le}
 use Rattle.rubis_keep.specs.Places.{begun_bytes}

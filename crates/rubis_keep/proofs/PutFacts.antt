@@ -1,14 +1,14 @@
 -- Texts that were put one after the other.
-use Rattle.std.proofs.Common.{◌≡◌, ◌∙◌, ◌≤◌, ◌<◌, ◌+◌, ◌-◌, ◌⊎◌, inl, inr, ◌++◌, ◌∷◌, [], ℕ, zero, suc, List, Option, Some, None, drop, length, take, refl, sym, ap, subst, arith, append_assoc, length-append}
+use Rattle.std.proofs.Common.{◌≡◌, ◌∙◌, ◌≤◌, ◌+◌, ◌-◌, ◌⊎◌, inl, inr, ◌++◌, ◌∷◌, [], ℕ, List, Option, Some, None, drop, length, take, refl, sym, ap, subst, arith, append_assoc}
 use Rattle.std.proofs.lemmas.Bool.{cases_lt}
 use Rattle.std.proofs.lemmas.List.{append-nil, drop-take, drop_all, length-take, take-append-drop, take-take, take_all, take_rest}
-use Rattle.std.specs.Io.KnownBytes.{Appends, Consumes, IsAtEnd, Keeps}
-use Rattle.csv.proofs.WriteFacts.{appends-more, appends-none}
+use Rattle.std.specs.Io.KnownBytes.{Appends, Consumes}
+use Rattle.csv.proofs.WriteFacts.{appends-more}
 use Rattle.rubis_engine.specs.Accounts.{Account}
 use Rattle.rubis_engine.specs.Accounts.Ending.{AtEnd}
 use Rattle.rubis_engine.specs.Text.{input_records}
 use Rattle.rubis_keep.specs.Files.{AppendsFront, Found}
-use Rattle.rubis_keep.specs.Kept.{IsUnread, OutEnds, Puts, PutsFront, Wrote}
+use Rattle.rubis_keep.specs.Kept.{OutEnds, Puts, PutsFront, Wrote}
 use Rattle.rubis_keep.proofs.FileFacts.{appends-kept, more-bound}
 
 pub puts-front : (before before2 out out2 : Option (List ℕ)) (n : ℕ) (text : List ℕ) → Found before before2 text n

@@ -1,8 +1,8 @@
 -- Shops of sites that keep their records.
-use Rattle.std.proofs.Common.{◌≡◌, ◌∙◌, ◌≤◌, ◌<◌, ◌+◌, ◌++◌, ◌∷◌, [], ℕ, suc, Bool, true, false, cond, eqb, List, length, refl, sym, ap, subst, arith, append_assoc, append-nil, length-append}
+use Rattle.std.proofs.Common.{◌≡◌, ◌∙◌, ◌≤◌, ◌++◌, ◌∷◌, [], ℕ, Bool, true, false, cond, eqb, List, length, refl, sym, ap, subst, arith, append_assoc, append-nil, length-append}
 use Rattle.std.proofs.lemmas.Bool.{eqb-true}
-use Rattle.rubis_model.specs.Processes.{Reading, read_by}
-use Rattle.rubis_model.specs.Restarts.{AreReplayed, CarriedWithRestarts, Moment, Replayed, has_read, read_on, recorded}
+use Rattle.rubis_model.specs.Processes.{read_by}
+use Rattle.rubis_model.specs.Restarts.{AreReplayed, Moment, has_read, read_on, recorded}
 use Rattle.rubis_model.specs.Restarts.Moment.{Reads, Replays, Restarts}
 use Rattle.rubis_laws.proofs.Processes.{processes_run, read_more}
 use Rattle.rubis_laws.proofs.Restarts.{nothing_left_out, restarted_agree, restarts_change_nothing}

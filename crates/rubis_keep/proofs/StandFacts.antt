@@ -1,10 +1,9 @@
 -- How a run over an input goes on, piece by piece.
-use Rattle.std.proofs.Common.{◌≡◌, ◌∙◌, ◌+◌, ◌⊎◌, inl, inr, ◌++◌, [], ℕ, Bool, List, Option, Some, None, drop, length, take, refl, sym, ap, subst, arith, append_assoc, length-append}
+use Rattle.std.proofs.Common.{◌≡◌, ◌∙◌, ◌+◌, ◌++◌, [], ℕ, Bool, List, Option, drop, length, take, refl, sym, ap, subst, arith, append_assoc, length-append}
 use Rattle.std.proofs.lemmas.List.{append-nil, take-append-drop}
-use Rattle.std.specs.Io.KnownBytes.{Appends, Consumes, Keeps}
+use Rattle.std.specs.Io.KnownBytes.{Appends, Consumes}
 use Rattle.csv.proofs.WriteFacts.{appends-more, appends-none}
 use Rattle.rubis_engine.specs.Accounts.{Account}
-use Rattle.rubis_keep.specs.Files.{AppendsFront}
 use Rattle.rubis_keep.specs.Kept.{Fails, InEachRest, InEachStand, KeptFront, OutEnds, Rests, Stands, TookPiece}
 use Rattle.rubis_keep.specs.Lines.{begun_after, kept_after}
 use Rattle.rubis_keep.specs.Places.{begun_bytes}
@@ -12,7 +11,7 @@ use Rattle.rubis_keep.specs.Whole.{IsWhole}
 use Rattle.rubis_keep.proofs.FileFacts.{consumes-more, consumes-none}
 use Rattle.rubis_keep.proofs.LineFacts.{begun-append, kept-append}
 use Rattle.rubis_keep.proofs.RestFacts.{keeps-same, rests-ends}
-use Rattle.rubis_keep.proofs.WholeFacts.{kept-whole, whole-append}
+use Rattle.rubis_keep.proofs.WholeFacts.{kept-whole}
 
 -- the next piece was kept and answered
 pub stands-more : (all more more2 : Account) (told old base line : List ℕ) (input0 input input2 log0 log log2 before before2 out0 out out2 : Option (List ℕ)) (begun begun2 chunk : List ℕ) (number number2 len0 len len2 : ℕ) (goes : Bool)

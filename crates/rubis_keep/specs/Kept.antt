@@ -1,5 +1,5 @@
 -- What a run that keeps its records has read, kept and written.
-use Rattle.std.specs.Prelude.{◌≡◌, ◌≢◌, ◌≤◌, ◌<◌, ◌+◌, ◌++◌, ◌⊎◌, [], ℕ, Bool, List, Option, Some, IfSome, drop, false, length, take}
+use Rattle.std.specs.Prelude.{◌≡◌, ◌≢◌, ◌≤◌, ◌+◌, ◌++◌, ◌⊎◌, [], ℕ, Bool, List, Option, Some, IfSome, drop, false, length, take}
 use Rattle.std.specs.Io.KnownBytes.{Appends, Consumes, IsAtEnd, Keeps}
 use Rattle.rubis_engine.specs.Accounts.{Account, Ending, Keeps as TextStays}
 use Rattle.rubis_engine.specs.Accounts.Ending.{AtEnd, Cut}

@@ -1,5 +1,5 @@
 -- What is kept of an input: its lines, each one whole records of CSV.
-use Rattle.std.specs.Prelude.{◌≡◌, ◌<◌, ◌≤◌, ◌==◌, ◌&&◌, ◌||◌, ◌++◌, ◌∷◌, ◌+◌, [], ℕ, Bool, List, IsTrue, false, true, if◌then◌else◌, length, nat_le, not, get_or, take, ⊤, MatchBool}
+use Rattle.std.specs.Prelude.{◌==◌, ◌&&◌, ◌++◌, ◌∷◌, [], ℕ, Bool, List, IsTrue, false, true, if◌then◌else◌, length, nat_le, not, get_or, ⊤, MatchBool}
 use Rattle.csv.specs.Machine.{step}
 use Rattle.csv.specs.Reading.{default_config}
 use Rattle.csv.specs.declared.parser.State.{State}

@@ -1,4 +1,4 @@
-use Rattle.std.proofs.Common.{◌≡◌, ◌∙◌, ◌≤◌, ◌++◌, ℕ, List, length, take, arith, rules, subst, sym}
+use Rattle.std.proofs.Common.{◌∙◌, ◌≤◌, ◌++◌, ℕ, List, length, take, arith, subst, sym}
 use Rattle.std.proofs.lemmas.List.{length-take, take-append-le}
 use Rattle.rubis_keep.specs.Files.{DiffersFrom}
 use Rattle.rubis_keep.proofs.FileFacts.{consumes-front, consumes-kept, differs-later, if-differs}

@@ -1,7 +1,5 @@
-use Rattle.std.proofs.Common.{◌+◌, ap, refl, rules}
+use Rattle.std.proofs.Common.{refl}
 use Rattle.std.proofs.lemmas.Bool.{MatchBool-at_false, MatchBool-at_true}
-use Rattle.std.proofs.lemmas.Result.{on_ok_weaker}
-use Rattle.rubis_desk.specs.Windows.{held_by}
 use Rattle.rubis_keep.proofs.EachFacts.{each-end, each-ends, each-finish-ends, each-put, each-put-ends, each-step, ok_then, on_err, on_err_weaker}
 use Rattle.rubis_keep.proofs.feeding.feed_records.Goals.{then-is_full+in_ok-put_sink, else-is_full}
 use Rattle.rubis_keep.proofs.feeding.feed_records.Goals as goal

@@ -1,4 +1,4 @@
-use Rattle.std.proofs.Common.{inl, inr}
+use Rattle.std.proofs.Common.{inr}
 use Rattle.std.proofs.lemmas.Result.{on_ok_weaker}
 use Rattle.rubis_keep.proofs.EachFacts.{on_err_weaker}
 use Rattle.rubis_keep.proofs.feeding.finish.Goals as goal

@@ -1,4 +1,3 @@
-use Rattle.std.proofs.Common.{◌+◌}
 use Rattle.rubis_keep.proofs.EachFacts.{on_err}
 use Rattle.rubis_keep.proofs.StandFacts.{each-stops, gone-failed}
 use Rattle.rubis_keep.proofs.pieces.answer_pieces.Goals as goal

@@ -1,6 +1,5 @@
-use Rattle.std.proofs.Common.{◌+◌, [], rules}
+use Rattle.std.proofs.Common.{[], rules}
 use Rattle.rubis_keep.specs.Lines.{begun_after}
-use Rattle.rubis_keep.specs.Whole.{IsWhole}
 use Rattle.rubis_keep.proofs.EachFacts.{on_err}
 use Rattle.rubis_keep.proofs.StandFacts.{each-more, each-unanswered, each-unkept, took-whole, unanswered-same}
 use Rattle.rubis_keep.proofs.pieces.next_piece.Goals as goal

@@ -1,4 +1,3 @@
-use Rattle.std.proofs.Common.{◌+◌}
 use Rattle.rubis_keep.proofs.EachFacts.{on_err, on_err_weaker, on_ok_both}
 use Rattle.rubis_keep.proofs.LifeFacts.{go-err, go-ok, go-uncut, go-untold}
 use Rattle.rubis_keep.proofs.run.go_on.Goals as goal

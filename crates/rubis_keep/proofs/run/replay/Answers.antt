@@ -1,4 +1,4 @@
-use Rattle.std.proofs.Common.{◌+◌, ap}
+use Rattle.std.proofs.Common.{ap}
 use Rattle.std.proofs.lemmas.Result.{on_ok_weaker}
 use Rattle.rubis_desk.specs.SiteRuns.{told_by}
 use Rattle.rubis_keep.proofs.TellingFacts.{none-told}

@@ -1,4 +1,3 @@
-use Rattle.std.proofs.Common.{◌+◌}
 use Rattle.std.proofs.lemmas.Result.{on_ok_weaker}
 use Rattle.rubis_keep.proofs.EachFacts.{on_err, on_err_weaker}
 use Rattle.rubis_keep.proofs.LifeFacts.{run-ended, run-lived, run-unread, run-unreplayed}

@@ -1,4 +1,4 @@
-use Rattle.std.proofs.Common.{false, refl, rules, true}
+use Rattle.std.proofs.Common.{false, true}
 use Rattle.rubis_engine.proofs.RunFacts.{takes-at}
 use Rattle.rubis_keep.proofs.shortening.take_line.Goals.{then-branch, else-branch}
 use Rattle.rubis_keep.proofs.ShortenFacts.{line-ends, line-more, line-starts}

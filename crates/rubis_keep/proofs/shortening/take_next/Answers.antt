@@ -1,5 +1,4 @@
-use Rattle.std.proofs.Common.{◌∙◌, ◌++◌, ◌∷◌, [], ap, cond, rules, sym}
-use Rattle.std.proofs.lemmas.Bool.{ne_eqb}
+use Rattle.std.proofs.Common.{◌∙◌, ◌++◌, ap, cond, rules, sym}
 use Rattle.rubis_keep.proofs.ShortenFacts.{line-taken, next-byte}
 use Rattle.rubis_keep.proofs.shortening.take_next.Goals as goal
 
