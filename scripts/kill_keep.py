@@ -29,6 +29,9 @@ import time
 # For how many seconds anything may last.
 WAIT = 60
 
+# How many lives a shop has.
+SHOP_LIVES = 60
+
 
 class Failure(Exception):
     pass
@@ -155,10 +158,12 @@ def live(dice: random.Random, site: Site, made: list[int], packets: list[bytes],
             at += some
             dice.shuffle(lines)
             text = b"".join(lines)
-            if dice.random() < 0.2:
-                text = text[: dice.randrange(len(text))]
-            process.stdin.write(text)
+            # Nothing may follow a line that is cut off: with the next one it could be a packet that nobody sent.
+            is_cut = dice.random() < 0.1
+            process.stdin.write(text[: dice.randrange(len(text))] if is_cut else text)
             process.stdin.flush()
+            if is_cut:
+                break
             time.sleep(dice.random() * 0.002)
     except BrokenPipeError:
         pass
@@ -174,9 +179,17 @@ def live(dice: random.Random, site: Site, made: list[int], packets: list[bytes],
     return kills
 
 
-def kill_a_shop(shop: Shop, dice: random.Random, lives: int) -> str:
-    """Two sites that are killed, whose packets are carried, and then are audited."""
-    sites = [shop.site(str(number), "--site", str(number), "--sites", "2") for number in (0, 1)]
+def kill_shops(shop: Shop, dice: random.Random, lives: int) -> str:
+    """Shops one after the other, each of so few lives that what is kept stays small."""
+    done = [kill_a_shop(shop, dice, f"shop{first}", min(SHOP_LIVES, lives - first)) for first in range(0, lives, SHOP_LIVES)]
+    killed, kept = (sum(part) for part in zip(*done))
+    return f"{lives} lives in {len(done)} shops of two sites, {killed} of them killed: {kept} lines kept"
+
+
+def kill_a_shop(shop: Shop, dice: random.Random, name: str, lives: int) -> tuple[int, int]:
+    """Two sites that are killed, whose packets are carried, and then are audited. How often they were killed, and how many lines
+    are kept."""
+    sites = [shop.site(f"{name}/{number}", "--site", str(number), "--sites", "2") for number in (0, 1)]
     made = [0]
     killed = 0
     for _ in range(lives):
@@ -200,7 +213,7 @@ def kill_a_shop(shop: Shop, dice: random.Random, lives: int) -> str:
         site.ends_well("the last lives")
     verdict = shop.audit(sites)
     check(verdict == b"audit,Agree\n", f"the audit says {verdict!r}")
-    return f"{lives} lives of two sites, {killed} of them killed: {sum(len(site.kept().splitlines()) for site in sites)} lines kept"
+    return killed, sum(len(site.kept().splitlines()) for site in sites)
 
 
 SMALL = b'user,ann\nitem,0.1,"a, ""b""",7,3,10,100\n"open\nlist,users\nbid,0.2,0.1,20\n\nuser,ann\npass,0\n'
@@ -351,7 +364,7 @@ def main() -> None:
         shop = Shop(program, pathlib.Path(folder))
         try:
             for done in (
-                lambda: kill_a_shop(shop, dice, lives),
+                lambda: kill_shops(shop, dice, lives),
                 lambda: tear_a_small_site(shop),
                 lambda: change_a_small_site(shop, dice),
                 lambda: fill_a_disk(shop),
