@@ -35,7 +35,8 @@ def timed(work: Callable[[], object]) -> float:
 def parts_of(seconds: list[float]) -> dict[str, float]:
     """Half, 99 of 100, and all of them within so many milliseconds."""
     found = sorted(seconds)
-    return {"half": round(1000 * found[len(found) // 2], 1), "99 of 100": round(1000 * found[len(found) * 99 // 100], 1), "all": round(1000 * found[-1], 1)}
+    within = {"half": found[len(found) // 2], "99 of 100": found[len(found) * 99 // 100], "all": found[-1]}
+    return {name: round(1000 * span, 1) for name, span in within.items()}
 
 
 class Shop:
@@ -48,7 +49,8 @@ class Shop:
             self.run("start", path, "--here", ",".join(map(str, sites)), *words)
 
     def run(self, *words: str, given: str = "") -> str:
-        return subprocess.run([TOP / "shop", *words], input=given, text=True, check=True, stdout=subprocess.PIPE, env=self.environment).stdout
+        command = [str(TOP / "shop"), *words]
+        return subprocess.run(command, input=given, text=True, check=True, stdout=subprocess.PIPE, env=self.environment).stdout
 
     def folder_of(self, site: int) -> str:
         return next(folder for folder, sites in self.folders.items() if site in sites)
@@ -59,7 +61,8 @@ class Shop:
         client.raise_fault(answers[-1])
         assert answers[0]["lines"][0].split(",")[2] == "ok", answers
 
-    def several(self, askers: int, each: int, site_of: Callable[[int], int], record_of: Callable[[int, int], str], published: bool = False) -> dict[str, Any]:
+    def several(self, askers: int, each: int, site_of: Callable[[int], int], record_of: Callable[[int, int], str],
+                published: bool = False) -> dict[str, Any]:
         spans: list[float] = []
 
         def one(number: int) -> None:
@@ -82,12 +85,17 @@ def bid(number: int, turn: int) -> str:
     return f"bid,0.3,0.2,{1000 + 1000 * number + turn}"
 
 
+def restock(number: int, turn: int) -> str:
+    return f"restock,0.3,0.1,{turn + 1}"
+
+
 def measured(shop: Shop, over: str) -> dict[str, Any]:
     shop.run("-C", shop.folder_of(0), "ask", "0", "user,ann", "user,bob", "item,0.1,lamp,7,1,100,0")
     found: dict[str, Any] = {}
-    found["`shop ask` as a command, ms"] = parts_of([timed(lambda: shop.run("-C", shop.folder_of(0), "ask", "0", bid(0, turn))) for turn in range(20)])
+    ask = ("-C", shop.folder_of(0), "ask", "0")
+    found["`shop ask` as a command, ms"] = parts_of([timed(lambda: shop.run(*ask, bid(0, turn))) for turn in range(20)])
     lines = "".join(f"{bid(1, turn)}\n" for turn in range(20000))
-    found["20,000 bids by one command, a second"] = round(20000 / timed(lambda: shop.run("-C", shop.folder_of(0), "ask", "0", "-", given=lines)))
+    found["20,000 bids by one command, a second"] = round(20000 / timed(lambda: shop.run(*ask, "-", given=lines)))
     found["1 asker at the holder"] = shop.several(1, 1000, lambda number: 0, bid)
     found["16 askers at the holder"] = shop.several(16, 200, lambda number: 0, bid)
     if over != "files":
@@ -95,7 +103,7 @@ def measured(shop: Shop, over: str) -> dict[str, Any]:
     turns = iter(range(200))
     found["1 asker, each red ask at another site"] = parts_of([timed(lambda: shop.ask(turn % SITES, bid(2, turn))) for turn in turns])
     found["16 askers of red asks, 4 at each site"] = shop.several(16, 100, lambda number: number % SITES, bid)
-    found["16 askers of blue asks, 4 at each site"] = shop.several(16, 200, lambda number: number % SITES, lambda number, turn: f"restock,0.3,0.1,{turn + 1}")
+    found["16 askers of blue asks, 4 at each site"] = shop.several(16, 200, lambda number: number % SITES, restock)
     for site in range(SITES):
         shop.run("-C", shop.folder_of(site), "wait", str(site))
     found["an audit, s"] = round(timed(lambda: shop.run("-C", shop.folder_of(0), "audit")), 2)
@@ -106,9 +114,11 @@ def measured(shop: Shop, over: str) -> dict[str, Any]:
 
 def incr() -> dict[str, Any]:
     """The same of Redis: INCR as a command, and by 16 clients."""
-    command = parts_of([timed(lambda: subprocess.run(["redis-cli", "-p", str(PORT), "incr", "n"], stdout=subprocess.DEVNULL)) for _ in range(20)])
-    said = subprocess.run(["redis-benchmark", "-p", str(PORT), "-c", "16", "-n", "20000", "-t", "incr", "--csv"], text=True, stdout=subprocess.PIPE).stdout
-    return {"`redis-cli incr` as a command, ms": command, "16 clients, a second": round(float(said.splitlines()[-1].split(",")[1].strip('"')))}
+    command, benchmark = ["redis-cli", "-p", str(PORT), "incr", "n"], ["redis-benchmark", "-p", str(PORT), "-c", "16", "-n", "20000"]
+    spans = [timed(lambda: subprocess.run(command, stdout=subprocess.DEVNULL)) for _ in range(20)]
+    said = subprocess.run([*benchmark, "-t", "incr", "--csv"], text=True, stdout=subprocess.PIPE).stdout
+    a_second = round(float(said.splitlines()[-1].split(",")[1].strip('"')))
+    return {"`redis-cli incr` as a command, ms": parts_of(spans), "16 clients, a second": a_second}
 
 
 def main() -> int:

@@ -20,6 +20,7 @@ With no FILE: all of conversations/, README.md and docs/. Each difference is tol
 how many were played. The status is 1 where something differed.
 """
 
+import contextlib
 import dataclasses
 import itertools
 import os
@@ -27,9 +28,11 @@ import pathlib
 import re
 import shlex
 import shutil
+import signal
 import subprocess
 import sys
 import tempfile
+from collections.abc import Iterator
 
 TOP = pathlib.Path(__file__).resolve().parent.parent
 SECONDS = 120
@@ -204,12 +207,26 @@ def is_there(need: str, paths: str) -> bool:
     return shutil.which(need, path=paths) is not None
 
 
+@contextlib.contextmanager
+def ending_what_runs_in(folder: str) -> Iterator[None]:
+    """At the end, ends what an example that failed has left running there."""
+    try:
+        yield
+    finally:
+        for process in pathlib.Path("/proc").glob("[0-9]*"):
+            try:
+                if os.readlink(process / "cwd").startswith(os.path.realpath(folder)):
+                    os.kill(int(process.name), signal.SIGTERM)
+            except OSError:
+                pass        # it has ended, or isn't ours
+
+
 def play_examples(program: pathlib.Path, path: pathlib.Path, name: str) -> tuple[int, int]:
     """Runs the examples of a page; how many were run, and how many were skipped."""
     examples = examples_of(path)
     skipped, told = 0, []
     paths = os.pathsep.join([os.environ.get("PATH", os.defpath), "/usr/sbin"])
-    with tempfile.TemporaryDirectory() as folder, tempfile.TemporaryFile() as written:
+    with tempfile.TemporaryDirectory() as folder, tempfile.TemporaryFile() as written, ending_what_runs_in(folder):
         os.symlink(program, pathlib.Path(folder) / "rubis")
         for part in ("shop", "scripts", "conversations", "docs"):
             os.symlink(TOP / part, pathlib.Path(folder) / part)

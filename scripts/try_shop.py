@@ -56,10 +56,11 @@ class Folder:
     def run(self, command: str, status: int = 0, says: str = "") -> str:
         """What a command writes. It has to end with this status, and to say this on standard error."""
         with tempfile.TemporaryFile() as written, tempfile.TemporaryFile() as told:
-            done = subprocess.run(["sh", "-c", command], cwd=self.path, stdin=subprocess.DEVNULL, stdout=written, stderr=told, timeout=SECONDS)
+            done = subprocess.run(["sh", "-c", command], cwd=self.path, stdin=subprocess.DEVNULL, stdout=written, stderr=told,
+                                  timeout=SECONDS)
             written.seek(0)
             told.seek(0)
-            fault = told.read().decode().strip()
+            fault = told.read().decode("utf-8", "surrogateescape").strip()
             expect(done.returncode == status, f"`{command}` ended with status {done.returncode}: {fault}")
             expect(says in fault, f"`{command}` said: {fault}")
             return written.read().decode("utf-8", "surrogateescape")
@@ -140,8 +141,11 @@ def test_statuses(at: Folder) -> None:
     at.shop("list 0 items", 2, "needs a key")
     at.shop("show 0 item 0.9", 1, "site 0 has no item 0.9")
     at.run("RUBIS=./none ./shop start other", 2, "there is no program ./none")
-    expect(at.shop("ask 0 user,bob --json") == '{"record": "user,bob", "answer": "ok", "id": "0.2", "message": "msg,1,0,2,2,1:0,user,bob"}\n', "JSON")
-    expect(at.shop("ask 0 --raw list,users").startswith("reply,4,rows,2\nrow,user,0.1,ann"), "the site's own lines; a listing isn't counted")
+    at.run("./shop start", 2, "shop is a file; name the folder of the shop")
+    at.run("./shop status", 3, "shop: there is no shop")
+    said = json.loads(at.shop("ask 0 user,bob --json"))
+    expect(said == {"record": "user,bob", "answer": "ok", "id": "0.2", "message": "msg,1,0,2,2,1:0,user,bob"}, f"JSON: {said}")
+    expect(at.shop("ask 0 --raw list,users").startswith("reply,4,rows,2\nrow,user,0.1,ann"), "the site's own lines")
 
 
 def test_records_on_standard_input(at: Folder) -> None:
@@ -153,13 +157,24 @@ def test_records_on_standard_input(at: Folder) -> None:
     at.run("printf 'user,cat\\r\\nuser,\"eve\\n' | ./shop -C auction ask 0 -", 2, "its quotes don't close")
     expect("cat" not in at.shop("list 0 users"), "nothing of that piece was asked")
     at.run("printf 'user,cat\\r\\nuser,dan' | ./shop -C auction ask 0 -")
+    at.run("printf 'user,\\377\\n' | ./shop -C auction ask 0 -", 1)
+    expect("< user,\udcff\n" in at.shop("log 0 -n 2"), "bytes that are no text")
+    command = [str(at.path / "shop"), "-C", "auction", "ask", "0", "-"]
+    asker = subprocess.Popen(command, cwd=at.path, stdin=subprocess.PIPE, stdout=subprocess.PIPE)
+    assert asker.stdin and asker.stdout
+    asker.stdin.write(b"user,eve\n")
+    asker.stdin.flush()
+    expect(asker.stdout.readline().startswith(b"ok,0."), "a line is asked when it comes")
+    asker.stdin.close()
+    expect(asker.wait(SECONDS) == 0, "its status")
     expect("dan" in at.shop("list 0 users"), "a last line without its end")
 
 
 def test_rows(at: Folder) -> None:
     """Rows have names, and go to a database."""
     at.run("./shop start auction --sites 2")
-    at.shop("ask 0 user,ann user,bob 'item,0.1,\"a \"\"blue\"\" lamp, it'\"'\"'s old\",7,3,50,80' bid,0.3,0.2,60 buy,0.3,0.2,2 comment,0.3,0.2,0.1,-3,slow")
+    at.shop("ask 0 user,ann user,bob 'item,0.1,\"a \"\"blue\"\" lamp, it'\"'\"'s old\",7,3,50,80' bid,0.3,0.2,60 buy,0.3,0.2,2 "
+            "comment,0.3,0.2,0.1,-3,slow")
     at.shop("wait 1")
     item = json.loads(at.shop("show 1 item 0.3 --json"))
     expect(item["name"] == 'a "blue" lamp, it\'s old' and item["stock"] == 1 and item["best"] == "0.4", f"the item: {item}")
@@ -178,7 +193,7 @@ def test_rows(at: Folder) -> None:
 def test_log(at: Folder) -> None:
     """Events, and what a site was asked."""
     at.run("./shop start auction")
-    follower = subprocess.Popen([at.path / "shop", "-C", "auction", "log", "0", "-f"], cwd=at.path, stdout=subprocess.PIPE, text=True)
+    follower = subprocess.Popen([str(at.path / "shop"), "-C", "auction", "log", "0", "-f"], cwd=at.path, stdout=subprocess.PIPE, text=True)
     at.running.append(follower)                             # type: ignore[arg-type]
     time.sleep(0.5)
     at.shop("ask 0 user,ann")
@@ -384,7 +399,7 @@ def test_lost_twice(at: Folder) -> None:
         server.say(f"xadd auction:0 {name} p '{packet}'")
     at.run("./shop start a", 3, "shop rebuild 0")
     at.run("./shop stop a")
-    at.shop("rebuild 0", 1, "site 2 may have more of site 0", folder="a")
+    at.shop("rebuild 0", 1, "site 2 isn't running, and may have more of site 0", folder="a")
     at.run("./shop start b")
     at.shop("rebuild 0", folder="a")
     expect(sends(at, "a/0") == was, f"the same packets: {sends(at, 'a/0')}")
@@ -393,6 +408,44 @@ def test_lost_twice(at: Folder) -> None:
     for folder, site in (("a", 0), ("a", 1), ("b", 2)):
         at.shop(f"wait {site}", folder=folder)
     at.shop("audit", folder="b")
+
+
+def test_lost_over_files(at: Folder) -> None:
+    """Over files a folder that was lost, or set back, is fenced, and made again from what the others have kept."""
+    at.run("./shop start auction --sites 3")
+    at.shop(f"ask 0 {SALE} --published")
+    at.shop("ask 2 bid,0.3,0.2,500")
+    at.shop("ask 0 bid,0.3,0.2,600")
+    at.shop("ask 1 comment,0.3,0.2,0.1,5,good rename,0.2,bea")
+    for site in range(3):
+        at.shop(f"wait {site}")
+    was = sends(at, "auction/0")
+    at.shop("stop")
+    at.run("cp -r auction/0 aside; rm -r auction/0")
+    at.run("./shop start auction", 3, "messages of it, and its folder has 0 (shop rebuild 0)")
+    at.shop("ask 0 user,eve", 3, "nothing was given to it")
+    expect(at.shop("ask 2 comment,0.3,0.2,0.1,4,well") == "ok,2.2\n", "the others go on")
+    at.shop("stop")
+    at.run("mv auction/2 gone")
+    at.shop("rebuild 0", 1, "site 2 has no folder, and may have more of site 0")
+    at.run("mv gone auction/2")
+    at.shop("rebuild 0")
+    expect(sends(at, "auction/0") == was, f"the same packets: {sends(at, 'auction/0')}")
+    at.run("./shop start auction")
+    expect(at.shop("ask 0 user,cat") == "ok,0.5\n", "it goes on")
+    at.shop("audit")
+    # Its files lost their ends with the power; `boot` is of another start of the machine.
+    at.shop("stop")
+    for name, lines in (("kept", 2), ("out", 4)):
+        path = at.path / "auction/0" / name
+        path.write_text("".join(path.read_text().splitlines(keepends=True)[:lines]))
+    (at.path / "auction/boot").unlink()
+    at.run("./shop start auction", 3, "site 1 has 5 messages of it, and its folder has 2 (shop rebuild 0)")
+    at.shop("stop")
+    expect("what was there is auction/0.lost.1" in at.shop("rebuild 0"), "the old folder is kept")
+    at.run("./shop start auction")
+    expect(at.shop("ask 0 user,dan") == "ok,0.6\n", "it goes on")
+    at.shop("audit")
 
 
 def test_others_append(at: Folder) -> None:
@@ -487,7 +540,8 @@ def test_limits(at: Folder) -> None:
         readers.append(reader)
     at.run("seq -f 'comment,0.3,0.2,0.1,5,%-200g' 9000 | ./shop -C auction ask 0 - > /dev/null")
     supervisor = at.status()["pid"]
-    memory = next(int(line.split()[1]) for line in pathlib.Path(f"/proc/{supervisor}/status").read_text().split("\n") if line.startswith("VmRSS"))
+    status = pathlib.Path(f"/proc/{supervisor}/status").read_text().split("\n")
+    memory = next(int(line.split()[1]) for line in status if line.startswith("VmRSS"))
     expect(memory < 200_000, f"the supervisor takes {memory} KiB")
     for _ in range(500):
         reader = socket.socket(socket.AF_UNIX)
@@ -496,7 +550,8 @@ def test_limits(at: Folder) -> None:
     at.shop("ask 0 user,eve", 3, "others are connected; nothing was asked")
     for reader in readers:
         reader.close()
-    at.wait("room", lambda: subprocess.run([at.path / "shop", "-C", "auction", "ask", "0", "user,eve"], cwd=at.path, capture_output=True).returncode != 3)
+    asked = [str(at.path / "shop"), "-C", "auction", "ask", "0", "user,eve"]
+    at.wait("room", lambda: subprocess.run(asked, cwd=at.path, capture_output=True).returncode != 3)
     line = at.run("head -c 20000000 /dev/zero | tr '\\0' x > long; ./shop -C auction ask 0 - < long", 2, "has at most 4096 bytes")
     expect(line == "", "nothing was asked")
 
@@ -529,7 +584,8 @@ def test_shorten(at: Folder) -> None:
     rows = recorded(at)
     at.run("cp -r auction short; ./shop -C short shorten 0 > said")
     expect(at.text("said") == "site 0: 5 of 8 records are left\n", at.text("said"))
-    expect(at.text("short/0/kept") == "user,ann\nuser,bob\nitem,0.1,lamp,7,3,100,80\npass,1\nmsg,1,1,1,3,3:0,bid,0.3,0.2,500\n", "what is left")
+    left = "user,ann\nuser,bob\nitem,0.1,lamp,7,3,100,80\npass,1\nmsg,1,1,1,3,3:0,bid,0.3,0.2,500\n"
+    expect(at.text("short/0/kept") == left, "what is left")
     stands_where_it_stood(at, "short", rows)
 
 
@@ -539,13 +595,15 @@ def test_killed_shorten(at: Folder) -> None:
     at.run("cp -r auction short; ./shop -C short shorten 0")
     new = {name: at.text(f"short/0/{name}") for name in ("kept", "out")}
     steps: list[dict[str, int | None]] = [
-        {"kept.new": 10}, {"kept.new": None}, {"kept.new": None, "out.new": 10}, {"kept.new": None, "out.new": None}, {"kept": None, "out.new": None}]
+        {"kept.new": 10}, {"kept.new": None}, {"kept.new": None, "out.new": 10}, {"kept.new": None, "out.new": None},
+        {"kept": None, "out.new": None}]
     for killed in steps:
         at.run("rm -rf trial; cp -r auction trial")
         for name, size in killed.items():
             (at.path / "trial/0" / name).write_text(new[name.removesuffix(".new")][:size])
         at.run("./shop start trial; ./shop stop trial")
-        expect(at.text("trial/0/kept") == (new["kept"] if "kept" in killed else at.text("auction/0/kept")), f"the old one or the new one: {killed}")
+        kept = new["kept"] if "kept" in killed else at.text("auction/0/kept")
+        expect(at.text("trial/0/kept") == kept, f"the old one or the new one: {killed}")
         stands_where_it_stood(at, "trial", rows)
 
 
@@ -684,13 +742,15 @@ def test_once_a_full_disk_said_nothing(at: Folder) -> None:
     at.wait("the shop", lambda: (at.path / "auction/sock").exists())
     at.shop(f"ask 0 {SALE}")
     for number in range(100):
-        said = subprocess.run([at.path / "shop", "-C", "auction", "ask", "0", f"comment,0.3,0.2,0.1,5,{'x' * 150}{number}", "--timeout", "2"],
-                              cwd=at.path, capture_output=True, text=True)
+        record = f"comment,0.3,0.2,0.1,5,{'x' * 150}{number}"
+        command = [str(at.path / "shop"), "-C", "auction", "ask", "0", record, "--timeout", "2"]
+        said = subprocess.run(command, cwd=at.path, capture_output=True, text=True)
         if said.returncode:
             break
     expect(said.returncode == 3 and "File too large" in said.stderr, f"what the asker is told: {said.stderr}")
     at.shop("status", 1)
-    expect("write out: File too large" in at.site(0)["fault"] or "write kept: File too large" in at.site(0)["fault"], f"the fault: {at.site(0)['fault']}")
+    fault = at.site(0)["fault"]
+    expect("write out: File too large" in fault or "write kept: File too large" in fault, f"the fault: {fault}")
     at.run(f"prlimit --pid {run.pid} --fsize=unlimited")
     at.wait("the site", lambda: at.site(0)["state"] == "up")
     expect(at.shop("ask 0 user,cat").startswith("ok,0."), "it goes on")
@@ -707,7 +767,8 @@ def test_help(at: Folder) -> None:
 
 def test_units(at: Folder) -> None:
     """The unit tests of shop_tool."""
-    done = subprocess.run([PYTHON, "-m", "unittest", "discover", "-s", "shop_tool/tests", "-t", "."], cwd=TOP, capture_output=True, text=True)
+    command = [PYTHON, "-m", "unittest", "discover", "-s", "shop_tool/tests", "-t", "."]
+    done = subprocess.run(command, cwd=TOP, capture_output=True, text=True)
     expect(done.returncode == 0, done.stderr)
 
 
@@ -715,7 +776,7 @@ def test_types(at: Folder) -> None:
     """The types of shop_tool, as mypy checks them."""
     if subprocess.run([PYTHON, "-c", "import mypy"], capture_output=True).returncode:
         raise Skipped("no python3-mypy on this machine")
-    words = ["--strict", "--cache-dir", str(at.path / "cache"), "shop_tool", "scripts/kill_shop.py", "scripts/try_shop.py"]
+    words = ["--strict", "--cache-dir", str(at.path / "cache"), "shop_tool", *map(str, TOP.glob("scripts/*shop*.py"))]
     done = subprocess.run([PYTHON, "-m", "mypy", *words], cwd=TOP, capture_output=True, text=True)
     expect(done.returncode == 0, done.stdout)
 

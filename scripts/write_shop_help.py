@@ -20,6 +20,7 @@ from shop_tool.cli import ABOUT, EXAMPLES, NOTES, CommandLine      # noqa: E402
 WRITTEN_BY = "Written by scripts/write_shop_help.py; changes are lost."
 SITES = [str(site) for site in range(16)]
 OVER = ["files", "redis://"]
+FOLDERS = ("FOLDER", "OLD", "NEW")
 
 
 class Option(NamedTuple):
@@ -74,17 +75,35 @@ def roff(text: str) -> str:
 
 
 def synopsis_of(command: Command) -> str:
-    parts = [f"[{'|'.join(option.names[:1])}{' ' + option.value if option.value else ''}]" for option in command.options if "--help" not in option.names]
+    options = [option for option in command.options if "--help" not in option.names]
+    parts = [f"[{option.names[0]}{' ' + option.value if option.value else ''}]" for option in options]
     for word in command.words:
         name = str(word.metavar)
         parts.append({"?": f"[{name}]", "*": f"{name}.."}.get(str(word.nargs), name))
     return " ".join(parts)
 
 
+FILES = {
+    "FOLDER/shop.json": "The settings of the shop.",
+    "FOLDER/events": "What happened.",
+    "FOLDER/SITE/kept, FOLDER/SITE/out": "What a site was given, and its answers.",
+}
+ENVIRONMENT = {
+    "SHOP": "The folder of the shop.",
+    "RUBIS": "The program rubis; by default ./rubis beside the command, or else that of the search path.",
+    "NO_COLOR": "Without colours, even on a terminal.",
+}
+
+
+def tagged(items: dict[str, str]) -> list[str]:
+    return [line for name, text in items.items() for line in (".TP", roff(name), roff(text))]
+
+
 def man_page() -> str:
-    out = [
-        f'.\\" {WRITTEN_BY}', '.TH SHOP 1 "" "rubis 0.1.0" "User Commands"', ".SH NAME", "shop \\- runs a rubis shop of several sites", ".SH SYNOPSIS",
-        ".B shop", "[\\-C FOLDER] COMMAND ..", ".SH DESCRIPTION", roff(ABOUT), roff(NOTES.partition("\n")[0]), ".SH COMMANDS"]
+    out = [f'.\\" {WRITTEN_BY}', '.TH SHOP 1 "" "rubis 0.1.0" "User Commands"']
+    out += [".SH NAME", "shop \\- runs a rubis shop of several sites"]
+    out += [".SH SYNOPSIS", ".B shop", "[\\-C FOLDER] COMMAND .."]
+    out += [".SH DESCRIPTION", roff(ABOUT), roff(NOTES.partition("\n")[0]), ".SH COMMANDS"]
     for command in commands():
         out += [".TP", f"\\fB{command.name}\\fR {roff(synopsis_of(command))}", roff(command.about[0].upper() + command.about[1:] + ".")]
         for word in command.words:
@@ -94,36 +113,50 @@ def man_page() -> str:
             if "--help" not in option.names:
                 names = ", ".join(f"\\fB{roff(name)}\\fR" for name in option.names) + (f" {option.value}" if option.value else "")
                 out += [".RS", ".TP", names, roff(option.help), ".RE"]
-    out += [
-        ".SH EXIT STATUS", roff(NOTES.partition("Status: ")[2].strip()), ".SH ENVIRONMENT", ".TP", "SHOP", "The folder of the shop.", ".TP", "RUBIS",
-        "The program rubis; by default ./rubis beside the command, or else that of the search path.", ".TP", "NO_COLOR", "Without colours, even on a terminal.",
-        ".SH FILES", ".TP", "FOLDER/shop.json", "The settings of the shop.", ".TP", "FOLDER/events", "What happened.", ".TP", "FOLDER/SITE/kept, FOLDER/SITE/out",
-        "What a site was given, and its answers.", ".SH EXAMPLES", ".nf", roff(EXAMPLES.rstrip("\n")), ".fi", ".SH SEE ALSO", ".BR rubis (1)", ".br",
-        roff("docs/GUIDE.md says how to run a shop, by task; docs/MANUAL.md has every record, answer and refusal."), ""]
+    out += [".SH EXIT STATUS", roff(NOTES.partition("Status: ")[2].strip())]
+    out += [".SH ENVIRONMENT", *tagged(ENVIRONMENT), ".SH FILES", *tagged(FILES)]
+    out += [".SH EXAMPLES", ".nf", roff(EXAMPLES.rstrip("\n")), ".fi", ".SH SEE ALSO", ".BR rubis (1)", ".br"]
+    out += [roff("docs/GUIDE.md says how to run a shop, by task; docs/MANUAL.md has every record, answer and refusal."), ""]
     return "\n".join(out)
 
 
 # Completions.
 
 
+BASH = """\
+# Completion of shop for bash. {written}
+_shop() {{
+    local word=${{COMP_WORDS[COMP_CWORD]}} before=${{COMP_WORDS[COMP_CWORD - 1]}} command= at=0 words= next
+    for ((next = 1; next < COMP_CWORD; next++)); do
+        case ${{COMP_WORDS[next]}} in
+        -C) ((next++)) ;;
+        -*) ;;
+        *) if [[ $command ]]; then ((at++)); else command=${{COMP_WORDS[next]}}; fi ;;
+        esac
+    done
+    case $command,$before in
+    *,-C | *,--save | *,--with) mapfile -t COMPREPLY < <(compgen -f -- "$word"); return ;;
+    *,--over) words='{over}' ;;
+    ,*) words='{commands} -C --help' ;;
+{cases}
+    start,* | run,* | stop,* | carry,*) [[ $word != -* ]] && mapfile -t COMPREPLY < <(compgen -d -- "$word") && return ;;
+    esac
+    mapfile -t COMPREPLY < <(compgen -W "$words" -- "$word")
+}}
+complete -F _shop shop
+"""
+
+
 def bash_completion() -> str:
-    found = commands()
-    out = [
-        f"# Completion of shop for bash. {WRITTEN_BY}", "_shop() {", "    local word=${COMP_WORDS[COMP_CWORD]} before=${COMP_WORDS[COMP_CWORD - 1]} command= at=0 words= next",
-        "    for ((next = 1; next < COMP_CWORD; next++)); do", "        case ${COMP_WORDS[next]} in", "        -C) ((next++)) ;;", "        -*) ;;",
-        "        *) if [[ $command ]]; then ((at++)); else command=${COMP_WORDS[next]}; fi ;;", "        esac", "    done", "    case $command,$before in",
-        "    *,-C | *,--save | *,--with) mapfile -t COMPREPLY < <(compgen -f -- \"$word\"); return ;;",
-        f"    *,--over) words='{' '.join(OVER)}' ;;", f"    ,*) words='{' '.join(command.name for command in found)} -C --help' ;;"]
+    found, cases = commands(), []
     for command in found:
         for at in range(len(command.words)):
             if choices := choices_of(command, at):
-                out.append(f"    {command.name},*) [[ $at -eq {at} && $word != -* ]] && words='{' '.join(choices)}' ;;&")
+                cases.append(f"    {command.name},*) [[ $at -eq {at} && $word != -* ]] && words='{' '.join(choices)}' ;;&")
         options = " ".join(name for option in command.options for name in option.names if name.startswith("--"))
-        out.append(f"    {command.name},*) [[ $word == -* ]] && words='{options}' ;;&")
-    out += [
-        "    start,* | run,* | stop,* | carry,*) [[ $word != -* ]] && mapfile -t COMPREPLY < <(compgen -d -- \"$word\") && return ;;", "    esac",
-        '    mapfile -t COMPREPLY < <(compgen -W "$words" -- "$word")', "}", "complete -F _shop shop", ""]
-    return "\n".join(out)
+        cases.append(f"    {command.name},*) [[ $word == -* ]] && words='{options}' ;;&")
+    names = " ".join(command.name for command in found)
+    return BASH.format(written=WRITTEN_BY, over=" ".join(OVER), commands=names, cases="\n".join(cases))
 
 
 def quoted(text: str) -> str:
@@ -134,53 +167,96 @@ def zsh_text(text: str) -> str:
     return text.replace("[", "(").replace("]", ")").replace(":", " -")
 
 
+ZSH = """\
+#compdef shop
+# Completion of shop for zsh. {written}
+_shop() {{
+    local context state line
+    local -a commands
+    commands=(
+{commands}
+    )
+    _arguments -C '-C[the folder of the shop]:folder:_directories' '(-h --help)'{{-h,--help}}'[print the help]' \\
+        '1: :->command' '*:: :->rest'
+    case $state in
+    command) _describe command commands ;;
+    rest)
+        case $words[1] in
+{cases}
+        esac
+        ;;
+    esac
+}}
+if [[ $zsh_eval_context[-1] == loadautofunc ]]; then _shop "$@"; else compdef _shop shop; fi
+"""
+
+
+def zsh_values(option: str) -> str:
+    if option in ("--save", "--with"):
+        return "_files"
+    return "({})".format(" ".join(value.replace(":", "\\:") for value in OVER)) if option == "--over" else ""
+
+
+def zsh_specs(command: Command) -> list[str]:
+    specs = []
+    for option in command.options:
+        for name in option.names:
+            specs.append(f"{name}[{zsh_text(option.help)}]" + (f":{option.value.lower()}:{zsh_values(name)}" if option.value else ""))
+    for at, word in enumerate(command.words):
+        choices = choices_of(command, at)
+        values = f"({' '.join(choices)})" if choices else "_directories" if word.metavar in FOLDERS else ""
+        specs.append(f"{'*' if word.nargs == '*' else at + 1}:{str(word.metavar).lower()}:{values}")
+    return [quoted(spec) for spec in specs]
+
+
 def zsh_completion() -> str:
     found = commands()
-    out = [f"#compdef shop\n# Completion of shop for zsh. {WRITTEN_BY}", "_shop() {", "    local context state line", "    local -a commands", "    commands=("]
-    out += [f"        {quoted(command.name + ':' + command.about.replace(':', ' -'))}" for command in found]
-    out += ["    )", "    _arguments -C '-C[the folder of the shop]:folder:_directories' '(-h --help)'{-h,--help}'[print the help]' '1: :->command' '*:: :->rest'",
-            "    case $state in", "    command) _describe command commands ;;", "    rest)", "        case $words[1] in"]
+    names = [f"        {quoted(command.name + ':' + command.about.replace(':', ' -'))}" for command in found]
+    cases = []
     for command in found:
-        specs = []
-        for option in command.options:
-            for name in option.names:
-                values = "_files" if name in ("--save", "--with") else f"({' '.join(value.replace(':', chr(92) + ':') for value in OVER)})" if name == "--over" else ""
-                specs.append(quoted(f"{name}[{zsh_text(option.help)}]" + (f":{option.value.lower()}:{values}" if option.value else "")))
-        for at, word in enumerate(command.words):
-            values = f"({' '.join(choices)})" if (choices := choices_of(command, at)) else "_directories" if word.metavar in ("FOLDER", "OLD", "NEW") else ""
-            specs.append(quoted(f"{'*' if word.nargs == '*' else at + 1}:{str(word.metavar).lower()}:{values}"))
-        out += [f"        {command.name})", "            _arguments \\", " \\\n".join(f"                {spec}" for spec in specs), "            ;;"]
-    out += ["        esac", "        ;;", "    esac", "}", 'if [[ $zsh_eval_context[-1] == loadautofunc ]]; then _shop "$@"; else compdef _shop shop; fi', ""]
-    return "\n".join(out)
+        specs = " \\\n".join(f"                {spec}" for spec in zsh_specs(command))
+        cases += [f"        {command.name})", "            _arguments \\", specs, "            ;;"]
+    return ZSH.format(written=WRITTEN_BY, commands="\n".join(names), cases="\n".join(cases))
 
 
 def fish_text(text: str) -> str:
     return "'" + text.replace("\\", "\\\\").replace("'", "\\'") + "'"
 
 
+def fish_values(option: Option) -> str:
+    """What stands behind an option."""
+    if "--over" in option.names:
+        return f" -x -a '{' '.join(OVER)}'"
+    return " -r -F" if option.names[0] in ("--save", "--with") else " -x" if option.value else ""
+
+
 def fish_completion() -> str:
     found = commands()
     out = [
         f"# Completion of shop for fish. {WRITTEN_BY}", "complete -c shop -f", "complete -c shop -s h -l help -d 'Prints the help'",
-        "complete -c shop -s C -x -a '(__fish_complete_directories)' -d 'The folder of the shop'", f"set -l commands {' '.join(command.name for command in found)}"]
+        "complete -c shop -s C -x -a '(__fish_complete_directories)' -d 'The folder of the shop'",
+        f"set -l commands {' '.join(command.name for command in found)}"]
     for command in found:
         out.append(f"complete -c shop -n \"not __fish_seen_subcommand_from $commands\" -a {command.name} -d {fish_text(command.about)}")
         inside = f'-n "__fish_seen_subcommand_from {command.name}"'
         for option in command.options:
-            if "--help" in option.names:
-                continue
-            names = " ".join(f"-l {name[2:]}" if name.startswith("--") else f"-s {name[1:]}" for name in option.names)
-            values = f" -x -a '{' '.join(OVER)}'" if "--over" in option.names else " -r -F" if option.names[0] in ("--save", "--with") else " -x" if option.value else ""
-            out.append(f"complete -c shop {inside} {names}{values} -d {fish_text(option.help)}")
+            if "--help" not in option.names:
+                names = " ".join(f"-l {name[2:]}" if name.startswith("--") else f"-s {name[1:]}" for name in option.names)
+                out.append(f"complete -c shop {inside} {names}{fish_values(option)} -d {fish_text(option.help)}")
         for at, word in enumerate(command.words):
             if choices := choices_of(command, at):
                 out.append(f"complete -c shop {inside} -a '{' '.join(choices)}' -d {fish_text(str(word.metavar).lower())}")
-            elif word.metavar in ("FOLDER", "OLD", "NEW"):
+            elif word.metavar in FOLDERS:
                 out.append(f"complete -c shop {inside} -a '(__fish_complete_directories)'")
     return "\n".join(out) + "\n"
 
 
-WRITTEN = {"docs/shop.1": man_page, "completions/shop.bash": bash_completion, "completions/_shop": zsh_completion, "completions/shop.fish": fish_completion}
+WRITTEN = {
+    "docs/shop.1": man_page,
+    "completions/shop.bash": bash_completion,
+    "completions/_shop": zsh_completion,
+    "completions/shop.fish": fish_completion,
+}
 
 
 def main() -> int:

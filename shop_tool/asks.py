@@ -5,11 +5,11 @@ import json
 import os
 import sys
 from collections.abc import Iterator
-from typing import Any, TextIO
+from typing import Any
 
 from . import client
 from .ends import Fault, Status
-from .records import COLUMNS, REFUSALS, row_of, why_not_one_record
+from .records import BYTES_OF_A_RECORD, COLUMNS, REFUSALS, row_of, text_of, why_not_one_record
 
 PIECE = 1000        # how many records of standard input are asked by one request
 
@@ -18,32 +18,34 @@ def ask(args: argparse.Namespace) -> int:
     """Asks a site, and prints each answer as it comes."""
     if not args.records:
         raise Fault(Status.MISUSE, "there is no record to ask")
-    sign = Printer(args)
-    for records in _pieces_of(sys.stdin) if args.records == ["-"] else [args.records]:
+    printer = Printer(args)
+    given = [[os.fsencode(record) for record in args.records]] if args.records != ["-"] else _pieces_of(sys.stdin.fileno())
+    for records in given:
         for record in records:
-            if why := why_not_one_record(os.fsencode(record)):
-                raise Fault(Status.MISUSE, f"{record[:80]!r}: {why}; nothing was asked" + (" of this piece" if sign.count else ""))
+            if why := why_not_one_record(record):
+                asked = f"nothing was asked after the first {printer.count}" if printer.count else "nothing was asked"
+                raise Fault(Status.MISUSE, f"{text_of(record[:80])!r}: {why}; {asked}")
         request = {
-            "op": "ask", "site": args.site, "records": records, "timeout": args.timeout, "fetch": not args.no_wait,
-            "published": args.published}
+            "op": "ask", "site": args.site, "records": [text_of(record) for record in records], "timeout": args.timeout,
+            "fetch": not args.no_wait, "published": args.published}
         for answer in client.call(args.folder, request):
             client.raise_fault(answer)
             if not answer.get("end"):
-                sign.show(answer["record"], answer["lines"])
-    return sign.status
+                printer.show(answer["record"], answer["lines"])
+    return printer.status
 
 
-def _pieces_of(file: TextIO) -> Iterator[list[str]]:
-    """The lines of standard input, some at a time; bytes that aren't text stay what they are."""
-    file.reconfigure(encoding="utf-8", errors="surrogateescape", newline="\n")     # type: ignore[attr-defined]
-    piece: list[str] = []
-    for line in file:
-        piece.append(line.removesuffix("\n").removesuffix("\r"))
-        if len(piece) == PIECE:
-            yield piece
-            piece = []
-    if piece:
-        yield piece
+def _pieces_of(file: int) -> Iterator[list[bytes]]:
+    """The lines of a file as they come, some at a time."""
+    rest = b""
+    while data := os.read(file, 1 << 16):
+        *lines, rest = (rest + data).split(b"\n")
+        lines = [line.removesuffix(b"\r") for line in lines]
+        yield from (lines[at:at + PIECE] for at in range(0, len(lines), PIECE))
+        if len(rest) > BYTES_OF_A_RECORD:
+            break
+    if rest:
+        yield [rest]
 
 
 class Printer:

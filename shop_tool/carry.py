@@ -39,7 +39,8 @@ def plan_of(rows: list[Row]) -> Plan:
         new[str(row["id"])] = f"0.{len(plan.asks)}"
         plan.ids.append((str(row["kind"]), str(row["id"]), new[str(row["id"])]))
 
-    of_kind: dict[str, list[Row]] = {kind: [row for row in rows if row["kind"] == kind] for kind in ("user", "item", "bid", "purchase", "comment")}
+    kinds = ("user", "item", "bid", "purchase", "comment")
+    of_kind: dict[str, list[Row]] = {kind: [row for row in rows if row["kind"] == kind] for kind in kinds}
     for user in of_kind["user"]:
         carry(user, user["nickname"])
         plan.left["users with ratings"] += user["comments"] != 0
@@ -66,7 +67,8 @@ def carry(args: argparse.Namespace) -> int:
     plan = plan_of(rows)
     keep = settings.existing(args.new).keep
     if len(plan.asks) > keep:
-        raise Fault(Status.REFUSED, f"{len(plan.asks)} asks are too many for {args.new}, whose sites keep {keep} messages; nothing was carried")
+        raise Fault(Status.REFUSED, f"{len(plan.asks)} asks are too many for the sites of {args.new}, which keep {keep} messages; "
+                    "nothing was carried")
     done = asked_before(args, plan)
     describe(args, plan, done)
     if not args.yes and not confirmed():

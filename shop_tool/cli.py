@@ -57,7 +57,8 @@ class CommandLine:
     def __init__(self) -> None:
         self.words = Words(
             prog="shop", description=ABOUT, epilog=f"{NOTES}\nexamples:\n{EXAMPLES}", formatter_class=argparse.RawDescriptionHelpFormatter)
-        self.words.add_argument("-C", dest="folder", metavar="FOLDER", default=os.environ.get("SHOP", "shop"), help="the folder of the shop")
+        folder = os.environ.get("SHOP", "shop")
+        self.words.add_argument("-C", dest="folder", metavar="FOLDER", default=folder, help="the folder of the shop")
         self.commands = self.words.add_subparsers(dest="command", required=True, metavar="COMMAND")
         self._life()
         self._asks()
@@ -73,12 +74,13 @@ class CommandLine:
         return parser
 
     @staticmethod
-    def site(parser: argparse.ArgumentParser, nargs: str | None = None, of: str = "the number of the site") -> None:
-        parser.add_argument("site", metavar="SITE", type=count_of, help=of, **({"nargs": nargs} if nargs else {}))    # type: ignore[arg-type]
+    def site(parser: argparse.ArgumentParser, of: str = "the number of the site") -> None:
+        parser.add_argument("site", metavar="SITE", type=count_of, help=of)
 
     @staticmethod
     def timeout(parser: argparse.ArgumentParser, seconds: float) -> None:
-        parser.add_argument("--timeout", metavar="S", type=seconds_of, default=seconds, help=f"seconds until it gives up; {seconds:g} by default")
+        about = f"seconds until it gives up; {seconds:g} by default"
+        parser.add_argument("--timeout", metavar="S", type=seconds_of, default=seconds, help=about)
 
     @staticmethod
     def as_json(parser: argparse.ArgumentParser) -> None:
@@ -91,14 +93,16 @@ class CommandLine:
   shop start auction --sites 3 --here 0,1 --over redis://10.0.0.5/auction
                                                   sites 0 and 1; another machine says --here 2
 """
-        for name, about in (("start", "start the sites of a shop in the background"), ("run", "run the sites of a shop in the foreground, for systemd")):
+        where = {"start": "start the sites of a shop in the background", "run": "run the sites of a shop in the foreground, for systemd"}
+        for name, about in where.items():
             parser = self.command(name, f"running.{name}", about, examples.replace("shop start", f"shop {name}"))
             parser.add_argument("named", metavar="FOLDER", nargs="?", help="the folder of the shop")
             parser.add_argument("--sites", metavar="N", type=count_of, help="how many sites the shop has, 1 to 16; 1 by default. It stays")
             parser.add_argument("--here", metavar="I,..", type=sites_of, help="which of them run here; all by default")
             parser.add_argument("--over", metavar="WHAT", help="what carries their packets: files, or redis://HOST:PORT/NAME")
             parser.add_argument("--sync", action=argparse.BooleanOptionalAction, help="have each record on the disk before it is answered")
-            parser.add_argument("--keep", metavar="K", type=count_of, help="how many messages a site keeps; 1,000,000 by default. It only grows")
+            keep = "how many messages a site keeps; 1,000,000 by default. It only grows"
+            parser.add_argument("--keep", metavar="K", type=count_of, help=keep)
             for option in ("batch", "shards", "workers"):
                 parser.add_argument(f"--{option}", metavar="N", type=count_of, help=f"`rubis site --{option}`; it changes no answer")
             if name == "start":
@@ -113,7 +117,7 @@ class CommandLine:
   shop log 0 --lines 6      the last records of site 0 (<) and its answers (>)
   shop log 0 --follow       and those that come, with their times
 """)
-        self.site(parser, "?", "the number of the site")
+        parser.add_argument("site", metavar="SITE", type=count_of, nargs="?", help="the number of the site")
         parser.add_argument("-f", "--follow", action="store_true", help="go on with what comes")
         parser.add_argument("-n", "--lines", metavar="N", type=count_of, default=20, help="how many lines of the past; 20 by default")
         parser = self.command("wait", "running.wait", "wait until a site has all that the others sent")
@@ -133,7 +137,8 @@ class CommandLine:
         shown.add_argument("--json", action="store_true", help="print an object for each answer")
         shown.add_argument("--raw", action="store_true", help="print the lines of the site")
         parser.add_argument("--no-wait", action="store_true", help="don't fetch the token: a site without it answers NoToken")
-        parser.add_argument("--published", action="store_true", help="end only once the server has what was accepted")
+        published = "end only once the server, or over files another site, has what was accepted"
+        parser.add_argument("--published", action="store_true", help=published)
         self.timeout(parser, 10)
         parser = self.command("pass", "asks.pass_token", "hand the token on by hand; asks fetch it by themselves")
         self.site(parser, of="the site that holds it")
@@ -148,7 +153,8 @@ class CommandLine:
 """)
         self.site(parser)
         parser.add_argument("what", metavar="WHAT", choices=[*LISTINGS], help=", ".join(LISTINGS))
-        parser.add_argument("key", metavar="KEY", nargs="?", help="the category of items; the item of bids and purchases; the user of comments")
+        key = "the category of items; the item of bids and purchases; the user of comments"
+        parser.add_argument("key", metavar="KEY", nargs="?", help=key)
         self.as_json(parser)
         self.timeout(parser, 60)
         kinds = [kind for kind in COLUMNS if kind != "misfit"]
@@ -161,7 +167,10 @@ class CommandLine:
         parser.add_argument("key", metavar="KEY", help="its id; a user's nickname will do, and a category has its number")
         self.as_json(parser)
         self.timeout(parser, 60)
-        parser = self.command("tables", "reading.tables", "print all tables of a site as SQL", "  shop tables 0 | sqlite3 shop.db\n  shop tables 0 | psql shop\n")
+        parser = self.command("tables", "reading.tables", "print all tables of a site as SQL", """\
+  shop tables 0 | sqlite3 shop.db
+  shop tables 0 | psql shop
+""")
         self.site(parser)
         self.timeout(parser, 600)
         parser = self.command("audit", "reading.audit", "audit all sites; the status is 0 only if they agree", """\
@@ -173,12 +182,14 @@ class CommandLine:
         self.timeout(parser, 600)
 
     def _care(self) -> None:
-        parser = self.command("rebuild", "rebuild.rebuild", "make the folder of a lost site again from the streams; the shop here is stopped meanwhile", """\
+        about = "make the folder of a lost site again from what it sent; the shop here is stopped meanwhile"
+        parser = self.command("rebuild", "rebuild.rebuild", about, """\
   shop stop; shop rebuild 1; shop start
 """)
         self.site(parser)
-        parser.add_argument("--anyway", action="store_true", help="even where sites aren't running that may have more of it than the server")
-        parser = self.command("shorten", "shorten.shorten", "take refusals and repeats out of the recording of a site; the shop here is stopped meanwhile", """\
+        parser.add_argument("--anyway", action="store_true", help="even where other sites are silent that may have more of it")
+        about = "take refusals and repeats out of the recording of a site; the shop here is stopped meanwhile"
+        parser = self.command("shorten", "shorten.shorten", about, """\
   shop stop; shop shorten 0; shop start
 """)
         self.site(parser)
@@ -187,7 +198,8 @@ class CommandLine:
 """)
         parser.add_argument("old", metavar="OLD", help="the folder of the old shop, which nobody asks meanwhile")
         parser.add_argument("new", metavar="NEW", help="the folder of the new shop, whose site 0 nobody else asks meanwhile")
-        parser.add_argument("--site", metavar="SITE", type=count_of, default=0, help="the site of OLD whose tables are carried; 0 by default")
+        about = "the site of OLD whose tables are carried; 0 by default"
+        parser.add_argument("--site", metavar="SITE", type=count_of, default=0, help=about)
         parser.add_argument("--yes", action="store_true", help="don't ask before it begins")
         parser = self.command("adopt", "rebuild.adopt", "say that this folder has a site from now on, since it was moved or restored")
         self.site(parser)
@@ -213,6 +225,9 @@ def command_of(name: str) -> Callable[[argparse.Namespace], int]:
 
 
 def main() -> NoReturn:
+    for stream in (sys.stdout, sys.stderr):
+        # Records may have bytes that are no text.
+        stream.reconfigure(encoding="utf-8", errors="surrogateescape")      # type: ignore[attr-defined]
     try:
         args = with_records(CommandLine().words, sys.argv[1:])
         status = command_of(args.does)(args)

@@ -153,11 +153,27 @@ class Ledger:
 
 def packets_of(kept: str, origin: int, after: int) -> Iterator[tuple[int, bytes]]:
     """Messages of a site with a number above `after` that stand in a file `kept`, each with its number."""
+    if not os.path.exists(kept):
+        return
     with open(kept, "rb") as file:
         for line in file:
             packet = packet_of(line.rstrip(b"\n")) if line.startswith(b"msg,") else None
             if isinstance(packet, Message) and packet.origin == origin and packet.number > after:
                 yield packet.number, line.rstrip(b"\n")
+
+
+def sends_of(out: str) -> list[tuple[Place, bytes]]:
+    """The packets that stand in a file `out`, with their places; a torn last line is none."""
+    if not os.path.exists(out):
+        return []
+    sends: list[tuple[Place, bytes]] = []
+    number = token = 0
+    with open(out, "rb") as file:
+        for line in file:
+            if line.startswith(b"send,") and line.endswith(b"\n"):
+                number, token = (number + 1, 0) if line.startswith(b"send,msg,") else (number, token + 1)
+                sends.append(((number, token), line[5:-1]))
+    return sends
 
 
 def tokens_of(kept: str) -> list[bytes]:

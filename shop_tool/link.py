@@ -5,12 +5,14 @@ import asyncio
 from typing import Any
 
 from .ends import Fault
-from .ledger import Sends
+from .ledger import packets_of
 from .site import Site
 from .supervisor import Supervisor
 
 BATCH = 256         # packets that are carried at once
 FULL_WAIT = 5.0     # seconds until a site that refused a message as Full is given it again
+
+UP, STARTING = "up", "not yet up"
 
 Request = dict[str, Any]
 
@@ -18,7 +20,7 @@ Request = dict[str, Any]
 class Link(abc.ABC):
     """`state` is `up`, or says since when and why packets aren't carried."""
 
-    state = "starting"
+    state = STARTING
 
     @abc.abstractmethod
     async def run(self) -> None:
@@ -38,14 +40,14 @@ class Link(abc.ABC):
 
     @abc.abstractmethod
     def published(self, site: Site) -> int:
-        """How many packets of a site here are where the others find them."""
+        """How many packets of a site here would stay if its folder were lost: another site has them, or the server does."""
 
     @abc.abstractmethod
     def sent(self, origin: int) -> int:
         """How many messages of a site are where the others find them."""
 
-    async def close(self) -> None:
-        """Tells the others that the sites here are stopped."""
+    async def finish(self) -> None:
+        """What is to be done when the sites here have stopped."""
 
     async def look(self) -> None:
         """Brings `sent` up to date."""
@@ -64,39 +66,56 @@ class FileLink(Link):
 
     def __init__(self, shop: Supervisor) -> None:
         self.shop = shop
-        self.state = "up"
+        self.state = UP
+        self.carried = dict.fromkeys(shop.sites, 0)     # how many packets of each site some other one has taken in
 
     async def run(self) -> None:
-        for site in self.shop.sites.values():
-            site.opened.set()
-            site.compared.set()
-        await asyncio.gather(*(site.known.wait() for site in self.shop.sites.values()))
-        await asyncio.gather(*(self._read(site) for site in self.shop.sites.values()))
+        sites = self.shop.sites.values()
+        await asyncio.gather(*(self._compare(site) for site in sites), *(self._read(site) for site in sites))
+
+    async def _compare(self, site: Site) -> None:
+        """Opens a site, once no other one has more of it than its folder, if that may have lost something."""
+        if not self.shop.has_lost_nothing(site):
+            await site.known.wait()
+            own = site.ledger.sends.messages
+            for other in self.shop.sites.values():
+                kept = f"{other.folder}/kept"
+                has = await asyncio.to_thread(lambda: max((number for number, _ in packets_of(kept, site.number, own)), default=0))
+                if has and other is not site:
+                    site.fence(f"site {other.number} has {has} messages of it, and its folder has {own} (shop rebuild {site.number})")
+                    return
+        site.opened.set()
+        site.compared.set()
+        self.shop.progress.tell()
 
     async def _read(self, site: Site) -> None:
         """Gives a site what the others send. What it has is its position."""
-        others = {number: other.ledger.sends for number, other in self.shop.sites.items() if number != site.number}
-        while others:
+        await site.opened.wait()
+        while len(self.shop.sites) > 1:
             await site.up.wait()
-            at = {number: sends.count_upto((site.ledger.have[number].upto, 0)) for number, sends in others.items()}
             try:
-                await self._carry(site, others, at)
+                await self._carry(site, {})
             except Fault:
                 return      # the site has ended
             await asyncio.sleep(FULL_WAIT)
 
-    async def _carry(self, site: Site, others: dict[int, Sends], at: dict[int, int]) -> None:
-        """Carries packets until the site is full."""
+    async def _carry(self, site: Site, at: dict[int, int]) -> None:
+        """Carries packets until the site is full. `at` gets where it is in the sends of each other site."""
         while True:
             packets = []
-            for number, sends in others.items():
-                end = min(len(sends), at[number] + BATCH)
-                packets += [text for _, text in sends.read(at[number], end)]
-                at[number] = end
+            for number, other in self.shop.sites.items():
+                if number != site.number and other.known.is_set():
+                    sends = other.ledger.sends
+                    begin = at.setdefault(number, sends.count_upto((site.ledger.have[number].upto, 0)))
+                    at[number] = min(len(sends), begin + BATCH)
+                    packets += [text for _, text in sends.read(begin, at[number])]
+            if packets and not await self.shop.feed(site, packets):
+                return
+            for number, end in at.items():
+                self.carried[number] = max(self.carried[number], end)
+            self.shop.progress.tell()
             if not packets:
                 await self.shop.news.wait()
-            elif not await self.shop.feed(site, packets):
-                return
 
     async def say_want(self, site: int, known: int) -> None:
         self.shop.hear_want(site, known)
@@ -108,7 +127,7 @@ class FileLink(Link):
         return self.shop.sites[origin].ledger.sends.message(number)
 
     def published(self, site: Site) -> int:
-        return len(site.ledger.sends)
+        return self.carried[site.number] if len(self.shop.sites) > 1 else len(site.ledger.sends)
 
     def sent(self, origin: int) -> int:
         return self.shop.sites[origin].ledger.sends.messages

@@ -8,7 +8,7 @@ from typing import IO
 
 from . import client, program
 from .ends import Fault, Status
-from .records import COLUMNS, LISTINGS, NUMBERS, REFUSALS, Row, fields_of, row_of
+from .records import COLUMNS, LISTINGS, NUMBERS, REFUSALS, Row, bytes_of, fields_of, row_of
 from .render import print_fields, print_rows
 
 NULLS = ("best", "winner")      # columns in which `none` says that there is nothing
@@ -112,7 +112,7 @@ def audited(folder: str, seconds: float, save: str | None, earlier: list[str]) -
                 _give(auditor.stdin, file.read())
         for answer in client.call(folder, {"op": "logs", "timeout": seconds}):
             client.raise_fault(answer)
-            text = os.fsencode(answer.get("text", ""))
+            text = bytes_of(answer.get("text", ""))
             _give(auditor.stdin, text)
             if saved:
                 saved.write(text)

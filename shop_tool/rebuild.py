@@ -2,8 +2,8 @@
 
 What a site sent determines its past. Each of its messages counts what the site had released of each other site, and its shadow gives
 the ask. So a fresh site that is given, for each packet of its stream, the others' messages up to these counts, its next token where
-it needs one, and then the ask, sends the same packets again; they are compared byte by byte. The others may have packets of it that
-the server has lost: these are put into its stream first.
+it needs one, and then the ask, sends the same packets again; they are compared byte by byte. What it sent stands in its stream, in
+what is left of its folder, and in what the others kept; the stream gets what it lacks first.
 """
 
 import argparse
@@ -14,14 +14,14 @@ import subprocess
 import sys
 import threading
 import time
-from collections.abc import Iterator
-from typing import Any, NamedTuple
+from collections.abc import Coroutine, Iterator
+from typing import Any, NamedTuple, TypeVar
 
 from . import program, settings
 from .answers import AnswerReader
 from .ends import Fault, Status
-from .ledger import Place, packets_of, tokens_of
-from .records import Message, Token, ask_of, packet_of
+from .ledger import Place, packets_of, sends_of, tokens_of
+from .records import Message, Token, ask_of, bytes_of, packet_of
 from .site import keep_command
 from .streams import STATUS_SECONDS, Streams, faults
 from .supervisor import stopped_shop
@@ -30,6 +30,7 @@ CALL_SECONDS = 30.0
 UNCHANGED = "nothing was changed"
 
 Packets = list[tuple[Place, bytes]]
+Result = TypeVar("Result")
 
 
 class Step(NamedTuple):
@@ -64,10 +65,10 @@ class Past:
             elif isinstance(packet, Message) and (packet.origin, packet.number, 0) == (site, number, token):
                 self.own[number] = text
             else:
-                raise Fault(Status.REFUSED, f"the stream of site {site} has an entry {number}-{token} that isn't its packet (redis-cli xdel): {UNCHANGED}")
+                raise Fault(Status.REFUSED, f"the stream of site {site} has an entry {number}-{token} that isn't its packet "
+                            f"(redis-cli xdel): {UNCHANGED}")
         self.tokens = {turn.turn: (turn, text) for stream in streams for _, text in stream if (turn := token_of(text))}
-        self.last = max(self.own, default=0)            # message that the stream has
-        self.has_more = False                           # than the stream
+        self.last = max(self.own, default=0)            # what others are asked for begins behind it
 
     def add(self, messages: list[bytes], tokens: list[bytes]) -> None:
         """Takes in what another site has: messages of this site, and tokens that came to the other one."""
@@ -75,7 +76,6 @@ class Past:
             packet = packet_of(text)
             if isinstance(packet, Message) and packet.number not in self.own:
                 self.own[packet.number] = text
-                self.has_more = True
         for text in tokens:
             if (turn := token_of(text)) and turn.turn not in self.tokens:
                 self.tokens[turn.turn] = (turn, text)
@@ -87,7 +87,6 @@ class Past:
             sender = before[0].to if before else 0 if turn == 1 else None
             if sender == self.site and turn not in self.passed:
                 self.passed[turn] = (self._number_before(token), text)
-                self.has_more = True
 
     def _number_before(self, token: Token) -> int:
         """The last own message before a token: the next red one has a number that the token doesn't count."""
@@ -143,56 +142,77 @@ class Past:
 
 
 def rebuild(args: argparse.Namespace) -> int:
-    """Makes the folder of a site again from the streams. The shop's sites here are stopped meanwhile."""
-    now = stopped_streams(args)
-    try:
-        past = asyncio.run(gathered(now, args))
-        count = replayed(past, args.folder, now)
-        lost = swapped(args.folder, args.site)
-        asyncio.run(adopted(now, args.site, args.folder))
-    except faults() as fault:
-        raise Fault(Status.AWAY, f"{now.shown_over}: {fault}; {UNCHANGED}") from fault
+    """Makes the folder of a site again from what it sent. The shop's sites here are stopped meanwhile."""
+    now = stopped_shop(args)
+    is_over_server = now.over != settings.FILES
+    past = over_server(now, past_on_server(now, args)) if is_over_server else past_in_files(now, args)
+    count = replayed(past, args.folder, now)
+    lost = swapped(args.folder, args.site)
+    if is_over_server:
+        over_server(now, adopted(now, args.site, args.folder))
     print(f"site {args.site}: {count} packets of its own came out again as they were" + (f"; what was there is {lost}" if lost else ""))
     return Status.WELL
 
 
 def adopt(args: argparse.Namespace) -> int:
     """Says that this folder has the site from now on: it was moved here, or is a copy whose origin is gone."""
-    now = stopped_streams(args)
-    try:
-        asyncio.run(adopted(now, args.site, args.folder))
-    except faults() as fault:
-        raise Fault(Status.AWAY, f"{now.shown_over}: {fault}; {UNCHANGED}") from fault
+    now = stopped_shop(args)
+    if now.over == settings.FILES:
+        raise Fault(Status.MISUSE, f"{args.folder} is a shop over files: no other folder can have its sites")
+    over_server(now, adopted(now, args.site, args.folder))
     return Status.WELL
 
 
-def stopped_streams(args: argparse.Namespace) -> settings.Settings:
-    now = stopped_shop(args)
-    if now.over == settings.FILES:
-        raise Fault(Status.MISUSE, f"{args.folder} is a shop over files: only the streams of a shop over redis have what a lost site sent")
-    return now
+def over_server(now: settings.Settings, work: Coroutine[Any, Any, Result]) -> Result:
+    try:
+        return asyncio.run(work)
+    except faults() as fault:
+        raise Fault(Status.AWAY, f"{now.shown_over}: {fault}; {UNCHANGED}") from fault
 
 
-async def gathered(now: settings.Settings, args: argparse.Namespace) -> Past:
-    """The streams, with what the other sites have beyond them. One that is silent may have more, so nothing is done without it."""
+def past_in_files(now: settings.Settings, args: argparse.Namespace) -> Past:
+    """What the folders of all sites have of it."""
+    past = Past(args.site, [sends_of(f"{args.folder}/{other}/out") for other in range(now.sites)])
+    lacking = [other for other in range(now.sites) if other != args.site and not add_kept(past, f"{args.folder}/{other}/kept")]
+    refuse_silent(args, lacking, "has no folder")
+    past.add_passed()
+    return past
+
+
+async def past_on_server(now: settings.Settings, args: argparse.Namespace) -> Past:
+    """The streams, with what its old folder and the other sites have beyond them."""
     async with Streams(now) as server:
         statuses = await statuses_without(server, args.site)
-        past = Past(args.site, [await server.read_all(other) for other in range(now.sites)])
+        streams = [await server.read_all(other) for other in range(now.sites)]
+        was = streams[args.site]
+        told = sends_of(f"{args.folder}/{args.site}/out")
+        past = Past(args.site, [told if other == args.site and told[:len(was)] == was else stream for other, stream in enumerate(streams)])
         silent = []
         for other in range(now.sites):
-            kept = f"{args.folder}/{other}/kept"
-            if other != args.site and other in now.here and os.path.exists(kept):
-                past.add([text for _, text in packets_of(kept, args.site, past.last)], tokens_of(kept))
-            elif other != args.site and not (other in statuses and await ask_other(server, past, other)):
-                silent.append(str(other))
-        if silent and not args.anyway:
-            raise Fault(Status.REFUSED, f"site {', '.join(silent)} may have more of site {args.site} than its stream has, and isn't running; "
-                        f"start it, or say --anyway: {UNCHANGED}")
+            if other != args.site and not (other in now.here and add_kept(past, f"{args.folder}/{other}/kept")):
+                if other not in statuses or not await ask_other(server, past, other):
+                    silent.append(other)
+        refuse_silent(args, silent, "isn't running")
         past.add_passed()
         state = await server.state(args.site)
-        if past.has_more or state.last != state.greatest:
+        if past.packets() != was or state.last != state.greatest:
             await server.rewrite(args.site, past.packets())
         return past
+
+
+def add_kept(past: Past, kept: str) -> bool:
+    """Adds what another site of this machine has; False if it has no folder."""
+    if not os.path.exists(kept):
+        return False
+    past.add([text for _, text in packets_of(kept, past.site, past.last)], tokens_of(kept))
+    return True
+
+
+def refuse_silent(args: argparse.Namespace, silent: list[int], why: str) -> None:
+    """A site that says nothing may have more of this one, and then its numbers would be given again."""
+    if silent and not args.anyway:
+        raise Fault(Status.REFUSED, f"site {', '.join(map(str, silent))} {why}, and may have more of site {args.site}; bring it back, "
+                    f"or say --anyway: {UNCHANGED}")
 
 
 async def ask_other(server: Streams, past: Past, other: int) -> bool:
@@ -201,7 +221,7 @@ async def ask_other(server: Streams, past: Past, other: int) -> bool:
     found = await server.call(request, other, CALL_SECONDS)
     if not found or "messages" not in found[-1]:
         return False
-    past.add([os.fsencode(text) for text in found[-1]["messages"]], [os.fsencode(text) for text in found[-1]["tokens"]])
+    past.add([bytes_of(text) for text in found[-1]["messages"]], [bytes_of(text) for text in found[-1]["tokens"]])
     return True
 
 

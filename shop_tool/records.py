@@ -58,6 +58,15 @@ _ONE_RECORD = re.compile(_FIELD + rb"(?:," + _FIELD + rb")*")
 Row = dict[str, "int | str"]
 
 
+def text_of(data: bytes) -> str:
+    """Bytes as text, whatever they are; `bytes_of` gives them back."""
+    return data.decode("utf-8", "surrogateescape")
+
+
+def bytes_of(text: str) -> bytes:
+    return text.encode("utf-8", "surrogateescape")
+
+
 def kind_of(record: bytes) -> bytes:
     """The first field of a record."""
     return record.split(b",", 1)[0]

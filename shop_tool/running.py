@@ -11,6 +11,7 @@ from typing import Any
 from . import client, program, settings
 from .answers import AnswerReader
 from .ends import Fault, Status
+from .records import text_of
 from .render import GREEN, RED, YELLOW, coloured, print_columns
 
 STARTED_BY_OPTIONS = ("sites", "here", "over", "sync", "keep", "batch", "shards", "workers")
@@ -124,12 +125,9 @@ def log(args: argparse.Namespace) -> int:
     """Prints what happened, or a site's records and answers; with --follow also what comes."""
     answers = client.call(args.folder, {"op": "follow", "site": args.site}) if args.follow else iter(())
     _print_lines(_last_events(args) if args.site is None else _last_answers(args))
-    try:
-        for answer in answers:
-            client.raise_fault(answer)
-            print(answer["line"], flush=True)
-    except KeyboardInterrupt:
-        pass
+    for answer in answers:
+        client.raise_fault(answer)
+        print(answer["line"], flush=True)
     return Status.WELL
 
 
@@ -155,8 +153,8 @@ def _last_answers(args: argparse.Namespace) -> "collections.deque[str]":
         with open(f"{folder}/kept", "rb") as kept, open(f"{folder}/out", "rb") as out:
             while data := out.read(1 << 20):
                 for answer in reader.feed(data):
-                    last.append("< " + os.fsdecode(kept.readline().rstrip(b"\n")))
-                    last.extend("> " + os.fsdecode(line) for line in answer.lines)
+                    last.append("< " + text_of(kept.readline().rstrip(b"\n")))
+                    last.extend("> " + text_of(line) for line in answer.lines)
     except FileNotFoundError:
         raise Fault(Status.AWAY, f"site {args.site} doesn't run in {args.folder}") from None
     return last

@@ -12,7 +12,7 @@ from .asking import Ask
 from .ends import Fault, Status
 from .ledger import packets_of, tokens_of
 from .link import Request
-from .records import why_not_one_record
+from .records import bytes_of, text_of, why_not_one_record
 from .site import Site
 from .supervisor import Follower, Supervisor
 
@@ -20,14 +20,11 @@ REQUEST_BYTES = 16 << 20
 RECORDS_OF_A_REQUEST = 10_000
 CONNECTIONS = 500
 READER_SECONDS = 60.0       # a client that takes in nothing for so long is cut off
+REFUSE_SECONDS = 2.0        # how long one that is too many has to say what it wants
 LISTINGS = 4                # how many long answers are made at once, since each is in memory whole
 AUDITED = [b"list,log", b"list,tables"]
 
 Say = Callable[[dict[str, Any]], Awaitable[None]]
-
-
-def text_of(data: bytes) -> str:
-    return os.fsdecode(data)
 
 
 class Server:
@@ -64,11 +61,12 @@ class Server:
 
         self.connections.add(writer)
         try:
-            if len(self.connections) > CONNECTIONS:
-                return await say(end_of(Fault(Status.AWAY, f"{CONNECTIONS} others are connected; nothing was asked")))
-            line = await reader.readline()
+            is_one_too_many = len(self.connections) > CONNECTIONS
+            line = await asyncio.wait_for(reader.readline(), REFUSE_SECONDS if is_one_too_many else READER_SECONDS)
             if not line.endswith(b"\n"):
                 return
+            if is_one_too_many:
+                return await say(end_of(Fault(Status.AWAY, f"{CONNECTIONS} others are connected; nothing was asked")))
             serving = asyncio.create_task(self._serve_line(line, say))
             # A client that goes takes its request along, unless a site has it already.
             gone = asyncio.create_task(reader.read(1))
@@ -126,7 +124,7 @@ class Server:
                 await self._ask(site, request, say)
                 return None
             case "list":
-                answer, = await self._listings(site, [os.fsencode(request["record"])], request["timeout"])
+                answer, = await self._listings(site, [bytes_of(request["record"])], request["timeout"])
                 return {"lines": [text_of(line) for line in answer.lines]}
             case "log":
                 return {"text": await self._log(site, request["timeout"])}
@@ -150,7 +148,7 @@ class Server:
         return answers[-1]
 
     async def _ask(self, site: Site, request: Request, say: Say) -> None:
-        records = [os.fsencode(record) for record in request["records"]]
+        records = [bytes_of(record) for record in request["records"]]
         if len(records) > RECORDS_OF_A_REQUEST:
             raise Fault(Status.MISUSE, f"a request has at most {RECORDS_OF_A_REQUEST} records; nothing was asked")
         for record in records:
@@ -231,7 +229,8 @@ class Server:
                 await self.shop.progress.wait(max(until - time.monotonic(), 0.001))
             except TimeoutError:
                 lacks = ", ".join(f"{count} of site {origin}" for origin, count in self.shop.behind(site).items() if count)
-                raise Fault(Status.AWAY, f"site {site.number} is {site.state}" + (f", and lacks messages: {lacks}" if lacks else "")) from None
+                lacks = f", and lacks messages: {lacks}" if lacks else ""
+                raise Fault(Status.AWAY, f"site {site.number} is {site.state}{lacks}") from None
 
     async def _follow(self, request: Request, say: Say) -> dict[str, Any]:
         number, follower = request["site"], Follower()

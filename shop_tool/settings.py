@@ -50,7 +50,7 @@ def read(folder: str) -> Settings | None:
         with open(path_of(folder)) as file:
             has = json.load(file)
         return Settings(**(has | {"here": tuple(has["here"])}))
-    except FileNotFoundError:
+    except (FileNotFoundError, NotADirectoryError):
         return None
     except (ValueError, TypeError, KeyError) as fault:
         raise Fault(Status.MISUSE, f"{path_of(folder)}: {fault}") from fault
@@ -64,6 +64,8 @@ def existing(folder: str) -> Settings:
 
 def changed(folder: str, said: dict[str, Any]) -> Settings:
     """The settings with what a start says. How many sites there are stays as it was; --keep never becomes smaller."""
+    if os.path.isfile(folder):
+        raise Fault(Status.MISUSE, f"{folder} is a file; name the folder of the shop, as in: shop start auction")
     has = read(folder)
     if has and said.get("sites", has.sites) != has.sites:
         raise Fault(Status.MISUSE, f"{folder} has --sites {has.sites}, and that stays")

@@ -202,7 +202,8 @@ class Site:
         self.shop.pass_on(self)
 
     def note_fault(self, text: str) -> None:
-        self.fault = stamp(), text
+        if not self.fenced_by or text == self.fenced_by:
+            self.fault = stamp(), text          # what a site says that is stopped for good isn't why
         self.shop.event(f"site {self.number}: {text}")
 
     def fence(self, text: str) -> None:
@@ -212,6 +213,7 @@ class Site:
             self.note_fault(text)
             self.opened.set()
             self.compared.set()
+            self.shop.progress.tell()
             self.kill()
 
     def stop(self) -> None:

@@ -2,20 +2,20 @@
 
 import asyncio
 import json
-import os
 import time
 from collections.abc import Awaitable, Callable
 from typing import Any
 
 from .ends import Fault
 from .ledger import NOWHERE, Place, packets_of
-from .link import BATCH, FULL_WAIT, Link, Request
+from .link import BATCH, FULL_WAIT, STARTING, UP, Link, Request
 from .site import Site
-from .streams import Streams, faults, id_of, identity
+from .streams import Streams, faults, id_of
 from .supervisor import Supervisor
 from .times import stamp
 
 COMPARE_SECONDS = 1.0       # how often a site is compared with its stream, and statuses are told
+LAST_SECONDS = 2.0          # how long a stop waits for what was answered last to be published
 BLOCK = 2000                # milliseconds
 FIRST_WAIT, LAST_WAIT = 0.1, 2.0
 CALM = 5.0
@@ -32,35 +32,17 @@ class StreamLink(Link):
 
     @property                                       # type: ignore[override]
     def state(self) -> str:
-        return next(iter(self.down.values()), "up" if self.is_reached else "not yet up")
+        return next(iter(self.down.values()), UP if self.is_reached else STARTING)
 
     async def run(self) -> None:
-        is_same_boot = self._is_same_boot()
         for site in self.shop.sites.values():
-            # A folder that can't have lost what it answered needn't wait until it is compared with its stream.
-            kept = f"{site.folder}/kept"
-            if os.path.exists(kept) and os.path.getsize(kept) and (is_same_boot or self.settings.sync):
-                site.opened.set()
+            if self.shop.has_lost_nothing(site):
+                site.opened.set()       # it needn't wait until it is compared with its stream
         works = [self._forever("tell", self._tell), self._forever("hear", self._hear)]
         for site in self.shop.sites.values():
             publisher = Publisher(self, site)
             works += [self._forever(f"publish {site.number}", publisher.run), self._forever(f"read {site.number}", Reader(self, site).run)]
         await asyncio.gather(*works)
-
-    def _is_same_boot(self) -> bool:
-        """Whether this folder ran since the machine was started, so that no power failure has come between."""
-        with open("/proc/sys/kernel/random/boot_id") as file:
-            boot = file.read() + identity(self.shop.folder) + "\n"
-        path = f"{self.shop.folder}/boot"
-        try:
-            with open(path) as file:
-                was = file.read()
-        except FileNotFoundError:
-            was = ""
-        if was != boot:
-            with open(path, "w") as file:
-                file.write(boot)
-        return was == boot
 
     async def _forever(self, name: str, work: Callable[[Streams], Awaitable[None]]) -> None:
         """Works over a connection of its own, which is made again whenever it fails. Returns when the work is over."""
@@ -80,8 +62,10 @@ class StreamLink(Link):
         if not self.down:
             self.shop.event(f"link: {self.settings.shown_over}: {why} ({name})")
         self.down.setdefault(name, f"down since {stamp()}: {why}")
+        self.shop.progress.tell()
 
     def works(self, name: str) -> None:
+        self.is_reached = True
         if self.down.pop(name, None) and not self.down:
             self.shop.event(f"link: {self.settings.shown_over} is there")
             self.shop.progress.tell()
@@ -91,7 +75,6 @@ class StreamLink(Link):
     async def _tell(self, server: Streams) -> None:
         while True:
             await self._look(server)
-            self.is_reached = True
             self.works("tell")
             for origin in range(self.settings.sites):
                 if origin not in self.shop.sites:
@@ -101,7 +84,13 @@ class StreamLink(Link):
             except TimeoutError:
                 pass
 
-    async def close(self) -> None:
+    async def finish(self) -> None:
+        """Waits a moment until what was answered last is published; else that comes after the next start. Takes the statuses back."""
+        until = time.monotonic() + LAST_SECONDS
+        while self.state == UP and time.monotonic() < until:
+            if all(site.fenced_by or self.published(site) >= len(site.ledger.sends) for site in self.shop.sites.values()):
+                break
+            await asyncio.sleep(0.02)
         try:
             await self.main.forget([number for number, site in self.shop.sites.items() if not site.fenced_by])
         except faults():
@@ -257,11 +246,13 @@ class Publisher:
             await server.rewrite(site.number, sends.read(0, at))
             state = state._replace(last=last)
         if at < self.link.counts.get(site.number, 0):
-            site.shop.event(f"site {site.number}: the server lost {self.link.counts[site.number] - at} of its packets, which are published again")
+            lost = self.link.counts[site.number] - at
+            site.shop.event(f"site {site.number}: the server lost {lost} of its packets, which are published again")
         self.link.counts[site.number] = at
         self.link.works(self.name)
         site.opened.set()
         site.compared.set()
+        site.shop.progress.tell()
         return state.last
 
     async def _look_elsewhere(self, server: Streams) -> None:
@@ -320,7 +311,8 @@ class Reader:
             if place[0] > before[0] + 1:
                 if (origin, place[0]) not in self.holes:
                     self.holes.add((origin, place[0]))
-                    self.site.shop.event(f"link: the stream of site {origin} has nothing between {id_of(before).decode()} and {id_of(place).decode()}")
+                    between = f"{id_of(before).decode()} and {id_of(place).decode()}"
+                    self.site.shop.event(f"link: the stream of site {origin} has nothing between {between}")
                 return True
             before = place
         return False

@@ -2,7 +2,7 @@
 
 | key | what it has |
 |---|---|
-| NAME:SITE | a stream: the site's packets in the order in which it sent them. Its own count makes the ids: message n is n-0, and the t-th token after it n-t |
+| NAME:SITE | a stream: the site's packets in the order in which it sent them; message n is n-0, and the t-th token after it n-t |
 | NAME:owner:SITE | which folder on which machine runs the site |
 | NAME:status:SITE | how the site is; it expires when its supervisor has gone |
 | NAME:wants | a stream: wants of the token, and requests to other supervisors |
@@ -18,6 +18,7 @@ import zlib
 from collections.abc import Iterable
 from typing import Any, NamedTuple
 
+from .folders import identity
 from .ledger import NOWHERE, Place
 from .settings import Settings
 
@@ -118,7 +119,10 @@ class Streams:
     async def read(self, after: dict[int, Place], count: int, block: int) -> dict[int, list[tuple[Place, bytes]]]:
         """What sites sent after these places; waits so many milliseconds if there is nothing."""
         found = await self.redis.xread({self.key(site): id_of(place) for site, place in after.items()}, count=count, block=block)
-        return {int(key.rsplit(b":", 1)[1]): [(place_of(name), fields.get(b"p", b"")) for name, fields in entries] for key, entries in found}
+        made = {}
+        for key, entries in found:
+            made[int(key.rsplit(b":", 1)[1])] = [(place_of(name), fields.get(b"p", b"")) for name, fields in entries]
+        return made
 
     async def read_all(self, site: int) -> list[tuple[Place, bytes]]:
         packets: list[tuple[Place, bytes]] = []
@@ -192,16 +196,6 @@ class Streams:
         pipe.rpush(self.key(f"answer:{name}"), zlib.compress(json.dumps(answers).encode(), 1))
         pipe.expire(self.key(f"answer:{name}"), ANSWER_SECONDS)
         await pipe.execute()
-
-
-def identity(folder: str) -> str:
-    """Which folder this is: a copy of it is another one, and so is one of the same name on another machine."""
-    try:
-        with open("/etc/machine-id") as file:
-            machine = file.read().strip()[:12]
-    except OSError:
-        machine = ""
-    return f"{machine or 'nowhere'}:{os.stat(folder).st_ino}"
 
 
 def owner_text(folder: str) -> str:

@@ -11,8 +11,9 @@ from collections.abc import Coroutine
 from typing import TYPE_CHECKING, Any
 
 from .ends import Fault, Status
+from .folders import ran_since_boot
 from .ledger import Prefix
-from .records import RECORDS_OF_A_RUN, Message, Token, packet_of
+from .records import RECORDS_OF_A_RUN, Message, Token, packet_of, text_of
 from .settings import FILES, Settings, existing
 from .signals import Signal
 from .site import Site, State
@@ -26,9 +27,8 @@ EVENTS_BYTES = 16 << 20     # a start puts the events aside when there are more
 FOLLOWED_LINES = 10_000     # how many lines a follower may be behind before it is cut off
 LOCK_SECONDS = 5.0
 LOOK_SECONDS = 1.0          # how often it looks whether its folder is still there
-COMPARE_SECONDS = 3.0       # how long a start waits until its sites are compared with their streams
+COMPARE_SECONDS = 10.0      # how long a start waits until its sites are compared with their streams
 STOP_SECONDS = 30.0         # how long a stop waits for what sites were given to be answered
-LAST_SECONDS = 2.0          # how long a stop waits for what was answered last to be published
 
 
 class Follower:
@@ -58,6 +58,7 @@ class Supervisor:
         self.followers: dict[int | None, set[Follower]] = {}
         self.events = self._open_events()
         self.sites = {number: Site(self, number) for number in settings.here}
+        self.ran_since_boot = ran_since_boot(self.folder)
         self.link = self._new_link()
         from .server import Server
         self.server = Server(self)
@@ -92,9 +93,14 @@ class Supervisor:
     def tell_followers(self, site: int, lines: list[bytes]) -> None:
         for follower in self.followers.get(site, ()):
             for line in lines:
-                follower.tell(f"{stamp()} {os.fsdecode(line)}")
+                follower.tell(f"{stamp()} {text_of(line)}")
 
     # Packets.
+
+    def has_lost_nothing(self, site: Site) -> bool:
+        """Whether a folder has certainly all that it answered: it has records, and ran since the machine was started, or has --sync."""
+        kept = f"{site.folder}/kept"
+        return os.path.exists(kept) and os.path.getsize(kept) > 0 and (self.ran_since_boot or self.settings.sync)
 
     async def feed(self, site: Site, packets: list[bytes]) -> bool:
         """Gives a site packets of others, but for those that it has; returns once they are answered, False if it is full."""
@@ -193,7 +199,8 @@ class Supervisor:
             "sent": len(ledger.sends), "published": self.link.published(site), "holds_token": ledger.holds_token and site.known.is_set(),
             "turn": ledger.turn,
             "waiting": len(site.line) + site.token_askers, "starts": site.starts,
-            "pid": site.process.pid if site.process and site.process.returncode is None else None, "fault": " ".join(site.fault) if site.fault else None,
+            "pid": site.process.pid if site.process and site.process.returncode is None else None,
+            "fault": " ".join(site.fault) if site.fault else None,
         }
 
     async def status(self) -> tuple[bool, dict[str, Any]]:
@@ -245,20 +252,22 @@ class Supervisor:
         for site in self.sites.values():
             site.kill()         # what it was given and hasn't answered is answered after the next start
         await asyncio.gather(*sites, return_exceptions=True)
-        await self._publish_last()
+        await self.link.finish()
         await self.server.close()
         for task in others:
             task.cancel()
-        await self.link.close()
         self.event("supervisor: ended")
 
     async def _compared(self) -> None:
-        """Waits a moment until it is known whether a site that is up is fenced."""
-        waits = [site.compared.wait() for site in self.sites.values() if site.up.is_set()]
-        try:
-            await asyncio.wait_for(asyncio.gather(*waits), COMPARE_SECONDS)
-        except TimeoutError:
-            pass
+        """Waits until it is known whether the sites that are up are fenced, for some time, or until the link fails."""
+        until = time.monotonic() + COMPARE_SECONDS
+        while any(site.up.is_set() and not site.compared.is_set() for site in self.sites.values()):
+            if self.link.state.startswith("down"):
+                break
+            try:
+                await self.progress.wait(max(until - time.monotonic(), 0.001))
+            except TimeoutError:
+                break
 
     def task(self, work: Coroutine[Any, Any, None], is_needed: bool = True) -> "asyncio.Task[None]":
         """A task. The fault of one that is needed ends the supervisor, since it would be a shop that only seems to run."""
@@ -273,8 +282,9 @@ class Supervisor:
 
     def _say_ready(self) -> None:
         """Tells `shop start`, or systemd, that the sites are up, or why they aren't."""
-        down = [f"site {site.number}: {site.fault[1] if site.fault else site.state}" for site in self.sites.values() if site.fenced_by or not site.up.is_set()]
-        down += [f"link: {self.link.state}"] if self.link.state != "up" else []
+        not_up = [site for site in self.sites.values() if site.fenced_by or not site.up.is_set()]
+        down = [f"site {site.number}: {site.fault[1] if site.fault else site.state}" for site in not_up]
+        down += [f"link: {self.link.state}"] if self.link.state.startswith("down") else []
         if (ready := os.environ.pop("SHOP_READY", None)) is not None:
             try:
                 os.write(int(ready), ("; ".join(down) or "ready").encode() + b"\n")
@@ -285,14 +295,6 @@ class Supervisor:
             with socket.socket(socket.AF_UNIX, socket.SOCK_DGRAM) as to:
                 to.connect(notify.replace("@", "\0", 1))
                 to.send(b"READY=1")
-
-    async def _publish_last(self) -> None:
-        """Waits a moment until what was answered last is published; else that comes after the next start."""
-        until = time.monotonic() + LAST_SECONDS
-        while self.link.state == "up" and time.monotonic() < until:
-            if all(self.link.published(site) >= len(site.ledger.sends) for site in self.sites.values()):
-                break
-            await asyncio.sleep(0.02)
 
     async def _look_after_folder(self) -> None:
         """Ends the supervisor when its folder is gone: nobody could reach it."""

@@ -6,7 +6,8 @@ from shop_tool.ends import Fault
 from shop_tool.ledger import Place
 from shop_tool.rebuild import Past
 
-ANN, ITEM, BID, CLOSE = b"msg,1,0,1,1,0:0,user,ann", b"msg,1,0,2,0,1:0,item,0.1,lamp,7,1,1,0", b"msg,1,1,1,2,2:0,bid,0.2,1.9,5", b"msg,1,0,3,3,2:1,close,0.2,7,1.1"
+ANN, ITEM = b"msg,1,0,1,1,0:0,user,ann", b"msg,1,0,2,0,1:0,item,0.1,lamp,7,1,1,0"
+BID, CLOSE = b"msg,1,1,1,2,2:0,bid,0.2,1.9,5", b"msg,1,0,3,3,2:1,close,0.2,7,1.1"
 FIRST, BACK, LAST = b"token,1,1,1,1", b"token,1,2,0,2", b"token,1,3,1,3"
 ZERO: list[tuple[Place, bytes]] = [((1, 0), ANN), ((1, 1), FIRST), ((2, 0), ITEM), ((3, 0), CLOSE), ((3, 1), LAST)]
 ONE: list[tuple[Place, bytes]] = [((1, 0), BID), ((1, 1), BACK)]
@@ -30,7 +31,6 @@ class Steps(unittest.TestCase):
         past = Past(0, [ZERO[:1], ONE])
         past.add([CLOSE, ITEM], [FIRST, LAST])
         past.add_passed()
-        self.assertTrue(past.has_more)
         self.assertEqual([packet for _, packet in past.packets()], [ANN, ITEM, FIRST, CLOSE, LAST])
         self.assertEqual([place for place, _ in past.packets()], [(1, 0), (2, 0), (2, 1), (3, 0), (3, 1)])
         self.assertEqual(records(past)[-4:], [BID, BACK, b"close,0.2,0.1", b"pass,1"])

@@ -7,7 +7,8 @@ from shop_tool.records import BYTES_OF_A_RECORD, Message, Token, ask_of, fields_
 
 class OneRecord(unittest.TestCase):
     def test_what_a_site_keeps_as_it_is(self) -> None:
-        for record in (b"user,ann", b'item,0.1,"a ""blue"" vase, old",7,1,100,0', b"list,log", b"", b"x" * BYTES_OF_A_RECORD, b"user,\xff", b'a,""'):
+        item = b'item,0.1,"a ""blue"" vase, old",7,1,100,0'
+        for record in (b"user,ann", item, b"list,log", b"", b"x" * BYTES_OF_A_RECORD, b"user,\xff", b'a,""'):
             with self.subTest(record=record[:40]):
                 self.assertEqual(why_not_one_record(record) is None, record != b"")
 

@@ -28,7 +28,8 @@ class Starts(unittest.TestCase):
         self.assertEqual(settings.changed(self.folder, {"keep": 2000, "sync": True}).keep, 2000)
 
     def test_what_no_shop_is(self) -> None:
-        bad: list[dict[str, Any]] = [{"here": (3,)}, {"here": ()}, {"here": (0, 0)}, {"here": (0,)}, {"over": "tcp"}, {"over": "redis://host"}, {"keep": 0}]
+        bad: list[dict[str, Any]] = [
+            {"here": (3,)}, {"here": ()}, {"here": (0, 0)}, {"here": (0,)}, {"over": "tcp"}, {"over": "redis://host"}, {"keep": 0}]
         for said in bad:
             with self.subTest(said=said), self.assertRaises(Fault):
                 settings.changed(self.folder, said)
