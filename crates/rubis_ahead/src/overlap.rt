@@ -20,12 +20,21 @@ use std::thread::{Threads, join_mut};
 // How long a piece is at most for which no thread is started: what a pipe hands over at once.
 const SMALL: usize = 65_536;
 
-// Reads the records of a piece of text by that many other threads, while the desk answers all that was read ahead on this one.
+/// How a text is read ahead.
+#[derive(Clone, Copy)]
+pub struct Plan {
+    /// How many threads read a chunk, beside the one that answers.
+    pub readers: usize,
+    /// How many messages are taken in together, at most.
+    pub window: usize,
+}
+
+// Reads the records of a piece of text by other threads, while the desk answers all that was read ahead on this one.
 fn read_beside<G: Gate, T: Threads + Wait + Sync>(
     rt: &T,
     alloc: Global,
     piece: &[u8],
-    readers: usize,
+    plan: Plan,
     desk: &mut Desk<G>,
     backlog: &mut Backlog,
 ) -> Result<Vec<Run>, OutOfMemory>
@@ -39,12 +48,13 @@ fn read_beside<G: Gate, T: Threads + Wait + Sync>(
     ensures parsed { IfOk result (λ list. AreParsed desk.old.site.place.sites (input_records piece.now) (flat list.items)) }
 {
     let sites = desk.sites();
+    let Plan { readers, window } = plan;
     let (list, answered) = join_mut(
         rt,
         &mut || -> Result<Vec<Run>, OutOfMemory>
             requires { IsSync T.row × (sites ≤ 16) }
             ensures { IfOk result (λ list. AreParsed sites (input_records piece.entry.now) (flat list.items)) }
-        { read_parts(rt, alloc, piece, sites, readers) },
+        { read_parts(rt, alloc, piece, sites, readers, window) },
         &mut || -> Result<(), OutOfMemory>
             requires { IsSync T.row × IsSound desk.now.site backlog.now × (backlog.now.answered + length backlog.now.ahead + 1 < 2 ^ 64) }
             ensures { OnOk result ((desk.exit.now.site.place ≡ desk.entry.now.site.place) × IsSound desk.exit.now.site backlog.exit.now × (backlog.exit.now.ahead ≡ [])
@@ -56,13 +66,13 @@ fn read_beside<G: Gate, T: Threads + Wait + Sync>(
     list
 }
 
-/// Answers all that was read ahead, and reads the records of a piece of text: meanwhile, by that many other threads, or after it,
+/// Answers all that was read ahead, and reads the records of a piece of text: meanwhile, by other threads, or after it,
 /// where the piece is small.
 pub fn read_next<G: Gate, T: Threads + Wait + Sync>(
     rt: &T,
     alloc: Global,
     piece: &[u8],
-    readers: usize,
+    plan: Plan,
     desk: &mut Desk<G>,
     backlog: &mut Backlog,
 ) -> Result<Vec<Run>, OutOfMemory>
@@ -76,9 +86,9 @@ pub fn read_next<G: Gate, T: Threads + Wait + Sync>(
     ensures parsed { IfOk result (λ list. AreParsed desk.old.site.place.sites (input_records piece.now) (flat list.items)) }
 {
     if piece.len() > SMALL {
-        return read_beside(rt, alloc, piece, readers, desk, backlog);
+        return read_beside(rt, alloc, piece, plan, desk, backlog);
     }
     let sites = desk.sites();
     answer_all(rt, desk, backlog)?;
-    read_piece(alloc, piece, sites)
+    read_piece(alloc, piece, sites, plan.window)
 }

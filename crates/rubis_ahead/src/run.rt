@@ -12,11 +12,11 @@ ghost use Rattle.rubis_reading.specs.Streams.{IsWhole};
 
 use crate::answering::{answer_all, answer_some};
 use crate::backlog::Backlog;
-use crate::overlap::read_next;
+use crate::overlap::{Plan, read_next};
 use rubis_desk::{Desk, run_desk};
 use rubis_engine::{Count, OutOfMemory, RunFault};
 use rubis_reading::{Ahead, ChunkFault, Chunks, read_parts};
-use rubis_replica::Gate;
+use rubis_replica::{Config, Gate};
 use std::alloc::Global;
 use std::io::{Read, Write};
 use std::mem;
@@ -41,27 +41,29 @@ fn chunk_of(held: usize, ahead: usize) -> usize {
         .min(CHUNK_MAX)
 }
 
-// How many threads read a chunk, beside the one that answers.
-fn readers_of(workers: usize) -> usize {
-    workers / 2
+// How a site of that configuration reads ahead: half of its workers read, and a window has at most as many messages as a batch.
+fn plan_of(config: &Config) -> Plan {
+    Plan {
+        readers: usize::from(config.workers()) / 2,
+        window: config.batch() as usize,
+    }
 }
 
 // Where the records come from.
 #[derive(Drop)]
 struct Source<R> {
     chunks: Chunks<R>,
-    // How many threads read a chunk.
-    readers: usize,
+    plan: Plan,
     alloc: Global,
 }
 
 impl<R: Read + Drop> Source<R> {
-    fn new(alloc: Global, reader: R, readers: usize) -> Source<R>
+    fn new(alloc: Global, reader: R, plan: Plan) -> Source<R>
         ensures { IfSome (R.remaining reader) (λ input. HasPending R.remaining result.chunks (input_records input)) }
     {
         Source {
             chunks: Chunks::new(alloc, reader, BLOCK),
-            readers,
+            plan,
             alloc,
         }
     }
@@ -170,7 +172,7 @@ fn go_on<G: Gate, T: Threads + Wait + Sync, R: Read>(
         HasReadAhead R.remaining source.new.chunks desk.new.site backlog.new all old now input)) }
 {
     let (piece, _) = source.chunks.held().split_at(many);
-    let list = read_next(rt, source.alloc, piece, source.readers, desk, backlog)?;
+    let list = read_next(rt, source.alloc, piece, source.plan, desk, backlog)?;
     source.chunks.pass(many);
     let ahead = Ahead::of(list)?;
     backlog.ahead = ahead;
@@ -224,7 +226,8 @@ fn end<G: Gate, T: Threads + Wait + Sync, R: Read, W: Write>(
         source.alloc,
         source.chunks.held(),
         sites,
-        source.readers,
+        source.plan.readers,
+        source.plan.window,
     )?;
     let ahead = Ahead::of(list)?;
     backlog.ahead = ahead;
@@ -369,8 +372,8 @@ fn serve<G: Gate, T: Threads + Wait + Sync, R: Read, W: Write>(
     Err(RunFault::Memory)
 }
 
-// Runs the desk of a site as `run_desk` does. While records are answered, those of the next chunk of text are read by `readers`
-// other threads.
+// Runs the desk of a site as `run_desk` does. While records are answered, those of the next chunk of text are read by other
+// threads.
 fn run_desk_ahead<G: Gate, T: Threads + Wait + Sync, R: Read + Drop, W: Write>(
     rt: &T,
     alloc: Global,
@@ -378,7 +381,7 @@ fn run_desk_ahead<G: Gate, T: Threads + Wait + Sync, R: Read + Drop, W: Write>(
     writer: &mut W,
     desk: &mut Desk<G>,
     limit: u64,
-    readers: usize,
+    plan: Plan,
 ) -> Result<Count, RunFault>
     requires { limit + 1 < 2 ^ 64 }
     ensures ok { IfOk result (λ count. IfSome (R.remaining reader) (λ input.
@@ -390,13 +393,13 @@ fn run_desk_ahead<G: Gate, T: Threads + Wait + Sync, R: Read + Drop, W: Write>(
     ensures memory { IsErrOf result RunFault.Memory → IfSome (R.remaining reader) (λ input.
         WrotePrefix ((told_by desk.old.site 1).text AtEnd) (W.contents writer.old) (W.contents writer.new) (input_records input)) }
 {
-    let mut source = Source::new(alloc, reader, readers);
+    let mut source = Source::new(alloc, reader, plan);
     let mut backlog = Backlog::new(alloc);
     serve(rt, &mut source, desk, &mut backlog, writer, limit)
 }
 
 /// Runs the desk of a site over the records of `reader` until its end, or up to `limit` of them: appends the text of its
-/// answers to `writer`. With several workers, the records of the next chunk of text are read by other threads while those
+/// answers to `writer`. If several workers are configured, the records of the next chunk of text are read by other threads while those
 /// before are answered; with one, nothing is read ahead. The desk is lent, so that a program can let it go as it likes.
 ///
 /// # Errors
@@ -411,7 +414,7 @@ pub fn run_desk_by<G: Gate, T: Threads + Wait + Sync, R: Read + Drop, W: Write>(
     writer: &mut W,
     desk: &mut Desk<G>,
     limit: u64,
-    workers: usize,
+    config: &Config,
 ) -> Result<Count, RunFault>
     ensures ok { IfOk result (λ count. IfSome (R.remaining reader) (λ input.
         IsDone (told_by desk.old.site 1) limit (W.contents writer.old) (W.contents writer.new) (input_records input) count.records)) }
@@ -422,9 +425,9 @@ pub fn run_desk_by<G: Gate, T: Threads + Wait + Sync, R: Read + Drop, W: Write>(
     ensures memory { IsErrOf result RunFault.Memory → IfSome (R.remaining reader) (λ input.
         WrotePrefix ((told_by desk.old.site 1).text AtEnd) (W.contents writer.old) (W.contents writer.new) (input_records input)) }
 {
-    if workers > 1 && limit < u64::MAX {
-        let readers = readers_of(workers);
-        return run_desk_ahead(rt, alloc, reader, writer, desk, limit, readers);
+    if config.workers() > 1 && limit < u64::MAX {
+        let plan = plan_of(config);
+        return run_desk_ahead(rt, alloc, reader, writer, desk, limit, plan);
     }
     run_desk(rt, alloc, reader, writer, desk, limit)
 }

@@ -102,18 +102,37 @@ fn keep_one(list: &mut Vec<Run>, messages: Vec<Message>, parsed: Parsed) -> Resu
     push_run(list, Run::One(parsed))
 }
 
+// Puts a message to those that came together. Where these are as many as a window has, they are put behind first.
+#[inline(always)]
+fn keep_message(
+    alloc: Global,
+    list: &mut Vec<Run>,
+    messages: &mut Vec<Message>,
+    window: usize,
+    message: Message,
+) -> Result<(), OutOfMemory>
+    ensures { OnOk result (flat list.new.items ++ all_came messages.new.items ≡ (flat list.old.items ++ all_came messages.old.items) ++ Came (Msg message) ∷ []) }
+{
+    if messages.len() >= window {
+        let full = mem::replace(messages, Vec::new(alloc));
+        keep_messages(list, full)?;
+    }
+    push_message(messages, message)
+}
+
 // Puts one more behind: a message to those that came together, or anything else after them.
 #[inline(always)]
 fn keep(
     alloc: Global,
     list: &mut Vec<Run>,
     messages: &mut Vec<Message>,
+    window: usize,
     parsed: Parsed,
 ) -> Result<(), OutOfMemory>
     ensures { OnOk result (flat list.new.items ++ all_came messages.new.items ≡ (flat list.old.items ++ all_came messages.old.items) ++ parsed ∷ []) }
 {
     match parsed {
-        Parsed::Came(Packet::Msg(message)) => push_message(messages, message),
+        Parsed::Came(Packet::Msg(message)) => keep_message(alloc, list, messages, window, message),
         Parsed::Came(Packet::Token(token)) => {
             let before = mem::replace(messages, Vec::new(alloc));
             keep_one(list, before, Parsed::Came(Packet::Token(token)))
@@ -142,6 +161,7 @@ fn read_all<R: Read>(
     list: &mut Vec<Run>,
     messages: &mut Vec<Message>,
     sites: u8,
+    window: usize,
 ) -> Result<(), OutOfMemory>
     requires few { sites ≤ 16 }
     requires none { list.old.items ≡ [] }
@@ -156,23 +176,28 @@ fn read_all<R: Read>(
             return Ok(());
         }
         let parsed = read_record(alloc, records.fields(), sites)?;
-        keep(alloc, list, messages, parsed)?;
+        keep(alloc, list, messages, window, parsed)?;
     }
     Err(OutOfMemory)
 }
 
-/// What the records of a piece of text are, in order.
-pub fn read_piece(alloc: Global, piece: &[u8], sites: u8) -> Result<Vec<Run>, OutOfMemory>
+/// What the records of a piece of text are, in order. At most `window` messages that come one after the other are one run.
+pub fn read_piece(
+    alloc: Global,
+    piece: &[u8],
+    sites: u8,
+    window: usize,
+) -> Result<Vec<Run>, OutOfMemory>
     requires { sites ≤ 16 }
     ensures { IfOk result (λ list. AreParsed sites (input_records piece.now) (flat list.items)) }
 {
     let mut list = Vec::new(alloc);
-    let room = (piece.len() / SHORT).min(ROOM_MAX);
+    let room = (piece.len() / SHORT).min(window).min(ROOM_MAX);
     let Ok(mut messages) = Vec::with_capacity(alloc, room) else {
         return Err(OutOfMemory);
     };
     let mut records = Records::new(alloc, piece);
-    read_all(alloc, &mut records, &mut list, &mut messages, sites)?;
+    read_all(alloc, &mut records, &mut list, &mut messages, sites, window)?;
     keep_messages(&mut list, messages)?;
     Ok(list)
 }

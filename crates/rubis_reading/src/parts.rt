@@ -24,23 +24,24 @@ fn both(mut front: Vec<Run>, mut rest: Vec<Run>) -> Result<Vec<Run>, OutOfMemory
 }
 
 /// What the records of a piece of text are, in order, read by at most `readers` threads, the caller's included: each reads whole
-/// records, and as much of the text as the others.
+/// records, and as much of the text as the others. At most `window` messages that come one after the other are one run.
 pub fn read_parts<T: Threads + Sync>(
     rt: &T,
     alloc: Global,
     piece: &[u8],
     sites: u8,
     readers: usize,
+    window: usize,
 ) -> Result<Vec<Run>, OutOfMemory>
     requires { sites ≤ 16 }
     ensures { IfOk result (λ list. AreParsed sites (input_records piece.now) (flat list.items)) }
 {
     if readers < 2 {
-        return read_piece(alloc, piece, sites);
+        return read_piece(alloc, piece, sites, window);
     }
     let cut = whole_end(&piece[..piece.len() / readers]);
     if cut < 2 {
-        return read_piece(alloc, piece, sites);
+        return read_piece(alloc, piece, sites, window);
     }
     let (front, _) = piece.split_at(cut);
     // The byte that ends the front stays before the rest, so no byte order mark can stand there.
@@ -51,11 +52,11 @@ pub fn read_parts<T: Threads + Sync>(
         move || -> Result<Vec<Run>, OutOfMemory>
             requires { sites ≤ 16 }
             ensures { IfOk result (λ list. AreParsed sites (input_records front.entry.now) (flat list.items)) }
-        { read_piece(alloc, front, sites) },
+        { read_piece(alloc, front, sites, window) },
         move || -> Result<Vec<Run>, OutOfMemory>
             requires { IsSync T.row × (sites ≤ 16) }
             ensures { IfOk result (λ list. AreParsed sites (input_records rest.entry.now) (flat list.items)) }
-        { read_parts(rt, alloc, rest, sites, fewer) },
+        { read_parts(rt, alloc, rest, sites, fewer, window) },
     );
     both(first?, others?)
 }

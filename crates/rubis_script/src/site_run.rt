@@ -48,8 +48,7 @@ pub fn run_site_upto<G: Gate + Drop, T: Threads + Wait + Sync, R: Read + Drop, W
         WrotePrefix (λ records. rows_text (output_of (setup_place config.now) records)) (W.contents writer.old) (W.contents writer.new) (input_records input)) }
 {
     let mut desk = Desk::new(alloc, config, gate)?;
-    let workers = usize::from(config.workers());
-    run_desk_by(rt, alloc, reader, writer, &mut desk, limit, workers)
+    run_desk_by(rt, alloc, reader, writer, &mut desk, limit, config)
 }
 
 /// Runs a site over at most 4,000,000 records, as `run_site_upto`.
@@ -103,8 +102,7 @@ pub fn run_site_to_exit<T: Threads + Wait + Sync, R: Read + Drop, W: Write>(
         WrotePrefix (λ records. rows_text (output_of (setup_place config.now) records)) (W.contents writer.old) (W.contents writer.new) (input_records input)) }
 {
     let mut desk = Desk::new(alloc, config, Free)?;
-    let workers = usize::from(config.workers());
-    let ended = run_desk_by(rt, alloc, reader, writer, &mut desk, RECORDS_MAX, workers);
+    let ended = run_desk_by(rt, alloc, reader, writer, &mut desk, RECORDS_MAX, config);
     mem::forget(desk);
     ended
 }
