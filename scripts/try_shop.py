@@ -587,24 +587,6 @@ def test_shorten(at: Folder) -> None:
     stands_where_it_stood(at, "short", rows)
 
 
-def test_killed_shorten(at: Folder) -> None:
-    """A shortening that is killed at any step leaves the old recording or the new one: these are the steps of shop_tool/keeper.py."""
-    rows = recorded(at)
-    at.run("cp -r auction short; ./shop -C short shorten 0")
-    new = {name: at.text(f"short/0/{name}") for name in ("kept", "out")}
-    steps: list[dict[str, int | None]] = [
-        {"kept.new": 10}, {"kept.new": None}, {"kept.new": None, "out.new": 10}, {"kept.new": None, "out.new": None},
-        {"kept": None, "out.new": None}]
-    for killed in steps:
-        at.run("rm -rf trial; cp -r auction trial")
-        for name, size in killed.items():
-            (at.path / "trial/0" / name).write_text(new[name.removesuffix(".new")][:size])
-        at.run("./shop start trial; ./shop stop trial")
-        kept = new["kept"] if "kept" in killed else at.text("auction/0/kept")
-        expect(at.text("trial/0/kept") == kept, f"the old one or the new one: {killed}")
-        stands_where_it_stood(at, "trial", rows)
-
-
 def test_full(at: Folder) -> None:
     """A site that is full goes on with a greater --keep, once its recording is shortened; in whichever order that is done."""
     at.run("./shop start auction --keep 3")

@@ -72,11 +72,6 @@ def kind_of(record: bytes) -> bytes:
     return record.split(b",", 1)[0]
 
 
-def is_listing(record: bytes) -> bool:
-    """Whether a record changes nothing and is kept nowhere."""
-    return record.startswith(b"list,")
-
-
 def why_not_one_record(record: bytes) -> str | None:
     """Why a line isn't one record that a client may ask, or None. What passes is kept by a site byte for byte."""
     if not record:

@@ -4,7 +4,6 @@ import asyncio
 import collections
 import enum
 import os
-import sys
 import time
 from collections.abc import Iterator
 from typing import TYPE_CHECKING
@@ -12,7 +11,7 @@ from typing import TYPE_CHECKING
 from .answers import Answer, AnswerReader
 from .ends import Fault, Status
 from .ledger import Ledger
-from .records import Token, is_listing
+from .records import Token
 from .settings import Settings
 from .signals import Signal
 from .times import stamp
@@ -52,15 +51,9 @@ class Pending:
 
 
 def keep_command(folder: str, site: int, settings: Settings, program: str) -> list[str]:
-    """The command that keeps a site. With `rubis keep` it is [program, "keep", folder], with the same options behind."""
-    keeper = [sys.executable, f"{os.path.dirname(os.path.realpath(__file__))}/keeper.py", folder, "--program", program]
+    """The command that keeps a site."""
     options = ["--site", str(site), "--sites", str(settings.sites), "--keep", str(settings.keep), *settings.site_options()]
-    return keeper + options + (["--sync"] if settings.sync else [])
-
-
-def is_kept(record: bytes) -> bool:
-    """Whether the keeper keeps a record. A listing changes nothing, so it isn't; `rubis keep` keeps all."""
-    return not is_listing(record)
+    return [program, "keep", folder, *options] + (["--sync"] if settings.sync else [])
 
 
 class Site:
@@ -169,7 +162,7 @@ class Site:
 
     async def _catch_up(self, count: int) -> None:
         """Reads on in `kept` and `out` from where this supervisor was. What was kept and not answered in time is answered there."""
-        given: Iterator[Pending] = iter([pending for pending in self.line if pending.is_given and is_kept(pending.record)])
+        given: Iterator[Pending] = iter([pending for pending in self.line if pending.is_given])
         self.reader = AnswerReader()
         with open(f"{self.folder}/kept", "rb") as kept, open(f"{self.folder}/out", "rb") as out:
             kept.seek(self.ledger.kept_bytes)
@@ -272,8 +265,7 @@ class Site:
                 self.shop.tell_followers(self.number, [b"< " + each.record for each in pending])
 
     def _take(self, pending: Pending, answer: Answer) -> None:
-        if is_kept(pending.record):
-            self._note(pending.record, answer)
+        self._note(pending.record, answer)
         self._answer(pending, answer)
 
     def _note(self, record: bytes, answer: Answer) -> None:
