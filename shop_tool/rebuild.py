@@ -8,6 +8,7 @@ what is left of its folder, and in what the others kept; the stream gets what it
 
 import argparse
 import asyncio
+import io
 import os
 import shutil
 import subprocess
@@ -247,13 +248,13 @@ def replayed(past: Past, folder: str, now: settings.Settings) -> int:
     shutil.rmtree(new, ignore_errors=True)
     steps = list(past.steps())
     keeper = subprocess.Popen(keep_command(new, past.site, now, program.path()), stdin=subprocess.PIPE, stdout=subprocess.PIPE)
-    assert keeper.stdin and keeper.stdout
+    assert keeper.stdin and isinstance(keeper.stdout, io.BufferedReader)
     writer = threading.Thread(target=_give, args=(keeper.stdin, steps), daemon=True)
     writer.start()
     keeper.stdout.readline()
     reader = AnswerReader()
     left: Iterator[Step] = iter(steps)
-    while data := os.read(keeper.stdout.fileno(), 1 << 16):
+    while data := keeper.stdout.read1(1 << 16):
         for answer in reader.feed(data):
             step = next(left)
             if answer.packet != step.packet or answer.refusal:
