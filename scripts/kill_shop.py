@@ -4,8 +4,8 @@
     scripts/kill_shop.py PROGRAM [--over files|everysec|always] [--kills N] [--seed S] [--sites N] [--askers N] [--timeout S]
                                  [--published] [--disks] [--power] [--figures FILE]
 
-Askers ask at random sites, red and blue asks, and write down what they were told. Meanwhile `kill -9` hits a site's keeper, its
-program, a supervisor or the server. Over `everysec` and `always` there are two supervisors and a redis-server with that
+Askers ask at random sites, red and blue asks, and write down what they were told. Meanwhile `kill -9` hits a site, a
+supervisor or the server. Over `everysec` and `always` there are two supervisors and a redis-server with that
 appendfsync; with `everysec` the server also loses the end of its file at times, as after a power failure. With --disks a site's folder is
 lost, and made again by `shop rebuild`. With --power `kept` and `out` lose their ends. --published: asks end only once another site, or the
 server, has them; with --disks and --power what was told otherwise may be gone.
@@ -161,7 +161,7 @@ class Trial:
     def kill(self) -> bool:
         """Kills something; False if it wasn't there."""
         folder = self.dice.choice(list(self.parts))
-        kinds = ["keeper", "program", "supervisor"] + ["server"] * 2 * (self.server is not None)
+        kinds = ["site", "site", "supervisor"] + ["server"] * 2 * (self.server is not None)
         kinds += ["disk"] * self.args.disks + ["power"] * 4 * self.args.power
         kind = self.dice.choice(kinds)
         try:
@@ -173,15 +173,8 @@ class Trial:
         self.kills[kind] += hit
         return bool(hit)
 
-    def kill_keeper(self, folder: str, state: dict[str, Any], site: dict[str, Any]) -> bool:
+    def kill_site(self, folder: str, state: dict[str, Any], site: dict[str, Any]) -> bool:
         return bool(site["pid"]) and kill(site["pid"])
-
-    def kill_program(self, folder: str, state: dict[str, Any], site: dict[str, Any]) -> bool:
-        try:
-            children = pathlib.Path(f"/proc/{site['pid']}/task/{site['pid']}/children").read_text().split()
-        except OSError:
-            return False
-        return bool(children) and kill(int(children[0]))
 
     def kill_supervisor(self, folder: str, state: dict[str, Any], site: dict[str, Any]) -> bool:
         kill(state["pid"])
@@ -377,7 +370,7 @@ def main() -> int:
     print(json.dumps(found, indent=1))
     if args.figures:
         args.figures.write_text(json.dumps(found, indent=1) + "\n")
-    kills = sum(trial.kills[kind] for kind in ("keeper", "program", "supervisor", "server", "disk", "power"))
+    kills = sum(trial.kills[kind] for kind in ("site", "supervisor", "server", "disk", "power"))
     asks, bad = len(trial.asked.seconds), len(trial.asked.bad)
     print(f"kills over {args.over}, seed {args.seed}: {kills} kills, {asks} asks answered, {bad} faults")
     return 1 if trial.asked.bad else 0

@@ -226,13 +226,11 @@ def test_token(at: Folder) -> None:
 
 
 def test_kill(at: Folder) -> None:
-    """After kill -9 of a keeper, of its program and of the supervisor the shop stands where it stood, torn lines or not."""
+    """After kill -9 of a site and of the supervisor the shop stands where it stood, torn lines or not."""
     at.run("./shop start auction --sites 2")
     at.shop(f"ask 0 {SALE}")
     for turn in range(3):
-        keeper = at.site(0)["pid"]
-        children = pathlib.Path(f"/proc/{keeper}/task/{keeper}/children").read_text().split()
-        at.kill(int(children[0]) if turn == 1 and children else keeper)
+        at.kill(at.site(0)["pid"])
         expect(at.shop(f"ask 0 bid,0.3,0.2,{500 + turn}") == f"ok,0.{4 + turn}\n", "an asker sees nothing of it")
     supervisor = at.status()["pid"]
     at.kill(supervisor)
@@ -647,9 +645,9 @@ def test_once_asks_hung(at: Folder) -> None:
     expect(at.shop("ask 0 stop", 1, "the record isn't in the grammar") == "refused,1,BadRecord\n", "a word that is no record")
     expect(at.shop("ask 0 user,ann") == "ok,0.1\n", "the site is up still")
     # The site can't come up: its folder is locked by somebody else.
-    keeper = at.site(0)["pid"]
+    process = at.site(0)["pid"]
     lock = at.start("flock auction/0/lock sleep 100")
-    at.kill(keeper)
+    at.kill(process)
     at.wait("a fault", lambda: at.site(0)["state"] != "up" or at.site(0)["starts"] > 1)
     at.shop("ask 0 user,bob --timeout 1", 3, "no answer within 1 s; nothing was given to it")
     os.killpg(lock.pid, signal.SIGKILL)
