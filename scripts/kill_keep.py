@@ -12,7 +12,8 @@ say so with status 1, and change nothing. At each size up to that of its files, 
 say so with status 1, and the next start to go on.
 
 What was kept is shortened, killed at random moments: `kept` is the old one or the new one, and at the end shorter, with the same
-logs and tables.
+logs and tables. A life and a shortening are killed at each of their system
+calls for files too, where there is a strace.
 
 The seed is in the first line of the output, so that a run can be repeated; LIVES is 60 for the gate."""
 
@@ -31,6 +32,10 @@ WAIT = 60
 
 # How many lives a shop has.
 SHOP_LIVES = 60
+
+
+# The system calls by which a site works on its files.
+CALLS = ("open", "openat", "read", "write", "lseek", "flock", "ftruncate", "fsync", "fdatasync", "rename", "mkdir", "close")
 
 
 class Failure(Exception):
@@ -331,6 +336,57 @@ def shorten_a_site(shop: Shop, dice: random.Random, lives: int) -> str:
     return f"{len(kept.splitlines())} lines shortened to {len(site.kept().splitlines())}, {killed} of {lives} times killed, {news} times once it was done"
 
 
+def killed_at(site: Site, name: str, count: int, records: bytes, more: tuple[str, ...] = ()) -> bool:
+    """A run that is killed at its n-th system call of that name, by strace; False if it ended before."""
+    inject = f"inject=?{name}:signal=SIGKILL:when={count}"
+    command = ["strace", "-qq", "-o", "/dev/null", "-e", inject, *site.command("--workers", "1", *more)]
+    done = subprocess.run(command, input=records, capture_output=True, timeout=WAIT)
+    check(done.returncode in (0, -signal.SIGKILL), f"killed at {name} {count}: status {done.returncode}, {done.stderr!r}")
+    return done.returncode != 0
+
+
+def kill_at_each_call(shop: Shop) -> str:
+    """A life and a shortening, killed at each of their system calls that have to do with files."""
+    if not shutil.which("strace"):
+        return "no strace on this machine: nothing was killed at each system call"
+    whole = shop.site("whole life")
+    whole.run(SMALL)
+    kept, out = whole.read("kept"), whole.read("out")
+    site = shop.site("life")
+    lives = 0
+    for name in CALLS:
+        count = 1
+        while killed_at(site, name, count, SMALL):
+            goes_on(site, f"a life killed at {name} {count}")
+            check(kept.startswith(site.kept()), f"a life killed at {name} {count} kept what wasn't given")
+            shutil.rmtree(site.folder)
+            count += 1
+        lives += count - 1
+        shutil.rmtree(site.folder)
+    shortenings = 0
+    for name in CALLS:
+        count = 1
+        while killed_at(whole, name, count, b"", ("--shorten",)):
+            goes_on(whole, f"a shortening killed at {name} {count}")
+            check(packets_of(whole.read("out")) == packets_of(out), f"a shortening killed at {name} {count} lost something")
+            (whole.folder / "kept").write_bytes(kept)
+            (whole.folder / "out").write_bytes(out)
+            count += 1
+        shortenings += count - 1
+        (whole.folder / "kept").write_bytes(kept)
+        (whole.folder / "out").write_bytes(out)
+    return f"a life killed at each of its {lives} calls for files, and a shortening at each of its {shortenings}"
+
+
+def goes_on(site: Site, when: str) -> None:
+    """A start after a kill, which has to complete the answers."""
+    if (site.folder / "setup").exists():
+        site.begins_well(when)
+    done = site.run()
+    check(done.returncode == 0, f"after {when}: {done.stderr!r}")
+    site.ends_well(f"after {when}")
+
+
 def refuse_another_setup(shop: Shop) -> str:
     """Options that say otherwise than the folder, and a second start."""
     site = shop.site("two", "--site", "1", "--sites", "2")
@@ -369,6 +425,7 @@ def main() -> None:
                 lambda: change_a_small_site(shop, dice),
                 lambda: fill_a_disk(shop),
                 lambda: shorten_a_site(shop, dice, max(10, lives // 3)),
+                lambda: kill_at_each_call(shop),
                 lambda: refuse_another_setup(shop),
             ):
                 print(f"  {done()}", flush=True)
