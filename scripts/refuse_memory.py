@@ -11,6 +11,8 @@ of a thread among them. Each scenario of GROWTHS is run so, and rubis on convers
   refused calls has to say that nothing was changed, or how far the tables are.
 - A run from records to text ends well with the whole text; or with a prefix of it and `run fault: memory`, rubis with
   status 1.
+- A folder of `rubis keep` is started again after each run, with nothing refused: what was kept is whole lines of the records,
+  and is answered.
 - What the long scenarios answer if nothing is refused is what conversations/ says.
 - Where the start of a thread is refused, the n-th alone or all from the n-th on, the answers are those of a run in which
   nothing is refused, and nothing is told: the caller's thread does the work.
@@ -133,6 +135,7 @@ TEXTS = {
 COMMANDS = {
     "rubis site": ("two_hundred_packets.txt", ["--workers", "4", "--shards", "5", "--batch", "7"]),
     "rubis site, a long listing": ("three_thousand_comments.txt", ["--workers", "4", "--shards", "4", "--batch", "65536"]),
+    "rubis keep": ("two_hundred_packets.txt", ["--workers", "4", "--shards", "5", "--batch", "7"]),
     "rubis world": ("a_bid_at_another_site_comes_too_late.txt", ["--workers", "4", "--shards", "5", "--batch", "2"]),
     "rubis audit": ("an_audit_of_a_sale_agrees.txt", []),
     "rubis widen": ("logs_are_widened.txt", []),
@@ -191,9 +194,13 @@ class Tried:
 
     def run(self, number: int, made: pathlib.Path, what: str = "REFUSED_CALL") -> tuple[int, bytes, bytes]:
         """Runs it with that call for memory refused, or that start of a thread: its status and what it wrote."""
+        return self.run_words(self.words, number, made, what)
+
+    def run_words(self, words: list[str], number: int, made: pathlib.Path, what: str) -> tuple[int, bytes, bytes]:
+        """Runs that command line so."""
         setting = {**os.environ, "LD_PRELOAD": str(made), what: str(number)}
         try:
-            ran = subprocess.run(self.words, input=self.text, capture_output=True, env=setting, timeout=SECONDS)
+            ran = subprocess.run(words, input=self.text, capture_output=True, env=setting, timeout=SECONDS)
         except subprocess.TimeoutExpired:
             raise Fault(f"it didn't end within {SECONDS} seconds") from None
         return ran.returncode, ran.stdout, ran.stderr
@@ -267,11 +274,43 @@ class Scenario(Tried):
 class Command(Tried):
     """rubis on a conversation's records."""
 
+    fault = re.compile(rb"run fault: memory\n")
+
     def check(self, status: int, wrote: bytes, said: bytes) -> None:
         is_whole = status == 0 and not said and wrote == self.whole
-        is_cut = status == 1 and said == b"run fault: memory\n" and self.whole.startswith(wrote)
+        is_cut = status == 1 and self.fault.fullmatch(said) is not None and self.whole.startswith(wrote)
         if not (is_whole or is_cut):
             raise Fault(f"status {status}, {said!r}, {len(wrote)} bytes")
+
+
+class Keeping(Command):
+    """rubis keep on a conversation's records, each time in a folder of its own, which is then started with nothing refused."""
+
+    fault = re.compile(rb"run fault: (memory|[a-z ]+: out of memory)\n")
+
+    def run(self, number: int, made: pathlib.Path, what: str = "REFUSED_CALL") -> tuple[int, bytes, bytes]:
+        with tempfile.TemporaryDirectory() as folder:
+            site = pathlib.Path(folder, "site")
+            words = [self.words[0], "keep", str(site), *self.words[2:]]
+            ran = self.run_words(words, number, made, what)
+            self.check_start(site, words)
+        return ran
+
+    def check_start(self, site: pathlib.Path, words: list[str]) -> None:
+        """What was kept is the first of the records, and the next start answers it."""
+        again = subprocess.run(words, input=b"", capture_output=True, timeout=SECONDS)
+        if again.returncode:
+            raise Fault(f"the next start: status {again.returncode}, {again.stderr!r}")
+        if not (self.text.startswith((site / "kept").read_bytes()) and self.answers(self.whole).startswith((site / "out").read_bytes())):
+            raise Fault("the next start leaves other files")
+
+    def begin(self, made: pathlib.Path) -> None:
+        self.whole = b"kept\n" + (self.want or "").encode()
+        super().begin(made)
+
+    def answers(self, wrote: bytes) -> bytes:
+        """What follows the line `kept`."""
+        return wrote.partition(b"\n")[2]
 
 
 def tried_of(growths: str, program: str) -> list[Tried]:
@@ -283,7 +322,8 @@ def tried_of(growths: str, program: str) -> list[Tried]:
     for name, (told, options) in COMMANDS.items():
         words, records, _ = conversation(told)
         text = "".join(f"{record}\n" for record in records)
-        tried.append(Command(name, [program, *words, *options], text, text_of(told, None)))
+        made = Keeping if name == "rubis keep" else Command
+        tried.append(made(name, [program, *words, *options], text, text_of(told, None)))
     return tried
 
 
