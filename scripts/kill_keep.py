@@ -206,8 +206,8 @@ def kill_a_shop(shop: Shop, dice: random.Random, name: str, lives: int) -> tuple
             packets = [b"pass,%d\n" % (1 - number), *packets]
         killed += live(dice, site, made, packets, dice.random() < 0.8)
         site.begins_well(f"a life of site {number}")
-        if dice.random() < 0.5:
-            torn = site.read("out")
+        torn = site.read("out")
+        if torn and dice.random() < 0.5:
             (site.folder / "out").write_bytes(torn[: dice.randrange(len(torn) + 1)])
     for _ in range(3):
         for number in (0, 1):

@@ -515,12 +515,32 @@ def test_access(at: Folder) -> None:
     at.shop("ask 1 bid,0.3,0.2,500", folder="b")
     at.shop("show 2 item 0.3", folder="b")
     at.shop("audit", folder="a")
-    expect("secret" not in at.shop("status --json", folder="a") + at.shop("log", folder="a"), "what is shown")
+    expect("secret" not in at.run("./shop -C a status --json; true") + at.shop("log", folder="a"), "what is shown")
     expect((at.path / "a/shop.json").stat().st_mode & 0o077 == 0, "who reads the settings")
     at.run("./shop stop b; rm -r b/2; ./shop -C b rebuild 2 --anyway; ./shop start b")
     at.run("./shop stop a")
     at.run(f"./shop start a --over {server.over.replace('secret', 'other')}", 3, "invalid username-password")
     expect("other" not in at.text("a/events"), "what is written down")
+
+
+def test_tls(at: Folder) -> None:
+    """Over TLS: a certificate that the machine, or SSL_CERT_FILE, doesn't vouch for is refused, and another is taken."""
+    if not shutil.which("openssl"):
+        raise Skipped("no openssl on this machine")
+    at.run("openssl req -x509 -newkey rsa:2048 -nodes -keyout key -out certificate -days 2 -subj /CN=localhost "
+           "-addext subjectAltName=DNS:localhost 2> told")
+    with socket.socket() as free:
+        free.bind(("127.0.0.1", 0))
+        port = free.getsockname()[1]
+    Server(at, f"--tls-port {port} --tls-cert-file certificate --tls-key-file key --tls-ca-cert-file certificate --tls-auth-clients no")
+    over = f"rediss://localhost:{port}/auction"
+    at.run(f"./shop start a --sites 2 --here 0 --over {over}", 3, "certificate verify failed")
+    at.run("./shop stop a")
+    at.run(f"SSL_CERT_FILE=certificate ./shop start a --sites 2 --here 0 --over {over}")
+    at.run(f"SSL_CERT_FILE=certificate ./shop start b --sites 2 --here 1 --over {over}")
+    at.shop(f"ask 0 {SALE}", folder="a")
+    expect(at.shop("ask 1 bid,0.3,0.2,500", folder="b") == "ok,1.1\n", "a bid at the other site")
+    at.shop("audit", folder="a")
 
 
 def test_limits(at: Folder) -> None:

@@ -24,7 +24,7 @@ from .ends import Fault, Status
 from .ledger import Place, packets_of, sends_of, tokens_of
 from .records import Message, Token, ask_of, bytes_of, packet_of
 from .site import keep_command
-from .streams import STATUS_SECONDS, Streams, faults
+from .streams import STATUS_SECONDS, Streams, faults, reason_of
 from .supervisor import stopped_shop
 
 CALL_SECONDS = 30.0
@@ -168,7 +168,7 @@ def over_server(now: settings.Settings, work: Coroutine[Any, Any, Result]) -> Re
     try:
         return asyncio.run(work)
     except faults() as fault:
-        raise Fault(Status.AWAY, f"{now.shown_over}: {fault}; {UNCHANGED}") from fault
+        raise Fault(Status.AWAY, f"{now.shown_over}: {reason_of(fault)}; {UNCHANGED}") from fault
 
 
 def past_in_files(now: settings.Settings, args: argparse.Namespace) -> Past:

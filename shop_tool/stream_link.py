@@ -10,7 +10,7 @@ from .ends import Fault
 from .ledger import NOWHERE, Place, packets_of
 from .link import BATCH, FULL_WAIT, STARTING, UP, Link, Request
 from .site import Site
-from .streams import Streams, faults, id_of
+from .streams import Streams, faults, id_of, reason_of
 from .supervisor import Supervisor
 from .times import stamp
 
@@ -53,7 +53,7 @@ class StreamLink(Link):
                 async with Streams(self.settings) as server:
                     return await work(server)
             except faults() as fault:
-                self._fail(name, str(fault) or type(fault).__name__)
+                self._fail(name, reason_of(fault))
             wait = FIRST_WAIT if time.monotonic() - began > CALM else wait
             await asyncio.sleep(wait)
             wait = min(2 * wait, LAST_WAIT)
@@ -106,7 +106,7 @@ class StreamLink(Link):
         try:
             await self._look(self.main)
         except faults() as fault:
-            self._fail("tell", str(fault))
+            self._fail("tell", reason_of(fault))
 
     async def _append_for(self, server: Streams, origin: int) -> None:
         """Where the server has lost messages of a site that isn't running, a site here that has them appends them."""

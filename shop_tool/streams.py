@@ -13,6 +13,7 @@ import asyncio
 import json
 import os
 import socket
+import ssl
 import time
 import zlib
 from collections.abc import Iterable
@@ -68,6 +69,13 @@ def faults() -> tuple[type[BaseException], ...]:
     """What goes wrong where the server is away, or refuses."""
     import redis                    # type: ignore[import]
     return redis.RedisError, OSError, asyncio.TimeoutError
+
+
+def reason_of(fault: BaseException) -> str:
+    """What went wrong; over TLS with the reason, which the library leaves out."""
+    cause = fault.__cause__ or fault.__context__
+    why = str(fault) or type(fault).__name__
+    return f"{why} {cause}" if isinstance(cause, ssl.SSLError) else why
 
 
 class Streams:
