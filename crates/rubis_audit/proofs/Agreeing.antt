@@ -14,6 +14,7 @@ use Rattle.rubis_engine.specs.Accounts.Ending.{AtEnd}
 use Rattle.rubis_engine.specs.Progress.{IsDone}
 use Rattle.rubis_engine.specs.Text.{input_records, rows_text}
 use Rattle.rubis_engine.proofs.ReadBack.{HasNoMark, no_mark, rows_back}
+use Rattle.rubis_audit.specs.declared.questions.Question.TheVariants.{Agreement}
 use Rattle.rubis_audit.specs.Running.{AuditorState, account_from}
 use Rattle.rubis_audit.specs.Soundness.{AgreesOnSoundLogs, agreed_text}
 
@@ -59,10 +60,10 @@ agrees_on_sound sites (Some xs) (Some ys) records few wrote before is agreed =
 
 -- the same of the bytes of a reader, if they are known, and of an auditor that had read nothing
 pub agrees_known : (sites limit count : ℕ) (auditor : AuditorState) (input old now : Option (List ℕ)) → sites ≤ COUNTED_MAX
-    → auditor ≡ record { sites = sites; logs = [] }
-    → IfSome input (λ text. IsDone (account_from auditor.sites 1 auditor.logs) limit old now (input_records text) count)
+    → auditor ≡ record { sites = sites; asked = Agreement; logs = [] }
+    → IfSome input (λ text. IsDone (account_from auditor.asked auditor.sites 1 auditor.logs) limit old now (input_records text) count)
     → IfSome input (λ text. AgreesOnSoundLogs sites old now (input_records text))
 agrees_known sites limit count auditor None old now few fresh done = tt
 agrees_known sites limit count auditor (Some text) old now few fresh done =
     agrees_on_sound sites old now (input_records text) few
-    (subst (λ (a : AuditorState). Appends old now ((account_from a.sites 1 a.logs).text AtEnd (input_records text))) fresh done.0)
+    (subst (λ (a : AuditorState). Appends old now ((account_from a.asked a.sites 1 a.logs).text AtEnd (input_records text))) fresh done.0)

@@ -3,15 +3,19 @@ use Rattle.std.specs.Prelude.{◌≡◌, ℕ, ◌+◌, ◌≤◌, suc, List, [],
 use Rattle.rubis_schema.specs.declared.limits.TheConstants.{COUNTED_MAX}
 use Rattle.rubis_message.specs.Message.{Message, sites_of}
 use Rattle.rubis_model.specs.AuditRecords.{audit_record, line_of, logs_after, with_line}
+use Rattle.rubis_model.specs.LackRecords.{lack_rows_read}
 use Rattle.rubis_model.specs.Logs.{Log}
 use Rattle.rubis_model.specs.Settle.{Has}
 use Rattle.rubis_engine.specs.Accounts.{Account, Ending}
 use Rattle.rubis_engine.specs.Accounts.Ending.{AtEnd, Cut}
 use Rattle.rubis_engine.specs.Text.{rows_text}
+use Rattle.rubis_audit.specs.declared.questions.Question.{Question}
+use Rattle.rubis_audit.specs.declared.questions.Question.TheVariants.{Agreement, Lacks}
 
--- among how many sites, and the logs so far, newest first
+-- among how many sites, what is asked of the logs, and the logs so far, newest first
 pub record AuditorState : Type 0 where
   pub sites : ℕ
+  pub asked : Question
   pub logs : List Log
 
 -- the logs that ended, in order, and the one that is read, if one has begun
@@ -34,10 +38,15 @@ pub record AreRead (sites : ℕ) (ended : List Log) (current : Option Log) : Typ
 
 -- ---- what is made of records
 
--- the one record of an audit, at the end; where the run is cut short, nothing
-abbrev pub audit_text : Ending → Result (List Log) ℕ → List ℕ
-audit_text AtEnd logs = rows_text (audit_record logs ∷ [])
-audit_text Cut logs = []
+-- the records that answer what is asked of logs that were read, or of the number of the first record that is malformed
+abbrev pub rows_for : Question → Result (List Log) ℕ → List (List (List ℕ))
+rows_for Agreement logs = audit_record logs ∷ []
+rows_for Lacks logs = lack_rows_read logs
+
+-- at the end these; where the run is cut short, nothing
+abbrev pub answer_text : Question → Ending → Result (List Log) ℕ → List ℕ
+answer_text asked AtEnd logs = rows_text (rows_for asked logs)
+answer_text asked Cut logs = []
 
 -- how many of the records after these logs are read: all, or those up to the first that is malformed there
 abbrev pub read_behind : ℕ → List Log → List (List (List ℕ)) → ℕ
@@ -48,12 +57,15 @@ read_behind sites logs (fields ∷ rest) = suc (elim (option_and_then (with_line
 ])
 
 -- of the records after these logs, newest first
-abbrev pub account_from : ℕ → ℕ → List Log → Account
-account_from sites n logs = record {
-  text = λ ending records. audit_text ending (logs_after sites n logs records);
+abbrev pub account_from : Question → ℕ → ℕ → List Log → Account
+account_from asked sites n logs = record {
+  text = λ ending records. answer_text asked ending (logs_after sites n logs records);
   read = λ records. read_behind sites logs records;
 }
 
--- of all records of an input
+-- of all records of an input: the auditor's record, and what each log lacks
 abbrev pub audit_account : ℕ → Account
-audit_account sites = account_from sites 1 []
+audit_account sites = account_from Agreement sites 1 []
+
+abbrev pub lack_account : ℕ → Account
+lack_account sites = account_from Lacks sites 1 []

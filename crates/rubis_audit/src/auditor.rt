@@ -1,7 +1,7 @@
-// The auditor as a service: many records in, one out.
+//! The auditor as a service: it reads logs, record by record, and answers once it has read them all.
 
 ghost use Rattle.std.proofs.Common.{rules};
-ghost use Rattle.std.specs.Prelude.{◌≡◌, ◌≤◌, ℕ, List, [], IfOk, None, OnErr, OnOk, Some, refl, reverse};
+ghost use Rattle.std.specs.Prelude.{◌≡◌, ◌++◌, ◌≤◌, ℕ, List, [], IfOk, None, Ok, OnErr, OnOk, Some, refl, reverse};
 ghost use Rattle.rubis_message.specs.Message.{sites_of};
 ghost use Rattle.rubis_model.specs.Logs as logs;
 ghost use Rattle.std.specs.Bool.{MatchBool};
@@ -9,20 +9,28 @@ ghost use Rattle.rubis_schema.specs.declared.limits.TheConstants.{COUNTED_MAX};
 ghost use Rattle.rubis_model.specs.AuditRecords.{with_line};
 ghost use Rattle.rubis_model.specs.AuditRecords.Line.{Begin, Claim, Next};
 ghost use Rattle.rubis_walks.specs.Lines.{IsAmongLine, line_as};
-ghost use Rattle.rubis_audit.specs.Running.{IsCurrentAmong, account_from, logs_so_far};
+ghost use Rattle.rubis_message.specs.declared.answers.Verdict.TheVariants.{Agree};
+ghost use Rattle.rubis_model.specs.Audit.{AreFaultless};
+ghost use Rattle.rubis_model.specs.Verdict.{verdict as verdict_of};
+ghost use Rattle.rubis_engine.specs.Text.{rows_text};
+ghost use Rattle.rubis_walks.specs.Walks.{HaveMessagesAmong};
+ghost use Rattle.rubis_audit.specs.Running.{IsCurrentAmong, account_from, logs_so_far, rows_for};
 
 use crate::audits::audit;
+use crate::lacks::write_lacks;
+use crate::questions::Question;
 use crate::verdicts::{write_bad_record, write_verdict};
 use rubis_engine::{Answering, Course, InputRecord, OutOfMemory, Reply, Service, Sink};
-use rubis_message::Message;
+use rubis_message::{Message, Verdict};
 use rubis_schema::{Fields, Items};
 use rubis_walks::{Line, Log, read_line};
 use std::alloc::{AllocError, Global};
 use std::marker::Model;
 
-/// An auditor of the logs of `sites` sites, as far as it has read them. Contracts see the logs, newest first.
+/// An auditor of the logs of `sites` sites, as far as it has read them. Contracts see what is asked, and the logs, newest first.
 #[derive(Drop)]
 pub struct Auditor {
+    asked: Question,
     // The logs before the one that is read, in order.
     ended: Vec<Log>,
     current: Option<Log>,
@@ -35,7 +43,7 @@ impl Model for Auditor {
 
     ghost Value = { AuditorState };
 
-    ghost view = { λ a. record { sites = a.sites; logs = logs_so_far a.ended.items a.current } };
+    ghost view = { λ a. record { sites = a.sites; asked = a.asked; logs = logs_so_far a.ended.items a.current } };
 
     ghost invariant = { λ a. AreRead a.sites a.ended.items a.current };
 }
@@ -95,13 +103,36 @@ fn claim_row(
     }
 }
 
+// Writes what was asked of the logs, of which that is the verdict.
+fn write_answer(
+    alloc: Global,
+    sink: &mut Sink,
+    asked: Question,
+    sites: u8,
+    logs: &[Log],
+    verdict: Verdict,
+) -> Result<(), AllocError>
+    requires few { sites ≤ COUNTED_MAX }
+    requires among { HaveMessagesAmong sites logs.now }
+    requires verdict { verdict ≡ verdict_of logs.now }
+    requires faultless { verdict ≡ Agree → AreFaultless logs.now }
+    ensures { OnOk result (sink.new ≡ sink.old ++ rows_text (rows_for asked (Ok (reverse logs.now)))) }
+{
+    if let (Question::Lacks, Verdict::Agree) = (asked, verdict) {
+        return write_lacks(alloc, sink, sites, logs);
+    }
+    let mut fields = Fields::new(alloc);
+    write_verdict(&mut fields, sink, verdict)
+}
+
 impl Auditor {
     /// An auditor of the logs of `sites` sites that has read no log.
-    pub fn new(alloc: Global, sites: u8) -> Auditor
+    pub fn new(alloc: Global, sites: u8, asked: Question) -> Auditor
         requires { sites ≤ COUNTED_MAX }
-        ensures { result ≡ record { sites = sites; logs = [] } }
+        ensures { result ≡ record { sites = sites; asked = asked; logs = [] } }
     {
         Auditor {
+            asked,
             ended: Vec::new(alloc),
             current: None,
             sites,
@@ -111,7 +142,7 @@ impl Auditor {
 
     // Begins a log of that site.
     fn begin(&mut self, site: u8) -> Result<(), AllocError>
-        ensures sites { self.new.sites ≡ self.old.sites }
+        ensures sites { (self.new.sites ≡ self.old.sites) × (self.new.asked ≡ self.old.asked) }
         ensures log { OnOk result (with_line self.old.logs (Begin site) ≡ Some self.new.logs) }
     {
         let log = Log::new(site, Items::new(self.alloc), None);
@@ -122,7 +153,7 @@ impl Auditor {
     // Takes what a record says, if it may stand here, and says whether it does.
     fn take(&mut self, fields: &InputRecord, line: Line) -> Result<bool, AllocError>
         requires { IsAmongLine self.old.sites (Some line) }
-        ensures sites { self.new.sites ≡ self.old.sites }
+        ensures sites { (self.new.sites ≡ self.old.sites) × (self.new.asked ≡ self.old.asked) }
         ensures logs { IfOk result (λ taken. MatchBool taken
             (with_line self.old.logs (line_as fields.now line) ≡ Some self.new.logs)
             (with_line self.old.logs (line_as fields.now line) ≡ None)) }
@@ -139,7 +170,7 @@ impl Auditor {
 }
 
 impl<T> Service<T> for Auditor {
-    ghost account = { λ s n. account_from s.sites n s.logs };
+    ghost account = { λ s n. account_from s.asked s.sites n s.logs };
 
     ghost reads_none = { λ s n. refl };
 
@@ -153,8 +184,14 @@ impl<T> Service<T> for Auditor {
         let current = self.current.take();
         end_log(&mut self.ended, current)?;
         let verdict = audit(self.alloc, &self.ended, self.sites)?;
-        let mut fields = Fields::new(self.alloc);
-        write_verdict(&mut fields, sink, verdict)?;
+        write_answer(
+            self.alloc,
+            sink,
+            self.asked,
+            self.sites,
+            &self.ended,
+            verdict,
+        )?;
         Ok(())
     }
 }

@@ -3,7 +3,7 @@
 ghost use Rattle.std.specs.Prelude.{◌≡◌, ◌≤◌, IfOk};
 ghost use Rattle.rubis_schema.specs.declared.limits.TheConstants.{COUNTED_MAX};
 ghost use Rattle.rubis_message.specs.declared.answers.Verdict.TheVariants.{Agree};
-ghost use Rattle.rubis_model.specs.Audit.{AreSound};
+ghost use Rattle.rubis_model.specs.Audit.{AreFaultless, AreSound};
 ghost use Rattle.rubis_model.specs.Verdict.{verdict};
 ghost use Rattle.rubis_walks.specs.Walks.{HaveMessagesAmong};
 
@@ -11,7 +11,8 @@ use rubis_message::Verdict;
 use rubis_walks::{Log, Seen, walk};
 use std::alloc::{AllocError, Global};
 
-/// The first fault of these logs, in order, or Agree if there is none. Logs of which it says Agree are sound: they causally
+/// The first fault of these logs, in order, or Agree if there is none. Logs of which it says Agree pass the checks together and
+/// are sound: they causally
 /// serialize one RedBlue order, and the invariants hold over all of them.
 ///
 /// # Errors
@@ -21,6 +22,7 @@ pub fn audit(alloc: Global, logs: &[Log], sites: u8) -> Result<Verdict, AllocErr
     requires few { sites ≤ COUNTED_MAX }
     requires among { HaveMessagesAmong sites logs.now }
     ensures verdict { IfOk result (λ found. found ≡ verdict logs.now) }
+    ensures faultless { IfOk result (λ found. found ≡ Agree → AreFaultless logs.now) }
     ensures sound { IfOk result (λ found. found ≡ Agree → AreSound logs.now) }
 {
     let mut seen = Seen::new(alloc);

@@ -1,14 +1,15 @@
-// The auditor over a reader and a writer.
+//! The auditor over a reader and a writer.
 
 ghost use Rattle.std.specs.Prelude.{◌≤◌, IfOk, IfSome, IsErrOf};
 ghost use Rattle.rubis_engine.specs.Accounts.Ending.{AtEnd};
 ghost use Rattle.rubis_engine.specs.Progress.{IsCut, IsDone, IsTooLong, WrotePrefix};
 ghost use Rattle.rubis_engine.specs.Text.{input_records};
 ghost use Rattle.rubis_schema.specs.declared.limits.TheConstants.{COUNTED_MAX};
-ghost use Rattle.rubis_audit.specs.Running.{audit_account};
+ghost use Rattle.rubis_audit.specs.Running.{audit_account, lack_account};
 ghost use Rattle.rubis_audit.specs.Soundness.{AgreesOnSoundLogs};
 
 use crate::auditor::Auditor;
+use crate::questions::Question;
 use rubis_engine::{Count, RunFault, run_upto};
 use rubis_schema::RECORDS_MAX;
 use std::alloc::Global;
@@ -42,7 +43,7 @@ pub fn run_audit<R: Read + Drop, W: Write>(
     ensures memory { IsErrOf result RunFault.Memory → IfSome (R.remaining reader) (λ input.
         WrotePrefix ((audit_account sites).text AtEnd) (W.contents writer.old) (W.contents writer.new) (input_records input)) }
 {
-    let mut auditor = Auditor::new(alloc, sites);
+    let mut auditor = Auditor::new(alloc, sites, Question::Agreement);
     run_upto(&(), alloc, reader, writer, &mut auditor, RECORDS_MAX)
 }
 
@@ -70,7 +71,36 @@ pub fn run_audit_to_exit<R: Read + Drop, W: Write>(
     ensures memory { IsErrOf result RunFault.Memory → IfSome (R.remaining reader) (λ input.
         WrotePrefix ((audit_account sites).text AtEnd) (W.contents writer.old) (W.contents writer.new) (input_records input)) }
 {
-    let mut auditor = Auditor::new(alloc, sites);
+    let mut auditor = Auditor::new(alloc, sites, Question::Agreement);
+    let ended = run_upto(&(), alloc, reader, writer, &mut auditor, RECORDS_MAX);
+    mem::forget(auditor);
+    ended
+}
+
+/// Says what each of the logs of `sites` sites lacks of the others, if they agree, and else what `run_audit` says: reads at most
+/// 4,000,000 records of `reader`, until its end or the first malformed record, and appends the records to `writer`, for a program
+/// that ends with it.
+///
+/// # Errors
+///
+/// Those of `run_audit`.
+pub fn run_lack<R: Read + Drop, W: Write>(
+    alloc: Global,
+    reader: R,
+    writer: &mut W,
+    sites: u8,
+) -> Result<Count, RunFault>
+    requires { sites ≤ COUNTED_MAX }
+    ensures ok { IfOk result (λ count. IfSome (R.remaining reader) (λ input.
+        IsDone (lack_account sites) 4000000 (W.contents writer.old) (W.contents writer.new) (input_records input) count.records)) }
+    ensures too_long { IsErrOf result RunFault.TooLong → IfSome (R.remaining reader) (λ input.
+        IsTooLong (lack_account sites) 4000000 (W.contents writer.old) (W.contents writer.new) (input_records input)) }
+    ensures read { IsErrOf result RunFault.Read → IfSome (R.remaining reader) (λ input.
+        IsCut (lack_account sites) (W.contents writer.old) (W.contents writer.new) (input_records input)) }
+    ensures memory { IsErrOf result RunFault.Memory → IfSome (R.remaining reader) (λ input.
+        WrotePrefix ((lack_account sites).text AtEnd) (W.contents writer.old) (W.contents writer.new) (input_records input)) }
+{
+    let mut auditor = Auditor::new(alloc, sites, Question::Lacks);
     let ended = run_upto(&(), alloc, reader, writer, &mut auditor, RECORDS_MAX);
     mem::forget(auditor);
     ended

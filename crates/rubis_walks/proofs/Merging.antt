@@ -24,7 +24,7 @@ use Rattle.rubis_walks.specs.Lacks.{IsMerged}
 use Rattle.rubis_walks.specs.Walks.{HaveMessagesAmong, messages_of_logs}
 use Rattle.rubis_walks.proofs.Walking.{among_at, sites_at}
 
-drop_at : {X : Type 0} (xs : List X) (n : ℕ) (x : X) → n < length xs → x ≡ get_or xs n x → drop n xs ≡ x ∷ drop (n + 1) xs
+pub drop_at : {X : Type 0} (xs : List X) (n : ℕ) (x : X) → n < length xs → x ≡ get_or xs n x → drop n xs ≡ x ∷ drop (n + 1) xs
 drop_at xs n x l e = drop-cons xs n x l ∙ (λ i. sym e i ∷ drop (sym (add-one n) i) xs)
 
 take_at : {X : Type 0} (xs : List X) (n : ℕ) (x : X) → n < length xs → x ≡ get_or xs n x → take (n + 1) xs ≡ take n xs ++ x ∷ []
@@ -54,6 +54,7 @@ pub record Merges (sites : ℕ) (logs : List Log) (at : ℕ) (log : Log) (n : �
   pub released : Released (reverse messages)
   pub members : (m : Message) → Has m messages → Logged logs m
   pub within : (m : Message) → Has m (take n log.messages) → Has m messages
+  pub among : AllAmong sites messages
   pub counts : clock ≡ clock_of sites messages
 
 pub merges_start : (sites : ℕ) (logs : List Log) (at : ℕ) (log : Log) (messages : List Message) (clock : MessageCounts) → at < length logs → log ≡ get_or logs at log
@@ -63,6 +64,7 @@ merges_start sites logs at log messages clock l e m = record {
   released = m.released;
   members = m.members;
   within = λ x h. absurd h;
+  among = m.among;
   counts = m.counts;
 }
 
@@ -72,11 +74,12 @@ merges_end sites logs at log n messages clock l m = record {
   rest = ap (λ q. messages ++ firsts messages (q ++ messages_of_logs (drop (at + 1) logs))) (sym (drop_all n log.messages l)) ∙ m.rest;
   released = m.released;
   members = m.members;
+  among = m.among;
   counts = m.counts;
 }
 
 pub merged_start : (sites : ℕ) (logs : List Log) (clock : MessageCounts) → clock ≡ opening_clock sites → IsMerged sites logs 0 [] clock
-merged_start sites logs clock e = record { rest = refl; released = tt; members = λ x h. absurd h; counts = e ∙ opening_counts sites }
+merged_start sites logs clock e = record { rest = refl; released = tt; members = λ x h. absurd h; among = λ x h. absurd h; counts = e ∙ opening_counts sites }
 
 pub merged_end : (sites : ℕ) (logs : List Log) (at : ℕ) (messages : List Message) (clock : MessageCounts) → length logs ≤ at → IsMerged sites logs at messages clock
     → messages ≡ merged logs
@@ -161,6 +164,7 @@ module _ (sites : ℕ) (logs : List Log) (at : ℕ) (log : Log) (n : ℕ) (v : M
     released = m.released;
     members = m.members;
     within = λ x h. ⊎_elim (λ p. m.within x p) (λ p. subst (λ y. Has y messages) (sym p) there) (push_cases x v (take n log.messages) (subst (Has x) (take_at log.messages n v k i) h));
+    among = m.among;
     counts = m.counts;
   }
     where
@@ -203,6 +207,7 @@ module _ (sites : ℕ) (logs : List Log) (at : ℕ) (log : Log) (n : ℕ) (v : M
       members = λ x h. ⊎_elim (λ p. m.members x p) (λ p. subst (Logged logs) (sym p) in_log) (push_cases x v messages h);
       within =
           λ x h. ⊎_elim (λ p. has_left x messages (v ∷ []) (m.within x p)) (λ p. subst (λ y. Has y (messages ++ v ∷ [])) (sym p) (has_last v messages)) (push_cases x v (take n log.messages) (subst (Has x) (take_at log.messages n v k i) h));
+      among = λ x h. ⊎_elim (λ p. m.among x p) (λ p. subst (IsAmong sites) (sym p) whose) (push_cases x v messages h);
       counts = c ∙ ap (λ x. advanced x v.stamp) m.counts ∙ clock_more sites messages v whose.id.site;
     }
 

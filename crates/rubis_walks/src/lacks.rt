@@ -61,7 +61,7 @@ fn merge_log<'a>(
 }
 
 /// The messages of logs that pass the checks together, one log after the other and each in its order, without those that
-/// came before.
+/// came before. Each counts `sites` sites and belongs to one of them.
 ///
 /// # Errors
 ///
@@ -70,7 +70,8 @@ pub fn merge<'a>(alloc: Global, sites: u8, logs: &'a [Log]) -> Result<Vec<&'a Me
     requires few { sites ≤ COUNTED_MAX }
     requires among { HaveMessagesAmong sites logs.now }
     requires faultless { AreFaultless logs.now }
-    ensures { IfOk result (λ messages. map (λ m. m.now) messages.items ≡ lack.merged logs.now) }
+    ensures merged { IfOk result (λ messages. map (λ m. m.now) messages.items ≡ lack.merged logs.now) }
+    ensures among { IfOk result (λ messages. AllAmong sites (map (λ m. m.now) messages.items)) }
 {
     let mut clock = Clock::new(sites);
     let mut merged = Vec::new(alloc);

@@ -1,5 +1,5 @@
 use Rattle.std.proofs.Common.{arith}
-use Rattle.rubis_walks.proofs.Walking.{over_found, over_more, over_sound}
+use Rattle.rubis_walks.proofs.Walking.{over_faultless, over_found, over_more, over_sound}
 use Rattle.rubis_audit.proofs.audits.audit.Goals as goal
 
 pub returns-in-Some-clause-verdict : goal.returns-in-Some-clause-verdict
@@ -14,3 +14,6 @@ loop-at-preserved c =
 
 pub returns-clause-sound : goal.returns-clause-sound
 returns-clause-sound c = λ e. over_sound c.args.sites c.loop-at.seen c.loop-at.at c.args.logs.now (omega (arith, c.loop-at-test.false)) c.requires.among c.loop-at.invariant
+
+pub returns-clause-faultless : goal.returns-clause-faultless
+returns-clause-faultless c = λ e. over_faultless c.args.sites c.loop-at.seen c.loop-at.at c.args.logs.now (omega (arith, c.loop-at-test.false)) c.requires.among c.loop-at.invariant

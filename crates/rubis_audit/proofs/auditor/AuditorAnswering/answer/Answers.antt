@@ -12,8 +12,14 @@ returns g c =
     let fields = c.args.fields.now in
     let line = sym c.in_ok-line.ensures.line ∙ ap (option_map (line_as fields)) c.in-Some.is in
     let more = rw c.if-branch.true at c.in_ok-take.ensures.logs in
+    let n = c.args.reply.now.number in
+    let sink = c.args.reply.now.sink in
+    let old = c.args.self.now.logs in
+    let new = c.take.new.self.logs in
     let sites : c.self.inside.sites ≡ c.args.self.now.sites = ap (λ a. a.sites) c.self.view_is in
-    let goes_on =
-    goes c.self.inside.sites c.args.reply.now.number c.args.self.now.logs c.take.new.self.logs (line_as fields c.in-Some.line) fields c.args.reply.now.sink c.args.reply.now.sink line more refl in
-    subst (λ s. AnswersRecord GoesOn (account_from c.args.self.now.sites c.args.reply.now.number c.args.self.now.logs) (account_from s (c.args.reply.now.number + 1) c.take.new.self.logs) c.args.reply.now.sink c.args.reply.now.sink fields) (sym c.take.ensures.sites)
-    (subst (λ s. AnswersRecord GoesOn (account_from s c.args.reply.now.number c.args.self.now.logs) (account_from s (c.args.reply.now.number + 1) c.take.new.self.logs) c.args.reply.now.sink c.args.reply.now.sink fields) sites goes_on)
+    let asked : c.self.inside.asked ≡ c.args.self.now.asked = ap (λ a. a.asked) c.self.view_is in
+    let goes_on = goes c.self.inside.asked c.self.inside.sites n old new (line_as fields c.in-Some.line) fields sink sink line more refl in
+    subst (λ q. AnswersRecord GoesOn (account_from c.args.self.now.asked c.args.self.now.sites n old) (account_from q c.take.new.self.sites (n + 1) new) sink sink fields) (sym c.take.ensures.sites.1)
+    (subst (λ s. AnswersRecord GoesOn (account_from c.args.self.now.asked c.args.self.now.sites n old) (account_from c.args.self.now.asked s (n + 1) new) sink sink fields) (sym c.take.ensures.sites.0)
+    (subst (λ q. AnswersRecord GoesOn (account_from q c.args.self.now.sites n old) (account_from q c.args.self.now.sites (n + 1) new) sink sink fields) asked
+    (subst (λ s. AnswersRecord GoesOn (account_from c.self.inside.asked s n old) (account_from c.self.inside.asked s (n + 1) new) sink sink fields) sites goes_on)))

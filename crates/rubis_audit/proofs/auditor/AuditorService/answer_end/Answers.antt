@@ -12,13 +12,18 @@ audit-requires-clause-among g c =
     read_among c.self.inside.sites c.self.inside.ended.items c.deref.result.now c.self.inside.current c.self.invariant
     (c.deref.ensures.value ∙ rw c.take-current.ensures.value at c.in_ok-end_log.ensures.ok)
 
+pub write_answer-requires-clause-among : goal.write_answer-requires-clause-among
+write_answer-requires-clause-among g c =
+    read_among c.self.inside.sites c.self.inside.ended.items c.deref-2.result.now c.self.inside.current c.self.invariant
+    (c.deref-2.ensures.value ∙ rw c.take-current.ensures.value at c.in_ok-end_log.ensures.ok)
+
 pub invariant_of-self-in_err-verdict : goal.invariant_of-self-in_err-verdict
 invariant_of-self-in_err-verdict g c =
     all_ended c.end_log.result c.self.inside.sites c.self.inside.ended.items c.end_log.new.ended.items c.self.inside.current c.take-current.new.self
     c.self.invariant (rw c.take-current.ensures.value at c.end_log.ensures.ok) c.end_log.ensures.err c.take-current.ensures.after
 
-pub invariant_of-self-in_err-write_verdict : goal.invariant_of-self-in_err-write_verdict
-invariant_of-self-in_err-write_verdict g c =
+pub invariant_of-self-in_err-write_answer : goal.invariant_of-self-in_err-write_answer
+invariant_of-self-in_err-write_answer g c =
     all_ended c.end_log.result c.self.inside.sites c.self.inside.ended.items c.end_log.new.ended.items c.self.inside.current c.take-current.new.self
     c.self.invariant (rw c.take-current.ensures.value at c.end_log.ensures.ok) c.end_log.ensures.err c.take-current.ensures.after
 

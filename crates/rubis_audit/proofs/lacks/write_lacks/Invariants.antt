@@ -1,0 +1,8 @@
+use Rattle.std.proofs.Common.{◌≡◌, ◌+◌, ◌++◌, drop}
+use Rattle.rubis_model.specs.LackRecords.{lack_rows_from}
+use Rattle.rubis_engine.specs.Text.{rows_text}
+use Rattle.rubis_audit.proofs.lacks.write_lacks.Given as goal
+
+-- what was written, and the rows of the logs to come
+abbrev pub invariant-loop-at : goal.invariant-loop-at
+invariant-loop-at l = l.sink ++ rows_text (lack_rows_from (1 + l.at) l.logs (drop l.at l.logs)) ≡ l.fn.sink ++ rows_text (lack_rows_from 1 l.logs l.logs)

@@ -1,0 +1,10 @@
+//! What is asked of logs.
+
+/// What is answered once all logs are read.
+#[derive(Clone, Copy, PartialEq, Eq)]
+pub enum Question {
+    /// Whether they agree.
+    Agreement,
+    /// What each log lacks of the others.
+    Lacks,
+}
