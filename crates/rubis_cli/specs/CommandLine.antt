@@ -1,4 +1,4 @@
--- The command line: `rubis site`, with six options that take a number, `rubis world`, with five, `rubis audit`, with one,
+-- The command line: `rubis site`, with six options that take a number, `rubis world`, with five, `rubis audit` and `rubis lack`, with one,
 -- `rubis widen`, with two, and `rubis keep`, with a folder, six options that take a number, and three that take none.
 use Rattle.std.specs.Prelude.{◌≡◌, ◌≢◌, ℕ, ◌-◌, ◌<◌, ◌^◌, Bool, List, [], ◌∷◌, Option, None, Some, ⊤, false, true, codes, string_bytes}
 use Rattle.std.specs.Str.Parse.{IsNumeral, digits_value, without_leading_plus}
@@ -14,7 +14,7 @@ use Rattle.rubis_cli.specs.declared.options.OptionFault.{OptionFault}
 use Rattle.rubis_cli.specs.declared.options.OptionFault.TheVariants.{Memory, Words}
 use Rattle.rubis_cli.specs.declared.options.Options.{Options}
 use Rattle.rubis_cli.specs.declared.options.Run.{Run}
-use Rattle.rubis_cli.specs.declared.options.Run.TheVariants.{Audit, Keep, Site, Widen, World}
+use Rattle.rubis_cli.specs.declared.options.Run.TheVariants.{Audit, Keep, Lack, Site, Widen, World}
 use Rattle.rubis_cli.specs.declared.options.Setup.{Setup}
 use Rattle.rubis_cli.specs.declared.options.Widening.{Widening}
 
@@ -44,6 +44,9 @@ world_command = with_setup (new_app (codes "world"))
 
 abbrev pub audit_command : App
 audit_command = with_rule (new_app (codes "audit")) sites_option
+
+abbrev pub lack_command : App
+lack_command = with_rule (new_app (codes "lack")) sites_option
 
 abbrev pub widen_command : App
 widen_command = with_rule (with_rule (new_app (codes "widen")) sites_option) (number_option (codes "to") 1 SITES_MAX (codes "16"))
@@ -77,7 +80,8 @@ abbrev pub program_alone : App
 program_alone = let a = new_app (codes "rubis") in record a { top = record a.top { has_version = true; subcommand_required = true } }
 
 abbrev pub command_line : App
-command_line = with_subcommand (with_subcommand (with_subcommand (with_subcommand (with_subcommand program_alone site_command.top) world_command.top) audit_command.top) widen_command.top) keep_command.top
+command_line =
+    with_subcommand (with_subcommand (with_subcommand (with_subcommand (with_subcommand (with_subcommand program_alone site_command.top) world_command.top) audit_command.top) lack_command.top) widen_command.top) keep_command.top
 
 -- n is the number of at most `bits` bits that the text writes: decimal digits, optionally after a plus sign
 abbrev pub IsNumberOf : ℕ → Option Text → ℕ → Type 0
@@ -123,15 +127,16 @@ pub record AreKeepOptionsIn (rows : List Row) (o : KeepOptions) : Type 0 where
   pub shorten : IsFlag (one_of (codes "shorten") rows) o.shorten
   pub upgrade : IsFlag (one_of (codes "upgrade") rows) o.upgrade
 
--- what the words of a command line ask for: an audit, several sites, a widening or a site that keeps its records where that is the
--- command, or else a site, with the options that stand after the command
+-- what the words of a command line ask for: an audit, what logs lack, several sites, a widening or a site that keeps its records
+-- where that is the command, or else a site, with the options that stand after the command
 abbrev pub IsAsked : List Text → Run → Type 0
 IsAsked words (Audit sites) = (rows : List Row) × (subcommand_of command_line words ≡ Some (codes "audit", rows)) × IsNumberOf 8 (one_of (codes "sites") rows) sites
+IsAsked words (Lack sites) = (rows : List Row) × (subcommand_of command_line words ≡ Some (codes "lack", rows)) × IsNumberOf 8 (one_of (codes "sites") rows) sites
 IsAsked words (World setup) = (rows : List Row) × (subcommand_of command_line words ≡ Some (codes "world", rows)) × IsSetupIn rows setup
 IsAsked words (Widen counts) = (rows : List Row) × (subcommand_of command_line words ≡ Some (codes "widen", rows)) × AreCountsIn rows counts
 IsAsked words (Keep options) = (rows : List Row) × (subcommand_of command_line words ≡ Some (codes "keep", rows)) × AreKeepOptionsIn rows options
 IsAsked words (Site options) =
-    (name : Text) × (rows : List Row) × (subcommand_of command_line words ≡ Some (name, rows)) × (name ≢ codes "audit") × (name ≢ codes "world") × (name ≢ codes "widen") × (name ≢ codes "keep")
+    (name : Text) × (rows : List Row) × (subcommand_of command_line words ≡ Some (name, rows)) × (name ≢ codes "audit") × (name ≢ codes "world") × (name ≢ codes "widen") × (name ≢ codes "keep") × (name ≢ codes "lack")
     × AreOptionsIn rows options
 
 -- what an error of `clap` is called here

@@ -3,7 +3,7 @@
 ghost use Rattle.std.specs.Prelude.{◌≡◌, false, [], Some, codes, map, string_bytes, IfErr, IfOk};
 ghost use Rattle.rubis_schema.specs.declared.limits.TheConstants.{SITES_MAX};
 ghost use Rattle.clap.specs.Words.{app_of, fault_of, found_of, one_of, rows_of, rule_of};
-ghost use Rattle.rubis_cli.specs.CommandLine.{AreCountsIn, AreOptionsIn, IsAsked, IsFaultAmong, IsNumberOf, IsSetupIn, audit_command, command_line, number_option, program_alone, site_command, widen_command, with_setup, with_work, world_command};
+ghost use Rattle.rubis_cli.specs.CommandLine.{AreCountsIn, AreOptionsIn, IsAsked, IsFaultAmong, IsNumberOf, IsSetupIn, audit_command, command_line, lack_command, number_option, program_alone, site_command, widen_command, with_setup, with_work, world_command};
 
 use crate::keep_options::{KeepOptions, keep_command, read_keep};
 use clap::builder::ValueParser;
@@ -21,6 +21,8 @@ pub enum Run {
     World(Setup),
     /// An audit of the logs of this many sites.
     Audit(u8),
+    /// What each of the logs of this many sites lacks of the others.
+    Lack(u8),
     /// The records of an audit, widened.
     Widen(Widening),
     /// A site that keeps its records.
@@ -223,6 +225,17 @@ fn audit<'a>(alloc: Global) -> Result<Command<'a>, AllocError>
         .arg(sites(alloc))
 }
 
+// The command that says what each of several logs lacks of the others.
+fn lack<'a>(alloc: Global) -> Result<Command<'a>, AllocError>
+    ensures { IfOk result (λ made. app_of made ≡ lack_command) }
+{
+    Command::new(alloc, "lack")
+        .about(
+            "Writes the messages that each of several logs lacks of the others, or what their audit finds",
+        )
+        .arg(sites(alloc))
+}
+
 // The program, before it has its commands.
 fn program_alone<'a>(alloc: Global) -> Result<Command<'a>, AllocError>
     ensures { IfOk result (λ made. app_of made ≡ program_alone) }
@@ -245,6 +258,7 @@ fn program<'a>(alloc: Global) -> Result<Command<'a>, AllocError>
     let program = program.subcommand(site(alloc)?)?;
     let program = program.subcommand(world(alloc)?)?;
     let program = program.subcommand(audit(alloc)?)?;
+    let program = program.subcommand(lack(alloc)?)?;
     let program = program.subcommand(widen(alloc)?)?;
     program.subcommand(keep_command(alloc)?)
 }
@@ -311,6 +325,8 @@ pub fn read_options(alloc: Global, words: &[String]) -> Result<Run, OptionFault>
                 Ok(Run::Widen(counts(inner)))
             } else if name == "keep" {
                 Ok(Run::Keep(read_keep(alloc, inner)?))
+            } else if name == "lack" {
+                Ok(Run::Lack(byte(inner, "sites")))
             } else {
                 Ok(Run::Site(site_options(inner)))
             }

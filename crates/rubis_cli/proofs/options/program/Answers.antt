@@ -14,7 +14,9 @@ returns c =
     let two = c.in_ok-program-3.ensures.shape world_local ∙ ap₂ with_subcommand one (ap top c.in_ok-world.ensures) in
     let audit_local = third_is_false _ _ _ _ (ap is_plain c.in_ok-audit.ensures) in
     let three = c.in_ok-program-4.ensures.shape audit_local ∙ ap₂ with_subcommand two (ap top c.in_ok-audit.ensures) in
+    let lack_local = third_is_false _ _ _ _ (ap is_plain c.in_ok-lack.ensures) in
+    let four = c.in_ok-program-5.ensures.shape lack_local ∙ ap₂ with_subcommand three (ap top c.in_ok-lack.ensures) in
     let widen_local = third_is_false _ _ _ _ (ap is_plain c.in_ok-widen.ensures) in
-    let four = c.in_ok-program-5.ensures.shape widen_local ∙ ap₂ with_subcommand three (ap top c.in_ok-widen.ensures) in
+    let five = c.in_ok-program-6.ensures.shape widen_local ∙ ap₂ with_subcommand four (ap top c.in_ok-widen.ensures) in
     let keep_local = third_is_false _ _ _ _ (ap is_plain c.in_ok-keep_command.ensures) in
-    IfOk-weaker c.subcommand-5.result _ _ (λ made h. h.shape keep_local ∙ ap₂ with_subcommand four (ap top c.in_ok-keep_command.ensures)) c.subcommand-5.ensures
+    IfOk-weaker c.subcommand-6.result _ _ (λ made h. h.shape keep_local ∙ ap₂ with_subcommand five (ap top c.in_ok-keep_command.ensures)) c.subcommand-6.ensures

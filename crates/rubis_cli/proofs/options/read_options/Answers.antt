@@ -70,6 +70,17 @@ returns-then-eq-4-clause-fits c =
     let line = c.in_ok-program.ensures in
     fits_line _ _ line (c.in_ok-matches.ensures.kinds (ap is_simple_and_free line ∙ line_is_free))
 
+pub returns-then-eq-5-clause-ok : goal.returns-then-eq-5-clause-ok
+returns-then-eq-5-clause-ok c =
+    let entered = entered_by _ _ _ c.in-Some.name.now _ c.in-Some.ensures.name c.in-Some.ensures.rows in
+    let lack : c.in-Some.name.now ≡ codes "lack" = search rules in
+    (rows_of (found_of c.in-Some.inner.now), entered_line _ _ c.in_ok-matches.matches _ c.in_ok-program.ensures c.in_ok-matches.ensures.matches (entered ∙ ap (λ n. Some (n, rows_of (found_of c.in-Some.inner.now))) lack), c.byte-then-eq-5.ensures)
+
+pub returns-then-eq-5-clause-fits : goal.returns-then-eq-5-clause-fits
+returns-then-eq-5-clause-fits c =
+    let line = c.in_ok-program.ensures in
+    fits_line _ _ line (c.in_ok-matches.ensures.kinds (ap is_simple_and_free line ∙ line_is_free))
+
 pub returns-in-Some-clause-ok : goal.returns-in-Some-clause-ok
 returns-in-Some-clause-ok c =
     let entered = entered_by _ _ _ c.in-Some.name.now _ c.in-Some.ensures.name c.in-Some.ensures.rows in
@@ -77,4 +88,5 @@ returns-in-Some-clause-ok c =
     let no_world : c.in-Some.name.now ≢ codes "world" = search rules in
     let no_widen : c.in-Some.name.now ≢ codes "widen" = search rules in
     let no_keep : c.in-Some.name.now ≢ codes "keep" = search rules in
-    (c.in-Some.name.now, rows_of (found_of c.in-Some.inner.now), entered_line _ _ c.in_ok-matches.matches _ c.in_ok-program.ensures c.in_ok-matches.ensures.matches entered, no_audit, no_world, no_widen, no_keep, c.site_options.ensures)
+    let no_lack : c.in-Some.name.now ≢ codes "lack" = search rules in
+    (c.in-Some.name.now, rows_of (found_of c.in-Some.inner.now), entered_line _ _ c.in_ok-matches.matches _ c.in_ok-program.ensures c.in_ok-matches.ensures.matches entered, no_audit, no_world, no_widen, no_keep, no_lack, c.site_options.ensures)
