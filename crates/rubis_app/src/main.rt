@@ -1,5 +1,5 @@
-//! `rubis`: an auction site, several in one run, an auditor of their logs, or what widens these, over standard input and
-//! output.
+//! `rubis`: an auction site, several in one run, an auditor of their logs, what says what these lack of each other, or what widens
+//! them, over standard input and output.
 #![tactic(auto)]
 
 ghost use Rattle.std.specs.Prelude.{◌≡◌, ◌⊎◌, ◌<◌, ◌≤◌, cond, is_ok, map, string_bytes};
@@ -13,7 +13,7 @@ ghost use Rattle.rubis_sites.specs.Setup.{IsWorldSetup};
 ghost use Rattle.rubis_app.specs.Statuses.{IsStatusOf, status_by, status_of};
 
 use clap::Error;
-use rubis_audit::{run_audit_to_exit, run_widen};
+use rubis_audit::{run_audit_to_exit, run_lack, run_widen};
 use rubis_cli::{KeepOptions, OptionFault, Options, Run, Setup, Widening, read_options};
 use rubis_folder::{FolderFault, Setup as Place, Wanted, keep_folder};
 use rubis_replica::Config;
@@ -147,6 +147,19 @@ fn run_auditor<R: Print + Eprint + Input + AllocGlobal>(rt: &R, sites: u8) -> Ex
     end(rt, ended)
 }
 
+// Says what each of the logs of `sites` sites lacks of the others, from standard input to standard output.
+fn run_lacker<R: Print + Eprint + Input + AllocGlobal>(rt: &R, sites: u8) -> ExitCode
+    ensures misuse { SITES_MAX < sites → exit_status result ≡ 2 }
+    ensures runs { sites ≤ SITES_MAX → (exit_status result ≡ 0) ⊎ (exit_status result ≡ 1) }
+{
+    if sites > SITES_MAX {
+        return misuse(rt, "there are too many sites");
+    }
+    let mut writer = io::writer(rt);
+    let ended = run_lack(rt.alloc(), rt.reader(), &mut writer, sites);
+    end(rt, ended)
+}
+
 // Widens logs to more sites, from standard input to standard output.
 fn run_widener<R: Print + Eprint + Input + AllocGlobal>(rt: &R, counts: &Widening) -> ExitCode
     ensures misuse { (counts.now.to < counts.now.sites) ⊎ (SITES_MAX < counts.now.to) → exit_status result ≡ 2 }
@@ -263,6 +276,7 @@ fn start<
         Ok(Run::Site(options)) => run(rt, &options),
         Ok(Run::World(setup)) => run_sites(rt, &setup),
         Ok(Run::Audit(sites)) => run_auditor(rt, sites),
+        Ok(Run::Lack(sites)) => run_lacker(rt, sites),
         Ok(Run::Widen(counts)) => run_widener(rt, &counts),
         Ok(Run::Keep(options)) => run_keep(rt, &options),
         Err(OptionFault::Memory) => fail(rt, RunFault::Memory),

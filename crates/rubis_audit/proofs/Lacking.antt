@@ -1,8 +1,8 @@
 -- How the records of what logs lack go on with the logs.
-use Rattle.std.proofs.Common.{ℕ, ◌≡◌, ◌∙◌, ◌+◌, ◌<◌, List, ◌∷◌, ◌++◌, ap, arith, drop, get_or, length, sym}
+use Rattle.std.proofs.Common.{ℕ, ◌≡◌, ◌∙◌, ◌+◌, ◌<◌, List, ◌++◌, ap, arith, drop, get_or, length, sym}
+use Rattle.rubis_model.specs.Audit.{AreFaultless}
 use Rattle.rubis_model.specs.Lack.{lacked, merged}
 use Rattle.rubis_model.specs.LackRecords.{lack_rows, lack_rows_from}
-use Rattle.rubis_model.specs.Audit.{AreFaultless}
 use Rattle.rubis_model.specs.Logs.{Log}
 use Rattle.rubis_model.specs.Settle.{Has}
 use Rattle.rubis_model.proofs.Lists.{contained}

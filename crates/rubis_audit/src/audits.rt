@@ -11,9 +11,8 @@ use rubis_message::Verdict;
 use rubis_walks::{Log, Seen, walk};
 use std::alloc::{AllocError, Global};
 
-/// The first fault of these logs, in order, or Agree if there is none. Logs of which it says Agree pass the checks together and
-/// are sound: they causally
-/// serialize one RedBlue order, and the invariants hold over all of them.
+/// The first fault of these logs, in order, or Agree if there is none. Logs of which it says Agree pass the checks together, and
+/// are sound: they causally serialize one RedBlue order, and the invariants hold over all of them.
 ///
 /// # Errors
 ///
