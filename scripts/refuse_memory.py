@@ -138,6 +138,7 @@ COMMANDS = {
     "rubis keep": ("two_hundred_packets.txt", ["--workers", "4", "--shards", "5", "--batch", "7"]),
     "rubis world": ("a_bid_at_another_site_comes_too_late.txt", ["--workers", "4", "--shards", "5", "--batch", "2"]),
     "rubis audit": ("an_audit_of_a_sale_agrees.txt", []),
+    "rubis lack": ("what_two_logs_lack.txt", []),
     "rubis widen": ("logs_are_widened.txt", []),
 }
 

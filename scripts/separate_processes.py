@@ -6,7 +6,8 @@ that it answered. Records are asked at random sites. Packets are lost, repeated,
 token goes round. A process is killed at random moments, in the middle of a replay too, while the others go on; it is
 restarted with other settings and reads its recording again, whole or without some of the records that changed nothing. What it
 answers then has to be what it had answered, but for the numbers of records. At the end every message is delivered to every site,
-and the tables have to be the same, the sites' logs the same sets, and an audit of the logs, taken at random moments too, Agree.
+or in every other shop what `rubis lack` names, to which a site may only answer that it released it, or had it waiting. Then
+the tables have to be the same, the sites' logs the same sets, and an audit of the logs, taken at random moments too, Agree.
 The seed is fixed, so each run of this script plays the same shops."""
 
 import dataclasses
@@ -183,6 +184,21 @@ class Shop:
             for message in messages:
                 process.read(message)
 
+    def entries(self, logs: list[tuple[int, list[str]]]) -> str:
+        """The records of these logs, for `rubis audit` and `rubis lack`."""
+        return "".join(f"site,{site}\n" + "".join(row.split(",", 2)[2] + "\n" for row in log) for site, log in logs)
+
+    def deliver_what_lacks(self, program: str) -> None:
+        """To each site what `rubis lack` says that its log lacks, in that order."""
+        records = self.entries([(process.site, process.rows("log")) for process in self.sites])
+        lacks = subprocess.run([program, "lack", "--sites", str(SITES)], input=records, capture_output=True, text=True, check=True).stdout
+        for line in lacks.splitlines():
+            word, number, rest = line.split(",", 2)
+            expect(word in ("lacks", "lack"), f"rubis lack says {line}")
+            if word == "lack":
+                answer = self.sites[int(number) - 1].read(rest)
+                expect(answer[0].split(",")[0] in ("released", "repeat"), f"{line} is answered {answer}")
+
     def compare(self, program: str) -> None:
         tables = [process.rows("tables") for process in self.sites]
         expect(all(it == tables[0] for it in tables), "the tables differ")
@@ -190,10 +206,8 @@ class Shop:
         messages = sorted(packet for packet in self.sent if packet.startswith("msg,"))
         for log in logs:
             expect(sorted(row.split(",", 2)[2] for row in log) == messages, "a log has other messages than were sent")
-        records = []
-        for site, log in [*self.logs, *enumerate(logs)]:
-            records += [f"site,{site}", *(row.split(",", 2)[2] for row in log)]
-        said = subprocess.run([program, "audit", "--sites", str(SITES)], input="\n".join(records) + "\n", capture_output=True, text=True, check=True).stdout
+        records = self.entries([*self.logs, *enumerate(logs)])
+        said = subprocess.run([program, "audit", "--sites", str(SITES)], input=records, capture_output=True, text=True, check=True).stdout
         expect(said == "audit,Agree\n", f"the audit says {said!r}")
 
 
@@ -209,7 +223,10 @@ def main(arguments: list[str]) -> int:
         try:
             for _ in range(dice.randint(200, 1000)):
                 shop.step()
-            shop.deliver_all()
+            if number % 2:
+                shop.deliver_all()
+            else:
+                shop.deliver_what_lacks(program)
             shop.compare(program)
             for process in shop.sites:
                 process.end()
