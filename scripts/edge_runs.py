@@ -108,6 +108,7 @@ def too_long() -> list[Expected]:
             Expected("site", b"x\n" * many, refused, status, said),
             Expected("world", b"x\n" * many, events, status, said),
             Expected("audit", b"site,0\n" + b"row\n" * (many - 1), b"" if more else b"audit,Rows,1,0\n", status, said),
+            Expected("lack", b"site,0\n" + b"row\n" * (many - 1), b"" if more else b"audit,Rows,1,0\n", status, said),
             Expected("widen", b"site,0\n" * many, b"site,0\n" * MOST, status, said),
         ]
     return runs
@@ -118,9 +119,9 @@ def command_lines() -> list[Expected]:
     good = [f"site --{option} {value}" for option, most in (("sites", 16), ("shards", 64), ("workers", 16), ("batch", 65536), ("keep", 1000000)) for value in (1, most)]
     good += ["site --site 15 --sites 16", "world --sites 16 --shards 64 --workers 16 --batch 65536 --keep 1000000", "widen --sites 16 --to 16", "widen --to 1", "site --sites=2 --site=1"]
     beyond = [f"site --{option} {value}" for option, most in (("sites", 16), ("shards", 64), ("workers", 16), ("batch", 65536), ("keep", 1000000)) for value in (0, most + 1)]
-    beyond += ["site --site 16 --sites 16", "world --sites 17", "audit --sites 17", "widen --to 17", "widen --to 0"]
+    beyond += ["site --site 16 --sites 16", "world --sites 17", "audit --sites 17", "lack --sites 17", "widen --to 17", "widen --to 0"]
     wrong = ["", "frob", "user,ann", "--sites 2", "site extra", "site --frob 1", "site --to 3", "site --sites", "site --sites two"]
-    wrong += ["site --sites 2 --sites 2", "world --site 0", "audit --keep 1", "widen --site 0"]
+    wrong += ["site --sites 2 --sites 2", "world --site 0", "audit --keep 1", "lack --keep 1", "widen --site 0"]
     fault = b"fault: site must be below sites\n"
     own = [Expected(words, b"", b"", 2, fault) for words in ("site --site 1", "site --site 2 --sites 2", "site --site 7 --sites 3 --keep 5")]
     own += [Expected(words, b"", b"", 2, b"fault: to must not be below sites\n") for words in ("widen --sites 3 --to 2", "widen --sites 16 --to 15")]
@@ -149,7 +150,7 @@ def told(program: str, expected: Expected, **streams) -> str | None:
 def failed_reads(program: str) -> list[str | None]:
     """Input that can't be read."""
     folder = os.open(pathlib.Path(program).parent, os.O_RDONLY)
-    runs = [told(program, Expected(words, b"", b"", 1, b"run fault: read\n"), stdin=folder) for words in ("site", "world", "audit", "widen")]
+    runs = [told(program, Expected(words, b"", b"", 1, b"run fault: read\n"), stdin=folder) for words in ("site", "world", "audit", "lack", "widen")]
     os.close(folder)
     return runs
 
@@ -173,7 +174,7 @@ def lost_terminals(program: str) -> list[str | None]:
 def failed_writes(program: str) -> list[str | None]:
     """Output that can't be written; a run that has nothing to write is well all the same."""
     fault = b"run fault: write\n"
-    runs = [("site", b"user,ann\n"), ("world", b"x\n"), ("audit", b""), ("widen", b"site,0\n")]
+    runs = [("site", b"user,ann\n"), ("world", b"x\n"), ("audit", b""), ("lack", b"site,0\n"), ("widen", b"site,0\n")]
     with open("/dev/full", "wb") as full:
         wrong = [told(program, Expected(words, text, b"", 1, fault), stdout=full) for words, text in runs]
         return wrong + [told(program, Expected(words, b"", b""), stdout=full) for words in ("site", "world", "widen")]

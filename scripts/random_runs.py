@@ -12,7 +12,7 @@ worker. A quarter as many conversations are those of a world of
 up to 16 sites: packets come in any order, again, or not at all, the token goes round, and after each hundred records an
 audit has to agree. At the end all packets are delivered to all sites, whose tables then have to be the same. The logs of
 that world, whole and with a record left out, are then audited as they are and widened to more sites: the audits have to
-say the same. Nicknames are few, so that renames meet. The seed is fixed, so each run of this script plays the same
+say the same, and `rubis lack` says what an audit says if that isn't Agree. Nicknames are few, so that renames meet. The seed is fixed, so each run of this script plays the same
 conversations."""
 
 import os
@@ -191,6 +191,9 @@ def fault_in_audits(program: str, dice: random.Random, sites: int, logs: list[st
         to = dice.randint(sites, 16)
         widened = answers(program, ["widen", "--sites", str(sites), "--to", str(to)], records).decode().splitlines()
         said = answers(program, ["audit", "--sites", str(sites)], records).decode()
+        lacks = answers(program, ["lack", "--sites", str(sites)], records).decode()
+        if lacks != said if said != "audit,Agree\n" else "audit" in lacks:
+            return "what is lacking isn't said where an audit agrees, and only there"
         if said.startswith("audit,BadRecord,"):
             if widened[-1] != said.strip().replace("audit", "widen", 1):
                 return "a bad record isn't the last that is widened"
