@@ -104,7 +104,7 @@ class Site:
         return done.stdout
 
     def run(self, records: bytes = b"", full: int | None = None, more: tuple[str, ...] = ()) -> subprocess.CompletedProcess:
-        """One life from its start to the end of its input, on a disk that takes so many bytes a file."""
+        """One life from its start to the end of its input, on a disk that takes at most `full` bytes a file."""
 
         def limit() -> None:
             signal.signal(signal.SIGXFSZ, signal.SIG_IGN)

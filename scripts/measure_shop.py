@@ -33,7 +33,7 @@ def timed(work: Callable[[], object]) -> float:
 
 
 def parts_of(seconds: list[float]) -> dict[str, float]:
-    """Half, 99 of 100, and all of them within so many milliseconds."""
+    """Within how many milliseconds half of them, 99 of 100, and all are."""
     found = sorted(seconds)
     within = {"half": found[len(found) // 2], "99 of 100": found[len(found) * 99 // 100], "all": found[-1]}
     return {name: round(1000 * span, 1) for name, span in within.items()}

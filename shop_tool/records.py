@@ -121,7 +121,7 @@ class Message(NamedTuple):
 
 
 class Token(NamedTuple):
-    """The permission to issue red messages, on its way to site `to`; so many red numbers were issued before."""
+    """The permission to issue red messages, on its way to site `to`, with how many red numbers were issued before."""
 
     turn: int
     to: int

@@ -125,7 +125,7 @@ class Streams:
             await self.redis.rename(new, self.key(site))
 
     async def read(self, after: dict[int, Place], count: int, block: int) -> dict[int, list[tuple[Place, bytes]]]:
-        """What sites sent after these places; waits so many milliseconds if there is nothing."""
+        """What sites sent after these places; waits up to that many milliseconds if there is nothing."""
         found = await self.redis.xread({self.key(site): id_of(place) for site, place in after.items()}, count=count, block=block)
         made = {}
         for key, entries in found:
