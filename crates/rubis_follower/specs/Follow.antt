@@ -5,7 +5,7 @@ use Rattle.rubis_message.specs.Message.{Message}
 use Rattle.rubis_model.specs.Log.{cores}
 use Rattle.rubis_shard.specs.Holdings.{HoldsLog}
 use Rattle.rubis_shard.specs.States.{ShardState}
-use Rattle.rubis_folds.specs.Following.{HoldsTo, StopWithin, parts_behind}
+use Rattle.rubis_pieces.specs.Following.{HoldsTo, StopWithin, parts_behind}
 use Rattle.rubis_workers.specs.Logs.{AreWithin, StaysWithin}
 use Rattle.rubis_follower.specs.Progress.{BatchBegins, BatchGoesOn, IsProgress, Progress, resting_at}
 

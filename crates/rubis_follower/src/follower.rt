@@ -6,7 +6,7 @@ ghost use Rattle.rubis_message.specs.Message.{sites_of};
 ghost use Rattle.rubis_model.specs.Listings.{table_rows};
 ghost use Rattle.rubis_model.specs.Log.{cores};
 ghost use Rattle.rubis_shard.specs.Holdings.{HoldsLog, union};
-ghost use Rattle.rubis_folds.specs.Following.{HoldsTo, StopWithin};
+ghost use Rattle.rubis_pieces.specs.Following.{HoldsTo, StopWithin};
 ghost use Rattle.rubis_workers.specs.Logs.{StaysWithin};
 ghost use Rattle.rubis_follower.specs.Arrivals.{IsStop, TakesFirst};
 ghost use Rattle.rubis_follower.specs.Follow.{ComesTo, FollowsAt, FollowsLog, GoesOnTo};
@@ -14,9 +14,9 @@ ghost use Rattle.rubis_follower.specs.Progress.{HasBegun, IsAhead, IsBetween, Is
 ghost use Rattle.rubis_follower.specs.Counts.{IsCount};
 
 use crate::arriving::{Arrived, take_all};
-use rubis_folds::{count_behind, follow_rest};
 use rubis_listing::{SharedSink, list_tables, list_tables_shared};
 use rubis_message::Message;
+use rubis_pieces::{count_behind, follow_rest};
 use rubis_release::Intake;
 use rubis_schema::{Hashes, Listing};
 use rubis_shard::Tables;

@@ -1,17 +1,16 @@
 // Shards and tables.
 
 ghost use Rattle.std.specs.Prelude.{◌≡◌, ◌<◌, ◌≤◌, length, IfOk};
-ghost use Rattle.rubis_folds.specs.Batches.{AreUnfinished};
+ghost use Rattle.rubis_pieces.specs.Batches.{AreUnfinished};
 ghost use Rattle.rubis_pieces.specs.Pieces.{IsShareOf};
 
 use crate::records::{Window, message, packet_text};
 use crate::teams::tell_finished;
 use crate::telling::{tell_refused, tell_rows};
 use crate::tries::{Stop, TRIES, again};
-use rubis_folds::apply_batch;
 use rubis_listing as listings;
 use rubis_message::{Message, ReadFault};
-use rubis_pieces::{Left, misfits, split};
+use rubis_pieces::{Left, apply_batch, misfits, split};
 use rubis_schema::{Fields, Id, Items, Listing, Table, shard_of};
 use rubis_shadow::Numbered;
 use rubis_shard::{Group, Shard, Share, Tables};

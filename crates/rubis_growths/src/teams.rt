@@ -2,18 +2,17 @@
 
 ghost use Rattle.std.specs.Prelude.{◌<◌, ◌≤◌, IfOk, length};
 ghost use Rattle.std.specs.List.{All};
-ghost use Rattle.rubis_folds.specs.Batches.{AreUnfinished, Belong};
-ghost use Rattle.rubis_folds.specs.Work.{IsPiece};
+ghost use Rattle.rubis_pieces.specs.Batches.{AreUnfinished, Belong};
+ghost use Rattle.rubis_pieces.specs.Work.{IsPiece};
 ghost use Rattle.rubis_shard.specs.Holdings.{AreInOrder};
 
 use crate::records::Window;
 use crate::telling::{tell_refused, tell_rows};
 use crate::tries::{Stop, TRIES, again};
 use rubis_board::Poster;
-use rubis_folds::{count_behind, finish, follow_rest};
 use rubis_listing::tables as list_tables;
 use rubis_message::Message;
-use rubis_pieces::{Left, Piece, Places, gather};
+use rubis_pieces::{Left, Piece, Places, count_behind, finish, follow_rest, gather};
 use rubis_pool_core::{Event, Pool, run};
 use rubis_schema::{Id, Items, PurchaseRow, Row, RowKey, shard_of};
 use rubis_shadow::{Change, Effect, Numbered};

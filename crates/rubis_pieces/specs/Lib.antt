@@ -5,3 +5,6 @@ pub mod Faults
 pub mod Gathered
 pub mod Places
 pub mod Misfits
+pub mod Batches
+pub mod Work
+pub mod Following

@@ -1,12 +1,21 @@
 //! Batches of messages cut into a share for each shard, and the shards put together again.
+//! Shares folded on their shards, as far as memory goes: a batch on one thread, and what was left of one.
 #![tactic(auto)]
 
+mod batches;
+mod following;
 mod gathers;
 mod ordering;
 mod pieces;
+mod rests;
 mod splits;
+mod waiting;
 
+pub use batches::{apply_batch, fold_share};
+pub use following::{follow, follow_rest, homes_of};
 pub use gathers::{Counted, FaultKind, GatherFault, Gathered, Places, gather, gather_counted};
 pub use ordering::misfits;
 pub use pieces::{Done, Left, Piece};
+pub use rests::finish;
 pub use splits::{SPLIT_MIN, split, split_alone};
+pub use waiting::count_behind;

@@ -19,11 +19,11 @@ use Rattle.rubis_pieces.specs.Gathered.{IsInOrder, IsGathered, left_of}
 use Rattle.rubis_pieces.specs.declared.gathers.Gathered.{Gathered}
 use Rattle.rubis_pieces.specs.declared.pieces.Piece.{Piece}
 use Rattle.rubis_pieces.specs.declared.pieces.Done.{Done}
-use Rattle.rubis_folds.specs.Work.{IsWorked}
+use Rattle.rubis_pieces.specs.Work.{IsWorked}
 use Rattle.rubis_pool_core.specs.Pieces.{IsWhole}
 use Rattle.rubis_pool_core.specs.Machine.{PoolState, run_of}
 use Rattle.rubis_pool_core.specs.Schedules.{present, IsWorkedSlot, Accounted}
-use Rattle.rubis_folds.specs.Work.{pieces_of}
+use Rattle.rubis_pieces.specs.Work.{pieces_of}
 use Rattle.rubis_pool_core.specs.Batches.{IsAtEnd, HoldsTheBatch, EveryScheduleFoldsTheBatch}
 use Rattle.rubis_pool_core.proofs.Accounts.{every}
 use Rattle.rubis_pool_core.proofs.Numbers.{never_faulty}

@@ -12,7 +12,7 @@ use Rattle.rubis_pieces.specs.declared.gathers.FaultKind.{FaultKind}
 use Rattle.rubis_pieces.proofs.Numbers.{no_fault_if_moved}
 use Rattle.rubis_pieces.specs.declared.pieces.Piece.{Piece}
 use Rattle.rubis_pieces.specs.declared.pieces.Done.{Done}
-use Rattle.rubis_folds.specs.Work.{IsWorked}
+use Rattle.rubis_pieces.specs.Work.{IsWorked}
 use Rattle.rubis_pool_core.specs.Machine.{PoolState}
 use Rattle.rubis_pool_core.specs.Schedules.{Accounted}
 

@@ -6,7 +6,7 @@ use Rattle.std.specs.List.Sorted.{IsPermutation}
 use Rattle.std.proofs.lemmas.List.Sorted.{IsPermutation-refl, IsPermutation-trans, IsPermutation-sym, IsPermutation-cons, IsPermutation-middle}
 use Rattle.rubis_pieces.specs.declared.pieces.Piece.{Piece}
 use Rattle.rubis_pieces.specs.declared.pieces.Done.{Done}
-use Rattle.rubis_folds.specs.Work.{IsWorked}
+use Rattle.rubis_pieces.specs.Work.{IsWorked}
 use Rattle.rubis_pool_core.specs.Schedules.{present, IsWorkedSlot}
 
 pub zip_set : (ps : List (Option Piece)) (ds : List (Option Done)) (w : ℕ) (p : Option Piece) (d : Option Done)

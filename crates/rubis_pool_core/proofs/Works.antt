@@ -9,7 +9,7 @@ use Rattle.rubis_shard.specs.States.{with_parts}
 use Rattle.rubis_shard.proofs.Folds.{with_append}
 use Rattle.rubis_pieces.specs.declared.pieces.Piece.{Piece}
 use Rattle.rubis_pieces.specs.declared.pieces.Done.{Done}
-use Rattle.rubis_folds.specs.Work.{IsPiece, IsWorked}
+use Rattle.rubis_pieces.specs.Work.{IsPiece, IsWorked}
 use Rattle.rubis_pool_core.specs.Pieces.{begun, next_part, one_part_more, IsWhole}
 
 pub one_more_piece : (pieces more : List Piece) (p : Piece) → more ≡ pieces ++ p ∷ [] → All IsPiece pieces → IsPiece p

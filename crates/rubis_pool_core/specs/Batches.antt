@@ -10,7 +10,7 @@ use Rattle.rubis_pieces.specs.Shares.{AreShares}
 use Rattle.rubis_pieces.specs.Faults.{IsFault, numbers_of}
 use Rattle.rubis_pieces.specs.Gathered.{IsGathered}
 use Rattle.rubis_pieces.specs.Misfits.{misfit_order}
-use Rattle.rubis_folds.specs.Work.{pieces_of}
+use Rattle.rubis_pieces.specs.Work.{pieces_of}
 use Rattle.rubis_pieces.specs.declared.gathers.FaultKind.{FaultKind}
 use Rattle.rubis_pieces.specs.declared.gathers.Gathered.{Gathered}
 use Rattle.rubis_pieces.specs.declared.pieces.Done.{Done}

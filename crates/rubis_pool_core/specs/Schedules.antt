@@ -5,7 +5,7 @@ use Rattle.std.specs.List.Sorted.{IsPermutation}
 use Rattle.rubis_pieces.specs.declared.pieces.Piece.{Piece}
 use Rattle.rubis_pieces.specs.declared.pieces.Done.{Done}
 use Rattle.rubis_pool_core.specs.declared.event.Event.{Event}
-use Rattle.rubis_folds.specs.Work.{IsWorked}
+use Rattle.rubis_pieces.specs.Work.{IsWorked}
 use Rattle.rubis_pool_core.specs.Pieces.{IsWhole}
 use Rattle.rubis_pool_core.specs.Machine.{PoolState, opening_pool, with_posted, after_event, run_of}
 

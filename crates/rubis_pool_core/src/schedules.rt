@@ -1,7 +1,7 @@
 ghost use Rattle.std.specs.Prelude.{◌≡◌, IfOk, length};
 ghost use Rattle.std.specs.List.{All};
 ghost use Rattle.rubis_pool_core.specs.Machine.{run_of};
-ghost use Rattle.rubis_folds.specs.Work.{IsPiece};
+ghost use Rattle.rubis_pieces.specs.Work.{IsPiece};
 ghost use Rattle.rubis_pool_core.specs.Schedules.{Accounted};
 
 use crate::event::Event;

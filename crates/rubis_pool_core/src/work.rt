@@ -1,5 +1,5 @@
 ghost use Rattle.std.specs.Prelude.{◌≡◌, is_some, is_none, IfOk, OnOk, OnErr};
-ghost use Rattle.rubis_folds.specs.Work.{IsPiece};
+ghost use Rattle.rubis_pieces.specs.Work.{IsPiece};
 ghost use Rattle.rubis_pool_core.specs.Pieces.{begun, next_part, or_one_part_more};
 
 use rubis_pieces::{Done, Piece};

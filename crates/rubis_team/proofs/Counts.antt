@@ -18,8 +18,8 @@ use Rattle.rubis_pieces.specs.declared.gathers.FaultKind.{FaultKind}
 use Rattle.rubis_pieces.specs.declared.pieces.Piece.{Piece}
 use Rattle.rubis_pieces.specs.declared.pieces.Done.{Done}
 use Rattle.rubis_pieces.proofs.Numbers.{no_fault_if_moved}
-use Rattle.rubis_folds.specs.Following.{AreFollowed, IsFollowed}
-use Rattle.rubis_folds.proofs.Folded.{same_order}
+use Rattle.rubis_pieces.specs.Following.{AreFollowed, IsFollowed}
+use Rattle.rubis_pieces.proofs.Folded.{same_order}
 use Rattle.rubis_team.specs.Following.{bare}
 use Rattle.rubis_team.proofs.Lists.{one_posted, zip_length}
 use Rattle.rubis_team.proofs.Moved.{moves_along}

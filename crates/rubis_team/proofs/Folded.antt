@@ -8,17 +8,17 @@ use Rattle.std.proofs.lemmas.List.Sorted.{IsPermutation-sym, IsPermutation-trans
 use Rattle.rubis_shard.specs.States.{ShardState}
 use Rattle.rubis_shard.specs.Holdings.{AreInOrder}
 use Rattle.rubis_shard.specs.declared.shares.Share.{Share}
-use Rattle.rubis_folds.specs.Batches.{Belong, AreFolded, AreFoldedTo, IsBegun}
+use Rattle.rubis_pieces.specs.Batches.{Belong, AreFolded, AreFoldedTo, IsBegun}
 use Rattle.rubis_pieces.specs.Faults.{IsFault, numbers_of}
 use Rattle.rubis_pieces.specs.Gathered.{IsGathered, IsInOrder}
 use Rattle.rubis_pieces.specs.declared.gathers.FaultKind.{FaultKind}
 use Rattle.rubis_pieces.specs.declared.gathers.Gathered.{Gathered}
 use Rattle.rubis_pieces.specs.declared.pieces.Piece.{Piece}
 use Rattle.rubis_pieces.specs.declared.pieces.Done.{Done}
-use Rattle.rubis_folds.proofs.Counting.{leaves_no_more}
-use Rattle.rubis_folds.proofs.Folded.{folded_numbers, order_folded, begun, begun_unfinished, takes_batch, takes_whole}
+use Rattle.rubis_pieces.proofs.Counting.{leaves_no_more}
+use Rattle.rubis_pieces.proofs.Folded.{folded_numbers, order_folded, begun, begun_unfinished, takes_batch, takes_whole}
 use Rattle.rubis_board.specs.Passes.{PassState}
-use Rattle.rubis_folds.specs.Work.{IsWorked, pieces_of}
+use Rattle.rubis_pieces.specs.Work.{IsWorked, pieces_of}
 use Rattle.rubis_team.specs.Work.{AreWorked, AppliesBatch}
 use Rattle.rubis_team.specs.declared.batches.Worked.{Worked}
 use Rattle.rubis_team.proofs.Moved.{moves_along}

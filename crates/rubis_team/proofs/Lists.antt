@@ -8,10 +8,10 @@ use Rattle.std.proofs.lemmas.List.Sorted.{All-permutation, length_permutation}
 use Rattle.std.proofs.lemmas.List.Sorted.{IsPermutation-trans, IsPermutation-append_right, IsPermutation-append_comm}
 use Rattle.rubis_shard.specs.States.{ShardState}
 use Rattle.rubis_shard.specs.declared.shares.Share.{Share}
-use Rattle.rubis_folds.specs.Batches.{Belong}
+use Rattle.rubis_pieces.specs.Batches.{Belong}
 use Rattle.rubis_pieces.specs.declared.pieces.Piece.{Piece}
 use Rattle.rubis_board.specs.Rule.{IsPartOf}
-use Rattle.rubis_folds.specs.Work.{IsPiece, pieces_of}
+use Rattle.rubis_pieces.specs.Work.{IsPiece, pieces_of}
 
 -- ---- two lists side by side
 module _ {A B : Type 0} (R : A → B → Type 0) where

@@ -6,7 +6,7 @@ use Rattle.rubis_model.specs.Log.{Core}
 use Rattle.rubis_shard.specs.States.{ShardState}
 use Rattle.rubis_shard.specs.declared.shares.Share.{Share}
 use Rattle.rubis_pieces.specs.Shares.{AreShares}
-use Rattle.rubis_folds.specs.Batches.{AreFoldedTo, AreUnfinished, IsBegun, LeavesNoMore, TakesBatch, TakesWholeBatch}
+use Rattle.rubis_pieces.specs.Batches.{AreFoldedTo, AreUnfinished, IsBegun, LeavesNoMore, TakesBatch, TakesWholeBatch}
 use Rattle.rubis_pieces.specs.declared.pieces.Piece.{Piece}
 use Rattle.rubis_pieces.specs.declared.pieces.Done.{Done}
 use Rattle.rubis_pieces.specs.declared.pieces.Left.{Left}

@@ -1,8 +1,8 @@
 ghost use Rattle.std.specs.Prelude.{◌≡◌, ◌<◌, ◌≤◌, [], length, min, vec_len, IfOk, IfErr};
 ghost use Rattle.std.specs.List.Sorted.{IsPermutation};
 ghost use Rattle.rubis_shard.specs.Holdings.{AreInOrder};
-ghost use Rattle.rubis_folds.specs.Batches.{Belong};
-ghost use Rattle.rubis_folds.specs.Work.{pieces_of};
+ghost use Rattle.rubis_pieces.specs.Batches.{Belong};
+ghost use Rattle.rubis_pieces.specs.Work.{pieces_of};
 ghost use Rattle.rubis_team.specs.Work.{AreWorked, AppliesBatch};
 
 use crate::gate::Gate;

@@ -5,7 +5,7 @@ ghost use Rattle.std.specs.List.Sorted.{IsPermutation};
 ghost use Rattle.rubis_model.specs.Log.{cores};
 ghost use Rattle.rubis_shard.specs.Holdings.{AreInOrder};
 ghost use Rattle.rubis_shard.specs.PartHomes.{AreHomes};
-ghost use Rattle.rubis_folds.specs.Following.{AreFollowed};
+ghost use Rattle.rubis_pieces.specs.Following.{AreFollowed};
 ghost use Rattle.std.specs.Vec.{vec_capacity};
 ghost use Rattle.rubis_team.specs.Following.{AreRooms, bare};
 

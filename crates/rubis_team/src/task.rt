@@ -2,9 +2,8 @@
 
 ghost use Rattle.std.specs.Prelude.{◌≡◌};
 
-use rubis_folds::{fold_share, follow};
 use rubis_message::Message;
-use rubis_pieces::{Done, Piece};
+use rubis_pieces::{Done, Piece, fold_share, follow};
 use rubis_shard::PartHomes;
 
 /// What is done with each piece. It is lent to all workers.
@@ -26,7 +25,7 @@ pub trait Task: Sync {
 pub struct FoldShares;
 
 impl Task for FoldShares {
-    ghost use Rattle.rubis_folds.specs.Work.{IsPiece, IsWorked};
+    ghost use Rattle.rubis_pieces.specs.Work.{IsPiece, IsWorked};
 
     ghost Fits = { λ _ piece. IsPiece piece };
 
@@ -50,7 +49,7 @@ impl<'a> Task for FollowBatch<'a> {
     ghost use Rattle.std.specs.Prelude.{◌+◌, ◌<◌, ◌≤◌, length};
     ghost use Rattle.rubis_model.specs.Log.{cores};
     ghost use Rattle.rubis_shard.specs.PartHomes.{AreHomes};
-    ghost use Rattle.rubis_folds.specs.Following.{IsFollowed};
+    ghost use Rattle.rubis_pieces.specs.Following.{IsFollowed};
 
     ghost Fits = { λ f piece. (piece.shard.number < piece.shard.shards) × AreHomes piece.shard.shards (cores f.batch.now) f.homes.now × (f.first + length f.batch.now ≤ 1000001) };
 

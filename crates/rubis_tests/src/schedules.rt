@@ -2,7 +2,7 @@
 
 ghost use Rattle.std.specs.Prelude.{◌<◌, IfOk};
 ghost use Rattle.std.specs.List.{All};
-ghost use Rattle.rubis_folds.specs.Work.{IsPiece};
+ghost use Rattle.rubis_pieces.specs.Work.{IsPiece};
 
 use rubis_pieces::{Done, Piece, Places, gather};
 use rubis_pool_core::{Event, Pool, run};

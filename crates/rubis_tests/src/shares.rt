@@ -1,8 +1,8 @@
 // Two shares, folded by two workers while the caller's thread runs a closure.
 
 ghost use Rattle.std.specs.Prelude.{◌<◌, IfOk, length};
-ghost use Rattle.rubis_folds.specs.Batches.{Belong};
-ghost use Rattle.rubis_folds.specs.Work.{IsPiece};
+ghost use Rattle.rubis_pieces.specs.Batches.{Belong};
+ghost use Rattle.rubis_pieces.specs.Work.{IsPiece};
 ghost use Rattle.rubis_shard.specs.Holdings.{AreInOrder};
 
 use crate::schedules::{has_purchase, piece};

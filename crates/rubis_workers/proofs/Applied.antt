@@ -9,8 +9,8 @@ use Rattle.rubis_message.specs.Message.{Message}
 use Rattle.rubis_model.specs.Log.{Core, core, cores}
 use Rattle.rubis_shard.specs.Holdings.{AreInOrder, HoldsLog, IsSet, shard_of_log}
 use Rattle.rubis_shard.specs.States.{ShardState}
-use Rattle.rubis_folds.specs.Following.{AreFollowed, HoldsTo}
-use Rattle.rubis_folds.proofs.Behind.{follows_to}
+use Rattle.rubis_pieces.specs.Following.{AreFollowed, HoldsTo}
+use Rattle.rubis_pieces.proofs.Behind.{follows_to}
 use Rattle.rubis_workers.specs.Logs.{AppliesTo, AppliesWhole, StaysWithin}
 
 -- ---- stops, one more

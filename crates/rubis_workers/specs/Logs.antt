@@ -7,7 +7,7 @@ use Rattle.rubis_message.specs.Message.{Message, sites_of}
 use Rattle.rubis_model.specs.Log.{cores, fold_of, parts_of}
 use Rattle.rubis_shard.specs.Holdings.{HoldsLog}
 use Rattle.rubis_shard.specs.States.{ShardState}
-use Rattle.rubis_folds.specs.Following.{HoldsTo, StopWithin}
+use Rattle.rubis_pieces.specs.Following.{HoldsTo, StopWithin}
 
 -- the parts of the messages after the first `from` of a log, up to message `upto`
 abbrev pub parts_between : List Message → ℕ → ℕ → List Effect

@@ -8,8 +8,8 @@ ghost use Rattle.rubis_workers.specs.Logs.{AppliesTo, AppliesWhole};
 
 use crate::folding::apply_upto;
 use crate::pace::Pace;
-use rubis_folds::homes_of;
 use rubis_message::Message;
+use rubis_pieces::homes_of;
 use rubis_schema::Items;
 use rubis_shard::{Shard, Tables};
 use rubis_team::{Followed, Gate, follow_by_team};

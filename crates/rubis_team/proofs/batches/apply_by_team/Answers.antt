@@ -4,7 +4,7 @@ use Rattle.std.proofs.lemmas.List.Sorted.{All-permutation, length_permutation}
 use Rattle.rubis_pieces.specs.Faults.{IsFault, numbers_of}
 use Rattle.rubis_pieces.specs.Gathered.{IsGathered}
 use Rattle.rubis_board.specs.Passes.{PassState}
-use Rattle.rubis_folds.specs.Work.{IsPiece, IsWorked, pieces_of}
+use Rattle.rubis_pieces.specs.Work.{IsPiece, IsWorked, pieces_of}
 use Rattle.rubis_team.proofs.Lists.{belong_length, all_pieces, zip_length}
 use Rattle.rubis_team.proofs.Folded.{all_taken, no_fault, gathered, applies}
 use Rattle.rubis_team.proofs.batches.apply_by_team.Goals as goal

@@ -2,7 +2,7 @@ use Rattle.std.proofs.Common.{rules, ◌≡◌, List, [], length, sym, subst}
 use Rattle.rubis_shard.specs.States.{ShardState}
 use Rattle.rubis_shard.specs.Holdings.{AreInOrder}
 use Rattle.rubis_pieces.specs.Shares.{AreShares}
-use Rattle.rubis_folds.proofs.Folded.{belongs}
+use Rattle.rubis_pieces.proofs.Folded.{belongs}
 use Rattle.rubis_tests.proofs.meeting.apply_none_beside.Goals as goal
 
 pub apply_beside-worked-requires-clause-belong : goal.apply_beside-worked-requires-clause-belong

@@ -1,5 +1,5 @@
 use Rattle.std.proofs.Common.{◌≡◌, [], ◌∷◌, sym, subst}
-use Rattle.rubis_folds.specs.Batches.{Belong}
+use Rattle.rubis_pieces.specs.Batches.{Belong}
 use Rattle.rubis_tests.proofs.shares.lists_of.Goals as goal
 
 pub returns : goal.returns

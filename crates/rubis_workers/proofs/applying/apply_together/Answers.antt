@@ -3,7 +3,7 @@ use Rattle.std.specs.Prelude.{IfOk, slice_index, slice_range}
 use Rattle.rubis_model.specs.Log.{cores}
 use Rattle.rubis_shard.specs.States.{ShardState}
 use Rattle.rubis_shard.specs.Holdings.{AreInOrder}
-use Rattle.rubis_folds.specs.Following.{AreFollowed}
+use Rattle.rubis_pieces.specs.Following.{AreFollowed}
 use Rattle.rubis_workers.proofs.Applied.{nothing, on_err, set_followed, together, whole, within_batch}
 use Rattle.rubis_workers.proofs.NextMessage.{log_within}
 use Rattle.rubis_workers.proofs.applying.apply_together.Goals as goal

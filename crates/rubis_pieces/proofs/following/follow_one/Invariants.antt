@@ -1,0 +1,8 @@
+use Rattle.std.proofs.Common.{◌≡◌, length}
+use Rattle.rubis_model.specs.Log.{cores}
+use Rattle.rubis_pieces.specs.Following.{GoesTo}
+use Rattle.rubis_pieces.proofs.following.follow_one.Given as goal
+
+abbrev pub invariant-loop-place : goal.invariant-loop-place
+invariant-loop-place l =
+    (length l.tables ≡ length l.fn.tables) × GoesTo l.number l.from l.place (cores l.log) l.fn.tables l.tables

@@ -1,0 +1,13 @@
+use Rattle.std.proofs.Common.{◌≡◌, ℕ, length}
+use Rattle.rubis_model.specs.Log.{cores}
+use Rattle.rubis_pieces.specs.Following.{AreFurther, HoldsTo, StopWithin}
+use Rattle.rubis_pieces.proofs.following.follow_rest.Given as goal
+
+abbrev pub invariant-loop-number : goal.invariant-loop-number
+invariant-loop-number l = record {
+  many : length l.tables ≡ length l.fn.tables;
+  counts : length l.stops ≡ length l.fn.stops;
+  further : AreFurther l.fn.stops l.stops;
+  within : StopWithin 0 l.upto l.stops;
+  holds : (shards : ℕ) → HoldsTo shards (cores l.log) l.fn.stops l.fn.tables → HoldsTo shards (cores l.log) l.stops l.tables;
+}
