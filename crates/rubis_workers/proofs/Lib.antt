@@ -1,3 +1,7 @@
 pub mod Between
 pub mod NextMessage
 pub mod Applied
+mod Lists
+mod Moved
+mod Folded
+mod Counts

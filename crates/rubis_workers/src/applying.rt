@@ -7,12 +7,13 @@ ghost use Rattle.rubis_shard.specs.Holdings.{HoldsLog, IsSet};
 ghost use Rattle.rubis_workers.specs.Logs.{AppliesTo, AppliesWhole};
 
 use crate::folding::apply_upto;
+use crate::following::{Followed, follow_by_team};
+use crate::gate::Gate;
 use crate::pace::Pace;
 use rubis_message::Message;
 use rubis_pieces::homes_of;
 use rubis_schema::Items;
 use rubis_shard::{Shard, Tables};
-use rubis_team::{Followed, Gate, follow_by_team};
 use std::alloc::{AllocError, Global};
 use std::sync::Wait;
 use std::thread::Threads;

@@ -1,11 +1,20 @@
 //! Batches of a log applied to tables: by the caller's thread alone, or by a team of several workers.
+//! A team of workers who take the shards of a batch from a board, fold each shard's parts on it, and give it back.
 #![tactic(auto)]
 
 mod applying;
+mod batches;
 mod folding;
+mod following;
+mod gate;
 mod pace;
+mod rooms;
+mod task;
+mod team;
 
 pub use applying::apply_batch;
+pub use batches::{TeamResult, Unstarted, Worked, apply_all, apply_beside, apply_by_team};
 pub use folding::{apply_upto, count_parts};
+pub use following::{Followed, follow_by_team};
+pub use gate::{Free, Gate};
 pub use pace::Pace;
-pub use rubis_team::{Free, Gate, Unstarted, Worked, apply_all, apply_beside};

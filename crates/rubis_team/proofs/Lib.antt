@@ -1,4 +1,0 @@
-mod Lists
-mod Moved
-mod Folded
-mod Counts

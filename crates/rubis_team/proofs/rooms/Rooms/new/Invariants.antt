@@ -1,7 +1,0 @@
-use Rattle.std.proofs.Common.{◌≡◌, ◌+◌, vec_len}
-use Rattle.std.specs.List.{All}
-use Rattle.rubis_team.specs.Work.{IsRoom}
-use Rattle.rubis_team.proofs.rooms.Rooms.new.Given as goal
-
-abbrev pub invariant-loop : goal.invariant-loop
-invariant-loop l = (vec_len l.others + 1 ≡ l.counter) × All (IsRoom l.pieces) l.others.items

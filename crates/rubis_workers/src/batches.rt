@@ -1,0 +1,186 @@
+ghost use Rattle.std.specs.Prelude.{◌≡◌, ◌<◌, ◌≤◌, [], length, min, vec_len, IfOk, IfErr};
+ghost use Rattle.std.specs.List.Sorted.{IsPermutation};
+ghost use Rattle.rubis_shard.specs.Holdings.{AreInOrder};
+ghost use Rattle.rubis_pieces.specs.Batches.{Belong};
+ghost use Rattle.rubis_pieces.specs.Work.{pieces_of};
+ghost use Rattle.rubis_workers.specs.Work.{AreWorked, AppliesBatch};
+
+use crate::gate::Gate;
+use crate::rooms::Rooms;
+use crate::task::FoldShares;
+use crate::team::{Teamwork, fan_out};
+use rubis_board::Poster;
+use rubis_pieces::{Left, Piece, gather};
+use rubis_schema::Items;
+use rubis_shard::{Shard, Share};
+use std::alloc::Global;
+use std::sync::Wait;
+use std::thread::Threads;
+
+/// The shards in order of number, and the shares that aren't folded whole, in order of number.
+#[derive(Drop)]
+pub struct Worked {
+    pub shards: Items<Shard>,
+    pub left: Items<Left>,
+}
+
+/// What a team made of a batch, and who took the shards. The latter depends on the schedule, and nothing else does.
+#[derive(Drop)]
+pub struct TeamResult {
+    pub worked: Worked,
+    /// How many threads were to take shards, the caller's included, and any that the system refused to start.
+    pub team: usize,
+    /// How many of the shards threads other than the caller's took.
+    pub others: usize,
+}
+
+/// There was no room to begin. Both lists are as they came.
+#[derive(Drop)]
+pub struct Unstarted {
+    pub shards: Items<Shard>,
+    pub shares: Items<Share>,
+}
+
+// Posts each shard with its share.
+fn post_all<R: Wait>(
+    rt: &R,
+    mut poster: Poster,
+    mut shards: Vec<Shard>,
+    mut shares: Vec<Share>,
+) -> Poster
+    requires many { vec_len shards ≡ vec_len shares }
+    requires poster { (poster.posted ≡ []) × (poster.capacity ≡ vec_len shards) }
+    ensures posted { IsPermutation (pieces_of shards.items shares.items) result.posted }
+    ensures many { length result.posted ≡ vec_len shards }
+{
+    for _ in 0..shards.len() {
+        let Some(shard) = shards.pop() else {
+            unreachable!()
+        };
+        let Some(share) = shares.pop() else {
+            unreachable!()
+        };
+        let Ok(()) = poster.post(rt, Piece { shard, share }) else {
+            unreachable!()
+        };
+    }
+    poster
+}
+
+/// Folds each share on its shard as `apply_beside` does, and tells who took the shards.
+pub fn apply_by_team<G: Gate, R: Threads + Wait + Sync, A, F: FnOnce() -> A>(
+    rt: &R,
+    alloc: Global,
+    shards: Vec<Shard>,
+    shares: Vec<Share>,
+    workers: usize,
+    gate: &G,
+    beside: F,
+) -> (Result<TeamResult, Unstarted>, A)
+    requires some { 0 < length shards.items }
+    requires order { AreInOrder shards.items }
+    requires belong { Belong shards.items shares.items }
+    requires workers { (0 < workers) × (workers ≤ 16) }
+    requires beside { F.pre beside }
+    ensures folded { IfOk result.0 (λ r. AreWorked shards.items shares.items r.worked) }
+    ensures batch { IfOk result.0 (λ r. AppliesBatch shards.items shares.items r.worked) }
+    ensures others { IfOk result.0 (λ r. r.others ≤ length shards.items) }
+    ensures alone { workers ≡ 1 → IfOk result.0 (λ r. r.others ≡ 0) }
+    ensures back { IfErr result.0 (λ unstarted. (unstarted.shards ≡ shards.items) × (unstarted.shares ≡ shares.items)) }
+    ensures answer { F.post beside result.1 }
+    ensures team { IfOk result.0 (λ r. r.team ≡ min workers (length shards.items)) }
+    ensures few { IfOk result.0 (λ r. (0 < r.team) × (r.team ≤ workers)) }
+{
+    let pieces = shards.len();
+    let Ok(rooms) = Rooms::new(alloc, pieces, workers.min(pieces)) else {
+        let unstarted = Unstarted {
+            shards: shards.into(),
+            shares: shares.into(),
+        };
+        return (Err(unstarted), beside());
+    };
+    let Rooms {
+        poster,
+        places,
+        mine,
+        others,
+    } = rooms;
+    let poster = post_all(rt, poster, shards, shares);
+    let (board, pass) = poster.open();
+    let Teamwork {
+        pass,
+        list,
+        others,
+        answer,
+        team,
+    } = fan_out(rt, &board, pass, mine, others, &FoldShares, gate, beside);
+    board.close(pass);
+    match gather(list, places) {
+        Ok(gathered) => {
+            let worked = Worked {
+                shards: gathered.shards,
+                left: gathered.left,
+            };
+            let result = TeamResult {
+                worked,
+                team,
+                others,
+            };
+            (Ok(result), answer)
+        }
+        Err(_) => unreachable!(),
+    }
+}
+
+/// Folds each share on its shard, as far as memory goes, by at most `workers` threads, from 1 to 16, and no more than there
+/// are shards. The caller's thread is one of them: once it has started the others it calls `beside`, and then takes shards
+/// too. Each shard goes over the board, one with an empty share too, and the gate is called for each that is taken. Where
+/// there is no room to begin, nothing is posted and both lists come back. `beside` is called once in either case, and its
+/// answer is returned. A thread that the system refuses to start leaves its work to the others. The shards and what is left
+/// are those of one thread, whoever took what.
+pub fn apply_beside<G: Gate, R: Threads + Wait + Sync, A, F: FnOnce() -> A>(
+    rt: &R,
+    alloc: Global,
+    shards: Vec<Shard>,
+    shares: Vec<Share>,
+    workers: usize,
+    gate: &G,
+    beside: F,
+) -> (Result<Worked, Unstarted>, A)
+    requires some { 0 < length shards.items }
+    requires order { AreInOrder shards.items }
+    requires belong { Belong shards.items shares.items }
+    requires workers { (0 < workers) × (workers ≤ 16) }
+    requires beside { F.pre beside }
+    ensures folded { IfOk result.0 (AreWorked shards.items shares.items) }
+    ensures batch { IfOk result.0 (AppliesBatch shards.items shares.items) }
+    ensures back { IfErr result.0 (λ unstarted. (unstarted.shards ≡ shards.items) × (unstarted.shares ≡ shares.items)) }
+    ensures answer { F.post beside result.1 }
+{
+    let (result, answer) = apply_by_team(rt, alloc, shards, shares, workers, gate, beside);
+    match result {
+        Ok(result) => (Ok(result.worked), answer),
+        Err(unstarted) => (Err(unstarted), answer),
+    }
+}
+
+/// Folds each share on its shard as `apply_beside` does, with nothing to do meanwhile.
+pub fn apply_all<G: Gate, R: Threads + Wait + Sync>(
+    rt: &R,
+    alloc: Global,
+    shards: Vec<Shard>,
+    shares: Vec<Share>,
+    workers: usize,
+    gate: &G,
+) -> Result<Worked, Unstarted>
+    requires some { 0 < length shards.items }
+    requires order { AreInOrder shards.items }
+    requires belong { Belong shards.items shares.items }
+    requires workers { (0 < workers) × (workers ≤ 16) }
+    ensures folded { IfOk result (AreWorked shards.items shares.items) }
+    ensures batch { IfOk result (AppliesBatch shards.items shares.items) }
+    ensures back { IfErr result (λ unstarted. (unstarted.shards ≡ shards.items) × (unstarted.shares ≡ shares.items)) }
+{
+    let (worked, ()) = apply_beside(rt, alloc, shards, shares, workers, gate, || ());
+    worked
+}

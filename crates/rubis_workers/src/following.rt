@@ -1,0 +1,142 @@
+//! A batch folded by a team straight from its messages.
+
+ghost use Rattle.std.specs.Prelude.{◌≡◌, ◌+◌, ◌<◌, ◌≤◌, [], length, map as each, min, vec_len, IfOk, IfErr};
+ghost use Rattle.std.specs.List.Sorted.{IsPermutation};
+ghost use Rattle.rubis_model.specs.Log.{cores};
+ghost use Rattle.rubis_shard.specs.Holdings.{AreInOrder};
+ghost use Rattle.rubis_shard.specs.PartHomes.{AreHomes};
+ghost use Rattle.rubis_pieces.specs.Following.{AreFollowed};
+ghost use Rattle.std.specs.Vec.{vec_capacity};
+ghost use Rattle.rubis_workers.specs.Following.{AreRooms, bare};
+
+use crate::gate::Gate;
+use crate::rooms::Rooms;
+use crate::task::FollowBatch;
+use crate::team::{Teamwork, fan_out};
+use rubis_board::Poster;
+use rubis_message::Message;
+use rubis_pieces::{Counted, Piece, gather_counted};
+use rubis_schema::Items;
+use rubis_shard::{PartHomes, Shard, Share};
+use std::alloc::{AllocError, Global};
+use std::sync::Wait;
+use std::thread::Threads;
+
+/// What a team made of a batch that it folded straight from the messages, and who took the shards. The latter depends on the
+/// schedule, and nothing else does.
+#[derive(Drop)]
+pub struct Followed {
+    /// In order of number.
+    pub shards: Items<Shard>,
+    /// How many of the messages are done of each.
+    pub dones: Items<usize>,
+    /// How many threads were to take shards, the caller's included, and any that the system refused to start.
+    pub team: usize,
+    /// How many of the shards threads other than the caller's took.
+    pub others: usize,
+}
+
+// Posts each shard, with no share.
+fn post_bare<R: Wait>(rt: &R, alloc: Global, mut poster: Poster, mut shards: Vec<Shard>) -> Poster
+    requires poster { (poster.posted ≡ []) × (poster.capacity ≡ vec_len shards) }
+    ensures posted { IsPermutation (each bare shards.items) result.posted }
+    ensures many { length result.posted ≡ vec_len shards }
+{
+    for _ in 0..shards.len() {
+        let Some(shard) = shards.pop() else {
+            unreachable!()
+        };
+        let share = Share {
+            number: shard.number(),
+            effects: Items::new(alloc),
+        };
+        let Ok(()) = poster.post(rt, Piece { shard, share }) else {
+            unreachable!()
+        };
+    }
+    poster
+}
+
+// The room for a batch: that of the team, and for how much is done of each shard.
+fn rooms_for(
+    alloc: Global,
+    pieces: usize,
+    workers: usize,
+) -> Result<(Rooms, Vec<usize>), AllocError>
+    requires { (0 < pieces) × (0 < workers) }
+    ensures rooms { IfOk result (λ r. AreRooms pieces workers r.0) }
+    ensures dones { IfOk result (λ r. (r.1.items ≡ []) × (pieces ≤ vec_capacity r.1)) }
+{
+    let rooms = Rooms::new(alloc, pieces, workers)?;
+    let dones = Vec::with_capacity(alloc, pieces)?;
+    Ok((rooms, dones))
+}
+
+/// Folds the parts of a batch on the shards of a set, each on its home, straight from the messages and as far as memory goes, by at
+/// most `workers` threads, from 1 to 16, and no more than there are shards. The caller's thread is one of them: once it has
+/// started the others it calls `beside`, and then takes shards too. The gate is called for each shard that is taken. Where there
+/// is no room to begin, the shards come back. `beside` is called once in either case. `homes` has the homes of the parts of
+/// each message, and the first message is that entry of the log, from 1; no entry is above 1,000,000.
+pub fn follow_by_team<G: Gate, R: Threads + Wait + Sync, A, F: FnOnce() -> A>(
+    rt: &R,
+    alloc: Global,
+    shards: Vec<Shard>,
+    batch: &[Message],
+    homes: &[PartHomes],
+    first: u32,
+    workers: usize,
+    gate: &G,
+    beside: F,
+) -> (Result<Followed, Items<Shard>>, A)
+    requires some { 0 < length shards.items }
+    requires order { AreInOrder shards.items }
+    requires entries { first + length batch.now ≤ 1000001 }
+    requires homes { AreHomes (length shards.items) (cores batch.now) homes.now }
+    requires workers { (0 < workers) × (workers ≤ 16) }
+    requires beside { F.pre beside }
+    ensures followed { IfOk result.0 (λ r. AreFollowed first (cores batch.now) shards.items r.shards r.dones) }
+    ensures others { IfOk result.0 (λ r. r.others ≤ length shards.items) }
+    ensures alone { workers ≡ 1 → IfOk result.0 (λ r. r.others ≡ 0) }
+    ensures back { IfErr result.0 (λ back. back ≡ shards.items) }
+    ensures answer { F.post beside result.1 }
+    ensures team { IfOk result.0 (λ r. r.team ≡ min workers (length shards.items)) }
+    ensures few { IfOk result.0 (λ r. (0 < r.team) × (r.team ≤ workers)) }
+{
+    let pieces = shards.len();
+    let Ok((rooms, dones)) = rooms_for(alloc, pieces, workers.min(pieces)) else {
+        return (Err(shards.into()), beside());
+    };
+    let Rooms {
+        poster,
+        places,
+        mine,
+        others,
+    } = rooms;
+    let poster = post_bare(rt, alloc, poster, shards);
+    let (board, pass) = poster.open();
+    let task = FollowBatch {
+        batch,
+        homes,
+        first,
+    };
+    let Teamwork {
+        pass,
+        list,
+        others,
+        answer,
+        team,
+    } = fan_out(rt, &board, pass, mine, others, &task, gate, beside);
+    board.close(pass);
+    match gather_counted(list, places, dones) {
+        Ok(counted) => {
+            let followed = Followed {
+                shards: counted.shards,
+                dones: counted.dones,
+                team,
+                others,
+            };
+            (Ok(followed), answer)
+        }
+        Err(_) => unreachable!(),
+    }
+}
