@@ -9,7 +9,7 @@ use Rattle.rubis_model.specs.Answers.{arrived_rows}
 use Rattle.rubis_model.specs.Runs.{answers, input_of, input_step}
 use Rattle.rubis_model.specs.Runs.Input.{Came}
 use Rattle.rubis_model.specs.Site.{Place, Replica, arrived}
-use Rattle.rubis_follower.specs.Arrivals.{TakesFirst, after_all, answers_to}
+use Rattle.rubis_replica.specs.Arrivals.{TakesFirst, after_all, answers_to}
 use Rattle.rubis_replica.specs.State.{SiteState}
 use Rattle.rubis_engine.specs.Accounts.{Account, AnswersRecord, Keeps}
 use Rattle.rubis_engine.specs.declared.service.Course.TheVariants.{GoesOn}

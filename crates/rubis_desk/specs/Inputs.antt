@@ -8,8 +8,8 @@ use Rattle.rubis_message.specs.declared.faults.ReadFault.TheVariants.{BadRecord}
 use Rattle.rubis_message.specs.declared.tokens.Packet.{Packet}
 use Rattle.rubis_model.specs.Runs.{Input as Meant, input_step}
 use Rattle.rubis_replica.specs.State.{SiteState}
-use Rattle.rubis_follower.specs.declared.faults.Fault.{Fault}
-use Rattle.rubis_follower.specs.declared.faults.Fault.TheVariants.{Refused}
+use Rattle.rubis_replica.specs.declared.faults.Fault.{Fault}
+use Rattle.rubis_replica.specs.declared.faults.Fault.TheVariants.{Refused}
 use Rattle.rubis_engine.specs.Text.{rows_text}
 use Rattle.rubis_engine.specs.declared.fault.OutOfMemory.{OutOfMemory}
 

@@ -8,7 +8,7 @@ use Rattle.rubis_model.specs.Answers.{arrived_rows}
 use Rattle.rubis_model.specs.Runs.{answers, input_step}
 use Rattle.rubis_model.specs.Runs.Input.{Came}
 use Rattle.rubis_model.specs.Site.{Place, Replica, arrived}
-use Rattle.rubis_follower.specs.Arrivals.{after_all}
+use Rattle.rubis_replica.specs.Arrivals.{after_all}
 use Rattle.rubis_replica.specs.State.{SiteState}
 use Rattle.rubis_engine.specs.Accounts.{Account}
 use Rattle.rubis_engine.specs.Text.{rows_text}

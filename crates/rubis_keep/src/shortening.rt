@@ -4,7 +4,7 @@ ghost use Rattle.std.specs.Prelude.{◌≡◌, ◌≤◌, ◌++◌, ◌∷◌, [
 ghost use Rattle.rubis_message.specs.Grammar.{IsPacket, IsRequest};
 ghost use Rattle.rubis_message.specs.Message.{sites_of};
 ghost use Rattle.rubis_schema.specs.declared.refusals.Refusal.{Refusal};
-ghost use Rattle.rubis_follower.specs.declared.faults.Fault.TheVariants as Fault;
+ghost use Rattle.rubis_replica.specs.declared.faults.Fault.TheVariants as Fault;
 ghost use Rattle.rubis_message.specs.declared.tokens.Packet.TheVariants as Packet;
 ghost use Rattle.rubis_message.specs.Readings.{packet_of};
 ghost use Rattle.rubis_model.specs.Runs.{input_of};

@@ -24,11 +24,11 @@ use Rattle.rubis_model.specs.Site.{Place, Replica, asked, generating, standing_o
 use Rattle.rubis_shard.specs.Holdings.{union}
 use Rattle.rubis_shadow.specs.declared.numbered.Misfit.{Misfit}
 use Rattle.rubis_pieces.specs.Misfits.{AreOfTheLog}
-use Rattle.rubis_follower.specs.Follow.{Follower, FollowsAt}
-use Rattle.rubis_follower.specs.Progress.{Progress, resting_at}
+use Rattle.rubis_replica.specs.Follow.{Follower, FollowsAt}
+use Rattle.rubis_replica.specs.Progress.{Progress, resting_at}
 use Rattle.rubis_replica.specs.State.{AnswersAsTheStep, IsDecision, SiteState, decision_at, with_all_applied}
-use Rattle.rubis_follower.specs.declared.faults.Fault.{Fault}
-use Rattle.rubis_follower.specs.declared.faults.Fault.TheVariants.{Refused, Behind, Memory}
+use Rattle.rubis_replica.specs.declared.faults.Fault.{Fault}
+use Rattle.rubis_replica.specs.declared.faults.Fault.TheVariants.{Refused, Behind, Memory}
 use Rattle.rubis_replica.proofs.Growing.{all_at, log_in_limits, tables_of_log}
 use Rattle.rubis_schema.specs.declared.refusals.Refusal.{Refusal}
 

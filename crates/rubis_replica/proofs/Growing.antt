@@ -14,9 +14,9 @@ use Rattle.rubis_model.specs.Log.{cores, fold_of}
 use Rattle.rubis_model.specs.Site.{Place, Replica, after_made, arrived, made, passed, passing}
 use Rattle.rubis_shard.specs.Holdings.{HoldsLog, union}
 use Rattle.rubis_shard.proofs.Unions.{union_of_log}
-use Rattle.rubis_follower.specs.Follow.{Follower, FollowsAt}
-use Rattle.rubis_follower.specs.Progress.{IsProgress, Progress, resting_at}
-use Rattle.rubis_follower.proofs.Extending.{Extends, arrived_extends, follows_extended, settle_extends}
+use Rattle.rubis_replica.specs.Follow.{Follower, FollowsAt}
+use Rattle.rubis_replica.specs.Progress.{IsProgress, Progress, resting_at}
+use Rattle.rubis_replica.proofs.Extending.{Extends, arrived_extends, follows_extended, settle_extends}
 
 -- ---- a message that the site makes
 

@@ -1,3 +1,7 @@
 pub mod Growing
 pub mod Deciding
 pub mod Listing
+pub mod Standing
+pub mod Extending
+pub mod Comings
+pub mod Kept

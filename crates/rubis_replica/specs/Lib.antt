@@ -1,2 +1,7 @@
 pub mod Setup
 pub mod State
+pub mod Arrivals
+pub mod Counts
+pub mod Faults
+pub mod Follow
+pub mod Progress

@@ -2,7 +2,7 @@
 use Rattle.std.specs.Prelude.{ℕ, ◌<◌}
 use Rattle.rubis_schema.specs.declared.limits.TheConstants.{BATCH_MAX, KEEP_MAX, SHARDS_MAX, SITES_MAX, WORKERS_MAX}
 use Rattle.rubis_model.specs.Site.{Place}
-use Rattle.rubis_follower.specs.Counts.{IsCount}
+use Rattle.rubis_replica.specs.Counts.{IsCount}
 
 -- the site, one of `sites`; its shards, workers and batches; how many messages it keeps
 pub record Setup : Type 0 where

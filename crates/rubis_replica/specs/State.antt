@@ -9,9 +9,9 @@ use Rattle.rubis_generate.specs.Decision.{decision}
 use Rattle.rubis_message.specs.declared.answers.Arrival.{Arrival}
 use Rattle.rubis_message.specs.declared.answers.Arrival.TheVariants.{Released, Held, Repeat}
 use Rattle.rubis_model.specs.Site.{Place, Replica, rows_at, standing_of}
-use Rattle.rubis_follower.specs.Progress.{HasBegun, IsBatched, Progress, resting_at}
-use Rattle.rubis_follower.specs.declared.faults.Fault.{Fault}
-use Rattle.rubis_follower.specs.declared.faults.Fault.TheVariants.{Refused, Behind, Memory}
+use Rattle.rubis_replica.specs.Progress.{HasBegun, IsBatched, Progress, resting_at}
+use Rattle.rubis_replica.specs.declared.faults.Fault.{Fault}
+use Rattle.rubis_replica.specs.declared.faults.Fault.TheVariants.{Refused, Behind, Memory}
 
 -- a site: which one, its state, how far its tables are in its log, and how many messages a batch has
 pub record SiteState : Type 0 where

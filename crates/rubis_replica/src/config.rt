@@ -1,6 +1,6 @@
 ghost use Rattle.std.specs.Prelude.{◌≡◌, ◌≤◌, ◌<◌, ◌↔◌, IsTrue};
 ghost use Rattle.std.specs.Option.{SomeIff};
-ghost use Rattle.rubis_follower.specs.Counts.{IsCount};
+ghost use Rattle.rubis_replica.specs.Counts.{IsCount};
 ghost use Rattle.rubis_replica.specs.Setup.{IsSetup, Setup};
 
 use rubis_schema::{BATCH_MAX, Hashes, KEEP_MAX, SHARDS_MAX, SITES_MAX, WORKERS_MAX};

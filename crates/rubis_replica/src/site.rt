@@ -5,13 +5,15 @@ ghost use Rattle.rubis_model.specs.Log.{cores, fold_of};
 ghost use Rattle.rubis_model.specs.Runs.{listed, listing_rows};
 ghost use Rattle.rubis_model.specs.Site.{arrived, asked, opening_at, passed, took};
 ghost use Rattle.rubis_release.specs.Answers.{IsAdmitted};
-ghost use Rattle.rubis_follower.specs.Arrivals.{IsStop, TakesFirst};
-ghost use Rattle.rubis_follower.specs.Progress.{BatchGoesOn, IsAhead, IsBatched, IsProgress, is_behind, resting_at};
+ghost use Rattle.rubis_replica.specs.Arrivals.{IsStop, TakesFirst};
+ghost use Rattle.rubis_replica.specs.Progress.{BatchGoesOn, IsAhead, IsBatched, IsProgress, is_behind, resting_at};
 ghost use Rattle.rubis_replica.specs.Setup.{setup_place};
 ghost use Rattle.rubis_replica.specs.State.{AddsRows, AnswersAsTheStep, IsDecision, IsCutFault, IsReadFault, Lists, NeedsNoTables, TakesIn, WaitsBehind, pending, with_all_applied};
 
+use crate::arriving::Arrived;
 use crate::config::Config;
-use rubis_follower::{Arrived, Fault, Follower};
+use crate::faults::Fault;
+use crate::follower::Follower;
 use rubis_generate::decide;
 use rubis_listing::{SharedSink, list_log, list_misfits};
 use rubis_message::{Arrival, Message, Taken, Token};
@@ -47,7 +49,7 @@ impl<G: Gate + Drop> Drop for Site<G> {
 }
 
 impl<G: Gate> Model for Site<G> {
-    ghost use Rattle.rubis_follower.specs.Follow.{FollowsAt};
+    ghost use Rattle.rubis_replica.specs.Follow.{FollowsAt};
     ghost use Rattle.rubis_replica.specs.State.{SiteState};
 
     ghost Value = { SiteState };

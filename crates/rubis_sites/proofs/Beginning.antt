@@ -6,7 +6,7 @@ use Rattle.std.proofs.lemmas.Bool.{cases_lt}
 use Rattle.std.proofs.lemmas.List.FromFn.{get_or-map-range_with_len, length-map-range_with_len, map-range_with_len_more}
 use Rattle.std.proofs.lemmas.Option.{slice_get-get_or, slice_get_past}
 use Rattle.rubis_model.specs.Site.{opening_at}
-use Rattle.rubis_follower.specs.Progress.{resting_at}
+use Rattle.rubis_replica.specs.Progress.{resting_at}
 use Rattle.rubis_replica.specs.Setup.{setup_place}
 use Rattle.rubis_replica.specs.State.{SiteState}
 use Rattle.rubis_sites.specs.Setup.{WorldSetup, setup_at}

@@ -1,7 +1,7 @@
 ghost use Rattle.std.specs.Prelude.{◌≡◌, ◌<◌};
 ghost use Rattle.std.specs.Option.{SomeIff};
 ghost use Rattle.rubis_schema.specs.declared.limits.TheConstants.{KEEP_MAX, SITES_MAX};
-ghost use Rattle.rubis_follower.specs.Counts.{IsCount};
+ghost use Rattle.rubis_replica.specs.Counts.{IsCount};
 ghost use Rattle.rubis_sites.specs.Setup.{IsWorldSetup, WorldSetup, setup_at};
 
 use rubis_replica::Config;

@@ -9,8 +9,8 @@ ghost use Rattle.rubis_model.specs.Sound.{AllDeliverable, IsDeliverable};
 ghost use Rattle.rubis_model.specs.System.{IsEvent, coming, happens, packet_at, requested, start};
 ghost use Rattle.rubis_model.specs.System.Event.{At, Deliver};
 ghost use Rattle.rubis_model.specs.System.{site as site_of};
-ghost use Rattle.rubis_follower.specs.Counts.{IsCount};
-ghost use Rattle.rubis_follower.specs.declared.faults.Fault.TheVariants as Fault;
+ghost use Rattle.rubis_replica.specs.Counts.{IsCount};
+ghost use Rattle.rubis_replica.specs.declared.faults.Fault.TheVariants as Fault;
 ghost use Rattle.rubis_sites.specs.Worlds.{Asks, Steps, left_at, opening_world};
 ghost use Rattle.rubis_sites.specs.declared.faults.WorldFault.TheVariants as WorldFault;
 

@@ -8,7 +8,7 @@ ghost use Rattle.rubis_schema.specs.declared.limits.TheConstants.{SITES_MAX};
 ghost use Rattle.rubis_message.specs.declared.answers.Verdict.TheVariants.{Agree};
 ghost use Rattle.rubis_model.specs.Verdict.{verdict};
 ghost use Rattle.rubis_model.specs.WorldRecords.{logs_of};
-ghost use Rattle.rubis_follower.specs.declared.faults.Fault.TheVariants as Fault;
+ghost use Rattle.rubis_replica.specs.declared.faults.Fault.TheVariants as Fault;
 ghost use Rattle.rubis_sites.specs.Worlds.{Asks, ComesTo, Steps, left_at, opening_world};
 ghost use Rattle.rubis_sites.specs.declared.faults.WorldFault.TheVariants as WorldFault;
 ghost use Rattle.rubis_world.specs.Worlds.{IsCheckFault};

@@ -1,5 +1,5 @@
 use Rattle.std.proofs.Common.{◌≡◌, ◌∙◌, ◌+◌, ◌-◌, ◌++◌, ap, arith, length, subst, sym}
-use Rattle.rubis_follower.specs.Arrivals.{TakesFirst}
+use Rattle.rubis_replica.specs.Arrivals.{TakesFirst}
 use Rattle.rubis_engine.proofs.RunFacts.{if_not_some}
 use Rattle.rubis_desk.proofs.WindowFacts.{answers-few, flush_keeps}
 use Rattle.rubis_engine.specs.Text.{rows_text}

@@ -1,5 +1,5 @@
-use Rattle.rubis_follower.proofs.Standing.{follows_on}
-use Rattle.rubis_follower.proofs.Kept.{log_counts}
+use Rattle.rubis_replica.proofs.Standing.{follows_on}
+use Rattle.rubis_replica.proofs.Kept.{log_counts}
 use Rattle.rubis_replica.proofs.site.Site.apply_batch.Goals as goal
 
 pub invariant_of-self : goal.invariant_of-self

@@ -1,7 +1,7 @@
 use Rattle.std.proofs.Common.{sym, subst}
 use Rattle.rubis_workers.specs.Logs.{AreWithin}
-use Rattle.rubis_follower.proofs.Standing.{follows_on}
-use Rattle.rubis_follower.proofs.Kept.{log_counts}
+use Rattle.rubis_replica.proofs.Standing.{follows_on}
+use Rattle.rubis_replica.proofs.Kept.{log_counts}
 use Rattle.rubis_replica.proofs.site.Site.catch_up.Goals as goal
 
 pub invariant_of-self : goal.invariant_of-self

@@ -1,6 +1,6 @@
 use Rattle.std.proofs.Common.{rules, ◌≡◌, ap, ◌∙◌}
 use Rattle.rubis_model.specs.Site.{opening_at}
-use Rattle.rubis_follower.specs.Progress.{resting_at}
+use Rattle.rubis_replica.specs.Progress.{resting_at}
 use Rattle.rubis_replica.specs.Setup.{Setup, setup_place}
 use Rattle.rubis_replica.specs.State.{SiteState}
 use Rattle.rubis_sites.proofs.Beginning.{at_places, fresh_sites, one_more, starts}

@@ -3,10 +3,10 @@ use Rattle.std.specs.Prelude.{Ok, Err, slice_range}
 use Rattle.rubis_model.specs.Log.{cores}
 use Rattle.rubis_pieces.specs.Following.{HoldsTo, StopWithin}
 use Rattle.rubis_workers.proofs.NextMessage.{log_within}
-use Rattle.rubis_follower.specs.Follow.{ComesTo, Follower}
-use Rattle.rubis_follower.specs.Progress.{IsProgress, resting_at}
-use Rattle.rubis_follower.proofs.Standing.{comes_begun, comes_none, comes_whole, counted_by, whole_by_stops}
-use Rattle.rubis_follower.proofs.follower.Follower.note.Goals as goal
+use Rattle.rubis_replica.specs.Follow.{ComesTo, Follower}
+use Rattle.rubis_replica.specs.Progress.{IsProgress, resting_at}
+use Rattle.rubis_replica.proofs.Standing.{comes_begun, comes_none, comes_whole, counted_by, whole_by_stops}
+use Rattle.rubis_replica.proofs.follower.Follower.note.Goals as goal
 
 pub returns-then-left-eq0 : goal.returns-then-left-eq0
 returns-then-left-eq0 g c =

@@ -7,7 +7,7 @@ use Rattle.rubis_shard.specs.Holdings.{HoldsLog}
 use Rattle.rubis_shard.specs.States.{ShardState}
 use Rattle.rubis_pieces.specs.Following.{HoldsTo, StopWithin, parts_behind}
 use Rattle.rubis_workers.specs.Logs.{AreWithin, StaysWithin}
-use Rattle.rubis_follower.specs.Progress.{BatchBegins, BatchGoesOn, IsProgress, Progress, resting_at}
+use Rattle.rubis_replica.specs.Progress.{BatchBegins, BatchGoesOn, IsProgress, Progress, resting_at}
 
 -- the shards of the tables, how far they are in their log, and, where a batch has begun, how many of its messages stand in each
 pub record Follower : Type 0 where

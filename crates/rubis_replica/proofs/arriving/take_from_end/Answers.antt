@@ -3,9 +3,9 @@ use Rattle.std.specs.Prelude.{List, Some, reverse}
 use Rattle.std.proofs.lemmas.List.Elements.{All-pop}
 use Rattle.rubis_message.specs.Message.{Message, sites_of}
 use Rattle.rubis_model.specs.Site.{Place, arrived}
-use Rattle.rubis_follower.specs.Arrivals.{TakesFirst}
-use Rattle.rubis_follower.proofs.Comings.{last_first, takes_next}
-use Rattle.rubis_follower.proofs.arriving.take_from_end.Goals as goal
+use Rattle.rubis_replica.specs.Arrivals.{TakesFirst}
+use Rattle.rubis_replica.proofs.Comings.{last_first, takes_next}
+use Rattle.rubis_replica.proofs.arriving.take_from_end.Goals as goal
 
 pub loop-message-preserved : goal.loop-message-preserved
 loop-message-preserved c =

@@ -7,8 +7,8 @@ use Rattle.rubis_message.specs.Message.{Message}
 use Rattle.rubis_model.specs.Log.{cores, fold_of}
 use Rattle.rubis_model.specs.Settle.{first_ready, settle}
 use Rattle.rubis_model.specs.Site.{Place, Replica, arrived, is_full, is_repeat, not_ours}
-use Rattle.rubis_follower.specs.Follow.{Follower, FollowsAt, FollowsLog}
-use Rattle.rubis_follower.proofs.Standing.{follows_more}
+use Rattle.rubis_replica.specs.Follow.{Follower, FollowsAt, FollowsLog}
+use Rattle.rubis_replica.proofs.Standing.{follows_more}
 
 abbrev pub Extends : List Message → List Message → Type 0
 Extends log new = (more : List Message) × (new ≡ log ++ more)

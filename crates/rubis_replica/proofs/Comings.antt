@@ -6,9 +6,9 @@ use Rattle.rubis_schema.specs.declared.refusals.Refusal.{Refusal}
 use Rattle.rubis_message.specs.Message.{Message}
 use Rattle.rubis_message.specs.declared.answers.Arrival.{Arrival}
 use Rattle.rubis_model.specs.Site.{Place, Replica, arrived}
-use Rattle.rubis_follower.specs.Arrivals.{TakesFirst, after_all, answers_to}
-use Rattle.rubis_follower.specs.Follow.{Follower, FollowsAt}
-use Rattle.rubis_follower.proofs.Extending.{Extends, arrived_extends, follows_extended}
+use Rattle.rubis_replica.specs.Arrivals.{TakesFirst, after_all, answers_to}
+use Rattle.rubis_replica.specs.Follow.{Follower, FollowsAt}
+use Rattle.rubis_replica.proofs.Extending.{Extends, arrived_extends, follows_extended}
 
 -- ---- one message more
 

@@ -2,10 +2,10 @@ use Rattle.std.proofs.Common.{◌≡◌, ◌∙◌, ◌<◌, ℕ, List, length, 
 use Rattle.std.specs.Prelude.{Ok, Err, slice_range}
 use Rattle.rubis_model.specs.Log.{cores}
 use Rattle.rubis_pieces.specs.Following.{AreFurther, HoldsTo}
-use Rattle.rubis_follower.specs.Follow.{Follower, FollowsLog, GoesOnTo}
-use Rattle.rubis_follower.specs.Progress.{Progress, resting_at}
-use Rattle.rubis_follower.proofs.Standing.{counted_by, goes_part, goes_whole, stops_further, written_back}
-use Rattle.rubis_follower.proofs.follower.Follower.finish.Goals as goal
+use Rattle.rubis_replica.specs.Follow.{Follower, FollowsLog, GoesOnTo}
+use Rattle.rubis_replica.specs.Progress.{Progress, resting_at}
+use Rattle.rubis_replica.proofs.Standing.{counted_by, goes_part, goes_whole, stops_further, written_back}
+use Rattle.rubis_replica.proofs.follower.Follower.finish.Goals as goal
 
 pub returns-then-left-eq0 : goal.returns-then-left-eq0
 returns-then-left-eq0 g c =

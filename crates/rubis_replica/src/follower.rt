@@ -8,10 +8,10 @@ ghost use Rattle.rubis_model.specs.Log.{cores};
 ghost use Rattle.rubis_shard.specs.Holdings.{HoldsLog, union};
 ghost use Rattle.rubis_pieces.specs.Following.{HoldsTo, StopWithin};
 ghost use Rattle.rubis_workers.specs.Logs.{StaysWithin};
-ghost use Rattle.rubis_follower.specs.Arrivals.{IsStop, TakesFirst};
-ghost use Rattle.rubis_follower.specs.Follow.{ComesTo, FollowsAt, FollowsLog, GoesOnTo};
-ghost use Rattle.rubis_follower.specs.Progress.{HasBegun, IsAhead, IsBetween, IsProgress, is_behind, keeping, resting_at};
-ghost use Rattle.rubis_follower.specs.Counts.{IsCount};
+ghost use Rattle.rubis_replica.specs.Arrivals.{IsStop, TakesFirst};
+ghost use Rattle.rubis_replica.specs.Follow.{ComesTo, FollowsAt, FollowsLog, GoesOnTo};
+ghost use Rattle.rubis_replica.specs.Progress.{HasBegun, IsAhead, IsBetween, IsProgress, is_behind, keeping, resting_at};
+ghost use Rattle.rubis_replica.specs.Counts.{IsCount};
 
 use crate::arriving::{Arrived, take_all};
 use rubis_listing::{SharedSink, list_tables, list_tables_shared};
@@ -72,8 +72,8 @@ impl<G: Gate> Model for Follower<G> {
     ghost use Rattle.std.specs.Vec.{vec_capacity};
     ghost use Rattle.rubis_shard.specs.contracts.tables.Tables as shards;
     ghost use Rattle.rubis_schema.specs.declared.limits.TheConstants.{WORKERS_MAX};
-    ghost use Rattle.rubis_follower.specs.Follow as model;
-    ghost use Rattle.rubis_follower.specs.Counts.{IsReady};
+    ghost use Rattle.rubis_replica.specs.Follow as model;
+    ghost use Rattle.rubis_replica.specs.Counts.{IsReady};
 
     ghost Value = { model.Follower };
 

@@ -18,8 +18,8 @@ use Rattle.rubis_workers.specs.Logs.{AreWithin, StaysWithin, parts_between}
 use Rattle.rubis_workers.proofs.Applied.{cores_front, cores_slice}
 use Rattle.rubis_workers.proofs.Between.{between_inside, slice_inside}
 use Rattle.rubis_workers.proofs.NextMessage.{log_within}
-use Rattle.rubis_follower.specs.Follow.{ComesTo, Follower, FollowsAt, FollowsLog, GoesOnTo, HasStops}
-use Rattle.rubis_follower.specs.Progress.{BatchBegins, BatchGoesOn, IsProgress, Progress, keeping, resting_at}
+use Rattle.rubis_replica.specs.Follow.{ComesTo, Follower, FollowsAt, FollowsLog, GoesOnTo, HasStops}
+use Rattle.rubis_replica.specs.Progress.{BatchBegins, BatchGoesOn, IsProgress, Progress, keeping, resting_at}
 
 pub zero_or : (n : ℕ) → (n ≡ 0) ⊎ (0 < n)
 zero_or ℕ.zero = inl refl

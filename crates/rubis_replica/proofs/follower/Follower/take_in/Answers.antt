@@ -1,11 +1,11 @@
 use Rattle.std.proofs.Common.{List, length, ap, sym, subst, arith}
 use Rattle.rubis_message.specs.Message.{Message}
 use Rattle.rubis_workers.specs.Logs.{AreWithin}
-use Rattle.rubis_follower.specs.Follow.{FollowsLog}
-use Rattle.rubis_follower.proofs.Comings.{follows_taken, taken_longer}
-use Rattle.rubis_follower.proofs.Kept.{log_counts}
-use Rattle.rubis_follower.proofs.Standing.{follows_on}
-use Rattle.rubis_follower.proofs.follower.Follower.take_in.Goals as goal
+use Rattle.rubis_replica.specs.Follow.{FollowsLog}
+use Rattle.rubis_replica.proofs.Comings.{follows_taken, taken_longer}
+use Rattle.rubis_replica.proofs.Kept.{log_counts}
+use Rattle.rubis_replica.proofs.Standing.{follows_on}
+use Rattle.rubis_replica.proofs.follower.Follower.take_in.Goals as goal
 
 pub keep-requires-clause-follows : goal.keep-requires-clause-follows
 keep-requires-clause-follows g c κs within =

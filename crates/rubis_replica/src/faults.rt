@@ -1,6 +1,6 @@
 ghost use Rattle.std.specs.Prelude.{◌≡◌};
-ghost use Rattle.rubis_follower.specs.Faults.{fault_of};
-ghost use Rattle.rubis_follower.specs.declared.faults.Fault.TheVariants as Fault;
+ghost use Rattle.rubis_replica.specs.Faults.{fault_of};
+ghost use Rattle.rubis_replica.specs.declared.faults.Fault.TheVariants as Fault;
 
 use rubis_release::IntakeFault;
 use rubis_schema::Refusal;

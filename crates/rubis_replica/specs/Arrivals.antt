@@ -5,8 +5,8 @@ use Rattle.rubis_message.specs.Message.{Message}
 use Rattle.rubis_message.specs.declared.answers.Arrival.{Arrival}
 pub use Rattle.rubis_model.specs.Arrivals.{after_all, answers_to}
 use Rattle.rubis_model.specs.Site.{Place, Replica}
-use Rattle.rubis_follower.specs.declared.faults.Fault.{Fault}
-use Rattle.rubis_follower.specs.declared.faults.Fault.TheVariants.{Refused, Behind, Memory}
+use Rattle.rubis_replica.specs.declared.faults.Fault.{Fault}
+use Rattle.rubis_replica.specs.declared.faults.Fault.TheVariants.{Refused, Behind, Memory}
 
 -- the first of the messages were taken in, and each was answered; the others are the rest
 pub record TakesFirst (p : Place) (old new : Replica) (messages : List Message) (answers : List (Result Arrival Refusal)) (rest : List Message) : Type 0 where

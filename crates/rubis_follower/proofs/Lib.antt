@@ -1,4 +1,0 @@
-pub mod Standing
-pub mod Extending
-pub mod Comings
-pub mod Kept

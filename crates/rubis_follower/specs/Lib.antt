@@ -1,5 +1,0 @@
-pub mod Arrivals
-pub mod Counts
-pub mod Faults
-pub mod Follow
-pub mod Progress
