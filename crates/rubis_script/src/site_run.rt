@@ -7,7 +7,7 @@ ghost use Rattle.rubis_replica.specs.Setup.{setup_place};
 ghost use Rattle.rubis_engine.specs.Progress.{WrotePrefix};
 ghost use Rattle.rubis_engine.specs.Text.{input_records, rows_text};
 
-use rubis_ahead::run_desk_by;
+use crate::run::run_desk_by;
 use rubis_desk::Desk;
 use rubis_engine::{Count, RunFault};
 use rubis_replica::{Config, Free, Gate};

@@ -1,0 +1,39 @@
+use Rattle.std.proofs.Common.{◌≡◌, ◌∙◌, ◌+◌, ◌++◌, All, ap, arith, length, length-append, subst, sym}
+use Rattle.rubis_desk.specs.Windows.{held_by}
+use Rattle.rubis_reading.specs.Parsed.{FitsIn}
+use Rattle.rubis_reading.specs.Runs.{of_run}
+use Rattle.rubis_reading.specs.Steps.{HasAhead}
+use Rattle.rubis_script.proofs.LoopFacts.{all-back, all-front}
+use Rattle.rubis_script.proofs.answering.answer_all.Goals as goal
+
+pub answer_run-requires-clause-fits : goal.answer_run-requires-clause-fits
+answer_run-requires-clause-fits g c κs within =
+    let sites = c.runs.desk.site.place.sites in
+    all-front sites (of_run c.in-Some.run') c.next_run.new.self (subst (λ l. All (λ p. FitsIn sites p) l) c.in-Some.ensures.parts c.runs.invariant.fits)
+
+pub answer_run-requires-clause-room : goal.answer_run-requires-clause-room
+answer_run-requires-clause-room g c κs within =
+    let long = ap length c.in-Some.ensures.parts ∙ length-append (of_run c.in-Some.run') c.next_run.new.self in
+    omega (arith, long, c.runs.invariant.count, c.requires.room)
+
+pub runs-preserved : goal.runs-preserved
+runs-preserved g c =
+    let i = c.runs.invariant in
+    let site = c.runs.desk.site in
+    let run = of_run c.in-Some.run' in
+    let left = c.next_run.new.self in
+    let parts : c.runs.backlog.ahead ≡ run ++ left = c.in-Some.ensures.parts in
+    let long = ap length parts ∙ length-append run left in
+    let ensured = c.in_ok-answer_run.ensures in
+    let same = ensured.ahead in
+    let size = ap length same in
+    record {
+      place = ensured.place ∙ i.place;
+      held = ensured.held;
+      fits = subst (λ l. All (λ x. FitsIn c.answer_run.new.desk.site.place.sites x) l) (sym same)
+          (subst (λ p. All (λ x. FitsIn p.sites x) left) (sym ensured.place) (all-back site.place.sites run left (subst (λ l. All (λ p. FitsIn site.place.sites p) l) parts i.fits)));
+      count = omega (arith, long, size, ensured.count, i.count);
+      goes = λ all old now records later h. ensured.goes all old now records later
+          (subst (λ l. HasAhead site.place.sites l all (held_by site c.runs.backlog.window.items (c.runs.backlog.answered + 1)) old now c.runs.backlog.reply.sink (c.runs.backlog.answered + 1) records later) parts
+          (i.goes all old now records later h));
+    }

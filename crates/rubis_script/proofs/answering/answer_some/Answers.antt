@@ -1,0 +1,38 @@
+use Rattle.std.proofs.Common.{◌++◌, ◌≡◌, ◌∙◌, ◌+◌, ◌∷◌, All, ap, arith, length, subst, suc, sym, zero}
+use Rattle.rubis_desk.specs.Windows.{held_by}
+use Rattle.rubis_reading.specs.Parsed.{FitsIn}
+use Rattle.rubis_reading.specs.Runs.{of_run}
+use Rattle.rubis_reading.proofs.AheadFacts.{ahead-answered, ahead-kept}
+use Rattle.rubis_script.proofs.answering.answer_some.Goals as goal
+
+pub steps-preserved : goal.steps-preserved
+steps-preserved g c =
+    let i = c.steps.invariant in
+    let left = c.next_run.new.self in
+    let ps : c.steps.ahead ≡ c.in-One.parsed ∷ left = c.in-Some.ensures.parts ∙ ap (λ r. of_run r ++ left) c.in-One.is in
+    let n = c.steps.answered in
+    let old = c.steps.desk.site in
+    let mid = c.take_parsed.new.self.site in
+    let new = c.make_room.new.self.site in
+    let took = c.in_ok-take_parsed.ensures in
+    let room = c.in_ok-make_room.ensures in
+    let fits = subst (λ l. All (λ p. FitsIn old.place.sites p) l) ps i.fits in
+    let long = ap length ps in
+    record {
+      place = room.place ∙ took.place ∙ i.place;
+      held = room.held;
+      fits = subst (λ p. All (λ x. FitsIn p.sites x) left) (sym (room.place ∙ took.place)) (λ k d lt. fits (suc k) d (omega (arith, lt)));
+      number = omega (arith, i.number);
+      size = omega (arith, long, i.size);
+      goes = λ all before now records later h.
+          ahead-kept mid.place.sites new.place.sites left all (held_by mid c.take_parsed.new.window.items (n + 1 + 1)) (held_by new c.make_room.new.window.items (n + 1 + 1)) before now
+          c.take_parsed.new.reply.sink c.make_room.new.reply.sink (n + 1 + 1) records later (ap (λ p. p.sites) room.place) room.kept
+          (ahead-answered old.place.sites mid.place.sites c.steps.ahead left c.in-One.parsed all (held_by old c.steps.window.items (n + 1)) (held_by mid c.take_parsed.new.window.items (n + 1 + 1)) before now
+          c.steps.reply.sink c.take_parsed.new.reply.sink (n + 1) records later (ap (λ p. p.sites) took.place) ps took.goes (i.goes all before now records later h));
+    }
+
+pub take_parsed-requires-clause-fits : goal.take_parsed-requires-clause-fits
+take_parsed-requires-clause-fits g c κs within =
+    let left = c.next_run.new.self in
+    let ps : c.steps.ahead ≡ c.in-One.parsed ∷ left = c.in-Some.ensures.parts ∙ ap (λ r. of_run r ++ left) c.in-One.is in
+    subst (λ l. All (λ p. FitsIn c.steps.desk.site.place.sites p) l) ps c.steps.invariant.fits zero c.in-One.parsed (omega arith)

@@ -1,0 +1,18 @@
+use Rattle.std.proofs.Common.{◌≡◌, All, arith, length, subst, sym}
+use Rattle.rubis_reading.specs.Parsed.{FitsIn}
+use Rattle.rubis_reading.specs.Runs.{all_came}
+use Rattle.rubis_script.proofs.LoopFacts.{all-held, run-held}
+use Rattle.rubis_script.proofs.answering.hold_run.Goals as goal
+
+pub returns-clause-held : goal.returns-clause-held
+returns-clause-held g c =
+    let size : c.len-many.result ≡ length c.args.list.items = omega (arith, c.len-many.ensures, c.args.list.ok) in
+    all-held c.flush.new.self.site.place c.args.list.items c.args.backlog.now.answered c.len-many.result size
+    (subst (λ p. All (λ x. FitsIn p.sites x) (all_came c.args.list.items)) (sym c.in_ok-flush.ensures.place) c.requires.fits)
+
+pub returns-clause-goes : goal.returns-clause-goes
+returns-clause-goes g c all old now records later h =
+    let size : c.len-many.result ≡ length c.args.list.items = omega (arith, c.len-many.ensures, c.args.list.ok) in
+    let b = c.args.backlog.now in
+    run-held c.args.desk.now.site c.flush.new.self.site b.window.items c.args.list.items b.ahead all old now b.reply.sink c.flush.new.reply.sink b.answered c.len-many.result
+    records later size c.in_ok-flush.ensures.place c.in_ok-flush.ensures.flushed h

@@ -1,0 +1,94 @@
+//! A chunk of text is read while the desk answers.
+
+ghost use Rattle.std.specs.Prelude.{◌≡◌, ◌≤◌, ◌<◌, ◌+◌, ◌^◌, [], IfOk, OnOk, length};
+ghost use Rattle.std.specs.Thread.{IsSync};
+ghost use Rattle.rubis_script.specs.Runs.{GoesOn, IsSound};
+ghost use Rattle.rubis_engine.specs.Text.{input_records};
+ghost use Rattle.rubis_reading.specs.Parsed.{AreParsed};
+ghost use Rattle.rubis_reading.specs.Runs.{flat};
+
+use crate::answering::answer_all;
+use crate::backlog::Backlog;
+use rubis_desk::Desk;
+use rubis_engine::OutOfMemory;
+use rubis_reading::{Run, read_parts, read_piece};
+use rubis_replica::Gate;
+use std::alloc::Global;
+use std::sync::Wait;
+use std::thread::{Threads, join_mut};
+
+// How long a piece is at most for which no thread is started: what a pipe hands over at once.
+const SMALL: usize = 65_536;
+
+/// How a text is read ahead.
+#[derive(Clone, Copy)]
+pub struct Plan {
+    /// How many threads read a chunk, beside the one that answers.
+    pub readers: usize,
+    /// How many messages are taken in together, at most.
+    pub window: usize,
+}
+
+// Reads the records of a piece of text by other threads, while the desk answers all that was read ahead on this one.
+fn read_beside<G: Gate, T: Threads + Wait + Sync>(
+    rt: &T,
+    alloc: Global,
+    piece: &[u8],
+    plan: Plan,
+    desk: &mut Desk<G>,
+    backlog: &mut Backlog,
+) -> Result<Vec<Run>, OutOfMemory>
+    requires sound { IsSound desk.old.site backlog.old }
+    requires room { backlog.old.answered + length backlog.old.ahead + 1 < 2 ^ 64 }
+    ensures place { OnOk result (desk.new.site.place ≡ desk.old.site.place) }
+    ensures sound { OnOk result (IsSound desk.new.site backlog.new) }
+    ensures all { OnOk result (backlog.new.ahead ≡ []) }
+    ensures count { OnOk result (backlog.new.answered ≡ backlog.old.answered + length backlog.old.ahead) }
+    ensures goes { OnOk result (GoesOn desk.old.site backlog.old desk.new.site backlog.new) }
+    ensures parsed { IfOk result (λ list. AreParsed desk.old.site.place.sites (input_records piece.now) (flat list.items)) }
+{
+    let sites = desk.sites();
+    let Plan { readers, window } = plan;
+    let (list, answered) = join_mut(
+        rt,
+        &mut || -> Result<Vec<Run>, OutOfMemory>
+            requires { IsSync T.row × (sites ≤ 16) }
+            ensures { IfOk result (λ list. AreParsed sites (input_records piece.entry.now) (flat list.items)) }
+        { read_parts(rt, alloc, piece, sites, readers, window) },
+        &mut || -> Result<(), OutOfMemory>
+            requires { IsSync T.row × IsSound desk.now.site backlog.now × (backlog.now.answered + length backlog.now.ahead + 1 < 2 ^ 64) }
+            ensures { OnOk result ((desk.exit.now.site.place ≡ desk.entry.now.site.place) × IsSound desk.exit.now.site backlog.exit.now × (backlog.exit.now.ahead ≡ [])
+                × (backlog.exit.now.answered ≡ backlog.entry.now.answered + length backlog.entry.now.ahead)
+                × GoesOn desk.entry.now.site backlog.entry.now desk.exit.now.site backlog.exit.now) }
+        { answer_all(rt, desk, backlog) },
+    );
+    answered?;
+    list
+}
+
+/// Answers all that was read ahead, and reads the records of a piece of text: meanwhile, by other threads, or after it,
+/// where the piece is small.
+pub fn read_next<G: Gate, T: Threads + Wait + Sync>(
+    rt: &T,
+    alloc: Global,
+    piece: &[u8],
+    plan: Plan,
+    desk: &mut Desk<G>,
+    backlog: &mut Backlog,
+) -> Result<Vec<Run>, OutOfMemory>
+    requires sound { IsSound desk.old.site backlog.old }
+    requires room { backlog.old.answered + length backlog.old.ahead + 1 < 2 ^ 64 }
+    ensures place { OnOk result (desk.new.site.place ≡ desk.old.site.place) }
+    ensures sound { OnOk result (IsSound desk.new.site backlog.new) }
+    ensures all { OnOk result (backlog.new.ahead ≡ []) }
+    ensures count { OnOk result (backlog.new.answered ≡ backlog.old.answered + length backlog.old.ahead) }
+    ensures goes { OnOk result (GoesOn desk.old.site backlog.old desk.new.site backlog.new) }
+    ensures parsed { IfOk result (λ list. AreParsed desk.old.site.place.sites (input_records piece.now) (flat list.items)) }
+{
+    if piece.len() > SMALL {
+        return read_beside(rt, alloc, piece, plan, desk, backlog);
+    }
+    let sites = desk.sites();
+    answer_all(rt, desk, backlog)?;
+    read_piece(alloc, piece, sites, plan.window)
+}

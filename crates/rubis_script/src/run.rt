@@ -1,0 +1,433 @@
+//! A run of a site that reads ahead.
+
+ghost use Rattle.std.specs.Prelude.{◌≡◌, ◌≤◌, ◌<◌, ◌+◌, ◌^◌, ◌⊎◌, [], List, ℕ, Option, IfErr, IfNone, IfOk, IfSome, IsErrOf, MatchOption, OnOk, length, take};
+ghost use Rattle.rubis_script.specs.Runs.{GoesOnWriting, HasReadAhead, IsSound, OfEachAhead, StandsWith};
+ghost use Rattle.rubis_desk.specs.SiteRuns.{told_by};
+ghost use Rattle.rubis_engine.specs.Accounts.Ending.{AtEnd};
+ghost use Rattle.rubis_engine.specs.Accounts.{Account};
+ghost use Rattle.rubis_engine.specs.Progress.{IsCut, IsDone, IsTooLong, WrotePrefix};
+ghost use Rattle.rubis_engine.specs.Text.{input_records};
+ghost use Rattle.rubis_reading.specs.Chunked.{HasPending, held_text};
+ghost use Rattle.rubis_reading.specs.Streams.{IsWhole};
+
+use crate::answering::{answer_all, answer_some};
+use crate::backlog::Backlog;
+use crate::overlap::{Plan, read_next};
+use rubis_desk::{Desk, run_desk};
+use rubis_engine::{Count, OutOfMemory, RunFault};
+use rubis_reading::{Ahead, ChunkFault, Chunks, read_parts};
+use rubis_replica::{Config, Gate};
+use std::alloc::Global;
+use std::io::{Read, Write};
+use std::mem;
+use std::sync::Wait;
+use std::thread::Threads;
+
+// How many bytes there is room for when the reader is asked for more.
+const BLOCK: usize = 4_194_304;
+
+// How long a chunk is at least and at most, where so much is at hand.
+const CHUNK_MIN: usize = 65_536;
+
+const CHUNK_MAX: usize = 524_288;
+
+// How many bytes are read while that many records are answered, of those at hand. Nothing goes on beside the first chunk of those
+// and beside the answers to the last, so chunks grow from a small one, each to twice the text of the records, some 64 bytes each,
+// and end with small ones.
+fn chunk_of(held: usize, ahead: usize) -> usize {
+    (held / 4)
+        .min(ahead.saturating_mul(128))
+        .max(CHUNK_MIN)
+        .min(CHUNK_MAX)
+}
+
+// How a site of that configuration reads ahead: half of its workers read, and a window has at most as many messages as a batch.
+fn plan_of(config: &Config) -> Plan {
+    Plan {
+        readers: usize::from(config.workers()) / 2,
+        window: config.batch() as usize,
+    }
+}
+
+// Where the records come from.
+#[derive(Drop)]
+struct Source<R> {
+    chunks: Chunks<R>,
+    plan: Plan,
+    alloc: Global,
+}
+
+impl<R: Read + Drop> Source<R> {
+    fn new(alloc: Global, reader: R, plan: Plan) -> Source<R>
+        ensures { IfSome (R.remaining reader) (λ input. HasPending R.remaining result.chunks (input_records input)) }
+    {
+        Source {
+            chunks: Chunks::new(alloc, reader, BLOCK),
+            plan,
+            alloc,
+        }
+    }
+}
+
+// Takes in the messages that are held, and writes the answers out.
+fn settle<G: Gate, T: Threads + Wait + Sync, W: Write>(
+    rt: &T,
+    desk: &mut Desk<G>,
+    backlog: &mut Backlog,
+    writer: &mut W,
+) -> Result<(), RunFault>
+    requires { IsSound desk.old.site backlog.old }
+    ensures place { OnOk result (desk.new.site.place ≡ desk.old.site.place) }
+    ensures sound { OnOk result (IsSound desk.new.site backlog.new) }
+    ensures ahead { backlog.new.ahead ≡ backlog.old.ahead }
+    ensures window { OnOk result (backlog.new.window.items ≡ []) }
+    ensures empty { OnOk result (backlog.new.reply.sink ≡ []) }
+    ensures count { backlog.new.answered ≡ backlog.old.answered }
+    ensures goes { OnOk result (GoesOnWriting desk.old.site backlog.old desk.new.site backlog.new (W.contents writer.old) (W.contents writer.new)) }
+    ensures memory { IsErrOf result RunFault.Memory → W.contents writer.new ≡ W.contents writer.old }
+    ensures faults { IfErr result (λ e. (e ≡ RunFault.Write) ⊎ (e ≡ RunFault.Memory)) }
+{
+    desk.flush(
+        rt,
+        backlog.answered,
+        &mut backlog.window,
+        &mut backlog.reply,
+    )?;
+    backlog.reply.sink.close(writer)
+}
+
+// Answers all that was read ahead, and writes the answers out.
+fn catch_up<G: Gate, T: Threads + Wait + Sync, W: Write>(
+    rt: &T,
+    desk: &mut Desk<G>,
+    backlog: &mut Backlog,
+    writer: &mut W,
+) -> Result<(), RunFault>
+    requires sound { IsSound desk.old.site backlog.old }
+    requires room { backlog.old.answered + length backlog.old.ahead + 1 < 2 ^ 64 }
+    ensures place { OnOk result (desk.new.site.place ≡ desk.old.site.place) }
+    ensures sound { OnOk result (IsSound desk.new.site backlog.new) }
+    ensures all { OnOk result (backlog.new.ahead ≡ []) }
+    ensures window { OnOk result (backlog.new.window.items ≡ []) }
+    ensures empty { OnOk result (backlog.new.reply.sink ≡ []) }
+    ensures count { OnOk result (backlog.new.answered ≡ backlog.old.answered + length backlog.old.ahead) }
+    ensures goes { OnOk result (GoesOnWriting desk.old.site backlog.old desk.new.site backlog.new (W.contents writer.old) (W.contents writer.new)) }
+    ensures memory { IsErrOf result RunFault.Memory → W.contents writer.new ≡ W.contents writer.old }
+    ensures faults { IfErr result (λ e. (e ≡ RunFault.Write) ⊎ (e ≡ RunFault.Memory)) }
+{
+    answer_all(rt, desk, backlog)?;
+    settle(rt, desk, backlog, writer)
+}
+
+// Takes messages that came together apart, so that any number of records can be answered.
+fn make_single(backlog: &mut Backlog) -> Result<(), OutOfMemory>
+    ensures ahead { OnOk result (backlog.new.ahead ≡ backlog.old.ahead) }
+    ensures window { backlog.new.window.items ≡ backlog.old.window.items }
+    ensures sink { backlog.new.reply.sink ≡ backlog.old.reply.sink }
+    ensures count { backlog.new.answered ≡ backlog.old.answered }
+{
+    let alloc = *backlog.window.allocator();
+    let ahead = mem::replace(&mut backlog.ahead, Ahead::new(alloc));
+    backlog.ahead = ahead.singles(alloc)?;
+    Ok(())
+}
+
+// Answers the next `left` of the records that were read ahead, where there are more, and writes the answers out.
+fn stop<G: Gate, T: Threads + Wait + Sync, W: Write>(
+    rt: &T,
+    desk: &mut Desk<G>,
+    backlog: &mut Backlog,
+    writer: &mut W,
+    left: u64,
+) -> Result<(), RunFault>
+    requires sound { IsSound desk.old.site backlog.old }
+    requires more { left < length backlog.old.ahead }
+    requires room { backlog.old.answered + left + 1 < 2 ^ 64 }
+    ensures too_long { OnOk result ((all : Account) (old : Option (List ℕ)) (records later : List (List (List ℕ))) → StandsWith desk.old.site backlog.old all old (W.contents writer.old) records later
+        → IsTooLong all (backlog.old.answered + left) old (W.contents writer.new) records) }
+    ensures memory { IsErrOf result RunFault.Memory → W.contents writer.new ≡ W.contents writer.old }
+    ensures faults { IfErr result (λ e. (e ≡ RunFault.Write) ⊎ (e ≡ RunFault.Memory)) }
+{
+    make_single(backlog)?;
+    answer_some(rt, desk, backlog, left)?;
+    settle(rt, desk, backlog, writer)
+}
+
+// Reads a chunk while all that was read ahead is answered.
+fn go_on<G: Gate, T: Threads + Wait + Sync, R: Read>(
+    rt: &T,
+    source: &mut Source<R>,
+    desk: &mut Desk<G>,
+    backlog: &mut Backlog,
+    many: usize,
+) -> Result<(), OutOfMemory>
+    requires some { 0 < many }
+    requires text { many ≤ length (held_text source.old.chunks) }
+    requires whole { IsWhole (take many (held_text source.old.chunks)) }
+    requires sound { IsSound desk.old.site backlog.old }
+    requires room { backlog.old.answered + length backlog.old.ahead + 1 < 2 ^ 64 }
+    ensures sound { OnOk result (IsSound desk.new.site backlog.new) }
+    ensures count { OnOk result (backlog.new.answered ≡ backlog.old.answered + length backlog.old.ahead) }
+    ensures goes { OnOk result ((now : Option (List ℕ)) → OfEachAhead R.remaining source.old.chunks desk.old.site backlog.old now (λ all old input.
+        HasReadAhead R.remaining source.new.chunks desk.new.site backlog.new all old now input)) }
+{
+    let (piece, _) = source.chunks.held().split_at(many);
+    let list = read_next(rt, source.alloc, piece, source.plan, desk, backlog)?;
+    source.chunks.pass(many);
+    let ahead = Ahead::of(list)?;
+    backlog.ahead = ahead;
+    Ok(())
+}
+
+// Writes out the answers, where there is much of them.
+fn drain_full<G: Gate, R: Read, W: Write>(
+    source: &Source<R>,
+    desk: &Desk<G>,
+    backlog: &mut Backlog,
+    writer: &mut W,
+) -> Result<(), RunFault>
+    requires { IsSound desk.now.site backlog.old }
+    ensures sound { OnOk result (IsSound desk.now.site backlog.new) }
+    ensures count { OnOk result (backlog.new.answered ≡ backlog.old.answered) }
+    ensures goes { OnOk result (OfEachAhead R.remaining source.now.chunks desk.now.site backlog.old (W.contents writer.old) (λ all old input.
+        HasReadAhead R.remaining source.now.chunks desk.now.site backlog.new all old (W.contents writer.new) input)) }
+    ensures faults { IfErr result (λ e. e ≡ RunFault.Write) }
+{
+    if backlog.reply.sink.is_full() {
+        return backlog.reply.sink.drain(writer);
+    }
+    Ok(())
+}
+
+// Reads what is held as the last of the text, answers it, and ends the run.
+fn end<G: Gate, T: Threads + Wait + Sync, R: Read, W: Write>(
+    rt: &T,
+    source: &Source<R>,
+    desk: &mut Desk<G>,
+    backlog: &mut Backlog,
+    writer: &mut W,
+    limit: u64,
+) -> Result<Count, RunFault>
+    requires none { backlog.old.ahead ≡ [] }
+    requires sound { IsSound desk.old.site backlog.old }
+    requires within { backlog.old.answered ≤ limit }
+    requires limit { limit + 1 < 2 ^ 64 }
+    requires last { (rows : List (List (List ℕ))) → HasPending R.remaining source.now.chunks rows → rows ≡ input_records (held_text source.now.chunks) }
+    ensures done { IfOk result (λ count. OfEachAhead R.remaining source.now.chunks desk.old.site backlog.old (W.contents writer.old) (λ all old input.
+        IsDone all limit old (W.contents writer.new) (input_records input) count.records)) }
+    ensures too_long { IsErrOf result RunFault.TooLong → OfEachAhead R.remaining source.now.chunks desk.old.site backlog.old (W.contents writer.old) (λ all old input.
+        IsTooLong all limit old (W.contents writer.new) (input_records input)) }
+    ensures memory { IsErrOf result RunFault.Memory → W.contents writer.new ≡ W.contents writer.old }
+    ensures faults { IfErr result (λ e. (e ≡ RunFault.Write) ⊎ (e ≡ RunFault.Memory) ⊎ (e ≡ RunFault.TooLong)) }
+{
+    let sites = desk.sites();
+    let list = read_parts(
+        rt,
+        source.alloc,
+        source.chunks.held(),
+        sites,
+        source.plan.readers,
+        source.plan.window,
+    )?;
+    let ahead = Ahead::of(list)?;
+    backlog.ahead = ahead;
+    let left = limit - backlog.answered;
+    if backlog.ahead.len() as u64 > left {
+        stop(rt, desk, backlog, writer, left)?;
+        return Err(RunFault::TooLong);
+    }
+    catch_up(rt, desk, backlog, writer)?;
+    Ok(Count {
+        records: backlog.answered,
+    })
+}
+
+// Answers and writes out all that came, and only then asks the reader for more. `None` if the run goes on, otherwise how many
+// records were read.
+fn wait<G: Gate, T: Threads + Wait + Sync, R: Read, W: Write>(
+    rt: &T,
+    source: &mut Source<R>,
+    desk: &mut Desk<G>,
+    backlog: &mut Backlog,
+    writer: &mut W,
+    limit: u64,
+) -> Result<Option<Count>, RunFault>
+    requires sound { IsSound desk.old.site backlog.old }
+    requires within { backlog.old.answered + length backlog.old.ahead ≤ limit }
+    requires limit { limit + 1 < 2 ^ 64 }
+    ensures sound { IfOk result (λ over. IfNone over (IsSound desk.new.site backlog.new)) }
+    ensures within { IfOk result (λ over. IfNone over (backlog.new.answered ≤ limit)) }
+    ensures goes { IfOk result (λ over. OfEachAhead R.remaining source.old.chunks desk.old.site backlog.old (W.contents writer.old) (λ all old input.
+        MatchOption over (HasReadAhead R.remaining source.new.chunks desk.new.site backlog.new all old (W.contents writer.new) input)
+        (λ count. IsDone all limit old (W.contents writer.new) (input_records input) count.records))) }
+    ensures too_long { IsErrOf result RunFault.TooLong → OfEachAhead R.remaining source.old.chunks desk.old.site backlog.old (W.contents writer.old) (λ all old input.
+        IsTooLong all limit old (W.contents writer.new) (input_records input)) }
+    ensures read { IsErrOf result RunFault.Read → OfEachAhead R.remaining source.old.chunks desk.old.site backlog.old (W.contents writer.old) (λ all old input.
+        IsCut all old (W.contents writer.new) (input_records input)) }
+    ensures memory { IsErrOf result RunFault.Memory → OfEachAhead R.remaining source.old.chunks desk.old.site backlog.old (W.contents writer.old) (λ all old input.
+        WrotePrefix (all.text AtEnd) old (W.contents writer.new) (input_records input)) }
+{
+    catch_up(rt, desk, backlog, writer)?;
+    match source.chunks.fill() {
+        Ok(true) => Ok(None),
+        Ok(false) => {
+            let count = end(rt, source, desk, backlog, writer, limit)?;
+            Ok(Some(count))
+        }
+        Err(ChunkFault::Read) => Err(RunFault::Read),
+        Err(ChunkFault::Memory) => Err(RunFault::Memory),
+    }
+}
+
+// Goes on by a chunk, and writes out where there is much.
+fn go_on_writing<G: Gate, T: Threads + Wait + Sync, R: Read, W: Write>(
+    rt: &T,
+    source: &mut Source<R>,
+    desk: &mut Desk<G>,
+    backlog: &mut Backlog,
+    writer: &mut W,
+    many: usize,
+) -> Result<(), RunFault>
+    requires some { 0 < many }
+    requires text { many ≤ length (held_text source.old.chunks) }
+    requires whole { IsWhole (take many (held_text source.old.chunks)) }
+    requires sound { IsSound desk.old.site backlog.old }
+    requires room { backlog.old.answered + length backlog.old.ahead + 1 < 2 ^ 64 }
+    ensures sound { OnOk result (IsSound desk.new.site backlog.new) }
+    ensures count { OnOk result (backlog.new.answered ≡ backlog.old.answered + length backlog.old.ahead) }
+    ensures goes { OnOk result (OfEachAhead R.remaining source.old.chunks desk.old.site backlog.old (W.contents writer.old) (λ all old input.
+        HasReadAhead R.remaining source.new.chunks desk.new.site backlog.new all old (W.contents writer.new) input)) }
+    ensures memory { IsErrOf result RunFault.Memory → W.contents writer.new ≡ W.contents writer.old }
+    ensures faults { IfErr result (λ e. (e ≡ RunFault.Write) ⊎ (e ≡ RunFault.Memory)) }
+{
+    go_on(rt, source, desk, backlog, many)?;
+    drain_full(source, desk, backlog, writer)
+}
+
+// Goes on by a chunk, if one is at hand, and otherwise asks the reader for more. `None` if the run goes on, otherwise how many
+// records were read.
+fn turn<G: Gate, T: Threads + Wait + Sync, R: Read, W: Write>(
+    rt: &T,
+    source: &mut Source<R>,
+    desk: &mut Desk<G>,
+    backlog: &mut Backlog,
+    writer: &mut W,
+    limit: u64,
+) -> Result<Option<Count>, RunFault>
+    requires sound { IsSound desk.old.site backlog.old }
+    requires within { backlog.old.answered ≤ limit }
+    requires limit { limit + 1 < 2 ^ 64 }
+    ensures sound { IfOk result (λ over. IfNone over (IsSound desk.new.site backlog.new)) }
+    ensures within { IfOk result (λ over. IfNone over (backlog.new.answered ≤ limit)) }
+    ensures goes { IfOk result (λ over. OfEachAhead R.remaining source.old.chunks desk.old.site backlog.old (W.contents writer.old) (λ all old input.
+        MatchOption over (HasReadAhead R.remaining source.new.chunks desk.new.site backlog.new all old (W.contents writer.new) input)
+        (λ count. IsDone all limit old (W.contents writer.new) (input_records input) count.records))) }
+    ensures too_long { IsErrOf result RunFault.TooLong → OfEachAhead R.remaining source.old.chunks desk.old.site backlog.old (W.contents writer.old) (λ all old input.
+        IsTooLong all limit old (W.contents writer.new) (input_records input)) }
+    ensures read { IsErrOf result RunFault.Read → OfEachAhead R.remaining source.old.chunks desk.old.site backlog.old (W.contents writer.old) (λ all old input.
+        IsCut all old (W.contents writer.new) (input_records input)) }
+    ensures memory { IsErrOf result RunFault.Memory → OfEachAhead R.remaining source.old.chunks desk.old.site backlog.old (W.contents writer.old) (λ all old input.
+        WrotePrefix (all.text AtEnd) old (W.contents writer.new) (input_records input)) }
+{
+    let left = limit - backlog.answered;
+    if backlog.ahead.len() as u64 > left {
+        stop(rt, desk, backlog, writer, left)?;
+        return Err(RunFault::TooLong);
+    }
+    let most = chunk_of(source.chunks.held().len(), backlog.ahead.len());
+    let many = source.chunks.whole(most);
+    if many > 1 {
+        go_on_writing(rt, source, desk, backlog, writer, many)?;
+        return Ok(None);
+    }
+    wait(rt, source, desk, backlog, writer, limit)
+}
+
+// Answers records until there are no more, or up to `limit` of them.
+fn serve<G: Gate, T: Threads + Wait + Sync, R: Read, W: Write>(
+    rt: &T,
+    source: &mut Source<R>,
+    desk: &mut Desk<G>,
+    backlog: &mut Backlog,
+    writer: &mut W,
+    limit: u64,
+) -> Result<Count, RunFault>
+    requires sound { IsSound desk.old.site backlog.old }
+    requires within { backlog.old.answered ≤ limit }
+    requires limit { limit + 1 < 2 ^ 64 }
+    ensures ok { IfOk result (λ count. OfEachAhead R.remaining source.old.chunks desk.old.site backlog.old (W.contents writer.old) (λ all old input.
+        IsDone all limit old (W.contents writer.new) (input_records input) count.records)) }
+    ensures too_long { IsErrOf result RunFault.TooLong → OfEachAhead R.remaining source.old.chunks desk.old.site backlog.old (W.contents writer.old) (λ all old input.
+        IsTooLong all limit old (W.contents writer.new) (input_records input)) }
+    ensures read { IsErrOf result RunFault.Read → OfEachAhead R.remaining source.old.chunks desk.old.site backlog.old (W.contents writer.old) (λ all old input.
+        IsCut all old (W.contents writer.new) (input_records input)) }
+    ensures memory { IsErrOf result RunFault.Memory → OfEachAhead R.remaining source.old.chunks desk.old.site backlog.old (W.contents writer.old) (λ all old input.
+        WrotePrefix (all.text AtEnd) old (W.contents writer.new) (input_records input)) }
+{
+    'steps: for _ in 0..u64::MAX {
+        if let Some(count) = turn(rt, source, desk, backlog, writer, limit)? {
+            return Ok(count);
+        }
+    }
+    Err(RunFault::Memory)
+}
+
+// Runs the desk of a site as `run_desk` does. While records are answered, those of the next chunk of text are read by other
+// threads.
+fn run_desk_ahead<G: Gate, T: Threads + Wait + Sync, R: Read + Drop, W: Write>(
+    rt: &T,
+    alloc: Global,
+    reader: R,
+    writer: &mut W,
+    desk: &mut Desk<G>,
+    limit: u64,
+    plan: Plan,
+) -> Result<Count, RunFault>
+    requires { limit + 1 < 2 ^ 64 }
+    ensures ok { IfOk result (λ count. IfSome (R.remaining reader) (λ input.
+        IsDone (told_by desk.old.site 1) limit (W.contents writer.old) (W.contents writer.new) (input_records input) count.records)) }
+    ensures too_long { IsErrOf result RunFault.TooLong → IfSome (R.remaining reader) (λ input.
+        IsTooLong (told_by desk.old.site 1) limit (W.contents writer.old) (W.contents writer.new) (input_records input)) }
+    ensures read { IsErrOf result RunFault.Read → IfSome (R.remaining reader) (λ input.
+        IsCut (told_by desk.old.site 1) (W.contents writer.old) (W.contents writer.new) (input_records input)) }
+    ensures memory { IsErrOf result RunFault.Memory → IfSome (R.remaining reader) (λ input.
+        WrotePrefix ((told_by desk.old.site 1).text AtEnd) (W.contents writer.old) (W.contents writer.new) (input_records input)) }
+{
+    let mut source = Source::new(alloc, reader, plan);
+    let mut backlog = Backlog::new(alloc);
+    serve(rt, &mut source, desk, &mut backlog, writer, limit)
+}
+
+/// Runs the desk of a site over the records of `reader` until its end, or up to `limit` of them: appends the text of its
+/// answers to `writer`. If several workers are configured, the records of the next chunk of text are read by other threads while those
+/// before are answered; with one, nothing is read ahead. The desk is lent, so that a program can let it go as it likes.
+///
+/// # Errors
+///
+/// `Read` if the reader failed: the first records are answered then, as if there were no more. `Write` if the writer
+/// failed. `Memory` if memory ran out: what was written is a prefix of the whole text. `TooLong` if the input has more
+/// than `limit` records: the first `limit` are answered then.
+pub fn run_desk_by<G: Gate, T: Threads + Wait + Sync, R: Read + Drop, W: Write>(
+    rt: &T,
+    alloc: Global,
+    reader: R,
+    writer: &mut W,
+    desk: &mut Desk<G>,
+    limit: u64,
+    config: &Config,
+) -> Result<Count, RunFault>
+    ensures ok { IfOk result (λ count. IfSome (R.remaining reader) (λ input.
+        IsDone (told_by desk.old.site 1) limit (W.contents writer.old) (W.contents writer.new) (input_records input) count.records)) }
+    ensures too_long { IsErrOf result RunFault.TooLong → IfSome (R.remaining reader) (λ input.
+        IsTooLong (told_by desk.old.site 1) limit (W.contents writer.old) (W.contents writer.new) (input_records input)) }
+    ensures read { IsErrOf result RunFault.Read → IfSome (R.remaining reader) (λ input.
+        IsCut (told_by desk.old.site 1) (W.contents writer.old) (W.contents writer.new) (input_records input)) }
+    ensures memory { IsErrOf result RunFault.Memory → IfSome (R.remaining reader) (λ input.
+        WrotePrefix ((told_by desk.old.site 1).text AtEnd) (W.contents writer.old) (W.contents writer.new) (input_records input)) }
+{
+    if config.workers() > 1 && limit < u64::MAX {
+        let plan = plan_of(config);
+        return run_desk_ahead(rt, alloc, reader, writer, desk, limit, plan);
+    }
+    run_desk(rt, alloc, reader, writer, desk, limit)
+}
