@@ -4,10 +4,10 @@ ghost use Rattle.std.specs.Prelude.{◌≡◌, [], IfOk};
 ghost use Rattle.rubis_model.specs.Site.{opening_at};
 ghost use Rattle.rubis_replica.specs.Setup.{setup_place};
 
-use rubis_desk::Desk;
 use rubis_engine::Reply;
 use rubis_message::Message;
 use rubis_replica::{Config, Free, Gate};
+use rubis_script::Desk;
 use std::alloc::{AllocError, Global};
 
 /// A site at its desk, the messages that it holds, to take them in together, and how many records it has answered.

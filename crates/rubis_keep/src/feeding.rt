@@ -4,8 +4,8 @@ ghost use Rattle.std.specs.Prelude.{◌≡◌, ◌<◌, ◌+◌, ◌++◌, ◌^�
 ghost use Rattle.rubis_engine.specs.Accounts.{AnswersRecord};
 ghost use Rattle.rubis_engine.specs.declared.service.Course.TheVariants.{GoesOn};
 ghost use Rattle.rubis_engine.specs.Reading.{Advances, fields_now};
-ghost use Rattle.rubis_desk.specs.SiteRuns.{told_by};
-ghost use Rattle.rubis_desk.specs.Windows.{AreHeld, held_by};
+ghost use Rattle.rubis_script.specs.SiteRuns.{told_by};
+ghost use Rattle.rubis_script.specs.Windows.{AreHeld, held_by};
 ghost use Rattle.rubis_keep.specs.Kept.{FeedEnds, Finished, FinishedFront, InEachFeed, InEachRest, OutEnds, Rests};
 ghost use Rattle.rubis_keep.specs.Whole.{IsWhole};
 

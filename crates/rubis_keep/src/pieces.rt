@@ -2,7 +2,7 @@
 
 ghost use Rattle.std.specs.Prelude.{◌≡◌, ◌+◌, [], IfOk, OnErr, OnOk, false};
 ghost use Rattle.std.specs.Io.KnownBytes.{IsAtEnd};
-ghost use Rattle.rubis_desk.specs.SiteRuns.{told_by};
+ghost use Rattle.rubis_script.specs.SiteRuns.{told_by};
 ghost use Rattle.rubis_keep.specs.Kept.{Fails, InEachStand, IsBegun, Stands};
 
 use crate::answers::Answers;

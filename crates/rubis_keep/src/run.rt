@@ -2,7 +2,7 @@
 
 ghost use Rattle.std.specs.Prelude.{◌≡◌, ◌+◌, [], ℕ, List, Option, OnErr, OnOk, Some};
 ghost use Rattle.rubis_engine.specs.Accounts.{Account};
-ghost use Rattle.rubis_desk.specs.SiteRuns.{told_by};
+ghost use Rattle.rubis_script.specs.SiteRuns.{told_by};
 ghost use Rattle.rubis_keep.specs.Kept.{Begins, Ended, Lived, Opens, Replayed};
 ghost use Rattle.rubis_keep.specs.Lines.{AreSound};
 

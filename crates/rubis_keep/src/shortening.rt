@@ -17,12 +17,10 @@ ghost use Rattle.rubis_keep.specs.Shortened.{IsShort, Shortens, TakesRecord, Tak
 
 use crate::fault::KeepFault;
 use crate::writing::write_front;
-use rubis_desk::Desk;
 use rubis_engine::{InputRecord, OutOfMemory, Records};
-use rubis_message::{
-    Arrival, Message, Packet, ReadFault, Request, Taken, Token, read_packet, read_request,
-};
+use rubis_message::{Arrival, Message, Packet, ReadFault, Request, Taken, Token, read_packet, read_request};
 use rubis_replica::{Config, Fault, Free, Gate, Site};
+use rubis_script::Desk;
 use std::alloc::{AllocError, Global};
 use std::io::{ErrorKind, Read, Write};
 use std::mem;

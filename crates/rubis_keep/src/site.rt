@@ -3,7 +3,7 @@
 ghost use Rattle.std.specs.Prelude.{ℕ, List, OnErr, OnOk};
 ghost use Rattle.rubis_model.specs.Site.{opening_at};
 ghost use Rattle.rubis_replica.specs.Setup.{setup_place};
-ghost use Rattle.rubis_desk.specs.SiteRuns.{site_account};
+ghost use Rattle.rubis_script.specs.SiteRuns.{site_account};
 ghost use Rattle.rubis_keep.specs.Kept.{Ended, Lived, Opens};
 
 use crate::answers::{Answers, Out};

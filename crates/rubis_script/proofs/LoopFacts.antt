@@ -1,8 +1,8 @@
 -- What a desk that holds nothing has still to write, and how many records are answered.
 use Rattle.std.proofs.Common.{◌++◌, ◌∷◌, zero, suc, append-nil, append_assoc, length-append, ◌≡◌, ◌≤◌, ◌<◌, ◌+◌, ◌⊎◌, inl, inr, [], ℕ, All, List, Option, arith, length, refl, subst, sym, ap}
-use Rattle.rubis_desk.specs.SiteRuns.{told_by}
-use Rattle.rubis_desk.specs.Windows.{AreHeld, held_by}
-use Rattle.rubis_desk.proofs.WindowFacts.{held_none, holds_more}
+use Rattle.rubis_script.specs.SiteRuns.{told_by}
+use Rattle.rubis_script.specs.Windows.{AreHeld, held_by}
+use Rattle.rubis_script.proofs.WindowFacts.{held_none, holds_more}
 use Rattle.rubis_engine.specs.Accounts.{Account, Ending, Keeps}
 use Rattle.rubis_message.specs.Message.{Message, sites_of}
 use Rattle.rubis_message.specs.declared.tokens.Packet.TheVariants.{Msg}

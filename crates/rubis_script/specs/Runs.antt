@@ -1,6 +1,6 @@
 -- A run that reads ahead, at the desk of a site.
 use Rattle.std.specs.Prelude.{◌+◌, ◌++◌, ℕ, All, List, Option}
-use Rattle.rubis_desk.specs.Windows.{AreHeld, held_by}
+use Rattle.rubis_script.specs.Windows.{AreHeld, held_by}
 use Rattle.rubis_engine.specs.Accounts.{Account}
 use Rattle.rubis_engine.specs.Text.{input_records}
 use Rattle.rubis_reading.specs.Chunked.{HasPending}

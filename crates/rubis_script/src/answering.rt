@@ -2,12 +2,12 @@
 
 ghost use Rattle.std.specs.Prelude.{◌≡◌, ◌≤◌, ◌<◌, ◌+◌, ◌∷◌, ◌^◌, ◌⊎◌, [], All, OnOk, length};
 ghost use Rattle.rubis_script.specs.Runs.{GoesOn, GoesOnFrom, IsSound};
-ghost use Rattle.rubis_desk.specs.Windows.{AreHeld};
+ghost use Rattle.rubis_script.specs.Windows.{AreHeld};
 ghost use Rattle.rubis_reading.specs.Parsed.{FitsIn};
 ghost use Rattle.rubis_reading.specs.Runs.{all_came, of_run};
 
 use crate::backlog::Backlog;
-use rubis_desk::Desk;
+use crate::desk::Desk;
 use rubis_engine::OutOfMemory;
 use rubis_message::Message;
 use rubis_reading::{Parsed, Run};

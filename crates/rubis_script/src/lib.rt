@@ -1,14 +1,21 @@
 //! A site over records: bytes of CSV in, bytes of CSV out.
 //! A run of a site that reads ahead: while its desk answers records, those of the next chunk of text are read.
+//! The desk of a site: each record that it reads answered in its turn, over a reader and a writer.
 #![tactic(auto)]
 
 mod answering;
 mod backlog;
+mod desk;
+mod desk_site_run;
+mod laws;
 mod overlap;
 mod run;
 mod site_run;
+mod windows;
 
-pub use rubis_desk::{Desk, replays_go_on, run_desk};
+pub use desk::Desk;
+pub use desk_site_run::run_desk;
+pub use laws::replays_go_on;
 pub use rubis_engine::{Count, RunFault};
 pub use rubis_replica::Config;
 pub use run::run_desk_by;

@@ -9,7 +9,7 @@ ghost use Rattle.rubis_reading.specs.Runs.{flat};
 
 use crate::answering::answer_all;
 use crate::backlog::Backlog;
-use rubis_desk::Desk;
+use crate::desk::Desk;
 use rubis_engine::OutOfMemory;
 use rubis_reading::{Run, read_parts, read_piece};
 use rubis_replica::Gate;

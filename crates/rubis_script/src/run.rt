@@ -2,7 +2,7 @@
 
 ghost use Rattle.std.specs.Prelude.{◌≡◌, ◌≤◌, ◌<◌, ◌+◌, ◌^◌, ◌⊎◌, [], List, ℕ, Option, IfErr, IfNone, IfOk, IfSome, IsErrOf, MatchOption, OnOk, length, take};
 ghost use Rattle.rubis_script.specs.Runs.{GoesOnWriting, HasReadAhead, IsSound, OfEachAhead, StandsWith};
-ghost use Rattle.rubis_desk.specs.SiteRuns.{told_by};
+ghost use Rattle.rubis_script.specs.SiteRuns.{told_by};
 ghost use Rattle.rubis_engine.specs.Accounts.Ending.{AtEnd};
 ghost use Rattle.rubis_engine.specs.Accounts.{Account};
 ghost use Rattle.rubis_engine.specs.Progress.{IsCut, IsDone, IsTooLong, WrotePrefix};
@@ -12,8 +12,9 @@ ghost use Rattle.rubis_reading.specs.Streams.{IsWhole};
 
 use crate::answering::{answer_all, answer_some};
 use crate::backlog::Backlog;
+use crate::desk::Desk;
+use crate::desk_site_run::run_desk;
 use crate::overlap::{Plan, read_next};
-use rubis_desk::{Desk, run_desk};
 use rubis_engine::{Count, OutOfMemory, RunFault};
 use rubis_reading::{Ahead, ChunkFault, Chunks, read_parts};
 use rubis_replica::{Config, Gate};

@@ -7,8 +7,8 @@ ghost use Rattle.rubis_replica.specs.Setup.{setup_place};
 ghost use Rattle.rubis_engine.specs.Progress.{WrotePrefix};
 ghost use Rattle.rubis_engine.specs.Text.{input_records, rows_text};
 
+use crate::desk::Desk;
 use crate::run::run_desk_by;
-use rubis_desk::Desk;
 use rubis_engine::{Count, RunFault};
 use rubis_replica::{Config, Free, Gate};
 use rubis_schema::RECORDS_MAX;

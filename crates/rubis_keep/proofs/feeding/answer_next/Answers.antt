@@ -1,7 +1,7 @@
 use Rattle.std.proofs.Common.{◌+◌, false, refl, true}
 use Rattle.rubis_engine.proofs.RunFacts.{takes-at}
 use Rattle.rubis_engine.specs.Reading.{fields_now}
-use Rattle.rubis_desk.specs.Windows.{held_by}
+use Rattle.rubis_script.specs.Windows.{held_by}
 use Rattle.rubis_keep.proofs.TellingFacts.{answers-kept}
 use Rattle.rubis_keep.proofs.feeding.answer_next.Goals as goal
 

@@ -1,5 +1,5 @@
 use Rattle.std.proofs.Common.{◌+◌}
-use Rattle.rubis_desk.specs.Windows.{AreHeld, held_by}
+use Rattle.rubis_script.specs.Windows.{AreHeld, held_by}
 use Rattle.rubis_keep.specs.Kept.{Feeds, InEachFeed}
 use Rattle.rubis_keep.proofs.feeding.feed_records.Given as goal
 

@@ -1,5 +1,5 @@
 use Rattle.std.proofs.Common.{◌≡◌, ◌+◌, []}
-use Rattle.rubis_desk.specs.SiteRuns.{told_by}
+use Rattle.rubis_script.specs.SiteRuns.{told_by}
 use Rattle.rubis_keep.specs.Kept.{InEachStand, IsBegun, Stands}
 use Rattle.rubis_keep.proofs.pieces.answer_pieces.Given as goal
 

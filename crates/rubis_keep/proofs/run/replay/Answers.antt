@@ -1,6 +1,6 @@
 use Rattle.std.proofs.Common.{ap}
 use Rattle.std.proofs.lemmas.Result.{on_ok_weaker}
-use Rattle.rubis_desk.specs.SiteRuns.{told_by}
+use Rattle.rubis_script.specs.SiteRuns.{told_by}
 use Rattle.rubis_keep.proofs.TellingFacts.{none-told}
 use Rattle.rubis_keep.proofs.EachFacts.{on_err}
 use Rattle.rubis_keep.proofs.LifeFacts.{replay-err, replay-ok, replay-unfound}

@@ -1,4 +1,4 @@
-use Rattle.rubis_desk.proofs.OneReading.{came}
+use Rattle.rubis_script.proofs.OneReading.{came}
 use Rattle.rubis_keep.proofs.ShortenFacts.{takes-as}
 use Rattle.rubis_keep.proofs.shortening.take_record.Goals as goal
 

@@ -1,5 +1,5 @@
 use Rattle.std.proofs.Common.{◌≡◌, ◌+◌, All, length}
-use Rattle.rubis_desk.specs.Windows.{AreHeld}
+use Rattle.rubis_script.specs.Windows.{AreHeld}
 use Rattle.rubis_reading.specs.Parsed.{FitsIn}
 use Rattle.rubis_script.specs.Runs.{GoesOn}
 use Rattle.rubis_script.proofs.answering.answer_all.Given as goal

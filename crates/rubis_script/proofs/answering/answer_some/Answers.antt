@@ -1,5 +1,5 @@
 use Rattle.std.proofs.Common.{◌++◌, ◌≡◌, ◌∙◌, ◌+◌, ◌∷◌, All, ap, arith, length, subst, suc, sym, zero}
-use Rattle.rubis_desk.specs.Windows.{held_by}
+use Rattle.rubis_script.specs.Windows.{held_by}
 use Rattle.rubis_reading.specs.Parsed.{FitsIn}
 use Rattle.rubis_reading.specs.Runs.{of_run}
 use Rattle.rubis_reading.proofs.AheadFacts.{ahead-answered, ahead-kept}

@@ -1,5 +1,5 @@
 use Rattle.std.proofs.Common.{◌≡◌, ◌+◌, All, List, Option, ℕ, length}
-use Rattle.rubis_desk.specs.Windows.{AreHeld, held_by}
+use Rattle.rubis_script.specs.Windows.{AreHeld, held_by}
 use Rattle.rubis_engine.specs.Accounts.{Account}
 use Rattle.rubis_reading.specs.Parsed.{FitsIn}
 use Rattle.rubis_reading.specs.Steps.{HasAhead}

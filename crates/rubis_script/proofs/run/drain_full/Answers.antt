@@ -1,6 +1,6 @@
 use Rattle.std.proofs.Common.{◌+◌}
 use Rattle.std.proofs.lemmas.Result.{on_ok_weaker}
-use Rattle.rubis_desk.specs.Windows.{held_by}
+use Rattle.rubis_script.specs.Windows.{held_by}
 use Rattle.rubis_engine.specs.Text.{input_records}
 use Rattle.rubis_reading.proofs.AheadFacts.{ahead-written}
 use Rattle.rubis_script.proofs.run.drain_full.Goals as goal

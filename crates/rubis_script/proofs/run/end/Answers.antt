@@ -1,5 +1,5 @@
 use Rattle.std.proofs.Common.{◌≡◌, ◌∙◌, ◌+◌, ◌-◌, ◌++◌, [], append-nil, arith, refl, subst, sym}
-use Rattle.rubis_desk.specs.Windows.{held_by}
+use Rattle.rubis_script.specs.Windows.{held_by}
 use Rattle.rubis_engine.specs.Accounts.Ending.{AtEnd}
 use Rattle.rubis_engine.specs.Progress.{IsTooLong}
 use Rattle.rubis_engine.specs.Text.{input_records}

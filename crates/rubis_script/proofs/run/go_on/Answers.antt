@@ -1,5 +1,5 @@
 use Rattle.std.proofs.Common.{◌≡◌, ◌∙◌, ◌+◌, All, ap, refl, subst, sym, take}
-use Rattle.rubis_desk.specs.Windows.{held_by}
+use Rattle.rubis_script.specs.Windows.{held_by}
 use Rattle.rubis_engine.specs.Text.{input_records}
 use Rattle.rubis_reading.specs.Chunked.{held_text}
 use Rattle.rubis_reading.specs.Parsed.{AreParsed, FitsIn}

@@ -1,4 +1,4 @@
-use Rattle.rubis_desk.specs.SiteRuns.{told_by}
+use Rattle.rubis_script.specs.SiteRuns.{told_by}
 use Rattle.rubis_engine.specs.Text.{input_records}
 use Rattle.rubis_engine.proofs.RunFacts.{if_ok_so}
 use Rattle.rubis_reading.specs.Chunked.{HasPending}

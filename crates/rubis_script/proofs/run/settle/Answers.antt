@@ -1,7 +1,7 @@
 use Rattle.std.proofs.Common.{◌+◌, All, ap, subst, sym}
 use Rattle.std.proofs.lemmas.Result.{on_ok_weaker}
-use Rattle.rubis_desk.specs.Windows.{held_by}
-use Rattle.rubis_desk.proofs.WindowFacts.{held_none, told-kept}
+use Rattle.rubis_script.specs.Windows.{held_by}
+use Rattle.rubis_script.proofs.WindowFacts.{held_none, told-kept}
 use Rattle.rubis_engine.proofs.RunFacts.{on_ok}
 use Rattle.rubis_reading.specs.Parsed.{FitsIn}
 use Rattle.rubis_reading.proofs.AheadFacts.{ahead-kept, ahead-written}

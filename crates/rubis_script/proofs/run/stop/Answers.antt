@@ -1,6 +1,6 @@
 use Rattle.std.proofs.Common.{◌≡◌, ◌+◌, [], arith, ap, length}
 use Rattle.std.specs.Prelude.{OnOk}
-use Rattle.rubis_desk.specs.Windows.{held_by}
+use Rattle.rubis_script.specs.Windows.{held_by}
 use Rattle.rubis_engine.specs.Accounts.Ending.{Cut}
 use Rattle.rubis_engine.proofs.RunFacts.{on_ok_both}
 use Rattle.rubis_reading.proofs.AheadFacts.{ahead-too_long}

@@ -1,5 +1,5 @@
 use Rattle.std.proofs.Common.{◌≡◌, ◌+◌, false, refl, rules}
-use Rattle.rubis_desk.specs.Windows.{held_by}
+use Rattle.rubis_script.specs.Windows.{held_by}
 use Rattle.rubis_engine.specs.Accounts.Ending.{Cut}
 use Rattle.rubis_engine.specs.Text.{input_records}
 use Rattle.rubis_engine.specs.declared.fault.RunFault.TheVariants as fault

@@ -1,4 +1,0 @@
-pub mod SiteAnswers
-pub mod OneReading
-pub mod WindowFacts
-pub mod ReplayFacts

@@ -1,5 +1,0 @@
-use Rattle.rubis_desk.proofs.ReplayFacts.{replays_go_on}
-use Rattle.rubis_desk.proofs.laws.replays_go_on.Goals as goal
-
-pub returns : goal.returns
-returns c = replays_go_on

@@ -1,4 +1,0 @@
-pub mod Inputs
-pub mod SiteRuns
-pub mod Windows
-pub mod Replays

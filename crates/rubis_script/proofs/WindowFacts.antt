@@ -1,0 +1,133 @@
+-- What holding messages leaves to be written, and what taking them in writes.
+use Rattle.std.proofs.Common.{◌≡◌, ◌∙◌, ◌≤◌, ◌+◌, ◌-◌, ◌++◌, ◌∷◌, [], ℕ, List, ap, append_assoc, arith, length, length-append, refl, subst, sym}
+use Rattle.std.specs.Prelude.{Option}
+use Rattle.std.proofs.lemmas.List.{append-nil}
+use Rattle.std.proofs.lemmas.List.Elements.{All-push}
+use Rattle.rubis_message.specs.Message.{Message, sites_of}
+use Rattle.rubis_message.specs.declared.tokens.Packet.TheVariants.{Msg}
+use Rattle.rubis_model.specs.Answers.{arrived_rows}
+use Rattle.rubis_model.specs.Runs.{answers, input_of, input_step}
+use Rattle.rubis_model.specs.Runs.Input.{Came}
+use Rattle.rubis_model.specs.Site.{Place, Replica, arrived}
+use Rattle.rubis_replica.specs.Arrivals.{TakesFirst, after_all, answers_to}
+use Rattle.rubis_replica.specs.State.{SiteState}
+use Rattle.rubis_engine.specs.Accounts.{Account, AnswersRecord, Keeps}
+use Rattle.rubis_engine.specs.declared.service.Course.TheVariants.{GoesOn}
+use Rattle.rubis_script.specs.Inputs.{IsAnswered}
+use Rattle.rubis_engine.specs.Progress.{HasComeSoFar}
+use Rattle.rubis_script.specs.SiteRuns.{told_by}
+use Rattle.rubis_engine.specs.declared.record_list.Records.{Records}
+use Rattle.rubis_engine.specs.Text.{rows_text}
+use Rattle.rubis_script.specs.Windows.{AreHeld, arrivals_rows, held_by, window_rows}
+use Rattle.rubis_script.proofs.SiteAnswers.{site_goes}
+use Rattle.rubis_engine.proofs.TextFacts.{text-goes}
+
+-- ---- a message more is held
+
+after_more : (p : Place) (s : Replica) (ms : List Message) (m : Message) → after_all p s (ms ++ m ∷ []) ≡ (arrived p (after_all p s ms) m).0
+after_more p s [] m = refl
+after_more p s (x ∷ ms) m = after_more p (arrived p s x).0 ms m
+
+rows_more : (p : Place) (s : Replica) (n : ℕ) (w : List Message) (m : Message)
+    → window_rows p s n (w ++ m ∷ []) ≡ window_rows p s n w ++ (input_step p (after_all p s w) (n + length w) (Came (Msg m))).1
+rows_more p s n [] m =
+    append-nil (input_step p s n (Came (Msg m))).1 ∙ ap (λ k. (input_step p s k (Came (Msg m))).1) (let e : n ≡ n + 0 = omega arith in e)
+rows_more p s n (x ∷ w) m =
+    let first = (input_step p s n (Came (Msg x))).1 in
+    ap (λ l. first ++ l) (rows_more p (arrived p s x).0 (n + 1) w m)
+    ∙ sym (append_assoc first (window_rows p (arrived p s x).0 (n + 1) w) _)
+    ∙ ap (λ k. (first ++ window_rows p (arrived p s x).0 (n + 1) w) ++ (input_step p (after_all p (arrived p s x).0 w) k (Came (Msg m))).1)
+    (let e : (n + 1) + length w ≡ n + length (x ∷ w) = omega arith in e)
+
+-- the record is a message that is held too: what is to be written stays the same
+rows_held : (p : Place) (s : Replica) (n : ℕ) (w : List Message) (m : Message) (fields : List (List ℕ)) (more : List (List (List ℕ)))
+    → length w ≤ n → input_of p.sites fields ≡ Came (Msg m)
+    → window_rows p s (n - length w) w ++ answers p (after_all p s w) n (fields ∷ more)
+    ≡ window_rows p s ((n + 1) - length (w ++ m ∷ [])) (w ++ m ∷ []) ++ answers p (after_all p s (w ++ m ∷ [])) (n + 1) more
+unfolding answers
+rows_held p s n w m fields more few is =
+    let start = n - length w in
+    let here : start + length w ≡ n = omega (arith, few) in
+    let same : (n + 1) - length (w ++ m ∷ []) ≡ start = omega (arith, few, length-append w (m ∷ [])) in
+    let step = input_step p (after_all p s w) n (Came (Msg m)) in
+    let now : answers p (after_all p s w) n (fields ∷ more) ≡ step.1 ++ answers p step.0 (n + 1) more =
+    ap (λ i. (input_step p (after_all p s w) n i).1 ++ answers p (input_step p (after_all p s w) n i).0 (n + 1) more) is in
+    ap (λ l. window_rows p s start w ++ l) now
+    ∙ sym (append_assoc (window_rows p s start w) step.1 (answers p step.0 (n + 1) more))
+    ∙ (λ i. (window_rows p s start w ++ (input_step p (after_all p s w) (sym here i) (Came (Msg m))).1) ++ answers p (sym (after_more p s w m) i) (n + 1) more)
+    ∙ (λ i. sym (rows_more p s start w m) i ++ answers p (after_all p s (w ++ m ∷ [])) (n + 1) more)
+    ∙ (λ i. window_rows p s (sym same i) (w ++ m ∷ []) ++ answers p (after_all p s (w ++ m ∷ [])) (n + 1) more)
+
+pub holds_more : (s : SiteState) (n : ℕ) (w : List Message) (m : Message) (fields : List (List ℕ)) (sink : List ℕ)
+    → length w ≤ n → input_of s.place.sites fields ≡ Came (Msg m)
+    → AnswersRecord GoesOn (held_by s w n) (held_by s (w ++ m ∷ []) (n + 1)) sink sink fields
+holds_more s n w m fields sink few is more =
+    (λ ending. ap (λ rows. sink ++ rows_text rows) (rows_held s.place s.state n w m fields more few is), omega arith)
+
+pub held_more : (p : Place) (w : List Message) (m : Message) (answered : ℕ) → AreHeld p w answered → sites_of m ≡ p.sites
+    → AreHeld p (w ++ m ∷ []) (answered + 1)
+held_more p w m answered held one = record {
+  sites = All-push (λ x. sites_of x ≡ p.sites) w m held.sites one;
+  few = omega (arith, held.few, length-append w (m ∷ []));
+}
+
+pub held_none : (p : Place) (w : List Message) (answered : ℕ) → w ≡ [] → AreHeld p w answered
+held_none p w answered none = rw none (record { sites = search arith; few = omega arith })
+
+-- ---- those that are held are taken in
+
+told_rows : (p : Place) (s : Replica) (n : ℕ) (ms : List Message) → arrivals_rows n (answers_to p s ms) ≡ window_rows p s n ms
+told_rows p s n [] = refl
+told_rows p s n (m ∷ ms) = ap (λ rest. arrived_rows n (arrived p s m).1 ++ rest) (told_rows p (arrived p s m).0 (n + 1) ms)
+
+pub answers-length : (p : Place) (s : Replica) (ms : List Message) → length (answers_to p s ms) ≡ length ms
+answers-length p s [] = refl
+answers-length p s (m ∷ ms) = let rest = answers-length p (arrived p s m).0 ms in omega (arith, rest)
+
+-- no more are answered than were handed in
+pub answers-few : (p : Place) (old new : Replica) (ms rest : List Message) (answers : List _) → TakesFirst p old new ms answers rest → length answers ≤ length ms
+answers-few p old new ms rest answers t =
+    let told : length answers ≡ length t.taken = ap length t.told ∙ answers-length p old t.taken in
+    let whole : length ms ≡ length t.taken + length rest = ap length t.parts ∙ length-append t.taken rest in
+    omega (arith, told, whole)
+
+pub flush_keeps : (old new : SiteState) (window rest : List Message) (n first : ℕ) (told : List _) (sink sink2 : List ℕ)
+    → first ≡ n - length window → new.place ≡ old.place → TakesFirst old.place old.state new.state window told rest → rest ≡ []
+    → sink2 ≡ sink ++ rows_text (arrivals_rows first told)
+    → Keeps (held_by old window n) (told_by new n) sink sink2
+flush_keeps old new window rest n first told sink sink2 start place t none wrote more =
+    let same : t.taken ≡ window = sym (t.parts ∙ ap (λ r. t.taken ++ r) none ∙ append-nil t.taken) in
+    let rows = window_rows old.place old.state (n - length window) window in
+    let shown : arrivals_rows first told ≡ rows =
+    ap (arrivals_rows first) t.told ∙ told_rows old.place old.state first t.taken ∙ (λ i. window_rows old.place old.state (start i) (same i)) in
+    let left = answers old.place (after_all old.place old.state window) n more in
+    let state : after_all old.place old.state window ≡ new.state = sym (t.state ∙ ap (after_all old.place old.state) same) in (
+      λ ending. text-goes sink sink2 rows left (wrote ∙ ap (λ r. sink ++ rows_text r) shown)
+          ∙ (λ i. sink2 ++ rows_text (answers (sym place i) (state i) n more)),
+      refl,
+    )
+
+-- nothing is held, so there is nothing to take in
+pub none_keeps : (s : SiteState) (window : List Message) (n : ℕ) (sink : List ℕ) → window ≡ [] → Keeps (held_by s window n) (told_by s n) sink sink
+none_keeps s window n sink none = rw none (λ more. (λ ending. refl, refl))
+
+-- those that are held are taken in, and then the record is answered
+pub flush_goes : (old mid new : SiteState) (w w2 : List Message) (n : ℕ) (fields : List (List ℕ)) (sink sink2 sink3 : List ℕ)
+    → Keeps (held_by old w n) (told_by mid n) sink sink2 → new.place ≡ mid.place → IsAnswered n (input_of mid.place.sites fields) mid new sink2 sink3
+    → w2 ≡ [] → AnswersRecord GoesOn (held_by old w n) (held_by new w2 (n + 1)) sink sink3 fields
+flush_goes old mid new w w2 n fields sink sink2 sink3 keeps place answered none =
+    subst (λ v. AnswersRecord GoesOn (held_by old w n) (held_by new v (n + 1)) sink sink3 fields) (sym none)
+    (λ more. let read = (keeps (fields ∷ more)).1 in (
+      λ ending. (keeps (fields ∷ more)).0 ending ∙ site_goes mid new n fields sink2 sink3 place answered more,
+      omega (arith, read),
+    ))
+
+-- nothing is held, and so the run has come as far as its site
+pub progress-told : {R : Type 0} (rem : R → Option (List ℕ)) (a : Records R) (all : Account) (s : SiteState) (window : List Message)
+    (old now : Option (List ℕ)) (sink : List ℕ) (n : ℕ) (input : List ℕ) → window ≡ []
+    → HasComeSoFar rem a all (told_by s n) old now sink n input → HasComeSoFar rem a all (held_by s window n) old now sink n input
+progress-told rem a all s window old now sink n input none p = rw none p
+
+pub told-kept : (old s : SiteState) (window window2 : List Message) (n : ℕ) (sink sink2 : List ℕ) → window2 ≡ []
+    → Keeps (held_by old window n) (told_by s n) sink sink2 → Keeps (held_by old window n) (held_by s window2 n) sink sink2
+told-kept old s window window2 n sink sink2 none keeps = subst (λ w. Keeps (held_by old window n) (held_by s w n) sink sink2) (sym none) keeps

@@ -1,0 +1,5 @@
+use Rattle.rubis_script.proofs.ReplayFacts.{replays_go_on}
+use Rattle.rubis_script.proofs.laws.replays_go_on.Goals as goal
+
+pub returns : goal.returns
+returns c = replays_go_on

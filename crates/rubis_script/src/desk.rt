@@ -1,0 +1,462 @@
+// A site as a service: a record in, its answers out.
+
+ghost use Rattle.std.proofs.Common.{rules};
+ghost use Rattle.std.specs.Prelude.{◌≡◌, ◌≤◌, ◌<◌, ◌+◌, ◌++◌, ◌∷◌, ◌^◌, [], IfOk, List, None, OnOk, ℕ, length, refl};
+ghost use Rattle.rubis_shadow.specs.Limits.{IsAsk};
+ghost use Rattle.rubis_message.specs.Grammar.{IsPacket, IsRequest};
+ghost use Rattle.rubis_message.specs.Message.{sites_of};
+ghost use Rattle.rubis_message.specs.declared.requests.Request.TheVariants as Request;
+ghost use Rattle.rubis_message.specs.declared.tokens.Packet.TheVariants as Packet;
+ghost use Rattle.rubis_model.specs.Answers.{refused_row};
+ghost use Rattle.rubis_model.specs.Runs.{input_of};
+ghost use Rattle.rubis_model.specs.Runs.Input.{Asked, Came};
+ghost use Rattle.rubis_message.specs.Readings.{packet_of};
+ghost use Rattle.rubis_model.specs.Site.{opening_at};
+ghost use Rattle.rubis_replica.specs.Setup.{setup_place};
+ghost use Rattle.rubis_reading.specs.Parsed.{FitsIn, meant};
+ghost use Rattle.rubis_engine.specs.Accounts.{AnswersRecord, Keeps};
+ghost use Rattle.rubis_script.specs.Inputs.{IsAnswered, IsReadOf, answer_of};
+ghost use Rattle.rubis_script.specs.SiteRuns.{told_by};
+ghost use Rattle.rubis_engine.specs.Text.{rows_text};
+ghost use Rattle.rubis_script.specs.Windows.{AreHeld, held_by};
+ghost use Rattle.rubis_engine.specs.declared.service.Course.TheVariants as Course;
+
+use crate::windows::{hold, window_of, write_arrivals};
+use rubis_engine::{InputRecord, OutOfMemory, Reply, Service, Sink};
+use rubis_listing::Counted;
+use rubis_message::{Message, Packet, ReadFault, Request, Token, read_packet, read_request};
+use rubis_reading::Parsed;
+use rubis_replica::{Config, Fault, Free, Gate, Site};
+use rubis_replies::{
+    write_arrival, write_listed_text, write_passed, write_refusal, write_sent, write_taken,
+};
+use rubis_schema::{Listing, Refusal};
+use rubis_shadow::Ask;
+use std::alloc::{AllocError, Global};
+use std::mem;
+use std::sync::Wait;
+use std::thread::Threads;
+
+// The answer of a site's call, or its refusal. A site that has no memory for an answer gives none, nor does one that is
+// behind, which had none for a batch.
+#[inline(always)]
+fn answered<A>(answer: Result<A, Fault>) -> Result<Result<A, Refusal>, OutOfMemory>
+    ensures { result ≡ answer_of answer }
+{
+    match answer {
+        Ok(answer) => Ok(Ok(answer)),
+        Err(Fault::Refused(refusal)) => Ok(Err(refusal)),
+        Err(Fault::Behind) | Err(Fault::Memory) => Err(OutOfMemory),
+    }
+}
+
+// Refuses a record.
+#[inline(always)]
+fn refuse(reply: &mut Reply, refusal: Refusal) -> Result<(), OutOfMemory>
+    ensures { OnOk result (reply.new.sink ≡ reply.old.sink ++ rows_text (refused_row reply.old.number refusal ∷ [])) }
+{
+    write_refusal(&mut reply.fields, &mut reply.sink, reply.number, refusal)?;
+    Ok(())
+}
+
+// Answers an ask.
+#[inline(always)]
+fn answer_ask<G: Gate, R: Threads + Wait + Sync>(
+    rt: &R,
+    site: &mut Site<G>,
+    reply: &mut Reply,
+    ask: Ask,
+) -> Result<(), OutOfMemory>
+    requires { IsAsk site.old.place.sites ask }
+    ensures place { site.new.place ≡ site.old.place }
+    ensures answered { OnOk result (IsAnswered reply.old.number (Asked (Request.Ask ask)) site.old site.new reply.old.sink reply.new.sink) }
+{
+    match site.request(rt, ask) {
+        Ok(message) => write_sent(&mut reply.fields, &mut reply.sink, reply.number, &message)?,
+        Err(Fault::Refused(refusal)) => refuse(reply, refusal)?,
+        Err(Fault::Behind) | Err(Fault::Memory) => return Err(OutOfMemory),
+    }
+    Ok(())
+}
+
+// Answers a request to hand the token on.
+fn answer_pass<G: Gate>(site: &mut Site<G>, reply: &mut Reply, to: u8) -> Result<(), OutOfMemory>
+    ensures place { site.new.place ≡ site.old.place }
+    ensures answered { OnOk result (IsAnswered reply.old.number (Asked (Request.Pass to)) site.old site.new reply.old.sink reply.new.sink) }
+{
+    let answer = answered(site.pass(to))?;
+    write_passed(&mut reply.fields, &mut reply.sink, reply.number, &answer)?;
+    Ok(())
+}
+
+// Answers a request for a listing. The rows are written apart, since how many they are stands before them.
+#[inline(never)]
+fn answer_list<G: Gate, R: Threads + Wait + Sync>(
+    rt: &R,
+    site: &mut Site<G>,
+    reply: &mut Reply,
+    listing: &Listing,
+) -> Result<(), OutOfMemory>
+    ensures place { site.new.place ≡ site.old.place }
+    ensures answered { OnOk result (IsAnswered reply.old.number (Asked (Request.List listing.now)) site.old site.new reply.old.sink reply.new.sink) }
+{
+    let mut rows = Counted::new(reply.sink.another());
+    match answered(site.list_into(rt, listing, &mut rows))? {
+        Ok(()) => write_listed_text(&mut reply.fields, &mut reply.sink, reply.number, rows)?,
+        Err(refusal) => refuse(reply, refusal)?,
+    }
+    Ok(())
+}
+
+// Answers a request.
+#[inline(always)]
+fn answer_request<G: Gate, R: Threads + Wait + Sync>(
+    rt: &R,
+    site: &mut Site<G>,
+    reply: &mut Reply,
+    request: Request,
+) -> Result<(), OutOfMemory>
+    requires { IsRequest site.old.place.sites request }
+    ensures place { site.new.place ≡ site.old.place }
+    ensures answered { OnOk result (IsAnswered reply.old.number (Asked request) site.old site.new reply.old.sink reply.new.sink) }
+{
+    match request {
+        Request::Ask(ask) => answer_ask(rt, site, reply, ask),
+        Request::Pass(to) => answer_pass(site, reply, to),
+        Request::List(listing) => answer_list(rt, site, reply, &listing),
+    }
+}
+
+// Answers a message that arrives.
+#[inline(always)]
+fn answer_message<G: Gate, R: Threads + Wait + Sync>(
+    rt: &R,
+    site: &mut Site<G>,
+    reply: &mut Reply,
+    message: Message,
+) -> Result<(), OutOfMemory>
+    requires { sites_of message ≡ site.old.place.sites }
+    ensures place { site.new.place ≡ site.old.place }
+    ensures answered { OnOk result (IsAnswered reply.old.number (Came (Packet.Msg message)) site.old site.new reply.old.sink reply.new.sink) }
+{
+    let answer = answered(site.arrive(rt, message))?;
+    write_arrival(&mut reply.fields, &mut reply.sink, reply.number, &answer)?;
+    Ok(())
+}
+
+// Answers a token that arrives.
+fn answer_token<G: Gate>(
+    site: &mut Site<G>,
+    reply: &mut Reply,
+    token: Token,
+) -> Result<(), OutOfMemory>
+    ensures place { site.new.place ≡ site.old.place }
+    ensures answered { OnOk result (IsAnswered reply.old.number (Came (Packet.Token token)) site.old site.new reply.old.sink reply.new.sink) }
+{
+    let answer = answered(site.token(token))?;
+    write_taken(&mut reply.fields, &mut reply.sink, reply.number, &answer)?;
+    Ok(())
+}
+
+// Answers a packet.
+#[inline(always)]
+fn answer_packet<G: Gate, R: Threads + Wait + Sync>(
+    rt: &R,
+    site: &mut Site<G>,
+    reply: &mut Reply,
+    packet: Packet,
+) -> Result<(), OutOfMemory>
+    requires { IsPacket site.old.place.sites packet }
+    ensures place { site.new.place ≡ site.old.place }
+    ensures answered { OnOk result (IsAnswered reply.old.number (Came packet) site.old site.new reply.old.sink reply.new.sink) }
+{
+    match packet {
+        Packet::Msg(message) => answer_message(rt, site, reply, message),
+        Packet::Token(token) => answer_token(site, reply, token),
+    }
+}
+
+/// A site with what it needs to read records and to write its answers.
+#[derive(Drop)]
+pub struct Desk<G: Gate = Free> {
+    pub site: Site<G>,
+    sites: u8,
+    // How many messages are taken in together.
+    window: usize,
+    alloc: Global,
+    ghost same: { sites ≡ site.place.sites },
+    ghost few: { sites ≤ 16 },
+}
+
+impl<G: Gate + Drop> Desk<G> {
+    /// A site with nothing done, set up so, whose batches are applied under the gate.
+    pub fn new(alloc: Global, config: &Config, gate: G) -> Result<Desk<G>, AllocError>
+        ensures { IfOk result (λ desk. (desk.site.place ≡ setup_place config.now) × (desk.site.state ≡ opening_at config.now.site)) }
+    {
+        Ok(Desk {
+            site: Site::new(alloc, config, gate)?,
+            sites: config.sites(),
+            window: window_of(config),
+            alloc,
+        })
+    }
+}
+
+impl<G: Gate> Desk<G> {
+    // Answers a record that is no packet.
+    #[tactic(auto, using(crate::proofs::OneReading::asked, crate::proofs::OneReading::neither))]
+    #[inline(always)]
+    fn respond_to_request<R: Threads + Wait + Sync>(
+        &mut self,
+        rt: &R,
+        fields: &InputRecord,
+        reply: &mut Reply,
+    ) -> Result<(), OutOfMemory>
+        requires { packet_of self.old.site.place.sites fields.now ≡ None }
+        ensures place { self.new.site.place ≡ self.old.site.place }
+        ensures answered { OnOk result (IsAnswered reply.old.number (input_of self.old.site.place.sites fields.now) self.old.site self.new.site reply.old.sink reply.new.sink) }
+    {
+        match read_request(self.alloc, fields, self.sites) {
+            Ok(request) => answer_request(rt, &mut self.site, reply, request),
+            Err(ReadFault::BadRecord) => refuse(reply, Refusal::BadRecord),
+            Err(ReadFault::Memory) => Err(OutOfMemory),
+        }
+    }
+
+    // Answers a record of which it is known whether it is a packet. No record is both a request and a packet, and most records
+    // of a busy site are packets.
+    #[tactic(auto, using(crate::proofs::OneReading::came))]
+    #[inline(always)]
+    fn respond_to<R: Threads + Wait + Sync>(
+        &mut self,
+        rt: &R,
+        fields: &InputRecord,
+        read: Result<Packet, ReadFault>,
+        reply: &mut Reply,
+    ) -> Result<(), OutOfMemory>
+        requires { IsReadOf self.old.site.place.sites fields.now read }
+        ensures place { self.new.site.place ≡ self.old.site.place }
+        ensures answered { OnOk result (IsAnswered reply.old.number (input_of self.old.site.place.sites fields.now) self.old.site self.new.site reply.old.sink reply.new.sink) }
+    {
+        match read {
+            Ok(packet) => answer_packet(rt, &mut self.site, reply, packet),
+            Err(ReadFault::BadRecord) => self.respond_to_request(rt, fields, reply),
+            Err(ReadFault::Memory) => Err(OutOfMemory),
+        }
+    }
+
+    /// Answers a record.
+    pub fn respond<R: Threads + Wait + Sync>(
+        &mut self,
+        rt: &R,
+        fields: &InputRecord,
+        reply: &mut Reply,
+    ) -> Result<(), OutOfMemory>
+        ensures place { self.new.site.place ≡ self.old.site.place }
+        ensures answered { OnOk result (IsAnswered reply.old.number (input_of self.old.site.place.sites fields.now) self.old.site self.new.site reply.old.sink reply.new.sink) }
+    {
+        let read = read_packet(self.alloc, fields, self.sites);
+        self.respond_to(rt, fields, read, reply)
+    }
+
+    // Whether one more message is held before these are taken in. It decides when messages are taken in, and not what is answered.
+    pub(crate) fn has_room(&self, window: &Vec<Message>) -> bool {
+        window.len() < self.window
+    }
+
+    /// Takes in the messages that are held, the last of the records so far, and answers them, if there are any.
+    #[inline(always)]
+    pub fn flush<R: Threads + Wait + Sync>(
+        &mut self,
+        rt: &R,
+        answered: u64,
+        window: &mut Vec<Message>,
+        reply: &mut Reply,
+    ) -> Result<(), OutOfMemory>
+        requires held { AreHeld self.old.site.place window.old.items answered }
+        ensures place { self.new.site.place ≡ self.old.site.place }
+        ensures empty { window.new.items ≡ [] }
+        ensures flushed { OnOk result (Keeps (held_by self.old.site window.old.items (answered + 1)) (told_by self.new.site (answered + 1)) reply.old.sink reply.new.sink) }
+    {
+        if window.is_empty() {
+            return Ok(());
+        }
+        self.take_in(rt, answered, window, reply)
+    }
+
+    // Takes in the messages that are held, the last of the records so far, and answers them.
+    #[inline(never)]
+    fn take_in<R: Threads + Wait + Sync>(
+        &mut self,
+        rt: &R,
+        answered: u64,
+        window: &mut Vec<Message>,
+        reply: &mut Reply,
+    ) -> Result<(), OutOfMemory>
+        requires held { AreHeld self.old.site.place window.old.items answered }
+        requires some { 0 < length window.old.items }
+        ensures place { self.new.site.place ≡ self.old.site.place }
+        ensures empty { window.new.items ≡ [] }
+        ensures flushed { OnOk result (Keeps (held_by self.old.site window.old.items (answered + 1)) (told_by self.new.site (answered + 1)) reply.old.sink reply.new.sink) }
+    {
+        let first = answered - window.len() as u64 + 1;
+        let messages = mem::replace(window, Vec::new(self.alloc));
+        let arrived = self.site.arrive_all(rt, messages);
+        write_arrivals(
+            &mut reply.fields,
+            &mut reply.sink,
+            first,
+            arrived.answers.as_slice(),
+        )?;
+        if arrived.fault.is_some() {
+            return Err(OutOfMemory);
+        }
+        Ok(())
+    }
+
+    /// Holds the next record, if it is a message and messages are held at all; otherwise takes in those that are held, and
+    /// answers it.
+    pub fn take<R: Threads + Wait + Sync>(
+        &mut self,
+        rt: &R,
+        answered: u64,
+        fields: &InputRecord,
+        window: &mut Vec<Message>,
+        reply: &mut Reply,
+    ) -> Result<(), OutOfMemory>
+        requires held { AreHeld self.old.site.place window.old.items answered }
+        requires room { answered + 1 < 2 ^ 64 }
+        ensures held { OnOk result (AreHeld self.new.site.place window.new.items (answered + 1)) }
+        ensures goes { OnOk result (AnswersRecord Course.GoesOn (held_by self.old.site window.old.items (answered + 1)) (held_by self.new.site window.new.items (answered + 1 + 1)) reply.old.sink reply.new.sink fields.now) }
+    {
+        match read_packet(self.alloc, fields, self.sites) {
+            Ok(Packet::Msg(message)) if self.window > 1 => hold(window, message),
+            read => {
+                self.flush(rt, answered, window, reply)?;
+                reply.number = answered + 1;
+                self.respond_to(rt, fields, read, reply)
+            }
+        }
+    }
+}
+
+impl<G: Gate> Desk<G> {
+    /// How many sites there are.
+    pub fn sites(&self) -> u8
+        ensures same { result ≡ self.now.site.place.sites }
+        ensures few { result ≤ 16 }
+    {
+        self.sites
+    }
+
+    // Answers what a record was read as.
+    fn respond_parsed<R: Threads + Wait + Sync>(
+        &mut self,
+        rt: &R,
+        parsed: Parsed,
+        reply: &mut Reply,
+    ) -> Result<(), OutOfMemory>
+        requires { FitsIn self.old.site.place.sites parsed }
+        ensures place { self.new.site.place ≡ self.old.site.place }
+        ensures answered { OnOk result (IsAnswered reply.old.number (meant parsed) self.old.site self.new.site reply.old.sink reply.new.sink) }
+    {
+        match parsed {
+            Parsed::Came(packet) => answer_packet(rt, &mut self.site, reply, packet),
+            Parsed::Asked(request) => answer_request(rt, &mut self.site, reply, request),
+            Parsed::Neither => refuse(reply, Refusal::BadRecord),
+        }
+    }
+
+    // Takes in the messages that are held, and answers what the next record was read as.
+    fn answer_parsed<R: Threads + Wait + Sync>(
+        &mut self,
+        rt: &R,
+        answered: u64,
+        parsed: Parsed,
+        window: &mut Vec<Message>,
+        reply: &mut Reply,
+    ) -> Result<(), OutOfMemory>
+        requires held { AreHeld self.old.site.place window.old.items answered }
+        requires room { answered + 1 < 2 ^ 64 }
+        requires fits { FitsIn self.old.site.place.sites parsed }
+        ensures place { self.new.site.place ≡ self.old.site.place }
+        ensures empty { window.new.items ≡ [] }
+        ensures goes { OnOk result ((fields : List (List ℕ)) → input_of self.old.site.place.sites fields ≡ meant parsed
+            → AnswersRecord Course.GoesOn (held_by self.old.site window.old.items (answered + 1)) (held_by self.new.site window.new.items (answered + 1 + 1)) reply.old.sink reply.new.sink fields) }
+    {
+        self.flush(rt, answered, window, reply)?;
+        reply.number = answered + 1;
+        self.respond_parsed(rt, parsed, reply)
+    }
+
+    /// Takes in the messages that are held, if there is no room for one more.
+    pub fn make_room<R: Threads + Wait + Sync>(
+        &mut self,
+        rt: &R,
+        answered: u64,
+        window: &mut Vec<Message>,
+        reply: &mut Reply,
+    ) -> Result<(), OutOfMemory>
+        requires held { AreHeld self.old.site.place window.old.items answered }
+        ensures place { self.new.site.place ≡ self.old.site.place }
+        ensures held { AreHeld self.new.site.place window.new.items answered }
+        ensures kept { OnOk result (Keeps (held_by self.old.site window.old.items (answered + 1)) (held_by self.new.site window.new.items (answered + 1)) reply.old.sink reply.new.sink) }
+    {
+        if self.has_room(window) {
+            return Ok(());
+        }
+        self.flush(rt, answered, window, reply)
+    }
+
+    /// Holds what the next record was read as, if it is a message and messages are held at all; otherwise takes in those that are
+    /// held, and answers it.
+    pub fn take_parsed<R: Threads + Wait + Sync>(
+        &mut self,
+        rt: &R,
+        answered: u64,
+        parsed: Parsed,
+        window: &mut Vec<Message>,
+        reply: &mut Reply,
+    ) -> Result<(), OutOfMemory>
+        requires held { AreHeld self.old.site.place window.old.items answered }
+        requires room { answered + 1 < 2 ^ 64 }
+        requires fits { FitsIn self.old.site.place.sites parsed }
+        ensures place { self.new.site.place ≡ self.old.site.place }
+        ensures held { OnOk result (AreHeld self.new.site.place window.new.items (answered + 1)) }
+        ensures goes { OnOk result ((fields : List (List ℕ)) → input_of self.old.site.place.sites fields ≡ meant parsed
+            → AnswersRecord Course.GoesOn (held_by self.old.site window.old.items (answered + 1)) (held_by self.new.site window.new.items (answered + 1 + 1)) reply.old.sink reply.new.sink fields) }
+    {
+        if self.window > 1 {
+            return match parsed {
+                Parsed::Came(Packet::Msg(message)) => hold(window, message),
+                Parsed::Came(Packet::Token(token)) => {
+                    let other = Parsed::Came(Packet::Token(token));
+                    self.answer_parsed(rt, answered, other, window, reply)
+                }
+                Parsed::Asked(request) => {
+                    self.answer_parsed(rt, answered, Parsed::Asked(request), window, reply)
+                }
+                Parsed::Neither => {
+                    self.answer_parsed(rt, answered, Parsed::Neither, window, reply)
+                }
+            };
+        }
+        self.answer_parsed(rt, answered, parsed, window, reply)
+    }
+}
+
+impl<G: Gate, T> Service<T> for Desk<G> {
+    ghost account = { λ s n. told_by s.site n };
+
+    ghost reads_none = { λ s n. refl };
+
+    ghost reads_next = { Prim.search rules };
+
+    fn answer_held(&mut self, _rt: &T, _sink: &mut Sink) -> Result<(), OutOfMemory> {
+        Ok(())
+    }
+
+    fn answer_end(&mut self, _rt: &T, _sink: &mut Sink) -> Result<(), OutOfMemory> {
+        Ok(())
+    }
+}

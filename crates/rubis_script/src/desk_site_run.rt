@@ -1,0 +1,196 @@
+// The desk of a site over a reader and a writer.
+
+ghost use Rattle.std.specs.Prelude.{◌≡◌, ◌<◌, ◌+◌, ◌^◌, ◌⊎◌, [], List, Option, IfErr, IfNone, IfOk, IfSome, IsErrOf, OnOk, true};
+ghost use Rattle.rubis_engine.specs.Accounts.Ending.{AtEnd};
+ghost use Rattle.rubis_engine.specs.Progress.{EndsCut, EndsDone, EndsInPrefix, EndsTooLong, FromStart, HasMoved, IsCut, IsDone, IsTooLong, OfEachRun, StandsAt, WrotePrefix};
+ghost use Rattle.rubis_engine.specs.Reading.{Advances};
+ghost use Rattle.rubis_script.specs.SiteRuns.{told_by};
+ghost use Rattle.rubis_engine.specs.Text.{input_records, rows_text};
+ghost use Rattle.rubis_script.specs.Windows.{AreHeld, held_by};
+
+use crate::desk::Desk;
+use rubis_engine::{Count, Run, RunFault, end_run, stop, write_out};
+use rubis_message::Message;
+use rubis_replica::Gate;
+use std::alloc::Global;
+use std::io::{Read, Write};
+use std::sync::Wait;
+use std::thread::Threads;
+
+// A run of a site, and the messages that it holds, to take them in together: the last of the records so far.
+#[derive(Drop)]
+struct SiteRun<R> {
+    run: Run<R>,
+    window: Vec<Message>,
+}
+
+// Reads the next record. `None` if there is one. Otherwise answers the messages that are held, writes the rest of the text and
+// returns how many records were read.
+fn next_or_end<G: Gate, T: Threads + Wait + Sync, R: Read, W: Write>(
+    rt: &T,
+    site_run: &mut SiteRun<R>,
+    desk: &mut Desk<G>,
+    writer: &mut W,
+) -> Result<Option<Count>, RunFault>
+    requires held { AreHeld desk.old.site.place site_run.old.window.items site_run.old.run.answered }
+    ensures found { IfOk result (λ over. IfNone over (Advances R.remaining site_run.old.run.records site_run.new.run.records true)) }
+    ensures same { IfOk result (λ over. IfNone over ((desk.new ≡ desk.old) × (site_run.new.window ≡ site_run.old.window) × (site_run.new.run.reply ≡ site_run.old.run.reply)
+        × (site_run.new.run.answered ≡ site_run.old.run.answered) × (writer.new ≡ writer.old))) }
+    ensures done { IfOk result (λ over. IfSome over (λ count. EndsDone R.remaining site_run.old.run (held_by desk.old.site site_run.old.window.items) (W.contents writer.old) (W.contents writer.new) site_run.old.run.answered count.records)) }
+    ensures read { IsErrOf result RunFault.Read → EndsCut R.remaining site_run.old.run (held_by desk.old.site site_run.old.window.items) (W.contents writer.old) (W.contents writer.new) }
+    ensures memory { IsErrOf result RunFault.Memory → EndsInPrefix R.remaining site_run.old.run (held_by desk.old.site site_run.old.window.items) (W.contents writer.old) (W.contents writer.new) }
+    ensures faults { IfErr result (λ e. (e ≡ RunFault.Read) ⊎ (e ≡ RunFault.Write) ⊎ (e ≡ RunFault.Memory)) }
+{
+    let SiteRun { run, window } = site_run;
+    match run.records.advance() {
+        Ok(true) => Ok(None),
+        Ok(false) => {
+            desk.flush(rt, run.answered, window, &mut run.reply)?;
+            let sink = &mut run.reply.sink;
+            end_run(rt, &run.records, desk, sink, writer, run.answered, Ok(()))
+        }
+        Err(fault) => {
+            desk.flush(rt, run.answered, window, &mut run.reply)?;
+            let sink = &mut run.reply.sink;
+            end_run(
+                rt,
+                &run.records,
+                desk,
+                sink,
+                writer,
+                run.answered,
+                Err(fault),
+            )
+        }
+    }
+}
+
+// Passes on what was answered: takes in the messages that are held, unless there is room for more of them and more can be read
+// at once, and writes out, where nothing is held.
+fn pass_on<G: Gate, T: Threads + Wait + Sync, R: Read, W: Write>(
+    rt: &T,
+    site_run: &mut SiteRun<R>,
+    desk: &mut Desk<G>,
+    writer: &mut W,
+) -> Result<(), RunFault>
+    requires held { AreHeld desk.old.site.place site_run.old.window.items site_run.old.run.answered }
+    ensures held { OnOk result (AreHeld desk.new.site.place site_run.new.window.items site_run.old.run.answered) }
+    ensures same { site_run.new.run.answered ≡ site_run.old.run.answered }
+    ensures goes { OnOk result (OfEachRun R.remaining site_run.old.run (held_by desk.old.site site_run.old.window.items) (W.contents writer.old) (λ all old input.
+        StandsAt R.remaining site_run.new.run (held_by desk.new.site site_run.new.window.items) all old (W.contents writer.new) input)) }
+    ensures memory { IsErrOf result RunFault.Memory → W.contents writer.new ≡ W.contents writer.old }
+    ensures faults { IfErr result (λ e. (e ≡ RunFault.Write) ⊎ (e ≡ RunFault.Memory)) }
+{
+    let SiteRun { run, window } = site_run;
+    if !window.is_empty() && desk.has_room(window) && !run.records.is_used_up() {
+        return Ok(());
+    }
+    desk.flush(rt, run.answered, window, &mut run.reply)?;
+    write_out(rt, &run.records, desk, &mut run.reply.sink, writer)
+}
+
+// Answers or holds the next record, if there is one. `None` if the run goes on, otherwise how many records were read.
+fn take_next<G: Gate, T: Threads + Wait + Sync, R: Read, W: Write>(
+    rt: &T,
+    site_run: &mut SiteRun<R>,
+    desk: &mut Desk<G>,
+    writer: &mut W,
+) -> Result<Option<Count>, RunFault>
+    requires held { AreHeld desk.old.site.place site_run.old.window.items site_run.old.run.answered }
+    requires room { site_run.old.run.answered + 1 < 2 ^ 64 }
+    ensures held { IfOk result (λ over. IfNone over (AreHeld desk.new.site.place site_run.new.window.items (site_run.old.run.answered + 1))) }
+    ensures goes { IfOk result (λ over. HasMoved R.remaining site_run.old.run site_run.new.run (held_by desk.old.site site_run.old.window.items) (held_by desk.new.site site_run.new.window.items) (W.contents writer.old) (W.contents writer.new) over) }
+    ensures counted { IfOk result (λ over. IfNone over (site_run.new.run.answered ≡ site_run.old.run.answered + 1)) }
+    ensures read { IsErrOf result RunFault.Read → EndsCut R.remaining site_run.old.run (held_by desk.old.site site_run.old.window.items) (W.contents writer.old) (W.contents writer.new) }
+    ensures memory { IsErrOf result RunFault.Memory → EndsInPrefix R.remaining site_run.old.run (held_by desk.old.site site_run.old.window.items) (W.contents writer.old) (W.contents writer.new) }
+    ensures faults { IfErr result (λ e. (e ≡ RunFault.Read) ⊎ (e ≡ RunFault.Write) ⊎ (e ≡ RunFault.Memory)) }
+{
+    if let Some(count) = next_or_end(rt, site_run, desk, writer)? {
+        return Ok(Some(count));
+    }
+    let SiteRun { run, window } = &mut *site_run;
+    desk.take(
+        rt,
+        run.answered,
+        run.records.fields(),
+        window,
+        &mut run.reply,
+    )?;
+    run.answered += 1;
+    pass_on(rt, site_run, desk, writer)?;
+    Ok(None)
+}
+
+// Answers what is held and ends a run that has read as many records as it takes: with success if there are no more.
+fn stop_at<G: Gate, T: Threads + Wait + Sync, R: Read, W: Write>(
+    rt: &T,
+    site_run: &mut SiteRun<R>,
+    desk: &mut Desk<G>,
+    writer: &mut W,
+) -> Result<Count, RunFault>
+    requires held { AreHeld desk.old.site.place site_run.old.window.items site_run.old.run.answered }
+    ensures ok { IfOk result (λ count. EndsDone R.remaining site_run.old.run (held_by desk.old.site site_run.old.window.items) (W.contents writer.old) (W.contents writer.new) site_run.old.run.answered count.records) }
+    ensures too_long { IsErrOf result RunFault.TooLong → EndsTooLong R.remaining site_run.old.run (held_by desk.old.site site_run.old.window.items) (W.contents writer.old) (W.contents writer.new) site_run.old.run.answered }
+    ensures read { IsErrOf result RunFault.Read → EndsCut R.remaining site_run.old.run (held_by desk.old.site site_run.old.window.items) (W.contents writer.old) (W.contents writer.new) }
+    ensures memory { IsErrOf result RunFault.Memory → EndsInPrefix R.remaining site_run.old.run (held_by desk.old.site site_run.old.window.items) (W.contents writer.old) (W.contents writer.new) }
+{
+    let SiteRun { run, window } = site_run;
+    desk.flush(rt, run.answered, window, &mut run.reply)?;
+    let sink = &mut run.reply.sink;
+    stop(rt, &mut run.records, desk, sink, writer, run.answered)
+}
+
+// Answers records until there are no more, or up to `limit` of them.
+fn serve<G: Gate, T: Threads + Wait + Sync, R: Read, W: Write>(
+    rt: &T,
+    site_run: &mut SiteRun<R>,
+    desk: &mut Desk<G>,
+    writer: &mut W,
+    limit: u64,
+) -> Result<Count, RunFault>
+    requires none { site_run.old.window.items ≡ [] }
+    requires first { site_run.old.run.answered ≡ 0 }
+    ensures ok { IfOk result (λ count. FromStart R.remaining site_run.old.run (λ records. IsDone (told_by desk.old.site 1) limit (W.contents writer.old) (W.contents writer.new) records count.records)) }
+    ensures too_long { IsErrOf result RunFault.TooLong → FromStart R.remaining site_run.old.run (λ records. IsTooLong (told_by desk.old.site 1) limit (W.contents writer.old) (W.contents writer.new) records) }
+    ensures read { IsErrOf result RunFault.Read → FromStart R.remaining site_run.old.run (λ records. IsCut (told_by desk.old.site 1) (W.contents writer.old) (W.contents writer.new) records) }
+    ensures memory { IsErrOf result RunFault.Memory → FromStart R.remaining site_run.old.run (λ records. WrotePrefix ((told_by desk.old.site 1).text AtEnd) (W.contents writer.old) (W.contents writer.new) records) }
+{
+    'steps: for _answered in 0..limit {
+        if let Some(count) = take_next(rt, site_run, desk, writer)? {
+            return Ok(count);
+        }
+    }
+    stop_at(rt, site_run, desk, writer)
+}
+
+/// Runs the desk of a site over the records of `reader` until its end, or up to `limit` of them: appends the text of its
+/// answers to `writer`. The desk is lent, so that a program can let it go as it likes.
+///
+/// # Errors
+///
+/// `Read` if the reader failed: the first records are answered then, as if there were no more. `Write` if the writer
+/// failed. `Memory` if memory ran out: what was written is a prefix of the whole text. `TooLong` if the input has more
+/// than `limit` records: the first `limit` are answered then.
+pub fn run_desk<G: Gate, T: Threads + Wait + Sync, R: Read + Drop, W: Write>(
+    rt: &T,
+    alloc: Global,
+    reader: R,
+    writer: &mut W,
+    desk: &mut Desk<G>,
+    limit: u64,
+) -> Result<Count, RunFault>
+    ensures ok { IfOk result (λ count. IfSome (R.remaining reader) (λ input.
+        IsDone (told_by desk.old.site 1) limit (W.contents writer.old) (W.contents writer.new) (input_records input) count.records)) }
+    ensures too_long { IsErrOf result RunFault.TooLong → IfSome (R.remaining reader) (λ input.
+        IsTooLong (told_by desk.old.site 1) limit (W.contents writer.old) (W.contents writer.new) (input_records input)) }
+    ensures read { IsErrOf result RunFault.Read → IfSome (R.remaining reader) (λ input.
+        IsCut (told_by desk.old.site 1) (W.contents writer.old) (W.contents writer.new) (input_records input)) }
+    ensures memory { IsErrOf result RunFault.Memory → IfSome (R.remaining reader) (λ input.
+        WrotePrefix ((told_by desk.old.site 1).text AtEnd) (W.contents writer.old) (W.contents writer.new) (input_records input)) }
+{
+    let mut site_run = SiteRun {
+        run: Run::new(alloc, reader),
+        window: Vec::new(alloc),
+    };
+    serve(rt, &mut site_run, desk, writer, limit)
+}

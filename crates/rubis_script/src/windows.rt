@@ -1,0 +1,48 @@
+// Messages that a run holds, to take them in together.
+
+ghost use Rattle.std.specs.Prelude.{◌≡◌, ◌≤◌, ◌+◌, ◌++◌, ◌∷◌, ◌^◌, [], OnOk, length};
+ghost use Rattle.rubis_engine.specs.Text.{rows_text};
+ghost use Rattle.rubis_script.specs.Windows.{arrivals_rows};
+
+use rubis_engine::{OutOfMemory, Sink};
+use rubis_message::{Arrival, Message};
+use rubis_replica::Config;
+use rubis_replies::write_arrival;
+use rubis_schema::{Fields, Refusal};
+use std::alloc::AllocError;
+
+/// Holds one more message.
+pub(crate) fn hold(window: &mut Vec<Message>, message: Message) -> Result<(), OutOfMemory>
+    ensures { OnOk result (window.new.items ≡ window.old.items ++ message ∷ []) }
+{
+    match window.push(message) {
+        Ok(()) => Ok(()),
+        Err(_) => Err(OutOfMemory),
+    }
+}
+
+/// How many messages are taken in together, where they are read one by one: as many as a batch has. With one worker each is taken
+/// in as it comes.
+pub(crate) fn window_of(config: &Config) -> usize {
+    if config.workers() > 1 {
+        config.batch() as usize
+    } else {
+        1
+    }
+}
+
+/// Says what became of messages that arrived together, the first of which is the record with that number.
+pub(crate) fn write_arrivals(
+    fields: &mut Fields,
+    sink: &mut Sink,
+    first: u64,
+    answers: &[Result<Arrival, Refusal>],
+) -> Result<(), AllocError>
+    requires { first + length answers.now ≤ 2 ^ 64 }
+    ensures { OnOk result (sink.new ≡ sink.old ++ rows_text (arrivals_rows first answers.now)) }
+{
+    for (at, answer) in answers.iter().enumerate() {
+        write_arrival(fields, sink, first + at as u64, answer)?;
+    }
+    Ok(())
+}
