@@ -4,10 +4,10 @@ ghost use Rattle.std.specs.Prelude.{◌≡◌, ◌≤◌, ◌+◌, ◌++◌, ◌
 ghost use Rattle.rubis_engine.specs.Text.{rows_text};
 ghost use Rattle.rubis_script.specs.Windows.{arrivals_rows};
 
+use crate::replies::write_arrival;
 use rubis_engine::{OutOfMemory, Sink};
 use rubis_message::{Arrival, Message};
 use rubis_replica::Config;
-use rubis_replies::write_arrival;
 use rubis_schema::{Fields, Refusal};
 use std::alloc::AllocError;
 

@@ -9,10 +9,8 @@ use crate::site_rows::SiteRows;
 use rubis_engine::{Reply, Sink};
 use rubis_listing::RowSink;
 use rubis_message::{Happened, Packet};
-use rubis_replies::{
-    write_arrival, write_handed_on, write_listed, write_refusal, write_sent, write_taken,
-};
 use rubis_schema::{Fields, Refusal, push_number};
+use rubis_script::{write_arrival, write_handed_on, write_listed, write_refusal, write_sent, write_taken};
 use rubis_sites::packet;
 use std::alloc::AllocError;
 

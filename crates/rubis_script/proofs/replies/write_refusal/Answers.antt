@@ -1,7 +1,7 @@
 use Rattle.std.proofs.Common.{◌≡◌, ◌∷◌, [], rules, subst}
 use Rattle.std.specs.Prelude.{OnOk}
 use Rattle.rubis_model.specs.Answers.{refused_row}
-use Rattle.rubis_replies.proofs.replies.write_refusal.Goals as goal
+use Rattle.rubis_script.proofs.replies.write_refusal.Goals as goal
 
 pub returns : goal.returns
 returns g c =

@@ -4,7 +4,7 @@ use Rattle.rubis_schema.specs.Ids.{id_text}
 use Rattle.rubis_message.specs.Grammar.{message_record}
 use Rattle.rubis_model.specs.Answers.{reply, send_row}
 use Rattle.rubis_engine.proofs.RowFacts.{on_ok}
-use Rattle.rubis_replies.proofs.replies.write_sent.Goals as goal
+use Rattle.rubis_script.proofs.replies.write_sent.Goals as goal
 
 pub returns : goal.returns
 returns g c =

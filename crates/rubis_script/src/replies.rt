@@ -5,7 +5,7 @@ ghost use Rattle.rubis_message.specs.declared.answers.Arrival.TheVariants.{Relea
 ghost use Rattle.rubis_schema.specs.FieldList.{is_plain};
 ghost use Rattle.rubis_schema.specs.Ids.{id_text};
 ghost use Rattle.rubis_model.specs.Answers.{arrived_rows, asked_rows, listed_rows, passed_rows, refused_row, reply, took_rows};
-ghost use Rattle.rubis_replies.specs.Replies.{HasRows};
+ghost use Rattle.rubis_script.specs.Replies.{HasRows};
 ghost use Rattle.rubis_engine.specs.Text.{rows_text};
 
 use rubis_engine::Sink;

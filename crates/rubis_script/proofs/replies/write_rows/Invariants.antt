@@ -1,5 +1,5 @@
 use Rattle.std.proofs.Common.{drop}
-use Rattle.rubis_replies.proofs.replies.write_rows.Given as goal
+use Rattle.rubis_script.proofs.replies.write_rows.Given as goal
 
 -- what the rows to come add, all rows add to what there was
 abbrev pub invariant-loop-row : goal.invariant-loop-row
