@@ -10,7 +10,7 @@ use Rattle.rubis_engine.specs.Accounts.{AnswersRecord}
 use Rattle.rubis_engine.specs.Accounts.Ending.{AtEnd}
 use Rattle.rubis_engine.specs.Text.{rows_text}
 use Rattle.rubis_engine.specs.declared.service.Course.TheVariants.{GoesOn, Ends}
-use Rattle.rubis_walks.specs.Walks.{HaveMessagesAmong}
+use Rattle.rubis_audit.specs.Walks.{HaveMessagesAmong}
 use Rattle.rubis_audit.specs.declared.questions.Question.{Question}
 use Rattle.rubis_audit.specs.declared.questions.Question.TheVariants.{Agreement, Lacks}
 use Rattle.rubis_audit.specs.Running.{AreRead, HasMessagesAmong, IsCurrentAmong, account_from, answer_text, logs_so_far, read_behind, rows_for}

@@ -10,7 +10,7 @@ use Rattle.rubis_engine.specs.Text.{rows_text}
 use Rattle.rubis_engine.proofs.TextFacts.{text-goes}
 use Rattle.rubis_laws.proofs.Lacking.{in_merged}
 use Rattle.rubis_release.specs.Release.{AllAmong}
-use Rattle.rubis_walks.proofs.Merging.{drop_at}
+use Rattle.rubis_audit.proofs.Merging.{drop_at}
 
 -- the log at an index is one of the logs
 pub log_at : (logs : List Log) (at : ℕ) (log : Log) → at < length logs → log ≡ get_or logs at log → Has log logs

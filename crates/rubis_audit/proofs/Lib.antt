@@ -3,3 +3,12 @@ pub mod Lacking
 pub mod Agreeing
 pub mod Placing
 pub mod Widened
+pub mod SiteTests
+pub mod Comparing
+pub mod Finding
+pub mod Showing
+pub mod Knowing
+pub mod Judging
+pub mod Walking
+pub mod LineFacts
+pub mod Merging

@@ -2,3 +2,10 @@ pub mod Running
 pub mod Places
 pub mod Soundness
 pub mod Widening
+pub mod Lookups
+pub mod Seen
+pub mod Contents
+pub mod Past
+pub mod Walks
+pub mod Lines
+pub mod Lacks

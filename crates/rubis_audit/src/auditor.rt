@@ -8,22 +8,23 @@ ghost use Rattle.std.specs.Bool.{MatchBool};
 ghost use Rattle.rubis_schema.specs.declared.limits.TheConstants.{COUNTED_MAX};
 ghost use Rattle.rubis_model.specs.AuditRecords.{with_line};
 ghost use Rattle.rubis_model.specs.AuditRecords.Line.{Begin, Claim, Next};
-ghost use Rattle.rubis_walks.specs.Lines.{IsAmongLine, line_as};
+ghost use Rattle.rubis_audit.specs.Lines.{IsAmongLine, line_as};
 ghost use Rattle.rubis_message.specs.declared.answers.Verdict.TheVariants.{Agree};
 ghost use Rattle.rubis_model.specs.Audit.{AreFaultless};
 ghost use Rattle.rubis_model.specs.Verdict.{verdict as verdict_of};
 ghost use Rattle.rubis_engine.specs.Text.{rows_text};
-ghost use Rattle.rubis_walks.specs.Walks.{HaveMessagesAmong};
+ghost use Rattle.rubis_audit.specs.Walks.{HaveMessagesAmong};
 ghost use Rattle.rubis_audit.specs.Running.{IsCurrentAmong, account_from, logs_so_far, rows_for};
 
 use crate::audits::audit;
 use crate::lacks::write_lacks;
+use crate::lines::{Line, read_line};
+use crate::logs::Log;
 use crate::questions::Question;
 use crate::verdicts::{write_bad_record, write_verdict};
 use rubis_engine::{Answering, Course, InputRecord, OutOfMemory, Reply, Service, Sink};
 use rubis_message::{Message, Verdict};
 use rubis_schema::{Fields, Items};
-use rubis_walks::{Line, Log, read_line};
 use std::alloc::{AllocError, Global};
 use std::marker::Model;
 

@@ -5,10 +5,12 @@ ghost use Rattle.rubis_schema.specs.declared.limits.TheConstants.{COUNTED_MAX};
 ghost use Rattle.rubis_message.specs.declared.answers.Verdict.TheVariants.{Agree};
 ghost use Rattle.rubis_model.specs.Audit.{AreFaultless, AreSound};
 ghost use Rattle.rubis_model.specs.Verdict.{verdict};
-ghost use Rattle.rubis_walks.specs.Walks.{HaveMessagesAmong};
+ghost use Rattle.rubis_audit.specs.Walks.{HaveMessagesAmong};
 
+use crate::logs::Log;
+use crate::seen::Seen;
+use crate::walks::walk;
 use rubis_message::Verdict;
-use rubis_walks::{Log, Seen, walk};
 use std::alloc::{AllocError, Global};
 
 /// The first fault of these logs, in order, or Agree if there is none. Logs of which it says Agree pass the checks together, and

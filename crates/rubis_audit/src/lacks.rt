@@ -5,12 +5,13 @@ ghost use Rattle.rubis_schema.specs.declared.limits.TheConstants.{COUNTED_MAX};
 ghost use Rattle.rubis_model.specs.Audit.{AreFaultless};
 ghost use Rattle.rubis_model.specs.LackRecords.{count_row, lack_row, lack_rows, lack_rows_from, made_at};
 ghost use Rattle.rubis_engine.specs.Text.{rows_text};
-ghost use Rattle.rubis_walks.specs.Walks.{HaveMessagesAmong};
+ghost use Rattle.rubis_audit.specs.Walks.{HaveMessagesAmong};
 
+use crate::logs::Log;
+use crate::walks_lacks::{lacked, merge};
 use rubis_engine::Sink;
 use rubis_message::{Message, append_message};
 use rubis_schema::{Fields, push_number};
-use rubis_walks::{Log, lacked, merge};
 use std::alloc::{AllocError, Global};
 
 // Writes how many messages the log of that number lacks, or how many are lost.

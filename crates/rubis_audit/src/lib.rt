@@ -1,13 +1,23 @@
 //! The auditor: whether the logs of several sites agree, and if not, what the first fault is. And logs widened to more sites.
+//! The walk over one log after another: the checks of each entry, and what a record says as a line of a log.
 #![tactic(auto)]
 
 mod auditor;
 mod audits;
+mod contents;
 mod lacks;
 mod laws;
+mod lines;
+mod logs;
 mod questions;
+mod rows;
 mod run;
+mod seen;
+mod stamps;
 mod verdicts;
+mod waits;
+mod walks;
+mod walks_lacks;
 mod widener;
 mod widening;
 
@@ -15,10 +25,15 @@ pub use auditor::Auditor;
 pub use audits::audit;
 pub use lacks::write_lacks;
 pub use laws::widened_audits_agree;
+pub use lines::{Line, read_line};
+pub use logs::Log;
 pub use questions::Question;
 pub use rubis_message::{Kind, Verdict};
-pub use rubis_walks::Log;
 pub use run::{run_audit, run_audit_to_exit, run_lack};
+pub use seen::Seen;
 pub use verdicts::write_verdict;
+pub use waits::{awaited, awaited_red};
+pub use walks::walk;
+pub use walks_lacks::{lacked, merge};
 pub use widener::Widener;
 pub use widening::run_widen;

@@ -9,15 +9,15 @@ ghost use Rattle.rubis_message.specs.Widening.{widened};
 ghost use Rattle.rubis_model.specs.AuditRecords.{line_record};
 ghost use Rattle.rubis_model.specs.WidenedRecords.{widened_line};
 ghost use Rattle.rubis_engine.specs.Text.{rows_text};
-ghost use Rattle.rubis_walks.specs.Lines.{IsAmongLine, line_as};
+ghost use Rattle.rubis_audit.specs.Lines.{IsAmongLine, line_as};
 ghost use Rattle.rubis_audit.specs.Places.{logs_at, place_after};
 ghost use Rattle.rubis_audit.specs.declared.widener.Place.TheVariants.{BeforeLogs};
 ghost use Rattle.rubis_audit.specs.Widening.{bad_record, widening_from};
 
+use crate::lines::{Line, read_line};
 use rubis_engine::{Answering, Course, InputRecord, OutOfMemory, Reply, Service, Sink};
 use rubis_message::{Message, append_message};
 use rubis_schema::{Fields, push_number};
-use rubis_walks::{Line, read_line};
 use std::alloc::{AllocError, Global};
 use std::marker::Model;
 

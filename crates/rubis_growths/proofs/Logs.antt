@@ -4,7 +4,7 @@ use Rattle.std.specs.List.{All}
 use Rattle.rubis_message.specs.Message.{sites_of}
 use Rattle.rubis_model.specs.Logs.{Log}
 use Rattle.rubis_model.specs.Settle.{Has}
-use Rattle.rubis_walks.specs.Walks.{HaveMessagesAmong}
+use Rattle.rubis_audit.specs.Walks.{HaveMessagesAmong}
 use Rattle.rubis_growths.proofs.Lists.{of_each}
 
 -- each message of the only log counts two sites

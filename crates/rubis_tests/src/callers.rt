@@ -1,7 +1,7 @@
 // A caller of each of the three: a site, several sites, and an audit. The page for callers shows these functions.
 
 ghost use Rattle.std.specs.Prelude.{◌≡◌, ◌≤◌, IfOk, Ok, length, true};
-ghost use Rattle.rubis_walks.specs.Walks.{HaveMessagesAmong};
+ghost use Rattle.rubis_audit.specs.Walks.{HaveMessagesAmong};
 ghost use Rattle.rubis_model.specs.Audit.{AreSound};
 ghost use Rattle.rubis_model.specs.Laws.{InRun};
 ghost use Rattle.rubis_model.specs.Site.{asked, opening_at};

@@ -6,7 +6,7 @@ use Rattle.rubis_model.specs.Settle.{Has}
 use Rattle.rubis_model.specs.Verdict.{verdict}
 use Rattle.rubis_model.specs.WorldRecords.{logs_of}
 use Rattle.rubis_model.proofs.Lists.{has_left}
-use Rattle.rubis_walks.specs.Walks.{HaveMessagesAmong}
+use Rattle.rubis_audit.specs.Walks.{HaveMessagesAmong}
 use Rattle.rubis_laws.proofs.Recorded.{are_logs, logs_agree}
 use Rattle.rubis_laws.proofs.Runs.{logged}
 use Rattle.rubis_sites.specs.Worlds.{WorldState}

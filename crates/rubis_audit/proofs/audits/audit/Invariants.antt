@@ -1,4 +1,4 @@
-use Rattle.rubis_walks.proofs.Walking.{Over}
+use Rattle.rubis_audit.proofs.Walking.{Over}
 use Rattle.rubis_audit.proofs.audits.audit.Given as goal
 
 abbrev pub invariant-loop-at : goal.invariant-loop-at

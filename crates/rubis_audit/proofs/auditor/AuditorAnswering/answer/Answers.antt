@@ -2,7 +2,7 @@ use Rattle.std.proofs.Common.{◌≡◌, ◌∙◌, ◌+◌, ap, subst, sym, ref
 use Rattle.std.specs.Prelude.{option_map}
 use Rattle.rubis_engine.specs.Accounts.{AnswersRecord}
 use Rattle.rubis_engine.specs.declared.service.Course.TheVariants.{GoesOn}
-use Rattle.rubis_walks.specs.Lines.{line_as}
+use Rattle.rubis_audit.specs.Lines.{line_as}
 use Rattle.rubis_audit.specs.Running.{account_from}
 use Rattle.rubis_audit.proofs.Collecting.{goes}
 use Rattle.rubis_audit.proofs.auditor.AuditorAnswering.answer.Goals as goal

@@ -4,7 +4,7 @@ use Rattle.rubis_schema.specs.declared.limits.TheConstants.{COUNTED_MAX}
 use Rattle.rubis_laws.proofs.AuditReadings.{line_only}
 use Rattle.rubis_engine.specs.Accounts.{AnswersRecord}
 use Rattle.rubis_engine.specs.declared.service.Course.TheVariants.{GoesOn}
-use Rattle.rubis_walks.specs.Lines.{line_as}
+use Rattle.rubis_audit.specs.Lines.{line_as}
 use Rattle.rubis_audit.specs.Places.{logs_at}
 use Rattle.rubis_audit.specs.Widening.{WidenerState, widening_from}
 use Rattle.rubis_audit.proofs.Placing.{goes}

@@ -1,0 +1,15 @@
+use Rattle.std.proofs.Common.{◌∙◌, ap, sym, Some, None, cond}
+use Rattle.std.specs.Prelude.{◌==◌}
+use Rattle.std.specs.Option.{option_or}
+use Rattle.std.proofs.lemmas.Result.{on_ok_weaker}
+use Rattle.rubis_schema.specs.Keys.{same_id}
+use Rattle.rubis_audit.proofs.Finding.{by_id_push, by_red_push}
+use Rattle.rubis_audit.proofs.seen.Seen.note.Goals as goal
+
+pub returns : goal.returns
+returns c =
+    let m = c.args.message.now in
+    on_ok_weaker c.note_red.result (λ reds all h. record {
+      ids = λ i. c.in_ok-note_id.ensures i ∙ ap (λ o. option_or o (cond (same_id i m.stamp.id) (Some m) None)) (h.ids i) ∙ sym (by_id_push i all m);
+      reds = λ r. reds r ∙ ap (λ o. option_or o (cond (r == m.stamp.red) (Some m) None)) (h.reds r) ∙ sym (by_red_push r all m);
+    }) c.note_red.ensures

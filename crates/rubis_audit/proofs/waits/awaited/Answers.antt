@@ -1,0 +1,22 @@
+use Rattle.std.proofs.Common.{◌≡◌, ◌<◌, ◌≤◌, ◌∙◌, ap, arith, subst, sym}
+use Rattle.std.specs.Prelude.{slice_index}
+use Rattle.rubis_clock.specs.Clocks.{MessageCounts}
+use Rattle.rubis_message.specs.Message.{dep, sites_of}
+use Rattle.rubis_audit.proofs.Merging.{awaited_none, awaited_some}
+use Rattle.rubis_audit.proofs.waits.awaited.Goals as goal
+
+pub returns-then-count : goal.returns-then-count
+returns-then-count c log e =
+    let m = c.args.message.now in
+    let site = c.args.site in
+    let l : site < sites_of m = subst (λ n. site < n) (sym c.requires.sites) c.requires.site in
+    let d : c.count.result ≡ dep m site = c.count.ensures ∙ ap (λ s. slice_index s.deps site) c.stamp.ensures.value in
+    awaited_some log m site c.count-count.result l (c.count-count.ensures ∙ ap (λ (k : MessageCounts). slice_index k.counts site) e) (omega (arith, d, c.if-count.true))
+
+pub returns : goal.returns
+returns c log e =
+    let m = c.args.message.now in
+    let site = c.args.site in
+    let l : site < sites_of m = subst (λ n. site < n) (sym c.requires.sites) c.requires.site in
+    let d : c.count.result ≡ dep m site = c.count.ensures ∙ ap (λ s. slice_index s.deps site) c.stamp.ensures.value in
+    awaited_none log m site c.count-count.result l (c.count-count.ensures ∙ ap (λ (k : MessageCounts). slice_index k.counts site) e) (omega (arith, d, c.if-count.false))

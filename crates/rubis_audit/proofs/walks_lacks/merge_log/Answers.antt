@@ -1,0 +1,84 @@
+use Rattle.std.proofs.Common.{◌≡◌, ◌+◌, ◌<◌, ◌∙◌, ap, arith, get_or, length, subst, sym}
+use Rattle.std.specs.Prelude.{map}
+use Rattle.rubis_clock.specs.Clocks.{IsReady, advanced}
+use Rattle.rubis_audit.proofs.Merging.{Merges, counts_same, is_ready, merges_end, merges_skip, merges_start, merges_take, one_at, origin_within}
+use Rattle.rubis_audit.proofs.walks_lacks.merge_log.Goals as goal
+use Rattle.rubis_audit.proofs.walks_lacks.merge_log.Goals.{then-is_new+in_ok-put_last, else-is_new}
+
+pub loop-message-init : goal.loop-message-init
+loop-message-init c log e = (
+  c.messages-message-items.ensures ∙ ap (λ l. l.messages) (one_at c.args.logs.now c.args.at c.index-logs-at.result log c.requires.place c.index-logs-at.is e),
+  merges_start c.args.sites c.args.logs.now c.args.at log (map (λ m. m.now) c.args.merged.now.items) c.args.clock.now c.requires.place e c.requires.so_far,
+)
+
+pub is_new-requires : goal.is_new-requires
+is_new-requires c =
+    let log = c.index-logs-at.result in
+    let e = c.index-logs-at.is in
+    let n = c.loop-message.message-index in
+    let v = c.message-item.result in
+    let messages = map (λ m. m.now) c.loop-message.merged.items in
+    let clock = c.loop-message.clock in
+    let inv = c.loop-message.invariant log e in
+    let k = subst (λ xs. n < length xs) inv.0 c.loop-message-test.true in
+    let i = subst (λ xs. v ≡ get_or xs n v) inv.0 c.message-item.is in
+    counts_same c.args.sites c.args.logs.now c.args.at log n v messages clock c.requires.among c.requires.place e k i inv.1
+
+pub advance-requires-clause-origin : goal.advance-requires-clause-origin
+advance-requires-clause-origin c =
+    let log = c.index-logs-at.result in
+    let e = c.index-logs-at.is in
+    let n = c.loop-message.message-index in
+    let v = c.message-item.result in
+    let messages = map (λ m. m.now) c.loop-message.merged.items in
+    let clock = c.loop-message.clock in
+    let inv = c.loop-message.invariant log e in
+    let k = subst (λ xs. n < length xs) inv.0 c.loop-message-test.true in
+    let i = subst (λ xs. v ≡ get_or xs n v) inv.0 c.message-item.is in
+    subst (λ s. s.id.site < length clock.counts) (sym c.stamp.ensures.value)
+    (origin_within c.args.sites c.args.logs.now c.args.at log n v messages clock c.requires.faultless c.requires.among c.requires.place e k i c.is_new.ensures.conditions inv.1)
+
+pub advance-requires-clause-ready : goal.advance-requires-clause-ready
+advance-requires-clause-ready c =
+    let log = c.index-logs-at.result in
+    let e = c.index-logs-at.is in
+    let n = c.loop-message.message-index in
+    let v = c.message-item.result in
+    let messages = map (λ m. m.now) c.loop-message.merged.items in
+    let clock = c.loop-message.clock in
+    let inv = c.loop-message.invariant log e in
+    let k = subst (λ xs. n < length xs) inv.0 c.loop-message-test.true in
+    let i = subst (λ xs. v ≡ get_or xs n v) inv.0 c.message-item.is in
+    subst (IsReady clock) (sym c.stamp.ensures.value)
+    (is_ready c.args.sites c.args.logs.now c.args.at log n v messages clock c.requires.faultless c.requires.among c.requires.place e k i c.is_new.ensures.conditions inv.1 (sym c.if-is_new.true ∙ c.is_new.ensures.new))
+
+pub loop-message-preserved : goal.loop-message-preserved
+loop-message-preserved c log e =
+    let n = c.loop-message.message-index in
+    let v = c.message-item.result in
+    let messages = map (λ m. m.now) c.loop-message.merged.items in
+    let clock = c.loop-message.clock in
+    let inv = c.loop-message.invariant log e in
+    let k = subst (λ xs. n < length xs) inv.0 c.loop-message-test.true in
+    let i = subst (λ xs. v ≡ get_or xs n v) inv.0 c.message-item.is in (
+      inv.0,
+      elim c.if-is_new.branch [
+        | then-is_new+in_ok-put_last w ↦
+            subst (λ q. Merges c.args.sites c.args.logs.now c.args.at log (n + 1) (map (λ m. m.now) q.items) c.if-is_new.clock) (sym w.merged-is)
+            (subst (λ q. Merges c.args.sites c.args.logs.now c.args.at log (n + 1) q c.if-is_new.clock) (sym w.in_ok-put_last.ensures)
+            (merges_take c.args.sites c.args.logs.now c.args.at log n v messages clock c.requires.faultless c.requires.among c.requires.place e k i c.is_new.ensures.conditions inv.1 (sym w.if-is_new.true ∙ c.is_new.ensures.new) c.if-is_new.clock
+            (w.clock-is ∙ w.advance.ensures ∙ ap (advanced clock) w.stamp.ensures.value)))
+        | else-is_new w ↦
+            subst (λ q. Merges c.args.sites c.args.logs.now c.args.at log (n + 1) (map (λ m. m.now) q.items) c.if-is_new.clock) (sym w.merged-is)
+            (subst (λ q. Merges c.args.sites c.args.logs.now c.args.at log (n + 1) messages q) (sym w.clock-is)
+            (merges_skip c.args.sites c.args.logs.now c.args.at log n v messages clock c.requires.faultless c.requires.among c.requires.place e k i c.is_new.ensures.conditions inv.1 (sym w.if-is_new.false ∙ c.is_new.ensures.new)))
+      ],
+    )
+
+pub returns : goal.returns
+returns c =
+    let log = c.index-logs-at.result in
+    let n = c.loop-message.message-index in
+    let inv = c.loop-message.invariant log c.index-logs-at.is in
+    let whole = ap length inv.0 in
+    merges_end c.args.sites c.args.logs.now c.args.at log n (map (λ m. m.now) c.loop-message.merged.items) c.loop-message.clock (omega (arith, whole, c.loop-message-test.false)) inv.1

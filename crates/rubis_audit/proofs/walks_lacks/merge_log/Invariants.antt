@@ -1,0 +1,9 @@
+use Rattle.std.proofs.Common.{◌≡◌, get_or}
+use Rattle.std.specs.Prelude.{map}
+use Rattle.rubis_model.specs.Logs.{Log}
+use Rattle.rubis_audit.proofs.Merging.{Merges}
+use Rattle.rubis_audit.proofs.walks_lacks.merge_log.Given as goal
+
+abbrev pub invariant-loop-message : goal.invariant-loop-message
+invariant-loop-message l = (log : Log) → log ≡ get_or l.logs l.at log
+    → (l.message-items ≡ log.messages) × Merges l.sites l.logs l.at log l.message-index (map (λ m. m.now) l.merged.items) l.clock

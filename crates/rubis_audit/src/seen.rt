@@ -1,0 +1,73 @@
+// All messages so far, found by id and by red number.
+
+ghost use Rattle.std.specs.Prelude.{◌≡◌, ◌++◌, ◌∷◌, [], List, OnOk, nat_eq, option_copied};
+ghost use Rattle.std.specs.HashMap as hash;
+ghost use Rattle.rubis_schema.specs.Keys.{same_id};
+ghost use Rattle.rubis_message.specs.Message as model;
+ghost use Rattle.rubis_audit.specs.Seen.{FirstById, FirstByRed, Sees, id_in, red_in};
+
+use rubis_message::Message;
+use rubis_schema::Id;
+use std::alloc::{AllocError, Global};
+use std::collections::HashMap;
+
+/// The messages of some logs, each found by its id, and a red one by its number.
+#[derive(Drop)]
+pub struct Seen<'a> {
+    by_id: HashMap<Id, &'a Message>,
+    by_red: HashMap<u32, &'a Message>,
+}
+
+// Files the message under its id, unless there is one under it already.
+fn note_id<'a>(map: &mut HashMap<Id, &'a Message>, message: &'a Message) -> Result<(), AllocError>
+    ensures { OnOk result (FirstById (hash.get same_id map.old) message.now (hash.get same_id map.new)) }
+{
+    if map.get(&message.stamp().id).is_none() {
+        map.insert(message.stamp().id, message)?;
+    }
+    Ok(())
+}
+
+// Files the message under its red number (0 if it is blue), unless there is one under it already.
+fn note_red<'a>(map: &mut HashMap<u32, &'a Message>, message: &'a Message) -> Result<(), AllocError>
+    ensures { OnOk result (FirstByRed (hash.get nat_eq map.old) message.now (hash.get nat_eq map.new)) }
+{
+    if map.get(&message.stamp().red).is_none() {
+        map.insert(message.stamp().red, message)?;
+    }
+    Ok(())
+}
+
+impl<'a> Seen<'a> {
+    /// No messages. It takes no memory yet.
+    pub fn new(alloc: Global) -> Seen<'a>
+        ensures { Sees result [] }
+    {
+        Seen {
+            by_id: HashMap::new(alloc),
+            by_red: HashMap::new(alloc),
+        }
+    }
+
+    // The first message with that id.
+    pub(crate) fn with_id(&self, id: Id) -> Option<&'a Message>
+        ensures { option_copied result ≡ id_in self.now id }
+    {
+        self.by_id.get(&id).copied()
+    }
+
+    // The first message with that red number.
+    pub(crate) fn with_red(&self, red: u32) -> Option<&'a Message>
+        ensures { option_copied result ≡ red_in self.now red }
+    {
+        self.by_red.get(&red).copied()
+    }
+
+    // Appends a message to those seen.
+    pub(crate) fn note(&mut self, message: &'a Message) -> Result<(), AllocError>
+        ensures { OnOk result ((all : List model.Message) → Sees self.old all → Sees self.new (all ++ message.now ∷ [])) }
+    {
+        note_id(&mut self.by_id, message)?;
+        note_red(&mut self.by_red, message)
+    }
+}

@@ -1,0 +1,133 @@
+// The checks of an entry by its stamp.
+
+ghost use Rattle.std.specs.Prelude.{◌≡◌, List, length, option_copied};
+ghost use Rattle.rubis_message.specs.Message as model;
+ghost use Rattle.rubis_message.specs.Message.{sites_of};
+ghost use Rattle.rubis_model.specs.Verdict.{comes_before};
+ghost use Rattle.rubis_audit.specs.Lookups.{clash_by_id, differs_by, early_by, exceeds, forgets_by_id, gap_by, order_by, taken_by_red};
+ghost use Rattle.rubis_audit.specs.Seen.{Sees};
+
+use crate::seen::Seen;
+use rubis_clock::Clock;
+use rubis_message::Message;
+use rubis_schema::Id;
+
+/// Whether another message has the id of `v`.
+pub fn clashes(seen: &Seen, v: &Message) -> bool
+    ensures { (all : List model.Message) → Sees seen.now all → result ≡ clash_by_id all v.now }
+{
+    match seen.with_id(v.stamp().id) {
+        Some(u) => u != v,
+        None => false,
+    }
+}
+
+// Whether `u` counts more of some site than `v` does.
+fn exceeds(v: &Message, u: &Message) -> bool
+    ensures { result ≡ exceeds v.now u.now }
+{
+    let mine = v.stamp().deps.as_slice();
+    let theirs = u.stamp().deps.as_slice();
+    for j in 0..mine.len() {
+        if j < theirs.len() && mine[j] < theirs[j] {
+            return true;
+        }
+    }
+    false
+}
+
+// Whether what `v` counts last of some site counts more than `v` does.
+fn forgets(seen: &Seen, v: &Message) -> bool
+    ensures { (all : List model.Message) → Sees seen.now all → result ≡ forgets_by_id all v.now }
+{
+    let mine = v.stamp().deps.as_slice();
+    for j in 0..mine.len() {
+        let last = Id {
+            site: j as u8,
+            seq: mine[j],
+        };
+        if let Some(u) = seen.with_id(last)
+            && exceeds(v, u)
+        {
+            return true;
+        }
+    }
+    false
+}
+
+// Whether `v` counts a message of another origin that isn't counted.
+fn is_early(counts: &[u32], v: &Message) -> bool
+    requires { sites_of v.now ≡ length counts.now }
+    ensures { result ≡ early_by counts.now v.now }
+{
+    let stamp = v.stamp();
+    let mine = stamp.deps.as_slice();
+    for j in 0..mine.len() {
+        if j != usize::from(stamp.id.site) && counts[j] < mine[j] {
+            return true;
+        }
+    }
+    false
+}
+
+// Whether `v` doesn't count exactly what is counted.
+fn differs(counts: &[u32], v: &Message) -> bool
+    requires { sites_of v.now ≡ length counts.now }
+    ensures { result ≡ differs_by counts.now v.now }
+{
+    let mine = v.stamp().deps.as_slice();
+    for j in 0..mine.len() {
+        if mine[j] != counts[j] {
+            return true;
+        }
+    }
+    false
+}
+
+/// Whether `v` isn't in order in a log of `site`, of which `clock` counts the messages so far.
+pub fn out_of_order(site: u8, seen: &Seen, clock: &Clock, v: &Message) -> bool
+    requires { sites_of v.now ≡ length clock.now.counts }
+    ensures { (all : List model.Message) → Sees seen.now all → result ≡ order_by site clock.now.counts all v.now }
+{
+    let stamp = v.stamp();
+    let counts = clock.deps();
+    clock.count(stamp.id.site) != stamp.id.seq - 1
+        || is_early(counts.as_slice(), v)
+        || (stamp.id.site == site && differs(counts.as_slice(), v))
+        || forgets(seen, v)
+}
+
+// Whether the origin of `v` had released `u` when it made `v`.
+fn precedes(u: &Message, v: &Message) -> bool
+    ensures { result ≡ comes_before u.now v.now }
+{
+    rubis_clock::precedes(u.stamp(), v.stamp())
+}
+
+// Whether another message has the red number of `v`.
+fn is_taken(seen: &Seen, v: &Message) -> bool
+    ensures { (all : List model.Message) → Sees seen.now all → result ≡ taken_by_red all v.now }
+{
+    match seen.with_red(v.stamp().red) {
+        Some(u) => u.stamp().id != v.stamp().id,
+        None => false,
+    }
+}
+
+/// Whether `v` is red and hasn't the next red number, or another message has it, or the last red one before it doesn't
+/// precede it.
+pub fn leaves_gap(seen: &Seen, clock: &Clock, last: Option<&Message>, v: &Message) -> bool
+    ensures { (all : List model.Message) → Sees seen.now all → result ≡ gap_by clock.now.red (option_copied last.entry) all v.now }
+{
+    let red = v.stamp().red;
+    if red == 0 {
+        return false;
+    }
+    if clock.red() != red - 1 || is_taken(seen, v) {
+        return true;
+    }
+    match last {
+        Some(u) => !precedes(u, v),
+        None => false,
+    }
+}

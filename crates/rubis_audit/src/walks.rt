@@ -1,0 +1,125 @@
+// The walk over a log, entry by entry.
+
+ghost use Rattle.std.specs.Prelude.{◌≡◌, ◌<◌, ◌≤◌, [], List, Some, None, IfOk, OnOk, cond, length, option_copied, option_map, take};
+ghost use Rattle.rubis_schema.specs.declared.limits.TheConstants.{COUNTED_MAX};
+ghost use Rattle.rubis_shadow.specs.Shadows.{is_red};
+ghost use Rattle.rubis_clock.specs.Clocks.{IsReady, advanced, opening_clock};
+ghost use Rattle.rubis_message.specs.Message as model;
+ghost use Rattle.rubis_message.specs.Message.{IsMessage, sites_of};
+ghost use Rattle.rubis_model.specs.Log.{core};
+ghost use Rattle.rubis_model.specs.Verdict.{first_of};
+ghost use Rattle.rubis_shard.specs.Holdings.{HoldsLog, TakesOn, union};
+ghost use Rattle.rubis_audit.specs.Past.{checks_by};
+ghost use Rattle.rubis_audit.specs.Seen.{Sees};
+ghost use Rattle.rubis_audit.specs.Walks.{HaveMessagesAmong, IsWalked, Walked};
+
+use crate::contents::{nick_taken, stock_short, wrong_reference, wrong_winner};
+use crate::logs::Log;
+use crate::rows::wrong_rows;
+use crate::seen::Seen;
+use crate::stamps::{clashes, leaves_gap, out_of_order};
+use rubis_clock::Clock;
+use rubis_message::{Kind, Message};
+use rubis_shadow::Colour;
+use rubis_shard::{LogEntry, Tables};
+use std::alloc::{AllocError, Global};
+
+// What stands before an entry of a log: its clock, its last red message, its tables.
+#[derive(Drop)]
+struct Past<'a> {
+    clock: Clock,
+    last_red: Option<&'a Message>,
+    tables: Tables,
+}
+
+impl<'a> Past<'a> {
+    // Nothing stands before it.
+    fn new(alloc: Global, sites: u8) -> Result<Past<'a>, AllocError>
+        requires { sites ≤ COUNTED_MAX }
+        ensures { IfOk result (λ past. (past.clock ≡ opening_clock sites) × (option_copied past.last_red ≡ None) × HoldsLog 1 [] past.tables) }
+    {
+        Ok(Past {
+            clock: Clock::new(sites),
+            last_red: None,
+            tables: Tables::new(alloc, 1)?,
+        })
+    }
+
+    // The first fault of the next entry of a log of that site.
+    fn fault_of(&self, site: u8, seen: &Seen, v: &Message) -> Option<Kind>
+        requires { sites_of v.now ≡ length self.now.clock.counts }
+        ensures conditions { IsMessage v.now }
+        ensures fault { (all : List model.Message) → Sees seen.now all
+            → result ≡ first_of (checks_by site self.now.clock (option_copied self.now.last_red) (union self.now.tables) all v.now) }
+    {
+        let shadow = v.shadow();
+        if clashes(seen, v) {
+            Some(Kind::Clash)
+        } else if out_of_order(site, seen, &self.clock, v) {
+            Some(Kind::Order)
+        } else if leaves_gap(seen, &self.clock, self.last_red, v) {
+            Some(Kind::RedGap)
+        } else if wrong_reference(&self.tables, v) {
+            Some(Kind::Refers)
+        } else if nick_taken(&self.tables, shadow) {
+            Some(Kind::Nick)
+        } else if stock_short(&self.tables, shadow) {
+            Some(Kind::Stock)
+        } else if wrong_winner(&self.tables, shadow) {
+            Some(Kind::Winner)
+        } else {
+            None
+        }
+    }
+
+    // Puts a message last, as that entry.
+    fn take(&mut self, entry: u32, v: &'a Message) -> Result<(), AllocError>
+        requires origin { v.now.stamp.id.site < length self.old.clock.counts }
+        requires ready { IsReady self.old.clock v.now.stamp }
+        requires some { 0 < length self.old.tables }
+        ensures clock { OnOk result (self.new.clock ≡ advanced self.old.clock v.now.stamp) }
+        ensures last { OnOk result (option_copied self.new.last_red ≡ cond (is_red v.now.shadow) (Some v.now) (option_copied self.old.last_red)) }
+        ensures tables { OnOk result (TakesOn (core v.now) entry self.old.tables self.new.tables) }
+    {
+        self.tables.apply_message(&LogEntry::new(entry, v))?;
+        self.clock.advance(v.stamp());
+        if v.shadow().colour() == Colour::Red {
+            self.last_red = Some(v);
+        }
+        Ok(())
+    }
+}
+
+/// Walks over the log at that place, where those before it were walked over: its first fault, if it has one, by kind and
+/// entry.
+///
+/// # Errors
+///
+/// `AllocError` if memory runs out.
+pub fn walk<'a>(
+    alloc: Global,
+    seen: &mut Seen<'a>,
+    logs: &'a [Log],
+    at: usize,
+    sites: u8,
+) -> Result<Option<(Kind, usize)>, AllocError>
+    requires place { at < length logs.now }
+    requires few { sites ≤ COUNTED_MAX }
+    requires among { HaveMessagesAmong sites logs.now }
+    requires walked { Walked seen.old (take at logs.now) }
+    ensures { IfOk result (λ found. IsWalked seen.new logs.now at (option_map (λ p. (p.0, p.1)) found)) }
+{
+    let log = &logs[at];
+    let mut past = Past::new(alloc, sites)?;
+    for (n, v) in log.messages().iter().enumerate() {
+        if let Some(kind) = past.fault_of(log.site(), seen, v) {
+            return Ok(Some((kind, n + 1)));
+        }
+        past.take((n + 1) as u32, v)?;
+        seen.note(v)?;
+    }
+    if wrong_rows(alloc, log, &past.tables)? {
+        return Ok(Some((Kind::Rows, 0)));
+    }
+    Ok(None)
+}

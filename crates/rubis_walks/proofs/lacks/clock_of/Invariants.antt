@@ -1,9 +1,0 @@
-use Rattle.std.proofs.Common.{◌≡◌, take}
-use Rattle.rubis_release.specs.Release.{clock_of}
-use Rattle.rubis_walks.proofs.lacks.clock_of.Given as goal
-
-abbrev pub invariant-loop-message : goal.invariant-loop-message
-invariant-loop-message l = record {
-  items : l.message-items ≡ l.log.messages;
-  clock : l.clock ≡ clock_of l.sites (take l.message-index l.log.messages);
-}

@@ -1,7 +1,0 @@
-use Rattle.std.proofs.Common.{◌≡◌, take}
-use Rattle.std.specs.Prelude.{filter, map}
-use Rattle.rubis_walks.proofs.Merging.{uncounted}
-use Rattle.rubis_walks.proofs.lacks.lacked.Given as goal
-
-abbrev pub invariant-loop-message : goal.invariant-loop-message
-invariant-loop-message l = map (λ m. m.now) l.messages.items ≡ filter (uncounted l.clock.counts) (take l.message-index (map (λ m. m.now) l.all))

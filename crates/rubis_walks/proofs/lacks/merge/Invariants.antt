@@ -1,6 +1,0 @@
-use Rattle.std.specs.Prelude.{map}
-use Rattle.rubis_walks.specs.Lacks.{IsMerged}
-use Rattle.rubis_walks.proofs.lacks.merge.Given as goal
-
-abbrev pub invariant-loop-at : goal.invariant-loop-at
-invariant-loop-at l = IsMerged l.sites l.logs l.at (map (λ m. m.now) l.merged.items) l.clock

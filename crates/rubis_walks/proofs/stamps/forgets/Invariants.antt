@@ -1,9 +1,0 @@
-use Rattle.std.proofs.Common.{◌≡◌, ℕ, ◌<◌, false, List}
-use Rattle.std.specs.Option.{option_map_or}
-use Rattle.rubis_message.specs.Message.{Message}
-use Rattle.rubis_walks.specs.Lookups.{by_message_id, exceeds, last_of}
-use Rattle.rubis_walks.specs.Seen.{Sees}
-use Rattle.rubis_walks.proofs.stamps.forgets.Given as goal
-
-abbrev pub invariant-loop-j : goal.invariant-loop-j
-invariant-loop-j l = (all : List Message) → Sees l.seen all → (j : ℕ) → j < l.j → option_map_or (exceeds l.v) (by_message_id (last_of l.v j) all) false ≡ false

@@ -1,7 +1,0 @@
-use Rattle.std.proofs.Common.{◌≡◌, ℕ, ◌<◌, false}
-use Rattle.std.specs.Prelude.{◌==◌, ◌&&◌, nat_lt, not, slice_index}
-use Rattle.rubis_message.specs.Message.{dep}
-use Rattle.rubis_walks.proofs.stamps.is_early.Given as goal
-
-abbrev pub invariant-loop-j : goal.invariant-loop-j
-invariant-loop-j l = (j : ℕ) → j < l.j → (not (j == l.v.stamp.id.site) && nat_lt (slice_index l.counts j) (dep l.v j)) ≡ false

@@ -1,7 +1,0 @@
-pub mod Lookups
-pub mod Seen
-pub mod Contents
-pub mod Past
-pub mod Walks
-pub mod Lines
-pub mod Lacks
