@@ -2,7 +2,7 @@
 use Rattle.rubis_replica.specs.Setup.{Setup}
 use Rattle.rubis_cli.specs.declared.options.Options.{Options}
 use Rattle.rubis_cli.specs.declared.options.Setup.{Setup as Numbers}
-use Rattle.rubis_sites.specs.Setup.{WorldSetup}
+use Rattle.rubis_world.specs.Setup.{WorldSetup}
 
 -- the configuration of one site
 abbrev pub setup_of : Options → Setup

@@ -9,7 +9,7 @@ ghost use Rattle.std.specs.Process.{exit_status};
 ghost use Rattle.clap.specs.Words.{kind_of};
 ghost use Rattle.rubis_replica.specs.Setup.{IsSetup};
 ghost use Rattle.rubis_app.specs.Setups.{setup_of, world_setup_of};
-ghost use Rattle.rubis_sites.specs.Setup.{IsWorldSetup};
+ghost use Rattle.rubis_world.specs.Setup.{IsWorldSetup};
 ghost use Rattle.rubis_app.specs.Statuses.{IsStatusOf, status_by, status_of};
 
 use clap::Error;

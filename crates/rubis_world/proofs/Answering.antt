@@ -12,9 +12,9 @@ use Rattle.rubis_laws.proofs.Refusing.{refusals_change_nothing}
 use Rattle.rubis_replica.specs.declared.faults.Fault.TheVariants as fault
 use Rattle.rubis_engine.specs.Text.{rows_text}
 use Rattle.rubis_engine.proofs.TextFacts.{text-goes}
-use Rattle.rubis_sites.specs.Worlds.{ComesTo, Steps, WorldState}
-use Rattle.rubis_sites.specs.declared.faults.WorldFault.{WorldFault}
-use Rattle.rubis_sites.specs.declared.faults.WorldFault.TheVariants.{BadEvent, NoSuchPacket, Site, Memory}
+use Rattle.rubis_world.specs.SitesWorlds.{ComesTo, Steps, WorldState}
+use Rattle.rubis_world.specs.declared.faults.WorldFault.{WorldFault}
+use Rattle.rubis_world.specs.declared.faults.WorldFault.TheVariants.{BadEvent, NoSuchPacket, Site, Memory}
 use Rattle.rubis_world.specs.Running.{IsTold, answer_in_world}
 
 goes_on : (keep : ℕ) (w : World) (n : ℕ) (fields : List (List ℕ)) (more : List (List (List ℕ)))

@@ -9,7 +9,7 @@ use Rattle.rubis_model.proofs.Lists.{has_left}
 use Rattle.rubis_audit.specs.Walks.{HaveMessagesAmong}
 use Rattle.rubis_laws.proofs.Recorded.{are_logs, logs_agree}
 use Rattle.rubis_laws.proofs.Runs.{logged}
-use Rattle.rubis_sites.specs.Worlds.{WorldState}
+use Rattle.rubis_world.specs.SitesWorlds.{WorldState}
 use Rattle.rubis_world.specs.Worlds.{IsWorld}
 
 -- each message of theirs counts all sites

@@ -11,9 +11,9 @@ use Rattle.rubis_laws.proofs.Room.{room_event, room_start}
 use Rattle.rubis_laws.proofs.Runs.{in_run}
 use Rattle.rubis_replica.specs.Counts.{IsCount}
 use Rattle.rubis_replica.specs.declared.faults.Fault.TheVariants as fault
-use Rattle.rubis_sites.specs.Worlds.{ComesTo, Steps, WorldState, opening_world}
-use Rattle.rubis_sites.specs.declared.faults.WorldFault.{WorldFault}
-use Rattle.rubis_sites.specs.declared.faults.WorldFault.TheVariants.{BadEvent, NoSuchPacket, Site, Memory}
+use Rattle.rubis_world.specs.SitesWorlds.{ComesTo, Steps, WorldState, opening_world}
+use Rattle.rubis_world.specs.declared.faults.WorldFault.{WorldFault}
+use Rattle.rubis_world.specs.declared.faults.WorldFault.TheVariants.{BadEvent, NoSuchPacket, Site, Memory}
 use Rattle.rubis_world.specs.Worlds.{IsWorld}
 
 -- a world is one that the laws speak of

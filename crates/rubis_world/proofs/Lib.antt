@@ -1,3 +1,5 @@
 pub mod Keeping
 pub mod Answering
 pub mod Checking
+pub mod Moves
+pub mod Beginning

@@ -1,3 +1,6 @@
 pub mod Worlds
 pub mod Telling
 pub mod Running
+pub mod Faults
+pub mod Setup
+pub mod SitesWorlds

@@ -8,9 +8,9 @@ use Rattle.rubis_replica.specs.declared.faults.Fault.TheVariants as fault
 use Rattle.rubis_engine.specs.Accounts.{Account}
 use Rattle.rubis_engine.specs.Text.{rows_text}
 use Rattle.rubis_engine.specs.declared.fault.OutOfMemory.{OutOfMemory}
-use Rattle.rubis_sites.specs.Worlds.{ComesTo, WorldState}
-use Rattle.rubis_sites.specs.declared.faults.WorldFault.{WorldFault}
-use Rattle.rubis_sites.specs.declared.faults.WorldFault.TheVariants.{BadEvent, NoSuchPacket, Site, Memory}
+use Rattle.rubis_world.specs.SitesWorlds.{ComesTo, WorldState}
+use Rattle.rubis_world.specs.declared.faults.WorldFault.{WorldFault}
+use Rattle.rubis_world.specs.declared.faults.WorldFault.TheVariants.{BadEvent, NoSuchPacket, Site, Memory}
 
 -- an answer, or a refusal; where a site is behind or memory runs out there is none
 abbrev pub answer_in_world : {A : Type 0} → Result A WorldFault → Result (Result A Refusal) OutOfMemory

@@ -3,9 +3,9 @@ use Rattle.std.specs.Prelude.{◌≡◌, ℕ, ◌<◌, ◌≤◌, length, ◌⊎
 use Rattle.rubis_schema.specs.declared.limits.TheConstants.{KEEP_MAX, SITES_MAX}
 use Rattle.rubis_model.specs.Sound.{AllDeliverable, Room, Sound}
 use Rattle.rubis_replica.specs.declared.faults.Fault.TheVariants as fault
-use Rattle.rubis_sites.specs.Worlds.{WorldState, left_at}
-use Rattle.rubis_sites.specs.declared.faults.WorldFault.{WorldFault}
-use Rattle.rubis_sites.specs.declared.faults.WorldFault.TheVariants.{Site, Memory}
+use Rattle.rubis_world.specs.SitesWorlds.{WorldState, left_at}
+use Rattle.rubis_world.specs.declared.faults.WorldFault.{WorldFault}
+use Rattle.rubis_world.specs.declared.faults.WorldFault.TheVariants.{Site, Memory}
 
 -- what every call keeps
 pub record IsWorld (s : WorldState) : Type 0 where

@@ -5,13 +5,13 @@ ghost use Rattle.rubis_model.specs.Answers.{refused_row};
 ghost use Rattle.rubis_model.specs.WorldRecords.{event_rows, happened_rows, refusal_row, sent_rows, site_row, world_row};
 ghost use Rattle.rubis_engine.specs.Text.{rows_text};
 
+use crate::packets::packet;
 use crate::site_rows::SiteRows;
 use rubis_engine::{Reply, Sink};
 use rubis_listing::RowSink;
 use rubis_message::{Happened, Packet};
 use rubis_schema::{Fields, Refusal, push_number};
 use rubis_script::{write_arrival, write_handed_on, write_listed, write_refusal, write_sent, write_taken};
-use rubis_sites::packet;
 use std::alloc::AllocError;
 
 /// Says that the world refuses the record.

@@ -9,10 +9,10 @@ ghost use Rattle.rubis_engine.specs.Progress.{EndsCut, EndsInPrefix, FromStart, 
 ghost use Rattle.rubis_engine.specs.Text.{input_records, rows_text};
 ghost use Rattle.rubis_world.specs.Running.{told_by_world};
 
+use crate::config::WorldConfig;
 use crate::desk::WorldDesk;
 use rubis_engine::{Count, Run, RunFault, next_record, stop, write_out};
 use rubis_schema::RECORDS_MAX;
-use rubis_sites::WorldConfig;
 use std::alloc::Global;
 use std::io::{Read, Write};
 use std::mem;

@@ -9,13 +9,15 @@ ghost use Rattle.rubis_message.specs.declared.answers.Verdict.TheVariants.{Agree
 ghost use Rattle.rubis_model.specs.Verdict.{verdict};
 ghost use Rattle.rubis_model.specs.WorldRecords.{logs_of};
 ghost use Rattle.rubis_replica.specs.declared.faults.Fault.TheVariants as Fault;
-ghost use Rattle.rubis_sites.specs.Worlds.{Asks, ComesTo, Steps, left_at, opening_world};
-ghost use Rattle.rubis_sites.specs.declared.faults.WorldFault.TheVariants as WorldFault;
+ghost use Rattle.rubis_world.specs.SitesWorlds.{Asks, ComesTo, Steps, left_at, opening_world};
+ghost use Rattle.rubis_world.specs.declared.faults.WorldFault.TheVariants as WorldFault;
 ghost use Rattle.rubis_world.specs.Worlds.{IsCheckFault};
 
 use crate::checks::check;
+use crate::config::WorldConfig;
+use crate::faults::WorldFault;
+use crate::sites::Sites;
 use rubis_message::{Happened, Packet, Request, Verdict};
-use rubis_sites::{Sites, WorldConfig, WorldFault};
 use std::alloc::{AllocError, Global};
 use std::marker::Model;
 use std::sync::Wait;
@@ -30,7 +32,7 @@ pub struct World {
 }
 
 impl Model for World {
-    ghost use Rattle.rubis_sites.specs.Worlds.{WorldState};
+    ghost use Rattle.rubis_world.specs.SitesWorlds.{WorldState};
     ghost use Rattle.rubis_world.specs.Worlds.{IsWorld};
 
     ghost Value = { WorldState };

@@ -1,7 +1,7 @@
 use Rattle.std.proofs.Common.{length, subst, sym}
 use Rattle.rubis_model.specs.System.{IsEvent}
 use Rattle.rubis_model.specs.System.Event.{At}
-use Rattle.rubis_sites.specs.Worlds.{WorldState}
+use Rattle.rubis_world.specs.SitesWorlds.{WorldState}
 use Rattle.rubis_world.proofs.Keeping.{answered, told}
 use Rattle.rubis_world.proofs.world.World.at.Goals as goal
 

@@ -1,6 +1,6 @@
 use Rattle.std.proofs.Common.{subst}
 use Rattle.rubis_model.specs.Laws.{InRun}
-use Rattle.rubis_sites.specs.Worlds.{WorldState}
+use Rattle.rubis_world.specs.SitesWorlds.{WorldState}
 use Rattle.rubis_world.proofs.Keeping.{told}
 use Rattle.rubis_world.proofs.world.World.packets.Goals as goal
 

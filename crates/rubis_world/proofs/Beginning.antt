@@ -9,9 +9,9 @@ use Rattle.rubis_model.specs.Site.{opening_at}
 use Rattle.rubis_replica.specs.Progress.{resting_at}
 use Rattle.rubis_replica.specs.Setup.{setup_place}
 use Rattle.rubis_replica.specs.State.{SiteState}
-use Rattle.rubis_sites.specs.Setup.{WorldSetup, setup_at}
-use Rattle.rubis_sites.specs.Worlds.{AreAtPlaces, opening_world}
-use Rattle.rubis_sites.proofs.Moves.{state_of}
+use Rattle.rubis_world.specs.Setup.{WorldSetup, setup_at}
+use Rattle.rubis_world.specs.SitesWorlds.{AreAtPlaces, opening_world}
+use Rattle.rubis_world.proofs.Moves.{state_of}
 
 -- a site with nothing done
 abbrev pub fresh : WorldSetup → ℕ → SiteState

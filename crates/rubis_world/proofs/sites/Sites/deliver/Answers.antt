@@ -1,7 +1,7 @@
 use Rattle.std.proofs.Common.{rules, ◌≡◌, Some, length}
 use Rattle.rubis_model.specs.System.{packet_at}
-use Rattle.rubis_sites.proofs.Moves.{is_deliverable}
-use Rattle.rubis_sites.proofs.sites.Sites.deliver.Goals as goal
+use Rattle.rubis_world.proofs.Moves.{is_deliverable}
+use Rattle.rubis_world.proofs.sites.Sites.deliver.Goals as goal
 
 pub bring-requires-clause-fits : goal.bring-requires-clause-fits
 bring-requires-clause-fits g c κs h =

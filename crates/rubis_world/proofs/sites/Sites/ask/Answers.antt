@@ -3,8 +3,8 @@ use Rattle.std.specs.Prelude.{Ok}
 use Rattle.rubis_message.specs.declared.answers.Happened.TheVariants as happened
 use Rattle.rubis_message.specs.declared.tokens.Packet.TheVariants as packet
 use Rattle.rubis_model.specs.Site.{asked}
-use Rattle.rubis_sites.proofs.Moves.{are_at_places, asked_alone, read_behind, sends_fault, sends_on}
-use Rattle.rubis_sites.proofs.sites.Sites.ask.Goals as goal
+use Rattle.rubis_world.proofs.Moves.{are_at_places, asked_alone, read_behind, sends_fault, sends_on}
+use Rattle.rubis_world.proofs.sites.Sites.ask.Goals as goal
 
 pub returns-in_err-message-clause-step : goal.returns-in_err-message-clause-step
 returns-in_err-message-clause-step g c =

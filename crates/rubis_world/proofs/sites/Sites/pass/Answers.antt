@@ -4,8 +4,8 @@ use Rattle.rubis_message.specs.declared.tokens.Token.{Token}
 use Rattle.rubis_message.specs.declared.answers.Happened.TheVariants as happened
 use Rattle.rubis_message.specs.declared.tokens.Packet.TheVariants as packet
 use Rattle.rubis_model.specs.Site.{passed}
-use Rattle.rubis_sites.proofs.Moves.{are_at_places, asked_alone, never_behind, needs_none_behind, needs_none_never, sends_fault, sends_on}
-use Rattle.rubis_sites.proofs.sites.Sites.pass.Goals as goal
+use Rattle.rubis_world.proofs.Moves.{are_at_places, asked_alone, never_behind, needs_none_behind, needs_none_never, sends_fault, sends_on}
+use Rattle.rubis_world.proofs.sites.Sites.pass.Goals as goal
 
 pub returns-in_err-token-clause-step : goal.returns-in_err-token-clause-step
 returns-in_err-token-clause-step c =

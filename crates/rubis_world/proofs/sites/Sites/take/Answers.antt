@@ -2,8 +2,8 @@ use Rattle.std.specs.Prelude.{Ok}
 use Rattle.rubis_message.specs.declared.answers.Taken.{Taken}
 use Rattle.rubis_message.specs.declared.answers.Happened.TheVariants as happened
 use Rattle.rubis_model.specs.Site.{took}
-use Rattle.rubis_sites.proofs.Moves.{are_at_places, asked_alone, never_behind, needs_none_behind, needs_none_never, takes_fault, takes_on}
-use Rattle.rubis_sites.proofs.sites.Sites.take.Goals as goal
+use Rattle.rubis_world.proofs.Moves.{are_at_places, asked_alone, never_behind, needs_none_behind, needs_none_never, takes_fault, takes_on}
+use Rattle.rubis_world.proofs.sites.Sites.take.Goals as goal
 
 pub returns-in_err-taken-clause-step : goal.returns-in_err-taken-clause-step
 returns-in_err-taken-clause-step c =

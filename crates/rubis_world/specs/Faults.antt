@@ -1,8 +1,8 @@
 -- Why a call of a world gives no answer.
 use Rattle.rubis_replica.specs.declared.faults.Fault.{Fault}
 use Rattle.rubis_replica.specs.declared.faults.Fault.TheVariants as site
-use Rattle.rubis_sites.specs.declared.faults.WorldFault.{WorldFault}
-use Rattle.rubis_sites.specs.declared.faults.WorldFault.TheVariants.{Site, Memory}
+use Rattle.rubis_world.specs.declared.faults.WorldFault.{WorldFault}
+use Rattle.rubis_world.specs.declared.faults.WorldFault.TheVariants.{Site, Memory}
 
 -- where a site is out of memory, so is the world
 abbrev pub fault_at_site : Fault → WorldFault

@@ -20,10 +20,10 @@ use Rattle.rubis_laws.proofs.Keeps.{has_packet, same_sites}
 use Rattle.rubis_replica.specs.State.{AnswersAsTheStep, IsReadFault, Lists, ListsTheLog, NeedsNoTables, SiteState, TakesIn}
 use Rattle.rubis_replica.specs.declared.faults.Fault.{Fault}
 use Rattle.rubis_replica.specs.declared.faults.Fault.TheVariants as fault
-use Rattle.rubis_sites.specs.Faults.{fault_at_site}
-use Rattle.rubis_sites.specs.Worlds.{AreAtPlaces, Asks, ComesTo, Steps, WorldState, left_at}
-use Rattle.rubis_sites.specs.declared.faults.WorldFault.{WorldFault}
-use Rattle.rubis_sites.specs.declared.faults.WorldFault.TheVariants as world
+use Rattle.rubis_world.specs.Faults.{fault_at_site}
+use Rattle.rubis_world.specs.SitesWorlds.{AreAtPlaces, Asks, ComesTo, Steps, WorldState, left_at}
+use Rattle.rubis_world.specs.declared.faults.WorldFault.{WorldFault}
+use Rattle.rubis_world.specs.declared.faults.WorldFault.TheVariants as world
 
 -- what the fields stand for
 abbrev pub world_of : List SiteState → List Packet → World

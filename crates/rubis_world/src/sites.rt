@@ -11,8 +11,8 @@ ghost use Rattle.rubis_model.specs.System.Event.{At, Deliver};
 ghost use Rattle.rubis_model.specs.System.{site as site_of};
 ghost use Rattle.rubis_replica.specs.Counts.{IsCount};
 ghost use Rattle.rubis_replica.specs.declared.faults.Fault.TheVariants as Fault;
-ghost use Rattle.rubis_sites.specs.Worlds.{Asks, Steps, left_at, opening_world};
-ghost use Rattle.rubis_sites.specs.declared.faults.WorldFault.TheVariants as WorldFault;
+ghost use Rattle.rubis_world.specs.SitesWorlds.{Asks, Steps, left_at, opening_world};
+ghost use Rattle.rubis_world.specs.declared.faults.WorldFault.TheVariants as WorldFault;
 
 use crate::config::WorldConfig;
 use crate::faults::WorldFault;
@@ -37,7 +37,7 @@ pub struct Sites {
 impl Model for Sites {
     ghost use Rattle.std.specs.Prelude.{map};
     ghost use Rattle.rubis_replica.specs.State.{SiteState};
-    ghost use Rattle.rubis_sites.specs.Worlds.{AreAtPlaces, WorldState};
+    ghost use Rattle.rubis_world.specs.SitesWorlds.{AreAtPlaces, WorldState};
 
     ghost Value = { WorldState };
 

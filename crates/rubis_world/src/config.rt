@@ -2,7 +2,7 @@ ghost use Rattle.std.specs.Prelude.{◌≡◌, ◌<◌};
 ghost use Rattle.std.specs.Option.{SomeIff};
 ghost use Rattle.rubis_schema.specs.declared.limits.TheConstants.{KEEP_MAX, SITES_MAX};
 ghost use Rattle.rubis_replica.specs.Counts.{IsCount};
-ghost use Rattle.rubis_sites.specs.Setup.{IsWorldSetup, WorldSetup, setup_at};
+ghost use Rattle.rubis_world.specs.Setup.{IsWorldSetup, WorldSetup, setup_at};
 
 use rubis_replica::Config;
 use rubis_schema::Hashes;
@@ -22,7 +22,7 @@ pub struct WorldConfig {
 }
 
 impl Model for WorldConfig {
-    ghost use Rattle.rubis_sites.specs.Setup.{IsWorldSetup, WorldSetup};
+    ghost use Rattle.rubis_world.specs.Setup.{IsWorldSetup, WorldSetup};
 
     ghost Value = { WorldSetup };
 

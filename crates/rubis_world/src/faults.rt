@@ -1,6 +1,6 @@
 ghost use Rattle.std.specs.Prelude.{◌≡◌};
-ghost use Rattle.rubis_sites.specs.Faults.{fault_at_site};
-ghost use Rattle.rubis_sites.specs.declared.faults.WorldFault.TheVariants as WorldFault;
+ghost use Rattle.rubis_world.specs.Faults.{fault_at_site};
+ghost use Rattle.rubis_world.specs.declared.faults.WorldFault.TheVariants as WorldFault;
 
 use rubis_replica::Fault;
 use std::alloc::{AllocError, AllocFailed};

@@ -1,7 +1,7 @@
 use Rattle.std.specs.Prelude.{Ok}
 use Rattle.rubis_message.specs.declared.answers.Happened.TheVariants as happened
-use Rattle.rubis_sites.proofs.Moves.{are_at_places, asked_alone, lists_behind, shows_fault, shows_on}
-use Rattle.rubis_sites.proofs.sites.Sites.list.Goals as goal
+use Rattle.rubis_world.proofs.Moves.{are_at_places, asked_alone, lists_behind, shows_fault, shows_on}
+use Rattle.rubis_world.proofs.sites.Sites.list.Goals as goal
 
 pub returns-in_err-rows-clause-step : goal.returns-in_err-rows-clause-step
 returns-in_err-rows-clause-step g c =

@@ -3,9 +3,9 @@ use Rattle.rubis_model.specs.Site.{opening_at}
 use Rattle.rubis_replica.specs.Progress.{resting_at}
 use Rattle.rubis_replica.specs.Setup.{Setup, setup_place}
 use Rattle.rubis_replica.specs.State.{SiteState}
-use Rattle.rubis_sites.proofs.Beginning.{at_places, fresh_sites, one_more, starts}
-use Rattle.rubis_sites.proofs.Moves.{state_of}
-use Rattle.rubis_sites.proofs.sites.Sites.new.Goals as goal
+use Rattle.rubis_world.proofs.Beginning.{at_places, fresh_sites, one_more, starts}
+use Rattle.rubis_world.proofs.Moves.{state_of}
+use Rattle.rubis_world.proofs.sites.Sites.new.Goals as goal
 
 abbrev opened : Setup → SiteState
 opened q = record { place = setup_place q; state = opening_at q.site; progress = resting_at 0; batch = q.batch }

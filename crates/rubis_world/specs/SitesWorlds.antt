@@ -7,8 +7,8 @@ use Rattle.rubis_message.specs.declared.answers.Happened.{Happened}
 use Rattle.rubis_model.specs.System.{World, start}
 use Rattle.rubis_replica.specs.State.{SiteState}
 use Rattle.rubis_replica.specs.declared.faults.Fault.TheVariants as fault
-use Rattle.rubis_sites.specs.declared.faults.WorldFault.{WorldFault}
-use Rattle.rubis_sites.specs.declared.faults.WorldFault.TheVariants.{BadEvent, NoSuchPacket, Site, Memory}
+use Rattle.rubis_world.specs.declared.faults.WorldFault.{WorldFault}
+use Rattle.rubis_world.specs.declared.faults.WorldFault.TheVariants.{BadEvent, NoSuchPacket, Site, Memory}
 
 -- how many messages each site keeps, the sites with their packets, and how many parts each site has left of the batch that
 -- it has begun

@@ -1,8 +1,8 @@
 use Rattle.std.specs.Prelude.{Ok}
 use Rattle.rubis_message.specs.declared.answers.Happened.TheVariants as happened
 use Rattle.rubis_model.specs.Site.{arrived}
-use Rattle.rubis_sites.proofs.Moves.{are_at_places, asked_alone, never_behind, takes_in_behind, takes_in_never, takes_fault, takes_on}
-use Rattle.rubis_sites.proofs.sites.Sites.arrive.Goals as goal
+use Rattle.rubis_world.proofs.Moves.{are_at_places, asked_alone, never_behind, takes_in_behind, takes_in_never, takes_fault, takes_on}
+use Rattle.rubis_world.proofs.sites.Sites.arrive.Goals as goal
 
 pub returns-in_err-arrival-clause-step : goal.returns-in_err-arrival-clause-step
 returns-in_err-arrival-clause-step g c =
