@@ -5,8 +5,8 @@ use Rattle.clap.specs.Words.{Kinds, Text, fault_of}
 use Rattle.clap.specs.declared.error.kind.ErrorKind.{ErrorKind}
 use Rattle.clap.specs.declared.error.kind.ErrorKind.TheVariants.{DisplayHelp, DisplayVersion}
 use Rattle.rubis_cli.specs.CommandLine.{command_line}
-use Rattle.rubis_folder.specs.declared.fault.FolderFault.{FolderFault}
-use Rattle.rubis_folder.specs.declared.fault.FolderFault.TheVariants as folder
+use Rattle.rubis_keep.specs.declared.folder_fault.FolderFault.{FolderFault}
+use Rattle.rubis_keep.specs.declared.folder_fault.FolderFault.TheVariants as folder
 
 -- help and the version are shown, and all else that `clap` says is a mistake
 abbrev pub status_by : ErrorKind → ℕ

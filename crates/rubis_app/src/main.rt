@@ -15,7 +15,7 @@ ghost use Rattle.rubis_app.specs.Statuses.{IsStatusOf, status_by, status_of};
 use clap::Error;
 use rubis_audit::{run_audit_to_exit, run_lack, run_widen};
 use rubis_cli::{KeepOptions, OptionFault, Options, Run, Setup, Widening, read_options};
-use rubis_folder::{FolderFault, Setup as Place, Wanted, keep_folder};
+use rubis_keep::{FolderFault, Setup as Place, Wanted, keep_folder};
 use rubis_replica::Config;
 use rubis_schema::{Hashes, SITES_MAX};
 use rubis_script::{Count, RunFault, run_site_to_exit};

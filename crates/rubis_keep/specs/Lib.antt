@@ -6,3 +6,4 @@ pub mod Kept
 pub mod Crashes
 pub mod Shops
 pub mod Shortened
+pub mod Setups

@@ -1,4 +1,5 @@
 //! What a site that stays up is given, kept before it is answered, and answered again after a crash.
+//! A site in a folder: its files, their lock, and what is written down of how the site is set up.
 #![tactic(auto)]
 
 mod answers;
@@ -8,11 +9,15 @@ mod comparing;
 mod counts;
 mod fault;
 mod feeding;
+mod files;
+mod folder_fault;
+mod keep;
 mod keeping;
 mod laws;
 mod lines;
 mod pieces;
 mod run;
+mod setup;
 mod shortening;
 mod site;
 mod writing;
@@ -20,9 +25,12 @@ mod writing;
 pub use answers::{Answers, Out};
 pub use clerk::Clerk;
 pub use fault::{Difference, KeepFault};
+pub use folder_fault::FolderFault;
+pub use keep::{Wanted, keep_folder};
 pub use keeping::{KeptLines, Log, keep_next};
 pub use laws::{crash_and_restart, kept_shops_are_runs};
 pub use lines::{LINE_MAX, LineCutter};
 pub use run::{Recording, run_kept};
+pub use setup::Setup;
 pub use shortening::shorten;
 pub use site::keep_site;

@@ -1,7 +1,7 @@
 // Why a site in a folder isn't run, or ended early.
 
+use crate::fault::KeepFault;
 use crate::setup::Setup;
-use rubis_keep::KeepFault;
 use std::io;
 
 /// Why a site in a folder isn't run, or ended early. A fault of a file has the reason that the system gave.

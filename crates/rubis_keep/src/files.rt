@@ -1,8 +1,9 @@
 // The files of a site in a folder.
 
-use crate::fault::FolderFault;
+use crate::answers::Out;
+use crate::folder_fault::FolderFault;
+use crate::keeping::Log;
 use crate::setup::{Setup, write_setup};
-use rubis_keep::{Log, Out};
 use std::fs::{File, Files, OpenOptions, TryLockError};
 use std::io::Write;
 use std::rt::Clock;

@@ -3,12 +3,16 @@
 ghost use Rattle.std.specs.Prelude.{◌≡◌, IfSome};
 ghost use Rattle.std.specs.Option.{SomeIff};
 ghost use Rattle.rubis_replica.specs.Setup.{setup_place};
-ghost use Rattle.rubis_folder.specs.Setups.{GoesOn, next_setup, opening_setup, place_of};
+ghost use Rattle.rubis_keep.specs.Setups.{GoesOn, next_setup, opening_setup, place_of};
 
-use crate::fault::FolderFault;
+use crate::answers::Answers;
+use crate::fault::KeepFault;
 use crate::files::{LogFile, OutFile, begin, open, settle, take_lock};
+use crate::folder_fault::FolderFault;
+use crate::run::Recording;
 use crate::setup::{ANSWERS, Setup, read_setup, write_setup};
-use rubis_keep::{Answers, KeepFault, Recording, keep_site, shorten};
+use crate::shortening::shorten;
+use crate::site::keep_site;
 use rubis_replica::Config;
 use rubis_schema::{Hashes, KEEP_MAX, RECORDS_MAX};
 use std::fs::{File, Files};

@@ -1,8 +1,8 @@
 -- How a site in a folder is set up, by what is asked for and what the folder has.
 use Rattle.std.specs.Prelude.{◌≡◌, ◌≤◌, ℕ, Option, unwrap_or}
 use Rattle.rubis_model.specs.Site.{Place}
-use Rattle.rubis_folder.specs.declared.keep.Wanted.{Wanted}
-use Rattle.rubis_folder.specs.declared.setup.Setup.{Setup}
+use Rattle.rubis_keep.specs.declared.keep.Wanted.{Wanted}
+use Rattle.rubis_keep.specs.declared.setup.Setup.{Setup}
 
 -- a new site: where nothing is asked for, it is site 0 of one, and keeps 1,000,000 messages
 abbrev pub opening_setup : Wanted → Setup
