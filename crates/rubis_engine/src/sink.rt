@@ -9,8 +9,7 @@ ghost use Rattle.rubis_engine.specs.Text.{plain_writer};
 
 use crate::fault::RunFault;
 use crate::quoted_rows::QuotedRows;
-use rubis_listing::{RowSink, SharedSink};
-use rubis_schema::{Fields, is_plain};
+use rubis_schema::{Fields, RowSink, SharedSink, is_plain};
 use std::alloc::{AllocError, Global};
 use std::io::Write;
 use std::marker::Model;

@@ -8,9 +8,8 @@ ghost use Rattle.rubis_shard.specs.Written.{shown};
 ghost use Rattle.rubis_listing.specs.ByTable.{tables_of};
 
 use crate::records::put_record;
-use crate::row_sinks::{RowSink, SharedSink};
 use crate::shared::put_rows_shared;
-use rubis_schema::{Fields, Id, Items, Listing, Row, RowKey, Table};
+use rubis_schema::{Fields, Id, Items, Listing, Row, RowKey, RowSink, SharedSink, Table};
 use rubis_shard::{Tables, selects};
 use std::alloc::{AllocError, Global};
 use std::thread::Threads;

@@ -3,9 +3,8 @@
 ghost use Rattle.std.specs.Prelude.{◌≡◌, ◌++◌, ◌≤◌, ◌∷◌, [], IfOk, OnOk, length};
 ghost use Rattle.rubis_model.specs.Listings.{kind_name, log_record, log_rows, misfit_record, misfit_rows as rows_of_misfits};
 
-use crate::row_sinks::RowSink;
 use rubis_message::{Message, append_message};
-use rubis_schema::{Fields, Items, push_number};
+use rubis_schema::{Fields, Items, RowSink, push_number};
 use rubis_shadow::{Misfit, MisfitKind};
 use std::alloc::{AllocError, Global};
 

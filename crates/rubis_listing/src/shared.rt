@@ -6,10 +6,9 @@ ghost use Rattle.rubis_shard.specs.Written.{shown};
 ghost use Rattle.rubis_listing.specs.Parts.{AreParts, rows_of_part};
 
 use crate::listings::put_rows;
-use crate::row_sinks::SharedSink;
 use rayon::current_num_threads;
 use rayon::prelude::*;
-use rubis_schema::{Listing, Row, RowKey};
+use rubis_schema::{Listing, Row, RowKey, SharedSink};
 use std::alloc::{AllocError, Global};
 use std::thread::Threads;
 

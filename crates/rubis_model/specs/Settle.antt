@@ -2,6 +2,7 @@
 use Rattle.std.specs.Prelude.{◌≡◌, ◌≢◌, ℕ, ◌+◌, ◌<◌, ◌≤◌, ◌==◌, Bool, ◌&&◌, ◌||◌, cond, nat_lt, nat_le, zero, suc, Option, Some, None, List, [], ◌∷◌, ◌++◌, length, ◌⊎◌}
 use Rattle.std.specs.List.{list_all, range_with_len}
 use Rattle.rubis_message.specs.Message.{Message, dep}
+pub use Rattle.rubis_schema.specs.Members.{Has}
 
 -- how many messages of a log have origin j
 abbrev pub counted : ℕ → List Message → ℕ
@@ -26,11 +27,6 @@ is_ready log m =
     (m.stamp.id.seq == counted m.stamp.id.site log + 1)
     && list_all (λ j. (j == m.stamp.id.site) || nat_le (dep m j) (counted j log)) (range_with_len 0 (length m.stamp.deps))
     && ((m.stamp.red == 0) || (m.stamp.red == reds log + 1))
-
--- x is in the list
-abbrev pub Has : {A : Type 0} → A → List A → Type 0
-Has x [] = ⊥
-Has x (y ∷ ys) = (x ≡ y) ⊎ Has x ys
 
 -- log and waiting messages settle to these: the earliest-arrived ready one is released, again until none is ready
 pub data Settles : List Message → List Message → List Message → List Message → Type 0 where

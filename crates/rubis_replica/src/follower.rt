@@ -14,11 +14,11 @@ ghost use Rattle.rubis_replica.specs.Progress.{HasBegun, IsAhead, IsBetween, IsP
 ghost use Rattle.rubis_replica.specs.Counts.{IsCount};
 
 use crate::arriving::{Arrived, take_all};
-use rubis_listing::{SharedSink, list_tables, list_tables_shared};
+use rubis_listing::{list_tables, list_tables_shared};
 use rubis_message::Message;
 use rubis_pieces::{count_behind, follow_rest};
 use rubis_release::Intake;
-use rubis_schema::{Hashes, Listing};
+use rubis_schema::{Hashes, Listing, SharedSink};
 use rubis_shard::Tables;
 use rubis_workers::{Gate, Pace, apply_batch, count_parts};
 use std::alloc::{AllocError, Global};

@@ -11,3 +11,5 @@ pub mod IdKeys
 pub mod IdKeyLaws
 pub mod KeyHashes
 pub mod Categories
+pub mod Adding
+pub mod Members

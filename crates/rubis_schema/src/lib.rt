@@ -1,8 +1,9 @@
 //! What every layer speaks of: ids, nicknames, texts, the keys and rows of the seven tables, refusals, records as
-//! lists of fields, and the view of a set of tables.
+//! lists of fields and what takes them as rows, and the view of a set of tables.
 #![tactic(auto)]
 
 mod boxed;
+mod counted;
 mod field_list;
 mod homes;
 mod id_keys;
@@ -18,6 +19,7 @@ mod numbers;
 mod records;
 mod refusals;
 mod row_keys;
+mod row_sinks;
 mod rows;
 mod shared;
 mod short_texts;
@@ -26,6 +28,7 @@ mod texts;
 mod views;
 
 pub use boxed::Boxed;
+pub use counted::Counted;
 pub use field_list::{Fields, is_plain};
 pub use homes::shard_of;
 pub use id_keys::{IdKey, IdTable};
@@ -45,6 +48,7 @@ pub use numbers::{push_int, push_number};
 pub use records::Record;
 pub use refusals::Refusal;
 pub use row_keys::{RowKey, Table, key_cmp};
+pub use row_sinks::{RowSink, SharedSink};
 pub use rows::{Best, BidRow, CatRow, CommentRow, ItemRow, PurchaseRow, Row, Sale, UserRow};
 pub use rubis_numbers::{RATING_MAX, read_number, read_rating};
 pub use shared::Shared;

@@ -1,6 +1,6 @@
 -- What is answered to a listing.
 use Rattle.std.specs.Prelude.{◌≡◌, ℕ, List, length}
-use Rattle.rubis_listing.specs.declared.counted.Counted.{Counted}
+use Rattle.rubis_schema.specs.declared.counted.Counted.{Counted}
 use Rattle.rubis_engine.specs.Text.{rows_text}
 
 -- the text is that of these rows, and the count their number

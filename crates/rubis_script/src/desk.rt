@@ -24,11 +24,10 @@ ghost use Rattle.rubis_engine.specs.declared.service.Course.TheVariants as Cours
 use crate::replies::{write_arrival, write_listed_text, write_passed, write_refusal, write_sent, write_taken};
 use crate::windows::{hold, window_of, write_arrivals};
 use rubis_engine::{InputRecord, OutOfMemory, Reply, Service, Sink};
-use rubis_listing::Counted;
 use rubis_message::{Message, Packet, ReadFault, Request, Token, read_packet, read_request};
 use rubis_reading::Parsed;
 use rubis_replica::{Config, Fault, Free, Gate, Site};
-use rubis_schema::{Listing, Refusal};
+use rubis_schema::{Counted, Listing, Refusal};
 use rubis_shadow::Ask;
 use std::alloc::{AllocError, Global};
 use std::mem;

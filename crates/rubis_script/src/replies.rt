@@ -9,9 +9,8 @@ ghost use Rattle.rubis_script.specs.Replies.{HasRows};
 ghost use Rattle.rubis_engine.specs.Text.{rows_text};
 
 use rubis_engine::Sink;
-use rubis_listing::{Counted, RowSink};
 use rubis_message::{Arrival, Message, Taken, Token, append_message, append_token};
-use rubis_schema::{Fields, Items, Refusal, push_number};
+use rubis_schema::{Counted, Fields, Items, Refusal, RowSink, push_number};
 use std::alloc::AllocError;
 
 // Begins the reply to the record with that number.

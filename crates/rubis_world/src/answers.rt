@@ -8,9 +8,8 @@ ghost use Rattle.rubis_engine.specs.Text.{rows_text};
 use crate::packets::packet;
 use crate::site_rows::SiteRows;
 use rubis_engine::{Reply, Sink};
-use rubis_listing::RowSink;
 use rubis_message::{Happened, Packet};
-use rubis_schema::{Fields, Refusal, push_number};
+use rubis_schema::{Fields, Refusal, RowSink, push_number};
 use rubis_script::{write_arrival, write_handed_on, write_listed, write_refusal, write_sent, write_taken};
 use std::alloc::AllocError;
 

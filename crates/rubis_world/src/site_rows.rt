@@ -2,8 +2,7 @@
 
 use itoa::Buffer;
 use rubis_engine::Sink;
-use rubis_listing::RowSink;
-use rubis_schema::Fields;
+use rubis_schema::{Fields, RowSink};
 use std::alloc::AllocError;
 
 /// What takes the records that a site gives, and writes each with `at` and the site in front.

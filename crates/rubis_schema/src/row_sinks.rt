@@ -2,7 +2,8 @@
 
 ghost use Rattle.std.specs.Prelude.{◌≡◌, ◌++◌, ◌∷◌, [], ℕ, List, OnOk};
 
-use rubis_schema::{Fields, Items};
+use crate::field_list::Fields;
+use crate::lists::Items;
 use std::alloc::{AllocError, Global};
 
 /// What takes the rows of a listing, one after the other.
@@ -37,7 +38,7 @@ pub trait SharedSink: RowSink + Drop + Send {
 
 impl RowSink for Items<Fields> {
     ghost use Rattle.std.specs.Prelude.{◌≡◌, ◌++◌};
-    ghost use Rattle.rubis_listing.specs.Adding.{added_more, added_none};
+    ghost use Rattle.rubis_schema.specs.Adding.{added_more, added_none};
 
     ghost adds = { λ rows old new. new ≡ old ++ rows };
 
@@ -53,7 +54,7 @@ impl RowSink for Items<Fields> {
 
 impl SharedSink for Items<Fields> {
     ghost use Rattle.std.specs.Prelude.{◌≡◌};
-    ghost use Rattle.rubis_listing.specs.Adding.{held_more};
+    ghost use Rattle.rubis_schema.specs.Adding.{held_more};
 
     ghost holds = { λ rows items. items ≡ rows };
 
