@@ -1,5 +1,5 @@
 -- The configurations that a command line asks for.
-use Rattle.rubis_replica.specs.Setup.{Setup}
+use Rattle.rubis_world.specs.Script.{Setup}
 use Rattle.rubis_cli.specs.declared.options.Options.{Options}
 use Rattle.rubis_cli.specs.declared.options.Setup.{Setup as Numbers}
 use Rattle.rubis_world.specs.Setup.{WorldSetup}

@@ -1,4 +1,4 @@
-// The audit: a walk over one log after another.
+//! The audit: a walk over one log after another.
 
 ghost use Rattle.std.specs.Prelude.{◌≡◌, ◌≤◌, IfOk};
 ghost use Rattle.rubis_schema.specs.declared.limits.TheConstants.{COUNTED_MAX};

@@ -1,4 +1,4 @@
-// The checks of an entry by its content, against the tables of what stands before it.
+//! The checks of an entry by its content, against the tables of what stands before it.
 
 ghost use Rattle.std.specs.Prelude.{◌≡◌, nat_le, option_copied};
 ghost use Rattle.rubis_message.specs.Message.{dep};

@@ -1,4 +1,4 @@
-// What holds of a widening and an audit together.
+//! What holds of a widening and an audit together.
 
 ghost use Rattle.rubis_audit.specs.Widening.{WidenedAuditStays, WidenedTextReadsBack};
 

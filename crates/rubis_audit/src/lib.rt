@@ -1,5 +1,5 @@
-//! The auditor: whether the logs of several sites agree, and if not, what the first fault is. And logs widened to more sites.
-//! The walk over one log after another: the checks of each entry, and what a record says as a line of a log.
+//! The auditor: whether the logs of several sites agree, and if not, what the first fault is; what a log lacks; and logs
+//! widened to more sites.
 #![tactic(auto)]
 
 mod auditor;

@@ -1,4 +1,4 @@
-// What a record says to the auditor.
+//! What a record says to the auditor.
 
 ghost use Rattle.std.specs.Prelude.{◌≡◌, ◌≤◌, IfOk, option_map};
 ghost use Rattle.rubis_schema.specs.declared.limits.TheConstants.{COUNTED_MAX};

@@ -1,4 +1,4 @@
-// Logs as an auditor is given them.
+//! Logs as an auditor is given them.
 
 ghost use Rattle.std.specs.Prelude.{◌≡◌, ◌++◌, ◌∷◌, [], OnErr, OnOk, Some, option_map, unwrap_or};
 

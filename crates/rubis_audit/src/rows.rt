@@ -1,4 +1,4 @@
-// The rows that a log claims, beside those of its messages.
+//! The rows that a log claims, beside those of its messages.
 
 ghost use Rattle.std.specs.Prelude.{◌≡◌, ◌↔◌, IfOk, IsTrue, false, not};
 ghost use Rattle.std.specs.Option.{option_map_or};

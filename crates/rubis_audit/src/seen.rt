@@ -1,4 +1,4 @@
-// All messages so far, found by id and by red number.
+//! All messages so far, found by id and by red number.
 
 ghost use Rattle.std.specs.Prelude.{◌≡◌, ◌++◌, ◌∷◌, [], List, OnOk, nat_eq, option_copied};
 ghost use Rattle.std.specs.HashMap as hash;

@@ -1,4 +1,4 @@
-// The checks of an entry by its stamp.
+//! The checks of an entry by its stamp.
 
 ghost use Rattle.std.specs.Prelude.{◌≡◌, List, length, option_copied};
 ghost use Rattle.rubis_message.specs.Message as model;

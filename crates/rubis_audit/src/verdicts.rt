@@ -1,4 +1,4 @@
-// The record of an audit.
+//! The record of an audit.
 
 ghost use Rattle.std.specs.Prelude.{◌≡◌, ◌++◌, ◌∷◌, [], OnOk, codes};
 ghost use Rattle.rubis_message.specs.declared.answers.Verdict.TheVariants.{Found};

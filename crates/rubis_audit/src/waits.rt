@@ -1,4 +1,4 @@
-// What a message waits for.
+//! What a message waits for.
 
 ghost use Rattle.std.specs.Prelude.{◌≡◌, ◌<◌, ◌+◌, List, length};
 ghost use Rattle.rubis_message.specs.Message as model;

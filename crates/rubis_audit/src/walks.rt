@@ -1,4 +1,4 @@
-// The walk over a log, entry by entry.
+//! The walk over a log, entry by entry.
 
 ghost use Rattle.std.specs.Prelude.{◌≡◌, ◌<◌, ◌≤◌, [], List, Some, None, IfOk, OnOk, cond, length, option_copied, option_map, take};
 ghost use Rattle.rubis_schema.specs.declared.limits.TheConstants.{COUNTED_MAX};

@@ -1,4 +1,4 @@
-// A service that widens the records of an audit: a record in, one out.
+//! A service that widens the records of an audit: a record in, one out.
 
 ghost use Rattle.std.proofs.Common.{rules};
 ghost use Rattle.std.specs.Prelude.{◌≡◌, ◌++◌, ◌∷◌, ◌≤◌, [], ℕ, List, OnOk, refl};

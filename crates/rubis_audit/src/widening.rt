@@ -1,4 +1,4 @@
-// The widening of logs over a reader and a writer.
+//! The widening of logs over a reader and a writer.
 
 ghost use Rattle.std.specs.Prelude.{◌≤◌, IfOk, IfSome, IsErrOf};
 ghost use Rattle.rubis_schema.specs.declared.limits.TheConstants.{COUNTED_MAX};

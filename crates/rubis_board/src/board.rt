@@ -1,3 +1,5 @@
+//! The board on which a batch's pieces are posted, taken by workers and given back.
+
 ghost use Rattle.std.specs.Prelude.{◌≡◌, ◌<◌, [], ◌∷◌, ◌++◌, length, true, false, IfOk, IfErr, OnOk, IfSome, IfNone};
 ghost use Rattle.std.specs.List.Sorted.{IsPermutation};
 ghost use Rattle.rubis_board.specs.Passes.{opened, one_part_less, new_part, joined_pass, after_piece, after_none};

@@ -1,4 +1,5 @@
-// The laws of the rule, stated in specs/Laws.
+//! The laws of the rule, stated in specs/Laws.
+
 ghost use Rattle.rubis_board.specs.Laws.{StepsKeepTheRule, StepsMoveThePosted};
 
 /// The rule of the board holds when a board is made, and each step of each pass keeps it.

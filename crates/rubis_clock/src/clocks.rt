@@ -1,3 +1,5 @@
+//! A clock: how many messages of each site were released, and which stamps it is ready for.
+
 ghost use Rattle.std.specs.Prelude.{◌≡◌, ◌≢◌, ◌↔◌, ◌<◌, ◌≤◌, ℕ, IsTrue, length, slice_index};
 ghost use Rattle.rubis_clock.specs.Clocks.{IsReady, StampPrecedes, advanced, opening_clock};
 

@@ -1,3 +1,5 @@
+//! Counts of messages, one for each site.
+
 ghost use Rattle.std.specs.Prelude.{◌≡◌, ◌==◌, ◌<◌, ◌≤◌, ◌+◌, [], ◌∷◌, ◌++◌, length, slice_index, slice_set};
 
 use rubis_schema::COUNTED_MAX;

@@ -1,3 +1,5 @@
+//! The stamp of a message: its id, its counts, and its red number.
+
 ghost use Rattle.std.specs.Prelude.{◌≡◌};
 ghost use Rattle.rubis_clock.specs.Widening.{widening};
 

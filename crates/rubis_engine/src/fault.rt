@@ -1,4 +1,4 @@
-// How a run ends.
+//! How a run ends.
 
 use std::alloc::AllocError;
 use thiserror::Error;

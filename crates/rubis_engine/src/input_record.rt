@@ -1,4 +1,4 @@
-// A record as it was read.
+//! A record as it was read.
 
 ghost use Rattle.std.specs.Prelude.{◌≡◌, IfOk};
 ghost use Rattle.csv.specs.Records.{fields_of};

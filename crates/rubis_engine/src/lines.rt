@@ -1,4 +1,4 @@
-// The lines of rows that are sent, and what they are read as.
+//! The lines of rows that are sent, and what they are read as.
 
 ghost use Rattle.rubis_engine.specs.Lines.{RowsAreReadBack, SentLinesAreLines};
 

@@ -1,4 +1,4 @@
-// A reader that knows how much it gave.
+//! A reader that knows how much it gave.
 
 ghost use Rattle.std.specs.Prelude.{◌≡◌, ◌≤◌, ◌-◌, ◌↔◌, length, true};
 ghost use Rattle.rubis_engine.specs.Reading.{metered};

@@ -1,4 +1,4 @@
-// Rows in which some field may need quotes, written by `csv`.
+//! Rows in which some field may need quotes, written by `csv`.
 
 ghost use Rattle.std.specs.Prelude.{◌≡◌, ◌++◌, ◌∷◌, [], ℕ, List, OnOk, false, map};
 ghost use Rattle.csv.specs.Writing.{fields_written, has_written, row_text, writer_setup, writer_under};

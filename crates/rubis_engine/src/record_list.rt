@@ -1,4 +1,4 @@
-// The records of a reader, one at a time.
+//! The records of a reader, one at a time.
 
 ghost use Rattle.std.specs.Prelude.{◌≡◌, ◌⊎◌, IfErr, IfOk, IfSome};
 ghost use Rattle.rubis_engine.specs.Reading.{Advances, Gives, fields_now};

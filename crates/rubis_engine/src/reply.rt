@@ -1,4 +1,4 @@
-// What a record is answered with.
+//! What a record is answered with.
 
 ghost use Rattle.std.specs.Prelude.{◌≡◌, []};
 

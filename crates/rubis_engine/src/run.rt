@@ -1,4 +1,4 @@
-// The run from bytes to bytes.
+//! The run from bytes to bytes.
 
 ghost use Rattle.std.specs.Prelude.{◌≡◌, ◌<◌, ◌+◌, ◌++◌, ◌^◌, ◌⊎◌, [], ℕ, List, Option, IfErr, IfNone, IfOk, IfSome, IsErrOf, OnOk, false, true};
 ghost use Rattle.std.specs.Io.KnownBytes.{Appends};

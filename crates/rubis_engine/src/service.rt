@@ -1,4 +1,4 @@
-// What answers records.
+//! What answers records.
 
 ghost use Rattle.std.specs.Prelude.{◌≡◌, ◌<◌, ◌++◌, ◌+◌, ◌∷◌, [], ℕ, List, IfOk, OnOk};
 ghost use Rattle.rubis_engine.specs.Accounts.{Account, AnswersRecord, Keeps};

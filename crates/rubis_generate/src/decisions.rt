@@ -1,3 +1,5 @@
+//! What a site decides of a request: its shadow, or the refusal.
+
 ghost use Rattle.std.specs.Prelude.{◌≡◌, IfErr, IfOk, false, is_some, option_copied, true};
 ghost use Rattle.rubis_schema.specs.declared.refusals.Refusal.TheVariants as Refusal;
 ghost use Rattle.rubis_shadow.specs.declared.asks.Ask.TheVariants as Ask;

@@ -1,3 +1,5 @@
+//! What a decision has to know of its site beside the tables.
+
 /// What a decision has to know of its site beside the tables.
 #[derive(Clone, Copy)]
 pub struct Standing {

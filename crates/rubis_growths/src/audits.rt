@@ -1,4 +1,4 @@
-// An audit of a log.
+//! An audit of a log.
 
 ghost use Rattle.std.specs.Prelude.{◌≡◌, All};
 ghost use Rattle.rubis_message.specs.Message.{sites_of};

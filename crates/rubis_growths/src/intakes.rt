@@ -1,4 +1,4 @@
-// The intake of a site, and its calls that take memory.
+//! The intake of a site, and its calls that take memory.
 
 ghost use Rattle.std.specs.Prelude.{◌≡◌};
 

@@ -1,14 +1,12 @@
-// Long scenarios: two hundred messages out of order and three listings, and whole runs of several sites and of an auditor.
+//! Long scenarios: two hundred messages out of order and three listings, and whole runs of several sites and of an auditor.
 
 use crate::peers::{Peer, tell_arrival};
 use crate::records::{MESSAGES, Window, all_records};
 use crate::telling::tell_rows;
 use crate::tries::{Stop, again};
 use rubis_audit::run_audit;
-use rubis_replica::Config;
 use rubis_schema::Listing;
-use rubis_script::{Count, RunFault, run_site};
-use rubis_world::{WorldConfig, run_world};
+use rubis_world::{Config, Count, RunFault, WorldConfig, run_site, run_world};
 use std::io;
 use std::io::Print;
 use std::sync::Wait;

@@ -1,4 +1,4 @@
-// A site that is called again where memory is refused, and caught up where it is behind.
+//! A site that is called again where memory is refused, and caught up where it is behind.
 
 ghost use Rattle.std.specs.Prelude.{◌≡◌};
 
@@ -6,8 +6,8 @@ use crate::records::{Window, packet};
 use crate::telling::{tell_behind, tell_refused};
 use crate::tries::{Stop, TRIES, again};
 use rubis_message::Arrival;
-use rubis_replica::{Arrived, Config, Fault, Free, Site};
 use rubis_schema::{Fields, Items, Listing, Refusal};
+use rubis_world::{Arrived, Config, Fault, Free, Site};
 use std::io::Print;
 use std::sync::Wait;
 use std::thread::Threads;

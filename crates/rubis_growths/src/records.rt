@@ -1,4 +1,4 @@
-// The records that the scenarios read.
+//! The records that the scenarios read.
 
 ghost use Rattle.std.specs.Prelude.{◌≡◌, ◌≤◌, All, IfOk};
 ghost use Rattle.rubis_message.specs.Grammar.{IsRequest};

@@ -1,4 +1,4 @@
-// Shards and tables.
+//! Shards and tables.
 
 ghost use Rattle.std.specs.Prelude.{◌≡◌, ◌<◌, ◌≤◌, length, IfOk};
 ghost use Rattle.rubis_pieces.specs.Batches.{AreUnfinished};

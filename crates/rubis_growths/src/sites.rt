@@ -1,4 +1,4 @@
-// Each call of a site, alone.
+//! Each call of a site, alone.
 
 ghost use Rattle.std.specs.Prelude.{◌≡◌};
 
@@ -7,8 +7,8 @@ use crate::records::{Window, request};
 use crate::telling::{tell_refused, tell_rows};
 use crate::tries::{Stop, TRIES, again};
 use rubis_message::Request;
-use rubis_replica::{Config, Fault, Free, Site};
 use rubis_schema::Listing;
+use rubis_world::{Config, Fault, Free, Site};
 use std::io::Print;
 use std::sync::Wait;
 use std::thread::Threads;

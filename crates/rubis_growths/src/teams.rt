@@ -1,4 +1,4 @@
-// Shares that several workers fold, and the machine of every schedule.
+//! Shares that several workers fold, and the machine of every schedule.
 
 ghost use Rattle.std.specs.Prelude.{◌<◌, ◌≤◌, IfOk, length};
 ghost use Rattle.std.specs.List.{All};

@@ -1,4 +1,4 @@
-// What a scenario tells.
+//! What a scenario tells.
 
 use rubis_schema::{Fields, Items};
 use std::io::Print;

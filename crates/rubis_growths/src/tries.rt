@@ -1,4 +1,4 @@
-// Calls that are made again, and scenarios that are run again, where memory is refused.
+//! Calls that are made again, and scenarios that are run again, where memory is refused.
 
 use crate::telling::tell_refused;
 use std::io::Print;

@@ -1,4 +1,4 @@
-// Fields, records, and the parts of a message on plain tables.
+//! Fields, records, and the parts of a message on plain tables.
 
 use crate::records::{CUP, message, request};
 use crate::telling::{tell_refused, tell_row};

@@ -1,12 +1,11 @@
-// The calls of several sites.
+//! The calls of several sites.
 
 use crate::telling::{tell_behind, tell_refused};
 use crate::tries::{Stop, TRIES, again};
 use rubis_message::{Happened, Request};
-use rubis_replica::Fault;
 use rubis_schema::{Listing, Nick};
 use rubis_shadow::Ask;
-use rubis_world::{World, WorldConfig, WorldFault};
+use rubis_world::{Fault, World, WorldConfig, WorldFault};
 use std::io::Print;
 use std::sync::Wait;
 use std::thread::Threads;

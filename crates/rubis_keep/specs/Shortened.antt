@@ -4,7 +4,7 @@ use Rattle.std.specs.Io.KnownBytes.{Appends}
 use Rattle.rubis_model.specs.Restarts.{IsShortened}
 use Rattle.rubis_model.specs.Runs.{Input, input_of, input_step}
 use Rattle.rubis_model.specs.Site.{Place, Replica}
-use Rattle.rubis_replica.specs.State.{SiteState}
+use Rattle.rubis_script.specs.Replica.{SiteState}
 use Rattle.rubis_engine.specs.Text.{input_records}
 use Rattle.rubis_keep.specs.Lines.{AreSound, begun_after, whole_lines}
 

@@ -1,4 +1,4 @@
-// Answers on their way to where those of before stand.
+//! Answers on their way to where those of before stand.
 
 ghost use Rattle.std.specs.Prelude.{◌≡◌, [], OnErr, OnOk};
 ghost use Rattle.std.specs.Io.KnownBytes.{IsAtEnd, Keeps};

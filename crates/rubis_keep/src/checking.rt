@@ -1,4 +1,4 @@
-// What was kept, read through before it is answered again.
+//! What was kept, read through before it is answered again.
 
 ghost use Rattle.std.specs.Prelude.{◌≡◌, ◌∷◌, ◌++◌, ◌<◌, [], ℕ, List, IfOk, IfSome, OnOk, true, vec_len};
 ghost use Rattle.std.specs.Io.KnownBytes.{Consumes, IsAtEnd};

@@ -1,13 +1,12 @@
-// A site at its desk, for as long as records come.
+//! A site at its desk, for as long as records come.
 
 ghost use Rattle.std.specs.Prelude.{◌≡◌, [], IfOk};
 ghost use Rattle.rubis_model.specs.Site.{opening_at};
-ghost use Rattle.rubis_replica.specs.Setup.{setup_place};
+ghost use Rattle.rubis_script.specs.Replica.{setup_place};
 
 use rubis_engine::Reply;
 use rubis_message::Message;
-use rubis_replica::{Config, Free, Gate};
-use rubis_script::Desk;
+use rubis_script::{Config, Desk, Free, Gate};
 use std::alloc::{AllocError, Global};
 
 /// A site at its desk, the messages that it holds, to take them in together, and how many records it has answered.

@@ -1,4 +1,4 @@
-// Answers that are compared with those that were given before, as far as these go.
+//! Answers that are compared with those that were given before, as far as these go.
 
 ghost use Rattle.std.specs.Prelude.{◌≡◌, ◌≤◌, ◌<◌, IfErr, IfOk, IfSome, false, get_or, length, true};
 ghost use Rattle.std.specs.Io.KnownBytes.{Keeps};

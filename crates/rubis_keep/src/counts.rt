@@ -1,4 +1,4 @@
-// How many messages of each site a log has.
+//! How many messages of each site a log has.
 
 ghost use Rattle.std.specs.Prelude.{◌≡◌, ℕ, List, IfOk, map};
 ghost use Rattle.std.specs.List.{range_with_len};

@@ -1,4 +1,4 @@
-// Why a run that keeps its records ends early.
+//! Why a run that keeps its records ends early.
 
 use rubis_engine::{OutOfMemory, RunFault};
 use std::alloc::AllocError;

@@ -1,4 +1,4 @@
-// The answers of a site to a text of whole records.
+//! The answers of a site to a text of whole records.
 
 ghost use Rattle.std.specs.Prelude.{◌≡◌, ◌<◌, ◌+◌, ◌++◌, ◌^◌, [], IfOk, MatchBool, OnErr, OnOk, false, true};
 ghost use Rattle.rubis_engine.specs.Accounts.{AnswersRecord};
@@ -13,7 +13,7 @@ use crate::answers::Answers;
 use crate::clerk::Clerk;
 use crate::fault::KeepFault;
 use rubis_engine::Records;
-use rubis_replica::Gate;
+use rubis_script::Gate;
 use std::io::{Read, Write};
 use std::sync::Wait;
 use std::thread::Threads;

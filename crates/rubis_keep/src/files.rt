@@ -1,4 +1,4 @@
-// The files of a site in a folder.
+//! The files of a site in a folder.
 
 use crate::answers::Out;
 use crate::folder_fault::FolderFault;

@@ -1,4 +1,4 @@
-// Why a site in a folder isn't run, or ended early.
+//! Why a site in a folder isn't run, or ended early.
 
 use crate::fault::KeepFault;
 use crate::setup::Setup;

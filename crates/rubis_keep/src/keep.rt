@@ -1,8 +1,8 @@
-// A site in a folder, from its start to its end.
+//! A site in a folder, from its start to its end.
 
 ghost use Rattle.std.specs.Prelude.{◌≡◌, IfSome};
 ghost use Rattle.std.specs.Option.{SomeIff};
-ghost use Rattle.rubis_replica.specs.Setup.{setup_place};
+ghost use Rattle.rubis_script.specs.Replica.{setup_place};
 ghost use Rattle.rubis_keep.specs.Setups.{GoesOn, next_setup, opening_setup, place_of};
 
 use crate::answers::Answers;
@@ -13,8 +13,8 @@ use crate::run::Recording;
 use crate::setup::{ANSWERS, Setup, read_setup, write_setup};
 use crate::shortening::shorten;
 use crate::site::keep_site;
-use rubis_replica::Config;
 use rubis_schema::{Hashes, KEEP_MAX, RECORDS_MAX};
+use rubis_script::Config;
 use std::fs::{File, Files};
 use std::io::Read;
 use std::random::RandomSource;

@@ -1,4 +1,4 @@
-// The lines of an input, kept as they come.
+//! The lines of an input, kept as they come.
 
 ghost use Rattle.std.specs.Prelude.{◌≡◌, ◌<◌, [], ℕ, List, IfOk, OnErr, OnOk, length, vec_len};
 ghost use Rattle.std.specs.Io.KnownBytes.{Appends, Keeps};

@@ -1,4 +1,4 @@
-// What holds of runs that are cut off and start again.
+//! What holds of runs that are cut off and start again.
 
 ghost use Rattle.rubis_keep.specs.Shops.{KeptShopsAreRuns};
 ghost use Rattle.rubis_keep.specs.Crashes.{ComesBack, DifferencesAreFound, EditsAreFound, EndsLeft, LivesLeft};

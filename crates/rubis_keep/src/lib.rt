@@ -1,5 +1,5 @@
-//! What a site that stays up is given, kept before it is answered, and answered again after a crash.
-//! A site in a folder: its files, their lock, and what is written down of how the site is set up.
+//! What a site that stays up is given, kept before it is answered, and answered again after a crash; and the folder that
+//! it stands in.
 #![tactic(auto)]
 
 mod answers;

@@ -1,4 +1,4 @@
-// The lines of an input that comes in pieces.
+//! The lines of an input that comes in pieces.
 
 ghost use Rattle.std.specs.Prelude.{◌≡◌, ◌++◌, ◌∷◌, [], ◌≤◌, ◌+◌, ℕ, List, OnOk, length, not};
 ghost use Rattle.csv.specs.Reading.{default_config};

@@ -1,4 +1,4 @@
-// An input that a site keeps and answers piece by piece.
+//! An input that a site keeps and answers piece by piece.
 
 ghost use Rattle.std.specs.Prelude.{◌≡◌, ◌+◌, [], IfOk, OnErr, OnOk, false};
 ghost use Rattle.std.specs.Io.KnownBytes.{IsAtEnd};
@@ -10,7 +10,7 @@ use crate::clerk::Clerk;
 use crate::fault::KeepFault;
 use crate::feeding::feed_chunk;
 use crate::keeping::{KeptLines, keep_next};
-use rubis_replica::Gate;
+use rubis_script::Gate;
 use std::io::{Read, Write};
 use std::sync::Wait;
 use std::thread::Threads;

@@ -1,4 +1,4 @@
-// A site that keeps its records, and goes on where an earlier run was cut off.
+//! A site that keeps its records, and goes on where an earlier run was cut off.
 
 ghost use Rattle.std.specs.Prelude.{◌≡◌, ◌+◌, [], ℕ, List, Option, OnErr, OnOk, Some};
 ghost use Rattle.rubis_engine.specs.Accounts.{Account};
@@ -14,7 +14,7 @@ use crate::fault::KeepFault;
 use crate::keeping::{KeptLines, Log};
 use crate::lines::LineCutter;
 use crate::pieces::answer_pieces;
-use rubis_replica::Gate;
+use rubis_script::Gate;
 use std::io;
 use std::io::{Read, Write};
 use std::sync::Wait;

@@ -1,4 +1,4 @@
-// How a site is set up, as its folder has it.
+//! How a site is set up, as its folder has it.
 
 use crate::files::{begin, settle};
 use std::fs::{File, Files};

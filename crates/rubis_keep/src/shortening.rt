@@ -1,26 +1,27 @@
-// What was kept, without the lines whose records changed nothing.
+//! What was kept, without the lines whose records changed nothing.
 
 ghost use Rattle.std.specs.Prelude.{◌≡◌, ◌≤◌, ◌++◌, ◌∷◌, [], ℕ, List, IfOk, OnOk, None, cond, false};
 ghost use Rattle.rubis_message.specs.Grammar.{IsPacket, IsRequest};
 ghost use Rattle.rubis_message.specs.Message.{sites_of};
 ghost use Rattle.rubis_schema.specs.declared.refusals.Refusal.{Refusal};
-ghost use Rattle.rubis_replica.specs.declared.faults.Fault.TheVariants as Fault;
+ghost use Rattle.rubis_script.specs.Replica.fault_variants as Fault;
 ghost use Rattle.rubis_message.specs.declared.tokens.Packet.TheVariants as Packet;
 ghost use Rattle.rubis_message.specs.Readings.{packet_of};
 ghost use Rattle.rubis_model.specs.Runs.{input_of};
 ghost use Rattle.rubis_model.specs.Runs.Input.{Asked, Came};
 ghost use Rattle.rubis_engine.specs.Text.{input_records};
 ghost use Rattle.rubis_model.specs.Site.{Replica, opening_at};
-ghost use Rattle.rubis_replica.specs.Setup.{setup_place};
+ghost use Rattle.rubis_script.specs.Replica.{setup_place};
 ghost use Rattle.rubis_keep.specs.Lines.{AreSound};
 ghost use Rattle.rubis_keep.specs.Shortened.{IsShort, Shortens, TakesRecord, TakesRecords};
 
 use crate::fault::KeepFault;
 use crate::writing::write_front;
 use rubis_engine::{InputRecord, OutOfMemory, Records};
-use rubis_message::{Arrival, Message, Packet, ReadFault, Request, Taken, Token, read_packet, read_request};
-use rubis_replica::{Config, Fault, Free, Gate, Site};
-use rubis_script::Desk;
+use rubis_message::{
+    Arrival, Message, Packet, ReadFault, Request, Taken, Token, read_packet, read_request,
+};
+use rubis_script::{Config, Desk, Fault, Free, Gate, Site};
 use std::alloc::{AllocError, Global};
 use std::io::{ErrorKind, Read, Write};
 use std::mem;

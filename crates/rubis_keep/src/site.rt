@@ -1,8 +1,8 @@
-// A site that keeps its records, from its configuration.
+//! A site that keeps its records, from its configuration.
 
 ghost use Rattle.std.specs.Prelude.{ℕ, List, OnErr, OnOk};
 ghost use Rattle.rubis_model.specs.Site.{opening_at};
-ghost use Rattle.rubis_replica.specs.Setup.{setup_place};
+ghost use Rattle.rubis_script.specs.Replica.{setup_place};
 ghost use Rattle.rubis_script.specs.SiteRuns.{site_account};
 ghost use Rattle.rubis_keep.specs.Kept.{Ended, Lived, Opens};
 
@@ -11,7 +11,7 @@ use crate::clerk::Clerk;
 use crate::fault::KeepFault;
 use crate::keeping::Log;
 use crate::run::{Recording, run_kept};
-use rubis_replica::{Config, Free};
+use rubis_script::{Config, Free};
 use std::alloc::Global;
 use std::io::{Read, Write};
 use std::mem;

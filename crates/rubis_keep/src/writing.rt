@@ -1,4 +1,4 @@
-// Bytes that are written as far as the writer takes them.
+//! Bytes that are written as far as the writer takes them.
 
 ghost use Rattle.std.specs.Prelude.{◌≡◌, ◌≤◌, ℕ, OnErr, OnOk, length, take};
 ghost use Rattle.std.specs.Io.KnownBytes.{Appends};

@@ -1,4 +1,5 @@
-// The laws of runs and of logs, each with its statement in rubis_model/specs.
+//! The laws of runs and of logs, each with its statement in rubis_model/specs.
+
 ghost use Rattle.rubis_model.specs.AgreedAudits.{AgreedAuditsAreSound};
 ghost use Rattle.rubis_model.specs.AuditRecords.{LinesAreReadAsWritten, LogsAreReadAsWritten};
 ghost use Rattle.rubis_model.specs.Convergence.{AllCanBeDelivered, AllHadAreReleased, DeliveredAreHad, DeliveringAllConverges, HavingAllConverges, MomentsAreReleased, NoMessageIsRefused};

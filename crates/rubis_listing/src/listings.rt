@@ -1,4 +1,4 @@
-// The listings of the tables.
+//! The listings of the tables.
 
 ghost use Rattle.std.specs.Prelude.{◌≡◌, ◌∷◌, [], IfOk, OnOk, map as each};
 ghost use Rattle.rubis_schema.specs.declared.listings.Listing.TheVariants as Shown;

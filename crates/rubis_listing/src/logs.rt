@@ -1,4 +1,4 @@
-// The listings of the log and of what didn't fit.
+//! The listings of the log and of what didn't fit.
 
 ghost use Rattle.std.specs.Prelude.{◌≡◌, ◌++◌, ◌≤◌, ◌∷◌, [], IfOk, OnOk, length};
 ghost use Rattle.rubis_model.specs.Listings.{kind_name, log_record, log_rows, misfit_record, misfit_rows as rows_of_misfits};

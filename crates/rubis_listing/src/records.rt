@@ -1,4 +1,4 @@
-// The records of rows.
+//! The records of rows.
 
 ghost use Rattle.std.specs.Bool.{MatchBool};
 ghost use Rattle.std.specs.Prelude.{◌≡◌, ◌++◌, ◌∷◌, [], IfOk, OnOk, codes, decimal, true};

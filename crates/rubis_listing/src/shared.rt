@@ -1,4 +1,4 @@
-// Rows of a listing that several threads make.
+//! Rows of a listing that several threads make.
 
 ghost use Rattle.std.specs.Prelude.{◌≡◌, ◌*◌, ◌≤◌, IfOk, OnOk, length, map as each};
 ghost use Rattle.rubis_model.specs.Listings.{records_of};

@@ -1,3 +1,5 @@
+//! What is answered to a packet, and what an auditor says of logs.
+
 ghost use Rattle.std.specs.Prelude.{◌≡◌};
 ghost use Rattle.rubis_message.specs.Kinds.{fault_kind_name};
 

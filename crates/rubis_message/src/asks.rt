@@ -1,4 +1,4 @@
-// What follows the word for a kind.
+//! What follows the word for a kind.
 
 ghost use Rattle.rubis_message.specs.Forms.{Takes};
 ghost use Rattle.rubis_message.specs.Readings.{take_bid, take_comment, take_item, take_purchase};

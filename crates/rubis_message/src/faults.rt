@@ -1,3 +1,5 @@
+//! Why a record isn't a packet or a request.
+
 ghost use Rattle.std.specs.Prelude.{◌≡◌};
 ghost use Rattle.rubis_message.specs.declared.faults.ReadFault.TheVariants.{Memory};
 

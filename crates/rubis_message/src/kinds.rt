@@ -1,4 +1,4 @@
-// The words that say what a record is.
+//! The words that say what a record is.
 
 ghost use Rattle.std.specs.Prelude.{◌≡◌, bytes_eq};
 ghost use Rattle.rubis_message.specs.Words.{kind_of, shown_of};

@@ -1,4 +1,4 @@
-// What the records promise by themselves.
+//! What the records promise by themselves.
 
 ghost use Rattle.rubis_message.specs.Grammar.{NoRequestIsAPacket, PacketsHaveOneReading, RequestsHaveOneReading};
 ghost use Rattle.rubis_message.specs.Readings.{PacketsAreReadAsWritten, RequestsAreReadAsWritten};

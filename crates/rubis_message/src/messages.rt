@@ -1,3 +1,5 @@
+//! A message: a shadow with its stamp.
+
 ghost use Rattle.std.specs.Prelude.{◌≡◌, IfOk};
 ghost use Rattle.rubis_message.specs.Message as model;
 ghost use Rattle.rubis_message.specs.Message.{IsMessage};

@@ -1,4 +1,4 @@
-// What one site sends to others, read from its record.
+//! What one site sends to others, read from its record.
 
 ghost use Rattle.std.specs.Prelude.{◌≡◌, ◌≢◌, ◌<◌, ◌≤◌, None, Some, IfOk, IsErrOf, length};
 ghost use Rattle.rubis_message.specs.Forms.{Takes, take_deps, take_site};

@@ -1,4 +1,4 @@
-// A record that is read field by field.
+//! A record that is read field by field.
 
 ghost use Rattle.std.specs.Prelude.{◌≡◌, ◌≤◌, ◌==◌, ℕ, List, [], ◌∷◌, IfOk, MatchResult, length};
 ghost use Rattle.rubis_message.specs.Forms.{Takes, at_end, take_id, take_name, take_nick, take_number, take_positive, take_rating, take_text, take_winner};

@@ -1,3 +1,5 @@
+//! What a record asks of a site.
+
 ghost use Rattle.std.specs.Prelude.{◌≡◌, ◌≢◌, None, Some, IfOk, IsErrOf};
 ghost use Rattle.rubis_message.specs.Forms.{Takes};
 ghost use Rattle.rubis_message.specs.Grammar.{IsRequest, request_record};

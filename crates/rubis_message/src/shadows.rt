@@ -1,4 +1,4 @@
-// The shadow of a message.
+//! The shadow of a message.
 
 ghost use Rattle.rubis_message.specs.Forms.{Takes};
 ghost use Rattle.rubis_message.specs.Readings.{take_close, take_rename, take_restock, take_shadow};

@@ -1,4 +1,4 @@
-// The counts of a stamp.
+//! The counts of a stamp.
 
 ghost use Rattle.std.specs.Prelude.{◌≡◌, ◌<◌, ◌≤◌, [], ◌∷◌, ◌++◌, IfSome, OnErr, OnOk, length, true};
 ghost use Rattle.rubis_schema.specs.FieldList.{is_plain};

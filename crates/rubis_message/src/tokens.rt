@@ -1,3 +1,5 @@
+//! The token that red messages are numbered with, and what one site sends another.
+
 use crate::messages::Message;
 
 /// The version of the records of tokens.

@@ -1,4 +1,4 @@
-// What a record is to several sites in one run.
+//! What a record is to several sites in one run.
 
 ghost use Rattle.std.specs.Prelude.{◌≡◌, ℕ, IfOk};
 ghost use Rattle.rubis_message.specs.Forms.{Takes, whole};

@@ -1,4 +1,4 @@
-// Records of what is sent.
+//! Records of what is sent.
 
 ghost use Rattle.std.specs.Prelude.{◌≡◌, ◌++◌, ◌∷◌, [], IfOk, OnErr, OnOk};
 ghost use Rattle.rubis_message.specs.Grammar.{bid_fields, close_fields, comment_fields, item_fields, message_record, purchase_fields, rename_fields, restock_fields, shadow_fields, token_record, winner_text};

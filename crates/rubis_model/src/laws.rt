@@ -1,4 +1,5 @@
-// The laws that a site's crates rest on, each with its statement in specs/Laws.
+//! The laws that a site's crates rest on, each with its statement in specs/Laws.
+
 ghost use Rattle.rubis_model.specs.Laws.{PartsCommute, FoldsBatchByBatch, RowsAreAtHome, SharesFoldToTheWhole, MisfitsFallInPlace, SettlingHasOneOutcome};
 
 /// Parts on different keys may be done in either order, with the same tables and misfits.

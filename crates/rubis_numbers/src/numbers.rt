@@ -1,4 +1,4 @@
-// Numbers as text, each in one spelling.
+//! Numbers as text, each in one spelling.
 
 ghost use Rattle.std.specs.Prelude.{◌≡◌, ◌≤◌, ◌<◌, ◌↔◌, IfSome, IsTrue, length, slice_index};
 ghost use Rattle.rubis_numbers.specs.Numbers.{below_zero_of, number_of, rating_of};

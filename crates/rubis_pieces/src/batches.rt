@@ -1,3 +1,5 @@
+//! A batch's shares folded on their shards by one thread.
+
 ghost use Rattle.std.specs.Prelude.{◌≡◌, ◌+◌, ◌<◌, ◌≤◌, [], length, IfOk, OnErr};
 ghost use Rattle.std.specs.Vec.{vec_len, vec_capacity};
 ghost use Rattle.rubis_model.specs.Log.{cores};

@@ -1,3 +1,5 @@
+//! The shards of a batch put together again from what its pieces became.
+
 ghost use Rattle.std.specs.Prelude.{◌≡◌, ◌+◌, ◌<◌, ◌≤◌, ◌++◌, ◌∷◌, [], map as each, flat_map, length, IfSome, IfNone, IfOk, IfErr};
 ghost use Rattle.std.specs.Vec.{vec_len, vec_capacity};
 ghost use Rattle.rubis_pieces.specs.Faults.{AllUnseen, IsFault, IsGatherable, numbers_of};

@@ -1,5 +1,5 @@
-//! Batches of messages cut into a share for each shard, and the shards put together again.
-//! Shares folded on their shards, as far as memory goes: a batch on one thread, and what was left of one.
+//! Batches of messages cut into a share for each shard, folded by one thread as far as memory goes, and the shards put
+//! together again.
 #![tactic(auto)]
 
 mod batches;

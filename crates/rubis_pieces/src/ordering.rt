@@ -1,3 +1,5 @@
+//! The misfits of all shards, in the order of the log.
+
 ghost use Rattle.std.specs.Prelude.{◌≡◌, IfOk};
 ghost use Rattle.std.specs.List.Sorted.{IsPermutation, IsNonDecreasingBy};
 ghost use Rattle.rubis_shard.specs.Holdings.{all_misfits};

@@ -1,3 +1,5 @@
+//! A piece of a batch: a shard and its share, before and after it is folded.
+
 use rubis_shard::{Shard, Share};
 
 /// A shard with its share of a batch.

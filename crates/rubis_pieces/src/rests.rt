@@ -1,3 +1,5 @@
+//! What memory stopped, folded to its end.
+
 ghost use Rattle.std.specs.Prelude.{◌≡◌, ◌≤◌, length};
 ghost use Rattle.rubis_pieces.specs.Batches.{AreUnfinished, EndsWhole, FoldsRests, GoesOn, parts_left};
 

@@ -1,3 +1,5 @@
+//! A batch of messages cut into a share for each shard.
+
 ghost use Rattle.std.specs.Prelude.{◌≡◌, ◌+◌, ◌<◌, ◌≤◌, List, ◌∷◌, [], ◌++◌, length, IfOk, OnOk};
 ghost use Rattle.rubis_shadow.specs.declared.numbered.Numbered.{Numbered};
 ghost use Rattle.rubis_model.specs.Log.{cores, numbered_from};

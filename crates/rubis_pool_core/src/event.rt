@@ -1,3 +1,5 @@
+//! What a worker of the machine does.
+
 /// What a worker does. Workers are numbered from 0.
 #[derive(Clone, Copy)]
 pub enum Event {

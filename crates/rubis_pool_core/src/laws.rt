@@ -1,4 +1,5 @@
-// The laws of the machine, stated in specs/Schedules, specs/Batches and specs/Posted.
+//! The laws of the machine, stated in specs/Schedules, specs/Batches and specs/Posted.
+
 ghost use Rattle.rubis_pool_core.specs.Posted.{EventsMoveThePosted};
 ghost use Rattle.rubis_pool_core.specs.Batches.{EveryScheduleFoldsTheBatch};
 ghost use Rattle.rubis_pool_core.specs.Schedules.{EveryScheduleAccounts, StepsAccount};

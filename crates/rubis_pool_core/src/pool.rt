@@ -1,3 +1,5 @@
+//! The pool of pieces as a machine that takes one event after another.
+
 ghost use Rattle.std.specs.Prelude.{◌≡◌, ◌+◌, ◌<◌, is_some, None, IfOk, IfErr, OnOk, OnErr, length, slice_get, replicate};
 ghost use Rattle.std.specs.List.{All};
 ghost use Rattle.rubis_pool_core.specs.Machine.{opening_pool, with_posted, posted_all, stepped, after_event, in_state, or_same, taken, applied, backed};

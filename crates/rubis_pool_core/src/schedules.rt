@@ -1,3 +1,5 @@
+//! A batch applied under a schedule of events.
+
 ghost use Rattle.std.specs.Prelude.{◌≡◌, IfOk, length};
 ghost use Rattle.std.specs.List.{All};
 ghost use Rattle.rubis_pool_core.specs.Machine.{run_of};

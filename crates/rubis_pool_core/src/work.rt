@@ -1,3 +1,5 @@
+//! The work of one step: a piece folded by the worker that holds it.
+
 ghost use Rattle.std.specs.Prelude.{◌≡◌, is_some, is_none, IfOk, OnOk, OnErr};
 ghost use Rattle.rubis_pieces.specs.Work.{IsPiece};
 ghost use Rattle.rubis_pool_core.specs.Pieces.{begun, next_part, or_one_part_more};

@@ -1,3 +1,5 @@
+//! What a site has taken in: its log, the messages that wait, and the token.
+
 ghost use Rattle.std.specs.Prelude.{◌≡◌, ◌<◌, ◌≤◌, ◌-◌, true, false, Ok, IfOk, IfErr, OnOk, OnErr, length};
 ghost use Rattle.rubis_message.specs.Message.{sites_of};
 ghost use Rattle.rubis_shadow.specs.Limits.{InLimits};

@@ -1,3 +1,5 @@
+//! The messages that wait for others.
+
 ghost use Rattle.std.specs.Prelude.{◌≡◌, ◌<◌, ◌++◌, [], ◌∷◌, false, true, length, is_some, None, IfErr, MatchOption, OnOk, OnErr};
 ghost use Rattle.rubis_message.specs.Message as model;
 ghost use Rattle.std.specs.List.{list_any};

@@ -21,9 +21,9 @@ use Rattle.rubis_generate.specs.declared.standing.Standing.{Standing}
 use Rattle.rubis_model.specs.Log.{cores, fold_of}
 use Rattle.rubis_message.specs.Message.{Message}
 use Rattle.rubis_model.specs.Site.{Place, Replica, asked, generating, standing_of}
-use Rattle.rubis_shard.specs.Holdings.{union}
+use Rattle.rubis_workers.specs.Shard.{union}
 use Rattle.rubis_shadow.specs.declared.numbered.Misfit.{Misfit}
-use Rattle.rubis_pieces.specs.Misfits.{AreOfTheLog}
+use Rattle.rubis_workers.specs.Pieces.{AreOfTheLog}
 use Rattle.rubis_replica.specs.Follow.{Follower, FollowsAt}
 use Rattle.rubis_replica.specs.Progress.{Progress, resting_at}
 use Rattle.rubis_replica.specs.State.{AnswersAsTheStep, IsDecision, SiteState, decision_at, with_all_applied}

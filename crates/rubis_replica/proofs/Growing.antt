@@ -12,8 +12,8 @@ use Rattle.rubis_message.specs.declared.answers.Arrival.{Arrival}
 use Rattle.rubis_message.specs.declared.tokens.Token.{Token}
 use Rattle.rubis_model.specs.Log.{cores, fold_of}
 use Rattle.rubis_model.specs.Site.{Place, Replica, after_made, arrived, made, passed, passing}
-use Rattle.rubis_shard.specs.Holdings.{HoldsLog, union}
-use Rattle.rubis_shard.proofs.Unions.{union_of_log}
+use Rattle.rubis_workers.specs.Shard.{HoldsLog, union}
+use Rattle.rubis_workers.proofs.Shard.{union_of_log}
 use Rattle.rubis_replica.specs.Follow.{Follower, FollowsAt}
 use Rattle.rubis_replica.specs.Progress.{IsProgress, Progress, resting_at}
 use Rattle.rubis_replica.proofs.Extending.{Extends, arrived_extends, follows_extended, settle_extends}

@@ -9,11 +9,11 @@ use Rattle.rubis_shadow.specs.declared.changes.Effect.{Effect}
 use Rattle.rubis_message.specs.Message.{IsMessage, Message, sites_of}
 use Rattle.rubis_model.specs.Log.{Core, core, cores, parts_of}
 use Rattle.rubis_model.proofs.CoreLists.{cores_append}
-use Rattle.rubis_shard.specs.Holdings.{HoldsLog, shard_of_log}
-use Rattle.rubis_shard.specs.States.{ShardState}
-use Rattle.rubis_pieces.specs.Following.{AreFurther, HoldsTo, StopWithin, parts_behind}
-use Rattle.rubis_pieces.proofs.Behind.{behind_few, holds_none, holds_whole}
-use Rattle.rubis_pieces.proofs.Further.{fewer_behind}
+use Rattle.rubis_workers.specs.Shard.{HoldsLog, shard_of_log}
+use Rattle.rubis_workers.specs.Shard.{ShardState}
+use Rattle.rubis_workers.specs.Pieces.{AreFurther, HoldsTo, StopWithin, parts_behind}
+use Rattle.rubis_workers.proofs.Pieces.{behind_few, holds_none, holds_whole}
+use Rattle.rubis_workers.proofs.Pieces.{fewer_behind}
 use Rattle.rubis_workers.specs.Logs.{AreWithin, StaysWithin, parts_between}
 use Rattle.rubis_workers.proofs.Applied.{cores_front, cores_slice}
 use Rattle.rubis_workers.proofs.Between.{between_inside, slice_inside}

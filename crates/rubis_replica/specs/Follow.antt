@@ -3,9 +3,9 @@ use Rattle.std.specs.Prelude.{◌≡◌, ℕ, ◌<◌, ◌≤◌, ◌⊎◌, Lis
 use Rattle.std.specs.declared.alloc.AllocError.{AllocError}
 use Rattle.rubis_message.specs.Message.{Message}
 use Rattle.rubis_model.specs.Log.{cores}
-use Rattle.rubis_shard.specs.Holdings.{HoldsLog}
-use Rattle.rubis_shard.specs.States.{ShardState}
-use Rattle.rubis_pieces.specs.Following.{HoldsTo, StopWithin, parts_behind}
+use Rattle.rubis_workers.specs.Shard.{HoldsLog}
+use Rattle.rubis_workers.specs.Shard.{ShardState}
+use Rattle.rubis_workers.specs.Pieces.{HoldsTo, StopWithin, parts_behind}
 use Rattle.rubis_workers.specs.Logs.{AreWithin, StaysWithin}
 use Rattle.rubis_replica.specs.Progress.{BatchBegins, BatchGoesOn, IsProgress, Progress, resting_at}
 

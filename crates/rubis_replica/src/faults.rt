@@ -1,3 +1,5 @@
+//! What ends a call of a site, and what refuses a packet.
+
 ghost use Rattle.std.specs.Prelude.{◌≡◌};
 ghost use Rattle.rubis_replica.specs.Faults.{fault_of};
 ghost use Rattle.rubis_replica.specs.declared.faults.Fault.TheVariants as Fault;

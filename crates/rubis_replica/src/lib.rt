@@ -1,5 +1,4 @@
-//! One site: its configuration, and its calls.
-//! What a site is made of: tables that follow its log, and messages that are taken in.
+//! One site: its configuration, its calls, and its tables that follow its log.
 #![tactic(auto)]
 
 mod arriving;

@@ -1,3 +1,5 @@
+//! One site, and its calls.
+
 ghost use Rattle.std.specs.Prelude.{◌≡◌, ◌≤◌, ◌<◌, [], All, IfOk, IfErr, IfNone, IfSome, IsErrOf, Ok, OnOk, Some, length};
 ghost use Rattle.rubis_shadow.specs.Limits.{InLimits, IsAsk};
 ghost use Rattle.rubis_message.specs.Message.{sites_of};
@@ -17,11 +19,10 @@ use crate::follower::Follower;
 use rubis_generate::decide;
 use rubis_listing::{list_log, list_misfits};
 use rubis_message::{Arrival, Message, Taken, Token};
-use rubis_pieces::misfits;
 use rubis_release::Intake;
 use rubis_schema::{Fields, Items, Listing, SharedSink};
 use rubis_shadow::{Ask, Shadow};
-use rubis_workers::{Free, Gate};
+use rubis_workers::{Free, Gate, misfits};
 use std::alloc::{AllocError, Global};
 use std::marker::Model;
 use std::sync::Wait;

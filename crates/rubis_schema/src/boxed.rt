@@ -1,3 +1,5 @@
+//! A value in a box of its own.
+
 ghost use Rattle.std.specs.Prelude.{◌≡◌, IfOk};
 ghost use Rattle.std.specs.Borrow.{sem};
 ghost use Rattle.rubis_schema.specs.Lending.{LendsValue};

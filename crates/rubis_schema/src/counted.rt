@@ -1,9 +1,9 @@
-// Rows that are counted on their way.
+//! Rows that are counted on their way.
 
 ghost use Rattle.std.specs.Prelude.{◌≡◌};
 
-use crate::row_sinks::{RowSink, SharedSink};
 use crate::field_list::Fields;
+use crate::row_sinks::{RowSink, SharedSink};
 use std::alloc::{AllocError, Global};
 
 /// A row sink and the number of rows it took, at most 2^64 - 1. One row more is refused as out of memory.

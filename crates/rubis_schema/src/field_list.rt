@@ -1,4 +1,4 @@
-// One record: a list of fields, each of any bytes.
+//! One record: a list of fields, each of any bytes.
 
 ghost use Rattle.std.specs.Prelude.{◌≡◌, ◌==◌, ◌<◌, ◌≤◌, ◌+◌, ◌++◌, ◌∷◌, [], IfOk, IfSome, OnErr, OnOk, decimal, get_or, length, option_map, slice_get, true};
 ghost use Rattle.std.specs.Vec.{vec_capacity, vec_len};

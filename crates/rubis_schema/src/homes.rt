@@ -1,3 +1,5 @@
+//! Which shard a key is at home on.
+
 ghost use Rattle.std.specs.Prelude.{◌≡◌, ◌+◌, ◌*◌, ◌<◌, ◌≤◌, length, sum};
 ghost use Rattle.rubis_schema.specs.Keys.{home};
 

@@ -1,3 +1,5 @@
+//! Keys of rows as one word, for maps.
+
 ghost use Rattle.std.specs.Prelude.{◌≡◌, ◌<◌, ◌+◌, ◌*◌, ◌^◌};
 ghost use Rattle.rubis_schema.specs.IdKeys.{key_word, row_key, same_id_key, table_place};
 

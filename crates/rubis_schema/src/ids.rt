@@ -1,3 +1,5 @@
+//! Ids: a site and a number that it counted.
+
 ghost use Rattle.std.specs.Prelude.{◌≡◌, ◌++◌, ◌∷◌, [], IfOk, OnErr, OnOk, true};
 ghost use Rattle.rubis_schema.specs.FieldList.{is_plain};
 ghost use Rattle.rubis_schema.specs.FieldForms.{id_of};

@@ -1,4 +1,4 @@
-// How the maps of a site hash their keys.
+//! How the maps of a site hash their keys.
 
 ghost use Rattle.std.specs.Prelude.{◌≡◌, slice_index};
 ghost use Rattle.std.specs.Int.{from_le_bytes, w64};

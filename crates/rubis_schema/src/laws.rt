@@ -1,4 +1,4 @@
-// What the readings of single fields promise by themselves.
+//! What the readings of single fields promise by themselves.
 
 ghost use Rattle.std.specs.Prelude.{ℕ, ◌<◌, ◌≤◌, ◌^◌, decimal, unsigned_abs};
 ghost use Rattle.rubis_numbers.specs.Numbers.{IsField, number_of, rating_of};

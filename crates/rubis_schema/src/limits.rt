@@ -1,4 +1,4 @@
-// Every limit of the records, of the tables and of a run, once.
+//! Every limit of the records, of the tables and of a run, once.
 
 /// The most sites.
 pub const SITES_MAX: u8 = 16;

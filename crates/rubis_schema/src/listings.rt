@@ -1,3 +1,5 @@
+//! Which rows a listing asks for.
+
 use crate::ids::Id;
 
 /// What a listing shows: one variant for each form of `list`.

@@ -1,3 +1,5 @@
+//! A vector whose value in contracts is the list of its items' values.
+
 ghost use Rattle.std.specs.Prelude.{◌≡◌, ◌↔◌, List, length, ◌++◌, ◌∷◌, [], OnOk, OnErr, IfErr, IsTrue, slice_get, option_copied};
 
 use std::alloc::{AllocFailed, Global};

@@ -1,3 +1,5 @@
+//! Nicknames.
+
 ghost use Rattle.std.specs.Prelude.{◌≡◌};
 ghost use Rattle.std.specs.List.{list_all};
 ghost use Rattle.rubis_schema.specs.FieldForms.{nick_of};

@@ -1,4 +1,4 @@
-// The digits of a number, appended to a text that has room for them.
+//! The digits of a number, appended to a text that has room for them.
 
 ghost use Rattle.std.specs.Prelude.{◌≡◌, ◌+◌, ◌/◌, ◌%◌, ◌<◌, ◌≤◌, ◌++◌, ◌∷◌, [], decimal, length};
 ghost use Rattle.std.specs.Vec.{vec_capacity, vec_len};

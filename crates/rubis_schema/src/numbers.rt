@@ -1,4 +1,4 @@
-// Numbers as fields.
+//! Numbers as fields.
 
 ghost use Rattle.std.specs.Prelude.{◌≡◌, ◌∷◌, ◌++◌, [], OnErr, OnOk, decimal};
 ghost use Rattle.rubis_schema.specs.Ids.{int_text};

@@ -1,3 +1,5 @@
+//! A record as a list of fields.
+
 ghost use Rattle.std.specs.Prelude.{◌≡◌, ℕ, List, length, option_map, slice_get};
 
 use crate::field_list::Fields;

@@ -1,3 +1,5 @@
+//! Why a request is refused.
+
 ghost use Rattle.std.specs.Prelude.{◌≡◌};
 ghost use Rattle.rubis_schema.specs.Refusals.{code_of, refusal_name};
 

@@ -1,3 +1,5 @@
+//! The keys of rows, and their order within a listing.
+
 ghost use Rattle.std.specs.Prelude.{◌≡◌, ◌<◌};
 ghost use Rattle.rubis_schema.specs.Keys.{holds, home, key_eq, key_order, table_of};
 

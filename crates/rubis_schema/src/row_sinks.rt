@@ -1,4 +1,4 @@
-// What takes the rows of a listing.
+//! What takes the rows of a listing.
 
 ghost use Rattle.std.specs.Prelude.{◌≡◌, ◌++◌, ◌∷◌, [], ℕ, List, OnOk};
 

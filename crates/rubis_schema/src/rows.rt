@@ -1,3 +1,5 @@
+//! The rows of the seven tables.
+
 ghost use Rattle.std.specs.Prelude.{◌≡◌, IfOk};
 ghost use Rattle.rubis_schema.specs.Categories.{shows_nothing};
 

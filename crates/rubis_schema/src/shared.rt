@@ -1,3 +1,5 @@
+//! A value that several owners share.
+
 ghost use Rattle.std.specs.Prelude.{◌≡◌, IfOk};
 
 use std::alloc::{AllocError, Global};

@@ -1,3 +1,5 @@
+//! Texts of a few bytes, in place.
+
 ghost use Rattle.std.specs.Prelude.{◌≡◌, ◌≤◌, ◌<◌, ◌+◌, [], ◌∷◌, ◌++◌, decimal, length, true};
 ghost use Rattle.rubis_schema.specs.FieldList.{is_plain};
 

@@ -1,4 +1,4 @@
-// Parts of a text.
+//! Parts of a text.
 
 ghost use Rattle.std.specs.Prelude.{◌≡◌, ◌==◌, option_map, position};
 ghost use Rattle.rubis_schema.specs.FieldForms.{cut_at};

@@ -1,3 +1,5 @@
+//! Names and comments: texts of printable bytes.
+
 ghost use Rattle.std.specs.Prelude.{◌≡◌, IfOk};
 ghost use Rattle.std.specs.List.{list_all};
 ghost use Rattle.rubis_schema.specs.FieldForms.{name_of, text_of};

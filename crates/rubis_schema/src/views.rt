@@ -1,3 +1,5 @@
+//! What a decision looks up in a set of tables.
+
 ghost use Rattle.std.specs.Prelude.{◌≡◌, option_copied};
 ghost use Rattle.std.specs.FinMap as map;
 ghost use Rattle.rubis_schema.specs.Tables.{Tables};

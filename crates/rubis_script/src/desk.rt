@@ -1,4 +1,4 @@
-// A site as a service: a record in, its answers out.
+//! A site as a service: a record in, its answers out.
 
 ghost use Rattle.std.proofs.Common.{rules};
 ghost use Rattle.std.specs.Prelude.{◌≡◌, ◌≤◌, ◌<◌, ◌+◌, ◌++◌, ◌∷◌, ◌^◌, [], IfOk, List, None, OnOk, ℕ, length, refl};
@@ -21,7 +21,9 @@ ghost use Rattle.rubis_engine.specs.Text.{rows_text};
 ghost use Rattle.rubis_script.specs.Windows.{AreHeld, held_by};
 ghost use Rattle.rubis_engine.specs.declared.service.Course.TheVariants as Course;
 
-use crate::replies::{write_arrival, write_listed_text, write_passed, write_refusal, write_sent, write_taken};
+use crate::replies::{
+    write_arrival, write_listed_text, write_passed, write_refusal, write_sent, write_taken,
+};
 use crate::windows::{hold, window_of, write_arrivals};
 use rubis_engine::{InputRecord, OutOfMemory, Reply, Service, Sink};
 use rubis_message::{Message, Packet, ReadFault, Request, Token, read_packet, read_request};

@@ -1,4 +1,4 @@
-// The desk of a site over a reader and a writer.
+//! The desk of a site over a reader and a writer.
 
 ghost use Rattle.std.specs.Prelude.{◌≡◌, ◌<◌, ◌+◌, ◌^◌, ◌⊎◌, [], List, Option, IfErr, IfNone, IfOk, IfSome, IsErrOf, OnOk, true};
 ghost use Rattle.rubis_engine.specs.Accounts.Ending.{AtEnd};

@@ -1,4 +1,4 @@
-// The law of a site that is built again from its input.
+//! The law of a site that is built again from its input.
 
 ghost use Rattle.rubis_script.specs.Replays.{ReplaysGoOn};
 

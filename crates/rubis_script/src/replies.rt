@@ -1,4 +1,4 @@
-// The records that answer a record.
+//! The records that answer a record.
 
 ghost use Rattle.std.specs.Prelude.{◌≡◌, ◌∷◌, ◌++◌, [], ℕ, List, Ok, OnOk, codes, decimal, true};
 ghost use Rattle.rubis_message.specs.declared.answers.Arrival.TheVariants.{Released};

@@ -1,4 +1,4 @@
-// A site over a reader and a writer, from its configuration.
+//! A site over a reader and a writer, from its configuration.
 
 ghost use Rattle.std.specs.Prelude.{◌≡◌, ◌≤◌, ◌<◌, ℕ, IfOk, IfSome, IsErrOf, length, take};
 ghost use Rattle.std.specs.Io.KnownBytes.{Appends};

@@ -1,4 +1,4 @@
-// Messages that a run holds, to take them in together.
+//! Messages that a run holds, to take them in together.
 
 ghost use Rattle.std.specs.Prelude.{◌≡◌, ◌≤◌, ◌+◌, ◌++◌, ◌∷◌, ◌^◌, [], OnOk, length};
 ghost use Rattle.rubis_engine.specs.Text.{rows_text};

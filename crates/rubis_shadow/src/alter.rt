@@ -1,3 +1,5 @@
+//! What a part of a shadow does to a row.
+
 ghost use Rattle.std.specs.Prelude.{◌≡◌, Some, None, cond, true};
 ghost use Rattle.rubis_schema.specs.declared.rows.Row.TheVariants as rows;
 ghost use Rattle.rubis_schema.specs.declared.rows.BidRow.{BidRow};

@@ -1,3 +1,5 @@
+//! What a user asks for.
+
 use crate::shadows::{NewBid, NewItem};
 use rubis_schema::{CommentRow, Id, Nick, PurchaseRow, Shared};
 

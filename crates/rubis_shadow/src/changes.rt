@@ -1,3 +1,5 @@
+//! A change of a row, and the effect on a key.
+
 ghost use Rattle.std.specs.Prelude.{◌≡◌, IfOk};
 
 use rubis_schema::{Best, Id, Nick, Row, RowKey};

@@ -1,3 +1,5 @@
+//! The keys that a shadow touches.
+
 ghost use Rattle.std.specs.Prelude.{◌≡◌, ℕ, [], ◌∷◌, option_map, slice_get};
 ghost use Rattle.std.specs.Iterator.{item_count, YieldsFirst};
 ghost use Rattle.rubis_shadow.specs.Parts.{footprint_of, key_of, parts, refers_of, winner_key};

@@ -1,3 +1,5 @@
+//! Tables as rows in order, listed.
+
 ghost use Rattle.std.specs.Prelude.{◌≡◌, IfOk, OnOk, length, map as each};
 ghost use Rattle.std.specs.FinMap as map;
 ghost use Rattle.std.specs.List.Sorted.{IsPermutation, IsSortedByKey};

@@ -1,3 +1,5 @@
+//! A part of a message with the message's place in the log, and a misfit that it left.
+
 ghost use Rattle.std.specs.Prelude.{◌≡◌, IfOk};
 
 use crate::changes::{Effect, MisfitKind};

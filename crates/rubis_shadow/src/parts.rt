@@ -1,3 +1,5 @@
+//! The parts of a shadow, one for each key that it touches.
+
 ghost use Rattle.std.specs.Prelude.{◌≡◌, ◌≤◌, ℕ, length, slice_get, IfOk};
 ghost use Rattle.rubis_schema.specs.declared.ids.Id.{Id};
 ghost use Rattle.std.specs.Iterator.{item_count, YieldsFirst};

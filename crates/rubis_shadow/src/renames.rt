@@ -1,3 +1,5 @@
+//! What a rename frees and takes.
+
 ghost use Rattle.std.specs.Prelude.{◌≡◌};
 
 use crate::asks::AskedRename;

@@ -1,3 +1,5 @@
+//! Shadow operations: what every site applies.
+
 ghost use Rattle.std.specs.Prelude.{◌≡◌, IfOk};
 ghost use Rattle.rubis_shadow.specs.Shadows.{colour_of, version_of};
 

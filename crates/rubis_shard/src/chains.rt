@@ -1,4 +1,4 @@
-// Rows in chains, so that a listing of rows that belong together needn't look at the others.
+//! Rows in chains, so that a listing of rows that belong together needn't look at the others.
 
 ghost use Rattle.std.specs.Prelude.{◌≡◌, ◌<◌, ◌++◌, ◌∷◌, [], None, Some, cond, List, IfOk, OnOk, OnErr, length, slice_index};
 ghost use Rattle.rubis_schema.specs.IdKeys.{row_key, same_id_key};

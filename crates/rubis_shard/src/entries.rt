@@ -1,4 +1,4 @@
-// A message as an entry of a log.
+//! A message as an entry of a log.
 
 ghost use Rattle.std.specs.Prelude.{◌≡◌};
 ghost use Rattle.rubis_message.specs.Message.{IsMessage};

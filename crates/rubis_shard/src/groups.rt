@@ -1,3 +1,5 @@
+//! Listings that ask for the rows of one user or item.
+
 ghost use Rattle.std.specs.Prelude.{◌≡◌};
 ghost use Rattle.rubis_shard.specs.Groups.{listing_of, table_of};
 

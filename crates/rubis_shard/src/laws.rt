@@ -1,4 +1,5 @@
-// The laws, each with its statement in specs/Laws.
+//! The laws, each with its statement in specs/Laws.
+
 ghost use Rattle.rubis_model.specs.Laws.{PartsCommute};
 ghost use Rattle.rubis_shard.specs.Laws.{BatchesFoldAtHome, ShardsAreASet, ShardsHaveTheTables};
 

@@ -1,4 +1,4 @@
-// The keys of the maps of a shard.
+//! The keys of the maps of a shard.
 
 ghost use Rattle.std.specs.Prelude.{◌≡◌};
 ghost use Rattle.rubis_schema.specs.declared.row_keys.RowKey.{RowKey};

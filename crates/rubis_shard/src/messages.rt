@@ -1,3 +1,5 @@
+//! The parts of a message that are a shard's own, folded from where the message lies.
+
 ghost use Rattle.std.specs.Prelude.{◌≡◌, ℕ, ◌+◌, ◌<◌, ◌≤◌, [], length, slice_get, true, false, IfOk, OnOk, OnErr};
 ghost use Rattle.rubis_shadow.specs.BoxedRows.{HasBoxedRow};
 ghost use Rattle.rubis_model.specs.Log.{fold_on, parts_of};

@@ -1,3 +1,5 @@
+//! The rows of several shards in one order.
+
 ghost use Rattle.std.specs.Prelude.{◌≡◌, OnOk, length, map as each};
 ghost use Rattle.std.specs.List.Sorted.{IsPermutation, IsSortedByKey};
 ghost use Rattle.rubis_schema.specs.Keys.{key_order};

@@ -1,4 +1,4 @@
-// The rows of a shard that match a listing.
+//! The rows of a shard that match a listing.
 
 ghost use Rattle.std.specs.Prelude.{◌≡◌, ◌&&◌, Some, IfOk, map as each};
 ghost use Rattle.std.specs.List.Sorted.{IsPermutation};

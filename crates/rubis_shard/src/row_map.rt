@@ -1,3 +1,5 @@
+//! The map of a shard from keys to rows, and the chains of rows of one group.
+
 ghost use Rattle.rubis_schema.specs.IdKeys.{row_key};
 ghost use Rattle.rubis_shard.specs.Chains.{chains_of, IsLinkedSoFar};
 ghost use Rattle.rubis_shard.specs.Written.{written};

@@ -1,3 +1,5 @@
+//! The rows of a shard: looked up, entered and changed.
+
 ghost use Rattle.std.specs.Prelude.{◌≡◌, ◌≢◌, ℕ, ◌+◌, ◌++◌, ◌∷◌, [], ◌<◌, ◌≤◌, Some, None, is_none, option_copied, cond, true, false, OnOk};
 ghost use Rattle.std.specs.Bool.{MatchBool};
 ghost use Rattle.std.specs.FinMap as map;

@@ -1,4 +1,4 @@
-// Which rows match a listing.
+//! Which rows match a listing.
 
 ghost use Rattle.std.specs.Prelude.{◌≡◌};
 ghost use Rattle.rubis_model.specs.Listings.{is_of};

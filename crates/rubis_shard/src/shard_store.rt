@@ -1,3 +1,5 @@
+//! A shard as the store that shares are folded on.
+
 ghost use Rattle.std.specs.Prelude.{◌+◌, ◌≤◌};
 ghost use Rattle.std.specs.Vec.{vec_len, vec_capacity};
 ghost use Rattle.rubis_shard.specs.Rows.{HasRoomForRows};

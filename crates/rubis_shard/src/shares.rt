@@ -1,3 +1,5 @@
+//! A share: the parts of a batch that one shard folds.
+
 use rubis_schema::Items;
 use rubis_shadow::Numbered;
 

@@ -1,3 +1,5 @@
+//! What parts are folded on.
+
 ghost use Rattle.std.specs.Prelude.{◌≡◌, ℕ, ◌+◌, ◌≤◌, [], OnOk};
 ghost use Rattle.rubis_model.specs.Log.{Folded, step};
 ghost use Rattle.rubis_shard.specs.Rows.{tables_in};

@@ -1,3 +1,5 @@
+//! The tables: the shards of a site, together.
+
 ghost use Rattle.std.specs.Prelude.{◌≡◌, ◌<◌, ◌≤◌, [], map as each, length, slice_range, nat_eq, true, false, IfOk, IfErr, OnOk, OnErr};
 ghost use Rattle.std.specs.List.{All};
 ghost use Rattle.rubis_schema.specs.Keys.{home};

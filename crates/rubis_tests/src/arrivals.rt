@@ -1,11 +1,11 @@
-// Messages for a site of two, and their arrival.
+//! Messages for a site of two, and their arrival.
 
 ghost use Rattle.std.specs.Prelude.{◌≡◌, All, IfOk};
 ghost use Rattle.rubis_message.specs.Message.{sites_of};
 
 use crate::records::message;
 use rubis_message::{Arrival, Message};
-use rubis_replica::{Gate, Site};
+use rubis_world::{Gate, Site};
 use std::alloc::Global;
 use std::sync::Wait;
 use std::test::Fail;

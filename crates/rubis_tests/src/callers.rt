@@ -1,21 +1,20 @@
-// A caller of each of the three: a site, several sites, and an audit. The page for callers shows these functions.
+//! A caller of each of the three: a site, several sites, and an audit. The page for callers shows these functions.
 
 ghost use Rattle.std.specs.Prelude.{◌≡◌, ◌≤◌, IfOk, Ok, length, true};
 ghost use Rattle.rubis_audit.specs.Walks.{HaveMessagesAmong};
 ghost use Rattle.rubis_model.specs.Audit.{AreSound};
 ghost use Rattle.rubis_model.specs.Laws.{InRun};
 ghost use Rattle.rubis_model.specs.Site.{asked, opening_at};
-ghost use Rattle.rubis_replica.specs.Setup.{setup_place};
+ghost use Rattle.rubis_world.specs.Script.{setup_place};
 ghost use Rattle.rubis_shadow.specs.Limits.{IsAsk};
 ghost use Rattle.rubis_shadow.specs.declared.asks.Ask.TheVariants as Ask;
 
 use crate::worlds::two_sites;
 use rubis_audit::{Log, Verdict, audit};
 use rubis_message::{Arrival, Message, Request};
-use rubis_replica::{Config, Fault, Free, Site};
 use rubis_schema::Nick;
 use rubis_shadow::Ask;
-use rubis_world::{Happened, World, WorldFault};
+use rubis_world::{Config, Fault, Free, Happened, Site, World, WorldFault};
 use std::alloc::{AllocError, Global};
 use std::sync::Wait;
 use std::test::Fail;

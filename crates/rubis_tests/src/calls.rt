@@ -1,4 +1,4 @@
-// What no scenario and no conversation shows of single calls.
+//! What no scenario and no conversation shows of single calls.
 
 use crate::records::message;
 use rubis_engine::Sink;

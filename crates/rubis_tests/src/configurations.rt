@@ -1,6 +1,6 @@
-// What a site can be set up with.
+//! What a site can be set up with.
 
-use rubis_replica::Config;
+use rubis_world::Config;
 
 #[test]
 fn configurations_at_their_limits(rt: HostRuntime) {

@@ -1,9 +1,8 @@
-// A site on readers and writers that fail.
+//! A site on readers and writers that fail.
 
 use crate::failing_streams::{FailingDelivery, FailingReader, FailingWriter};
 use crate::transcripts::{Talk, take_apart, usual};
-use rubis_replica::{Config, Free};
-use rubis_script::{RunFault, run_site, run_site_upto};
+use rubis_world::{Config, Free, RunFault, run_site, run_site_upto};
 use std::process::Abort;
 use std::sync::Wait;
 use std::thread::Threads;

@@ -1,6 +1,6 @@
-// Gates that hold a worker between taking a shard and folding its share, or record what was taken.
+//! Gates that hold a worker between taking a shard and folding its share, or record what was taken.
 
-use rubis_replica::Gate;
+use rubis_world::Gate;
 use std::sync::atomic::{AtomicBool, AtomicU64, Ordering};
 use std::thread;
 

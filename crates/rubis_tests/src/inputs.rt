@@ -1,8 +1,7 @@
-// Inputs that no conversation of text lines can write down, and limits.
+//! Inputs that no conversation of text lines can write down, and limits.
 
 use crate::transcripts::{run_whole, usual};
-use rubis_replica::Free;
-use rubis_script::{RunFault, run_site_upto};
+use rubis_world::{Free, RunFault, run_site_upto};
 
 const ONE_USER_ANSWERED: &str = "\
 reply,1,ok,0.1

@@ -1,4 +1,4 @@
-// Workers that really work at once, in each call that applies a batch.
+//! Workers that really work at once, in each call that applies a batch.
 
 ghost use Rattle.std.specs.Prelude.{◌≡◌, ◌<◌, ◌≤◌, IfOk};
 ghost use Rattle.rubis_shadow.specs.Limits.{IsAsk};
@@ -8,12 +8,11 @@ use crate::gates::{Halves, Holding, HoldsTwo, Meeting, Numbers, Waiting};
 use crate::records::request;
 use rubis_message::{Arrival, Request};
 use rubis_pieces::split;
-use rubis_replica::{Config, Gate, Site};
 use rubis_schema::Listing;
-use rubis_script::{Count, run_site_upto};
 use rubis_shadow::Ask;
 use rubis_shard::{Shard, Tables};
 use rubis_workers::{Worked, apply_beside};
+use rubis_world::{Config, Count, Gate, Site, run_site_upto};
 use std::alloc::Global;
 use std::sync::Wait;
 use std::test::Fail;

@@ -1,13 +1,13 @@
-// Messages that arrive at a site.
+//! Messages that arrive at a site.
 
 ghost use Rattle.std.specs.Prelude.{◌≡◌, All, IfOk};
 ghost use Rattle.rubis_message.specs.Message.{sites_of};
 
 use crate::arrivals::{ANN, BOB, CUP, add_message, arrive};
 use rubis_message::{Arrival, Message};
-use rubis_replica::{Arrived, Config, Free, Site};
 use rubis_schema::{Nick, Refusal};
 use rubis_shadow::Ask;
+use rubis_world::{Arrived, Config, Free, Site};
 use std::alloc::Global;
 use std::process::Abort;
 use std::sync::Wait;

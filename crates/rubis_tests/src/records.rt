@@ -1,4 +1,4 @@
-// Requests and packets, as they are written.
+//! Requests and packets, as they are written.
 
 ghost use Rattle.std.specs.Prelude.{◌≡◌, ◌≤◌, IfOk};
 ghost use Rattle.rubis_message.specs.Grammar.{IsRequest};

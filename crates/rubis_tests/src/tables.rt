@@ -1,4 +1,4 @@
-// Plain tables, and decisions over them.
+//! Plain tables, and decisions over them.
 
 use rubis_generate::{Standing, decide};
 use rubis_schema::{Id, Name, Nick, Refusal, Row, RowKey, Shared, Table, View};

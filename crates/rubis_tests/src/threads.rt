@@ -1,12 +1,11 @@
-// How often the gate is called, and how many threads a batch gets.
+//! How often the gate is called, and how many threads a batch gets.
 
 ghost use Rattle.std.specs.Prelude.{◌≡◌};
 
 use crate::arrivals::{ANN, BOB, CUP, arrive_comment, arrive_three, comment_behind, two_comments};
 use crate::gates::{Counting, Gathering, Holders};
 use crate::transcripts::add_line;
-use rubis_replica::{Config, Gate, Site};
-use rubis_script::{Count, run_site_upto};
+use rubis_world::{Config, Count, Gate, Site, run_site_upto};
 use std::alloc::Global;
 use std::sync::Wait;
 use std::sync::atomic::{AtomicU64, Ordering};

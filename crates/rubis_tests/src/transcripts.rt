@@ -1,8 +1,7 @@
-// Conversations with a site, written down: a line that begins with `> ` is a record of the input, and the lines below
-// it are the answers to it.
+//! Conversations with a site, written down: a line that begins with `> ` is a record of the input, and the lines below
+//! it are the answers to it.
 
-use rubis_replica::Config;
-use rubis_script::{Count, run_site};
+use rubis_world::{Config, Count, run_site};
 use std::alloc::{AllocError, Global};
 use std::process::Abort;
 use std::sync::Wait;

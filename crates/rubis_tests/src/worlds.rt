@@ -1,12 +1,11 @@
-// Several sites in one run: each call once, with enough memory, and streams that fail.
+//! Several sites in one run: each call once, with enough memory, and streams that fail.
 
 use crate::failing_streams::{FailingReader, FailingWriter};
 use rubis_engine::{Count, RunFault};
 use rubis_message::{Arrival, Request, Taken};
-use rubis_replica::Fault;
 use rubis_schema::{Listing, Nick, Refusal};
 use rubis_shadow::Ask;
-use rubis_world::{Happened, World, WorldConfig, WorldFault, run_world};
+use rubis_world::{Fault, Happened, World, WorldConfig, WorldFault, run_world};
 use std::alloc::Global;
 use std::process::Abort;
 use std::sync::Wait;

@@ -5,3 +5,5 @@ mod Lists
 mod Moved
 mod Folded
 mod Counts
+pub mod Shard
+pub mod Pieces

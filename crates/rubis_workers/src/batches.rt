@@ -1,3 +1,5 @@
+//! Batches applied by a team of workers, beside another task or alone.
+
 ghost use Rattle.std.specs.Prelude.{◌≡◌, ◌<◌, ◌≤◌, [], length, min, vec_len, IfOk, IfErr};
 ghost use Rattle.std.specs.List.Sorted.{IsPermutation};
 ghost use Rattle.rubis_shard.specs.Holdings.{AreInOrder};

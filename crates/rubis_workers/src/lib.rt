@@ -1,5 +1,5 @@
-//! Batches of a log applied to tables: by the caller's thread alone, or by a team of several workers.
-//! A team of workers who take the shards of a batch from a board, fold each shard's parts on it, and give it back.
+//! Batches of a log applied to tables: by the caller's thread alone, or by a team of workers who take the shards from a
+//! board, fold each shard's parts on it, and give it back.
 #![tactic(auto)]
 
 mod applying;
@@ -18,3 +18,5 @@ pub use folding::{apply_upto, count_parts};
 pub use following::{Followed, follow_by_team};
 pub use gate::{Free, Gate};
 pub use pace::Pace;
+pub use rubis_pieces::{count_behind, follow_rest, misfits};
+pub use rubis_shard::Tables;

@@ -1,3 +1,5 @@
+//! A team of workers over one board.
+
 ghost use Rattle.std.specs.Prelude.{◌≡◌, ◌+◌, ◌-◌, ◌<◌, ◌≤◌, [], length, true, vec_len};
 ghost use Rattle.std.specs.List.{All, AllZip};
 ghost use Rattle.std.specs.Vec.{vec_capacity};

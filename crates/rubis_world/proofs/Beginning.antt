@@ -6,9 +6,9 @@ use Rattle.std.proofs.lemmas.Bool.{cases_lt}
 use Rattle.std.proofs.lemmas.List.FromFn.{get_or-map-range_with_len, length-map-range_with_len, map-range_with_len_more}
 use Rattle.std.proofs.lemmas.Option.{slice_get-get_or, slice_get_past}
 use Rattle.rubis_model.specs.Site.{opening_at}
-use Rattle.rubis_replica.specs.Progress.{resting_at}
-use Rattle.rubis_replica.specs.Setup.{setup_place}
-use Rattle.rubis_replica.specs.State.{SiteState}
+use Rattle.rubis_script.specs.Replica.{resting_at}
+use Rattle.rubis_script.specs.Replica.{setup_place}
+use Rattle.rubis_script.specs.Replica.{SiteState}
 use Rattle.rubis_world.specs.Setup.{WorldSetup, setup_at}
 use Rattle.rubis_world.specs.SitesWorlds.{AreAtPlaces, opening_world}
 use Rattle.rubis_world.proofs.Moves.{state_of}

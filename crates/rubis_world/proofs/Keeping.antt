@@ -9,8 +9,8 @@ use Rattle.rubis_laws.proofs.Formed.{event_deliverable}
 use Rattle.rubis_laws.proofs.Keeps.{event_keeps, event_sites, start_sites, start_sound}
 use Rattle.rubis_laws.proofs.Room.{room_event, room_start}
 use Rattle.rubis_laws.proofs.Runs.{in_run}
-use Rattle.rubis_replica.specs.Counts.{IsCount}
-use Rattle.rubis_replica.specs.declared.faults.Fault.TheVariants as fault
+use Rattle.rubis_script.specs.Replica.{IsCount}
+use Rattle.rubis_script.specs.Replica.fault_variants as fault
 use Rattle.rubis_world.specs.SitesWorlds.{ComesTo, Steps, WorldState, opening_world}
 use Rattle.rubis_world.specs.declared.faults.WorldFault.{WorldFault}
 use Rattle.rubis_world.specs.declared.faults.WorldFault.TheVariants.{BadEvent, NoSuchPacket, Site, Memory}

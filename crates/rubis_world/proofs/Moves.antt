@@ -17,9 +17,9 @@ use Rattle.rubis_model.specs.System.{World, site, place, sends, takes, saying, s
 use Rattle.rubis_model.specs.Log.{cores, fold_of}
 use Rattle.rubis_model.specs.Runs.{listed, listing_rows}
 use Rattle.rubis_laws.proofs.Keeps.{has_packet, same_sites}
-use Rattle.rubis_replica.specs.State.{AnswersAsTheStep, IsReadFault, Lists, ListsTheLog, NeedsNoTables, SiteState, TakesIn}
-use Rattle.rubis_replica.specs.declared.faults.Fault.{Fault}
-use Rattle.rubis_replica.specs.declared.faults.Fault.TheVariants as fault
+use Rattle.rubis_script.specs.Replica.{AnswersAsTheStep, IsReadFault, Lists, ListsTheLog, NeedsNoTables, SiteState, TakesIn}
+use Rattle.rubis_script.specs.Replica.{Fault}
+use Rattle.rubis_script.specs.Replica.fault_variants as fault
 use Rattle.rubis_world.specs.Faults.{fault_at_site}
 use Rattle.rubis_world.specs.SitesWorlds.{AreAtPlaces, Asks, ComesTo, Steps, WorldState, left_at}
 use Rattle.rubis_world.specs.declared.faults.WorldFault.{WorldFault}

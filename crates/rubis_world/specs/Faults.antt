@@ -1,6 +1,6 @@
 -- Why a call of a world gives no answer.
-use Rattle.rubis_replica.specs.declared.faults.Fault.{Fault}
-use Rattle.rubis_replica.specs.declared.faults.Fault.TheVariants as site
+use Rattle.rubis_script.specs.Replica.{Fault}
+use Rattle.rubis_script.specs.Replica.fault_variants as site
 use Rattle.rubis_world.specs.declared.faults.WorldFault.{WorldFault}
 use Rattle.rubis_world.specs.declared.faults.WorldFault.TheVariants.{Site, Memory}
 

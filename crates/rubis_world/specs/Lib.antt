@@ -4,3 +4,4 @@ pub mod Running
 pub mod Faults
 pub mod Setup
 pub mod SitesWorlds
+pub mod Script

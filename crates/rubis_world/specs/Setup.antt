@@ -1,8 +1,8 @@
 -- How the sites of a world are set up.
 use Rattle.std.specs.Prelude.{ℕ}
 use Rattle.rubis_schema.specs.declared.limits.TheConstants.{BATCH_MAX, KEEP_MAX, SHARDS_MAX, SITES_MAX, WORKERS_MAX}
-use Rattle.rubis_replica.specs.Counts.{IsCount}
-use Rattle.rubis_replica.specs.Setup.{Setup}
+use Rattle.rubis_script.specs.Replica.{IsCount}
+use Rattle.rubis_script.specs.Replica.{Setup}
 
 -- how many sites; and of each its shards, workers and batches, and how many messages it keeps
 pub record WorldSetup : Type 0 where

@@ -5,8 +5,8 @@ use Rattle.rubis_schema.specs.declared.refusals.Refusal.{Refusal}
 use Rattle.rubis_schema.specs.declared.refusals.Refusal.TheVariants as refusal
 use Rattle.rubis_message.specs.declared.answers.Happened.{Happened}
 use Rattle.rubis_model.specs.System.{World, start}
-use Rattle.rubis_replica.specs.State.{SiteState}
-use Rattle.rubis_replica.specs.declared.faults.Fault.TheVariants as fault
+use Rattle.rubis_script.specs.Replica.{SiteState}
+use Rattle.rubis_script.specs.Replica.fault_variants as fault
 use Rattle.rubis_world.specs.declared.faults.WorldFault.{WorldFault}
 use Rattle.rubis_world.specs.declared.faults.WorldFault.TheVariants.{BadEvent, NoSuchPacket, Site, Memory}
 

@@ -2,7 +2,7 @@
 use Rattle.std.specs.Prelude.{◌≡◌, ℕ, ◌<◌, ◌≤◌, length, ◌⊎◌}
 use Rattle.rubis_schema.specs.declared.limits.TheConstants.{KEEP_MAX, SITES_MAX}
 use Rattle.rubis_model.specs.Sound.{AllDeliverable, Room, Sound}
-use Rattle.rubis_replica.specs.declared.faults.Fault.TheVariants as fault
+use Rattle.rubis_script.specs.Replica.fault_variants as fault
 use Rattle.rubis_world.specs.SitesWorlds.{WorldState, left_at}
 use Rattle.rubis_world.specs.declared.faults.WorldFault.{WorldFault}
 use Rattle.rubis_world.specs.declared.faults.WorldFault.TheVariants.{Site, Memory}

@@ -1,4 +1,4 @@
-// The records that answer an event.
+//! The records that answer an event.
 
 ghost use Rattle.std.specs.Prelude.{◌≡◌, ◌++◌, ◌∷◌, [], OnOk, Some, map};
 ghost use Rattle.rubis_model.specs.Answers.{refused_row};
@@ -10,7 +10,9 @@ use crate::site_rows::SiteRows;
 use rubis_engine::{Reply, Sink};
 use rubis_message::{Happened, Packet};
 use rubis_schema::{Fields, Refusal, RowSink, push_number};
-use rubis_script::{write_arrival, write_handed_on, write_listed, write_refusal, write_sent, write_taken};
+use rubis_script::{
+    write_arrival, write_handed_on, write_listed, write_refusal, write_sent, write_taken,
+};
 use std::alloc::AllocError;
 
 /// Says that the world refuses the record.

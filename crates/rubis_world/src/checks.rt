@@ -1,11 +1,11 @@
-// What an auditor says of the sites of a world.
+//! What an auditor says of the sites of a world.
 
 ghost use Rattle.std.specs.Prelude.{◌≡◌, ◌<◌, ◌≤◌, IfErr, IfOk, Err, Some, ℕ, false, length, true};
 ghost use Rattle.rubis_schema.specs.declared.limits.TheConstants.{SITES_MAX};
 ghost use Rattle.rubis_model.specs.Verdict.{verdict};
 ghost use Rattle.rubis_model.specs.WorldRecords.{log_of, logs_of};
 ghost use Rattle.rubis_audit.specs.Walks.{HaveMessagesAmong};
-ghost use Rattle.rubis_replica.specs.declared.faults.Fault.TheVariants as Fault;
+ghost use Rattle.rubis_script.specs.Replica.fault_variants as Fault;
 ghost use Rattle.rubis_world.specs.SitesWorlds.{ComesTo, left_at};
 ghost use Rattle.rubis_world.specs.declared.faults.WorldFault.TheVariants as WorldFault;
 ghost use Rattle.rubis_world.specs.Worlds.{IsCheckFault, SomeBehind};
@@ -14,8 +14,8 @@ use crate::faults::WorldFault;
 use crate::sites::Sites;
 use rubis_audit::{Log, audit};
 use rubis_message::{Happened, Message, Verdict};
-use rubis_replica::Fault;
 use rubis_schema::{Fields, Items, Listing};
+use rubis_script::Fault;
 use std::alloc::{AllocError, Global};
 use std::sync::Wait;
 use std::thread::Threads;

@@ -1,11 +1,13 @@
+//! How a world is set up, within its limits.
+
 ghost use Rattle.std.specs.Prelude.{◌≡◌, ◌<◌};
 ghost use Rattle.std.specs.Option.{SomeIff};
 ghost use Rattle.rubis_schema.specs.declared.limits.TheConstants.{KEEP_MAX, SITES_MAX};
-ghost use Rattle.rubis_replica.specs.Counts.{IsCount};
+ghost use Rattle.rubis_script.specs.Replica.{IsCount};
 ghost use Rattle.rubis_world.specs.Setup.{IsWorldSetup, WorldSetup, setup_at};
 
-use rubis_replica::Config;
 use rubis_schema::Hashes;
+use rubis_script::Config;
 use std::marker::Model;
 
 /// How the sites of a world are set up: how many they are; and of each, how many shards its tables have, how many workers

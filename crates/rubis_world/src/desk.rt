@@ -1,4 +1,4 @@
-// Several sites as a service: a record in, its answers out.
+//! Several sites as a service: a record in, its answers out.
 
 ghost use Rattle.std.proofs.Common.{rules};
 ghost use Rattle.std.specs.Prelude.{◌≡◌, ◌≤◌, ◌∷◌, [], IfOk, OnOk, length, refl};
@@ -19,8 +19,8 @@ use crate::world::World;
 use rubis_audit::write_verdict;
 use rubis_engine::{InputRecord, OutOfMemory, Reply, Service, Sink};
 use rubis_message::{Request, WorldInput, read_world_input};
-use rubis_replica::Fault;
 use rubis_schema::Refusal;
+use rubis_script::Fault;
 use std::alloc::{AllocError, Global};
 use std::sync::Wait;
 use std::thread::Threads;

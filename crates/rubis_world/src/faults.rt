@@ -1,8 +1,10 @@
+//! What ends a call of a world.
+
 ghost use Rattle.std.specs.Prelude.{◌≡◌};
 ghost use Rattle.rubis_world.specs.Faults.{fault_at_site};
 ghost use Rattle.rubis_world.specs.declared.faults.WorldFault.TheVariants as WorldFault;
 
-use rubis_replica::Fault;
+use rubis_script::Fault;
 use std::alloc::{AllocError, AllocFailed};
 use thiserror::Error;
 

@@ -1,5 +1,4 @@
 //! Several sites in one run, with all packets that they send.
-//! Several sites, and all packets that they sent: each call is one step of the model.
 #![tactic(auto)]
 
 mod answers;
@@ -18,6 +17,10 @@ pub use desk::WorldDesk;
 pub use faults::WorldFault;
 pub use packets::packet;
 pub use rubis_message::Happened;
+pub use rubis_script::{
+    Arrived, Config, Count, Fault, Free, Gate, RunFault, Site, run_site, run_site_to_exit,
+    run_site_upto,
+};
 pub use run::{run_world, run_world_desk, run_world_to_exit};
 pub use sites::Sites;
 pub use world::World;

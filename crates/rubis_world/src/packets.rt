@@ -1,4 +1,4 @@
-// The packets that were sent.
+//! The packets that were sent.
 
 ghost use Rattle.std.specs.Prelude.{◌≡◌, IfOk, option_map};
 ghost use Rattle.rubis_model.specs.System.{packet_at};

@@ -1,4 +1,4 @@
-// Several sites over a reader and a writer.
+//! Several sites over a reader and a writer.
 
 ghost use Rattle.std.specs.Prelude.{◌≡◌, ◌≤◌, ◌<◌, ◌+◌, ◌^◌, ◌⊎◌, ℕ, IfErr, IfNone, IfOk, IfSome, IsErrOf, length, take};
 ghost use Rattle.std.specs.Io.KnownBytes.{Appends};

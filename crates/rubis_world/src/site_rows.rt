@@ -1,4 +1,4 @@
-// The records that one site of several gives.
+//! The records that one site of several gives.
 
 use itoa::Buffer;
 use rubis_engine::Sink;

@@ -1,3 +1,5 @@
+//! Several sites, and all packets that they sent: each call is one step of the model.
+
 ghost use Rattle.std.specs.Prelude.{◌≡◌, ◌<◌, ◌≤◌, IfOk, Err, None, Some, ℕ, length, nat_lt};
 ghost use Rattle.rubis_schema.specs.declared.limits.TheConstants.{KEEP_MAX, SITES_MAX};
 ghost use Rattle.rubis_shadow.specs.Limits.{IsAsk};
@@ -9,8 +11,8 @@ ghost use Rattle.rubis_model.specs.Sound.{AllDeliverable, IsDeliverable};
 ghost use Rattle.rubis_model.specs.System.{IsEvent, coming, happens, packet_at, requested, start};
 ghost use Rattle.rubis_model.specs.System.Event.{At, Deliver};
 ghost use Rattle.rubis_model.specs.System.{site as site_of};
-ghost use Rattle.rubis_replica.specs.Counts.{IsCount};
-ghost use Rattle.rubis_replica.specs.declared.faults.Fault.TheVariants as Fault;
+ghost use Rattle.rubis_script.specs.Replica.{IsCount};
+ghost use Rattle.rubis_script.specs.Replica.fault_variants as Fault;
 ghost use Rattle.rubis_world.specs.SitesWorlds.{Asks, Steps, left_at, opening_world};
 ghost use Rattle.rubis_world.specs.declared.faults.WorldFault.TheVariants as WorldFault;
 
@@ -18,8 +20,8 @@ use crate::config::WorldConfig;
 use crate::faults::WorldFault;
 use crate::packets::{packet, packet_copy};
 use rubis_message::{Happened, Message, Packet, Request, Token};
-use rubis_replica::{Fault, Free, Site};
 use rubis_schema::Listing;
+use rubis_script::{Fault, Free, Site};
 use rubis_shadow::Ask;
 use std::alloc::{AllocError, Global};
 use std::marker::Model;
@@ -36,7 +38,7 @@ pub struct Sites {
 
 impl Model for Sites {
     ghost use Rattle.std.specs.Prelude.{map};
-    ghost use Rattle.rubis_replica.specs.State.{SiteState};
+    ghost use Rattle.rubis_script.specs.Replica.{SiteState};
     ghost use Rattle.rubis_world.specs.SitesWorlds.{AreAtPlaces, WorldState};
 
     ghost Value = { WorldState };

@@ -1,3 +1,5 @@
+//! Several sites in one run, with all packets that they send, and what each record did.
+
 ghost use Rattle.std.specs.Prelude.{◌≡◌, ◌<◌, ◌≤◌, Err, IfErr, IfOk, None, Some, ℕ, length};
 ghost use Rattle.rubis_message.specs.declared.requests.Request.TheVariants as Request;
 ghost use Rattle.rubis_message.specs.declared.tokens.Packet.{Packet as Sent};
@@ -8,7 +10,7 @@ ghost use Rattle.rubis_schema.specs.declared.limits.TheConstants.{SITES_MAX};
 ghost use Rattle.rubis_message.specs.declared.answers.Verdict.TheVariants.{Agree};
 ghost use Rattle.rubis_model.specs.Verdict.{verdict};
 ghost use Rattle.rubis_model.specs.WorldRecords.{logs_of};
-ghost use Rattle.rubis_replica.specs.declared.faults.Fault.TheVariants as Fault;
+ghost use Rattle.rubis_script.specs.Replica.fault_variants as Fault;
 ghost use Rattle.rubis_world.specs.SitesWorlds.{Asks, ComesTo, Steps, left_at, opening_world};
 ghost use Rattle.rubis_world.specs.declared.faults.WorldFault.TheVariants as WorldFault;
 ghost use Rattle.rubis_world.specs.Worlds.{IsCheckFault};

@@ -1,3 +1,5 @@
+//! The token at an intake: taken, held and passed on.
+
 ghost use Rattle.std.specs.Prelude.{◌≡◌};
 ghost use Rattle.rubis_model.specs.Site.{took, passed};
 ghost use Rattle.rubis_release.specs.Answers.{token_held};

@@ -1,7 +1,7 @@
 use Rattle.std.proofs.Common.{◌≡◌, ◌∙◌, ◌<◌, ℕ, List, length, refl, sym, ap, subst, arith}
 use Rattle.std.specs.Prelude.{Ok, Err, slice_range}
 use Rattle.rubis_model.specs.Log.{cores}
-use Rattle.rubis_pieces.specs.Following.{AreFurther, HoldsTo}
+use Rattle.rubis_workers.specs.Pieces.{AreFurther, HoldsTo}
 use Rattle.rubis_replica.specs.Follow.{Follower, FollowsLog, GoesOnTo}
 use Rattle.rubis_replica.specs.Progress.{Progress, resting_at}
 use Rattle.rubis_replica.proofs.Standing.{counted_by, goes_part, goes_whole, stops_further, written_back}

@@ -1,7 +1,7 @@
 use Rattle.std.proofs.Common.{◌≡◌, ◌∙◌, ◌<◌, length, refl, sym, ap, subst, arith}
 use Rattle.std.specs.Prelude.{Ok, Err, slice_range}
 use Rattle.rubis_model.specs.Log.{cores}
-use Rattle.rubis_pieces.specs.Following.{HoldsTo, StopWithin}
+use Rattle.rubis_workers.specs.Pieces.{HoldsTo, StopWithin}
 use Rattle.rubis_workers.proofs.NextMessage.{log_within}
 use Rattle.rubis_replica.specs.Follow.{ComesTo, Follower}
 use Rattle.rubis_replica.specs.Progress.{IsProgress, resting_at}

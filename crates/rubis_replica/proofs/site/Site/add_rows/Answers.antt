@@ -3,8 +3,8 @@ use Rattle.std.specs.Prelude.{OnOk}
 use Rattle.rubis_model.specs.Listings.{misfit_rows, table_rows}
 use Rattle.rubis_model.specs.Log.{cores, fold_of}
 use Rattle.rubis_model.specs.Runs.{listing_rows}
-use Rattle.rubis_pieces.specs.Misfits.{AreOfTheLog}
-use Rattle.rubis_shard.specs.Holdings.{union}
+use Rattle.rubis_workers.specs.Pieces.{AreOfTheLog}
+use Rattle.rubis_workers.specs.Shard.{union}
 use Rattle.rubis_replica.proofs.Deciding.{log_misfits, log_tables}
 use Rattle.rubis_replica.proofs.Listing.{applied_already, tables_shown}
 use Rattle.rubis_replica.proofs.site.Site.add_rows.Goals as goal

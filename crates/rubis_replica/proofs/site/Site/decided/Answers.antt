@@ -2,7 +2,7 @@ use Rattle.std.proofs.Common.{◌≡◌, ◌∙◌, rules}
 use Rattle.std.specs.Prelude.{Ok, Err}
 use Rattle.rubis_generate.specs.Decision.{decision}
 use Rattle.rubis_generate.specs.Lookup.{row_by_key}
-use Rattle.rubis_shard.specs.Holdings.{union}
+use Rattle.rubis_workers.specs.Shard.{union}
 use Rattle.rubis_replica.proofs.Deciding.{decided_limits, decides_err, same_decision}
 use Rattle.rubis_replica.proofs.site.Site.decided.Goals as goal
 
