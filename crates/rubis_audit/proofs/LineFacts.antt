@@ -2,7 +2,7 @@
 use Rattle.std.proofs.Common.{ℕ, ◌≡◌, ◌∙◌, List, [], ◌∷◌, Bool, true, false, cond, refl, ap, Option, Some, None}
 use Rattle.std.specs.Prelude.{bytes_eq, codes, nat_lt, option_and_then, option_map}
 use Rattle.std.specs.Option.{option_or}
-use Rattle.rubis_schema.specs.Numbers.{number_of}
+use Rattle.rubis_schema.specs.NumberForms.{number_of}
 use Rattle.rubis_message.specs.Forms.{Form, followed_by, beside, check, give, mapped, no_more, take_site, whole}
 use Rattle.rubis_message.specs.Readings.{packet_of}
 use Rattle.rubis_message.specs.declared.tokens.Packet.{Packet}

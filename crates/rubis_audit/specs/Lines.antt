@@ -1,6 +1,6 @@
 -- What was read of a record.
 use Rattle.std.specs.Prelude.{◌≡◌, ℕ, List, [], ◌∷◌, Bool, false, ⊤, bytes_eq, codes, cond, nat_lt, Option, Some, None, option_and_then}
-use Rattle.rubis_schema.specs.Numbers.{number_of}
+use Rattle.rubis_schema.specs.NumberForms.{number_of}
 use Rattle.rubis_message.specs.Message.{sites_of}
 use Rattle.rubis_model.specs.AuditRecords.{Line as Said}
 use Rattle.rubis_model.specs.AuditRecords.Line.{Begin, Claim, Next}

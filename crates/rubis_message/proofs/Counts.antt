@@ -5,7 +5,7 @@ use Rattle.std.proofs.Math.Seq.{drop-cons}
 use Rattle.std.proofs.lemmas.Bool.{not-true}
 use Rattle.std.proofs.lemmas.List.Folds.{list_any-append}
 use Rattle.std.proofs.lemmas.List.{append-nil, append_assoc}
-use Rattle.rubis_schema.specs.Numbers.{◌>>=◌, number_of}
+use Rattle.rubis_schema.specs.NumberForms.{◌>>=◌, number_of}
 use Rattle.rubis_schema.specs.FieldForms.{cut_at}
 use Rattle.rubis_schema.specs.FieldList.{is_mark, is_plain}
 use Rattle.rubis_schema.specs.declared.limits.TheConstants.{COUNT_MAX}

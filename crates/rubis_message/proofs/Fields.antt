@@ -5,12 +5,12 @@ use Rattle.std.specs.List.{AllByRecursion}
 use Rattle.std.specs.Cmp.Lexicographic.{bytes_decides}
 use Rattle.std.proofs.lemmas.List.Elements.{recursion_from_All, All-cons, All-nil}
 use Rattle.std.proofs.lemmas.Option.{same_Some}
-use Rattle.rubis_schema.specs.Numbers.{IsField, number_of}
+use Rattle.rubis_schema.specs.NumberForms.{IsField, number_of}
 use Rattle.rubis_schema.specs.FieldForms.{cut_at, id_of}
 use Rattle.rubis_schema.specs.Ids.{IsId, id_text}
 use Rattle.rubis_schema.specs.declared.ids.Id.{Id}
 use Rattle.rubis_schema.specs.declared.limits.TheConstants.{COUNT_MAX}
-use Rattle.rubis_schema.proofs.Numbers.{number_is}
+use Rattle.rubis_schema.proofs.NumberForms.{number_is}
 use Rattle.rubis_schema.proofs.FieldLaws.{id_is, step_back, step_by, step_only}
 use Rattle.rubis_schema.proofs.IdTexts.{decimal_free}
 use Rattle.rubis_schema.proofs.Marks.{cut_back, cut_only}

@@ -4,8 +4,8 @@ use Rattle.std.specs.Prelude.{⊤, nat_lt, Option, Some, None, option_map, bytes
 use Rattle.std.specs.Cmp.Lexicographic.{bytes_decides}
 use Rattle.std.proofs.lemmas.Option.{same_Some, some_pair_parts}
 use Rattle.std.proofs.lemmas.Bool.Decides.{Decides-ltb}
-use Rattle.rubis_schema.specs.Numbers.{IsField}
-use Rattle.rubis_schema.proofs.Numbers.{number_is}
+use Rattle.rubis_schema.specs.NumberForms.{IsField}
+use Rattle.rubis_schema.proofs.NumberForms.{number_is}
 use Rattle.rubis_message.specs.Forms.{Form, ◌>>=◌, ◌>>◌, followed_by, beside, check, give, kept, mapped, at_end, no_more, one, take_number, take_positive, take_site, whole}
 use Rattle.rubis_message.specs.Words.{said}
 

@@ -1,6 +1,6 @@
 -- The counts of a stamp, in one field.
 use Rattle.std.specs.Prelude.{ℕ, zero, suc, List, [], ◌∷◌, Option, None, option_map}
-use Rattle.rubis_schema.specs.Numbers.{◌>>=◌, number_of}
+use Rattle.rubis_schema.specs.NumberForms.{◌>>=◌, number_of}
 use Rattle.rubis_schema.specs.FieldForms.{cut_at}
 use Rattle.rubis_schema.specs.declared.limits.TheConstants.{COUNT_MAX}
 

@@ -1,6 +1,6 @@
 -- Forms: what the first fields of a record are read as.
 use Rattle.std.specs.Prelude.{◌≡◌, ℕ, ℤ, Bool, true, false, cond, nat_lt, bytes_eq, codes, List, [], ◌∷◌, Option, Some, None, option_map, Result, Ok, Err, ⊤}
-use Rattle.rubis_schema.specs.Numbers.{number_of, rating_of}
+use Rattle.rubis_schema.specs.NumberForms.{number_of, rating_of}
 use Rattle.rubis_schema.specs.FieldForms.{id_of, name_of, nick_of, text_of}
 use Rattle.rubis_schema.specs.declared.ids.Id.{Id}
 use Rattle.rubis_message.specs.Counts.{deps_of}

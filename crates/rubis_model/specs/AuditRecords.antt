@@ -2,7 +2,7 @@
 use Rattle.std.specs.Prelude.{◌≡◌, ◌≢◌, ◌↔◌, ℕ, ◌+◌, ◌<◌, ◌≤◌, List, [], ◌∷◌, ◌++◌, map, reverse, bytes_eq, codes, decimal, Option, Some, None, option_and_then, unwrap_or, Result, Ok, Err}
 use Rattle.std.specs.List.{flat_map}
 use Rattle.std.specs.Option.{option_or}
-use Rattle.rubis_schema.specs.Numbers.{only_if}
+use Rattle.rubis_schema.specs.NumberForms.{only_if}
 use Rattle.rubis_schema.specs.declared.limits.TheConstants.{COUNTED_MAX}
 use Rattle.rubis_message.specs.Forms.{Form, ◌>>=◌, ◌>>◌, check, mapped, one, take_site, whole}
 use Rattle.rubis_message.specs.Grammar.{IsMessageAmong, message_record}

@@ -6,4 +6,4 @@ pub mod FieldLaws
 pub mod PlainTexts
 pub mod Words
 pub mod NumberTexts
-pub mod Numbers
+pub mod NumberForms

@@ -13,4 +13,4 @@ pub mod KeyHashes
 pub mod Categories
 pub mod Adding
 pub mod Members
-pub mod Numbers
+pub mod NumberForms

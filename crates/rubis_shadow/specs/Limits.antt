@@ -3,7 +3,7 @@ use Rattle.std.specs.Prelude.{ℕ, ◌≡◌, ◌<◌, ◌≤◌, ⊤, IfSome, u
 use Rattle.std.specs.FinMap as map
 use Rattle.rubis_schema.specs.Ids.{IsId}
 use Rattle.rubis_schema.specs.Tables.{Tables}
-use Rattle.rubis_schema.specs.Numbers.{RATING_MAX}
+use Rattle.rubis_schema.specs.NumberForms.{RATING_MAX}
 use Rattle.rubis_schema.specs.declared.limits.TheConstants.{AMOUNT_MAX, CATEGORIES, QUANTITY_MAX}
 use Rattle.rubis_schema.specs.declared.row_keys.RowKey.{RowKey}
 use Rattle.rubis_schema.specs.declared.rows.Row.{Row}
