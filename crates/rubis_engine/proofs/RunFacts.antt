@@ -12,7 +12,10 @@ use Rattle.rubis_engine.specs.Accounts.{Account, AnswersRecord, Keeps}
 use Rattle.rubis_engine.specs.Accounts.Ending.{AtEnd, Cut}
 use Rattle.rubis_engine.specs.Reading.{Advances, Gives, fields_now}
 use Rattle.rubis_engine.specs.Text.{input_records}
-use Rattle.rubis_engine.specs.Progress.{Drained, HasComeSoFar, IsDone, IsTooLong, StandsAt, WrotePrefix}
+use Rattle.rubis_engine.specs.Progress.{Drained, FromStart, HasComeSoFar, IsCut, IsDone, IsRun, IsTooLong, StandsAt, WrotePrefix}
+use Rattle.rubis_engine.specs.declared.fault.Count.{Count}
+use Rattle.rubis_engine.specs.declared.fault.RunFault.{RunFault}
+use Rattle.rubis_engine.specs.declared.fault.RunFault.TheVariants as fault
 
 pub progress-start : {R : Type 0} (rem : R → Option (List ℕ)) (records : Records R) (all : Account) (old : Option (List ℕ)) (input : List ℕ)
     → Gives rem records (input_records input) → HasComeSoFar rem records all all old old [] 1 input
@@ -237,3 +240,20 @@ pub progress-moved : {R : Type 0} (rem : R → Option (List ℕ)) (a : Records R
 progress-moved rem a all more more2 old now now2 sink sink2 n input p same written held =
     subst (λ m. HasComeSoFar rem a all m old now2 sink2 n input) (sym same)
     (subst (λ w. HasComeSoFar rem a all more old w sink2 n input) (sym written) (subst (λ t. HasComeSoFar rem a all more old now t n input) (sym held) p))
+
+-- ---- how a run ends
+
+-- a run from the first record of its input on ends so
+pub ends_so : {R : Type 0} (rem : R → Option (List ℕ)) (run : Run R) (all : Account) (limit : ℕ) (input old new : Option (List ℕ)) (result : Result Count RunFault)
+    → IfSome input (λ bytes. Gives rem run.records (input_records bytes)) → run.reply.sink ≡ []
+    → IfOk result (λ count. FromStart rem run (λ records. IsDone all limit old new records count.records))
+    → (IsErrOf result fault.TooLong → FromStart rem run (λ records. IsTooLong all limit old new records))
+    → (IsErrOf result fault.Read → FromStart rem run (λ records. IsCut all old new records))
+    → (IsErrOf result fault.Memory → FromStart rem run (λ records. WrotePrefix (all.text AtEnd) old new records))
+    → IsRun all limit input old new result
+ends_so rem run all limit None old new result gives empty done long cut prefix = tt
+ends_so rem run all limit (Some bytes) old new (Ok count) gives empty done long cut prefix = done bytes gives empty
+ends_so rem run all limit (Some bytes) old new (Err fault.TooLong) gives empty done long cut prefix = long refl bytes gives empty
+ends_so rem run all limit (Some bytes) old new (Err fault.Read) gives empty done long cut prefix = cut refl bytes gives empty
+ends_so rem run all limit (Some bytes) old new (Err fault.Memory) gives empty done long cut prefix = prefix refl bytes gives empty
+ends_so rem run all limit (Some bytes) old new (Err fault.Write) gives empty done long cut prefix = tt

@@ -1,7 +1,9 @@
 -- How far a run has come, and how it ended.
-use Rattle.std.specs.Prelude.{◌≡◌, ◌≤◌, ◌<◌, ◌+◌, ◌++◌, [], ℕ, List, MatchOption, length, take, Option}
+use Rattle.std.specs.Prelude.{◌≡◌, ◌≤◌, ◌<◌, ◌+◌, ◌++◌, [], ℕ, ⊤, List, IfSome, MatchOption, length, take, Option, Result, Ok, Err}
 use Rattle.std.specs.Io.KnownBytes.{Appends}
 use Rattle.rubis_engine.specs.declared.fault.Count.{Count}
+use Rattle.rubis_engine.specs.declared.fault.RunFault.{RunFault}
+use Rattle.rubis_engine.specs.declared.fault.RunFault.TheVariants.{Memory, Read, TooLong, Write}
 use Rattle.rubis_engine.specs.declared.record_list.Records.{Records}
 use Rattle.rubis_engine.specs.declared.run.Run.{Run}
 use Rattle.rubis_engine.specs.Accounts.{Account, Ending}
@@ -58,6 +60,20 @@ IsCut all old now records = (k : ℕ) × Appends old now (all.text Cut (take k r
 -- what was written is a prefix of the text of all records
 abbrev pub WrotePrefix : (List (List (List ℕ)) → List ℕ) → Option (List ℕ) → Option (List ℕ) → List (List (List ℕ)) → Type 0
 WrotePrefix all old now records = (written left : List ℕ) × Appends old now written × (written ++ left ≡ all records)
+
+-- what a run over these records leaves in its writer, by how it ends: `all` is the account of the records. Where the writer
+-- failed, nothing is said
+abbrev pub EndsSo : Account → ℕ → Option (List ℕ) → Option (List ℕ) → List (List (List ℕ)) → Result Count RunFault → Type 0
+EndsSo all limit old new records (Ok count) = IsDone all limit old new records count.records
+EndsSo all limit old new records (Err TooLong) = IsTooLong all limit old new records
+EndsSo all limit old new records (Err Read) = IsCut all old new records
+EndsSo all limit old new records (Err Memory) = WrotePrefix (all.text AtEnd) old new records
+EndsSo all limit old new records (Err Write) = ⊤
+
+-- a run over an input, of which at most `limit` records are read: `all` is the account of its records, and `old` and `new` are
+-- what its writer had and has
+abbrev pub IsRun : Account → ℕ → Option (List ℕ) → Option (List ℕ) → Option (List ℕ) → Result Count RunFault → Type 0
+IsRun all limit input old new result = IfSome input (λ bytes. EndsSo all limit old new (input_records bytes) result)
 
 -- ---- a run and its service, which makes `account n` of the records from record n on
 

@@ -4,7 +4,7 @@ ghost use Rattle.std.specs.Prelude.{◌≡◌, ◌<◌, ◌+◌, ◌++◌, ◌^�
 ghost use Rattle.std.specs.Io.KnownBytes.{Appends};
 ghost use Rattle.rubis_engine.specs.Accounts.{Account};
 ghost use Rattle.rubis_engine.specs.Accounts.Ending.{AtEnd, Cut};
-ghost use Rattle.rubis_engine.specs.Progress.{BeforeEach, Drained, EndsCut, EndsInPrefix, FromStart, HasComeSoFar, HasMoved, InEachRun, IsCut, IsDone, IsTooLong, WrotePrefix};
+ghost use Rattle.rubis_engine.specs.Progress.{BeforeEach, Drained, EndsCut, EndsInPrefix, FromStart, HasComeSoFar, HasMoved, InEachRun, IsCut, IsDone, IsRun, IsTooLong, WrotePrefix};
 ghost use Rattle.rubis_engine.specs.Reading.{Advances, Gives};
 ghost use Rattle.rubis_engine.specs.Text.{input_records};
 
@@ -260,14 +260,7 @@ pub fn run_upto<T, S: Answering<T>, R: Read + Drop, W: Write>(
     service: &mut S,
     limit: u64,
 ) -> Result<Count, RunFault>
-    ensures ok { IfOk result (λ count. IfSome (R.remaining reader) (λ input.
-        IsDone (S.account service.old 1) limit (W.contents writer.old) (W.contents writer.new) (input_records input) count.records)) }
-    ensures too_long { IsErrOf result RunFault.TooLong → IfSome (R.remaining reader) (λ input.
-        IsTooLong (S.account service.old 1) limit (W.contents writer.old) (W.contents writer.new) (input_records input)) }
-    ensures read { IsErrOf result RunFault.Read → IfSome (R.remaining reader) (λ input.
-        IsCut (S.account service.old 1) (W.contents writer.old) (W.contents writer.new) (input_records input)) }
-    ensures memory { IsErrOf result RunFault.Memory → IfSome (R.remaining reader) (λ input.
-        WrotePrefix ((S.account service.old 1).text AtEnd) (W.contents writer.old) (W.contents writer.new) (input_records input)) }
+    ensures { IsRun (S.account service.old 1) limit (R.remaining reader) (W.contents writer.old) (W.contents writer.new) result }
 {
     let mut run = Run::new(alloc, reader);
     serve(rt, &mut run, service, writer, limit)

@@ -48,6 +48,7 @@ pub mod Recorded
 pub mod Written
 pub mod Processes
 pub mod ProcessLaws
+pub mod Growing
 pub mod OwnMessages
 pub mod Restarts
 pub mod NewRecords

@@ -37,10 +37,10 @@ use Rattle.rubis_laws.proofs.Verdicts.{faultless_agree}
 abbrev pub Grows : Replica → Replica → Type 0
 Grows s t = (later : List Message) × (s.log ++ later ≡ t.log)
 
-grows_not : (s t : Replica) → s.log ≡ t.log → Grows s t
+pub grows_not : (s t : Replica) → s.log ≡ t.log → Grows s t
 grows_not s t e = ([], append-nil s.log ∙ e)
 
-grows_twice : (s t u : Replica) → Grows s t → Grows t u → Grows s u
+pub grows_twice : (s t u : Replica) → Grows s t → Grows t u → Grows s u
 grows_twice s t u f g = (f.0 ++ g.0, sym (append_assoc s.log f.0 g.0) ∙ ap (λ l. l ++ g.0) f.1 ∙ g.1)
 
 settle_more : (n : ℕ) (log waiting : List Message) → (later : List Message) × (log ++ later ≡ (settle n log waiting).0)
@@ -56,25 +56,25 @@ settle_more (suc n) log waiting = at (first_ready log waiting) (λ p. settle_mor
 settled_grows : (s : Replica) → Grows s (settled s)
 settled_grows s = settle_more (length s.waiting) s.log s.waiting
 
-generating_grows : (p : Place) (s : Replica) (r : Result Shadow Refusal) → Grows s (generating p s r).0
+pub generating_grows : (p : Place) (s : Replica) (r : Result Shadow Refusal) → Grows s (generating p s r).0
 generating_grows p s (Err r) = grows_not s s refl
 generating_grows p s (Ok x) = let r = settled_grows (record s { log = s.log ++ made p s x ∷ []; held = (generating p s (Ok x)).0.held }) in
     (made p s x ∷ r.0, sym (append_assoc s.log (made p s x ∷ []) r.0) ∙ r.1)
 
-arrived_grows : (p : Place) (s : Replica) (m : Message) → Grows s (arrived p s m).0
+pub arrived_grows : (p : Place) (s : Replica) (m : Message) → Grows s (arrived p s m).0
 arrived_grows p s m =
     cond_both (not_ours p s m) (s, Err NotOurs) _ (λ (a : Replica × Result Arrival Refusal). Grows s a.0) (λ _. grows_not s s refl)
     (λ _. cond_both (is_repeat s m) (s, Ok arrival.Repeat) _ (λ (a : Replica × Result Arrival Refusal). Grows s a.0) (λ _. grows_not s s refl)
     (λ _. cond_both (is_full p.keep s) (s, Err Full) _ (λ (a : Replica × Result Arrival Refusal). Grows s a.0) (λ _. grows_not s s refl)
     (λ _. settled_grows (record s { waiting = s.waiting ++ m ∷ [] }))))
 
-took_grows : (p : Place) (s : Replica) (t : Token) → Grows s (took p s t).0
+pub took_grows : (p : Place) (s : Replica) (t : Token) → Grows s (took p s t).0
 took_grows p s t =
     cond_both (not (t.to == p.site)) (s, Err NotForMe) _ (λ (a : Replica × Result Taken Refusal). Grows s a.0) (λ _. grows_not s s refl)
     (λ _. cond_both (nat_le t.turn s.last) (s, Ok taken.Repeat) _ (λ (a : Replica × Result Taken Refusal). Grows s a.0) (λ _. grows_not s s refl)
     (λ _. grows_not s (record s { held = Some t.issued; last = t.turn }) refl))
 
-passing_grows : (p : Place) (s : Replica) (to : ℕ) (o : Option ℕ) → Grows s (passing p s to o).0
+pub passing_grows : (p : Place) (s : Replica) (to : ℕ) (o : Option ℕ) → Grows s (passing p s to o).0
 passing_grows p s to None = grows_not s s refl
 passing_grows p s to (Some issued) =
     cond_both (nat_le p.sites to || (to == p.site)) (s, Err BadTarget) _ (λ (a : Replica × Result Token Refusal). Grows s a.0) (λ _. grows_not s s refl)

@@ -1,6 +1,6 @@
 -- The records of several sites are a run of them.
 use Rattle.std.proofs.Common.{ℕ, ◌≡◌, ◌+◌, ◌^◌, ◌<◌, List, [], ◌∷◌, ◌++◌, length, refl, sym, ap, ◌∙◌, subst, arith, Option, Some, None, ⊎_elim, append_assoc, append-nil}
-use Rattle.std.specs.Prelude.{IfSome, codes, map, option_and_then, unwrap_or}
+use Rattle.std.specs.Prelude.{IfSome, codes, map, option_and_then, take, unwrap_or}
 use Rattle.std.specs.List.{range_with_len}
 use Rattle.std.specs.Option.{option_or}
 use Rattle.std.proofs.lemmas.Option.{same_Some}
@@ -16,18 +16,19 @@ use Rattle.rubis_message.specs.declared.world_inputs.WorldInput.TheVariants.{Ask
 use Rattle.rubis_message.proofs.Forms.{given}
 use Rattle.rubis_message.proofs.Records.{request_is}
 use Rattle.rubis_model.specs.AuditRecords.{verdict_record}
-use Rattle.rubis_model.specs.Laws.{InRun, WasLogOf}
+use Rattle.rubis_model.specs.Checks.{SameSet}
+use Rattle.rubis_model.specs.Laws.{InRun, WasLogOf, tables_at}
 use Rattle.rubis_model.specs.Logs.{Log}
-use Rattle.rubis_model.specs.RecordedRuns.{AuditsAgree, RecordsAreARun, RecordsKeepInvariants, input_events, record_events, world_after}
+use Rattle.rubis_model.specs.RecordedRuns.{AnswersAreARun, AuditsAgree, RecordsAreARun, RecordsKeepInvariants, input_events, record_events, world_after, world_at}
 use Rattle.rubis_model.specs.Settle.{Has}
 use Rattle.rubis_model.specs.Sound.{Sound}
-use Rattle.rubis_model.specs.System.{AreEvents, Event, World, happens, run, start}
+use Rattle.rubis_model.specs.System.{AreEvents, Event, World, happens, run, site, start}
 use Rattle.rubis_model.specs.System.Event.{At, Deliver}
 use Rattle.rubis_model.specs.Verdict.{verdict}
 use Rattle.rubis_model.specs.WorldRecords.{log_of, logs_of, world_answers, world_output_of, world_step}
 use Rattle.rubis_laws.proofs.Audited.{run_faultless, run_formed}
 use Rattle.rubis_laws.proofs.Keeps.{event_sites, start_sites}
-use Rattle.rubis_laws.proofs.Runs.{every_run, sound_run}
+use Rattle.rubis_laws.proofs.Runs.{equal_tables, every_run, sound_run}
 use Rattle.rubis_laws.proofs.Verdicts.{faultless_agree}
 
 -- ---- what is asked is within the limits
@@ -135,6 +136,57 @@ pub records_keep : RecordsKeepInvariants
 records_keep sites keep records some few small =
     let r = records_run sites keep records few in subst InRun (sym r.1) (every_run sites keep (record_events sites records) some small r.0)
 
+-- ---- what is answered is the text of a run
+
+answers_more : (keep : ℕ) (records more : List (List (List ℕ))) (w : World) (n : ℕ)
+    → world_answers keep w n (records ++ more) ≡ world_answers keep w n records ++ world_answers keep (world_after keep w n records) (n + length records) more
+unfolding world_answers
+answers_more keep [] more w n = ap (λ k. world_answers keep w k more) (omega arith)
+answers_more keep (fields ∷ rest) more w n =
+    let step = world_step keep w n (world_input (length w.sites) fields) in
+    ap (λ rows. step.1 ++ rows) (answers_more keep rest more step.0 (n + 1))
+    ∙ sym (append_assoc step.1 (world_answers keep step.0 (n + 1) rest) _)
+    ∙ ap (λ k. (step.1 ++ world_answers keep step.0 (n + 1) rest) ++ world_answers keep (world_after keep step.0 (n + 1) rest) k more) (omega arith)
+
+after_sites : (keep : ℕ) (es : List Event) (w : World) → length (run keep es w).sites ≡ length w.sites
+after_sites keep [] w = refl
+after_sites keep (e ∷ es) w = after_sites keep es (happens keep w e).0 ∙ event_sites keep w e
+
+world_sites : (keep : ℕ) (records : List (List (List ℕ))) (sites : ℕ) → sites ≤ COUNTED_MAX → length (world_after keep (start sites) 1 records).sites ≡ sites
+world_sites keep records sites few =
+    ap (λ (v : World). length v.sites) (records_run sites keep records few).1 ∙ after_sites keep (record_events sites records) (start sites) ∙ start_sites sites
+
+told_last : (keep : ℕ) (w : World) (n : ℕ) (fields : List (List ℕ)) → world_answers keep w n (fields ∷ []) ≡ (world_step keep w n (world_input (length w.sites) fields)).1
+unfolding world_answers
+told_last keep w n fields = append-nil _
+
+one_more : (sites keep : ℕ) (before : List (List (List ℕ))) (fields : List (List ℕ)) → sites ≤ COUNTED_MAX
+    → world_output_of sites keep (before ++ fields ∷ [])
+      ≡ world_output_of sites keep before ++ (world_step keep (world_after keep (start sites) 1 before) (length before + 1) (world_input sites fields)).1
+one_more sites keep before fields few =
+    let w = world_after keep (start sites) 1 before in
+    answers_more keep before (fields ∷ []) (start sites) 1
+    ∙ ap (λ rows. world_output_of sites keep before ++ rows)
+      (told_last keep w (1 + length before) fields
+      ∙ ap (λ k. (world_step keep w k (world_input (length w.sites) fields)).1) (omega arith)
+      ∙ ap (λ k. (world_step keep w (length before + 1) (world_input k fields)).1) (world_sites keep before sites few))
+
+pub answers_are_a_run : AnswersAreARun
+answers_are_a_run sites keep records some few small = record {
+  text = refl;
+  events = λ k. records_run sites keep (take k records) few;
+  told = λ before later fields is. one_more sites keep before fields few;
+  claims = λ k. records_keep sites keep (take k records) some few small;
+  agree = λ j k a b same.
+      let e = records_run sites keep (take j records) few in
+      let f = records_run sites keep (take k records) few in
+      let same_runs = subst (λ (w : World). SameSet (site w a).log (site (world_at sites keep records k) b).log) e.1 same in
+      let same_logs = subst (λ (v : World). SameSet (site (run keep (record_events sites (take j records)) (start sites)) a).log (site v b).log) f.1 same_runs in
+      ap (λ (w : World). tables_at w a) e.1
+      ∙ equal_tables sites keep (record_events sites (take j records)) some small e.0 sites keep (record_events sites (take k records)) some small f.0 a b same_logs
+      ∙ sym (ap (λ (v : World). tables_at v b) f.1);
+}
+
 -- ---- an audit is answered Agree
 
 has_map : {A B : Type 0} (f : A → B) (xs : List A) (y : B) → Has y (map f xs) → (x : A) × (y ≡ f x)
@@ -150,25 +202,11 @@ are_logs w log h =
 pub logs_agree : (w : World) → Sound w → verdict (logs_of w) ≡ Agree
 logs_agree w s = faultless_agree (logs_of w) (run_faultless w s (logs_of w) (are_logs w)) (run_formed w s (logs_of w) (are_logs w))
 
-answers_more : (keep : ℕ) (records more : List (List (List ℕ))) (w : World) (n : ℕ)
-    → world_answers keep w n (records ++ more) ≡ world_answers keep w n records ++ world_answers keep (world_after keep w n records) (n + length records) more
-unfolding world_answers
-answers_more keep [] more w n = ap (λ k. world_answers keep w k more) (omega arith)
-answers_more keep (fields ∷ rest) more w n =
-    let step = world_step keep w n (world_input (length w.sites) fields) in
-    ap (λ rows. step.1 ++ rows) (answers_more keep rest more step.0 (n + 1))
-    ∙ sym (append_assoc step.1 (world_answers keep step.0 (n + 1) rest) _)
-    ∙ ap (λ k. (step.1 ++ world_answers keep step.0 (n + 1) rest) ++ world_answers keep (world_after keep step.0 (n + 1) rest) k more) (omega arith)
-
 audit_told : (keep : ℕ) (w : World) (n : ℕ) (fields : List (List ℕ)) → Sound w → world_input (length w.sites) fields ≡ Audit
     → world_answers keep w n (fields ∷ []) ≡ verdict_record Agree ∷ []
 unfolding world_answers
 audit_told keep w n fields s is =
     ap (λ (input : WorldInput). (world_step keep w n input).1 ++ []) is ∙ ap (λ v. verdict_record v ∷ []) (logs_agree w s)
-
-after_sites : (keep : ℕ) (es : List Event) (w : World) → length (run keep es w).sites ≡ length w.sites
-after_sites keep [] w = refl
-after_sites keep (e ∷ es) w = after_sites keep es (happens keep w e).0 ∙ event_sites keep w e
 
 pub audits_agree : AuditsAgree
 audits_agree sites keep records fields some few small is =

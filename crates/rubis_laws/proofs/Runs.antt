@@ -62,13 +62,18 @@ pub is_log : (w : World) (i : ℕ) → IsLogOf w (log_at w i)
 is_log w i = record { messages = refl; rows = tt }
 
 pub in_run : (keep : ℕ) (w : World) → keep ≤ 1000000 → Room keep w → Sound w → InRun w
-in_run keep w few room s = record { in_order = in_order w s; invariants = invariants }
+in_run keep w few room s = record { in_order = in_order w s; invariants = invariants; agree = same_tables }
   where
     at : (i : ℕ) → Checked (cores (site w i).log)
     at i = log_checked w i s
 
     means : (i : ℕ) → IsMeaning (cores (site w i).log) (fold_of (cores (site w i).log)).tables × ((fold_of (cores (site w i).log)).misfits ≡ [])
     means i = fold_is_meaning (cores (site w i).log) (at i) (short keep w i few room)
+
+    same_tables : (i j : ℕ) → SameSet (site w i).log (site w j).log → tables_at w i ≡ tables_at w j
+    same_tables i j same =
+        equal_sets_equal_tables (cores (site w i).log) (cores (site w j).log) (at i) (at j) (short keep w i few room) (short keep w j few room)
+        (same_cores (site w i).log (site w j).log same)
 
     invariants : KeepInvariants (Sent w) (IsLogOf w)
     invariants = record {

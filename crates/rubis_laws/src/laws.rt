@@ -10,11 +10,11 @@ ghost use Rattle.rubis_model.specs.Lack.{CompletedTablesAreEqual, LackIsReleased
 ghost use Rattle.rubis_model.specs.LackRecords.{LackFollowsTheAudit};
 ghost use Rattle.rubis_model.specs.Widening.{MeaningStays, VerdictStays, WidenedAreAmong};
 ghost use Rattle.rubis_model.specs.WidenedRecords.{AuditStays};
-ghost use Rattle.rubis_model.specs.Laws.{MeaningIsOne, FoldIsMeaning, CheckedLogsHold, DecidedShadowsFit, EqualSetsEqualTables, RunsAreInOrder, RunsKeepInvariants, RunsAgreeOnTables, RunsSendDeliverables, RefusalsChangeNothing, FaultlessLogsAreSound, RunsAreFaultless, AgreesWhereFaultless, AgreedLogsAreSound, RunsAgree};
+ghost use Rattle.rubis_model.specs.Laws.{LogsOnlyGrow, MeaningIsOne, FoldIsMeaning, CheckedLogsHold, DecidedShadowsFit, EqualSetsEqualTables, RunsAreInOrder, RunsKeepInvariants, RunsAgreeOnTables, RunsSendDeliverables, RefusalsChangeNothing, FaultlessLogsAreSound, RunsAreFaultless, AgreesWhereFaultless, AgreedLogsAreSound, RunsAgree};
 ghost use Rattle.rubis_model.specs.Nicknames.{NicknamesAreUnique, RedsAreInOneOrder};
 ghost use Rattle.rubis_model.specs.Processes.{ProcessesAgree, ProcessesAgreeOnTables, ProcessesAreARun, ProcessesAreInRun, ProcessesConverge, ProcessesKeepInvariants, ProcessesKnowTheirOwn};
 ghost use Rattle.rubis_model.specs.Rebuild.{InputsRebuild, SitesAreRebuilt};
-ghost use Rattle.rubis_model.specs.RecordedRuns.{AuditsAgree, RecordsAreARun, RecordsKeepInvariants};
+ghost use Rattle.rubis_model.specs.RecordedRuns.{AnswersAreARun, AuditsAgree, RecordsAreARun, RecordsKeepInvariants};
 ghost use Rattle.rubis_model.specs.Restarts.{AnswersStay, NewRecordsAreRead, NothingIsLeftOut, ReadingsAreMoments, RecordingsReplay, RestartedAgree, RestartedConverge, RestartsChangeNothing};
 
 /// A log that passes the checks folds without misfit to the meaning of its set, and there is only one.
@@ -58,6 +58,11 @@ pub fn every_run_keeps_invariants()
 /// Logs with equal sets have equal tables, at any two sites and moments of any two runs.
 pub fn every_run_agrees_on_tables()
     ensures { RunsAgreeOnTables }
+{}
+
+/// Whatever happens afterwards, what a site has released stays in its log, in its place.
+pub fn logs_only_grow()
+    ensures { LogsOnlyGrow }
 {}
 
 /// A site that has every message that was sent has released them all, and such sites have equal tables; if sites keep as many
@@ -152,12 +157,13 @@ pub fn agreed_audits_are_sound()
     ensures { AgreedAuditsAreSound }
 {}
 
-/// The records of several sites are a run of them: after any records the claims of every run hold, and an audit is answered
-/// Agree.
+/// The records of several sites are a run of them: after any records the claims of every run hold, an audit is answered
+/// Agree, and the answers are the text of that run.
 pub fn records_are_a_run()
     ensures run { RecordsAreARun }
     ensures invariants { RecordsKeepInvariants }
     ensures audits { AuditsAgree }
+    ensures text { AnswersAreARun }
 {}
 
 /// Over all sites of a run, nicknames are unique: at each point of the one order of its red messages, no nickname has two users.

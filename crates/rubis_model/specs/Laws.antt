@@ -133,10 +133,12 @@ known_at w i = cores (site w i).log
 abbrev pub tables_at : World → ℕ → Tables
 tables_at w i = (fold_of (known_at w i)).tables
 
--- in each log and over all sites, the invariants hold
+-- what every run keeps: all logs are in one order, in each log and over all sites the invariants hold, and two sites that
+-- have the same messages have equal tables
 pub record InRun (w : World) : Type 0 where
   pub in_order : InOrder w
   pub invariants : KeepInvariants (Sent w) (IsLogOf w)
+  pub agree : (i j : ℕ) → SameSet (site w i).log (site w j).log → tables_at w i ≡ tables_at w j
 
 -- what any events at n sites lead to, where each site keeps at most `keep` messages
 abbrev pub EveryRun : (World → Type 0) → Type 0
@@ -154,6 +156,11 @@ RunsKeepInvariants = EveryRun InRun
 abbrev pub RunsSendDeliverables : Type 0
 RunsSendDeliverables =
     (n keep : ℕ) (events : List Event) → 1 ≤ n → n ≤ 16 → keep ≤ 1000000 → AreEvents n events → AllDeliverable n (run keep events (start n)).sent
+
+-- a log only grows: what a site has released stays there, in its place, whatever happens afterwards
+abbrev pub LogsOnlyGrow : Type 0
+LogsOnlyGrow = (n keep : ℕ) (events more : List Event) (i : ℕ)
+    → (later : List Message) × ((site (run keep events (start n)) i).log ++ later ≡ (site (run keep (events ++ more) (start n)) i).log)
 
 -- equal sets of messages have equal tables, at any two sites and moments, even of two runs
 abbrev pub RunsAgreeOnTables : Type 0
