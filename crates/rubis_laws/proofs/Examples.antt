@@ -16,7 +16,7 @@ use Rattle.rubis_shadow.specs.declared.shadows.NewItem.{NewItem}
 use Rattle.rubis_shadow.specs.declared.shadows.Shadow.{Shadow}
 use Rattle.rubis_shadow.specs.declared.shadows.Shadow.TheVariants as shadow
 use Rattle.rubis_shadow.specs.Changes.{better}
-use Rattle.rubis_schema.specs.NumberForms.{number_of}
+use Rattle.rubis_numbers.specs.Numbers.{number_of}
 use Rattle.rubis_message.specs.Forms.{take_site}
 use Rattle.rubis_message.specs.Message.{Message}
 use Rattle.rubis_message.specs.Readings.{request_of, take_kind, take_request}

@@ -4,7 +4,7 @@ use Rattle.std.specs.Prelude.{bytes_eq, codes, unwrap_or}
 use Rattle.std.specs.Fmt.{digits}
 use Rattle.std.proofs.lemmas.Bool.{cases_eq}
 use mathlib.Core.Bool.{true≢false}
-use Rattle.rubis_schema.specs.NumberForms.{number_of}
+use Rattle.rubis_numbers.specs.Numbers.{number_of}
 use Rattle.rubis_schema.specs.FieldForms.{nick_of}
 use Rattle.rubis_shadow.specs.declared.asks.Ask.TheVariants as ask
 use Rattle.rubis_generate.specs.Decision.{decision}

@@ -4,7 +4,7 @@ use Rattle.std.specs.Prelude.{◌⊎◌, codes}
 use Rattle.std.specs.Fmt.{digits}
 use Rattle.std.proofs.lemmas.Bool.{cases_eq}
 use Rattle.std.proofs.lemmas.Option.{same_Some}
-use Rattle.rubis_schema.specs.NumberForms.{number_of}
+use Rattle.rubis_numbers.specs.Numbers.{number_of}
 use Rattle.rubis_schema.specs.FieldForms.{name_of, nick_of}
 use Rattle.rubis_schema.specs.FieldForms.{id_of}
 use Rattle.rubis_schema.specs.Tables.{Tables}

@@ -1,7 +1,7 @@
 //! Each limit as a number. Elsewhere contracts and definitions name the constants, and would hold of any others.
 
 ghost use Rattle.std.specs.Prelude.{◌≡◌};
-ghost use Rattle.rubis_schema.specs.NumberForms.{RATING_MAX};
+ghost use Rattle.rubis_numbers.specs.declared.numbers.TheConstants.{RATING_MAX};
 ghost use Rattle.rubis_schema.specs.declared.limits.TheConstants.{SITES_MAX, COUNTED_MAX, SHARDS_MAX, WORKERS_MAX, BATCH_MAX, KEEP_MAX, RECORDS_MAX, SEQ_MAX, COUNT_MAX, TURN_MAX, PASS_MAX, QUANTITY_MAX, AMOUNT_MAX, CATEGORIES, CAT_MAX, NICK_MAX, NAME_MAX, TEXT_MAX};
 
 /// The limits of the records, of the tables and of a run are these numbers. Amounts are those of bids, start prices and prices
