@@ -1,5 +1,5 @@
 -- The logs of a run only grow.
-use Rattle.std.proofs.Common.{ℕ, ◌<◌, List, [], ◌∷◌, ◌++◌, length, refl, sym, ap, ◌∙◌, Option, Some, None, get_or, set}
+use Rattle.std.proofs.Common.{ℕ, ◌≡◌, ◌<◌, List, [], ◌∷◌, ◌++◌, length, refl, sym, ap, ◌∙◌, Option, Some, None, get_or, set}
 use Rattle.rubis_generate.specs.Decision.{decision}
 use Rattle.rubis_message.specs.declared.requests.Request.{Request}
 use Rattle.rubis_message.specs.declared.requests.Request.TheVariants as request
@@ -40,7 +40,7 @@ event_all keep w (At i r) = at_one (AllGrow w) w i (requested keep w i r) (none_
 event_all keep w (Deliver i k) = at_one (AllGrow w) w i (coming keep w i (packet_at w.sent k)) (none_grows w) (coming_all keep w i (packet_at w.sent k))
 
 run_all : (keep : ℕ) (es : List Event) (w : World) → AllGrow w (run keep es w)
-run_all keep [] w = none_grows w
+run_all keep [] w j = none_grows w j
 run_all keep (e ∷ es) w j =
     let v = (happens keep w e).0 in
     grows_twice (site w j) (site v j) (site (run keep es v) j) (event_all keep w e j) (run_all keep es v j)

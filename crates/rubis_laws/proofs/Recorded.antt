@@ -1,10 +1,10 @@
 -- The records of several sites are a run of them.
-use Rattle.std.proofs.Common.{ℕ, ◌≡◌, ◌+◌, ◌^◌, ◌<◌, List, [], ◌∷◌, ◌++◌, length, refl, sym, ap, ◌∙◌, subst, arith, Option, Some, None, ⊎_elim, append_assoc, append-nil}
+use Rattle.std.proofs.Common.{ℕ, ◌≡◌, ◌+◌, ◌^◌, ◌<◌, ◌≤◌, List, [], ◌∷◌, ◌++◌, length, refl, sym, ap, ◌∙◌, subst, arith, Option, Some, None, ⊎_elim, append_assoc, append-nil}
 use Rattle.std.specs.Prelude.{IfSome, codes, map, option_and_then, take, unwrap_or}
 use Rattle.std.specs.List.{range_with_len}
 use Rattle.std.specs.Option.{option_or}
 use Rattle.std.proofs.lemmas.Option.{same_Some}
-use Rattle.rubis_schema.specs.declared.limits.TheConstants.{RECORDS_MAX}
+use Rattle.rubis_schema.specs.declared.limits.TheConstants.{COUNTED_MAX, RECORDS_MAX}
 use Rattle.rubis_message.specs.Forms.{Form, followed_by, no_more, take_number, take_site, whole}
 use Rattle.rubis_message.specs.Readings.{request_of}
 use Rattle.rubis_message.specs.WorldReadings.{IsWorldInput, asked_with, request_at, take_at, take_audit, take_delivery, take_word, world_input}

@@ -9,13 +9,13 @@ use Rattle.rubis_model.specs.Settle.{Has}
 use Rattle.rubis_model.specs.References.{RefersToPast}
 use Rattle.rubis_model.specs.System.{World, Event, AreEvents, site, run, start}
 use Rattle.rubis_model.specs.Sound.{AllDeliverable, Sound, Room}
-use Rattle.rubis_model.specs.Checks.{Checked}
+use Rattle.rubis_model.specs.Checks.{Checked, SameSet}
 use Rattle.rubis_model.specs.Claims.{KeepInvariants}
 use Rattle.rubis_model.specs.Invariants.{Holds}
 use Rattle.rubis_model.specs.Logs.{Log}
 use Rattle.rubis_model.specs.Meaning.{IsMeaning, item_at, supply}
 use Rattle.rubis_model.specs.Site.{rows_at}
-use Rattle.rubis_model.specs.Laws.{Sent, IsLogOf, InRun, RunsAreInOrder, RunsKeepInvariants, RunsAgreeOnTables, RunsSendDeliverables}
+use Rattle.rubis_model.specs.Laws.{tables_at, Sent, IsLogOf, InRun, RunsAreInOrder, RunsKeepInvariants, RunsAgreeOnTables, RunsSendDeliverables}
 use Rattle.rubis_laws.proofs.FoldIsMeaning.{fold_is_meaning}
 use Rattle.rubis_laws.proofs.EqualSets.{equal_sets_equal_tables}
 use Rattle.rubis_laws.proofs.Invariants.{checked_holds}
