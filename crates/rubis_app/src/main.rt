@@ -16,8 +16,10 @@ use clap::Error;
 use rubis_audit::{run_audit_to_exit, run_lack, run_widen};
 use rubis_cli::{KeepOptions, OptionFault, Options, Run, Setup, Widening, read_options};
 use rubis_keep::{FolderFault, Setup as Place, Wanted, keep_folder};
-use rubis_schema::{Hashes, SITES_MAX};
-use rubis_world::{Config, Count, RunFault, WorldConfig, run_site_to_exit, run_world_to_exit};
+use rubis_schema::{Hashes, RECORDS_MAX, SITES_MAX};
+use rubis_world::{
+    Config, Count, Desk, Free, RunFault, WorldConfig, WorldDesk, run_desk, run_world_desk,
+};
 use std::fs::{File, Files};
 use std::io::ErrorKind;
 use std::process::ExitCode;
@@ -25,7 +27,7 @@ use std::random::RandomSource;
 use std::rt::Clock;
 use std::sync::Wait;
 use std::thread::Threads;
-use std::{env, io};
+use std::{env, io, mem};
 
 /// The status of a run that a fault ended.
 const FAULT: u8 = 1;
@@ -85,6 +87,25 @@ fn config_of(options: &Options) -> Option<Config>
     )
 }
 
+// Answers the records of a site. The site isn't taken apart afterwards: the process ends, and its memory goes back at once.
+fn answer_site<R: Print + Input + AllocGlobal + Threads + Wait + Sync>(
+    rt: &R,
+    config: &Config,
+) -> Result<Count, RunFault> {
+    let mut desk = Desk::new(rt.alloc(), config, Free)?;
+    let mut writer = io::writer(rt);
+    let ended = run_desk(
+        rt,
+        rt.alloc(),
+        rt.reader(),
+        &mut writer,
+        &mut desk,
+        RECORDS_MAX,
+    );
+    mem::forget(desk);
+    ended
+}
+
 // Runs a site over standard input and output.
 fn run<R: Print + Eprint + Input + AllocGlobal + RandomSource + Threads + Wait + Sync>(
     rt: &R,
@@ -97,9 +118,7 @@ fn run<R: Print + Eprint + Input + AllocGlobal + RandomSource + Threads + Wait +
         return misuse(rt, "site must be below sites");
     };
     let config = config.with_hashes(Hashes::random(rt));
-    let mut writer = io::writer(rt);
-    let ended = run_site_to_exit(rt, rt.alloc(), rt.reader(), &mut writer, &config);
-    end(rt, ended)
+    end(rt, answer_site(rt, &config))
 }
 
 // The configuration of several sites, if each number is within its limits.
@@ -115,6 +134,25 @@ fn world_config_of(setup: &Setup) -> Option<WorldConfig>
     )
 }
 
+// Answers the records of several sites. They aren't taken apart afterwards.
+fn answer_world<R: Print + Input + AllocGlobal + Threads + Wait + Sync>(
+    rt: &R,
+    config: &WorldConfig,
+) -> Result<Count, RunFault> {
+    let mut desk = WorldDesk::new(rt.alloc(), config)?;
+    let mut writer = io::writer(rt);
+    let ended = run_world_desk(
+        rt,
+        rt.alloc(),
+        rt.reader(),
+        &mut writer,
+        &mut desk,
+        RECORDS_MAX,
+    );
+    mem::forget(desk);
+    ended
+}
+
 // Runs several sites over standard input and output.
 fn run_sites<R: Print + Eprint + Input + AllocGlobal + RandomSource + Threads + Wait + Sync>(
     rt: &R,
@@ -127,9 +165,7 @@ fn run_sites<R: Print + Eprint + Input + AllocGlobal + RandomSource + Threads + 
         return misuse(rt, "a number isn't within its limits");
     };
     let config = config.with_hashes(Hashes::random(rt));
-    let mut writer = io::writer(rt);
-    let ended = run_world_to_exit(rt, rt.alloc(), rt.reader(), &mut writer, &config);
-    end(rt, ended)
+    end(rt, answer_world(rt, &config))
 }
 
 // Audits the logs of `sites` sites, from standard input to standard output.

@@ -1,10 +1,9 @@
 //! The auditor over a reader and a writer.
 
-ghost use Rattle.std.specs.Prelude.{◌≤◌, IfOk, IfSome, IsErrOf};
-ghost use Rattle.rubis_engine.specs.Accounts.Ending.{AtEnd};
-ghost use Rattle.rubis_engine.specs.Progress.{IsCut, IsDone, IsTooLong, WrotePrefix};
+ghost use Rattle.std.specs.Prelude.{◌≤◌, IfOk, IfSome};
+ghost use Rattle.rubis_engine.specs.Progress.{IsRun};
 ghost use Rattle.rubis_engine.specs.Text.{input_records};
-ghost use Rattle.rubis_schema.specs.declared.limits.TheConstants.{COUNTED_MAX};
+ghost use Rattle.rubis_schema.specs.declared.limits.TheConstants.{COUNTED_MAX, RECORDS_MAX};
 ghost use Rattle.rubis_audit.specs.Running.{audit_account, lack_account};
 ghost use Rattle.rubis_audit.specs.Soundness.{AgreesOnSoundLogs};
 
@@ -32,16 +31,9 @@ pub fn run_audit<R: Read + Drop, W: Write>(
     sites: u8,
 ) -> Result<Count, RunFault>
     requires { sites ≤ COUNTED_MAX }
-    ensures ok { IfOk result (λ count. IfSome (R.remaining reader) (λ input.
-        IsDone (audit_account sites) 4000000 (W.contents writer.old) (W.contents writer.new) (input_records input) count.records)) }
+    ensures run { IsRun (audit_account sites) RECORDS_MAX (R.remaining reader) (W.contents writer.old) (W.contents writer.new) result }
     ensures sound { IfOk result (λ _. IfSome (R.remaining reader) (λ input.
         AgreesOnSoundLogs sites (W.contents writer.old) (W.contents writer.new) (input_records input))) }
-    ensures too_long { IsErrOf result RunFault.TooLong → IfSome (R.remaining reader) (λ input.
-        IsTooLong (audit_account sites) 4000000 (W.contents writer.old) (W.contents writer.new) (input_records input)) }
-    ensures read { IsErrOf result RunFault.Read → IfSome (R.remaining reader) (λ input.
-        IsCut (audit_account sites) (W.contents writer.old) (W.contents writer.new) (input_records input)) }
-    ensures memory { IsErrOf result RunFault.Memory → IfSome (R.remaining reader) (λ input.
-        WrotePrefix ((audit_account sites).text AtEnd) (W.contents writer.old) (W.contents writer.new) (input_records input)) }
 {
     let mut auditor = Auditor::new(alloc, sites, Question::Agreement);
     run_upto(&(), alloc, reader, writer, &mut auditor, RECORDS_MAX)
@@ -60,16 +52,9 @@ pub fn run_audit_to_exit<R: Read + Drop, W: Write>(
     sites: u8,
 ) -> Result<Count, RunFault>
     requires { sites ≤ COUNTED_MAX }
-    ensures ok { IfOk result (λ count. IfSome (R.remaining reader) (λ input.
-        IsDone (audit_account sites) 4000000 (W.contents writer.old) (W.contents writer.new) (input_records input) count.records)) }
+    ensures run { IsRun (audit_account sites) RECORDS_MAX (R.remaining reader) (W.contents writer.old) (W.contents writer.new) result }
     ensures sound { IfOk result (λ _. IfSome (R.remaining reader) (λ input.
         AgreesOnSoundLogs sites (W.contents writer.old) (W.contents writer.new) (input_records input))) }
-    ensures too_long { IsErrOf result RunFault.TooLong → IfSome (R.remaining reader) (λ input.
-        IsTooLong (audit_account sites) 4000000 (W.contents writer.old) (W.contents writer.new) (input_records input)) }
-    ensures read { IsErrOf result RunFault.Read → IfSome (R.remaining reader) (λ input.
-        IsCut (audit_account sites) (W.contents writer.old) (W.contents writer.new) (input_records input)) }
-    ensures memory { IsErrOf result RunFault.Memory → IfSome (R.remaining reader) (λ input.
-        WrotePrefix ((audit_account sites).text AtEnd) (W.contents writer.old) (W.contents writer.new) (input_records input)) }
 {
     let mut auditor = Auditor::new(alloc, sites, Question::Agreement);
     let ended = run_upto(&(), alloc, reader, writer, &mut auditor, RECORDS_MAX);
@@ -91,14 +76,7 @@ pub fn run_lack<R: Read + Drop, W: Write>(
     sites: u8,
 ) -> Result<Count, RunFault>
     requires { sites ≤ COUNTED_MAX }
-    ensures ok { IfOk result (λ count. IfSome (R.remaining reader) (λ input.
-        IsDone (lack_account sites) 4000000 (W.contents writer.old) (W.contents writer.new) (input_records input) count.records)) }
-    ensures too_long { IsErrOf result RunFault.TooLong → IfSome (R.remaining reader) (λ input.
-        IsTooLong (lack_account sites) 4000000 (W.contents writer.old) (W.contents writer.new) (input_records input)) }
-    ensures read { IsErrOf result RunFault.Read → IfSome (R.remaining reader) (λ input.
-        IsCut (lack_account sites) (W.contents writer.old) (W.contents writer.new) (input_records input)) }
-    ensures memory { IsErrOf result RunFault.Memory → IfSome (R.remaining reader) (λ input.
-        WrotePrefix ((lack_account sites).text AtEnd) (W.contents writer.old) (W.contents writer.new) (input_records input)) }
+    ensures { IsRun (lack_account sites) RECORDS_MAX (R.remaining reader) (W.contents writer.old) (W.contents writer.new) result }
 {
     let mut auditor = Auditor::new(alloc, sites, Question::Lacks);
     let ended = run_upto(&(), alloc, reader, writer, &mut auditor, RECORDS_MAX);

@@ -1,10 +1,8 @@
 //! The widening of logs over a reader and a writer.
 
-ghost use Rattle.std.specs.Prelude.{◌≤◌, IfOk, IfSome, IsErrOf};
-ghost use Rattle.rubis_schema.specs.declared.limits.TheConstants.{COUNTED_MAX};
-ghost use Rattle.rubis_engine.specs.Accounts.Ending.{AtEnd};
-ghost use Rattle.rubis_engine.specs.Progress.{IsCut, IsDone, IsTooLong, WrotePrefix};
-ghost use Rattle.rubis_engine.specs.Text.{input_records};
+ghost use Rattle.std.specs.Prelude.{◌≤◌};
+ghost use Rattle.rubis_schema.specs.declared.limits.TheConstants.{COUNTED_MAX, RECORDS_MAX};
+ghost use Rattle.rubis_engine.specs.Progress.{IsRun};
 ghost use Rattle.rubis_audit.specs.Widening.{widening_account};
 
 use crate::widener::Widener;
@@ -31,14 +29,7 @@ pub fn run_widen<R: Read + Drop, W: Write>(
 ) -> Result<Count, RunFault>
     requires up { from ≤ to }
     requires few { to ≤ COUNTED_MAX }
-    ensures ok { IfOk result (λ count. IfSome (R.remaining reader) (λ input.
-        IsDone (widening_account from to) 4000000 (W.contents writer.old) (W.contents writer.new) (input_records input) count.records)) }
-    ensures too_long { IsErrOf result RunFault.TooLong → IfSome (R.remaining reader) (λ input.
-        IsTooLong (widening_account from to) 4000000 (W.contents writer.old) (W.contents writer.new) (input_records input)) }
-    ensures read { IsErrOf result RunFault.Read → IfSome (R.remaining reader) (λ input.
-        IsCut (widening_account from to) (W.contents writer.old) (W.contents writer.new) (input_records input)) }
-    ensures memory { IsErrOf result RunFault.Memory → IfSome (R.remaining reader) (λ input.
-        WrotePrefix ((widening_account from to).text AtEnd) (W.contents writer.old) (W.contents writer.new) (input_records input)) }
+    ensures { IsRun (widening_account from to) RECORDS_MAX (R.remaining reader) (W.contents writer.old) (W.contents writer.new) result }
 {
     let mut widener = Widener::new(alloc, from, to);
     run_upto(&(), alloc, reader, writer, &mut widener, RECORDS_MAX)

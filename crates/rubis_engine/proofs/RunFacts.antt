@@ -257,3 +257,9 @@ ends_so rem run all limit (Some bytes) old new (Err fault.TooLong) gives empty d
 ends_so rem run all limit (Some bytes) old new (Err fault.Read) gives empty done long cut prefix = cut refl bytes gives empty
 ends_so rem run all limit (Some bytes) old new (Err fault.Memory) gives empty done long cut prefix = prefix refl bytes gives empty
 ends_so rem run all limit (Some bytes) old new (Err fault.Write) gives empty done long cut prefix = tt
+
+-- a run that ended well is done
+pub run_done : (all : Account) (limit : ℕ) (input old new : Option (List ℕ)) (result : Result Count RunFault) → IsRun all limit input old new result
+    → IfOk result (λ count. IfSome input (λ bytes. IsDone all limit old new (input_records bytes) count.records))
+run_done all limit input old new (Ok count) h = h
+run_done all limit input old new (Err e) h = tt

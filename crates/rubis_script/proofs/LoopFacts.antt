@@ -18,7 +18,13 @@ use Rattle.rubis_reading.specs.Parsed.{AreParsed, FitsIn}
 use Rattle.rubis_reading.proofs.AheadFacts.{ahead-answered, ahead-kept, ahead-starts, all-fit}
 use Rattle.rubis_reading.specs.declared.parsed.Parsed.{Parsed}
 use Rattle.rubis_replica.specs.State.{SiteState}
-use Rattle.rubis_script.specs.Runs.{HasReadAhead, IsSound, StandsWith}
+use Rattle.rubis_engine.specs.Accounts.Ending.{AtEnd}
+use Rattle.rubis_engine.specs.Progress.{IsCut, IsDone, IsRun, IsTooLong, WrotePrefix}
+use Rattle.rubis_engine.specs.declared.fault.Count.{Count}
+use Rattle.rubis_engine.specs.declared.fault.RunFault.{RunFault}
+use Rattle.rubis_engine.specs.declared.fault.RunFault.TheVariants as fault
+use Rattle.rubis_script.specs.Runs.{HasReadAhead, IsSound, OfEachAhead, StandsWith}
+use Rattle.std.specs.Prelude.{IfOk, IfSome, IsErrOf, Result, Ok, Err, Some, None}
 use Rattle.rubis_script.specs.declared.backlog.Backlog.{Backlog}
 
 -- where nothing is held, nothing is left to be written after the last record
@@ -125,3 +131,20 @@ run-held old_site site w ms left all old now sink sink2 answered many records la
     let number : n + length ms ≡ answered + many + 1 = omega (arith, size) in
     subst (λ k. HasAhead site.place.sites left all (held_by site ms k) old now sink2 k records later) number
     (holds-run site ms [] left all old now sink2 n records later (omega arith) kept)
+
+-- a run that has read nothing ahead so far ends so
+pub ends_ahead : {R : Type 0} (rem : R → Option (List ℕ)) (chunks : Chunks R) (s : SiteState) (b : Backlog) (all : Account) (limit : ℕ)
+    (input old new : Option (List ℕ)) (result : Result Count RunFault)
+    → IfSome input (λ bytes. HasPending rem chunks (input_records bytes))
+    → ((bytes : List ℕ) → HasPending rem chunks (input_records bytes) → HasReadAhead rem chunks s b all old old bytes)
+    → IfOk result (λ count. OfEachAhead rem chunks s b old (λ all old bytes. IsDone all limit old new (input_records bytes) count.records))
+    → (IsErrOf result fault.TooLong → OfEachAhead rem chunks s b old (λ all old bytes. IsTooLong all limit old new (input_records bytes)))
+    → (IsErrOf result fault.Read → OfEachAhead rem chunks s b old (λ all old bytes. IsCut all old new (input_records bytes)))
+    → (IsErrOf result fault.Memory → OfEachAhead rem chunks s b old (λ all old bytes. WrotePrefix (all.text AtEnd) old new (input_records bytes)))
+    → IsRun all limit input old new result
+ends_ahead rem chunks s b all limit None old new result pending starts done long cut prefix = tt
+ends_ahead rem chunks s b all limit (Some bytes) old new (Ok count) pending starts done long cut prefix = done all old bytes (starts bytes pending)
+ends_ahead rem chunks s b all limit (Some bytes) old new (Err fault.TooLong) pending starts done long cut prefix = long refl all old bytes (starts bytes pending)
+ends_ahead rem chunks s b all limit (Some bytes) old new (Err fault.Read) pending starts done long cut prefix = cut refl all old bytes (starts bytes pending)
+ends_ahead rem chunks s b all limit (Some bytes) old new (Err fault.Memory) pending starts done long cut prefix = prefix refl all old bytes (starts bytes pending)
+ends_ahead rem chunks s b all limit (Some bytes) old new (Err fault.Write) pending starts done long cut prefix = tt

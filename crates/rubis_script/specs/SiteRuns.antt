@@ -1,7 +1,7 @@
 -- What a site makes of its records.
 use Rattle.std.specs.Prelude.{ℕ, length}
 use Rattle.rubis_model.specs.Runs.{answers}
-use Rattle.rubis_model.specs.Site.{Place, Replica}
+use Rattle.rubis_model.specs.Site.{Place, Replica, opening_at}
 use Rattle.rubis_replica.specs.State.{SiteState}
 use Rattle.rubis_engine.specs.Accounts.{Account}
 use Rattle.rubis_engine.specs.Text.{rows_text}
@@ -10,6 +10,10 @@ use Rattle.rubis_engine.specs.Text.{rows_text}
 -- them
 abbrev pub site_account : Place → Replica → ℕ → Account
 site_account p s n = record { text = λ ending records. rows_text (answers p s n records); read = λ records. length records }
+
+-- what a site with nothing done makes of its records: the text of `output_of`
+abbrev pub answers_of : Place → Account
+answers_of p = site_account p (opening_at p.site) 1
 
 -- what is still to be made at a site
 abbrev pub told_by : SiteState → ℕ → Account

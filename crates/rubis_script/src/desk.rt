@@ -21,6 +21,7 @@ ghost use Rattle.rubis_engine.specs.Text.{rows_text};
 ghost use Rattle.rubis_script.specs.Windows.{AreHeld, held_by};
 ghost use Rattle.rubis_engine.specs.declared.service.Course.TheVariants as Course;
 
+use crate::plan::Plan;
 use crate::replies::{
     write_arrival, write_listed_text, write_passed, write_refusal, write_sent, write_taken,
 };
@@ -182,6 +183,8 @@ pub struct Desk<G: Gate = Free> {
     sites: u8,
     // How many messages are taken in together.
     window: usize,
+    /// How it reads ahead.
+    pub plan: Plan,
     alloc: Global,
     ghost same: { sites ≡ site.place.sites },
     ghost few: { sites ≤ 16 },
@@ -196,6 +199,7 @@ impl<G: Gate + Drop> Desk<G> {
             site: Site::new(alloc, config, gate)?,
             sites: config.sites(),
             window: window_of(config),
+            plan: Plan::of(config),
             alloc,
         })
     }

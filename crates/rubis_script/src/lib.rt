@@ -5,16 +5,16 @@
 mod answering;
 mod backlog;
 mod desk;
-mod desk_site_run;
 mod laws;
 mod overlap;
+mod plan;
 mod replies;
 mod run;
 mod site_run;
+mod turns;
 mod windows;
 
 pub use desk::Desk;
-pub use desk_site_run::run_desk;
 pub use laws::replays_go_on;
 pub use replies::{
     write_arrival, write_handed_on, write_listed, write_listed_text, write_passed, write_refusal,
@@ -22,5 +22,5 @@ pub use replies::{
 };
 pub use rubis_engine::{Count, RunFault};
 pub use rubis_replica::{Arrived, Config, Fault, Free, Gate, Site};
-pub use run::run_desk_by;
-pub use site_run::{run_site, run_site_to_exit, run_site_upto};
+pub use run::run_desk;
+pub use site_run::{run_site, run_site_upto};

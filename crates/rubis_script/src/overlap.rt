@@ -10,6 +10,7 @@ ghost use Rattle.rubis_reading.specs.Runs.{flat};
 use crate::answering::answer_all;
 use crate::backlog::Backlog;
 use crate::desk::Desk;
+use crate::plan::Plan;
 use rubis_engine::OutOfMemory;
 use rubis_reading::{Run, read_parts, read_piece};
 use rubis_replica::Gate;
@@ -19,15 +20,6 @@ use std::thread::{Threads, join_mut};
 
 // How long a piece is at most for which no thread is started: what a pipe hands over at once.
 const SMALL: usize = 65_536;
-
-/// How a text is read ahead.
-#[derive(Clone, Copy)]
-pub struct Plan {
-    /// How many threads read a chunk, beside the one that answers.
-    pub readers: usize,
-    /// How many messages are taken in together, at most.
-    pub window: usize,
-}
 
 // Reads the records of a piece of text by other threads, while the desk answers all that was read ahead on this one.
 fn read_beside<G: Gate, T: Threads + Wait + Sync>(

@@ -5,7 +5,7 @@ ghost use Rattle.rubis_script.specs.Runs.{GoesOnWriting, HasReadAhead, IsSound, 
 ghost use Rattle.rubis_script.specs.SiteRuns.{told_by};
 ghost use Rattle.rubis_engine.specs.Accounts.Ending.{AtEnd};
 ghost use Rattle.rubis_engine.specs.Accounts.{Account};
-ghost use Rattle.rubis_engine.specs.Progress.{IsCut, IsDone, IsTooLong, WrotePrefix};
+ghost use Rattle.rubis_engine.specs.Progress.{IsCut, IsDone, IsRun, IsTooLong, WrotePrefix};
 ghost use Rattle.rubis_engine.specs.Text.{input_records};
 ghost use Rattle.rubis_reading.specs.Chunked.{HasPending, held_text};
 ghost use Rattle.rubis_reading.specs.Streams.{IsWhole};
@@ -13,11 +13,12 @@ ghost use Rattle.rubis_reading.specs.Streams.{IsWhole};
 use crate::answering::{answer_all, answer_some};
 use crate::backlog::Backlog;
 use crate::desk::Desk;
-use crate::desk_site_run::run_desk;
-use crate::overlap::{Plan, read_next};
+use crate::overlap::read_next;
+use crate::plan::Plan;
+use crate::turns::run_in_turn;
 use rubis_engine::{Count, OutOfMemory, RunFault};
 use rubis_reading::{Ahead, ChunkFault, Chunks, read_parts};
-use rubis_replica::{Config, Gate};
+use rubis_replica::Gate;
 use std::alloc::Global;
 use std::io::{Read, Write};
 use std::mem;
@@ -40,14 +41,6 @@ fn chunk_of(held: usize, ahead: usize) -> usize {
         .min(ahead.saturating_mul(128))
         .max(CHUNK_MIN)
         .min(CHUNK_MAX)
-}
-
-// How a site of that configuration reads ahead: half of its workers read, and a window has at most as many messages as a batch.
-fn plan_of(config: &Config) -> Plan {
-    Plan {
-        readers: usize::from(config.workers()) / 2,
-        window: config.batch() as usize,
-    }
 }
 
 // Where the records come from.
@@ -373,28 +366,20 @@ fn serve<G: Gate, T: Threads + Wait + Sync, R: Read, W: Write>(
     Err(RunFault::Memory)
 }
 
-// Runs the desk of a site as `run_desk` does. While records are answered, those of the next chunk of text are read by other
+// Runs the desk of a site as `run_desk` does: while records are answered, those of the next chunk of text are read by other
 // threads.
-fn run_desk_ahead<G: Gate, T: Threads + Wait + Sync, R: Read + Drop, W: Write>(
+fn run_ahead<G: Gate, T: Threads + Wait + Sync, R: Read + Drop, W: Write>(
     rt: &T,
     alloc: Global,
     reader: R,
     writer: &mut W,
     desk: &mut Desk<G>,
     limit: u64,
-    plan: Plan,
 ) -> Result<Count, RunFault>
     requires { limit + 1 < 2 ^ 64 }
-    ensures ok { IfOk result (λ count. IfSome (R.remaining reader) (λ input.
-        IsDone (told_by desk.old.site 1) limit (W.contents writer.old) (W.contents writer.new) (input_records input) count.records)) }
-    ensures too_long { IsErrOf result RunFault.TooLong → IfSome (R.remaining reader) (λ input.
-        IsTooLong (told_by desk.old.site 1) limit (W.contents writer.old) (W.contents writer.new) (input_records input)) }
-    ensures read { IsErrOf result RunFault.Read → IfSome (R.remaining reader) (λ input.
-        IsCut (told_by desk.old.site 1) (W.contents writer.old) (W.contents writer.new) (input_records input)) }
-    ensures memory { IsErrOf result RunFault.Memory → IfSome (R.remaining reader) (λ input.
-        WrotePrefix ((told_by desk.old.site 1).text AtEnd) (W.contents writer.old) (W.contents writer.new) (input_records input)) }
+    ensures { IsRun (told_by desk.old.site 1) limit (R.remaining reader) (W.contents writer.old) (W.contents writer.new) result }
 {
-    let mut source = Source::new(alloc, reader, plan);
+    let mut source = Source::new(alloc, reader, desk.plan);
     let mut backlog = Backlog::new(alloc);
     serve(rt, &mut source, desk, &mut backlog, writer, limit)
 }
@@ -408,27 +393,18 @@ fn run_desk_ahead<G: Gate, T: Threads + Wait + Sync, R: Read + Drop, W: Write>(
 /// `Read` if the reader failed: the first records are answered then, as if there were no more. `Write` if the writer
 /// failed. `Memory` if memory ran out: what was written is a prefix of the whole text. `TooLong` if the input has more
 /// than `limit` records: the first `limit` are answered then.
-pub fn run_desk_by<G: Gate, T: Threads + Wait + Sync, R: Read + Drop, W: Write>(
+pub fn run_desk<G: Gate, T: Threads + Wait + Sync, R: Read + Drop, W: Write>(
     rt: &T,
     alloc: Global,
     reader: R,
     writer: &mut W,
     desk: &mut Desk<G>,
     limit: u64,
-    config: &Config,
 ) -> Result<Count, RunFault>
-    ensures ok { IfOk result (λ count. IfSome (R.remaining reader) (λ input.
-        IsDone (told_by desk.old.site 1) limit (W.contents writer.old) (W.contents writer.new) (input_records input) count.records)) }
-    ensures too_long { IsErrOf result RunFault.TooLong → IfSome (R.remaining reader) (λ input.
-        IsTooLong (told_by desk.old.site 1) limit (W.contents writer.old) (W.contents writer.new) (input_records input)) }
-    ensures read { IsErrOf result RunFault.Read → IfSome (R.remaining reader) (λ input.
-        IsCut (told_by desk.old.site 1) (W.contents writer.old) (W.contents writer.new) (input_records input)) }
-    ensures memory { IsErrOf result RunFault.Memory → IfSome (R.remaining reader) (λ input.
-        WrotePrefix ((told_by desk.old.site 1).text AtEnd) (W.contents writer.old) (W.contents writer.new) (input_records input)) }
+    ensures { IsRun (told_by desk.old.site 1) limit (R.remaining reader) (W.contents writer.old) (W.contents writer.new) result }
 {
-    if config.workers() > 1 && limit < u64::MAX {
-        let plan = plan_of(config);
-        return run_desk_ahead(rt, alloc, reader, writer, desk, limit, plan);
+    if desk.plan.readers > 0 && limit < u64::MAX {
+        return run_ahead(rt, alloc, reader, writer, desk, limit);
     }
-    run_desk(rt, alloc, reader, writer, desk, limit)
+    run_in_turn(rt, alloc, reader, writer, desk, limit)
 }

@@ -1,20 +1,17 @@
 //! A site over a reader and a writer, from its configuration.
 
-ghost use Rattle.std.specs.Prelude.{◌≡◌, ◌≤◌, ◌<◌, ℕ, IfOk, IfSome, IsErrOf, length, take};
-ghost use Rattle.std.specs.Io.KnownBytes.{Appends};
-ghost use Rattle.rubis_model.specs.Runs.{output_of};
+ghost use Rattle.rubis_engine.specs.Progress.{IsRun};
 ghost use Rattle.rubis_replica.specs.Setup.{setup_place};
-ghost use Rattle.rubis_engine.specs.Progress.{WrotePrefix};
-ghost use Rattle.rubis_engine.specs.Text.{input_records, rows_text};
+ghost use Rattle.rubis_schema.specs.declared.limits.TheConstants.{RECORDS_MAX};
+ghost use Rattle.rubis_script.specs.SiteRuns.{answers_of};
 
 use crate::desk::Desk;
-use crate::run::run_desk_by;
+use crate::run::run_desk;
 use rubis_engine::{Count, RunFault};
 use rubis_replica::{Config, Free, Gate};
 use rubis_schema::RECORDS_MAX;
 use std::alloc::Global;
 use std::io::{Read, Write};
-use std::mem;
 use std::sync::Wait;
 use std::thread::Threads;
 
@@ -36,19 +33,10 @@ pub fn run_site_upto<G: Gate + Drop, T: Threads + Wait + Sync, R: Read + Drop, W
     limit: u64,
     gate: G,
 ) -> Result<Count, RunFault>
-    ensures ok { IfOk result (λ count. IfSome (R.remaining reader) (λ input.
-        Appends (W.contents writer.old) (W.contents writer.new) (rows_text (output_of (setup_place config.now) (input_records input)))
-        × (count.records ≡ length (input_records input)) × (count.records ≤ limit))) }
-    ensures too_long { IsErrOf result RunFault.TooLong → IfSome (R.remaining reader) (λ input.
-        Appends (W.contents writer.old) (W.contents writer.new) (rows_text (output_of (setup_place config.now) (take limit (input_records input))))
-        × (limit < length (input_records input))) }
-    ensures read { IsErrOf result RunFault.Read → IfSome (R.remaining reader) (λ input.
-        (k : ℕ) × Appends (W.contents writer.old) (W.contents writer.new) (rows_text (output_of (setup_place config.now) (take k (input_records input))))) }
-    ensures memory { IsErrOf result RunFault.Memory → IfSome (R.remaining reader) (λ input.
-        WrotePrefix (λ records. rows_text (output_of (setup_place config.now) records)) (W.contents writer.old) (W.contents writer.new) (input_records input)) }
+    ensures { IsRun (answers_of (setup_place config.now)) limit (R.remaining reader) (W.contents writer.old) (W.contents writer.new) result }
 {
     let mut desk = Desk::new(alloc, config, gate)?;
-    run_desk_by(rt, alloc, reader, writer, &mut desk, limit, config)
+    run_desk(rt, alloc, reader, writer, &mut desk, limit)
 }
 
 /// Runs a site over at most 4,000,000 records, as `run_site_upto`.
@@ -63,46 +51,7 @@ pub fn run_site<T: Threads + Wait + Sync, R: Read + Drop, W: Write>(
     writer: &mut W,
     config: &Config,
 ) -> Result<Count, RunFault>
-    ensures ok { IfOk result (λ count. IfSome (R.remaining reader) (λ input.
-        Appends (W.contents writer.old) (W.contents writer.new) (rows_text (output_of (setup_place config.now) (input_records input)))
-        × (count.records ≡ length (input_records input)) × (count.records ≤ 4000000))) }
-    ensures too_long { IsErrOf result RunFault.TooLong → IfSome (R.remaining reader) (λ input.
-        Appends (W.contents writer.old) (W.contents writer.new) (rows_text (output_of (setup_place config.now) (take 4000000 (input_records input))))
-        × (4000000 < length (input_records input))) }
-    ensures read { IsErrOf result RunFault.Read → IfSome (R.remaining reader) (λ input.
-        (k : ℕ) × Appends (W.contents writer.old) (W.contents writer.new) (rows_text (output_of (setup_place config.now) (take k (input_records input))))) }
-    ensures memory { IsErrOf result RunFault.Memory → IfSome (R.remaining reader) (λ input.
-        WrotePrefix (λ records. rows_text (output_of (setup_place config.now) records)) (W.contents writer.old) (W.contents writer.new) (input_records input)) }
+    ensures { IsRun (answers_of (setup_place config.now)) RECORDS_MAX (R.remaining reader) (W.contents writer.old) (W.contents writer.new) result }
 {
     run_site_upto(rt, alloc, reader, writer, config, RECORDS_MAX, Free)
-}
-
-/// Runs a site as `run_site`, for a program that ends with it: the site isn't taken apart, since the process gives its memory
-/// back at once.
-///
-/// # Errors
-///
-/// Those of `run_site`.
-pub fn run_site_to_exit<T: Threads + Wait + Sync, R: Read + Drop, W: Write>(
-    rt: &T,
-    alloc: Global,
-    reader: R,
-    writer: &mut W,
-    config: &Config,
-) -> Result<Count, RunFault>
-    ensures ok { IfOk result (λ count. IfSome (R.remaining reader) (λ input.
-        Appends (W.contents writer.old) (W.contents writer.new) (rows_text (output_of (setup_place config.now) (input_records input)))
-        × (count.records ≡ length (input_records input)) × (count.records ≤ 4000000))) }
-    ensures too_long { IsErrOf result RunFault.TooLong → IfSome (R.remaining reader) (λ input.
-        Appends (W.contents writer.old) (W.contents writer.new) (rows_text (output_of (setup_place config.now) (take 4000000 (input_records input))))
-        × (4000000 < length (input_records input))) }
-    ensures read { IsErrOf result RunFault.Read → IfSome (R.remaining reader) (λ input.
-        (k : ℕ) × Appends (W.contents writer.old) (W.contents writer.new) (rows_text (output_of (setup_place config.now) (take k (input_records input))))) }
-    ensures memory { IsErrOf result RunFault.Memory → IfSome (R.remaining reader) (λ input.
-        WrotePrefix (λ records. rows_text (output_of (setup_place config.now) records)) (W.contents writer.old) (W.contents writer.new) (input_records input)) }
-{
-    let mut desk = Desk::new(alloc, config, Free)?;
-    let ended = run_desk_by(rt, alloc, reader, writer, &mut desk, RECORDS_MAX, config);
-    mem::forget(desk);
-    ended
 }

@@ -2,7 +2,7 @@
 use Rattle.std.specs.Prelude.{◌≡◌, ◌++◌, ℕ, List, length, Result, Ok, Err}
 use Rattle.rubis_schema.specs.declared.refusals.Refusal.{Refusal}
 use Rattle.rubis_schema.specs.declared.refusals.Refusal.TheVariants as refusal
-use Rattle.rubis_model.specs.System.{World}
+use Rattle.rubis_model.specs.System.{World, start}
 use Rattle.rubis_model.specs.WorldRecords.{world_answers}
 use Rattle.rubis_script.specs.Replica.fault_variants as fault
 use Rattle.rubis_engine.specs.Accounts.{Account}
@@ -29,6 +29,10 @@ IsTold old new step before after = ComesTo old new step.0 × (after ≡ before +
 -- however the run ends after some records, from record n on, its text is that of the answers to them; it reads all of them
 abbrev pub world_account : ℕ → World → ℕ → Account
 world_account keep w n = record { text = λ ending records. rows_text (world_answers keep w n records); read = λ records. length records }
+
+-- what `sites` sites with nothing done make of their records: the text of `world_output_of`
+abbrev pub answers_of_world : ℕ → ℕ → Account
+answers_of_world sites keep = world_account keep (start sites) 1
 
 -- what is still to be made of a world
 abbrev pub told_by_world : WorldState → ℕ → Account

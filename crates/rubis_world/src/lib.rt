@@ -18,9 +18,9 @@ pub use faults::WorldFault;
 pub use packets::packet;
 pub use rubis_message::Happened;
 pub use rubis_script::{
-    Arrived, Config, Count, Fault, Free, Gate, RunFault, Site, run_site, run_site_to_exit,
+    Arrived, Config, Count, Desk, Fault, Free, Gate, RunFault, Site, run_desk, run_site,
     run_site_upto,
 };
-pub use run::{run_world, run_world_desk, run_world_to_exit};
+pub use run::{run_world, run_world_desk};
 pub use sites::Sites;
 pub use world::World;

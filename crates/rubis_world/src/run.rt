@@ -1,13 +1,11 @@
 //! Several sites over a reader and a writer.
 
-ghost use Rattle.std.specs.Prelude.{◌≡◌, ◌≤◌, ◌<◌, ◌+◌, ◌^◌, ◌⊎◌, ℕ, IfErr, IfNone, IfOk, IfSome, IsErrOf, length, take};
-ghost use Rattle.std.specs.Io.KnownBytes.{Appends};
+ghost use Rattle.std.specs.Prelude.{◌≡◌, ◌≤◌, ◌<◌, ◌+◌, ◌^◌, ◌⊎◌, ℕ, IfErr, IfNone, IfOk, IsErrOf};
 ghost use Rattle.rubis_model.specs.Laws.{InRun};
-ghost use Rattle.rubis_model.specs.WorldRecords.{world_output_of};
 ghost use Rattle.rubis_engine.specs.Accounts.Ending.{AtEnd};
-ghost use Rattle.rubis_engine.specs.Progress.{EndsCut, EndsInPrefix, FromStart, HasMoved, IsCut, IsDone, IsTooLong, WrotePrefix};
-ghost use Rattle.rubis_engine.specs.Text.{input_records, rows_text};
-ghost use Rattle.rubis_world.specs.Running.{told_by_world};
+ghost use Rattle.rubis_engine.specs.Progress.{EndsCut, EndsInPrefix, FromStart, HasMoved, IsCut, IsDone, IsRun, IsTooLong, WrotePrefix};
+ghost use Rattle.rubis_schema.specs.declared.limits.TheConstants.{RECORDS_MAX};
+ghost use Rattle.rubis_world.specs.Running.{answers_of_world, told_by_world};
 
 use crate::config::WorldConfig;
 use crate::desk::WorldDesk;
@@ -15,7 +13,6 @@ use rubis_engine::{Count, Run, RunFault, next_record, stop, write_out};
 use rubis_schema::RECORDS_MAX;
 use std::alloc::Global;
 use std::io::{Read, Write};
-use std::mem;
 use std::sync::Wait;
 use std::thread::Threads;
 
@@ -81,15 +78,8 @@ pub fn run_world_desk<T: Threads + Wait + Sync, R: Read + Drop, W: Write>(
     desk: &mut WorldDesk,
     limit: u64,
 ) -> Result<Count, RunFault>
-    ensures ok { IfOk result (λ count. IfSome (R.remaining reader) (λ input.
-        IsDone (told_by_world desk.old.world 1) limit (W.contents writer.old) (W.contents writer.new) (input_records input) count.records)) }
-    ensures too_long { IsErrOf result RunFault.TooLong → IfSome (R.remaining reader) (λ input.
-        IsTooLong (told_by_world desk.old.world 1) limit (W.contents writer.old) (W.contents writer.new) (input_records input)) }
-    ensures read { IsErrOf result RunFault.Read → IfSome (R.remaining reader) (λ input.
-        IsCut (told_by_world desk.old.world 1) (W.contents writer.old) (W.contents writer.new) (input_records input)) }
-    ensures memory { IsErrOf result RunFault.Memory → IfSome (R.remaining reader) (λ input.
-        WrotePrefix ((told_by_world desk.old.world 1).text AtEnd) (W.contents writer.old) (W.contents writer.new) (input_records input)) }
-    ensures run { InRun desk.new.world.world }
+    ensures run { IsRun (told_by_world desk.old.world 1) limit (R.remaining reader) (W.contents writer.old) (W.contents writer.new) result }
+    ensures claims { InRun desk.new.world.world }
 {
     let mut run = Run::new(alloc, reader);
     let ended = serve(rt, &mut run, desk, writer, limit);
@@ -114,47 +104,8 @@ pub fn run_world<T: Threads + Wait + Sync, R: Read + Drop, W: Write>(
     writer: &mut W,
     config: &WorldConfig,
 ) -> Result<Count, RunFault>
-    ensures ok { IfOk result (λ count. IfSome (R.remaining reader) (λ input.
-        Appends (W.contents writer.old) (W.contents writer.new) (rows_text (world_output_of config.now.sites config.now.keep (input_records input)))
-        × (count.records ≡ length (input_records input)) × (count.records ≤ 4000000))) }
-    ensures too_long { IsErrOf result RunFault.TooLong → IfSome (R.remaining reader) (λ input.
-        Appends (W.contents writer.old) (W.contents writer.new) (rows_text (world_output_of config.now.sites config.now.keep (take 4000000 (input_records input))))
-        × (4000000 < length (input_records input))) }
-    ensures read { IsErrOf result RunFault.Read → IfSome (R.remaining reader) (λ input.
-        (k : ℕ) × Appends (W.contents writer.old) (W.contents writer.new) (rows_text (world_output_of config.now.sites config.now.keep (take k (input_records input))))) }
-    ensures memory { IsErrOf result RunFault.Memory → IfSome (R.remaining reader) (λ input.
-        WrotePrefix (λ records. rows_text (world_output_of config.now.sites config.now.keep records)) (W.contents writer.old) (W.contents writer.new) (input_records input)) }
+    ensures { IsRun (answers_of_world config.now.sites config.now.keep) RECORDS_MAX (R.remaining reader) (W.contents writer.old) (W.contents writer.new) result }
 {
     let mut desk = WorldDesk::new(alloc, config)?;
     run_world_desk(rt, alloc, reader, writer, &mut desk, RECORDS_MAX)
-}
-
-/// Runs several sites as `run_world`, for a program that ends with it: the sites aren't taken apart, since the process gives
-/// their memory back at once.
-///
-/// # Errors
-///
-/// Those of `run_world`.
-pub fn run_world_to_exit<T: Threads + Wait + Sync, R: Read + Drop, W: Write>(
-    rt: &T,
-    alloc: Global,
-    reader: R,
-    writer: &mut W,
-    config: &WorldConfig,
-) -> Result<Count, RunFault>
-    ensures ok { IfOk result (λ count. IfSome (R.remaining reader) (λ input.
-        Appends (W.contents writer.old) (W.contents writer.new) (rows_text (world_output_of config.now.sites config.now.keep (input_records input)))
-        × (count.records ≡ length (input_records input)) × (count.records ≤ 4000000))) }
-    ensures too_long { IsErrOf result RunFault.TooLong → IfSome (R.remaining reader) (λ input.
-        Appends (W.contents writer.old) (W.contents writer.new) (rows_text (world_output_of config.now.sites config.now.keep (take 4000000 (input_records input))))
-        × (4000000 < length (input_records input))) }
-    ensures read { IsErrOf result RunFault.Read → IfSome (R.remaining reader) (λ input.
-        (k : ℕ) × Appends (W.contents writer.old) (W.contents writer.new) (rows_text (world_output_of config.now.sites config.now.keep (take k (input_records input))))) }
-    ensures memory { IsErrOf result RunFault.Memory → IfSome (R.remaining reader) (λ input.
-        WrotePrefix (λ records. rows_text (world_output_of config.now.sites config.now.keep records)) (W.contents writer.old) (W.contents writer.new) (input_records input)) }
-{
-    let mut desk = WorldDesk::new(alloc, config)?;
-    let ended = run_world_desk(rt, alloc, reader, writer, &mut desk, RECORDS_MAX);
-    mem::forget(desk);
-    ended
 }

@@ -3,7 +3,7 @@ use Rattle.rubis_script.specs.SiteRuns.{told_by}
 use Rattle.rubis_script.specs.Windows.{held_by}
 use Rattle.rubis_engine.proofs.RunFacts.{on_ok, on_ok_both, progress-kept}
 use Rattle.rubis_script.proofs.WindowFacts.{progress-told}
-use Rattle.rubis_script.proofs.desk_site_run.pass_on.Goals as goal
+use Rattle.rubis_script.proofs.turns.pass_on.Goals as goal
 
 pub returns-clause-goes : goal.returns-clause-goes
 returns-clause-goes g c =

@@ -1,8 +1,8 @@
-//! The desk of a site over a reader and a writer.
+//! A run of a site that reads each record when those before it are answered.
 
 ghost use Rattle.std.specs.Prelude.{◌≡◌, ◌<◌, ◌+◌, ◌^◌, ◌⊎◌, [], List, Option, IfErr, IfNone, IfOk, IfSome, IsErrOf, OnOk, true};
 ghost use Rattle.rubis_engine.specs.Accounts.Ending.{AtEnd};
-ghost use Rattle.rubis_engine.specs.Progress.{EndsCut, EndsDone, EndsInPrefix, EndsTooLong, FromStart, HasMoved, IsCut, IsDone, IsTooLong, OfEachRun, StandsAt, WrotePrefix};
+ghost use Rattle.rubis_engine.specs.Progress.{EndsCut, EndsDone, EndsInPrefix, EndsTooLong, FromStart, HasMoved, IsCut, IsDone, IsRun, IsTooLong, OfEachRun, StandsAt, WrotePrefix};
 ghost use Rattle.rubis_engine.specs.Reading.{Advances};
 ghost use Rattle.rubis_script.specs.SiteRuns.{told_by};
 ghost use Rattle.rubis_engine.specs.Text.{input_records, rows_text};
@@ -163,15 +163,8 @@ fn serve<G: Gate, T: Threads + Wait + Sync, R: Read, W: Write>(
     stop_at(rt, site_run, desk, writer)
 }
 
-/// Runs the desk of a site over the records of `reader` until its end, or up to `limit` of them: appends the text of its
-/// answers to `writer`. The desk is lent, so that a program can let it go as it likes.
-///
-/// # Errors
-///
-/// `Read` if the reader failed: the first records are answered then, as if there were no more. `Write` if the writer
-/// failed. `Memory` if memory ran out: what was written is a prefix of the whole text. `TooLong` if the input has more
-/// than `limit` records: the first `limit` are answered then.
-pub fn run_desk<G: Gate, T: Threads + Wait + Sync, R: Read + Drop, W: Write>(
+/// Runs the desk of a site as `run_desk` does, on the caller's thread: each record is read when those before it are answered.
+pub fn run_in_turn<G: Gate, T: Threads + Wait + Sync, R: Read + Drop, W: Write>(
     rt: &T,
     alloc: Global,
     reader: R,
@@ -179,14 +172,7 @@ pub fn run_desk<G: Gate, T: Threads + Wait + Sync, R: Read + Drop, W: Write>(
     desk: &mut Desk<G>,
     limit: u64,
 ) -> Result<Count, RunFault>
-    ensures ok { IfOk result (λ count. IfSome (R.remaining reader) (λ input.
-        IsDone (told_by desk.old.site 1) limit (W.contents writer.old) (W.contents writer.new) (input_records input) count.records)) }
-    ensures too_long { IsErrOf result RunFault.TooLong → IfSome (R.remaining reader) (λ input.
-        IsTooLong (told_by desk.old.site 1) limit (W.contents writer.old) (W.contents writer.new) (input_records input)) }
-    ensures read { IsErrOf result RunFault.Read → IfSome (R.remaining reader) (λ input.
-        IsCut (told_by desk.old.site 1) (W.contents writer.old) (W.contents writer.new) (input_records input)) }
-    ensures memory { IsErrOf result RunFault.Memory → IfSome (R.remaining reader) (λ input.
-        WrotePrefix ((told_by desk.old.site 1).text AtEnd) (W.contents writer.old) (W.contents writer.new) (input_records input)) }
+    ensures { IsRun (told_by desk.old.site 1) limit (R.remaining reader) (W.contents writer.old) (W.contents writer.new) result }
 {
     let mut site_run = SiteRun {
         run: Run::new(alloc, reader),

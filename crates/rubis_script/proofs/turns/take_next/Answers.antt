@@ -4,7 +4,7 @@ use Rattle.rubis_script.specs.Windows.{held_by}
 use Rattle.rubis_engine.specs.declared.fault.RunFault.TheVariants as fault
 use Rattle.rubis_engine.specs.declared.reply.Reply.{Reply}
 use Rattle.rubis_engine.proofs.RunFacts.{handed_on, if_none, if_some, progress-moved, progress-stays, progress-step}
-use Rattle.rubis_script.proofs.desk_site_run.take_next.Goals as goal
+use Rattle.rubis_script.proofs.turns.take_next.Goals as goal
 
 pub returns-in-Some-clause-goes : goal.returns-in-Some-clause-goes
 returns-in-Some-clause-goes g c all old input p =

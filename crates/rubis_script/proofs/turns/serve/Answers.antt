@@ -5,7 +5,7 @@ use Rattle.rubis_engine.specs.Text.{input_records}
 use Rattle.rubis_engine.specs.declared.fault.RunFault.TheVariants as fault
 use Rattle.rubis_engine.proofs.RunFacts.{handed_on, if_ok_so, progress-starts}
 use Rattle.rubis_script.proofs.WindowFacts.{held_none, progress-told}
-use Rattle.rubis_script.proofs.desk_site_run.serve.Goals as goal
+use Rattle.rubis_script.proofs.turns.serve.Goals as goal
 
 pub steps-init : goal.steps-init
 steps-init g c =

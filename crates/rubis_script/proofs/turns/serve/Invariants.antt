@@ -4,7 +4,7 @@ use Rattle.rubis_engine.specs.Reading.{Gives}
 use Rattle.rubis_script.specs.SiteRuns.{told_by}
 use Rattle.rubis_engine.specs.Text.{input_records}
 use Rattle.rubis_script.specs.Windows.{AreHeld, held_by}
-use Rattle.rubis_script.proofs.desk_site_run.serve.Given as goal
+use Rattle.rubis_script.proofs.turns.serve.Given as goal
 
 abbrev pub invariant-steps : goal.invariant-steps
 invariant-steps g l = (l.site_run.run.answered ≡ l._answered) × AreHeld l.desk.site.place l.site_run.window.items l.site_run.run.answered

@@ -2,7 +2,7 @@ use Rattle.std.proofs.Common.{◌≡◌, ◌+◌, false, true, rules}
 use Rattle.rubis_script.specs.SiteRuns.{told_by}
 use Rattle.rubis_script.specs.Windows.{held_by}
 use Rattle.rubis_engine.proofs.RunFacts.{if_ended, if_ok_so, progress-kept, progress-prefix, takes-at}
-use Rattle.rubis_script.proofs.desk_site_run.next_or_end.Goals as goal
+use Rattle.rubis_script.proofs.turns.next_or_end.Goals as goal
 
 pub returns-in-Ok-true-clause-found : goal.returns-in-Ok-true-clause-found
 returns-in-Ok-true-clause-found g c =

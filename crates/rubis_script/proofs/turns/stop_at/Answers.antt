@@ -2,7 +2,7 @@ use Rattle.std.proofs.Common.{◌+◌}
 use Rattle.rubis_script.specs.SiteRuns.{told_by}
 use Rattle.rubis_script.specs.Windows.{held_by}
 use Rattle.rubis_engine.proofs.RunFacts.{if_ok_so, progress-kept, progress-prefix}
-use Rattle.rubis_script.proofs.desk_site_run.stop_at.Goals as goal
+use Rattle.rubis_script.proofs.turns.stop_at.Goals as goal
 
 pub returns-in_err-flush-clause-memory : goal.returns-in_err-flush-clause-memory
 returns-in_err-flush-clause-memory g c e all old input p = progress-prefix _ _ all _ old _ _ _ input p
