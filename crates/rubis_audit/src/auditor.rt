@@ -1,7 +1,7 @@
 //! The auditor as a service: it reads logs, record by record, and answers once it has read them all.
 
 ghost use Rattle.std.proofs.Common.{rules};
-ghost use Rattle.std.specs.Prelude.{◌≡◌, ◌++◌, ◌≤◌, ℕ, List, [], IfOk, None, Ok, OnErr, OnOk, Some, refl, reverse};
+ghost use Rattle.std.specs.Prelude.{◌≡◌, ◌++◌, ◌≤◌, ℕ, List, [], IfOk, None, Ok, OnErr, OnOk, Some, ⊤, refl, reverse};
 ghost use Rattle.rubis_message.specs.Message.{sites_of};
 ghost use Rattle.rubis_model.specs.Logs as logs;
 ghost use Rattle.std.specs.Bool.{MatchBool};
@@ -172,6 +172,10 @@ impl Auditor {
 
 impl<T> Service<T> for Auditor {
     ghost account = { λ s n. account_from s.asked s.sites n s.logs };
+
+    ghost stays = { λ old new. ⊤ };
+
+    ghost stays_same = { λ s. tt };
 
     ghost reads_none = { λ s n. refl };
 

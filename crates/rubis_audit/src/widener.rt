@@ -1,7 +1,7 @@
 //! A service that widens the records of an audit: a record in, one out.
 
 ghost use Rattle.std.proofs.Common.{rules};
-ghost use Rattle.std.specs.Prelude.{◌≡◌, ◌++◌, ◌∷◌, ◌≤◌, [], ℕ, List, OnOk, refl};
+ghost use Rattle.std.specs.Prelude.{◌≡◌, ◌++◌, ◌∷◌, ◌≤◌, [], ℕ, List, OnOk, ⊤, refl};
 ghost use Rattle.rubis_schema.specs.declared.limits.TheConstants.{COUNTED_MAX};
 ghost use Rattle.rubis_message.specs.Grammar.{message_record};
 ghost use Rattle.rubis_message.specs.Message.{sites_of};
@@ -141,6 +141,10 @@ impl Widener {
 
 impl<T> Service<T> for Widener {
     ghost account = { λ s n. widening_from s.from s.to n (logs_at s.place) };
+
+    ghost stays = { λ old new. ⊤ };
+
+    ghost stays_same = { λ s. tt };
 
     ghost reads_none = { λ s n. refl };
 

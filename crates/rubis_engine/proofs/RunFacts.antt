@@ -191,6 +191,11 @@ pub on_ok_both : {T E : Type 0} {P Q S : Type 0} (r : Result T E) → (P → Q �
 on_ok_both (Ok v) f p q = f p q
 on_ok_both (Err e) f p q = tt
 
+-- what follows from two facts of an answer
+pub if_ok_both : {T E : Type 0} {P Q S : T → Type 0} (r : Result T E) → ((x : T) → P x → Q x → S x) → IfOk r P → IfOk r Q → IfOk r S
+if_ok_both (Ok v) f p q = f v p q
+if_ok_both (Err e) f p q = tt
+
 -- what holds always holds of a call that went well
 pub on_ok : {T E : Type 0} {P : Type 0} (r : Result T E) → P → OnOk r P
 on_ok (Ok v) p = p
@@ -200,6 +205,12 @@ on_ok (Err e) p = tt
 pub if_ok_so : {T E : Type 0} (P Q : T → Type 0) (r : Result T E) → ((x : T) → P x → Q x) → IfOk r P → IfOk r Q
 if_ok_so P Q (Ok v) f p = f v p
 if_ok_so P Q (Err e) f p = tt
+
+-- what holds always holds of what was found
+pub over_so : {A E P : Type 0} (r : Result (Option A) E) → P → IfOk r (λ o. IfSome o (λ _. P))
+over_so (Ok (Some x)) p = p
+over_so (Ok None) p = tt
+over_so (Err e) p = tt
 
 -- what follows from what is so of what was found
 pub if_ended : {A E : Type 0} (P Q : A → Type 0) (r : Result (Option A) E) → ((x : A) → P x → Q x) → IfOk r (λ o. IfSome o P) → IfOk r (λ o. IfSome o Q)

@@ -26,6 +26,7 @@ fn write_out_held<T, S: Service<T>, W: Write>(
     ensures drains { OnOk result ((number : ℕ) → Drained (S.account service.old number) (S.account service.new number) sink.old (W.contents writer.old) (W.contents writer.new)) }
     ensures none { OnOk result ((number : ℕ) → (S.account service.new number).text Cut [] ≡ []) }
     ensures empty { OnOk result (sink.new ≡ []) }
+    ensures stays { OnOk result (S.stays service.old service.new) }
     ensures memory { IsErrOf result RunFault.Memory → W.contents writer.new ≡ W.contents writer.old }
     ensures faults { IfErr result (λ e. (e ≡ RunFault.Write) ⊎ (e ≡ RunFault.Memory)) }
 {
@@ -41,6 +42,7 @@ fn write_out_end<T, S: Service<T>, W: Write>(
     writer: &mut W,
 ) -> Result<(), RunFault>
     ensures ok { OnOk result ((number : ℕ) → Appends (W.contents writer.old) (W.contents writer.new) (sink.old ++ (S.account service.old number).text AtEnd [])) }
+    ensures stays { OnOk result (S.stays service.old service.new) }
     ensures memory { IsErrOf result RunFault.Memory → W.contents writer.new ≡ W.contents writer.old }
     ensures faults { IfErr result (λ e. (e ≡ RunFault.Write) ⊎ (e ≡ RunFault.Memory)) }
 {
@@ -59,6 +61,7 @@ pub fn write_out<T, S: Service<T>, R: Read, W: Write>(
     ensures goes { OnOk result ((all : Account) (old : Option (List ℕ)) (number : ℕ) (input : List ℕ)
         → HasComeSoFar R.remaining records.now all (S.account service.old number) old (W.contents writer.old) sink.old number input
         → HasComeSoFar R.remaining records.now all (S.account service.new number) old (W.contents writer.new) sink.new number input) }
+    ensures stays { OnOk result (S.stays service.old service.new) }
     ensures memory { IsErrOf result RunFault.Memory → W.contents writer.new ≡ W.contents writer.old }
     ensures faults { IfErr result (λ e. (e ≡ RunFault.Write) ⊎ (e ≡ RunFault.Memory)) }
 {
@@ -88,6 +91,7 @@ pub fn end_run<T, S: Service<T>, R: Read, W: Write>(
     ensures done { IfOk result (λ over. IfSome over (λ count. BeforeEach R.remaining records.now (λ before. Advances R.remaining before records.now false
         → InEachRun R.remaining before (S.account service.old (answered + 1)) (W.contents writer.old) sink.old (answered + 1) (λ all old input.
         IsDone all answered old (W.contents writer.new) (input_records input) count.records)))) }
+    ensures stays { IfOk result (λ over. IfSome over (λ _. S.stays service.old service.new)) }
     ensures read { IsErrOf result RunFault.Read → BeforeEach R.remaining records.now (λ before.
         InEachRun R.remaining before (S.account service.old (answered + 1)) (W.contents writer.old) sink.old (answered + 1) (λ all old input.
         IsCut all old (W.contents writer.new) (input_records input))) }
@@ -122,6 +126,8 @@ pub fn next_record<T, S: Service<T>, R: Read, W: Write>(
     ensures same { IfOk result (λ over. IfNone over ((service.new ≡ service.old) × (sink.new ≡ sink.old) × (writer.new ≡ writer.old))) }
     ensures done { IfOk result (λ over. IfSome over (λ count. InEachRun R.remaining records.old (S.account service.old (answered + 1)) (W.contents writer.old) sink.old (answered + 1) (λ all old input.
         IsDone all answered old (W.contents writer.new) (input_records input) count.records))) }
+    ensures ended { IfOk result (λ over. IfSome over (λ _. Advances R.remaining records.old records.new false)) }
+    ensures stays { IfOk result (λ over. IfSome over (λ _. S.stays service.old service.new)) }
     ensures read { IsErrOf result RunFault.Read → InEachRun R.remaining records.old (S.account service.old (answered + 1)) (W.contents writer.old) sink.old (answered + 1) (λ all old input.
         IsCut all old (W.contents writer.new) (input_records input)) }
     ensures memory { IsErrOf result RunFault.Memory → InEachRun R.remaining records.old (S.account service.old (answered + 1)) (W.contents writer.old) sink.old (answered + 1) (λ all old input.
@@ -146,6 +152,8 @@ pub fn stop<T, S: Service<T>, R: Read, W: Write>(
 ) -> Result<Count, RunFault>
     ensures ok { IfOk result (λ count. InEachRun R.remaining records.old (S.account service.old (answered + 1)) (W.contents writer.old) sink.old (answered + 1) (λ all old input.
         IsDone all answered old (W.contents writer.new) (input_records input) count.records)) }
+    ensures ended { IfOk result (λ _. Advances R.remaining records.old records.new false) }
+    ensures stays { IfOk result (λ _. S.stays service.old service.new) }
     ensures too_long { IsErrOf result RunFault.TooLong → InEachRun R.remaining records.old (S.account service.old (answered + 1)) (W.contents writer.old) sink.old (answered + 1) (λ all old input.
         IsTooLong all answered old (W.contents writer.new) (input_records input)) }
     ensures read { IsErrOf result RunFault.Read → InEachRun R.remaining records.old (S.account service.old (answered + 1)) (W.contents writer.old) sink.old (answered + 1) (λ all old input.

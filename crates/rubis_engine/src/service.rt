@@ -23,17 +23,24 @@ pub trait Service<T> {
     /// What is still to be made of the records that follow, the first of which has this number.
     ghost account: { Self → ℕ → Account };
 
+    /// What it gives back or answers at the end leaves this of it as it was.
+    ghost stays: { Self → Self → Type 0 };
+
     /// Answers what is held back. Nothing is then left to be written if the run is cut short here.
     fn answer_held(&mut self, rt: &T, sink: &mut Sink) -> Result<(), OutOfMemory>
         ensures keeps { OnOk result ((number : ℕ) → Keeps (account self.old number) (account self.new number) sink.old sink.new) }
-        ensures none { OnOk result ((number : ℕ) → (account self.new number).text Cut [] ≡ []) };
+        ensures none { OnOk result ((number : ℕ) → (account self.new number).text Cut [] ≡ []) }
+        ensures stays { OnOk result (stays self.old self.new) };
 
     /// Gives the last answers: writes all that is left to be written if the input ends here.
     fn answer_end(&mut self, rt: &T, sink: &mut Sink) -> Result<(), OutOfMemory>
-        ensures { OnOk result ((number : ℕ) → sink.old ++ (account self.old number).text AtEnd [] ≡ sink.new) };
+        ensures text { OnOk result ((number : ℕ) → sink.old ++ (account self.old number).text AtEnd [] ≡ sink.new) }
+        ensures stays { OnOk result (stays self.old self.new) };
 
     // Of no records none is read.
     ghost reads_none: { (s : Self) (number : ℕ) → (account s number).read [] ≡ 0 };
+
+    ghost stays_same: { (s : Self) → stays s s };
 
     // Of some records at least one is read.
     ghost reads_next: { (s : Self) (number : ℕ) (fields : List (List ℕ)) (more : List (List (List ℕ))) → 0 < (account s number).read (fields ∷ more) };

@@ -451,7 +451,11 @@ impl<G: Gate> Desk<G> {
 impl<G: Gate, T> Service<T> for Desk<G> {
     ghost account = { λ s n. told_by s.site n };
 
+    ghost stays = { λ old new. new.site ≡ old.site };
+
     ghost reads_none = { λ s n. refl };
+
+    ghost stays_same = { λ s. refl };
 
     ghost reads_next = { Prim.search rules };
 

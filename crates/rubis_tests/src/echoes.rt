@@ -1,7 +1,7 @@
 //! A service that says what it hears.
 
 ghost use Rattle.std.proofs.Common.{rules};
-ghost use Rattle.std.specs.Prelude.{◌≡◌, ◌∷◌, ◌++◌, None, OnOk, codes, length, map, refl};
+ghost use Rattle.std.specs.Prelude.{◌≡◌, ◌∷◌, ◌++◌, None, OnOk, codes, length, map, ⊤, refl};
 ghost use Rattle.std.specs.Option.{option_to_list};
 ghost use Rattle.rubis_engine.specs.Text.{rows_text};
 
@@ -37,6 +37,10 @@ impl<T> Service<T> for Echo {
       text = λ ending records. rows_text (map (λ fields. codes "got" ∷ fields) (option_to_list s.last ++ records));
       read = λ records. length records;
     } };
+
+    ghost stays = { λ old new. ⊤ };
+
+    ghost stays_same = { λ s. tt };
 
     ghost reads_none = { λ s n. refl };
 

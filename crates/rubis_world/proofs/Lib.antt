@@ -3,3 +3,4 @@ pub mod Answering
 pub mod Checking
 pub mod Moves
 pub mod Beginning
+pub mod Leading

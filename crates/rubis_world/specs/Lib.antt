@@ -5,3 +5,4 @@ pub mod Faults
 pub mod Setup
 pub mod SitesWorlds
 pub mod Script
+pub mod Headline

@@ -4,11 +4,12 @@ ghost use Rattle.std.proofs.Common.{rules};
 ghost use Rattle.std.specs.Prelude.{◌≡◌, ◌≤◌, ◌∷◌, [], IfOk, OnOk, length, refl};
 ghost use Rattle.rubis_message.specs.WorldReadings.{world_input};
 ghost use Rattle.rubis_model.specs.AuditRecords.{verdict_record};
-ghost use Rattle.rubis_model.specs.Laws.{InRun};
 ghost use Rattle.rubis_model.specs.System.{IsEvent, happens};
 ghost use Rattle.rubis_model.specs.System.Event.{At, Deliver};
 ghost use Rattle.rubis_model.specs.Verdict.{verdict};
 ghost use Rattle.rubis_model.specs.WorldRecords.{logs_of, told_at, world_step};
+ghost use Rattle.rubis_schema.specs.declared.limits.TheConstants.{KEEP_MAX, SITES_MAX};
+ghost use Rattle.rubis_script.specs.Replica.{IsCount};
 ghost use Rattle.rubis_world.specs.SitesWorlds.{opening_world};
 ghost use Rattle.rubis_world.specs.Running.{IsTold, answer_in_world, told_by_world};
 
@@ -94,7 +95,8 @@ pub struct WorldDesk {
 impl WorldDesk {
     /// Sites with nothing done, set up so.
     pub fn new(alloc: Global, config: &WorldConfig) -> Result<WorldDesk, AllocError>
-        ensures { IfOk result (λ desk. desk.world ≡ opening_world config.now.keep config.now.sites) }
+        ensures start { IfOk result (λ desk. desk.world ≡ opening_world config.now.keep config.now.sites) }
+        ensures limits { IfOk result (λ _. IsCount config.now.sites SITES_MAX × IsCount config.now.keep KEEP_MAX) }
     {
         Ok(WorldDesk {
             world: World::new(alloc, config)?,
@@ -102,25 +104,8 @@ impl WorldDesk {
         })
     }
 
-    /// Answers a record. Whatever becomes of it, the claims of every run hold of the sites.
+    /// Answers a record.
     pub fn respond<R: Threads + Wait + Sync>(
-        &mut self,
-        rt: &R,
-        fields: &InputRecord,
-        reply: &mut Reply,
-    ) -> Result<(), OutOfMemory>
-        ensures told { OnOk result (IsTold self.old.world self.new.world
-            (world_step self.old.world.keep self.old.world.world reply.old.number (world_input (length self.old.world.world.sites) fields.now)) reply.old.sink reply.new.sink) }
-        ensures run { InRun self.new.world.world }
-    {
-        let answered = self.answer(rt, fields, reply);
-        // For the clause on what the sites keep.
-        let _sent = self.world.packets();
-        answered
-    }
-
-    // Answers a record.
-    fn answer<R: Threads + Wait + Sync>(
         &mut self,
         rt: &R,
         fields: &InputRecord,
@@ -152,7 +137,11 @@ impl WorldDesk {
 impl<T> Service<T> for WorldDesk {
     ghost account = { λ s n. told_by_world s.world n };
 
+    ghost stays = { λ old new. new.world ≡ old.world };
+
     ghost reads_none = { λ s n. refl };
+
+    ghost stays_same = { λ s. refl };
 
     ghost reads_next = { Prim.search rules };
 

@@ -1,10 +1,13 @@
 //! Several sites over a reader and a writer.
 
-ghost use Rattle.std.specs.Prelude.{◌≡◌, ◌≤◌, ◌<◌, ◌+◌, ◌^◌, ◌⊎◌, ℕ, IfErr, IfNone, IfOk, IsErrOf};
-ghost use Rattle.rubis_model.specs.Laws.{InRun};
+ghost use Rattle.std.specs.Prelude.{◌≡◌, ◌≤◌, ◌<◌, ◌+◌, ◌^◌, ◌⊎◌, ℕ, List, IfErr, IfNone, IfOk, IfSome, IsErrOf};
 ghost use Rattle.rubis_engine.specs.Accounts.Ending.{AtEnd};
 ghost use Rattle.rubis_engine.specs.Progress.{EndsCut, EndsInPrefix, FromStart, HasMoved, IsCut, IsDone, IsRun, IsTooLong, WrotePrefix};
-ghost use Rattle.rubis_schema.specs.declared.limits.TheConstants.{RECORDS_MAX};
+ghost use Rattle.rubis_schema.specs.declared.limits.TheConstants.{COUNTED_MAX, KEEP_MAX, RECORDS_MAX};
+ghost use Rattle.rubis_engine.specs.Reading.{Gives};
+ghost use Rattle.rubis_engine.specs.Text.{input_records};
+ghost use Rattle.rubis_world.specs.Headline.{Lead, LeadsOn, TellsARun};
+ghost use Rattle.rubis_world.specs.SitesWorlds.{opening_world};
 ghost use Rattle.rubis_world.specs.Running.{answers_of_world, told_by_world};
 
 use crate::config::WorldConfig;
@@ -25,6 +28,7 @@ fn answer_next<T: Threads + Wait + Sync, R: Read, W: Write>(
 ) -> Result<Option<Count>, RunFault>
     requires { run.old.answered + 1 < 2 ^ 64 }
     ensures goes { IfOk result (λ over. HasMoved R.remaining run.old run.new (told_by_world desk.old.world) (told_by_world desk.new.world) (W.contents writer.old) (W.contents writer.new) over) }
+    ensures leads { IfOk result (λ over. LeadsOn R.remaining run.old run.new desk.old.world desk.new.world over) }
     ensures counted { IfOk result (λ over. IfNone over (run.new.answered ≡ run.old.answered + 1)) }
     ensures read { IsErrOf result RunFault.Read → EndsCut R.remaining run.old (told_by_world desk.old.world) (W.contents writer.old) (W.contents writer.new) }
     ensures memory { IsErrOf result RunFault.Memory → EndsInPrefix R.remaining run.old (told_by_world desk.old.world) (W.contents writer.old) (W.contents writer.new) }
@@ -51,6 +55,7 @@ fn serve<T: Threads + Wait + Sync, R: Read, W: Write>(
 ) -> Result<Count, RunFault>
     requires { run.old.answered ≡ 0 }
     ensures ok { IfOk result (λ count. FromStart R.remaining run.old (λ records. IsDone (told_by_world desk.old.world 1) limit (W.contents writer.old) (W.contents writer.new) records count.records)) }
+    ensures leads { IfOk result (λ _. (rows : List (List (List ℕ))) → Gives R.remaining run.old.records rows → Lead rows desk.old.world desk.new.world) }
     ensures too_long { IsErrOf result RunFault.TooLong → FromStart R.remaining run.old (λ records. IsTooLong (told_by_world desk.old.world 1) limit (W.contents writer.old) (W.contents writer.new) records) }
     ensures read { IsErrOf result RunFault.Read → FromStart R.remaining run.old (λ records. IsCut (told_by_world desk.old.world 1) (W.contents writer.old) (W.contents writer.new) records) }
     ensures memory { IsErrOf result RunFault.Memory → FromStart R.remaining run.old (λ records. WrotePrefix ((told_by_world desk.old.world 1).text AtEnd) (W.contents writer.old) (W.contents writer.new) records) }
@@ -79,13 +84,12 @@ pub fn run_world_desk<T: Threads + Wait + Sync, R: Read + Drop, W: Write>(
     limit: u64,
 ) -> Result<Count, RunFault>
     ensures run { IsRun (told_by_world desk.old.world 1) limit (R.remaining reader) (W.contents writer.old) (W.contents writer.new) result }
-    ensures claims { InRun desk.new.world.world }
+    ensures leads { IfOk result (λ _. IfSome (R.remaining reader) (λ input. Lead (input_records input) desk.old.world desk.new.world)) }
+    ensures text { (sites keep : ℕ) → desk.old.world ≡ opening_world keep sites → 1 ≤ sites → sites ≤ COUNTED_MAX → keep ≤ KEEP_MAX
+        → TellsARun sites keep limit (R.remaining reader) (W.contents writer.old) (W.contents writer.new) result }
 {
     let mut run = Run::new(alloc, reader);
-    let ended = serve(rt, &mut run, desk, writer, limit);
-    // For the clause on what the sites keep.
-    let _sent = desk.world.packets();
-    ended
+    serve(rt, &mut run, desk, writer, limit)
 }
 
 /// Runs several sites over at most 4,000,000 records of `reader`: appends the text of their answers to `writer`. The answers
@@ -104,7 +108,8 @@ pub fn run_world<T: Threads + Wait + Sync, R: Read + Drop, W: Write>(
     writer: &mut W,
     config: &WorldConfig,
 ) -> Result<Count, RunFault>
-    ensures { IsRun (answers_of_world config.now.sites config.now.keep) RECORDS_MAX (R.remaining reader) (W.contents writer.old) (W.contents writer.new) result }
+    ensures run { IsRun (answers_of_world config.now.sites config.now.keep) RECORDS_MAX (R.remaining reader) (W.contents writer.old) (W.contents writer.new) result }
+    ensures text { TellsARun config.now.sites config.now.keep RECORDS_MAX (R.remaining reader) (W.contents writer.old) (W.contents writer.new) result }
 {
     let mut desk = WorldDesk::new(alloc, config)?;
     run_world_desk(rt, alloc, reader, writer, &mut desk, RECORDS_MAX)

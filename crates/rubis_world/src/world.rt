@@ -6,10 +6,11 @@ ghost use Rattle.rubis_message.specs.declared.tokens.Packet.{Packet as Sent};
 ghost use Rattle.rubis_model.specs.Laws.{InRun};
 ghost use Rattle.rubis_model.specs.System.{IsEvent, happens, packet_at};
 ghost use Rattle.rubis_model.specs.System.Event.{At, Deliver};
-ghost use Rattle.rubis_schema.specs.declared.limits.TheConstants.{SITES_MAX};
+ghost use Rattle.rubis_schema.specs.declared.limits.TheConstants.{KEEP_MAX, SITES_MAX};
 ghost use Rattle.rubis_message.specs.declared.answers.Verdict.TheVariants.{Agree};
 ghost use Rattle.rubis_model.specs.Verdict.{verdict};
 ghost use Rattle.rubis_model.specs.WorldRecords.{logs_of};
+ghost use Rattle.rubis_script.specs.Replica.{IsCount};
 ghost use Rattle.rubis_script.specs.Replica.fault_variants as Fault;
 ghost use Rattle.rubis_world.specs.SitesWorlds.{Asks, ComesTo, Steps, left_at, opening_world};
 ghost use Rattle.rubis_world.specs.declared.faults.WorldFault.TheVariants as WorldFault;
@@ -49,6 +50,7 @@ impl World {
     pub fn new(alloc: Global, config: &WorldConfig) -> Result<World, AllocError>
         ensures start { IfOk result (λ world. world ≡ opening_world config.now.keep config.now.sites) }
         ensures run { IfOk result (λ world. InRun world.world) }
+        ensures limits { IfOk result (λ _. IsCount config.now.sites SITES_MAX × IsCount config.now.keep KEEP_MAX) }
     {
         Ok(World {
             sites: Sites::new(alloc, config)?,

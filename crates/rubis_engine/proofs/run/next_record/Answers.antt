@@ -1,5 +1,5 @@
 use Rattle.std.proofs.Common.{◌≡◌, false, true, rules}
-use Rattle.rubis_engine.proofs.RunFacts.{if_ended, if_ok_so, takes-at}
+use Rattle.rubis_engine.proofs.RunFacts.{if_ended, if_ok_so, over_so, takes-at}
 use Rattle.rubis_engine.proofs.run.next_record.Goals as goal
 
 pub returns-in-Ok-true-clause-found : goal.returns-in-Ok-true-clause-found
@@ -26,3 +26,14 @@ returns-in-Err-clause-read g c e = c.end_run-in-Err.ensures.read e c.args.record
 
 pub returns-in-Err-clause-memory : goal.returns-in-Err-clause-memory
 returns-in-Err-clause-memory g c e = c.end_run-in-Err.ensures.memory e c.args.records.now
+
+pub returns-in-Ok-false-clause-ended : goal.returns-in-Ok-false-clause-ended
+returns-in-Ok-false-clause-ended g c =
+    let none : c.in-Ok-false.field-0 ≡ false = search rules in
+    over_so c.end_run.result (takes-at _ c.args.records.now c.advance.new.self _ _ none c.in-Ok-false.ensures.takes)
+
+pub returns-in-Err-clause-ended : goal.returns-in-Err-clause-ended
+returns-in-Err-clause-ended g c = if_ok_so _ _ c.end_run-in-Err.result (λ over none. absurd none) c.end_run-in-Err.ensures.fails
+
+pub returns-in-Err-clause-stays : goal.returns-in-Err-clause-stays
+returns-in-Err-clause-stays g c = if_ok_so _ _ c.end_run-in-Err.result (λ over none. absurd none) c.end_run-in-Err.ensures.fails

@@ -2,6 +2,8 @@ use Rattle.std.proofs.Common.{◌+◌, ◌∙◌, ap, refl, arith}
 use Rattle.rubis_world.specs.Running.{told_by_world}
 use Rattle.rubis_engine.specs.declared.fault.RunFault.TheVariants as fault
 use Rattle.rubis_world.proofs.Answering.{world_goes}
+use Rattle.rubis_world.proofs.Leading.{steps_on}
+use Rattle.rubis_engine.specs.Reading.{fields_now}
 use Rattle.rubis_engine.proofs.RunFacts.{handed_on, if_none, if_some, progress-moved, progress-stays, progress-step}
 use Rattle.rubis_world.proofs.run.answer_next.Goals as goal
 
@@ -24,7 +26,7 @@ returns-clause-goes g c all old input p =
     let after = c.respond.new.self.world in
     let moved = progress-moved _ c.args.run.now.records all _ (told_by_world before n) old _ (g.W.Write.contents c.next_record.new.writer) _ c.next_record.new.sink n input p
     (ap (λ s. told_by_world s.world n) same.0) (ap g.W.Write.contents same.2) same.1 in
-    let answered = rw (c.fields.ensures) at c.in_ok-respond.ensures.told in
+    let answered = rw (c.fields.ensures) at c.in_ok-respond.ensures in
     c.in_ok-write_out.ensures.goes all old (n + 1) input
     (progress-step _ c.args.run.now.records c.next_record.new.records all _ (told_by_world after (n + 1)) old _ _ c.respond.new.reply.sink n input moved found
     (λ more. (
@@ -37,3 +39,20 @@ returns-in_err-write_out-clause-memory g c e all old input p =
     let same = if_none c.in_ok-count.field-0 c.in_ok-count.ensures.same c.in_default.is in
     let memory = handed_on c.from_residual-in_err-write_out.result c.in_err-write_out.field-0.0 fault.Memory c.from_residual-in_err-write_out.ensures e in
     progress-stays _ _ all _ old _ _ _ _ input p (c.in_err-write_out.ensures.memory (rw memory refl) ∙ ap g.W.Write.contents same.2)
+
+pub returns-in-Some-clause-leads : goal.returns-in-Some-clause-leads
+returns-in-Some-clause-leads g c =
+    let ended = if_some _ c.in_ok-count.field-0 c.in-Some.count c.in_ok-count.ensures.ended c.in-Some.is in
+    let stays = if_some _ c.in_ok-count.field-0 c.in-Some.count c.in_ok-count.ensures.stays c.in-Some.is in
+    (ended, stays)
+
+pub returns-clause-leads : goal.returns-clause-leads
+returns-clause-leads g c rows gives =
+    let n = c.args.run.now.answered + 1 in
+    let same = if_none c.in_ok-count.field-0 c.in_ok-count.ensures.same c.in_default.is in
+    let found = if_none c.in_ok-count.field-0 c.in_ok-count.ensures.found c.in_default.is in
+    let answered = rw (c.fields.ensures) at c.in_ok-respond.ensures in
+    let (left, took, more) = found rows gives in
+    let (keep, world) = steps_on c.args.desk.now.world c.next_record.new.service.world c.respond.new.self.world c.write_out.new.service.world n (fields_now c.next_record.new.records)
+        (ap (λ s. s.world) same.0) answered.0 c.in_ok-write_out.ensures.stays in
+    (left, more, took, keep, world)
