@@ -6,8 +6,8 @@
 - Each definition or type that docs/MODEL.md reads aloud stands in a crate's `specs` or `src`.
 - Each call, definition and wrong body that docs/PROMISES.md names stands in a crate's `src`, `specs` or `must-fail`.
 - Each statement that docs/PROMISES.md quotes is its source, word for word.
-- Each wrong body is named in docs/PROMISES.md, in a row of a call of its own crate, and is an edit: each old text of it occurs
-  once in its file. The gate passes over one that isn't.
+- Each wrong body is an edit: each old text of it occurs once in its file. The gate passes over one that isn't.
+- docs/CONTRACTS.md is what scripts/write_contracts.py writes.
 - Each link of README.md and docs/ to lines of a source, as [`name`](crates/..#L1-L2), names the lines of that function with
   its contract, or of that definition.
 - The table of crates in docs/ARCHITECTURE.md has the crates of crates.txt in their order, each with those that it stands on.
@@ -21,6 +21,7 @@ import re
 import sys
 
 import picture
+import write_contracts
 
 TOP = pathlib.Path(__file__).resolve().parent.parent
 CRATES = TOP / "crates"
@@ -124,32 +125,6 @@ def check_quotes(page: pathlib.Path) -> tuple[int, list[str]]:
         looked += 1
         if not any(squeezed(text) in source for source in sources):
             faults.append(f"{page.relative_to(TOP)}:{at}: this statement isn't its source word for word")
-    return looked, faults
-
-
-def crates_by_name() -> dict[str, set[str]]:
-    """The crates in whose `src` a function or a type of that name stands."""
-    made: dict[str, set[str]] = {}
-    for path in files("src", ".rt"):
-        for name in ITEM.findall(path.read_text()):
-            made.setdefault(name, set()).add(path.relative_to(CRATES).parts[0])
-    return made
-
-
-def check_edits(page: pathlib.Path, edits: dict[str, set[str]]) -> tuple[int, list[str]]:
-    """A line that names wrong bodies names, before them, a call of the crate in which each stands."""
-    looked, faults = 0, []
-    crates = crates_by_name()
-    for at, line in enumerate(page.read_text().splitlines(), 1):
-        spans = CODE_SPAN.findall(line)
-        calls = set()
-        for span in spans:
-            if PATH_OR_NAME.match(span) and span not in edits:
-                calls |= set().union(*(crates.get(part, set()) for part in span.split("::")))
-        for span in (span for span in spans if span in edits):
-            looked += 1
-            if not edits[span] & calls:
-                faults.append(f"{page.relative_to(TOP)}:{at}: `{span}` stands in {', '.join(sorted(edits[span]))}, and no call of it is named here")
     return looked, faults
 
 
@@ -278,6 +253,13 @@ def check_pictures(fix: bool) -> tuple[int, list[str]]:
     return len(PICTURES), faults
 
 
+def check_contracts(fix: bool) -> tuple[int, list[str]]:
+    if fix:
+        write_contracts.PAGE.write_text(write_contracts.page())
+    same = write_contracts.PAGE.exists() and write_contracts.PAGE.read_text() == write_contracts.page()
+    return 1, [] if same else ["docs/CONTRACTS.md:1: isn't what the sources say; check_pages.py --fix writes it"]
+
+
 def main() -> int:
     fix = sys.argv[1:] == ["--fix"]
     model, promises = TOP / "docs/MODEL.md", TOP / "docs/PROMISES.md"
@@ -286,12 +268,10 @@ def main() -> int:
     for path in CRATES.glob("*/must-fail/*.edit"):
         edits.setdefault(path.stem, set()).add(path.relative_to(CRATES).parts[0])
     everything = specs | code_names() | set(edits) | FOREIGN
-    found = [check_model(model, specs | code_names()), check_names(promises, everything), check_quotes(promises), check_edits(promises, edits), check_old_texts(), check_pictures(fix), check_callers(TOP / "docs/CALLING.md"), check_crates(TOP / "docs/ARCHITECTURE.md")]
+    found = [check_model(model, specs | code_names()), check_names(promises, everything), check_quotes(promises), check_contracts(fix), check_old_texts(), check_pictures(fix), check_callers(TOP / "docs/CALLING.md"), check_crates(TOP / "docs/ARCHITECTURE.md")]
     found += [check_links(page, fix) for page in [TOP / "README.md", *sorted(TOP.glob("docs/*.md"))]]
     looked = sum(count for count, _ in found) + len(edits)
     faults = [fault for _, part in found for fault in part]
-    named = {span for _, span in code_spans(promises)}
-    faults += [f"crates/{'|'.join(sorted(where))}/must-fail/{stem}.edit: docs/PROMISES.md doesn't name it" for stem, where in sorted(edits.items()) if stem not in named]
     for fault in faults:
         print(fault)
     print(f"pages: {looked - len(faults)} passed, {len(faults)} failed")
