@@ -206,6 +206,42 @@ def test_log(at: Folder) -> None:
     expect("up with 0 records" in at.shop("log"), "events of a site")
 
 
+def followed(lines: list[str], sign: str) -> list[str]:
+    """The records (<) or the answers (>) among the lines of a log that is followed: those of before, and those that came, with times."""
+    plain = [line if line[:2] in ("< ", "> ") else line.split(" ", 1)[1] for line in lines]
+    return [line[2:] for line in plain if line.startswith(sign)]
+
+
+def test_follow(at: Folder) -> None:
+    """Whenever somebody begins to follow, no line comes twice and none is left out, also when the site dies meanwhile."""
+    at.run("./shop start auction")
+    at.shop(f"ask 0 {SALE}")
+    at.run("seq -f 'comment,0.3,0.2,0.1,5,%-200g' 500 | ./shop -C auction ask 0 - > /dev/null")
+    # What was before fills this one's pipe, so it is at that still when more comes.
+    command = [str(at.path / "shop"), "-C", "auction", "log", "0", "-f", "-n", "9999"]
+    slow = subprocess.Popen(command, cwd=at.path, stdout=subprocess.PIPE, stderr=subprocess.DEVNULL, start_new_session=True)
+    at.running.append(slow)
+    asker = at.start("sh -c 'seq -f comment,0.3,0.2,0.1,4,%g 2000 | ./shop -C auction ask 0 -'")
+    for number in range(6):
+        at.start(f"sh -c 'exec ./shop -C auction log 0 -f -n 9999 > log.{number}'")
+        at.start(f"sh -c 'exec ./shop -C auction log -f -n 9999 > events.{number}'")
+        if number % 2:
+            at.kill(at.site(0)["pid"])
+        time.sleep(0.1)
+    expect(asker.wait(SECONDS) == 0, "the asker's status")
+    at.shop("ask 0 user,zed")
+    for number in range(6):
+        at.wait("the last record", lambda: "> send,msg,1,0,2504" in at.text(f"log.{number}"))
+    assert slow.stdout
+    logs = [at.text(f"log.{number}").splitlines() for number in range(6)]
+    logs.append([slow.stdout.readline().decode().rstrip("\n") for _ in logs[0]])
+    for number, lines in enumerate(logs):
+        expect(followed(lines, "< ") == at.text("auction/0/kept").splitlines(), f"the records that follower {number} saw")
+        expect(followed(lines, "> ") == at.text("auction/0/out").splitlines(), f"the answers that follower {number} saw")
+    for number in range(6):
+        at.wait("each event", lambda: at.text(f"events.{number}") == at.text("auction/events"))
+
+
 def test_token(at: Folder) -> None:
     """Asks at every site at once: each gets the token in turn, and each ask is there once."""
     at.run("./shop start auction --sites 4")

@@ -123,11 +123,20 @@ def _print_status(shop: dict[str, Any]) -> None:
 
 def log(args: argparse.Namespace) -> int:
     """Prints what happened, or a site's records and answers; with --follow also what comes."""
-    answers = client.call(args.folder, {"op": "follow", "site": args.site}) if args.follow else iter(())
-    _print_lines(_last_events(args) if args.site is None else _last_answers(args))
-    for answer in answers:
+    if args.follow:
+        return _follow(args)
+    _print_lines(_last_lines(args, sys.maxsize))
+    return Status.WELL
+
+
+def _follow(args: argparse.Namespace) -> int:
+    """Prints the last lines that stood there when the supervisor began to tell what comes, and then that: none twice, none left out."""
+    for answer in client.call(args.folder, {"op": "follow", "site": args.site}):
         client.raise_fault(answer)
-        print(answer["line"], flush=True)
+        if "stood" in answer:
+            _print_lines(_last_lines(args, answer["stood"]))
+        else:
+            print(answer["line"], flush=True)
     return Status.WELL
 
 
@@ -137,21 +146,33 @@ def _print_lines(lines: "collections.deque[str]") -> None:
     sys.stdout.flush()
 
 
-def _last_events(args: argparse.Namespace) -> "collections.deque[str]":
+def _last_lines(args: argparse.Namespace, stood: int) -> "collections.deque[str]":
+    """The last lines of the first bytes of the file `events`, or of a site's file `out`, that many."""
+    return _last_events(args, stood) if args.site is None else _last_answers(args, stood)
+
+
+def _last_events(args: argparse.Namespace, stood: int) -> "collections.deque[str]":
+    last: collections.deque[str] = collections.deque((), args.lines)
     try:
-        with open(f"{args.folder}/events", encoding="utf-8", errors="replace") as file:
-            return collections.deque((line.rstrip("\n") for line in file), args.lines)
+        with open(f"{args.folder}/events", "rb") as events:
+            for line in events:
+                stood -= len(line)
+                if stood < 0:
+                    break
+                last.append(line.decode("utf-8", "replace").rstrip("\n"))
     except FileNotFoundError:
         raise Fault(Status.AWAY, f"{args.folder}: there is no shop (shop start)") from None
+    return last
 
 
-def _last_answers(args: argparse.Namespace) -> "collections.deque[str]":
+def _last_answers(args: argparse.Namespace, stood: int) -> "collections.deque[str]":
     last: collections.deque[str] = collections.deque((), args.lines)
     folder = f"{args.folder}/{args.site}"
     reader = AnswerReader()
     try:
         with open(f"{folder}/kept", "rb") as kept, open(f"{folder}/out", "rb") as out:
-            while data := out.read(1 << 20):
+            while data := out.read(min(1 << 20, stood)):
+                stood -= len(data)
                 for answer in reader.feed(data):
                     last.append("< " + text_of(kept.readline().rstrip(b"\n")))
                     last.extend("> " + text_of(line) for line in answer.lines)

@@ -14,7 +14,7 @@ from .ledger import packets_of, tokens_of
 from .link import Request
 from .records import bytes_of, text_of, why_not_one_record
 from .site import Site
-from .supervisor import Follower, Supervisor
+from .supervisor import Supervisor
 
 REQUEST_BYTES = 16 << 20
 RECORDS_OF_A_REQUEST = 10_000
@@ -233,19 +233,28 @@ class Server:
                 raise Fault(Status.AWAY, f"site {site.number} is {site.state}{lacks}") from None
 
     async def _follow(self, request: Request, say: Say) -> dict[str, Any]:
-        number, follower = request["site"], Follower()
+        """Says how many bytes of the file of events, or of a site's answers, stand there, and then each line that comes behind them."""
+        number = request["site"]
         if number is not None and number not in self.shop.sites:
             raise Fault(Status.MISUSE, f"site {number} doesn't run here")
-        followers = self.shop.followers.setdefault(number, set())
-        followers.add(follower)
+        site = None if number is None else self.shop.sites[number]
+        if site:
+            await self._until_known(site)
+        follower, stood = self.shop.follow(site)
         try:
+            await say({"stood": stood})
             while not follower.is_cut:
                 await say({"line": await follower.lines.get()})
         finally:
-            followers.discard(follower)
-            if not followers:
-                self.shop.followers.pop(number, None)
+            self.shop.unfollow(site, follower)
         raise Fault(Status.AWAY, "the reader was too slow")
+
+    async def _until_known(self, site: Site) -> None:
+        """Returns once it has been read what the site kept before."""
+        while not site.known.is_set():
+            if site.fenced_by or self.shop.stopping.is_set():
+                raise Fault(Status.AWAY, f"site {site.number}: {site.fenced_by or 'the shop is being stopped'}")
+            await self.shop.changes.wait()
 
 
 def end_of(fault: Fault | None) -> dict[str, Any]:

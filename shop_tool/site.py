@@ -256,13 +256,17 @@ class Site:
         self.line = collections.deque(each for each in self.line if each.is_given or not each.is_left)
         return any(each.is_given and not each.done.done() for each in pending)
 
+    def unanswered(self) -> list[bytes]:
+        """The records that the keeper was given and hasn't answered."""
+        return [pending.record for pending in self.line if pending.is_given and not pending.done.done()]
+
     def _write(self, pending: list[Pending]) -> None:
         if pending and self.process and self.process.stdin:
             self.process.stdin.write(b"".join(each.record + b"\n" for each in pending))
+            if self.shop.is_followed(self.number):
+                self.shop.tell_followers(self.number, [b"< " + each.record for each in pending if not each.is_given])
             for each in pending:
                 each.is_given = True
-            if self.shop.is_followed(self.number):
-                self.shop.tell_followers(self.number, [b"< " + each.record for each in pending])
 
     def _take(self, pending: Pending, answer: Answer) -> None:
         self._note(pending.record, answer)

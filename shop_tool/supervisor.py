@@ -87,6 +87,23 @@ class Supervisor:
         for follower in self.followers.get(None, ()):
             follower.tell(line)
 
+    def follow(self, site: Site | None) -> tuple[Follower, int]:
+        """Somebody who is told each event, or each record and answer of a site, from now on; and how many bytes of the file `events`, or
+        of the site's file `out`, have those of before. What the site was given and hasn't answered comes first."""
+        follower = Follower()
+        self.followers.setdefault(site.number if site else None, set()).add(follower)
+        if not site:
+            return follower, os.fstat(self.events).st_size
+        for record in site.unanswered():
+            follower.tell(f"{stamp()} < {text_of(record)}")
+        return follower, site.ledger.out_bytes
+
+    def unfollow(self, site: Site | None, follower: Follower) -> None:
+        number = site.number if site else None
+        self.followers[number].discard(follower)
+        if not self.followers[number]:
+            del self.followers[number]
+
     def is_followed(self, site: int) -> bool:
         return site in self.followers
 
