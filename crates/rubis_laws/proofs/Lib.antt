@@ -74,4 +74,5 @@ pub mod Rebuilt
 pub mod RebuiltSites
 pub mod RebuildExamples
 pub mod RebuildInputs
+pub mod RebuildRecords
 pub mod GivenAll

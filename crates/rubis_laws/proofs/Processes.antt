@@ -45,6 +45,7 @@ use Rattle.rubis_model.specs.Answers.{arrived_rows, asked_rows, listed_rows, pas
 use Rattle.rubis_model.specs.Listings.{category_record, is_of, log_from, misfit_rows, row_record, table_rows}
 use Rattle.rubis_model.specs.Log.{Folded, cores, fold_of}
 use Rattle.rubis_model.specs.Processes.{AreProcesses, Carried, IsSent, ProcessesAreARun, Reading, WasSent, answers_of, process, read_by, site_after, state_of}
+use Rattle.rubis_model.specs.RebuildRecords.{IsWritten}
 use Rattle.rubis_model.specs.Restarts.{AnswersStay}
 use Rattle.rubis_model.specs.Runs.{Input, answers, input_by, input_of, input_step, listing_rows, output_of, told}
 use Rattle.rubis_model.specs.Runs.Input.{Asked, Came, Neither}
@@ -55,7 +56,7 @@ use Rattle.rubis_model.specs.System.{AreEvents, Event, World, coming, happens, p
 use Rattle.rubis_model.specs.System.Event.{At, Deliver}
 use Rattle.rubis_model.proofs.Lists.{has_append, has_left, has_right}
 use Rattle.rubis_laws.proofs.Keeps.{event_keeps, event_sites, same_sites, start_sites, start_sound}
-use Rattle.rubis_laws.proofs.Written.{AllPackets, IsWritten, event_written, written_event}
+use Rattle.rubis_laws.proofs.Written.{AllPackets, event_written, written_event}
 
 -- ---- what a process answers to more records
 

@@ -1,6 +1,6 @@
 -- What the sites of a run send is in the grammar: it is read as it is written.
 use Rattle.std.proofs.Common.{ℕ, ◌≡◌, ◌+◌, ◌^◌, ◌≤◌, ◌<◌, List, [], ◌∷◌, ◌++◌, length, true, false, refl, sym, subst, arith, Option, Some, None, ⊎_elim}
-use Rattle.std.specs.Prelude.{⊤, ◌==◌, ◌||◌, nat_le, option_map, Result, Ok, Err}
+use Rattle.std.specs.Prelude.{◌==◌, ◌||◌, nat_le, option_map, Result, Ok, Err}
 use Rattle.std.proofs.lemmas.Bool.{cases_lt, cond_both, or_parts}
 use Rattle.std.proofs.lemmas.Bool.Decides.{nat_tests}
 use Rattle.std.proofs.lemmas.Option.{same_Some}
@@ -22,6 +22,7 @@ use Rattle.rubis_message.specs.declared.tokens.Packet.TheVariants as packet
 use Rattle.rubis_message.specs.declared.tokens.Token.{Token}
 use Rattle.rubis_model.specs.Checks.{Fits}
 use Rattle.rubis_model.specs.Log.{Core, cores}
+use Rattle.rubis_model.specs.RebuildRecords.{IsWritten}
 use Rattle.rubis_model.specs.Meaning.{as_user, last_rename, later, new_nick, nick_after, nick_at, renames, user_at}
 use Rattle.rubis_model.specs.Settle.{Has}
 use Rattle.rubis_model.specs.Site.{Replica, generating, made, passing, rows_at, standing_of, token_for}
@@ -73,11 +74,6 @@ AllPackets sites sent = (p : Packet) → Has p sent → IsPacket sites p
 pub all_deliverable : (sites : ℕ) (sent : List Packet) → AllPackets sites sent → AllDeliverable sites sent
 all_deliverable sites sent all (packet.Msg m) h = let is = all (packet.Msg m) h in (is.0, is.1)
 all_deliverable sites sent all (packet.Token t) h = (all (packet.Token t) h).to
-
--- the request that an event is is in the grammar
-abbrev pub IsWritten : ℕ → Event → Type 0
-IsWritten sites (At i q) = IsRequest sites q
-IsWritten sites (Deliver i k) = ⊤
 
 pub written_event : (sites : ℕ) (e : Event) → IsWritten sites e → IsEvent sites e
 written_event sites (At i (request.Ask a)) h = h.0

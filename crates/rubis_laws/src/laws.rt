@@ -14,6 +14,7 @@ ghost use Rattle.rubis_model.specs.Laws.{LogsOnlyGrow, MeaningIsOne, FoldIsMeani
 ghost use Rattle.rubis_model.specs.Nicknames.{NicknamesAreUnique, RedsAreInOneOrder};
 ghost use Rattle.rubis_model.specs.Processes.{ProcessesAgree, ProcessesAgreeOnTables, ProcessesAreARun, ProcessesAreInRun, ProcessesConverge, ProcessesKeepInvariants, ProcessesKnowTheirOwn};
 ghost use Rattle.rubis_model.specs.Rebuild.{InputsRebuild, SitesAreRebuilt};
+ghost use Rattle.rubis_model.specs.RebuildRecords.{AsksAreReadOff, RecordsRebuild};
 ghost use Rattle.rubis_model.specs.RecordedRuns.{AnswersAreARun, AuditsAgree, RecordsAreARun, RecordsKeepInvariants};
 ghost use Rattle.rubis_model.specs.Restarts.{AnswersStay, NewRecordsAreRead, NothingIsLeftOut, ReadingsAreMoments, RecordingsReplay, RestartedAgree, RestartedConverge, RestartsChangeNothing};
 
@@ -204,10 +205,13 @@ pub fn restarts_change_nothing()
 
 /// A site that lost its disk can be made again from what the sites sent: a fresh one is given, for each packet that the site sent,
 /// what that counts and needs, and then the ask of its shadow. Then it sends the same packets again, its log has exactly what
-/// those count, and with it in its place the sites are a run that sent the same.
+/// those count, and with it in its place the sites are a run that sent the same. What it is given are records, each of which it
+/// reads as what it is there for, and the rows that it sends are those of before; the record of an ask is read off its message.
 pub fn sites_are_rebuilt()
     ensures again { SitesAreRebuilt }
     ensures inputs { InputsRebuild }
+    ensures records { RecordsRebuild }
+    ensures asks { AsksAreReadOff }
 {}
 
 /// In every log, forged ones too, no stock is below zero, and a nickname's row stays until its user is renamed. Of a log that a

@@ -34,4 +34,5 @@ pub mod Nicknames
 pub mod Lack
 pub mod LackRecords
 pub mod Rebuild
+pub mod RebuildRecords
 pub mod Given

@@ -1,3 +1,4 @@
+use Rattle.rubis_laws.proofs.RebuildRecords.{asks_are_read_off, records_rebuild}
 use Rattle.rubis_laws.proofs.RebuildInputs.{inputs_rebuild}
 use Rattle.rubis_laws.proofs.RebuiltSites.{sites_are_rebuilt}
 use Rattle.rubis_laws.proofs.laws.sites_are_rebuilt.Goals as goal
@@ -7,3 +8,9 @@ returns-clause-again c = sites_are_rebuilt
 
 pub returns-clause-inputs : goal.returns-clause-inputs
 returns-clause-inputs c = inputs_rebuild
+
+pub returns-clause-records : goal.returns-clause-records
+returns-clause-records c = records_rebuild
+
+pub returns-clause-asks : goal.returns-clause-asks
+returns-clause-asks c = asks_are_read_off
