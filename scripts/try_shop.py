@@ -689,6 +689,16 @@ def test_service(at: Folder) -> None:
     at.shop("status", 3, "is not running")
 
 
+def test_unit(at: Folder) -> None:
+    """The unit file, as systemd reads it: with the paths of this folder it finds no fault."""
+    if not shutil.which("systemd-analyze"):
+        raise Skipped("no systemd-analyze on this machine")
+    unit = (TOP / "systemd/shop@.service").read_text()
+    expect("ExecStart=/usr/local/bin/shop run " in unit, "what the unit starts")
+    (at.path / "shop@auction.service").write_text(unit.replace("/usr/local/bin/", f"{at.path}/"))
+    at.run("systemd-analyze verify ./shop@auction.service > said 2>&1; cat said >&2; test ! -s said")
+
+
 # What the shell scripts that ran shops before did wrong, tried again. Each names what they did.
 
 
