@@ -7,6 +7,7 @@ from collections.abc import Iterator
 
 from .answers import Answer
 from .records import Message, Token, packet_of
+from .release import Release
 
 # The place of a packet among those of its site: (n, t) is the t-th token after own message n, and (n, 0) that message. It is the id of
 # the packet's entry in the site's stream, n-t.
@@ -103,6 +104,7 @@ class Ledger:
         self.sends = Sends(out)
         self.have = [Prefix() for _ in range(sites)]    # messages of each other site, released or held
         self.red = Prefix()         # red numbers of all messages that are here
+        self.release: Release[Message] = Release(sites)
         self.holds_token = site == 0
         self.turn = 0               # of the token that it took or passed last
         self.issued = 0             # red numbers issued before the token came
@@ -132,6 +134,7 @@ class Ledger:
         packet = packet_of(text)
         self.sends.add(isinstance(packet, Message), start, len(text))
         if isinstance(packet, Message):
+            self.release.made(packet)
             if packet.red:
                 self.red.add(packet.red)
         elif isinstance(packet, Token):
@@ -142,6 +145,7 @@ class Ledger:
         packet = packet_of(record)
         if isinstance(packet, Message) and packet.origin != self.site:
             self.have[packet.origin].add(packet.number)
+            self.release.arrive(packet)
             if packet.red:
                 self.red.add(packet.red)
 

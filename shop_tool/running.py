@@ -11,6 +11,7 @@ from typing import Any
 from . import client, program, settings
 from .answers import AnswerReader
 from .ends import Fault, Status
+from .grid import grid_of_status, grid_text
 from .records import text_of
 from .render import GREEN, RED, YELLOW, coloured, print_columns
 
@@ -119,6 +120,9 @@ def _print_status(shop: dict[str, Any]) -> None:
             str(site["site"]), site["state"], site["since"], str(site["records"]), str(site["messages"]), behind or "-",
             f"{site['published']}/{site['sent']}", str(site["waiting"]), str(site["starts"]), site["fault"] or "-"])
     print_columns(rows, {"up": GREEN, "starting": YELLOW, "down": RED, "fenced": RED, "ended": RED, "away": YELLOW})
+    grid = grid_of_status(shop)
+    if shop["sites"] > 1 and grid.columns:
+        print(f"\n{grid_text(grid)}", end="")
 
 
 def log(args: argparse.Namespace) -> int:

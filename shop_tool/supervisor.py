@@ -12,12 +12,13 @@ from typing import TYPE_CHECKING, Any
 
 from .ends import Fault, Status
 from .folders import ran_since_boot
+from .grid import waits_of
 from .ledger import Prefix
 from .records import RECORDS_OF_A_RUN, Message, Token, packet_of, text_of
 from .settings import FILES, Settings, existing
 from .signals import Signal
 from .site import Site, State
-from .times import stamp
+from .times import changed, stamp
 from .turns import SAY_AGAIN, Wants
 
 if TYPE_CHECKING:
@@ -28,6 +29,7 @@ FOLLOWED_LINES = 10_000     # how many lines a follower may be behind before it 
 LOCK_SECONDS = 5.0
 LOOK_SECONDS = 1.0          # how often it looks whether its folder is still there
 COMPARE_SECONDS = 10.0      # how long a start waits until its sites are compared with their streams
+SHOWN_WAITS = 20            # how many messages that wait a status names
 STOP_SECONDS = 30.0         # how long a stop waits for what sites were given to be answered
 
 
@@ -213,6 +215,8 @@ class Supervisor:
             "records_left": RECORDS_OF_A_RUN - ledger.records, "messages": ledger.messages, "own": ledger.sends.messages,
             "has": {str(origin): have.upto for origin, have in enumerate(ledger.have) if origin != site.number},
             "behind": {str(origin): count for origin, count in self.behind(site).items()},
+            "released": list(ledger.release.counts), "held": len(ledger.release.waiting),
+            "waits": [waits.record for waits in waits_of(ledger.release, SHOWN_WAITS)], "answered": changed(f"{site.folder}/out"),
             "sent": len(ledger.sends), "published": self.link.published(site), "holds_token": ledger.holds_token and site.known.is_set(),
             "turn": ledger.turn,
             "waiting": len(site.line) + site.token_askers, "starts": site.starts,

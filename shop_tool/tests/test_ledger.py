@@ -43,6 +43,9 @@ class Notes(unittest.TestCase):
         self.assertEqual((self.ledger.red.upto, self.ledger.messages, self.ledger.records), (4, 5, 9))
         self.assertEqual((self.ledger.kept_bytes, self.ledger.out_bytes), (sum(map(len, KEPT)) + 9, len(OUT)))
 
+    def test_what_is_released(self) -> None:
+        self.assertEqual((self.ledger.release.counts, self.ledger.release.reds, dict(self.ledger.release.waiting)), ([3, 2], 4, {}))
+
     def test_what_it_sent(self) -> None:
         sends = self.ledger.sends
         self.assertEqual([place for place, _ in sends.read(0, len(sends))], [(1, 0), (1, 1), (2, 0), (3, 0), (3, 1)])
