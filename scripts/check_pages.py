@@ -20,10 +20,13 @@ import pathlib
 import re
 import sys
 
-import picture
 import write_contracts
 
 TOP = pathlib.Path(__file__).resolve().parent.parent
+sys.path.insert(0, str(TOP))
+
+from picture_tool.cli import drawn  # noqa: E402
+
 CRATES = TOP / "crates"
 
 # What stands in the specs: definitions, records with their fields, and the constructors of data types.
@@ -37,10 +40,13 @@ PATH_OR_NAME = re.compile(r"^[A-Za-z_]\w*(?:::\w+)*$")
 # A link to lines of a source.
 LINK = re.compile(r"\[`([\w:]+)`\]\(([^)#\s]*crates/[^)#\s]+)(?:#L(\d+)-L(\d+))?\)")
 
-# The pictures of docs/, each with the conversation that it is drawn of.
+# The pictures of docs/, each with what scripts/picture.py is given for it.
 PICTURES = {
-    "docs/two_sites.svg": "conversations/two_sites_and_the_token.txt",
-    "docs/two_holders.svg": "conversations/an_audit_finds_two_holders_of_the_token.txt",
+    "docs/two_sites.svg": ["conversations/two_sites_and_the_token.txt"],
+    "docs/two_holders.svg": ["conversations/an_audit_finds_two_holders_of_the_token.txt"],
+    "docs/two_versions.svg": ["conversations/an_audit_finds_two_versions_of_a_message.txt"],
+    "docs/lost.svg": ["conversations/a_lost_message_is_waited_for_at_three_sites.txt"],
+    "docs/lagging.svg": ["--grid", "conversations/a_site_waits_for_what_was_lost.txt"],
 }
 
 # Words in code spans that are no names of ours: Rust's, the toolchain's and the crates' that we stand on.
@@ -244,11 +250,11 @@ def check_crates(page: pathlib.Path) -> tuple[int, list[str]]:
 
 def check_pictures(fix: bool) -> tuple[int, list[str]]:
     faults = []
-    for name, conversation in PICTURES.items():
-        drawn = picture.drawn((TOP / conversation).read_text())
+    for name, (*options, conversation) in PICTURES.items():
+        text = drawn([*options, str(TOP / conversation)])
         if fix:
-            (TOP / name).write_text(drawn)
-        if not (TOP / name).exists() or (TOP / name).read_text() != drawn:
+            (TOP / name).write_text(text)
+        if not (TOP / name).exists() or (TOP / name).read_text() != text:
             faults.append(f"{name}:1: isn't what scripts/picture.py draws of {conversation}; check_pages.py --fix draws it")
     return len(PICTURES), faults
 

@@ -1,0 +1,137 @@
+"""A headless browser that tests drive: Chromium over its debugging pipe."""
+
+import base64
+import json
+import os
+import shutil
+import subprocess
+import tempfile
+import time
+from typing import Any
+
+NAMES = ("chromium", "chromium-browser", "google-chrome")
+KEYS = {"ArrowRight": 39, "ArrowLeft": 37, "ArrowUp": 38, "ArrowDown": 40, "Home": 36, "End": 35, "Escape": 27, "Tab": 9}
+SECONDS = 30
+
+
+def found() -> str | None:
+    """The browser of this machine, if it has one."""
+    return next((path for name in NAMES if (path := shutil.which(name))), None)
+
+
+class Browser:
+    """One page of a browser, which ends with the block."""
+
+    def __init__(self, width: int = 1280, height: int = 800) -> None:
+        self.folder = tempfile.TemporaryDirectory(ignore_cleanup_errors=True)
+        self.width, self.height = width, height
+        self.number, self.session, self.rest = 0, "", b""
+        self.faults: list[str] = []         # what the page said on its console as errors
+
+    def __enter__(self) -> "Browser":
+        program = found()
+        assert program
+        get, self.put = os.pipe()           # the browser reads the file 3, and writes the file 4
+        self.get, put = os.pipe()
+        moved = f"exec {program} \"$@\" 3<&{get} 4>&{put}"
+        words = ["--headless", "--no-sandbox", "--disable-gpu", "--hide-scrollbars", "--remote-debugging-pipe", "--no-first-run",
+                 f"--user-data-dir={self.folder.name}", f"--window-size={self.width},{self.height}"]
+        self.process = subprocess.Popen(["sh", "-c", moved, "sh", *words], pass_fds=(get, put), stdin=subprocess.DEVNULL,
+                                        stdout=subprocess.DEVNULL, stderr=subprocess.DEVNULL)
+        os.close(get)
+        os.close(put)
+        try:
+            target = self.call("Target.createTarget", url="about:blank")["targetId"]
+            self.session = self.call("Target.attachToTarget", targetId=target, flatten=True)["sessionId"]
+            for domain in ("Page", "Runtime", "Log"):
+                self.call(f"{domain}.enable")
+            self.size(self.width, self.height)
+        except BaseException:
+            self.__exit__()
+            raise
+        return self
+
+    def __exit__(self, *_: object) -> None:
+        os.close(self.put)                  # which ends it, and all that it has started
+        try:
+            self.process.wait(10)
+        except subprocess.TimeoutExpired:
+            self.process.kill()
+            self.process.wait()
+        os.close(self.get)
+        self.folder.cleanup()
+
+    def call(self, method: str, **params: Any) -> dict[str, Any]:
+        self.number += 1
+        said: dict[str, Any] = {"id": self.number, "method": method, "params": params}
+        if self.session:
+            said["sessionId"] = self.session
+        os.write(self.put, json.dumps(said).encode() + b"\0")
+        while True:
+            heard = self._hear()
+            if heard.get("id") == self.number:
+                if "error" in heard:
+                    raise RuntimeError(f"{method}: {heard['error']}")
+                result: dict[str, Any] = heard["result"]
+                return result
+            self._note(heard)
+
+    def _hear(self) -> dict[str, Any]:
+        while b"\0" not in self.rest:
+            data = os.read(self.get, 1 << 20)
+            if not data:
+                raise RuntimeError("the browser has ended")
+            self.rest += data
+        one, _, self.rest = self.rest.partition(b"\0")
+        heard: dict[str, Any] = json.loads(one)
+        return heard
+
+    def _note(self, heard: dict[str, Any]) -> None:
+        params = heard.get("params", {})
+        if heard.get("method") == "Runtime.exceptionThrown":
+            self.faults.append(params["exceptionDetails"].get("exception", {}).get("description", "an exception"))
+        elif heard.get("method") == "Log.entryAdded" and params["entry"]["level"] == "error":
+            self.faults.append(params["entry"]["text"])
+
+    def size(self, width: int, height: int, scale: float = 1) -> None:
+        self.call("Emulation.setDeviceMetricsOverride", width=width, height=height, deviceScaleFactor=scale, mobile=False)
+
+    def open(self, path: str, ready: str = "document.readyState === 'complete'") -> None:
+        self.call("Page.navigate", url=f"file://{os.path.abspath(path)}")
+        self.wait(ready)
+
+    def wait(self, claim: str) -> None:
+        until = time.monotonic() + SECONDS
+        while not self.value(claim):
+            if time.monotonic() > until:
+                raise RuntimeError(f"in vain: {claim}; {self.faults}")
+            time.sleep(0.05)
+
+    def value(self, script: str) -> Any:
+        """What a script is worth in the page."""
+        said = self.call("Runtime.evaluate", expression=script, returnByValue=True, awaitPromise=True)
+        if "exceptionDetails" in said:
+            raise RuntimeError(said["exceptionDetails"].get("exception", {}).get("description", "an exception"))
+        return said["result"].get("value")
+
+    def key(self, name: str, is_shifted: bool = False) -> None:
+        text = name if len(name) == 1 else ""
+        more: dict[str, Any] = {"windowsVirtualKeyCode": KEYS[name]} if name in KEYS else {"text": text}
+        for kind in ("keyDown" if text else "rawKeyDown", "keyUp"):
+            self.call("Input.dispatchKeyEvent", type=kind, key=name, modifiers=8 if is_shifted else 0, **more)
+
+    def mouse(self, kind: str, x: float, y: float, **more: Any) -> None:
+        self.call("Input.dispatchMouseEvent", type=kind, x=x, y=y, **more)
+
+    def shot(self, path: str, height: int | None = None) -> None:
+        """What is seen, as PNG; or more of the page, from its top."""
+        clip = {"x": 0, "y": 0, "width": self.width, "height": height or self.height, "scale": 1}
+        data = self.call("Page.captureScreenshot", format="png", clip=clip, captureBeyondViewport=height is not None)["data"]
+        with open(path, "wb") as file:
+            file.write(base64.b64decode(data))
+
+    def paper(self, path: str) -> None:
+        """The page as it is printed, as PDF."""
+        data = self.call("Page.printToPDF", preferCSSPageSize=True, printBackground=False)["data"]
+        with open(path, "wb") as file:
+            file.write(base64.b64decode(data))
