@@ -496,8 +496,7 @@ def finished(dice: Dice, command: list[str], records: list[str]) -> Case:
 
 
 def network(dice: Dice, many: int, only_one: bool) -> Network:
-    sites = 1 if only_one and dice.often(0.25) else dice.one(["2", "2", "3", "4", "7", "16"])
-    sites = int(sites)
+    sites = 1 if only_one and dice.often(0.25) else int(dice.one(["2", "2", "3", "4", "7", "16"]))
     only = dice.below(sites) if only_one else None
     oddness = 0.0 if dice.often(0.4) else 0.015
     forging = 0.0 if dice.often(0.5) or sites == 1 else 0.25

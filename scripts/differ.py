@@ -14,6 +14,7 @@ seeds and counts that were run."""
 import argparse
 import collections
 import contextlib
+import ctypes
 import dataclasses
 import fcntl
 import multiprocessing
@@ -80,7 +81,8 @@ def ended(pid: int) -> int | str:
 
 def start(command: list[str], source: int, target: int, faults: int) -> int:
     actions = [(os.POSIX_SPAWN_DUP2, source, 0), (os.POSIX_SPAWN_DUP2, target, 1), (os.POSIX_SPAWN_DUP2, faults, 2)]
-    pid = os.posix_spawn(command[0], command, {}, file_actions=actions)
+    nothing: dict[str, str] = {}
+    pid = os.posix_spawn(command[0], command, nothing, file_actions=actions)
     os.close(source)
     return pid
 
@@ -322,7 +324,7 @@ def main() -> int:
 
 def compare_all(options: argparse.Namespace, programs: Programs) -> int:
     began = time.monotonic()
-    taken: Taken = multiprocessing.Value("q", options.first)
+    taken: Taken = multiprocessing.Value(ctypes.c_longlong, options.first)
     found: Found = multiprocessing.SimpleQueue()
     workers = [multiprocessing.Process(target=take_shares, args=(options, programs, taken, found)) for _ in range(options.jobs)]
     for worker in workers:
