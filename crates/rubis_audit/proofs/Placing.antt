@@ -12,10 +12,10 @@ use Rattle.rubis_engine.specs.Text.{rows_text}
 use Rattle.rubis_engine.specs.declared.service.Course.TheVariants.{GoesOn}
 use Rattle.rubis_audit.specs.Places.{logs_at, place_after, place_in, place_of}
 use Rattle.rubis_audit.specs.Widening.{bad_record, widened_rows, widening_from}
-use Rattle.rubis_audit.specs.declared.widener.Place.{Place}
-use Rattle.rubis_audit.specs.declared.widener.Place.TheVariants.{BeforeLogs, InMessages, InRows}
+use Rattle.rubis_audit.specs.declared.widener.LinePlace.{LinePlace}
+use Rattle.rubis_audit.specs.declared.widener.LinePlace.TheVariants.{BeforeLogs, InMessages, InRows}
 
-begins : (p : Place) (site : ℕ) → place_after p (Begin site) ≡ Some InMessages
+begins : (p : LinePlace) (site : ℕ) → place_after p (Begin site) ≡ Some InMessages
 begins BeforeLogs site = refl
 begins InMessages site = refl
 begins InRows site = refl
@@ -36,7 +36,7 @@ places (log ∷ logs) (Claim row) = at log.rows
     at None = refl
     at (Some rows) = refl
 
-pub place_at : (p : Place) → place_of (logs_at p) ≡ p
+pub place_at : (p : LinePlace) → place_of (logs_at p) ≡ p
 place_at BeforeLogs = refl
 place_at InMessages = refl
 place_at InRows = refl
@@ -73,7 +73,7 @@ alike from to (fields ∷ rest) n a b e = line (line_of from fields) (alike from
 one_row : (row : List (List ℕ)) (rows : List (List (List ℕ))) (sink : List ℕ) → sink ++ rows_text (row ∷ rows) ≡ (sink ++ rows_text (row ∷ [])) ++ rows_text rows
 one_row row rows sink = sym (more_written (row ∷ []) rows sink (sink ++ rows_text (row ∷ [])) ((sink ++ rows_text (row ∷ [])) ++ rows_text rows) refl refl)
 
-rows_go : (from to n : ℕ) (place next : Place) (x : Line) (fields : List (List ℕ)) (rest : List (List (List ℕ))) → line_of from fields ≡ Some x → place_after place x ≡ Some next
+rows_go : (from to n : ℕ) (place next : LinePlace) (x : Line) (fields : List (List ℕ)) (rest : List (List (List ℕ))) → line_of from fields ≡ Some x → place_after place x ≡ Some next
     → widened_rows from to n (logs_at place) (fields ∷ rest) ≡ line_record (widened_line to x) ∷ widened_rows from to (n + 1) (logs_at next) rest
 rows_go from to n place next x fields rest l a =
     ap (λ o. rows_after from to n fields rest (option_and_then (with_line (logs_at place)) o)) l ∙ more (with_line (logs_at place) x) refl
@@ -87,7 +87,7 @@ rows_go from to n place next x fields rest l a =
         let p = sym (ap (option_map place_of) e) ∙ places (logs_at place) x ∙ ap (λ p. place_after p x) (place_at place) ∙ a in
         λ i. record_is i ∷ alike from to rest (n + 1) logs (logs_at next) (some_same (place_of logs) next p ∙ sym (place_at next)) i
 
-pub goes : (from to n : ℕ) (place next : Place) (x : Line) (fields : List (List ℕ)) (sink sink2 : List ℕ) → line_of from fields ≡ Some x → place_after place x ≡ Some next
+pub goes : (from to n : ℕ) (place next : LinePlace) (x : Line) (fields : List (List ℕ)) (sink sink2 : List ℕ) → line_of from fields ≡ Some x → place_after place x ≡ Some next
     → sink2 ≡ sink ++ rows_text (line_record (widened_line to x) ∷ [])
     → AnswersRecord GoesOn (widening_from from to n (logs_at place)) (widening_from from to (n + 1) (logs_at next)) sink sink2 fields
 goes from to n place next x fields sink sink2 l a s rest = (

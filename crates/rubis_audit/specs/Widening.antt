@@ -8,13 +8,13 @@ use Rattle.rubis_engine.specs.Accounts.{Account}
 use Rattle.rubis_engine.specs.Accounts.Ending.{AtEnd}
 use Rattle.rubis_engine.specs.Text.{input_records, rows_text}
 use Rattle.rubis_audit.specs.Running.{audit_account}
-use Rattle.rubis_audit.specs.declared.widener.Place.{Place}
+use Rattle.rubis_audit.specs.declared.widener.LinePlace.{LinePlace}
 
 -- from how many sites to how many, and where the next record stands
 pub record WidenerState : Type 0 where
   pub from : ℕ
   pub to : ℕ
-  pub place : Place
+  pub place : LinePlace
 
 -- the record that says that record n is not in the grammar
 abbrev pub bad_record : ℕ → List (List ℕ)

@@ -11,7 +11,7 @@ ghost use Rattle.rubis_model.specs.WidenedRecords.{widened_line};
 ghost use Rattle.rubis_engine.specs.Text.{rows_text};
 ghost use Rattle.rubis_audit.specs.Lines.{IsAmongLine, line_as};
 ghost use Rattle.rubis_audit.specs.Places.{logs_at, place_after};
-ghost use Rattle.rubis_audit.specs.declared.widener.Place.TheVariants.{BeforeLogs};
+ghost use Rattle.rubis_audit.specs.declared.widener.LinePlace.TheVariants.{BeforeLogs};
 ghost use Rattle.rubis_audit.specs.Widening.{bad_record, widening_from};
 
 use crate::lines::{Line, read_line};
@@ -23,7 +23,7 @@ use std::marker::Model;
 
 /// Where the next record stands.
 #[derive(Clone, Copy)]
-pub enum Place {
+pub enum LinePlace {
     /// No log has begun.
     BeforeLogs,
     /// Behind the site of a log or one of its messages.
@@ -32,16 +32,16 @@ pub enum Place {
     InRows,
 }
 
-impl Place {
+impl LinePlace {
     // The place after a record that says this. `None` where it can't stand here.
-    fn after(self, line: &Line) -> Option<Place>
+    fn after(self, line: &Line) -> Option<LinePlace>
         ensures { (fields : List (List ℕ)) → result ≡ place_after self (line_as fields line.now) }
     {
         match (self, line) {
-            (_, Line::Begin(_)) => Some(Place::InMessages),
-            (Place::InMessages, Line::Next(_)) => Some(Place::InMessages),
-            (Place::InMessages, Line::Claim) | (Place::InRows, Line::Claim) => Some(Place::InRows),
-            (Place::BeforeLogs, _) | (Place::InRows, Line::Next(_)) => None,
+            (_, Line::Begin(_)) => Some(LinePlace::InMessages),
+            (LinePlace::InMessages, Line::Next(_)) => Some(LinePlace::InMessages),
+            (LinePlace::InMessages, Line::Claim) | (LinePlace::InRows, Line::Claim) => Some(LinePlace::InRows),
+            (LinePlace::BeforeLogs, _) | (LinePlace::InRows, Line::Next(_)) => None,
         }
     }
 }
@@ -51,7 +51,7 @@ impl Place {
 pub struct Widener {
     from: u8,
     to: u8,
-    place: Place,
+    place: LinePlace,
     alloc: Global,
 }
 
@@ -107,7 +107,7 @@ impl Widener {
         Widener {
             from,
             to,
-            place: Place::BeforeLogs,
+            place: LinePlace::BeforeLogs,
             alloc,
         }
     }

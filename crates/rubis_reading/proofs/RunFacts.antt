@@ -3,16 +3,16 @@ use Rattle.std.proofs.Common.{◌≡◌, ◌∙◌, ◌<◌, ◌≤◌, ◌+◌,
 use Rattle.std.proofs.lemmas.List.{at_drop_more, nil_from_length}
 use Rattle.rubis_message.specs.Message.{Message}
 use Rattle.rubis_message.specs.declared.tokens.Packet.TheVariants.{Msg}
-use Rattle.rubis_reading.specs.Runs.{all_came, flat, of_run}
+use Rattle.rubis_reading.specs.Runs.{all_came, flat, of_stretch}
 use Rattle.rubis_reading.specs.declared.parsed.Parsed.TheVariants.{Came}
-use Rattle.rubis_reading.specs.declared.parsed.Run.{Run}
+use Rattle.rubis_reading.specs.declared.parsed.Stretch.{Stretch}
 
-pub flat-both : (a b : List Run) → flat (a ++ b) ≡ flat a ++ flat b
+pub flat-both : (a b : List Stretch) → flat (a ++ b) ≡ flat a ++ flat b
 flat-both [] b = refl
-flat-both (r ∷ a) b = ap (λ t. of_run r ++ t) (flat-both a b) ∙ sym (append_assoc (of_run r) (flat a) (flat b))
+flat-both (r ∷ a) b = ap (λ t. of_stretch r ++ t) (flat-both a b) ∙ sym (append_assoc (of_stretch r) (flat a) (flat b))
 
-pub flat-more : (a : List Run) (r : Run) → flat (a ++ r ∷ []) ≡ flat a ++ of_run r
-flat-more a r = flat-both a (r ∷ []) ∙ ap (λ t. flat a ++ t) (append-nil (of_run r))
+pub flat-more : (a : List Stretch) (r : Stretch) → flat (a ++ r ∷ []) ≡ flat a ++ of_stretch r
+flat-more a r = flat-both a (r ∷ []) ∙ ap (λ t. flat a ++ t) (append-nil (of_stretch r))
 
 pub came-more : (ms : List Message) (m : Message) → all_came (ms ++ m ∷ []) ≡ all_came ms ++ Came (Msg m) ∷ []
 came-more [] m = refl
@@ -23,15 +23,15 @@ came-length [] = refl
 came-length (m ∷ ms) = ap suc (came-length ms)
 
 -- how many records runs have
-abbrev pub counted : List Run → ℕ
+abbrev pub counted : List Stretch → ℕ
 counted [] = 0
-counted (r ∷ rest) = length (of_run r) + counted rest
+counted (r ∷ rest) = length (of_stretch r) + counted rest
 
-pub counted-flat : (runs : List Run) → counted runs ≡ length (flat runs)
+pub counted-flat : (runs : List Stretch) → counted runs ≡ length (flat runs)
 counted-flat [] = refl
-counted-flat (r ∷ rest) = let more = counted-flat rest in let both = length-append (of_run r) (flat rest) in omega (arith, more, both)
+counted-flat (r ∷ rest) = let more = counted-flat rest in let both = length-append (of_stretch r) (flat rest) in omega (arith, more, both)
 
-pub counted-drop : (runs : List Run) (i : ℕ) (r : Run) → i < length runs → counted (drop i runs) ≡ length (of_run (get_or runs i r)) + counted (drop (i + 1) runs)
+pub counted-drop : (runs : List Stretch) (i : ℕ) (r : Stretch) → i < length runs → counted (drop i runs) ≡ length (of_stretch (get_or runs i r)) + counted (drop (i + 1) runs)
 counted-drop runs i r lt = at_drop_more counted runs i r lt
 
 pub ruleset run_facts = (flat-more)
@@ -40,5 +40,5 @@ pub ruleset came_facts = (came-more)
 
 pub ruleset count_facts = (counted-flat)
 
-pub counted-end : (runs : List Run) (i : ℕ) → length runs ≤ i → counted (drop i runs) ≡ 0
+pub counted-end : (runs : List Stretch) (i : ℕ) → length runs ≤ i → counted (drop i runs) ≡ 0
 counted-end runs i over = ap counted (nil_from_length (drop i runs) (omega (arith, length-drop i runs, over)))

@@ -2,9 +2,9 @@
 
 ghost use Rattle.std.specs.Prelude.{◌≡◌, ◌++◌, ◌∷◌, [], length, IfNone, IfOk, IfSome, OnOk};
 ghost use Rattle.std.specs.Vec.Iter.{into_iter_items};
-ghost use Rattle.rubis_reading.specs.Runs.{all_came, flat, of_next, of_run};
+ghost use Rattle.rubis_reading.specs.Runs.{all_came, flat, of_next, of_stretch};
 
-use crate::parsed::{Parsed, Run, push_run};
+use crate::parsed::{Parsed, Stretch, push_stretch};
 use rubis_engine::OutOfMemory;
 use rubis_message::Packet;
 use std::alloc::Global;
@@ -12,23 +12,23 @@ use std::marker::Model;
 use std::vec::IntoIter;
 
 // How many records a run has.
-fn count_run(run: &Run) -> usize
-    ensures { result ≡ length (of_run run.now) }
+fn count_stretch(run: &Stretch) -> usize
+    ensures { result ≡ length (of_stretch run.now) }
 {
     match run {
-        Run::Messages(list) => list.len(),
-        Run::One(_) => 1,
+        Stretch::Messages(list) => list.len(),
+        Stretch::One(_) => 1,
     }
 }
 
 // How many records several runs have, if a number can tell.
 #[tactic(auto, using(crate::proofs::RunFacts::count_facts))]
-fn count_runs(list: &[Run]) -> Option<usize>
+fn count_stretches(list: &[Stretch]) -> Option<usize>
     ensures { IfSome result (λ many. many ≡ length (flat list.now)) }
 {
     let mut many = 0;
     for run in list {
-        let Some(more) = count_run(run).checked_add(many) else {
+        let Some(more) = count_stretch(run).checked_add(many) else {
             return None;
         };
         many = more;
@@ -37,25 +37,25 @@ fn count_runs(list: &[Run]) -> Option<usize>
 }
 
 // Puts the records of a run behind, one by one.
-fn add_singles(list: &mut Vec<Run>, run: Run) -> Result<(), OutOfMemory>
-    ensures { OnOk result (flat list.new.items ≡ flat list.old.items ++ of_run run) }
+fn add_singles(list: &mut Vec<Stretch>, run: Stretch) -> Result<(), OutOfMemory>
+    ensures { OnOk result (flat list.new.items ≡ flat list.old.items ++ of_stretch run) }
 {
     let messages = match run {
-        Run::One(parsed) => return push_run(list, Run::One(parsed)),
-        Run::Messages(messages) => messages,
+        Stretch::One(parsed) => return push_stretch(list, Stretch::One(parsed)),
+        Stretch::Messages(messages) => messages,
     };
     let mut rest = messages.into_iter();
     'messages: for _ in 0..u64::MAX {
         let Some(message) = rest.next() else {
             return Ok(());
         };
-        push_run(list, Run::One(Parsed::Came(Packet::Msg(message))))?;
+        push_stretch(list, Stretch::One(Parsed::Came(Packet::Msg(message))))?;
     }
     Err(OutOfMemory)
 }
 
 // Puts the records of several runs behind, one by one.
-fn add_all_singles(list: &mut Vec<Run>, mut rest: IntoIter<Run>) -> Result<(), OutOfMemory>
+fn add_all_singles(list: &mut Vec<Stretch>, mut rest: IntoIter<Stretch>) -> Result<(), OutOfMemory>
     ensures { OnOk result (flat list.new.items ≡ flat list.old.items ++ flat (into_iter_items rest)) }
 {
     'runs: for _ in 0..u64::MAX {
@@ -70,7 +70,7 @@ fn add_all_singles(list: &mut Vec<Run>, mut rest: IntoIter<Run>) -> Result<(), O
 /// Records that were read, in order. Contracts see those that are left.
 #[derive(Drop)]
 pub struct Ahead {
-    rest: IntoIter<Run>,
+    rest: IntoIter<Stretch>,
     // How many records they are.
     many: usize,
     ghost same: { many ≡ length (flat (into_iter_items rest)) },
@@ -103,10 +103,10 @@ impl Ahead {
     /// # Errors
     ///
     /// Where they have more records than a number can tell.
-    pub fn of(list: Vec<Run>) -> Result<Ahead, OutOfMemory>
+    pub fn of(list: Vec<Stretch>) -> Result<Ahead, OutOfMemory>
         ensures { IfOk result (λ ahead. ahead ≡ flat list.items) }
     {
-        let Some(many) = count_runs(list.as_slice()) else {
+        let Some(many) = count_stretches(list.as_slice()) else {
             return Err(OutOfMemory);
         };
         Ok(Ahead {
@@ -123,14 +123,14 @@ impl Ahead {
     }
 
     /// The next, and where messages came together all of them.
-    pub fn next_run(&mut self) -> Option<Run>
+    pub fn next_stretch(&mut self) -> Option<Stretch>
         ensures parts { self.old ≡ of_next result ++ self.new }
         ensures none { IfNone result (self.old ≡ []) }
     {
         let Some(run) = self.rest.next() else {
             return None;
         };
-        self.many -= count_run(&run);
+        self.many -= count_stretch(&run);
         Some(run)
     }
 

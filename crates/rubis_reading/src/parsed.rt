@@ -5,7 +5,7 @@ ghost use Rattle.rubis_engine.specs.Reading.{Gives};
 ghost use Rattle.rubis_engine.specs.Text.{input_records};
 ghost use Rattle.rubis_message.specs.Readings.{packet_of};
 ghost use Rattle.rubis_reading.specs.Parsed.{AreParsed, IsParsed};
-ghost use Rattle.rubis_reading.specs.Runs.{all_came, flat, of_run};
+ghost use Rattle.rubis_reading.specs.Runs.{all_came, flat, of_stretch};
 ghost use Rattle.rubis_message.specs.declared.tokens.Packet.TheVariants.{Msg};
 ghost use Rattle.rubis_reading.specs.declared.parsed.Parsed.TheVariants.{Came};
 
@@ -41,7 +41,7 @@ fn read_as_request(alloc: Global, fields: &InputRecord, sites: u8) -> Result<Par
 
 /// What records are, one after the other: messages, which come in great numbers, in a list of their own.
 #[derive(Drop)]
-pub enum Run {
+pub enum Stretch {
     /// Messages of other sites.
     Messages(Vec<Message>),
     /// One record.
@@ -63,8 +63,8 @@ pub fn read_record(alloc: Global, fields: &InputRecord, sites: u8) -> Result<Par
 
 /// Puts a run behind.
 #[tactic(auto, using(crate::proofs::RunFacts::run_facts))]
-pub(crate) fn push_run(list: &mut Vec<Run>, run: Run) -> Result<(), OutOfMemory>
-    ensures { OnOk result (flat list.new.items ≡ flat list.old.items ++ of_run run) }
+pub(crate) fn push_stretch(list: &mut Vec<Stretch>, run: Stretch) -> Result<(), OutOfMemory>
+    ensures { OnOk result (flat list.new.items ≡ flat list.old.items ++ of_stretch run) }
 {
     match list.push(run) {
         Ok(()) => Ok(()),
@@ -85,28 +85,28 @@ fn push_message(messages: &mut Vec<Message>, message: Message) -> Result<(), Out
 
 // Puts the messages behind that came together, if there are any.
 #[inline(always)]
-fn keep_messages(list: &mut Vec<Run>, messages: Vec<Message>) -> Result<(), OutOfMemory>
+fn keep_messages(list: &mut Vec<Stretch>, messages: Vec<Message>) -> Result<(), OutOfMemory>
     ensures { OnOk result (flat list.new.items ≡ flat list.old.items ++ all_came messages.items) }
 {
     if messages.is_empty() {
         return Ok(());
     }
-    push_run(list, Run::Messages(messages))
+    push_stretch(list, Stretch::Messages(messages))
 }
 
 // Puts the messages behind that came together, and what came after them.
-fn keep_one(list: &mut Vec<Run>, messages: Vec<Message>, parsed: Parsed) -> Result<(), OutOfMemory>
+fn keep_one(list: &mut Vec<Stretch>, messages: Vec<Message>, parsed: Parsed) -> Result<(), OutOfMemory>
     ensures { OnOk result (flat list.new.items ≡ (flat list.old.items ++ all_came messages.items) ++ parsed ∷ []) }
 {
     keep_messages(list, messages)?;
-    push_run(list, Run::One(parsed))
+    push_stretch(list, Stretch::One(parsed))
 }
 
 // Puts a message to those that came together. Where these are as many as a window has, they are put behind first.
 #[inline(always)]
 fn keep_message(
     alloc: Global,
-    list: &mut Vec<Run>,
+    list: &mut Vec<Stretch>,
     messages: &mut Vec<Message>,
     window: usize,
     message: Message,
@@ -124,7 +124,7 @@ fn keep_message(
 #[inline(always)]
 fn keep(
     alloc: Global,
-    list: &mut Vec<Run>,
+    list: &mut Vec<Stretch>,
     messages: &mut Vec<Message>,
     window: usize,
     parsed: Parsed,
@@ -158,7 +158,7 @@ const ROOM_MAX: usize = 16_384;
 fn read_all<R: Read>(
     alloc: Global,
     records: &mut Records<R>,
-    list: &mut Vec<Run>,
+    list: &mut Vec<Stretch>,
     messages: &mut Vec<Message>,
     sites: u8,
     window: usize,
@@ -187,7 +187,7 @@ pub fn read_piece(
     piece: &[u8],
     sites: u8,
     window: usize,
-) -> Result<Vec<Run>, OutOfMemory>
+) -> Result<Vec<Stretch>, OutOfMemory>
     requires { sites ≤ 16 }
     ensures { IfOk result (λ list. AreParsed sites (input_records piece.now) (flat list.items)) }
 {

@@ -7,14 +7,14 @@ ghost use Rattle.rubis_reading.specs.Parsed.{AreParsed};
 ghost use Rattle.rubis_reading.specs.Runs.{flat};
 
 use crate::cuts::whole_end;
-use crate::parsed::{Run, read_piece};
+use crate::parsed::{Stretch, read_piece};
 use rubis_engine::OutOfMemory;
 use std::alloc::Global;
 use std::thread;
 use std::thread::Threads;
 
 // What was read of the front of a piece, and then what was read of the rest.
-fn both(mut front: Vec<Run>, mut rest: Vec<Run>) -> Result<Vec<Run>, OutOfMemory>
+fn both(mut front: Vec<Stretch>, mut rest: Vec<Stretch>) -> Result<Vec<Stretch>, OutOfMemory>
     ensures { IfOk result (λ list. list.items ≡ front.items ++ rest.items) }
 {
     match front.append(&mut rest) {
@@ -32,7 +32,7 @@ pub fn read_parts<T: Threads + Sync>(
     sites: u8,
     readers: usize,
     window: usize,
-) -> Result<Vec<Run>, OutOfMemory>
+) -> Result<Vec<Stretch>, OutOfMemory>
     requires { sites ≤ 16 }
     ensures { IfOk result (λ list. AreParsed sites (input_records piece.now) (flat list.items)) }
 {
@@ -49,11 +49,11 @@ pub fn read_parts<T: Threads + Sync>(
     let fewer = readers - 1;
     let (first, others) = thread::join(
         rt,
-        move || -> Result<Vec<Run>, OutOfMemory>
+        move || -> Result<Vec<Stretch>, OutOfMemory>
             requires { sites ≤ 16 }
             ensures { IfOk result (λ list. AreParsed sites (input_records front.entry.now) (flat list.items)) }
         { read_piece(alloc, front, sites, window) },
-        move || -> Result<Vec<Run>, OutOfMemory>
+        move || -> Result<Vec<Stretch>, OutOfMemory>
             requires { IsSync T.row × (sites ≤ 16) }
             ensures { IfOk result (λ list. AreParsed sites (input_records rest.entry.now) (flat list.items)) }
         { read_parts(rt, alloc, rest, sites, fewer, window) },

@@ -4,13 +4,13 @@ ghost use Rattle.std.specs.Prelude.{◌≡◌, ◌≤◌, ◌<◌, ◌+◌, ◌�
 ghost use Rattle.rubis_script.specs.Runs.{GoesOn, GoesOnFrom, IsSound};
 ghost use Rattle.rubis_script.specs.Windows.{AreHeld};
 ghost use Rattle.rubis_reading.specs.Parsed.{FitsIn};
-ghost use Rattle.rubis_reading.specs.Runs.{all_came, of_run};
+ghost use Rattle.rubis_reading.specs.Runs.{all_came, of_stretch};
 
 use crate::backlog::Backlog;
 use crate::desk::Desk;
 use rubis_engine::OutOfMemory;
 use rubis_message::Message;
-use rubis_reading::{Parsed, Run};
+use rubis_reading::{Parsed, Stretch};
 use rubis_replica::Gate;
 use std::sync::Wait;
 use std::thread::Threads;
@@ -39,10 +39,10 @@ pub fn answer_some<G: Gate, T: Threads + Wait + Sync>(
         answered,
     } = backlog;
     'steps: for _taken in 0..most {
-        let Some(run) = ahead.next_run() else {
+        let Some(run) = ahead.next_stretch() else {
             return Ok(());
         };
-        let Run::One(parsed) = run else {
+        let Stretch::One(parsed) = run else {
             return Err(OutOfMemory);
         };
         desk.take_parsed(rt, *answered, parsed, window, reply)?;
@@ -85,7 +85,7 @@ fn answer_one<G: Gate, T: Threads + Wait + Sync>(
 }
 
 // Takes in the messages that are held, and holds these, which were read ahead and taken off the front.
-fn hold_run<G: Gate, T: Threads + Wait + Sync>(
+fn hold_messages<G: Gate, T: Threads + Wait + Sync>(
     rt: &T,
     desk: &mut Desk<G>,
     backlog: &mut Backlog,
@@ -117,20 +117,20 @@ fn answer_run<G: Gate, T: Threads + Wait + Sync>(
     rt: &T,
     desk: &mut Desk<G>,
     backlog: &mut Backlog,
-    run: Run,
+    run: Stretch,
 ) -> Result<(), OutOfMemory>
     requires held { AreHeld desk.old.site.place backlog.old.window.items backlog.old.answered }
-    requires fits { All (λ p. FitsIn desk.old.site.place.sites p) (of_run run) }
-    requires room { backlog.old.answered + length (of_run run) + 1 < 2 ^ 64 }
+    requires fits { All (λ p. FitsIn desk.old.site.place.sites p) (of_stretch run) }
+    requires room { backlog.old.answered + length (of_stretch run) + 1 < 2 ^ 64 }
     ensures place { OnOk result (desk.new.site.place ≡ desk.old.site.place) }
     ensures held { OnOk result (AreHeld desk.new.site.place backlog.new.window.items backlog.new.answered) }
     ensures ahead { backlog.new.ahead ≡ backlog.old.ahead }
-    ensures count { OnOk result (backlog.new.answered ≡ backlog.old.answered + length (of_run run)) }
-    ensures goes { OnOk result (GoesOnFrom (of_run run) desk.old.site backlog.old desk.new.site backlog.new) }
+    ensures count { OnOk result (backlog.new.answered ≡ backlog.old.answered + length (of_stretch run)) }
+    ensures goes { OnOk result (GoesOnFrom (of_stretch run) desk.old.site backlog.old desk.new.site backlog.new) }
 {
     match run {
-        Run::Messages(list) => hold_run(rt, desk, backlog, list),
-        Run::One(parsed) => answer_one(rt, desk, backlog, parsed),
+        Stretch::Messages(list) => hold_messages(rt, desk, backlog, list),
+        Stretch::One(parsed) => answer_one(rt, desk, backlog, parsed),
     }
 }
 
@@ -149,7 +149,7 @@ pub fn answer_all<G: Gate, T: Threads + Wait + Sync>(
     ensures goes { OnOk result (GoesOn desk.old.site backlog.old desk.new.site backlog.new) }
 {
     'runs: for _ in 0..u64::MAX {
-        let Some(run) = backlog.ahead.next_run() else {
+        let Some(run) = backlog.ahead.next_stretch() else {
             return Ok(());
         };
         answer_run(rt, desk, backlog, run)?;

@@ -12,7 +12,7 @@ use crate::backlog::Backlog;
 use crate::desk::Desk;
 use crate::plan::Plan;
 use rubis_engine::OutOfMemory;
-use rubis_reading::{Run, read_parts, read_piece};
+use rubis_reading::{Stretch, read_parts, read_piece};
 use rubis_replica::Gate;
 use std::alloc::Global;
 use std::sync::Wait;
@@ -29,7 +29,7 @@ fn read_beside<G: Gate, T: Threads + Wait + Sync>(
     plan: Plan,
     desk: &mut Desk<G>,
     backlog: &mut Backlog,
-) -> Result<Vec<Run>, OutOfMemory>
+) -> Result<Vec<Stretch>, OutOfMemory>
     requires sound { IsSound desk.old.site backlog.old }
     requires room { backlog.old.answered + length backlog.old.ahead + 1 < 2 ^ 64 }
     ensures place { OnOk result (desk.new.site.place ≡ desk.old.site.place) }
@@ -43,7 +43,7 @@ fn read_beside<G: Gate, T: Threads + Wait + Sync>(
     let Plan { readers, window } = plan;
     let (list, answered) = join_mut(
         rt,
-        &mut || -> Result<Vec<Run>, OutOfMemory>
+        &mut || -> Result<Vec<Stretch>, OutOfMemory>
             requires { IsSync T.row × (sites ≤ 16) }
             ensures { IfOk result (λ list. AreParsed sites (input_records piece.entry.now) (flat list.items)) }
         { read_parts(rt, alloc, piece, sites, readers, window) },
@@ -67,7 +67,7 @@ pub fn read_next<G: Gate, T: Threads + Wait + Sync>(
     plan: Plan,
     desk: &mut Desk<G>,
     backlog: &mut Backlog,
-) -> Result<Vec<Run>, OutOfMemory>
+) -> Result<Vec<Stretch>, OutOfMemory>
     requires sound { IsSound desk.old.site backlog.old }
     requires room { backlog.old.answered + length backlog.old.ahead + 1 < 2 ^ 64 }
     ensures place { OnOk result (desk.new.site.place ≡ desk.old.site.place) }

@@ -16,8 +16,8 @@ use Rattle.rubis_shadow.proofs.Rows.{tables_of, get_tables_of, tables_of_update,
 use Rattle.rubis_shadow.specs.Changes.{with_row}
 use Rattle.rubis_shard.specs.MapKeys.{key_at}
 use Rattle.rubis_shard.specs.Written.{written}
-use Rattle.rubis_shard.specs.declared.map_keys.Place.{Place}
-use Rattle.rubis_shard.specs.declared.map_keys.Place.TheVariants as place
+use Rattle.rubis_shard.specs.declared.map_keys.MapPlace.{MapPlace}
+use Rattle.rubis_shard.specs.declared.map_keys.MapPlace.TheVariants as place
 use Rattle.rubis_shard.specs.declared.row_map.Rows.{Rows}
 use Rattle.std.specs.Bool.{MatchBool}
 use Rattle.std.specs.FinMap as map
@@ -107,12 +107,12 @@ abbrev pub made_of : Three → Tables
 made_of r = map.from_entries (all_in r)
 
 -- what the map of a place has there
-unfoldable pub found_at : Three → Place → Option Row
+unfoldable pub found_at : Three → MapPlace → Option Row
 found_at r (place.Kept k) = lookup (same_id_key k) r.kept
 found_at r (place.Nick n) = lookup (bytes_eq n) r.nicks
 found_at r (place.Cat n) = lookup (nat_eq n) r.cats
 
-pub looked_up : (r : Three) (p : Place) → lookup (key_eq (key_at p)) (all_in r) ≡ found_at r p
+pub looked_up : (r : Three) (p : MapPlace) → lookup (key_eq (key_at p)) (all_in r) ≡ found_at r p
 unfolding found_at
 looked_up r (place.Kept k) =
     let ns = written key.Nick r.nicks in
@@ -137,11 +137,11 @@ looked_up r (place.Cat n) =
     ∙ found_written key.Cat nat_eq (λ k l. refl) n r.cats
 
 -- what the tables have at the key of a place
-pub found_there : (r : Three) (key : RowKey) (p : Place) → key_at p ≡ key → map.get (made_of r) key ≡ found_at r p
+pub found_there : (r : Three) (key : RowKey) (p : MapPlace) → key_at p ≡ key → map.get (made_of r) key ≡ found_at r p
 found_there r key p is = ap (map.get (made_of r)) (sym is) ∙ get_tables_of (all_in r) (key_at p) ∙ looked_up r p
 
 -- the place of each key
-pub place_for : RowKey → Place
+pub place_for : RowKey → MapPlace
 place_for (key.User i) = place.Kept (record { seq = i.seq; site = i.site; table = table.User })
 place_for (key.Item i) = place.Kept (record { seq = i.seq; site = i.site; table = table.Item })
 place_for (key.Bid i) = place.Kept (record { seq = i.seq; site = i.site; table = table.Bid })
@@ -165,8 +165,8 @@ tables_with es fs k None h = tables_of_remove es fs k h
 tables_with es fs k (Some v) h = tables_of_update es fs k v h
 
 -- rows that have v at a place, a row or none, and at each other place what they had
-tables_at : (old new : Three) (k : RowKey) (p : Place) (v : Option Row) → key_at p ≡ k
-    → ((q : Place) → found_at new q ≡ cond (key_eq (key_at p) (key_at q)) v (found_at old q))
+tables_at : (old new : Three) (k : RowKey) (p : MapPlace) (v : Option Row) → key_at p ≡ k
+    → ((q : MapPlace) → found_at new q ≡ cond (key_eq (key_at p) (key_at q)) v (found_at old q))
     → made_of new ≡ with_row (made_of old) k v
 tables_at old new k p v is each = tables_with (all_in old) (all_in new) k v (λ q.
     let at = key_for q in
@@ -183,7 +183,7 @@ module _ (old new : Three) (at : RowKey) (v : Option Row) where
   unfolding found_at
   kept_with k is nicks cats found = tables_at old new at (place.Kept k) v is by
     where
-      by : (q : Place) → found_at new q ≡ cond (key_eq (row_key k) (key_at q)) v (found_at old q)
+      by : (q : MapPlace) → found_at new q ≡ cond (key_eq (row_key k) (key_at q)) v (found_at old q)
       by (place.Kept l) = found l ∙ ap (λ b. cond b v (lookup (same_id_key l) old.kept)) (same_as_row_keys k l)
       by (place.Nick n) = ap (lookup (bytes_eq n)) nicks ∙ ap (λ b. cond b v (lookup (bytes_eq n) old.nicks)) (sym (nick_of_key k n))
       by (place.Cat n) = ap (lookup (nat_eq n)) cats ∙ ap (λ b. cond b v (lookup (nat_eq n) old.cats)) (sym (cat_of_key k n))
@@ -194,7 +194,7 @@ module _ (old new : Three) (at : RowKey) (v : Option Row) where
   unfolding found_at
   nick_with k is kept cats found = tables_at old new at (place.Nick k) v is by
     where
-      by : (q : Place) → found_at new q ≡ cond (key_eq (key.Nick k) (key_at q)) v (found_at old q)
+      by : (q : MapPlace) → found_at new q ≡ cond (key_eq (key.Nick k) (key_at q)) v (found_at old q)
       by (place.Kept l) = ap (lookup (same_id_key l)) kept ∙ ap (λ b. cond b v (lookup (same_id_key l) old.kept)) (sym (key_of_nick k l))
       by (place.Nick n) = found n
       by (place.Cat n) = ap (lookup (nat_eq n)) cats
@@ -205,7 +205,7 @@ module _ (old new : Three) (at : RowKey) (v : Option Row) where
   unfolding found_at
   cat_with k is kept nicks found = tables_at old new at (place.Cat k) v is by
     where
-      by : (q : Place) → found_at new q ≡ cond (key_eq (key.Cat k) (key_at q)) v (found_at old q)
+      by : (q : MapPlace) → found_at new q ≡ cond (key_eq (key.Cat k) (key_at q)) v (found_at old q)
       by (place.Kept l) = ap (lookup (same_id_key l)) kept ∙ ap (λ b. cond b v (lookup (same_id_key l) old.kept)) (sym (key_of_cat k l))
       by (place.Nick n) = ap (lookup (bytes_eq n)) nicks
       by (place.Cat n) = found n

@@ -49,22 +49,22 @@ impl MapKey for u16 {
 }
 
 /// The map that a key belongs to, and its key there.
-pub enum Place {
+pub enum MapPlace {
     Kept(IdKey),
     Nick(Nick),
     Cat(u16),
 }
 
 #[inline(always)]
-fn kept(table: IdTable, id: &Id) -> Place
-    ensures { result ≡ Place.Kept (record { seq = id.now.seq; site = id.now.site; table = table }) }
+fn kept(table: IdTable, id: &Id) -> MapPlace
+    ensures { result ≡ MapPlace.Kept (record { seq = id.now.seq; site = id.now.site; table = table }) }
 {
-    Place::Kept(IdKey::new(table, *id))
+    MapPlace::Kept(IdKey::new(table, *id))
 }
 
 /// Where the row of a key is.
 #[inline(always)]
-pub fn place_of(key: &RowKey) -> Place
+pub fn place_of(key: &RowKey) -> MapPlace
     ensures { key_at result ≡ key.now }
 {
     match key {
@@ -73,7 +73,7 @@ pub fn place_of(key: &RowKey) -> Place
         RowKey::Bid(id) => kept(IdTable::Bid, id),
         RowKey::Purchase(id) => kept(IdTable::Purchase, id),
         RowKey::Comment(id) => kept(IdTable::Comment, id),
-        RowKey::Nick(nick) => Place::Nick(*nick),
-        RowKey::Cat(cat) => Place::Cat(*cat),
+        RowKey::Nick(nick) => MapPlace::Nick(*nick),
+        RowKey::Cat(cat) => MapPlace::Cat(*cat),
     }
 }

@@ -15,7 +15,7 @@ ghost use Rattle.rubis_shadow.specs.declared.changes.Change.TheVariants.{Insert}
 ghost use Rattle.rubis_shard.specs.Rows.{entries_of, kept_of, linked_of, no_row, tables_in, HasRoomForRows, IsAltered, IsChanged};
 
 use crate::chains::Chains;
-use crate::map_keys::{Place, place_of};
+use crate::map_keys::{MapPlace, place_of};
 use crate::row_map::Rows;
 use indexmap::IndexMap;
 use indexmap::map::Entry;
@@ -154,9 +154,9 @@ impl Rows {
         ensures { option_copied result ≡ map.get (tables_in self.now) key.now }
     {
         match place_of(key) {
-            Place::Kept(id) => self.kept.get(&id),
-            Place::Nick(nick) => self.nicks.get(&nick),
-            Place::Cat(cat) => self.cats.get(&cat),
+            MapPlace::Kept(id) => self.kept.get(&id),
+            MapPlace::Nick(nick) => self.nicks.get(&nick),
+            MapPlace::Cat(cat) => self.cats.get(&cat),
         }
     }
 
@@ -169,9 +169,9 @@ impl Rows {
         ensures room { (n : ℕ) → HasRoomForRows self.old (n + 1) → HasRoomForRows self.new n }
     {
         match place_of(&key) {
-            Place::Kept(id) => put_kept(&mut self.kept, id, row),
-            Place::Nick(nick) => put_in(&mut self.nicks, nick, row),
-            Place::Cat(cat) => put_in(&mut self.cats, cat, row),
+            MapPlace::Kept(id) => put_kept(&mut self.kept, id, row),
+            MapPlace::Nick(nick) => put_in(&mut self.nicks, nick, row),
+            MapPlace::Cat(cat) => put_in(&mut self.cats, cat, row),
         }
     }
 
@@ -185,15 +185,15 @@ impl Rows {
         ensures room { (n : ℕ) → HasRoomForRows self.old n → HasRoomForRows self.new n }
     {
         match place_of(key) {
-            Place::Kept(id) => {
+            MapPlace::Kept(id) => {
                 let fate = change_in(&mut self.kept, &id, change);
                 if !fate.stays {
                     self.chains.clear();
                 }
                 fate.misfit
             }
-            Place::Nick(nick) => change_in(&mut self.nicks, &nick, change).misfit,
-            Place::Cat(cat) => change_in(&mut self.cats, &cat, change).misfit,
+            MapPlace::Nick(nick) => change_in(&mut self.nicks, &nick, change).misfit,
+            MapPlace::Cat(cat) => change_in(&mut self.cats, &cat, change).misfit,
         }
     }
 

@@ -1,7 +1,7 @@
 use Rattle.std.proofs.Common.{◌≡◌, ◌∙◌, ◌+◌, ◌++◌, All, ap, arith, length, length-append, subst, sym}
 use Rattle.rubis_script.specs.Windows.{held_by}
 use Rattle.rubis_reading.specs.Parsed.{FitsIn}
-use Rattle.rubis_reading.specs.Runs.{of_run}
+use Rattle.rubis_reading.specs.Runs.{of_stretch}
 use Rattle.rubis_reading.specs.Steps.{HasAhead}
 use Rattle.rubis_script.proofs.LoopFacts.{all-back, all-front}
 use Rattle.rubis_script.proofs.answering.answer_all.Goals as goal
@@ -9,19 +9,19 @@ use Rattle.rubis_script.proofs.answering.answer_all.Goals as goal
 pub answer_run-requires-clause-fits : goal.answer_run-requires-clause-fits
 answer_run-requires-clause-fits g c κs within =
     let sites = c.runs.desk.site.place.sites in
-    all-front sites (of_run c.in-Some.run') c.next_run.new.self (subst (λ l. All (λ p. FitsIn sites p) l) c.in-Some.ensures.parts c.runs.invariant.fits)
+    all-front sites (of_stretch c.in-Some.run') c.next_stretch.new.self (subst (λ l. All (λ p. FitsIn sites p) l) c.in-Some.ensures.parts c.runs.invariant.fits)
 
 pub answer_run-requires-clause-room : goal.answer_run-requires-clause-room
 answer_run-requires-clause-room g c κs within =
-    let long = ap length c.in-Some.ensures.parts ∙ length-append (of_run c.in-Some.run') c.next_run.new.self in
+    let long = ap length c.in-Some.ensures.parts ∙ length-append (of_stretch c.in-Some.run') c.next_stretch.new.self in
     omega (arith, long, c.runs.invariant.count, c.requires.room)
 
 pub runs-preserved : goal.runs-preserved
 runs-preserved g c =
     let i = c.runs.invariant in
     let site = c.runs.desk.site in
-    let run = of_run c.in-Some.run' in
-    let left = c.next_run.new.self in
+    let run = of_stretch c.in-Some.run' in
+    let left = c.next_stretch.new.self in
     let parts : c.runs.backlog.ahead ≡ run ++ left = c.in-Some.ensures.parts in
     let long = ap length parts ∙ length-append run left in
     let ensured = c.in_ok-answer_run.ensures in

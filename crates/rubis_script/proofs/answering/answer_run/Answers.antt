@@ -1,16 +1,16 @@
 use Rattle.std.proofs.Common.{ap, arith, length}
 use Rattle.std.proofs.lemmas.Result.{on_ok_weaker}
-use Rattle.rubis_reading.specs.Runs.{of_run}
+use Rattle.rubis_reading.specs.Runs.{of_stretch}
 use Rattle.rubis_reading.proofs.RunFacts.{came-length}
 use Rattle.rubis_script.proofs.answering.answer_run.Goals as goal
 
-pub hold_run-requires-clause-room : goal.hold_run-requires-clause-room
-hold_run-requires-clause-room g c κs within =
-    let is = ap (λ r. length (of_run r)) c.in-Messages.is in
+pub hold_messages-requires-clause-room : goal.hold_messages-requires-clause-room
+hold_messages-requires-clause-room g c κs within =
+    let is = ap (λ r. length (of_stretch r)) c.in-Messages.is in
     omega (arith, is, came-length c.in-Messages.list.items, c.requires.room)
 
 pub returns-in-Messages-clause-count : goal.returns-in-Messages-clause-count
 returns-in-Messages-clause-count g c =
-    let is = ap (λ r. length (of_run r)) c.in-Messages.is in
+    let is = ap (λ r. length (of_stretch r)) c.in-Messages.is in
     let size = came-length c.in-Messages.list.items in
-    on_ok_weaker c.hold_run.result (λ count. omega (arith, count, is, size)) c.hold_run.ensures.count
+    on_ok_weaker c.hold_messages.result (λ count. omega (arith, count, is, size)) c.hold_messages.ensures.count

@@ -1,15 +1,15 @@
 use Rattle.std.proofs.Common.{◌++◌, ◌≡◌, ◌∙◌, ◌+◌, ◌∷◌, All, ap, arith, length, subst, suc, sym, zero}
 use Rattle.rubis_script.specs.Windows.{held_by}
 use Rattle.rubis_reading.specs.Parsed.{FitsIn}
-use Rattle.rubis_reading.specs.Runs.{of_run}
+use Rattle.rubis_reading.specs.Runs.{of_stretch}
 use Rattle.rubis_reading.proofs.AheadFacts.{ahead-answered, ahead-kept}
 use Rattle.rubis_script.proofs.answering.answer_some.Goals as goal
 
 pub steps-preserved : goal.steps-preserved
 steps-preserved g c =
     let i = c.steps.invariant in
-    let left = c.next_run.new.self in
-    let ps : c.steps.ahead ≡ c.in-One.parsed ∷ left = c.in-Some.ensures.parts ∙ ap (λ r. of_run r ++ left) c.in-One.is in
+    let left = c.next_stretch.new.self in
+    let ps : c.steps.ahead ≡ c.in-One.parsed ∷ left = c.in-Some.ensures.parts ∙ ap (λ r. of_stretch r ++ left) c.in-One.is in
     let n = c.steps.answered in
     let old = c.steps.desk.site in
     let mid = c.take_parsed.new.self.site in
@@ -33,6 +33,6 @@ steps-preserved g c =
 
 pub take_parsed-requires-clause-fits : goal.take_parsed-requires-clause-fits
 take_parsed-requires-clause-fits g c κs within =
-    let left = c.next_run.new.self in
-    let ps : c.steps.ahead ≡ c.in-One.parsed ∷ left = c.in-Some.ensures.parts ∙ ap (λ r. of_run r ++ left) c.in-One.is in
+    let left = c.next_stretch.new.self in
+    let ps : c.steps.ahead ≡ c.in-One.parsed ∷ left = c.in-Some.ensures.parts ∙ ap (λ r. of_stretch r ++ left) c.in-One.is in
     subst (λ l. All (λ p. FitsIn c.steps.desk.site.place.sites p) l) ps c.steps.invariant.fits zero c.in-One.parsed (omega arith)

@@ -1,9 +1,9 @@
 use Rattle.std.proofs.Common.{ap, arith, length}
-use Rattle.rubis_reading.specs.Runs.{of_run}
+use Rattle.rubis_reading.specs.Runs.{of_stretch}
 use Rattle.rubis_reading.proofs.RunFacts.{came-length}
-use Rattle.rubis_reading.proofs.ahead.count_run.Goals as goal
+use Rattle.rubis_reading.proofs.ahead.count_stretch.Goals as goal
 
 pub returns-in-Messages : goal.returns-in-Messages
 returns-in-Messages c =
-    let is = ap (λ r. length (of_run r)) c.in-Messages.is in
+    let is = ap (λ r. length (of_stretch r)) c.in-Messages.is in
     omega (arith, is, came-length c.in-Messages.list.items, c.len.ensures, c.in-Messages.list.ok)

@@ -2,7 +2,7 @@ use Rattle.std.proofs.Common.{◌≡◌, All, arith, length, subst, sym}
 use Rattle.rubis_reading.specs.Parsed.{FitsIn}
 use Rattle.rubis_reading.specs.Runs.{all_came}
 use Rattle.rubis_script.proofs.LoopFacts.{all-held, run-held}
-use Rattle.rubis_script.proofs.answering.hold_run.Goals as goal
+use Rattle.rubis_script.proofs.answering.hold_messages.Goals as goal
 
 pub returns-clause-held : goal.returns-clause-held
 returns-clause-held g c =
