@@ -1,12 +1,13 @@
 -- How a site in a folder is set up, by what is asked for and what the folder has.
 use Rattle.std.specs.Prelude.{◌≡◌, ◌≤◌, ℕ, Option, unwrap_or}
+use Rattle.rubis_schema.specs.declared.limits.TheConstants.{KEEP_MAX}
 use Rattle.rubis_model.specs.Site.{Place}
 use Rattle.rubis_keep.specs.declared.keep.Wanted.{Wanted}
 use Rattle.rubis_keep.specs.declared.setup.Setup.{Setup}
 
 -- a new site: where nothing is asked for, it is site 0 of one, and keeps 1,000,000 messages
 abbrev pub opening_setup : Wanted → Setup
-opening_setup w = record { site = unwrap_or w.site 0; sites = unwrap_or w.sites 1; keep = unwrap_or w.keep 1000000; answers = 1 }
+opening_setup w = record { site = unwrap_or w.site 0; sites = unwrap_or w.sites 1; keep = unwrap_or w.keep KEEP_MAX; answers = 1 }
 
 -- what is asked for is the site that the folder has, which may keep more from now on
 abbrev pub GoesOn : Wanted → Setup → Type 0

@@ -1,6 +1,6 @@
 -- Shops of sites that keep their records, whose processes are killed and started again at any moments.
 use Rattle.std.specs.Prelude.{◌≡◌, ◌≤◌, ◌<◌, ◌++◌, ◌∷◌, [], ℕ, List, length}
-use Rattle.rubis_schema.specs.declared.limits.TheConstants.{COUNTED_MAX}
+use Rattle.rubis_schema.specs.declared.limits.TheConstants.{COUNTED_MAX, KEEP_MAX}
 use Rattle.rubis_message.specs.declared.answers.Verdict.TheVariants.{Agree}
 use Rattle.rubis_model.specs.Logs.{Log}
 use Rattle.rubis_model.specs.Processes.{AreProcesses, process, read_by}
@@ -40,7 +40,7 @@ pub record AreKept (sites : ℕ) (keep : ℕ → ℕ) (files : ℕ → List Mome
 
 -- a run of the model has the states of these processes at its sites, and their packets
 abbrev pub IsSomeRun : ℕ → (ℕ → ℕ) → List Moment → Type 0
-IsSomeRun sites keep moments = (events : List Event) × AreEvents sites events × AreProcesses sites keep (recorded moments) (run 1000000 events (start sites))
+IsSomeRun sites keep moments = (events : List Event) × AreEvents sites events × AreProcesses sites keep (recorded moments) (run KEEP_MAX events (start sites))
 
 -- the verdict on logs of the processes, each as it was at any moment, is Agree
 abbrev pub AreAgreed : ℕ → (ℕ → ℕ) → List Moment → Type 0
@@ -49,5 +49,5 @@ AreAgreed sites keep moments = (logs : List Log) → ((log : Log) → Has log lo
 -- sites that keep their records, whose processes stop at any moments, are processes that never stop, which are a run of the model; if
 -- each packet that a process reads was sent before by one of them
 abbrev pub KeptShopsAreRuns : Type 0
-KeptShopsAreRuns = (sites : ℕ) (keep : ℕ → ℕ) (files : ℕ → List Moment → Files) (moments : List Moment) → 1 ≤ sites → sites ≤ COUNTED_MAX → ((i : ℕ) → keep i ≤ 1000000)
+KeptShopsAreRuns = (sites : ℕ) (keep : ℕ → ℕ) (files : ℕ → List Moment → Files) (moments : List Moment) → 1 ≤ sites → sites ≤ COUNTED_MAX → ((i : ℕ) → keep i ≤ KEEP_MAX)
     → AreKept sites keep files moments → CarriedWithRestarts sites keep moments → NeverStopped sites keep moments × IsSomeRun sites keep moments × AreAgreed sites keep moments

@@ -2,6 +2,7 @@
 use Rattle.std.specs.Prelude.{◌≡◌, ◌+◌, ◌^◌, ◌<◌, ◌≤◌, ℕ, Bool, false, ◌&&◌, cond, bytes_eq, List, [], ◌∷◌, ◌++◌, length, fold, Option, Some, None, option_map, IfSome}
 use Rattle.std.specs.Option.{option_or}
 use Rattle.std.specs.FinMap as map
+use Rattle.rubis_schema.specs.declared.limits.TheConstants.{KEEP_MAX}
 use Rattle.rubis_schema.specs.Keys.{same_id}
 use Rattle.rubis_schema.specs.declared.ids.Id.{Id}
 use Rattle.rubis_schema.specs.declared.row_keys.RowKey.TheVariants as key
@@ -64,5 +65,5 @@ StockIsKept = (log : List Core) (i : Id) → IfSome (supply_at i log) (λ s. s <
 
 -- so in every log that a site can have, be its messages forged or not: the sums stay far below that
 abbrev pub SitesKeepStock : Type 0
-SitesKeepStock = (log : List Message) (i : Id) → ((m : Message) → Has m log → IsMessage m) → length log ≤ 1000000
+SitesKeepStock = (log : List Message) (i : Id) → ((m : Message) → Has m log → IsMessage m) → length log ≤ KEEP_MAX
     → IsKept (supply_at i (cores log)) (map.get (fold_of (cores log)).tables (key.Item i))

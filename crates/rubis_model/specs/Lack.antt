@@ -1,6 +1,7 @@
 -- What a log lacks of others, what becomes of a site to which that is sent, and what a message waits for.
 use Rattle.std.specs.Prelude.{◌≡◌, ◌≢◌, ◌↔◌, ◌⊎◌, ℕ, ◌+◌, ◌<◌, ◌≤◌, Bool, not, cond, nat_lt, Option, Some, None, Result, Ok, Err, List, [], ◌∷◌, ◌++◌, length, map, filter, ⊤}
 use Rattle.std.specs.List.{list_any, flat_map}
+use Rattle.rubis_schema.specs.declared.limits.TheConstants.{KEEP_MAX}
 use Rattle.rubis_schema.specs.Keys.{same_id}
 use Rattle.rubis_schema.specs.declared.ids.Id.{Id}
 use Rattle.rubis_schema.specs.declared.refusals.Refusal.{Refusal}
@@ -82,7 +83,7 @@ IsTakenIn (Err r) = ⊥
 -- wait, none is refused, and then the site has all messages of the logs
 abbrev pub LackNeverWaits : Type 0
 LackNeverWaits = EveryRun (λ w. (logs : List Log) → ((log : Log) → Has log logs → WasLogOf w log) → (log : Log) → Has log logs → log.site < length w.sites
-    → log.messages ≡ (site w log.site).log → (keep : ℕ) → keep ≤ 1000000 → message_count w.sent ≤ keep
+    → log.messages ≡ (site w log.site).log → (keep : ℕ) → keep ≤ KEEP_MAX → message_count w.sent ≤ keep
     → ((a : Result Arrival Refusal) → Has a (answers_to (place keep w log.site) (site w log.site) (lacked logs (site w log.site).log)) → IsTakenIn a)
     × ((m : Message) → Logged logs m → Has m (after_all (place keep w log.site) (site w log.site) (lacked logs (site w log.site).log)).log))
 

@@ -1,6 +1,7 @@
 -- The laws of every run and of every log, as contracts name them.
 use Rattle.std.specs.Prelude.{◌≡◌, ◌≢◌, ℕ, ◌+◌, ◌^◌, ◌<◌, ◌≤◌, List, [], ◌++◌, length, IfSome, Ok, Err, ◌↔◌}
 use Rattle.std.specs.FinMap as map
+use Rattle.rubis_schema.specs.declared.limits.TheConstants.{COUNTED_MAX, KEEP_MAX}
 use Rattle.rubis_schema.specs.Keys.{home}
 use Rattle.rubis_schema.specs.Tables.{Tables}
 use Rattle.rubis_schema.specs.declared.row_keys.RowKey.{RowKey}
@@ -142,7 +143,7 @@ pub record InRun (w : World) : Type 0 where
 
 -- what any events at n sites lead to, where each site keeps at most `keep` messages
 abbrev pub EveryRun : (World → Type 0) → Type 0
-EveryRun claim = (n keep : ℕ) (events : List Event) → 1 ≤ n → keep ≤ 1000000 → AreEvents n events → claim (run keep events (start n))
+EveryRun claim = (n keep : ℕ) (events : List Event) → 1 ≤ n → keep ≤ KEEP_MAX → AreEvents n events → claim (run keep events (start n))
 
 -- every run is in order
 abbrev pub RunsAreInOrder : Type 0
@@ -155,7 +156,7 @@ RunsKeepInvariants = EveryRun InRun
 -- among at most 16 sites, each packet that is sent can be taken in by each of them
 abbrev pub RunsSendDeliverables : Type 0
 RunsSendDeliverables =
-    (n keep : ℕ) (events : List Event) → 1 ≤ n → n ≤ 16 → keep ≤ 1000000 → AreEvents n events → AllDeliverable n (run keep events (start n)).sent
+    (n keep : ℕ) (events : List Event) → 1 ≤ n → n ≤ COUNTED_MAX → keep ≤ KEEP_MAX → AreEvents n events → AllDeliverable n (run keep events (start n)).sent
 
 -- a log only grows: what a site has released stays there, in its place, whatever happens afterwards
 abbrev pub LogsOnlyGrow : Type 0

@@ -1,6 +1,6 @@
 -- Sites as separate processes, with packets carried between them, and the run of the model that they are.
 use Rattle.std.specs.Prelude.{◌≡◌, ◌↔◌, ◌⊎◌, ℕ, ◌+◌, ◌<◌, ◌≤◌, ◌==◌, cond, List, [], ◌∷◌, ◌++◌, length, Some, IfSome, IsSome}
-use Rattle.rubis_schema.specs.declared.limits.TheConstants.{COUNTED_MAX}
+use Rattle.rubis_schema.specs.declared.limits.TheConstants.{COUNTED_MAX, KEEP_MAX}
 use Rattle.rubis_schema.specs.declared.refusals.Refusal.TheVariants.{NotOurs}
 use Rattle.rubis_message.specs.Message.{Message}
 use Rattle.rubis_message.specs.Readings.{packet_of}
@@ -63,7 +63,7 @@ Carried sites keep readings = (before later : List Reading) (r : Reading) (p : P
 -- what holds of processes whose packets are carried unchanged
 abbrev pub OfProcesses : (ℕ → (ℕ → ℕ) → List Reading → Type 0) → Type 0
 OfProcesses claim =
-    (sites : ℕ) (keep : ℕ → ℕ) (readings : List Reading) → 1 ≤ sites → sites ≤ COUNTED_MAX → ((i : ℕ) → keep i ≤ 1000000) → Carried sites keep readings → claim sites keep readings
+    (sites : ℕ) (keep : ℕ → ℕ) (readings : List Reading) → 1 ≤ sites → sites ≤ COUNTED_MAX → ((i : ℕ) → keep i ≤ KEEP_MAX) → Carried sites keep readings → claim sites keep readings
 
 -- ---- they are a run
 
@@ -83,7 +83,7 @@ pub record AreProcesses (sites : ℕ) (keep : ℕ → ℕ) (readings : List Read
 -- event of the run
 abbrev pub ProcessesAreARun : Type 0
 ProcessesAreARun =
-    OfProcesses (λ sites keep readings. (events : List Event) × AreEvents sites events × AreProcesses sites keep readings (run 1000000 events (start sites)))
+    OfProcesses (λ sites keep readings. (events : List Event) × AreEvents sites events × AreProcesses sites keep readings (run KEEP_MAX events (start sites)))
 
 -- so the claims of every run hold in a world that is exactly these processes
 abbrev pub ProcessesAreInRun : Type 0

@@ -1,6 +1,7 @@
 -- A site that lost its disk is made again from the messages and tokens that the sites sent.
 use Rattle.std.specs.Prelude.{◌≡◌, ◌↔◌, ℕ, ◌<◌, ◌≤◌, ◌==◌, Bool, ◌&&◌, not, nat_lt, nat_le, cond, is_some, filter, map, Option, Some, None, Result, List, [], ◌∷◌, ◌++◌, length, ◌⊎◌}
 use Rattle.std.specs.Option.{option_map_or}
+use Rattle.rubis_schema.specs.declared.limits.TheConstants.{KEEP_MAX}
 use Rattle.rubis_schema.specs.declared.ids.Id.{Id}
 use Rattle.rubis_schema.specs.declared.refusals.Refusal.{Refusal}
 use Rattle.rubis_shadow.specs.Shadows.{is_red}
@@ -139,7 +140,7 @@ pub record IsRebuilt (n keep i : ℕ) (tokens : List Token) (w : World) (packets
 -- whatever happened at n sites: each site can be rebuilt from what it sent, the messages that this counts, and the tokens for it.
 -- These may stand in any order, and other messages and tokens that were sent may be lacking, or be there too
 abbrev pub SitesAreRebuilt : Type 0
-SitesAreRebuilt = (n keep i : ℕ) (events : List Event) (all : List Message) (tokens : List Token) → keep ≤ 1000000 → i < n → AreEvents n events
+SitesAreRebuilt = (n keep i : ℕ) (events : List Event) (all : List Message) (tokens : List Token) → keep ≤ KEEP_MAX → i < n → AreEvents n events
     → ((m : Message) → Has m all → Sent (run keep events (start n)) m)
     → ((m : Message) → Sent (run keep events (start n)) m → Concerns i (run keep events (start n)) m → Has m all)
     → ((t : Token) → Has t tokens → Has (packet.Token t) (run keep events (start n)).sent)

@@ -2,7 +2,7 @@
 use Rattle.std.specs.Prelude.{◌≡◌, ℕ, ◌<◌, ◌≤◌, ⊤, Bool, false, cond, bytes_eq, codes, drop, filter, map, List, [], ◌∷◌}
 use Rattle.rubis_schema.specs.Ids.{id_text}
 use Rattle.rubis_schema.specs.declared.ids.Id.{Id}
-use Rattle.rubis_schema.specs.declared.limits.TheConstants.{COUNTED_MAX}
+use Rattle.rubis_schema.specs.declared.limits.TheConstants.{COUNTED_MAX, KEEP_MAX}
 use Rattle.rubis_message.specs.Grammar.{IsRequest, ask_record, message_record, packet_record, request_record}
 use Rattle.rubis_message.specs.Message.{Message}
 use Rattle.rubis_message.specs.declared.tokens.Packet.{Packet}
@@ -76,7 +76,7 @@ pub record RebuildsByRecords (p : Place) (tokens : List Token) (all : List Messa
 -- whatever happened at n sites that were asked by records: each site is rebuilt by the records for what it sent, where the
 -- messages and tokens are as for `SitesAreRebuilt`
 abbrev pub RecordsRebuild : Type 0
-RecordsRebuild = (n keep i : ℕ) (events : List Event) (all : List Message) (tokens : List Token) → n ≤ COUNTED_MAX → keep ≤ 1000000 → i < n → AreWritten n events
+RecordsRebuild = (n keep i : ℕ) (events : List Event) (all : List Message) (tokens : List Token) → n ≤ COUNTED_MAX → keep ≤ KEEP_MAX → i < n → AreWritten n events
     → ((m : Message) → Has m all → Sent (run keep events (start n)) m)
     → ((m : Message) → Sent (run keep events (start n)) m → Concerns i (run keep events (start n)) m → Has m all)
     → ((t : Token) → Has t tokens → Has (packet.Token t) (run keep events (start n)).sent)

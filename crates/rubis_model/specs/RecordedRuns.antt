@@ -1,7 +1,7 @@
 -- The run that the records of several sites are.
 use Rattle.std.specs.Prelude.{◌≡◌, ℕ, ◌+◌, ◌≤◌, List, [], ◌∷◌, ◌++◌, length, take, Some, None}
 use Rattle.std.specs.List.{flat_map}
-use Rattle.rubis_schema.specs.declared.limits.TheConstants.{COUNTED_MAX}
+use Rattle.rubis_schema.specs.declared.limits.TheConstants.{COUNTED_MAX, KEEP_MAX}
 use Rattle.rubis_message.specs.WorldReadings.{world_input}
 use Rattle.rubis_message.specs.declared.answers.Verdict.TheVariants.{Agree}
 use Rattle.rubis_message.specs.declared.world_inputs.WorldInput.{WorldInput}
@@ -38,11 +38,11 @@ RecordsAreARun = (sites keep : ℕ) (records : List (List (List ℕ))) → sites
 -- so after any records the claims of every run hold
 abbrev pub RecordsKeepInvariants : Type 0
 RecordsKeepInvariants =
-    (sites keep : ℕ) (records : List (List (List ℕ))) → 1 ≤ sites → sites ≤ COUNTED_MAX → keep ≤ 1000000 → InRun (world_after keep (start sites) 1 records)
+    (sites keep : ℕ) (records : List (List (List ℕ))) → 1 ≤ sites → sites ≤ COUNTED_MAX → keep ≤ KEEP_MAX → InRun (world_after keep (start sites) 1 records)
 
 -- and an audit after any records is answered Agree
 abbrev pub AuditsAgree : Type 0
-AuditsAgree = (sites keep : ℕ) (records : List (List (List ℕ))) (fields : List (List ℕ)) → 1 ≤ sites → sites ≤ COUNTED_MAX → keep ≤ 1000000
+AuditsAgree = (sites keep : ℕ) (records : List (List (List ℕ))) (fields : List (List ℕ)) → 1 ≤ sites → sites ≤ COUNTED_MAX → keep ≤ KEEP_MAX
     → world_input sites fields ≡ Audit → world_output_of sites keep (records ++ fields ∷ []) ≡ world_output_of sites keep records ++ verdict_record Agree ∷ []
 
 -- the sites after the first k of these records
@@ -69,5 +69,5 @@ pub record IsTextOfARun (sites keep : ℕ) (records rows : List (List (List ℕ)
 
 -- what is answered to any records is the text of a run
 abbrev pub AnswersAreARun : Type 0
-AnswersAreARun = (sites keep : ℕ) (records : List (List (List ℕ))) → 1 ≤ sites → sites ≤ COUNTED_MAX → keep ≤ 1000000
+AnswersAreARun = (sites keep : ℕ) (records : List (List (List ℕ))) → 1 ≤ sites → sites ≤ COUNTED_MAX → keep ≤ KEEP_MAX
     → IsTextOfARun sites keep records (world_output_of sites keep records)

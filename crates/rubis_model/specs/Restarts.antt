@@ -1,6 +1,6 @@
 -- Processes that stop at any moment, and are restarted on their recordings: they are processes that never stopped.
 use Rattle.std.specs.Prelude.{◌≡◌, ◌↔◌, ℕ, ◌+◌, ◌<◌, ◌≤◌, ◌==◌, ◌⊎◌, cond, List, [], ◌∷◌, ◌++◌, length, map, Some, IfSome}
-use Rattle.rubis_schema.specs.declared.limits.TheConstants.{COUNTED_MAX}
+use Rattle.rubis_schema.specs.declared.limits.TheConstants.{COUNTED_MAX, KEEP_MAX}
 use Rattle.rubis_message.specs.Readings.{packet_of}
 use Rattle.rubis_message.specs.declared.answers.Verdict.TheVariants.{Agree}
 use Rattle.rubis_message.specs.declared.tokens.Packet.{Packet}
@@ -102,7 +102,7 @@ pub record WasLogSinceStart (sites : ℕ) (keep : ℕ → ℕ) (moments : List M
 -- so the verdict on their logs, each as it was at any moment, before or after restarts, is Agree
 abbrev pub RestartedAgree : Type 0
 RestartedAgree =
-    (sites : ℕ) (keep : ℕ → ℕ) (moments : List Moment) → 1 ≤ sites → sites ≤ COUNTED_MAX → ((i : ℕ) → keep i ≤ 1000000) → AreReplayed sites keep moments
+    (sites : ℕ) (keep : ℕ → ℕ) (moments : List Moment) → 1 ≤ sites → sites ≤ COUNTED_MAX → ((i : ℕ) → keep i ≤ KEEP_MAX) → AreReplayed sites keep moments
     → CarriedWithRestarts sites keep moments → (logs : List Log) → ((log : Log) → Has log logs → WasLogSinceStart sites keep moments log) → verdict logs ≡ Agree
 
 -- the process has read its whole recording again, perhaps without records that changed nothing
@@ -111,7 +111,7 @@ IsLevel sites keep moments i = IsShortened (process sites keep i) (opening_at i)
 
 -- so processes that have read all messages have released all of them, and have equal tables, however often they were restarted
 abbrev pub RestartedConverge : Type 0
-RestartedConverge = (sites : ℕ) (keep : ℕ → ℕ) (moments : List Moment) → 1 ≤ sites → sites ≤ COUNTED_MAX → ((i : ℕ) → keep i ≤ 1000000)
+RestartedConverge = (sites : ℕ) (keep : ℕ → ℕ) (moments : List Moment) → 1 ≤ sites → sites ≤ COUNTED_MAX → ((i : ℕ) → keep i ≤ KEEP_MAX)
     → AreReplayed sites keep moments → CarriedWithRestarts sites keep moments → (i j : ℕ) → i < sites → j < sites
     → IsLevel sites keep moments i → IsLevel sites keep moments j
     → HasReadAll sites keep (recorded moments) i → HasReadAll sites keep (recorded moments) j

@@ -1,6 +1,7 @@
 //! Shards that follow a log: their parts of a batch are folded straight from its messages.
 
 ghost use Rattle.std.specs.Prelude.{◌≡◌, ℕ, ◌+◌, ◌<◌, ◌≤◌, All, length, IfOk, OnOk};
+ghost use Rattle.rubis_schema.specs.declared.limits.TheConstants.{KEEP_MAX};
 ghost use Rattle.rubis_message.specs.Message.{IsMessage};
 ghost use Rattle.rubis_model.specs.Log.{cores};
 ghost use Rattle.rubis_shard.specs.PartHomes.{AreHomes};
@@ -63,7 +64,7 @@ fn follow_one(
 ) -> usize
     requires there { number < length tables.old }
     requires shards { length tables.old ≤ 255 }
-    requires few { length log.now ≤ 1000000 }
+    requires few { length log.now ≤ KEEP_MAX }
     requires on { from ≤ upto }
     requires within { upto ≤ length log.now }
     ensures from { from ≤ result }
@@ -85,7 +86,7 @@ fn follow_one(
 pub fn follow_rest(tables: &mut Tables, log: &[Message], stops: &mut [usize], upto: usize)
     requires shards { length tables.old ≤ 255 }
     requires counts { length stops.old ≡ length tables.old }
-    requires few { length log.now ≤ 1000000 }
+    requires few { length log.now ≤ KEEP_MAX }
     requires on { StopWithin 0 upto stops.old }
     requires within { upto ≤ length log.now }
     ensures many { length tables.new ≡ length tables.old }

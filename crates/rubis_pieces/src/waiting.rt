@@ -1,6 +1,7 @@
 //! How much of a batch isn't done.
 
 ghost use Rattle.std.specs.Prelude.{◌≡◌, ◌+◌, ◌<◌, ◌≤◌, Option, length, slice_get, filter};
+ghost use Rattle.rubis_schema.specs.declared.limits.TheConstants.{KEEP_MAX};
 ghost use Rattle.rubis_shadow.specs.declared.changes.Effect.{Effect};
 ghost use Rattle.rubis_model.specs.Log.{Core, cores, parts_of};
 ghost use Rattle.rubis_shard.specs.Holdings.{home_or};
@@ -42,7 +43,7 @@ fn count_homes(homes: &PartHomes, stops: &[usize], place: usize) -> u32
 pub fn count_behind(batch: &[Message], from: usize, stops: &[usize]) -> u32
     requires some { 0 < length stops.now }
     requires shards { length stops.now ≤ 255 }
-    requires few { from + length batch.now ≤ 1000000 }
+    requires few { from + length batch.now ≤ KEEP_MAX }
     ensures { result ≡ parts_behind (length stops.now) stops.now from (cores batch.now) }
 {
     let mut parts = 0;

@@ -1,5 +1,6 @@
 -- What a site has taken in.
 use Rattle.std.specs.Prelude.{◌≡◌, ℕ, ◌<◌, ◌≤◌}
+use Rattle.rubis_schema.specs.declared.limits.TheConstants.{COUNTED_MAX, KEEP_MAX}
 use Rattle.rubis_model.specs.Site.{Place, Replica}
 use Rattle.rubis_release.specs.Release.{clock_of, AreKept, NoneReady}
 
@@ -11,9 +12,9 @@ pub record Intake : Type 0 where
 -- the conditions that every intake meets
 pub record IsIntake (i : Intake) : Type 0 where
   pub site : i.place.site < i.place.sites
-  pub sites : i.place.sites ≤ 16
+  pub sites : i.place.sites ≤ COUNTED_MAX
   pub some : 1 ≤ i.place.keep
-  pub keep : i.place.keep ≤ 1000000
+  pub keep : i.place.keep ≤ KEEP_MAX
   pub kept : AreKept i.place i.state.log i.state.waiting
 
 -- its messages are of as many sites as it has, and none that waits is ready

@@ -1,6 +1,7 @@
 //! What a site has taken in: its log, the messages that wait, and the token.
 
 ghost use Rattle.std.specs.Prelude.{◌≡◌, ◌<◌, ◌≤◌, ◌-◌, true, false, Ok, IfOk, IfErr, OnOk, OnErr, length};
+ghost use Rattle.rubis_schema.specs.declared.limits.TheConstants.{COUNTED_MAX, KEEP_MAX};
 ghost use Rattle.rubis_message.specs.Message.{sites_of};
 ghost use Rattle.rubis_shadow.specs.Limits.{InLimits};
 ghost use Rattle.rubis_shadow.specs.Shadows.{is_red};
@@ -90,10 +91,10 @@ impl Intake {
     /// A site with nothing done, of 1 to 16 sites, that keeps 1 to 1,000,000 messages. Its waiting messages are hashed alike in
     /// each run.
     pub fn new(alloc: Global, site: u8, sites: u8, keep: u32) -> Result<Intake, AllocError>
-        requires sites { sites ≤ 16 }
+        requires sites { sites ≤ COUNTED_MAX }
         requires site { site < sites }
         requires some { 1 ≤ keep }
-        requires keep { keep ≤ 1000000 }
+        requires keep { keep ≤ KEEP_MAX }
         ensures { IfOk result (λ intake. intake ≡ record { place = record { site = site; sites = sites; keep = keep }; state = opening_at site }) }
     {
         Intake::hashed(alloc, site, sites, keep, Hashes::fixed())
@@ -107,10 +108,10 @@ impl Intake {
         keep: u32,
         hashes: Hashes,
     ) -> Result<Intake, AllocError>
-        requires sites { sites ≤ 16 }
+        requires sites { sites ≤ COUNTED_MAX }
         requires site { site < sites }
         requires some { 1 ≤ keep }
-        requires keep { keep ≤ 1000000 }
+        requires keep { keep ≤ KEEP_MAX }
         ensures { IfOk result (λ intake. intake ≡ record { place = record { site = site; sites = sites; keep = keep }; state = opening_at site }) }
     {
         Ok(Intake {

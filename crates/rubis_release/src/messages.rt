@@ -2,6 +2,7 @@
 
 ghost use Rattle.std.specs.Prelude.{◌≡◌, ◌≤◌, ◌++◌, [], ◌∷◌, false, true, length, IfErr, OnOk, OnErr};
 ghost use Rattle.std.specs.List.{list_any};
+ghost use Rattle.rubis_schema.specs.declared.limits.TheConstants.{COUNTED_MAX};
 ghost use Rattle.rubis_schema.specs.Keys.{same_id};
 ghost use Rattle.rubis_clock.specs.Clocks.{IsReady};
 ghost use Rattle.rubis_model.specs.Settle.{Settles};
@@ -44,7 +45,7 @@ impl Messages {
     // No messages, of at most 16 sites. Those that come to wait are hashed by `hashes`.
     #[inline(always)]
     pub fn new(alloc: Global, sites: u8, hashes: Hashes) -> Messages
-        requires { sites ≤ 16 }
+        requires { sites ≤ COUNTED_MAX }
         ensures { result ≡ record { sites = sites; log = []; waiting = [] } }
     {
         Messages {
@@ -58,7 +59,7 @@ impl Messages {
     // No messages, of at most 16 sites, with the allocator and the hashes of these.
     #[inline(always)]
     pub fn fresh(&self, sites: u8) -> Messages
-        requires { sites ≤ 16 }
+        requires { sites ≤ COUNTED_MAX }
         ensures { result ≡ record { sites = sites; log = []; waiting = [] } }
     {
         Messages::new(*self.log.allocator(), sites, self.hashes)

@@ -1,7 +1,7 @@
 //! Tables that follow a log, batch by batch.
 
 ghost use Rattle.std.specs.Prelude.{◌≡◌, ◌≤◌, ◌<◌, ◌⊎◌, [], All, IfNone, IfOk, IfSome, OnOk, OnErr, length};
-ghost use Rattle.rubis_schema.specs.declared.limits.TheConstants.{WORKERS_MAX};
+ghost use Rattle.rubis_schema.specs.declared.limits.TheConstants.{KEEP_MAX, WORKERS_MAX};
 ghost use Rattle.rubis_message.specs.Message.{sites_of};
 ghost use Rattle.rubis_model.specs.Listings.{table_rows};
 ghost use Rattle.rubis_model.specs.Log.{cores};
@@ -176,7 +176,7 @@ impl<G: Gate> Follower<G> {
 
     // Notes how far the batch has come that ends with message `upto`, where each shard stands at its stop.
     fn note(&mut self, log: &[Message], upto: usize) -> Result<(), AllocError>
-        requires few { length log.now ≤ 1000000 }
+        requires few { length log.now ≤ KEEP_MAX }
         requires progress { IsProgress log.now self.old.progress }
         requires rests { self.old.progress.left ≡ 0 }
         requires pending { self.old.progress.applied < upto }
@@ -208,7 +208,7 @@ impl<G: Gate> Follower<G> {
         log: &[Message],
         upto: usize,
     ) -> Result<(), AllocError>
-        requires few { length log.now ≤ 1000000 }
+        requires few { length log.now ≤ KEEP_MAX }
         requires rests { self.old.progress.left ≡ 0 }
         requires follows { FollowsLog log.now self.old }
         requires on { self.old.progress.applied ≤ upto }
@@ -247,7 +247,7 @@ impl<G: Gate> Follower<G> {
         rt: &R,
         log: &[Message],
     ) -> Result<(), AllocError>
-        requires few { length log.now ≤ 1000000 }
+        requires few { length log.now ≤ KEEP_MAX }
         requires rests { self.old.progress.left ≡ 0 }
         requires follows { FollowsLog log.now self.old }
         ensures follows { FollowsLog log.now self.new }
@@ -303,7 +303,7 @@ impl<G: Gate> Follower<G> {
 
     /// Goes on with the batch that has begun, on this thread.
     pub fn finish(&mut self, log: &[Message]) -> Result<(), AllocError>
-        requires few { length log.now ≤ 1000000 }
+        requires few { length log.now ≤ KEEP_MAX }
         requires begun { 0 < self.old.progress.left }
         requires follows { FollowsLog log.now self.old }
         ensures { GoesOnTo log.now self.old self.new result }

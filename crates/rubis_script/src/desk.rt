@@ -2,6 +2,7 @@
 
 ghost use Rattle.std.proofs.Common.{rules};
 ghost use Rattle.std.specs.Prelude.{◌≡◌, ◌≤◌, ◌<◌, ◌+◌, ◌++◌, ◌∷◌, ◌^◌, [], IfOk, List, None, OnOk, ℕ, length, refl};
+ghost use Rattle.rubis_schema.specs.declared.limits.TheConstants.{COUNTED_MAX};
 ghost use Rattle.rubis_shadow.specs.Limits.{IsAsk};
 ghost use Rattle.rubis_message.specs.Grammar.{IsPacket, IsRequest};
 ghost use Rattle.rubis_message.specs.Message.{sites_of};
@@ -187,7 +188,7 @@ pub struct Desk<G: Gate = Free> {
     pub plan: Plan,
     alloc: Global,
     ghost same: { sites ≡ site.place.sites },
-    ghost few: { sites ≤ 16 },
+    ghost few: { sites ≤ COUNTED_MAX },
 }
 
 impl<G: Gate + Drop> Desk<G> {
@@ -347,7 +348,7 @@ impl<G: Gate> Desk<G> {
     /// How many sites there are.
     pub fn sites(&self) -> u8
         ensures same { result ≡ self.now.site.place.sites }
-        ensures few { result ≤ 16 }
+        ensures few { result ≤ COUNTED_MAX }
     {
         self.sites
     }

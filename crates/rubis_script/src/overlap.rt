@@ -2,6 +2,7 @@
 
 ghost use Rattle.std.specs.Prelude.{◌≡◌, ◌≤◌, ◌<◌, ◌+◌, ◌^◌, [], IfOk, OnOk, length};
 ghost use Rattle.std.specs.Thread.{IsSync};
+ghost use Rattle.rubis_schema.specs.declared.limits.TheConstants.{COUNTED_MAX};
 ghost use Rattle.rubis_script.specs.Runs.{GoesOn, IsSound};
 ghost use Rattle.rubis_engine.specs.Text.{input_records};
 ghost use Rattle.rubis_reading.specs.Parsed.{AreParsed};
@@ -44,7 +45,7 @@ fn read_beside<G: Gate, T: Threads + Wait + Sync>(
     let (list, answered) = join_mut(
         rt,
         &mut || -> Result<Vec<Stretch>, OutOfMemory>
-            requires { IsSync T.row × (sites ≤ 16) }
+            requires { IsSync T.row × (sites ≤ COUNTED_MAX) }
             ensures { IfOk result (λ list. AreParsed sites (input_records piece.entry.now) (flat list.items)) }
         { read_parts(rt, alloc, piece, sites, readers, window) },
         &mut || -> Result<(), OutOfMemory>

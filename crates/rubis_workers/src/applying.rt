@@ -2,6 +2,7 @@
 
 ghost use Rattle.std.specs.Prelude.{◌≡◌, ℕ, ◌+◌, ◌<◌, ◌≤◌, [], length, map as each, slice_index, take, true, OnOk, OnErr};
 ghost use Rattle.std.specs.Vec.{vec_capacity};
+ghost use Rattle.rubis_schema.specs.declared.limits.TheConstants.{KEEP_MAX, WORKERS_MAX};
 ghost use Rattle.rubis_model.specs.Log.{cores};
 ghost use Rattle.rubis_shard.specs.Holdings.{HoldsLog, IsSet};
 ghost use Rattle.rubis_workers.specs.Logs.{AppliesTo, AppliesWhole};
@@ -53,7 +54,7 @@ fn stop_all(stops: &mut Vec<usize>, shards: usize, at: usize)
 fn stop_each(stops: &mut Vec<usize>, dones: &[usize], from: usize, messages: usize) -> bool
     requires room { length dones.now ≤ vec_capacity stops.old }
     requires within { (k : ℕ) → k < length dones.now → slice_index dones.now k ≤ messages }
-    requires few { from + messages ≤ 1000000 }
+    requires few { from + messages ≤ KEEP_MAX }
     ensures stops { stops.new.items ≡ each (λ d. from + d) dones.now }
     ensures whole { result ≡ true → (k : ℕ) → k < length dones.now → slice_index dones.now k ≡ messages }
     ensures room { vec_capacity stops.new ≡ vec_capacity stops.old }
@@ -78,7 +79,7 @@ fn apply_alone<G: Gate>(
     stops: &mut Vec<usize>,
     gate: &G,
 ) -> Result<(), AllocError>
-    requires few { length log.now ≤ 1000000 }
+    requires few { length log.now ≤ KEEP_MAX }
     requires within { upto ≤ length log.now }
     requires on { from ≤ upto }
     requires some { 0 < length tables.old }
@@ -110,12 +111,12 @@ fn apply_together<G: Gate, R: Threads + Wait + Sync>(
     pace: &mut Pace,
     gate: &G,
 ) -> Result<(), AllocError>
-    requires few { length log.now ≤ 1000000 }
+    requires few { length log.now ≤ KEEP_MAX }
     requires within { upto ≤ length log.now }
     requires pending { from < upto }
     requires some { 0 < length tables.old }
     requires shards { length tables.old ≤ 255 }
-    requires most { (0 < most) × (most ≤ 16) }
+    requires most { (0 < most) × (most ≤ WORKERS_MAX) }
     requires room { length tables.old ≤ vec_capacity stops.old }
     ensures ok { OnOk result (AppliesWhole log.now from upto tables.old tables.new) }
     ensures err { OnErr result (AppliesTo log.now from upto tables.old tables.new stops.new.items) }
@@ -176,12 +177,12 @@ pub fn apply_batch<G: Gate, R: Threads + Wait + Sync>(
     pace: &mut Pace,
     gate: &G,
 ) -> Result<(), AllocError>
-    requires few { length log.now ≤ 1000000 }
+    requires few { length log.now ≤ KEEP_MAX }
     requires within { upto ≤ length log.now }
     requires on { from ≤ upto }
     requires some { 0 < length tables.old }
     requires shards { length tables.old ≤ 255 }
-    requires workers { (0 < workers) × (workers ≤ 16) }
+    requires workers { (0 < workers) × (workers ≤ WORKERS_MAX) }
     requires room { length tables.old ≤ vec_capacity stops.old }
     ensures ok { OnOk result (AppliesWhole log.now from upto tables.old tables.new) }
     ensures err { OnErr result (AppliesTo log.now from upto tables.old tables.new stops.new.items) }

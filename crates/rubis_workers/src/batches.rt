@@ -2,6 +2,7 @@
 
 ghost use Rattle.std.specs.Prelude.{◌≡◌, ◌<◌, ◌≤◌, [], length, min, vec_len, IfOk, IfErr};
 ghost use Rattle.std.specs.List.Sorted.{IsPermutation};
+ghost use Rattle.rubis_schema.specs.declared.limits.TheConstants.{WORKERS_MAX};
 ghost use Rattle.rubis_shard.specs.Holdings.{AreInOrder};
 ghost use Rattle.rubis_pieces.specs.Batches.{Belong};
 ghost use Rattle.rubis_pieces.specs.Work.{pieces_of};
@@ -82,7 +83,7 @@ pub fn apply_by_team<G: Gate, R: Threads + Wait + Sync, A, F: FnOnce() -> A>(
     requires some { 0 < length shards.items }
     requires order { AreInOrder shards.items }
     requires belong { Belong shards.items shares.items }
-    requires workers { (0 < workers) × (workers ≤ 16) }
+    requires workers { (0 < workers) × (workers ≤ WORKERS_MAX) }
     requires beside { F.pre beside }
     ensures folded { IfOk result.0 (λ r. AreWorked shards.items shares.items r.worked) }
     ensures batch { IfOk result.0 (λ r. AppliesBatch shards.items shares.items r.worked) }
@@ -152,7 +153,7 @@ pub fn apply_beside<G: Gate, R: Threads + Wait + Sync, A, F: FnOnce() -> A>(
     requires some { 0 < length shards.items }
     requires order { AreInOrder shards.items }
     requires belong { Belong shards.items shares.items }
-    requires workers { (0 < workers) × (workers ≤ 16) }
+    requires workers { (0 < workers) × (workers ≤ WORKERS_MAX) }
     requires beside { F.pre beside }
     ensures folded { IfOk result.0 (AreWorked shards.items shares.items) }
     ensures batch { IfOk result.0 (AppliesBatch shards.items shares.items) }
@@ -178,7 +179,7 @@ pub fn apply_all<G: Gate, R: Threads + Wait + Sync>(
     requires some { 0 < length shards.items }
     requires order { AreInOrder shards.items }
     requires belong { Belong shards.items shares.items }
-    requires workers { (0 < workers) × (workers ≤ 16) }
+    requires workers { (0 < workers) × (workers ≤ WORKERS_MAX) }
     ensures folded { IfOk result (AreWorked shards.items shares.items) }
     ensures batch { IfOk result (AppliesBatch shards.items shares.items) }
     ensures back { IfErr result (λ unstarted. (unstarted.shards ≡ shards.items) × (unstarted.shares ≡ shares.items)) }

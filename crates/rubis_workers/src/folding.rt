@@ -2,6 +2,7 @@
 
 ghost use Rattle.std.specs.Prelude.{◌≡◌, ◌≤◌, ◌<◌, ◌*◌, All, OnOk, OnErr, length, take};
 ghost use Rattle.std.specs.List.{flat_map};
+ghost use Rattle.rubis_schema.specs.declared.limits.TheConstants.{KEEP_MAX};
 ghost use Rattle.rubis_message.specs.Message.{IsMessage};
 ghost use Rattle.rubis_model.specs.Log.{cores, parts_of};
 ghost use Rattle.rubis_shard.specs.Holdings.{HoldsLog};
@@ -19,7 +20,7 @@ pub fn apply_upto(
     at: &mut usize,
     upto: usize,
 ) -> Result<(), AllocError>
-    requires few { length log.now ≤ 1000000 }
+    requires few { length log.now ≤ KEEP_MAX }
     requires inside { upto ≤ length log.now }
     requires on { at.old ≤ upto }
     requires some { 0 < length tables.old }
@@ -43,7 +44,7 @@ pub fn apply_upto(
 
 /// How many parts the messages have.
 pub fn count_parts(messages: &[Message]) -> u32
-    requires { length messages.now ≤ 1000000 }
+    requires { length messages.now ≤ KEEP_MAX }
     ensures count { result ≡ length (flat_map parts_of (cores messages.now)) }
     ensures few { result ≤ 3 * length messages.now }
     ensures conditions { All IsMessage messages.now }

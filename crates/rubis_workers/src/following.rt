@@ -7,6 +7,7 @@ ghost use Rattle.rubis_shard.specs.Holdings.{AreInOrder};
 ghost use Rattle.rubis_shard.specs.PartHomes.{AreHomes};
 ghost use Rattle.rubis_pieces.specs.Following.{AreFollowed};
 ghost use Rattle.std.specs.Vec.{vec_capacity};
+ghost use Rattle.rubis_schema.specs.declared.limits.TheConstants.{WORKERS_MAX};
 ghost use Rattle.rubis_workers.specs.Following.{AreRooms, bare};
 
 use crate::gate::Gate;
@@ -92,7 +93,7 @@ pub fn follow_by_team<G: Gate, R: Threads + Wait + Sync, A, F: FnOnce() -> A>(
     requires order { AreInOrder shards.items }
     requires entries { first + length batch.now ≤ 1000001 }
     requires homes { AreHomes (length shards.items) (cores batch.now) homes.now }
-    requires workers { (0 < workers) × (workers ≤ 16) }
+    requires workers { (0 < workers) × (workers ≤ WORKERS_MAX) }
     requires beside { F.pre beside }
     ensures followed { IfOk result.0 (λ r. AreFollowed first (cores batch.now) shards.items r.shards r.dones) }
     ensures others { IfOk result.0 (λ r. r.others ≤ length shards.items) }

@@ -1,6 +1,7 @@
 //! How many threads a batch is worth.
 
 ghost use Rattle.std.specs.Prelude.{◌≡◌, ◌<◌, ◌≤◌, ◌*◌};
+ghost use Rattle.rubis_schema.specs.declared.limits.TheConstants.{WORKERS_MAX};
 ghost use Rattle.rubis_workers.specs.Pace.{longer, most, ready, shorter, threads};
 
 /// A thread is worth starting where it applies this many messages: the start, some 50 microseconds, costs as much as some 150 of
@@ -65,7 +66,7 @@ impl Pace {
 
     /// A batch was applied with that many threads beside the caller's, and they applied about that many messages.
     pub fn learn(&mut self, threads: usize, messages: usize)
-        requires { threads ≤ 16 }
+        requires { threads ≤ WORKERS_MAX }
         ensures worth { WORTH * threads ≤ messages → self.new ≡ ready }
         ensures not_worth { messages < WORTH * threads → self.new ≡ longer self.old }
     {
