@@ -40,7 +40,9 @@ impl LinePlace {
         match (self, line) {
             (_, Line::Begin(_)) => Some(LinePlace::InMessages),
             (LinePlace::InMessages, Line::Next(_)) => Some(LinePlace::InMessages),
-            (LinePlace::InMessages, Line::Claim) | (LinePlace::InRows, Line::Claim) => Some(LinePlace::InRows),
+            (LinePlace::InMessages, Line::Claim) | (LinePlace::InRows, Line::Claim) => Some(
+                LinePlace::InRows,
+            ),
             (LinePlace::BeforeLogs, _) | (LinePlace::InRows, Line::Next(_)) => None,
         }
     }

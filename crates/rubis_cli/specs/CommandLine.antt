@@ -81,11 +81,13 @@ program_alone = let a = new_app (codes "rubis") in record a { top = record a.top
 
 abbrev pub command_line : App
 command_line =
-    with_subcommand (with_subcommand (with_subcommand (with_subcommand (with_subcommand (with_subcommand program_alone site_command.top) world_command.top) audit_command.top) lack_command.top) widen_command.top) keep_command.top
+    with_subcommand (with_subcommand (with_subcommand (with_subcommand
+    (with_subcommand (with_subcommand program_alone site_command.top) world_command.top) audit_command.top) lack_command.top) widen_command.top) keep_command.top
 
 -- n is the number of at most `bits` bits that the text writes: decimal digits, optionally after a plus sign
 abbrev pub IsNumberOf : ℕ → Option Text → ℕ → Type 0
-IsNumberOf bits text n = (t : Text) → text ≡ Some t → IsNumeral 10 (without_leading_plus t) → digits_value 10 (without_leading_plus t) < 2 ^ bits → n ≡ digits_value 10 (without_leading_plus t)
+IsNumberOf bits text n = (t : Text) → text ≡ Some t → IsNumeral 10 (without_leading_plus t) → digits_value 10 (without_leading_plus t) < 2 ^ bits
+    → n ≡ digits_value 10 (without_leading_plus t)
 
 -- the numbers are what stands in these rows
 pub record IsSetupIn (rows : List Row) (s : Setup) : Type 0 where
@@ -106,7 +108,8 @@ pub record AreCountsIn (rows : List Row) (w : Widening) : Type 0 where
 -- the same of an option that may not be given
 abbrev pub IsGivenNumber : ℕ → Option Text → Option ℕ → Type 0
 IsGivenNumber bits text n = (text ≡ None → n ≡ None)
-    × ((t : Text) → text ≡ Some t → IsNumeral 10 (without_leading_plus t) → digits_value 10 (without_leading_plus t) < 2 ^ bits → n ≡ Some (digits_value 10 (without_leading_plus t)))
+    × ((t : Text) → text ≡ Some t → IsNumeral 10 (without_leading_plus t) → digits_value 10 (without_leading_plus t) < 2 ^ bits
+    → n ≡ Some (digits_value 10 (without_leading_plus t)))
 
 -- an option without a value is given
 abbrev pub IsFlag : Option Text → Bool → Type 0
@@ -130,13 +133,16 @@ pub record AreKeepOptionsIn (rows : List Row) (o : KeepOptions) : Type 0 where
 -- what the words of a command line ask for: an audit, what logs lack, several sites, a widening or a site that keeps its records
 -- where that is the command, or else a site, with the options that stand after the command
 abbrev pub IsAsked : List Text → Run → Type 0
-IsAsked words (Audit sites) = (rows : List Row) × (subcommand_of command_line words ≡ Some (codes "audit", rows)) × IsNumberOf 8 (one_of (codes "sites") rows) sites
-IsAsked words (Lack sites) = (rows : List Row) × (subcommand_of command_line words ≡ Some (codes "lack", rows)) × IsNumberOf 8 (one_of (codes "sites") rows) sites
+IsAsked words (Audit sites) = (rows : List Row) × (subcommand_of command_line words ≡ Some (codes "audit", rows))
+    × IsNumberOf 8 (one_of (codes "sites") rows) sites
+IsAsked words (Lack sites) = (rows : List Row) × (subcommand_of command_line words ≡ Some (codes "lack", rows))
+    × IsNumberOf 8 (one_of (codes "sites") rows) sites
 IsAsked words (World setup) = (rows : List Row) × (subcommand_of command_line words ≡ Some (codes "world", rows)) × IsSetupIn rows setup
 IsAsked words (Widen counts) = (rows : List Row) × (subcommand_of command_line words ≡ Some (codes "widen", rows)) × AreCountsIn rows counts
 IsAsked words (Keep options) = (rows : List Row) × (subcommand_of command_line words ≡ Some (codes "keep", rows)) × AreKeepOptionsIn rows options
 IsAsked words (Site options) =
-    (name : Text) × (rows : List Row) × (subcommand_of command_line words ≡ Some (name, rows)) × (name ≢ codes "audit") × (name ≢ codes "world") × (name ≢ codes "widen") × (name ≢ codes "keep") × (name ≢ codes "lack")
+    (name : Text) × (rows : List Row) × (subcommand_of command_line words ≡ Some (name, rows)) × (name ≢ codes "audit") × (name ≢ codes "world")
+    × (name ≢ codes "widen") × (name ≢ codes "keep") × (name ≢ codes "lack")
     × AreOptionsIn rows options
 
 -- what an error of `clap` is called here

@@ -11,4 +11,5 @@ SentLinesAreLines = (fields : List (List ℕ)) → 2 ≤ length fields → row_t
 -- the lines of rows, each with a field, are read as these rows, if the text begins with no byte order mark
 abbrev pub RowsAreReadBack : Type 0
 RowsAreReadBack =
-    (rows : List (List (List ℕ))) → ((row : List (List ℕ)) → Has row rows → row ≢ []) → strip_bom (rows_text rows) ≡ rows_text rows → input_records (rows_text rows) ≡ rows
+    (rows : List (List (List ℕ))) → ((row : List (List ℕ)) → Has row rows → row ≢ []) → strip_bom (rows_text rows) ≡ rows_text rows
+    → input_records (rows_text rows) ≡ rows

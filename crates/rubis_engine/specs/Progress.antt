@@ -102,7 +102,8 @@ abbrev pub EndsInPrefix : {R : Type 0} → (R → Option (List ℕ)) → Run R �
 EndsInPrefix rem run account before after = OfEachRun rem run account before (λ all old input. WrotePrefix (all.text AtEnd) old after (input_records input))
 
 -- after one record more it stands at `new`, or is done
-abbrev pub HasMoved : {R : Type 0} → (R → Option (List ℕ)) → Run R → Run R → (ℕ → Account) → (ℕ → Account) → Option (List ℕ) → Option (List ℕ) → Option Count → Type 0
+abbrev pub HasMoved : {R : Type 0} → (R → Option (List ℕ)) → Run R → Run R → (ℕ → Account) → (ℕ → Account) → Option (List ℕ) → Option (List ℕ)
+    → Option Count → Type 0
 HasMoved rem run new account account2 before after over = OfEachRun rem run account before (λ all old input.
     MatchOption over (StandsAt rem new account2 all old after input) (λ count. IsDone all (run.answered + 1) old after (input_records input) count.records))
 

@@ -24,7 +24,8 @@ fn put_field(rows: &mut Writer<Vec<u8>>, field: &[u8]) -> Result<(), AllocError>
 
 // Appends these fields to the current row.
 fn put_slices(rows: &mut Writer<Vec<u8>>, fields: &[&[u8]]) -> Result<(), AllocError>
-    ensures { OnOk result ((start : List ℕ) (done : List (List ℕ)) → HasBegunRow start rows.old done → HasBegunRow start rows.new (done ++ map (λ f. f.now) fields.now)) }
+    ensures { OnOk result ((start : List ℕ) (done : List (List ℕ)) → HasBegunRow start rows.old done
+        → HasBegunRow start rows.new (done ++ map (λ f. f.now) fields.now)) }
 {
     for field in fields {
         put_field(rows, field)?;
@@ -46,7 +47,8 @@ fn put_fields(rows: &mut Writer<Vec<u8>>, fields: &Fields) -> Result<(), AllocEr
 
 // Ends a row.
 fn end_row(rows: &mut Writer<Vec<u8>>) -> Result<(), AllocError>
-    ensures text { OnOk result ((start : List ℕ) (done : List (List ℕ)) → HasBegunRow start rows.old done → held rows.new ≡ start ++ row_text plain_writer done) }
+    ensures text { OnOk result ((start : List ℕ) (done : List (List ℕ)) → HasBegunRow start rows.old done
+        → held rows.new ≡ start ++ row_text plain_writer done) }
     ensures setup { OnOk result (writer_setup rows.new ≡ writer_setup rows.old) }
     ensures fields { OnOk result (fields_written rows.new ≡ 0) }
     ensures wrote { OnOk result (has_written rows.new ≡ false) }
@@ -59,7 +61,8 @@ fn end_row(rows: &mut Writer<Vec<u8>>) -> Result<(), AllocError>
 
 // Writes a row that begins with `first` and goes on with the fields of a record.
 fn put_row(rows: &mut Writer<Vec<u8>>, first: &[&[u8]], fields: &Fields) -> Result<(), AllocError>
-    ensures { OnOk result ((start : List ℕ) → HasBegunRow start rows.old [] → (held rows.new ≡ start ++ row_text plain_writer (map (λ f. f.now) first.now ++ fields.now))
+    ensures { OnOk result ((start : List ℕ) → HasBegunRow start rows.old []
+        → (held rows.new ≡ start ++ row_text plain_writer (map (λ f. f.now) first.now ++ fields.now))
         × (writer_setup rows.new ≡ plain_writer) × (fields_written rows.new ≡ 0) × (has_written rows.new ≡ false)) }
 {
     put_slices(rows, first)?;
@@ -74,7 +77,8 @@ fn put_whole_row(
     fields: &Fields,
 ) -> Result<(), AllocError>
     requires { IsBetweenRows rows.old }
-    ensures text { OnOk result ((writer_under rows.new).items ≡ (writer_under rows.old).items ++ row_text plain_writer (map (λ f. f.now) first.now ++ fields.now)) }
+    ensures text { OnOk result ((writer_under rows.new).items ≡ (writer_under rows.old).items ++ row_text plain_writer
+        (map (λ f. f.now) first.now ++ fields.now)) }
     ensures between { OnOk result (IsBetweenRows rows.new) }
 {
     put_row(rows, first, fields)?;

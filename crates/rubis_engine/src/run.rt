@@ -23,7 +23,8 @@ fn write_out_held<T, S: Service<T>, W: Write>(
     sink: &mut Sink,
     writer: &mut W,
 ) -> Result<(), RunFault>
-    ensures drains { OnOk result ((number : ℕ) → Drained (S.account service.old number) (S.account service.new number) sink.old (W.contents writer.old) (W.contents writer.new)) }
+    ensures drains { OnOk result ((number : ℕ) → Drained (S.account service.old number) (S.account service.new number) sink.old
+        (W.contents writer.old) (W.contents writer.new)) }
     ensures none { OnOk result ((number : ℕ) → (S.account service.new number).text Cut [] ≡ []) }
     ensures empty { OnOk result (sink.new ≡ []) }
     ensures stays { OnOk result (S.stays service.old service.new) }
@@ -41,7 +42,8 @@ fn write_out_end<T, S: Service<T>, W: Write>(
     sink: &mut Sink,
     writer: &mut W,
 ) -> Result<(), RunFault>
-    ensures ok { OnOk result ((number : ℕ) → Appends (W.contents writer.old) (W.contents writer.new) (sink.old ++ (S.account service.old number).text AtEnd [])) }
+    ensures ok { OnOk result ((number : ℕ) → Appends (W.contents writer.old) (W.contents writer.new)
+        (sink.old ++ (S.account service.old number).text AtEnd [])) }
     ensures stays { OnOk result (S.stays service.old service.new) }
     ensures memory { IsErrOf result RunFault.Memory → W.contents writer.new ≡ W.contents writer.old }
     ensures faults { IfErr result (λ e. (e ≡ RunFault.Write) ⊎ (e ≡ RunFault.Memory)) }
@@ -124,13 +126,16 @@ pub fn next_record<T, S: Service<T>, R: Read, W: Write>(
 ) -> Result<Option<Count>, RunFault>
     ensures found { IfOk result (λ over. IfNone over (Advances R.remaining records.old records.new true)) }
     ensures same { IfOk result (λ over. IfNone over ((service.new ≡ service.old) × (sink.new ≡ sink.old) × (writer.new ≡ writer.old))) }
-    ensures done { IfOk result (λ over. IfSome over (λ count. InEachRun R.remaining records.old (S.account service.old (answered + 1)) (W.contents writer.old) sink.old (answered + 1) (λ all old input.
+    ensures done { IfOk result (λ over. IfSome over (λ count.
+        InEachRun R.remaining records.old (S.account service.old (answered + 1)) (W.contents writer.old) sink.old (answered + 1) (λ all old input.
         IsDone all answered old (W.contents writer.new) (input_records input) count.records))) }
     ensures ended { IfOk result (λ over. IfSome over (λ _. Advances R.remaining records.old records.new false)) }
     ensures stays { IfOk result (λ over. IfSome over (λ _. S.stays service.old service.new)) }
-    ensures read { IsErrOf result RunFault.Read → InEachRun R.remaining records.old (S.account service.old (answered + 1)) (W.contents writer.old) sink.old (answered + 1) (λ all old input.
+    ensures read { IsErrOf result RunFault.Read → InEachRun R.remaining records.old (S.account service.old (answered + 1))
+        (W.contents writer.old) sink.old (answered + 1) (λ all old input.
         IsCut all old (W.contents writer.new) (input_records input)) }
-    ensures memory { IsErrOf result RunFault.Memory → InEachRun R.remaining records.old (S.account service.old (answered + 1)) (W.contents writer.old) sink.old (answered + 1) (λ all old input.
+    ensures memory { IsErrOf result RunFault.Memory → InEachRun R.remaining records.old (S.account service.old (answered + 1))
+        (W.contents writer.old) sink.old (answered + 1) (λ all old input.
         WrotePrefix (all.text AtEnd) old (W.contents writer.new) (input_records input)) }
     ensures faults { IfErr result (λ e. (e ≡ RunFault.Read) ⊎ (e ≡ RunFault.Write) ⊎ (e ≡ RunFault.Memory)) }
 {
@@ -150,15 +155,19 @@ pub fn stop<T, S: Service<T>, R: Read, W: Write>(
     writer: &mut W,
     answered: u64,
 ) -> Result<Count, RunFault>
-    ensures ok { IfOk result (λ count. InEachRun R.remaining records.old (S.account service.old (answered + 1)) (W.contents writer.old) sink.old (answered + 1) (λ all old input.
+    ensures ok { IfOk result (λ count. InEachRun R.remaining records.old (S.account service.old (answered + 1)) (W.contents writer.old) sink.old
+        (answered + 1) (λ all old input.
         IsDone all answered old (W.contents writer.new) (input_records input) count.records)) }
     ensures ended { IfOk result (λ _. Advances R.remaining records.old records.new false) }
     ensures stays { IfOk result (λ _. S.stays service.old service.new) }
-    ensures too_long { IsErrOf result RunFault.TooLong → InEachRun R.remaining records.old (S.account service.old (answered + 1)) (W.contents writer.old) sink.old (answered + 1) (λ all old input.
+    ensures too_long { IsErrOf result RunFault.TooLong → InEachRun R.remaining records.old (S.account service.old (answered + 1))
+        (W.contents writer.old) sink.old (answered + 1) (λ all old input.
         IsTooLong all answered old (W.contents writer.new) (input_records input)) }
-    ensures read { IsErrOf result RunFault.Read → InEachRun R.remaining records.old (S.account service.old (answered + 1)) (W.contents writer.old) sink.old (answered + 1) (λ all old input.
+    ensures read { IsErrOf result RunFault.Read → InEachRun R.remaining records.old (S.account service.old (answered + 1))
+        (W.contents writer.old) sink.old (answered + 1) (λ all old input.
         IsCut all old (W.contents writer.new) (input_records input)) }
-    ensures memory { IsErrOf result RunFault.Memory → InEachRun R.remaining records.old (S.account service.old (answered + 1)) (W.contents writer.old) sink.old (answered + 1) (λ all old input.
+    ensures memory { IsErrOf result RunFault.Memory → InEachRun R.remaining records.old (S.account service.old (answered + 1))
+        (W.contents writer.old) sink.old (answered + 1) (λ all old input.
         WrotePrefix (all.text AtEnd) old (W.contents writer.new) (input_records input)) }
 {
     let Some(count) = next_record(rt, records, service, sink, writer, answered)? else {
@@ -201,7 +210,8 @@ fn answer_next<T, S: Answering<T>, R: Read, W: Write>(
     writer: &mut W,
 ) -> Result<Option<Count>, RunFault>
     requires { run.old.answered + 1 < 2 ^ 64 }
-    ensures goes { IfOk result (λ over. HasMoved R.remaining run.old run.new (S.account service.old) (S.account service.new) (W.contents writer.old) (W.contents writer.new) over) }
+    ensures goes { IfOk result (λ over. HasMoved R.remaining run.old run.new (S.account service.old) (S.account service.new) (W.contents writer.old)
+        (W.contents writer.new) over) }
     ensures counted { IfOk result (λ over. IfNone over (run.new.answered ≡ run.old.answered + 1)) }
     ensures read { IsErrOf result RunFault.Read → EndsCut R.remaining run.old (S.account service.old) (W.contents writer.old) (W.contents writer.new) }
     ensures memory { IsErrOf result RunFault.Memory → EndsInPrefix R.remaining run.old (S.account service.old) (W.contents writer.old) (W.contents writer.new) }
@@ -237,10 +247,14 @@ fn serve<T, S: Answering<T>, R: Read, W: Write>(
     limit: u64,
 ) -> Result<Count, RunFault>
     requires { run.old.answered ≡ 0 }
-    ensures ok { IfOk result (λ count. FromStart R.remaining run.old (λ records. IsDone (S.account service.old 1) limit (W.contents writer.old) (W.contents writer.new) records count.records)) }
-    ensures too_long { IsErrOf result RunFault.TooLong → FromStart R.remaining run.old (λ records. IsTooLong (S.account service.old 1) limit (W.contents writer.old) (W.contents writer.new) records) }
-    ensures read { IsErrOf result RunFault.Read → FromStart R.remaining run.old (λ records. IsCut (S.account service.old 1) (W.contents writer.old) (W.contents writer.new) records) }
-    ensures memory { IsErrOf result RunFault.Memory → FromStart R.remaining run.old (λ records. WrotePrefix ((S.account service.old 1).text AtEnd) (W.contents writer.old) (W.contents writer.new) records) }
+    ensures ok { IfOk result (λ count. FromStart R.remaining run.old (λ records.
+        IsDone (S.account service.old 1) limit (W.contents writer.old) (W.contents writer.new) records count.records)) }
+    ensures too_long { IsErrOf result RunFault.TooLong → FromStart R.remaining run.old (λ records.
+        IsTooLong (S.account service.old 1) limit (W.contents writer.old) (W.contents writer.new) records) }
+    ensures read { IsErrOf result RunFault.Read → FromStart R.remaining run.old (λ records.
+        IsCut (S.account service.old 1) (W.contents writer.old) (W.contents writer.new) records) }
+    ensures memory { IsErrOf result RunFault.Memory → FromStart R.remaining run.old (λ records.
+        WrotePrefix ((S.account service.old 1).text AtEnd) (W.contents writer.old) (W.contents writer.new) records) }
 {
     'steps: for _answered in 0..limit {
         if let Some(count) = answer_next(rt, run, service, writer)? {

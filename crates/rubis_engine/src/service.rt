@@ -58,5 +58,6 @@ pub trait Answering<T>: Service<T> {
         fields: &InputRecord,
         reply: &mut Reply,
     ) -> Result<Course, OutOfMemory>
-        ensures { IfOk result (λ course. AnswersRecord course (Self.account self.old reply.old.number) (Self.account self.new (reply.old.number + 1)) reply.old.sink reply.new.sink fields.now) };
+        ensures { IfOk result (λ course. AnswersRecord course (Self.account self.old reply.old.number)
+            (Self.account self.new (reply.old.number + 1)) reply.old.sink reply.new.sink fields.now) };
 }

@@ -53,21 +53,25 @@ ComesBack = (text : List (List (List ℕ)) → List ℕ) (files : Files) (lives 
 -- however a run ends that began with what was left, it leaves what a next one can begin with, and no line that was kept whole is
 -- lost
 abbrev pub EndsLeft : Type 0
-EndsLeft = (all : Account) (files : Files) (input later log out : Option (List ℕ)) → IsLeft (all.text AtEnd) files → Ended all files.log files.out input later log out
+EndsLeft = (all : Account) (files : Files) (input later log out : Option (List ℕ)) → IsLeft (all.text AtEnd) files
+    → Ended all files.log files.out input later log out
     → (next : Files) × IsLeft (all.text AtEnd) next × IsFrontOf (whole_lines files.log) next.log × (log ≡ Some next.log) × (out ≡ Some next.out)
 
 abbrev pub LivesLeft : Type 0
-LivesLeft = (all : Account) (files : Files) (input later log out : Option (List ℕ)) → IsLeft (all.text AtEnd) files → Lived all files.log files.out input later log out
+LivesLeft = (all : Account) (files : Files) (input later log out : Option (List ℕ)) → IsLeft (all.text AtEnd) files
+    → Lived all files.log files.out input later log out
     → (next : Files) × IsLeft (all.text AtEnd) next × IsFrontOf (whole_lines files.log) next.log × (log ≡ Some next.log) × (out ≡ Some next.out)
 
 -- a run over these files can only end with a fault, and both are as they were then
 abbrev pub IsRefused : Account → Files → Type 0
 IsRefused all files = (input later log out : Option (List ℕ))
-    → (Lived all files.log files.out input later log out → ⊥) × (Ended all files.log files.out input later log out → (log ≡ Some files.log) × (out ≡ Some files.out))
+    → (Lived all files.log files.out input later log out → ⊥)
+    × (Ended all files.log files.out input later log out → (log ≡ Some files.log) × (out ≡ Some files.out))
 
 -- it is so where the answers of before are not the beginning of the text of what was kept
 abbrev pub DifferencesAreFound : Type 0
-DifferencesAreFound = (all : Account) (files : Files) → ((rest : List ℕ) → files.out ++ rest ≢ all.text AtEnd (input_records (whole_lines files.log))) → IsRefused all files
+DifferencesAreFound = (all : Account) (files : Files) → ((rest : List ℕ)
+    → files.out ++ rest ≢ all.text AtEnd (input_records (whole_lines files.log))) → IsRefused all files
 
 -- and where some whole line of the log is one that isn't kept as it is
 abbrev pub EditsAreFound : Type 0

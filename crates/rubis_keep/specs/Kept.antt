@@ -76,7 +76,8 @@ IsUnread old added = (added ≡ []) × (since left : List ℕ) × (old ≡ since
 -- what stands in `out` is the beginning of the text of what was kept, whatever follows it; or it is as it was before
 abbrev pub OutEnds : Account → List ℕ → List ℕ → Option (List ℕ) → Option (List ℕ) → List ℕ → Type 0
 OutEnds all told old out0 out kept = (added : List ℕ) × Appends out0 out added
-    × (IsUnread old added ⊎ ((more : List (List (List ℕ))) → (rest : List ℕ) × ((told ++ (old ++ added)) ++ rest ≡ all.text AtEnd (input_records kept ++ more))))
+    × (IsUnread old added ⊎ ((more : List (List (List ℕ))) → (rest : List ℕ)
+    × ((told ++ (old ++ added)) ++ rest ≡ all.text AtEnd (input_records kept ++ more))))
 
 -- of every run that rests here this holds
 abbrev pub InEachRest : Account → Option (List ℕ) → Option (List ℕ) → ℕ → (Account → List ℕ → List ℕ → Option (List ℕ) → List ℕ → Type 0) → Type 0
@@ -108,7 +109,8 @@ FinishedFront old new sink before before2 out out2 =
 -- ---- a run over an input
 
 -- from where it began, with `base` kept and `line` begun, the run has come so far, between two pieces of its input
-pub record Stands (all more : Account) (told old base line : List ℕ) (input0 input log0 log before out0 out : Option (List ℕ)) (begun : List ℕ) (number len0 len : ℕ) : Type 0 where
+pub record Stands (all more : Account) (told old base line : List ℕ) (input0 input log0 log before out0 out : Option
+    (List ℕ)) (begun : List ℕ) (number len0 len : ℕ) : Type 0 where
   pub bytes : List ℕ
   pub taken : Consumes input0 input bytes
   pub logged : Appends log0 log (kept_after line bytes)
@@ -171,7 +173,9 @@ pub record Lived (all : Account) (kept0 old : List ℕ) (input input2 log out : 
   pub end : IsAtEnd input2
   pub log_is : log ≡ Some (whole_lines kept0 ++ kept_of bytes)
   pub out_is : out ≡ Some (all.text Cut (input_records (whole_lines kept0 ++ kept_of bytes)))
-  pub begins : (more : List (List (List ℕ))) → (rest : List ℕ) × (all.text Cut (input_records (whole_lines kept0 ++ kept_of bytes)) ++ rest ≡ all.text AtEnd (input_records (whole_lines kept0 ++ kept_of bytes) ++ more))
+  pub begins : (more : List (List (List ℕ))) → (rest : List ℕ)
+      × (all.text Cut (input_records (whole_lines kept0 ++ kept_of bytes)) ++ rest ≡ all.text AtEnd
+      (input_records (whole_lines kept0 ++ kept_of bytes) ++ more))
 
 -- it ended with a fault. The log is as it was; or it has the whole lines of before, and then a prefix of what is kept of the bytes
 -- that were read of the input. The answers of before are the beginning of the text of what was kept, and what stands in `out` is the

@@ -31,7 +31,8 @@ IsPrefix xs ys = (rest : List (List (List ℕ))) × (xs ++ rest ≡ ys)
 -- again, where the process has answered all that any process of its site had answered before
 pub record AreKept (sites : ℕ) (keep : ℕ → ℕ) (files : ℕ → List Moment → Files) (moments : List Moment) : Type 0 where
   pub left : (i : ℕ) (before later : List Moment) → moments ≡ before ++ later → IsLeft (text_at sites keep i) (files i before)
-  pub stays : (i : ℕ) (before later : List Moment) (m : Moment) → moments ≡ before ++ m ∷ later → IsFrontOf (whole_lines (files i before).log) (files i (before ++ m ∷ [])).log
+  pub stays : (i : ℕ) (before later : List Moment) (m : Moment) → moments ≡ before ++ m ∷ later
+      → IsFrontOf (whole_lines (files i before).log) (files i (before ++ m ∷ [])).log
   pub ahead : (i : ℕ) (before later : List Moment) → moments ≡ before ++ later → IsPrefix (has_read i before) (records_of (files i before))
   pub anew : (i : ℕ) (fields : List (List ℕ)) (before later : List Moment) → moments ≡ before ++ Reads i fields ∷ later
       → length (has_read i before) ≡ length (read_by i (recorded before))
@@ -49,5 +50,7 @@ AreAgreed sites keep moments = (logs : List Log) → ((log : Log) → Has log lo
 -- sites that keep their records, whose processes stop at any moments, are processes that never stop, which are a run of the model; if
 -- each packet that a process reads was sent before by one of them
 abbrev pub KeptShopsAreRuns : Type 0
-KeptShopsAreRuns = (sites : ℕ) (keep : ℕ → ℕ) (files : ℕ → List Moment → Files) (moments : List Moment) → 1 ≤ sites → sites ≤ COUNTED_MAX → ((i : ℕ) → keep i ≤ KEEP_MAX)
-    → AreKept sites keep files moments → CarriedWithRestarts sites keep moments → NeverStopped sites keep moments × IsSomeRun sites keep moments × AreAgreed sites keep moments
+KeptShopsAreRuns = (sites : ℕ) (keep : ℕ → ℕ) (files : ℕ → List Moment → Files) (moments : List Moment) → 1 ≤ sites → sites ≤ COUNTED_MAX
+    → ((i : ℕ) → keep i ≤ KEEP_MAX)
+    → AreKept sites keep files moments → CarriedWithRestarts sites keep moments → NeverStopped sites keep moments × IsSomeRun sites keep moments
+    × AreAgreed sites keep moments

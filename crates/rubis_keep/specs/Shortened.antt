@@ -36,4 +36,5 @@ pub record IsShort (p : Place) (s : Replica) (done line text : List ℕ) (state 
 -- records that change nothing where they are read
 abbrev pub Shortens : Place → Replica → Option (List ℕ) → Option (List ℕ) → Option (List ℕ) → Type 0
 Shortens p s past fresh fresh2 = (kept : List ℕ) → past ≡ Some kept → AreSound [] kept
-    → (short : List ℕ) × Appends fresh fresh2 short × IsShortened p s (input_records short) (input_records (whole_lines kept)) × AreSound [] short × (begun_after [] short ≡ [])
+    → (short : List ℕ) × Appends fresh fresh2 short × IsShortened p s (input_records short) (input_records (whole_lines kept)) × AreSound [] short
+    × (begun_after [] short ≡ [])

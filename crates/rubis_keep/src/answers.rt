@@ -74,9 +74,11 @@ fn put<O: Read, W: Write>(
 impl<O: Read, W: Write> Answers<O, W> {
     /// Puts the text of a sink, which is empty then.
     pub(crate) fn put_sink(&mut self, sink: &mut Sink) -> Result<(), KeepFault>
-        ensures ok { OnOk result (Puts (O.remaining self.old.before) (O.remaining self.new.before) (W.contents self.old.out) (W.contents self.new.out) sink.old) }
+        ensures ok { OnOk result (Puts (O.remaining self.old.before) (O.remaining self.new.before) (W.contents self.old.out)
+            (W.contents self.new.out) sink.old) }
         ensures sink { sink.new ≡ [] }
-        ensures err { OnErr result (PutsFront (O.remaining self.old.before) (O.remaining self.new.before) (W.contents self.old.out) (W.contents self.new.out) sink.old) }
+        ensures err { OnErr result (PutsFront (O.remaining self.old.before) (O.remaining self.new.before) (W.contents self.old.out)
+            (W.contents self.new.out) sink.old) }
     {
         let Answers {
             before,

@@ -34,7 +34,8 @@ fn check_byte(begun: &mut Vec<u8>, byte: u8) -> Result<bool, AllocError>
 #[tactic(auto, using(crate::proofs::LineFacts::begun_take_more, crate::proofs::SoundFacts::sound_take_more))]
 fn check_bytes(begun: &mut Vec<u8>, piece: &[u8], lines: &mut u64) -> Result<bool, AllocError>
     ensures sound { IfOk result (λ sound. (line : List ℕ) → begun.old.items ≡ begun_bytes line → sound ≡ are_sound line piece.now) }
-    ensures begun { IfOk result (λ sound. sound ≡ true → (line : List ℕ) → begun.old.items ≡ begun_bytes line → begun.new.items ≡ begun_bytes (begun_after line piece.now)) }
+    ensures begun { IfOk result (λ sound. sound ≡ true → (line : List ℕ) → begun.old.items ≡ begun_bytes line
+        → begun.new.items ≡ begun_bytes (begun_after line piece.now)) }
 {
     for byte in piece {
         if !check_byte(begun, *byte)? {

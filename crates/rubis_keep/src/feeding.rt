@@ -27,7 +27,9 @@ fn answer_next<G: Gate, T: Threads + Wait + Sync, R: Read>(
     requires held { AreHeld clerk.old.desk.site.place clerk.old.window.items clerk.old.answered }
     requires room { clerk.old.answered + 1 < 2 ^ 64 }
     ensures next { IfOk result (λ found. MatchBool found
-        (Advances R.remaining records.old records.new true × AnswersRecord GoesOn (held_by clerk.old.desk.site clerk.old.window.items (clerk.old.answered + 1)) (held_by clerk.new.desk.site clerk.new.window.items (clerk.old.answered + 1 + 1)) clerk.old.reply.sink clerk.new.reply.sink (fields_now records.new)
+        (Advances R.remaining records.old records.new true × AnswersRecord GoesOn
+        (held_by clerk.old.desk.site clerk.old.window.items (clerk.old.answered + 1)) (held_by clerk.new.desk.site clerk.new.window.items
+        (clerk.old.answered + 1 + 1)) clerk.old.reply.sink clerk.new.reply.sink (fields_now records.new)
         × (clerk.new.answered ≡ clerk.old.answered + 1))
         (Advances R.remaining records.old records.new false × (clerk.new ≡ clerk.old))) }
     ensures held { OnOk result (AreHeld clerk.new.desk.site.place clerk.new.window.items clerk.new.answered) }
@@ -55,11 +57,15 @@ fn finish<G: Gate, T: Threads + Wait + Sync, O: Read, W: Write>(
     answers: &mut Answers<O, W>,
 ) -> Result<(), KeepFault>
     requires held { AreHeld clerk.old.desk.site.place clerk.old.window.items clerk.old.answered }
-    ensures ok { OnOk result (Finished (held_by clerk.old.desk.site clerk.old.window.items (clerk.old.answered + 1)) (told_by clerk.new.desk.site (clerk.old.answered + 1)) clerk.old.reply.sink (O.remaining answers.old.before) (O.remaining answers.new.before) (W.contents answers.old.out) (W.contents answers.new.out)) }
+    ensures ok { OnOk result (Finished (held_by clerk.old.desk.site clerk.old.window.items (clerk.old.answered + 1))
+        (told_by clerk.new.desk.site
+        (clerk.old.answered + 1)) clerk.old.reply.sink (O.remaining answers.old.before) (O.remaining answers.new.before) (W.contents answers.old.out) (W.contents answers.new.out)) }
     ensures same { clerk.new.answered ≡ clerk.old.answered }
     ensures empty { OnOk result (clerk.new.reply.sink ≡ []) }
     ensures window { OnOk result (clerk.new.window.items ≡ []) }
-    ensures err { OnErr result (FinishedFront (held_by clerk.old.desk.site clerk.old.window.items (clerk.old.answered + 1)) (told_by clerk.new.desk.site (clerk.old.answered + 1)) clerk.old.reply.sink (O.remaining answers.old.before) (O.remaining answers.new.before) (W.contents answers.old.out) (W.contents answers.new.out)) }
+    ensures err { OnErr result (FinishedFront (held_by clerk.old.desk.site clerk.old.window.items (clerk.old.answered + 1))
+        (told_by clerk.new.desk.site
+        (clerk.old.answered + 1)) clerk.old.reply.sink (O.remaining answers.old.before) (O.remaining answers.new.before) (W.contents answers.old.out) (W.contents answers.new.out)) }
 {
     let Clerk {
         desk,
@@ -81,7 +87,9 @@ fn stop<G: Gate, T: Threads + Wait + Sync, R: Read, O: Read, W: Write>(
 ) -> Result<(), KeepFault>
     requires held { AreHeld clerk.old.desk.site.place clerk.old.window.items clerk.old.answered }
     ensures ok { OnOk result (Advances R.remaining records.old records.new false × (clerk.new ≡ clerk.old) × (answers.new ≡ answers.old)) }
-    ensures err { OnErr result (FinishedFront (held_by clerk.old.desk.site clerk.old.window.items (clerk.old.answered + 1)) (told_by clerk.new.desk.site (clerk.old.answered + 1)) clerk.old.reply.sink (O.remaining answers.old.before) (O.remaining answers.new.before) (W.contents answers.old.out) (W.contents answers.new.out)) }
+    ensures err { OnErr result (FinishedFront (held_by clerk.old.desk.site clerk.old.window.items (clerk.old.answered + 1))
+        (told_by clerk.new.desk.site
+        (clerk.old.answered + 1)) clerk.old.reply.sink (O.remaining answers.old.before) (O.remaining answers.new.before) (W.contents answers.old.out) (W.contents answers.new.out)) }
 {
     if records.advance()? {
         finish(rt, clerk, answers)?;
@@ -98,10 +106,13 @@ fn feed_records<G: Gate, T: Threads + Wait + Sync, R: Read, O: Read, W: Write>(
     answers: &mut Answers<O, W>,
 ) -> Result<(), KeepFault>
     requires held { AreHeld clerk.old.desk.site.place clerk.old.window.items clerk.old.answered }
-    ensures ok { OnOk result (InEachFeed R.remaining records.old (held_by clerk.old.desk.site clerk.old.window.items (clerk.old.answered + 1)) (O.remaining answers.old.before) (W.contents answers.old.out) clerk.old.reply.sink (clerk.old.answered + 1)
-        (FeedEnds R.remaining records.new (held_by clerk.new.desk.site clerk.new.window.items (clerk.new.answered + 1)) (O.remaining answers.new.before) (W.contents answers.new.out) clerk.new.reply.sink (clerk.new.answered + 1))) }
+    ensures ok { OnOk result (InEachFeed R.remaining records.old (held_by clerk.old.desk.site clerk.old.window.items (clerk.old.answered + 1))
+        (O.remaining answers.old.before) (W.contents answers.old.out) clerk.old.reply.sink (clerk.old.answered + 1)
+        (FeedEnds R.remaining records.new (held_by clerk.new.desk.site clerk.new.window.items (clerk.new.answered + 1))
+        (O.remaining answers.new.before) (W.contents answers.new.out) clerk.new.reply.sink (clerk.new.answered + 1))) }
     ensures held { OnOk result (AreHeld clerk.new.desk.site.place clerk.new.window.items clerk.new.answered) }
-    ensures err { OnErr result (InEachFeed R.remaining records.old (held_by clerk.old.desk.site clerk.old.window.items (clerk.old.answered + 1)) (O.remaining answers.old.before) (W.contents answers.old.out) clerk.old.reply.sink (clerk.old.answered + 1)
+    ensures err { OnErr result (InEachFeed R.remaining records.old (held_by clerk.old.desk.site clerk.old.window.items (clerk.old.answered + 1))
+        (O.remaining answers.old.before) (W.contents answers.old.out) clerk.old.reply.sink (clerk.old.answered + 1)
         (λ all told old out0 kept. OutEnds all told old out0 (W.contents answers.new.out) kept)) }
 {
     for _turn in 0..u64::MAX {
@@ -128,11 +139,14 @@ pub(crate) fn feed_chunk<G: Gate, T: Threads + Wait + Sync, O: Read, W: Write>(
     requires whole { IsWhole chunk.now }
     requires empty { clerk.old.reply.sink ≡ [] }
     requires window { clerk.old.window.items ≡ [] }
-    ensures ok { OnOk result (InEachRest (told_by clerk.old.desk.site (clerk.old.answered + 1)) (O.remaining answers.old.before) (W.contents answers.old.out) (clerk.old.answered + 1)
-        (λ all told old out0 kept. Rests all (told_by clerk.new.desk.site (clerk.new.answered + 1)) told old (O.remaining answers.new.before) out0 (W.contents answers.new.out) (clerk.new.answered + 1) (kept ++ chunk.now))) }
+    ensures ok { OnOk result (InEachRest (told_by clerk.old.desk.site (clerk.old.answered + 1)) (O.remaining answers.old.before)
+        (W.contents answers.old.out) (clerk.old.answered + 1)
+        (λ all told old out0 kept. Rests all (told_by clerk.new.desk.site (clerk.new.answered + 1)) told old (O.remaining answers.new.before) out0
+        (W.contents answers.new.out) (clerk.new.answered + 1) (kept ++ chunk.now))) }
     ensures empty { OnOk result (clerk.new.reply.sink ≡ []) }
     ensures window { OnOk result (clerk.new.window.items ≡ []) }
-    ensures err { OnErr result (InEachRest (told_by clerk.old.desk.site (clerk.old.answered + 1)) (O.remaining answers.old.before) (W.contents answers.old.out) (clerk.old.answered + 1)
+    ensures err { OnErr result (InEachRest (told_by clerk.old.desk.site (clerk.old.answered + 1)) (O.remaining answers.old.before)
+        (W.contents answers.old.out) (clerk.old.answered + 1)
         (λ all told old out0 kept. OutEnds all told old out0 (W.contents answers.new.out) (kept ++ chunk.now))) }
 {
     let mut records = Records::new(clerk.alloc, chunk);

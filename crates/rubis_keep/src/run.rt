@@ -49,11 +49,14 @@ fn replay<G: Gate, T: Threads + Wait + Sync, P: Read, O: Read, W: Write>(
     requires answered { clerk.old.answered ≡ 0 }
     requires cutter { lines.old.cutter ≡ [] }
     requires kept { lines.old.kept ≡ 0 }
-    ensures ok { OnOk result ((kept old : List ℕ) → Begins kept old (P.remaining past.old) (Some kept) (O.remaining answers.old.before) (W.contents answers.old.out)
-        → Replayed (told_by clerk.old.desk.site 1) (told_by clerk.new.desk.site (clerk.new.answered + 1)) kept old (O.remaining answers.new.before) (W.contents answers.new.out) (clerk.new.answered + 1) lines.new.kept) }
+    ensures ok { OnOk result ((kept old : List ℕ) → Begins kept old (P.remaining past.old) (Some kept) (O.remaining answers.old.before)
+        (W.contents answers.old.out)
+        → Replayed (told_by clerk.old.desk.site 1) (told_by clerk.new.desk.site
+        (clerk.new.answered + 1)) kept old (O.remaining answers.new.before) (W.contents answers.new.out) (clerk.new.answered + 1) lines.new.kept) }
     ensures window { OnOk result (clerk.new.window.items ≡ []) }
     ensures empty { OnOk result (clerk.new.reply.sink ≡ []) }
-    ensures err { OnErr result ((kept old : List ℕ) (input : Option (List ℕ)) → Begins kept old (P.remaining past.old) (Some kept) (O.remaining answers.old.before) (W.contents answers.old.out)
+    ensures err { OnErr result ((kept old : List ℕ) (input : Option (List ℕ))
+        → Begins kept old (P.remaining past.old) (Some kept) (O.remaining answers.old.before) (W.contents answers.old.out)
         → Ended (told_by clerk.old.desk.site 1) kept old input input (Some kept) (W.contents answers.new.out)) }
 {
     let mut unkept = io::sink();
@@ -87,10 +90,12 @@ fn go_on<G: Gate, T: Threads + Wait + Sync, L: Log, O: Read, W: Out, R: Read>(
     requires window { clerk.old.window.items ≡ [] }
     requires empty { clerk.old.reply.sink ≡ [] }
     ensures ok { OnOk result ((all : Account) (kept old : List ℕ) → AreSound [] kept → L.contents log.old ≡ Some kept
-        → Replayed all (told_by clerk.old.desk.site (clerk.old.answered + 1)) kept old (O.remaining answers.old.before) (W.contents answers.old.out) (clerk.old.answered + 1) lines.old.kept
+        → Replayed all (told_by clerk.old.desk.site
+        (clerk.old.answered + 1)) kept old (O.remaining answers.old.before) (W.contents answers.old.out) (clerk.old.answered + 1) lines.old.kept
         → Lived all kept old (R.remaining live.old) (R.remaining live.new) (L.contents log.new) (W.contents answers.new.out)) }
     ensures err { OnErr result ((all : Account) (kept old : List ℕ) → AreSound [] kept → L.contents log.old ≡ Some kept
-        → Replayed all (told_by clerk.old.desk.site (clerk.old.answered + 1)) kept old (O.remaining answers.old.before) (W.contents answers.old.out) (clerk.old.answered + 1) lines.old.kept
+        → Replayed all (told_by clerk.old.desk.site
+        (clerk.old.answered + 1)) kept old (O.remaining answers.old.before) (W.contents answers.old.out) (clerk.old.answered + 1) lines.old.kept
         → Ended all kept old (R.remaining live.old) (R.remaining live.new) (L.contents log.new) (W.contents answers.new.out)) }
 {
     match log.cut(lines.kept) {
@@ -131,9 +136,11 @@ pub fn run_kept<
     requires window { clerk.old.window.items ≡ [] }
     requires empty { clerk.old.reply.sink ≡ [] }
     requires answered { clerk.old.answered ≡ 0 }
-    ensures ok { OnOk result ((kept old : List ℕ) → Opens kept old (C.remaining recording.old.first) (P.remaining recording.old.past) (L.contents recording.old.log) (O.remaining answers.old.before) (W.contents answers.old.out)
+    ensures ok { OnOk result ((kept old : List ℕ) → Opens kept old (C.remaining recording.old.first) (P.remaining recording.old.past)
+        (L.contents recording.old.log) (O.remaining answers.old.before) (W.contents answers.old.out)
         → Lived (told_by clerk.old.desk.site 1) kept old (R.remaining live.old) (R.remaining live.new) (L.contents recording.new.log) (W.contents answers.new.out)) }
-    ensures err { OnErr result ((kept old : List ℕ) → Opens kept old (C.remaining recording.old.first) (P.remaining recording.old.past) (L.contents recording.old.log) (O.remaining answers.old.before) (W.contents answers.old.out)
+    ensures err { OnErr result ((kept old : List ℕ) → Opens kept old (C.remaining recording.old.first) (P.remaining recording.old.past)
+        (L.contents recording.old.log) (O.remaining answers.old.before) (W.contents answers.old.out)
         → Ended (told_by clerk.old.desk.site 1) kept old (R.remaining live.old) (R.remaining live.new) (L.contents recording.new.log) (W.contents answers.new.out)) }
 {
     let mut lines = KeptLines::new(clerk.alloc)?;

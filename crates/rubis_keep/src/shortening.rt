@@ -277,7 +277,8 @@ pub fn shorten<T: Threads + Wait + Sync, P: Read, W: Write>(
     fresh: &mut W,
     config: &Config,
 ) -> Result<(), KeepFault>
-    ensures { OnOk result (Shortens (setup_place config.now) (opening_at config.now.site) (P.remaining past.old) (W.contents fresh.old) (W.contents fresh.new)) }
+    ensures { OnOk result (Shortens (setup_place config.now) (opening_at config.now.site) (P.remaining past.old) (W.contents fresh.old)
+        (W.contents fresh.new)) }
 {
     let mut desk = Desk::new(alloc, config, Free)?;
     let ended = shorten_at(rt, alloc, past, fresh, &mut desk);

@@ -32,10 +32,14 @@ pub fn keep_site<T: Threads + Wait + Sync, C: Read, P: Read, L: Log, O: Read, W:
     config: &Config,
     limit: u64,
 ) -> Result<(), KeepFault>
-    ensures ok { OnOk result ((kept old : List ℕ) → Opens kept old (C.remaining recording.old.first) (P.remaining recording.old.past) (L.contents recording.old.log) (O.remaining answers.old.before) (W.contents answers.old.out)
-        → Lived (site_account (setup_place config.now) (opening_at config.now.site) 1) kept old (R.remaining live.old) (R.remaining live.new) (L.contents recording.new.log) (W.contents answers.new.out)) }
-    ensures err { OnErr result ((kept old : List ℕ) → Opens kept old (C.remaining recording.old.first) (P.remaining recording.old.past) (L.contents recording.old.log) (O.remaining answers.old.before) (W.contents answers.old.out)
-        → Ended (site_account (setup_place config.now) (opening_at config.now.site) 1) kept old (R.remaining live.old) (R.remaining live.new) (L.contents recording.new.log) (W.contents answers.new.out)) }
+    ensures ok { OnOk result ((kept old : List ℕ) → Opens kept old (C.remaining recording.old.first) (P.remaining recording.old.past)
+        (L.contents recording.old.log) (O.remaining answers.old.before) (W.contents answers.old.out)
+        → Lived (site_account (setup_place config.now)
+        (opening_at config.now.site) 1) kept old (R.remaining live.old) (R.remaining live.new) (L.contents recording.new.log) (W.contents answers.new.out)) }
+    ensures err { OnErr result ((kept old : List ℕ) → Opens kept old (C.remaining recording.old.first) (P.remaining recording.old.past)
+        (L.contents recording.old.log) (O.remaining answers.old.before) (W.contents answers.old.out)
+        → Ended (site_account (setup_place config.now)
+        (opening_at config.now.site) 1) kept old (R.remaining live.old) (R.remaining live.new) (L.contents recording.new.log) (W.contents answers.new.out)) }
 {
     let mut clerk = Clerk::new(answers.alloc(), config, Free, limit)?;
     let ended = run_kept(rt, recording, live, &mut clerk, answers);

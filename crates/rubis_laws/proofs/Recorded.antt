@@ -162,14 +162,14 @@ told_last keep w n fields = append-nil _
 
 one_more : (sites keep : ℕ) (before : List (List (List ℕ))) (fields : List (List ℕ)) → sites ≤ COUNTED_MAX
     → world_output_of sites keep (before ++ fields ∷ [])
-      ≡ world_output_of sites keep before ++ (world_step keep (world_after keep (start sites) 1 before) (length before + 1) (world_input sites fields)).1
+    ≡ world_output_of sites keep before ++ (world_step keep (world_after keep (start sites) 1 before) (length before + 1) (world_input sites fields)).1
 one_more sites keep before fields few =
     let w = world_after keep (start sites) 1 before in
     answers_more keep before (fields ∷ []) (start sites) 1
     ∙ ap (λ rows. world_output_of sites keep before ++ rows)
-      (told_last keep w (1 + length before) fields
-      ∙ ap (λ k. (world_step keep w k (world_input (length w.sites) fields)).1) (omega arith)
-      ∙ ap (λ k. (world_step keep w (length before + 1) (world_input k fields)).1) (world_sites keep before sites few))
+    (told_last keep w (1 + length before) fields
+    ∙ ap (λ k. (world_step keep w k (world_input (length w.sites) fields)).1) (omega arith)
+    ∙ ap (λ k. (world_step keep w (length before + 1) (world_input k fields)).1) (world_sites keep before sites few))
 
 pub answers_are_a_run : AnswersAreARun
 answers_are_a_run sites keep records some few small = record {

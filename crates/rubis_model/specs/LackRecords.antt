@@ -59,7 +59,8 @@ lack_of sites records = lack_rows_read (logs_after sites 1 [] records)
 abbrev pub LackFollowsTheAudit : Type 0
 LackFollowsTheAudit = (sites : ℕ) (records : List (List (List ℕ))) → sites ≤ COUNTED_MAX
     → (audit_of sites records ≡ verdict_record Agree
-    → (logs : List Log) × (logs_after sites 1 [] records ≡ Ok (reverse logs)) × (AreAmong sites logs) × (AreFaultless logs) × (lack_of sites records ≡ lack_rows_from 1 logs logs))
+    → (logs : List Log) × (logs_after sites 1 [] records ≡ Ok (reverse logs)) × (AreAmong sites logs) × (AreFaultless logs)
+    × (lack_of sites records ≡ lack_rows_from 1 logs logs))
     × ((audit_of sites records ≡ verdict_record Agree → ⊥) → lack_of sites records ≡ audit_of sites records ∷ [])
 
 -- ---- what waits

@@ -41,7 +41,8 @@ use Rattle.rubis_model.specs.Sound.{AllDeliverable, red_count, OneToken}
 -- parts on different keys may be done in either order: the tables are the same, and the misfit of each part
 abbrev pub PartsCommute : Type 0
 PartsCommute = (t : Tables) (e f : Effect) → ¬ (e.key ≡ f.key)
-    → (after_part (after_part t e) f ≡ after_part (after_part t f) e) × (misfit_of (after_part t e) f ≡ misfit_of t f) × (misfit_of (after_part t f) e ≡ misfit_of t e)
+    → (after_part (after_part t e) f ≡ after_part (after_part t f) e) × (misfit_of (after_part t e) f ≡ misfit_of t f)
+    × (misfit_of (after_part t f) e ≡ misfit_of t e)
 
 -- a set of messages has one meaning
 abbrev pub MeaningIsOne : Type 0
@@ -85,7 +86,8 @@ SharesFoldToTheWhole =
 -- others is the list of them
 abbrev pub MisfitsFallInPlace : Type 0
 MisfitsFallInPlace = (shards first : ℕ) (t : Tables) (batch : List Core) (all : List Misfit) → 0 < shards → InPlace (batch_folded first t batch).misfits
-    × (InPlace all → ((z : Misfit) → Has z all ↔ ((k : ℕ) × (k < shards) × Has z (share_folded shards first t batch k).misfits)) → all ≡ (batch_folded first t batch).misfits)
+    × (InPlace all → ((z : Misfit) → Has z all ↔ ((k : ℕ) × (k < shards) × Has z (share_folded shards first t batch k).misfits))
+    → all ≡ (batch_folded first t batch).misfits)
 
 -- ---- settling
 

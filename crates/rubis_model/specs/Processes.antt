@@ -63,7 +63,8 @@ Carried sites keep readings = (before later : List Reading) (r : Reading) (p : P
 -- what holds of processes whose packets are carried unchanged
 abbrev pub OfProcesses : (ℕ → (ℕ → ℕ) → List Reading → Type 0) → Type 0
 OfProcesses claim =
-    (sites : ℕ) (keep : ℕ → ℕ) (readings : List Reading) → 1 ≤ sites → sites ≤ COUNTED_MAX → ((i : ℕ) → keep i ≤ KEEP_MAX) → Carried sites keep readings → claim sites keep readings
+    (sites : ℕ) (keep : ℕ → ℕ) (readings : List Reading) → 1 ≤ sites → sites ≤ COUNTED_MAX → ((i : ℕ) → keep i ≤ KEEP_MAX)
+    → Carried sites keep readings → claim sites keep readings
 
 -- ---- they are a run
 

@@ -106,8 +106,11 @@ sent_again p tokens all s (packet.Token t) = sends_as packet.Token (passed p (ho
 -- what a site comes to, and what it sends, where its packets are sent again one after the other
 abbrev pub rebuilt : Place → List Token → List Message → Replica → List Packet → Replica × List Packet
 rebuilt p tokens all s [] = (s, [])
-rebuilt p tokens all s (x ∷ packets) =
-    ((rebuilt p tokens all (sent_again p tokens all s x).0 packets).0, (sent_again p tokens all s x).1 ++ (rebuilt p tokens all (sent_again p tokens all s x).0 packets).1)
+rebuilt p tokens all s (x ∷ packets) = (
+  (rebuilt p tokens all (sent_again p tokens all s x).0 packets).0,
+  (sent_again p tokens all s x).1 ++
+      (rebuilt p tokens all (sent_again p tokens all s x).0 packets).1,
+)
 
 -- ---- the law
 
@@ -160,7 +163,8 @@ token_before p tokens s = cond (is_some s.held) [] (token_as (next_token p.site 
 
 abbrev pub inputs_before : Place → List Token → List Message → Replica → Message → List Input
 inputs_before p tokens all s m =
-    map (λ u. Came (packet.Msg u)) (lacking p.site s.log m all) ++ cond (is_red m.shadow) (token_before p tokens (after_all p s (lacking p.site s.log m all))) []
+    map (λ u. Came (packet.Msg u)) (lacking p.site s.log m all) ++ cond (is_red m.shadow) (token_before p tokens
+    (after_all p s (lacking p.site s.log m all))) []
 
 abbrev pub inputs_for : Place → List Token → List Message → Replica → Packet → List Input
 inputs_for p tokens all s (packet.Msg m) = inputs_before p tokens all s m ++ Asked (request.Ask (ask_of all m.shadow)) ∷ []

@@ -76,7 +76,8 @@ pub record RebuildsByRecords (p : Place) (tokens : List Token) (all : List Messa
 -- whatever happened at n sites that were asked by records: each site is rebuilt by the records for what it sent, where the
 -- messages and tokens are as for `SitesAreRebuilt`
 abbrev pub RecordsRebuild : Type 0
-RecordsRebuild = (n keep i : ℕ) (events : List Event) (all : List Message) (tokens : List Token) → n ≤ COUNTED_MAX → keep ≤ KEEP_MAX → i < n → AreWritten n events
+RecordsRebuild = (n keep i : ℕ) (events : List Event) (all : List Message) (tokens : List Token) → n ≤ COUNTED_MAX → keep ≤ KEEP_MAX → i < n
+    → AreWritten n events
     → ((m : Message) → Has m all → Sent (run keep events (start n)) m)
     → ((m : Message) → Sent (run keep events (start n)) m → Concerns i (run keep events (start n)) m → Has m all)
     → ((t : Token) → Has t tokens → Has (packet.Token t) (run keep events (start n)).sent)

@@ -55,17 +55,17 @@ pub record IsTextOfARun (sites keep : ℕ) (records rows : List (List (List ℕ)
   pub text : rows ≡ world_output_of sites keep records
   -- the first k records are events within the limits, and the sites are then where these events lead
   pub events : (k : ℕ) → AreEvents sites (record_events sites (take k records))
-    × (world_at sites keep records k ≡ run keep (record_events sites (take k records)) (start sites))
+      × (world_at sites keep records k ≡ run keep (record_events sites (take k records)) (start sites))
   -- the answers to one record more are those to the records before it, and then what it is answered by the sites as those
   -- before it left them
   pub told : (before later : List (List (List ℕ))) (fields : List (List ℕ)) → records ≡ before ++ fields ∷ later
-    → world_output_of sites keep (before ++ fields ∷ [])
+      → world_output_of sites keep (before ++ fields ∷ [])
       ≡ world_output_of sites keep before ++ (world_step keep (world_after keep (start sites) 1 before) (length before + 1) (world_input sites fields)).1
   -- after the first k records the logs are in one order, and the invariants hold
   pub claims : (k : ℕ) → InRun (world_at sites keep records k)
   -- two sites with the same messages, be it at two moments, have equal tables
   pub agree : (j k a b : ℕ) → SameSet (site (world_at sites keep records j) a).log (site (world_at sites keep records k) b).log
-    → tables_at (world_at sites keep records j) a ≡ tables_at (world_at sites keep records k) b
+      → tables_at (world_at sites keep records j) a ≡ tables_at (world_at sites keep records k) b
 
 -- what is answered to any records is the text of a run
 abbrev pub AnswersAreARun : Type 0

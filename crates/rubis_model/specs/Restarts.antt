@@ -87,7 +87,8 @@ pub record NeverStopped (sites : ℕ) (keep : ℕ → ℕ) (moments : List Momen
 
 abbrev pub RestartsChangeNothing : Type 0
 RestartsChangeNothing =
-    (sites : ℕ) (keep : ℕ → ℕ) (moments : List Moment) → AreReplayed sites keep moments → CarriedWithRestarts sites keep moments → NeverStopped sites keep moments
+    (sites : ℕ) (keep : ℕ → ℕ) (moments : List Moment) → AreReplayed sites keep moments → CarriedWithRestarts sites keep moments
+    → NeverStopped sites keep moments
 
 -- it is the log of a process at some moment, from what it had read since its last start, with its tables as they were shown, or
 -- without
@@ -136,7 +137,8 @@ restarted_on j records moments = moments ++ Restarts j ∷ map (Replays j) recor
 
 -- so a process may be restarted at any moment on its recording, or on a shortened one
 abbrev pub RecordingsReplay : Type 0
-RecordingsReplay = (sites j : ℕ) (keep : ℕ → ℕ) (moments : List Moment) (records : List (List (List ℕ))) → AreReplayed sites keep moments → CarriedWithRestarts sites keep moments
+RecordingsReplay = (sites j : ℕ) (keep : ℕ → ℕ) (moments : List Moment) (records : List (List (List ℕ))) → AreReplayed sites keep moments
+    → CarriedWithRestarts sites keep moments
     → IsShortened (process sites keep j) (opening_at j) records (read_by j (recorded moments))
     → AreReplayed sites keep (restarted_on j records moments) × CarriedWithRestarts sites keep (restarted_on j records moments)
 
@@ -146,7 +148,8 @@ NothingIsLeftOut = (p : Place) (s : Replica) (records : List (List (List ℕ))) 
 
 -- and a process that has read its whole recording again may read a new record, if that is a packet only one that was sent
 abbrev pub NewRecordsAreRead : Type 0
-NewRecordsAreRead = (sites j : ℕ) (keep : ℕ → ℕ) (moments : List Moment) (fields : List (List ℕ)) → AreReplayed sites keep moments → CarriedWithRestarts sites keep moments
+NewRecordsAreRead = (sites j : ℕ) (keep : ℕ → ℕ) (moments : List Moment) (fields : List (List ℕ)) → AreReplayed sites keep moments
+    → CarriedWithRestarts sites keep moments
     → IsLevel sites keep moments j → ((p : Packet) → packet_of sites fields ≡ Some p → WasEverSent sites keep moments fields)
     → AreReplayed sites keep (moments ++ Reads j fields ∷ []) × CarriedWithRestarts sites keep (moments ++ Reads j fields ∷ [])
     × IsLevel sites keep (moments ++ Reads j fields ∷ []) j

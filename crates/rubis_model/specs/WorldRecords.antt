@@ -80,7 +80,8 @@ world_step keep w n Neither = (w, world_row n BadEvent ∷ [])
 unfoldable pub world_answers : ℕ → World → ℕ → List (List (List ℕ)) → List (List (List ℕ))
 world_answers keep w n [] = []
 world_answers keep w n (fields ∷ rest) =
-    (world_step keep w n (world_input (length w.sites) fields)).1 ++ world_answers keep (world_step keep w n (world_input (length w.sites) fields)).0 (n + 1) rest
+    (world_step keep w n (world_input (length w.sites) fields)).1 ++ world_answers keep (world_step keep w n
+    (world_input (length w.sites) fields)).0 (n + 1) rest
 
 -- everything that `sites` sites answer to a run of records, where each site keeps at most `keep` messages
 abbrev pub world_output_of : ℕ → ℕ → List (List (List ℕ)) → List (List (List ℕ))

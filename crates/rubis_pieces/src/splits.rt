@@ -26,7 +26,8 @@ const PARTS_ROOM: usize = 3;
 fn deal(list: &mut Vec<Share>, part: Numbered) -> Result<(), AllocError>
     requires { 0 < length list.old.items }
     ensures many { length list.new.items ≡ length list.old.items }
-    ensures dealt { OnOk result ((ns : List Numbered) → AreDealt (length list.old.items) ns list.old.items → AreDealt (length list.old.items) (ns ++ part ∷ []) list.new.items) }
+    ensures dealt { OnOk result ((ns : List Numbered) → AreDealt (length list.old.items) ns list.old.items
+        → AreDealt (length list.old.items) (ns ++ part ∷ []) list.new.items) }
 {
     let at = shard_of(&part.effect.key, list.len());
     list[at].effects.push(part)?;
@@ -37,7 +38,8 @@ fn deal(list: &mut Vec<Share>, part: Numbered) -> Result<(), AllocError>
 fn deal_message(list: &mut Vec<Share>, entry: &LogEntry<'_>) -> Result<(), AllocError>
     requires { 0 < length list.old.items }
     ensures many { length list.new.items ≡ length list.old.items }
-    ensures dealt { OnOk result ((ns : List Numbered) → AreDealt (length list.old.items) ns list.old.items → AreDealt (length list.old.items) (ns ++ numbered_of entry.now) list.new.items) }
+    ensures dealt { OnOk result ((ns : List Numbered) → AreDealt (length list.old.items) ns list.old.items
+        → AreDealt (length list.old.items) (ns ++ numbered_of entry.now) list.new.items) }
 {
     for place in 0..3 {
         let Some(effect) = entry.shadow.effect(entry.id, entry.red, place) else {

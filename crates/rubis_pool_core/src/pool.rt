@@ -61,7 +61,12 @@ impl Pool {
         pieces: Vec<Piece>,
     ) -> Result<Pool, AllocError>
         requires { All IsPiece pieces.items }
-        ensures { IfOk result (λ pool. pool ≡ record { capacity = length pieces.items; count = length pieces.items; state = posted_all (opening_pool workers) pieces.items }) }
+        ensures { IfOk result (λ pool. pool ≡ record {
+          capacity = length pieces.items;
+          count = length pieces.items;
+          state = posted_all
+              (opening_pool workers) pieces.items;
+        }) }
     {
         Ok(Pool {
             held: free_workers(alloc, workers)?,
@@ -75,7 +80,8 @@ impl Pool {
     /// Posts the piece. Hands it back and changes nothing if and only if `capacity` pieces were posted already.
     pub fn post(&mut self, piece: Piece) -> Result<(), Piece>
         requires { IsPiece piece }
-        ensures posted { OnOk result ((self.old.count < self.old.capacity) × (self.new ≡ record { capacity = self.old.capacity; count = self.old.count + 1; state = with_posted self.old.state piece })) }
+        ensures posted { OnOk result ((self.old.count < self.old.capacity)
+            × (self.new ≡ record { capacity = self.old.capacity; count = self.old.count + 1; state = with_posted self.old.state piece })) }
         ensures full { IfErr result (λ back. (back ≡ piece) × (self.old.count ≡ self.old.capacity) × (self.new ≡ self.old)) }
     {
         if self.count >= self.capacity {
@@ -102,7 +108,8 @@ impl Pool {
 
     fn take(&mut self, worker: usize) -> bool
         ensures possible { result ≡ is_some (taken (slice_get self.old.state.held worker) self.old.state.posted self.old.state worker) }
-        ensures next { self.new ≡ in_state self.old (or_same self.old.state (taken (slice_get self.old.state.held worker) self.old.state.posted self.old.state worker)) }
+        ensures next { self.new ≡ in_state self.old (or_same self.old.state
+            (taken (slice_get self.old.state.held worker) self.old.state.posted self.old.state worker)) }
     {
         if worker >= self.held.len() || self.held[worker].is_some() {
             return false;
@@ -118,7 +125,8 @@ impl Pool {
 
     fn apply(&mut self, worker: usize) -> Result<bool, AllocError>
         ensures possible { IfOk result (λ did. did ≡ is_some (applied (slice_get self.old.state.held worker) self.old.state worker)) }
-        ensures next { OnOk result (self.new ≡ in_state self.old (or_same self.old.state (applied (slice_get self.old.state.held worker) self.old.state worker))) }
+        ensures next { OnOk result (self.new ≡ in_state self.old
+            (or_same self.old.state (applied (slice_get self.old.state.held worker) self.old.state worker))) }
         ensures same { OnErr result (self.new ≡ self.old) }
     {
         if worker >= self.held.len() {
@@ -132,7 +140,8 @@ impl Pool {
 
     fn back(&mut self, worker: usize) -> Result<bool, AllocError>
         ensures possible { IfOk result (λ did. did ≡ is_some (backed (slice_get self.old.state.held worker) self.old.state worker)) }
-        ensures next { OnOk result (self.new ≡ in_state self.old (or_same self.old.state (backed (slice_get self.old.state.held worker) self.old.state worker))) }
+        ensures next { OnOk result (self.new ≡ in_state self.old
+            (or_same self.old.state (backed (slice_get self.old.state.held worker) self.old.state worker))) }
         ensures same { OnErr result (self.new ≡ self.old) }
     {
         if worker >= self.held.len() {

@@ -24,7 +24,8 @@ pub fn run(
     events: &[Event],
 ) -> Result<Pool, AllocError>
     requires { All IsPiece pieces.items }
-    ensures run { IfOk result (λ pool. pool ≡ record { capacity = length pieces.items; count = length pieces.items; state = run_of workers pieces.items events.now }) }
+    ensures run { IfOk result (λ pool.
+        pool ≡ record { capacity = length pieces.items; count = length pieces.items; state = run_of workers pieces.items events.now }) }
     ensures once { IfOk result (λ pool. Accounted pieces.items pool.state) }
 {
     let mut pool = Pool::with_posted(alloc, workers, pieces)?;

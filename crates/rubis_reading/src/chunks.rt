@@ -45,7 +45,8 @@ impl<R: Read> Chunks<R> {
     /// Asks the reader once for more, and says whether there was any. Where there was none the bytes that are held are the rest.
     pub fn fill(&mut self) -> Result<bool, ChunkFault>
         ensures keeps { OnOk result (KeepsPending R.remaining self.old self.new) }
-        ensures last { IfOk result (λ more. more ≡ false → (rows : List (List (List ℕ))) → HasPending R.remaining self.new rows → rows ≡ input_records (held_text self.new)) }
+        ensures last { IfOk result (λ more. more ≡ false → (rows : List (List (List ℕ))) → HasPending R.remaining self.new rows
+            → rows ≡ input_records (held_text self.new)) }
     {
         self.held.fill(&mut self.reader, self.size)
     }

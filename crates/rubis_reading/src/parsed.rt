@@ -96,7 +96,11 @@ fn keep_messages(list: &mut Vec<Stretch>, messages: Vec<Message>) -> Result<(), 
 }
 
 // Puts the messages behind that came together, and what came after them.
-fn keep_one(list: &mut Vec<Stretch>, messages: Vec<Message>, parsed: Parsed) -> Result<(), OutOfMemory>
+fn keep_one(
+    list: &mut Vec<Stretch>,
+    messages: Vec<Message>,
+    parsed: Parsed,
+) -> Result<(), OutOfMemory>
     ensures { OnOk result (flat list.new.items ≡ (flat list.old.items ++ all_came messages.items) ++ parsed ∷ []) }
 {
     keep_messages(list, messages)?;
@@ -112,7 +116,8 @@ fn keep_message(
     window: usize,
     message: Message,
 ) -> Result<(), OutOfMemory>
-    ensures { OnOk result (flat list.new.items ++ all_came messages.new.items ≡ (flat list.old.items ++ all_came messages.old.items) ++ Came (Msg message) ∷ []) }
+    ensures { OnOk result (flat list.new.items ++ all_came messages.new.items ≡ (flat list.old.items ++ all_came messages.old.items) ++ Came
+        (Msg message) ∷ []) }
 {
     if messages.len() >= window {
         let full = mem::replace(messages, Vec::new(alloc));
@@ -167,7 +172,8 @@ fn read_all<R: Read>(
     requires few { sites ≤ COUNTED_MAX }
     requires none { list.old.items ≡ [] }
     requires no_messages { messages.old.items ≡ [] }
-    ensures { OnOk result ((rows : List (List (List ℕ))) → Gives R.remaining records.old rows → AreParsed sites rows (flat list.new.items ++ all_came messages.new.items)) }
+    ensures { OnOk result ((rows : List (List (List ℕ))) → Gives R.remaining records.old rows
+        → AreParsed sites rows (flat list.new.items ++ all_came messages.new.items)) }
 {
     'steps: for _ in 0..u64::MAX {
         let Ok(found) = records.advance() else {

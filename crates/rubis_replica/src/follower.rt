@@ -268,7 +268,8 @@ impl<G: Gate> Follower<G> {
         requires before { before ≤ length log.now }
         ensures follows { FollowsLog log.now self.new }
         ensures upto { self.new.progress.upto ≡ self.old.progress.upto }
-        ensures kept { (self.new.progress ≡ self.old.progress) ⊎ ((self.old.progress ≡ resting_at before) × (self.new.progress ≡ keeping before (length log.now))) }
+        ensures kept { (self.new.progress ≡ self.old.progress)
+            ⊎ ((self.old.progress ≡ resting_at before) × (self.new.progress ≡ keeping before (length log.now))) }
     {
         if self.left == 0 && self.applied == before && self.kept == before {
             self.kept = log.len();

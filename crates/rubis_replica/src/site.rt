@@ -65,7 +65,8 @@ impl<G: Gate + Drop> Site<G> {
     /// worker that takes it and before it folds the shard's part of the batch. The caller's thread is the only worker of a
     /// batch of one message, where one worker is configured, and where several weren't worth their threads of late.
     pub fn new(alloc: Global, config: &Config, gate: G) -> Result<Site<G>, AllocError>
-        ensures { IfOk result (λ site. site ≡ record { place = setup_place config.now; state = opening_at config.now.site; progress = resting_at 0; batch = config.now.batch }) }
+        ensures { IfOk result (λ site.
+            site ≡ record { place = setup_place config.now; state = opening_at config.now.site; progress = resting_at 0; batch = config.now.batch }) }
     {
         Ok(Site {
             intake: Intake::hashed(
@@ -194,7 +195,8 @@ impl<G: Gate> Site<G> {
         requires { All (λ m. sites_of m ≡ self.old.place.sites) messages.items }
         ensures place { self.new.place ≡ self.old.place }
         ensures batch { self.new.batch ≡ self.old.batch }
-        ensures waits { 0 < self.old.progress.left → (self.new ≡ self.old) × (result.answers ≡ []) × (result.rest ≡ messages.items) × (result.fault ≡ Some Fault.Behind) }
+        ensures waits { 0 < self.old.progress.left → (self.new ≡ self.old) × (result.answers ≡ []) × (result.rest ≡ messages.items)
+            × (result.fault ≡ Some Fault.Behind) }
         ensures first { TakesFirst self.old.place self.old.state self.new.state messages.items result.answers result.rest }
         ensures none { IfNone result.fault (result.rest ≡ []) }
         ensures fault { IfSome result.fault (IsStop self.old.progress.left result.rest) }
@@ -324,7 +326,8 @@ impl<G: Gate> Site<G> {
         ensures batch { self.new.batch ≡ self.old.batch }
         ensures state { self.new.state ≡ self.old.state }
         ensures ready { self.old.progress.left ≡ 0 → (result ≡ Ok 0) × (self.new ≡ self.old) }
-        ensures ok { 0 < self.old.progress.left → IfOk result (λ parts. (parts ≡ self.old.progress.left) × (self.new.progress ≡ resting_at self.old.progress.upto)) }
+        ensures ok { 0 < self.old.progress.left → IfOk result (λ parts.
+            (parts ≡ self.old.progress.left) × (self.new.progress ≡ resting_at self.old.progress.upto)) }
         ensures fault { IfErr result (λ fault. (fault ≡ Fault.Behind) × BatchGoesOn self.old.progress self.new.progress) }
     {
         if !self.follower.is_behind() {

@@ -41,7 +41,8 @@ pub Decides-same_id_key : (k l : IdKey) → Decides (same_id_key k l) (k ≡ l)
 Decides-same_id_key k l = (yes, λ e. subst (λ m. same_id_key k m ≡ true) e itself)
   where
     itself : same_id_key k k ≡ true
-    itself = λ i. (Decides-eqb (table_place k.table) (table_place k.table)).1 refl i && ((Decides-eqb k.site k.site).1 refl i && (Decides-eqb k.seq k.seq).1 refl i)
+    itself = λ i. (Decides-eqb (table_place k.table) (table_place k.table)).1 refl i && ((Decides-eqb k.site k.site).1 refl i &&
+    (Decides-eqb k.seq k.seq).1 refl i)
 
     yes : same_id_key k l ≡ true → k ≡ l
     yes e =

@@ -218,7 +218,8 @@ impl<G: Gate> Desk<G> {
     ) -> Result<(), OutOfMemory>
         requires { packet_of self.old.site.place.sites fields.now ≡ None }
         ensures place { self.new.site.place ≡ self.old.site.place }
-        ensures answered { OnOk result (IsAnswered reply.old.number (input_of self.old.site.place.sites fields.now) self.old.site self.new.site reply.old.sink reply.new.sink) }
+        ensures answered { OnOk result (IsAnswered reply.old.number
+            (input_of self.old.site.place.sites fields.now) self.old.site self.new.site reply.old.sink reply.new.sink) }
     {
         match read_request(self.alloc, fields, self.sites) {
             Ok(request) => answer_request(rt, &mut self.site, reply, request),
@@ -240,7 +241,8 @@ impl<G: Gate> Desk<G> {
     ) -> Result<(), OutOfMemory>
         requires { IsReadOf self.old.site.place.sites fields.now read }
         ensures place { self.new.site.place ≡ self.old.site.place }
-        ensures answered { OnOk result (IsAnswered reply.old.number (input_of self.old.site.place.sites fields.now) self.old.site self.new.site reply.old.sink reply.new.sink) }
+        ensures answered { OnOk result (IsAnswered reply.old.number
+            (input_of self.old.site.place.sites fields.now) self.old.site self.new.site reply.old.sink reply.new.sink) }
     {
         match read {
             Ok(packet) => answer_packet(rt, &mut self.site, reply, packet),
@@ -257,7 +259,8 @@ impl<G: Gate> Desk<G> {
         reply: &mut Reply,
     ) -> Result<(), OutOfMemory>
         ensures place { self.new.site.place ≡ self.old.site.place }
-        ensures answered { OnOk result (IsAnswered reply.old.number (input_of self.old.site.place.sites fields.now) self.old.site self.new.site reply.old.sink reply.new.sink) }
+        ensures answered { OnOk result (IsAnswered reply.old.number
+            (input_of self.old.site.place.sites fields.now) self.old.site self.new.site reply.old.sink reply.new.sink) }
     {
         let read = read_packet(self.alloc, fields, self.sites);
         self.respond_to(rt, fields, read, reply)
@@ -280,7 +283,8 @@ impl<G: Gate> Desk<G> {
         requires held { AreHeld self.old.site.place window.old.items answered }
         ensures place { self.new.site.place ≡ self.old.site.place }
         ensures empty { window.new.items ≡ [] }
-        ensures flushed { OnOk result (Keeps (held_by self.old.site window.old.items (answered + 1)) (told_by self.new.site (answered + 1)) reply.old.sink reply.new.sink) }
+        ensures flushed { OnOk result (Keeps (held_by self.old.site window.old.items (answered + 1))
+            (told_by self.new.site (answered + 1)) reply.old.sink reply.new.sink) }
     {
         if window.is_empty() {
             return Ok(());
@@ -301,7 +305,8 @@ impl<G: Gate> Desk<G> {
         requires some { 0 < length window.old.items }
         ensures place { self.new.site.place ≡ self.old.site.place }
         ensures empty { window.new.items ≡ [] }
-        ensures flushed { OnOk result (Keeps (held_by self.old.site window.old.items (answered + 1)) (told_by self.new.site (answered + 1)) reply.old.sink reply.new.sink) }
+        ensures flushed { OnOk result (Keeps (held_by self.old.site window.old.items (answered + 1))
+            (told_by self.new.site (answered + 1)) reply.old.sink reply.new.sink) }
     {
         let first = answered - window.len() as u64 + 1;
         let messages = mem::replace(window, Vec::new(self.alloc));
@@ -331,7 +336,8 @@ impl<G: Gate> Desk<G> {
         requires held { AreHeld self.old.site.place window.old.items answered }
         requires room { answered + 1 < 2 ^ 64 }
         ensures held { OnOk result (AreHeld self.new.site.place window.new.items (answered + 1)) }
-        ensures goes { OnOk result (AnswersRecord Course.GoesOn (held_by self.old.site window.old.items (answered + 1)) (held_by self.new.site window.new.items (answered + 1 + 1)) reply.old.sink reply.new.sink fields.now) }
+        ensures goes { OnOk result (AnswersRecord Course.GoesOn (held_by self.old.site window.old.items (answered + 1))
+            (held_by self.new.site window.new.items (answered + 1 + 1)) reply.old.sink reply.new.sink fields.now) }
     {
         match read_packet(self.alloc, fields, self.sites) {
             Ok(Packet::Msg(message)) if self.window > 1 => hold(window, message),
@@ -386,7 +392,8 @@ impl<G: Gate> Desk<G> {
         ensures place { self.new.site.place ≡ self.old.site.place }
         ensures empty { window.new.items ≡ [] }
         ensures goes { OnOk result ((fields : List (List ℕ)) → input_of self.old.site.place.sites fields ≡ meant parsed
-            → AnswersRecord Course.GoesOn (held_by self.old.site window.old.items (answered + 1)) (held_by self.new.site window.new.items (answered + 1 + 1)) reply.old.sink reply.new.sink fields) }
+            → AnswersRecord Course.GoesOn (held_by self.old.site window.old.items (answered + 1)) (held_by self.new.site window.new.items
+            (answered + 1 + 1)) reply.old.sink reply.new.sink fields) }
     {
         self.flush(rt, answered, window, reply)?;
         reply.number = answered + 1;
@@ -404,7 +411,8 @@ impl<G: Gate> Desk<G> {
         requires held { AreHeld self.old.site.place window.old.items answered }
         ensures place { self.new.site.place ≡ self.old.site.place }
         ensures held { AreHeld self.new.site.place window.new.items answered }
-        ensures kept { OnOk result (Keeps (held_by self.old.site window.old.items (answered + 1)) (held_by self.new.site window.new.items (answered + 1)) reply.old.sink reply.new.sink) }
+        ensures kept { OnOk result (Keeps (held_by self.old.site window.old.items (answered + 1))
+            (held_by self.new.site window.new.items (answered + 1)) reply.old.sink reply.new.sink) }
     {
         if self.has_room(window) {
             return Ok(());
@@ -428,7 +436,8 @@ impl<G: Gate> Desk<G> {
         ensures place { self.new.site.place ≡ self.old.site.place }
         ensures held { OnOk result (AreHeld self.new.site.place window.new.items (answered + 1)) }
         ensures goes { OnOk result ((fields : List (List ℕ)) → input_of self.old.site.place.sites fields ≡ meant parsed
-            → AnswersRecord Course.GoesOn (held_by self.old.site window.old.items (answered + 1)) (held_by self.new.site window.new.items (answered + 1 + 1)) reply.old.sink reply.new.sink fields) }
+            → AnswersRecord Course.GoesOn (held_by self.old.site window.old.items (answered + 1)) (held_by self.new.site window.new.items
+            (answered + 1 + 1)) reply.old.sink reply.new.sink fields) }
     {
         if self.window > 1 {
             return match parsed {

@@ -50,7 +50,8 @@ fn read_beside<G: Gate, T: Threads + Wait + Sync>(
         { read_parts(rt, alloc, piece, sites, readers, window) },
         &mut || -> Result<(), OutOfMemory>
             requires { IsSync T.row × IsSound desk.now.site backlog.now × (backlog.now.answered + length backlog.now.ahead + 1 < 2 ^ 64) }
-            ensures { OnOk result ((desk.exit.now.site.place ≡ desk.entry.now.site.place) × IsSound desk.exit.now.site backlog.exit.now × (backlog.exit.now.ahead ≡ [])
+            ensures { OnOk result ((desk.exit.now.site.place ≡ desk.entry.now.site.place) × IsSound desk.exit.now.site backlog.exit.now
+                × (backlog.exit.now.ahead ≡ [])
                 × (backlog.exit.now.answered ≡ backlog.entry.now.answered + length backlog.entry.now.ahead)
                 × GoesOn desk.entry.now.site backlog.entry.now desk.exit.now.site backlog.exit.now) }
         { answer_all(rt, desk, backlog) },

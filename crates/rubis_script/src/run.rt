@@ -137,7 +137,8 @@ fn stop<G: Gate, T: Threads + Wait + Sync, W: Write>(
     requires sound { IsSound desk.old.site backlog.old }
     requires more { left < length backlog.old.ahead }
     requires room { backlog.old.answered + left + 1 < 2 ^ 64 }
-    ensures too_long { OnOk result ((all : Account) (old : Option (List ℕ)) (records later : List (List (List ℕ))) → StandsWith desk.old.site backlog.old all old (W.contents writer.old) records later
+    ensures too_long { OnOk result ((all : Account) (old : Option (List ℕ)) (records later : List (List (List ℕ)))
+        → StandsWith desk.old.site backlog.old all old (W.contents writer.old) records later
         → IsTooLong all (backlog.old.answered + left) old (W.contents writer.new) records) }
     ensures memory { IsErrOf result RunFault.Memory → W.contents writer.new ≡ W.contents writer.old }
     ensures faults { IfErr result (λ e. (e ≡ RunFault.Write) ⊎ (e ≡ RunFault.Memory)) }
@@ -209,7 +210,8 @@ fn end<G: Gate, T: Threads + Wait + Sync, R: Read, W: Write>(
     requires last { (rows : List (List (List ℕ))) → HasPending R.remaining source.now.chunks rows → rows ≡ input_records (held_text source.now.chunks) }
     ensures done { IfOk result (λ count. OfEachAhead R.remaining source.now.chunks desk.old.site backlog.old (W.contents writer.old) (λ all old input.
         IsDone all limit old (W.contents writer.new) (input_records input) count.records)) }
-    ensures too_long { IsErrOf result RunFault.TooLong → OfEachAhead R.remaining source.now.chunks desk.old.site backlog.old (W.contents writer.old) (λ all old input.
+    ensures too_long { IsErrOf result RunFault.TooLong → OfEachAhead R.remaining source.now.chunks desk.old.site backlog.old (W.contents writer.old)
+        (λ all old input.
         IsTooLong all limit old (W.contents writer.new) (input_records input)) }
     ensures memory { IsErrOf result RunFault.Memory → W.contents writer.new ≡ W.contents writer.old }
     ensures faults { IfErr result (λ e. (e ≡ RunFault.Write) ⊎ (e ≡ RunFault.Memory) ⊎ (e ≡ RunFault.TooLong)) }
@@ -254,11 +256,13 @@ fn wait<G: Gate, T: Threads + Wait + Sync, R: Read, W: Write>(
     ensures goes { IfOk result (λ over. OfEachAhead R.remaining source.old.chunks desk.old.site backlog.old (W.contents writer.old) (λ all old input.
         MatchOption over (HasReadAhead R.remaining source.new.chunks desk.new.site backlog.new all old (W.contents writer.new) input)
         (λ count. IsDone all limit old (W.contents writer.new) (input_records input) count.records))) }
-    ensures too_long { IsErrOf result RunFault.TooLong → OfEachAhead R.remaining source.old.chunks desk.old.site backlog.old (W.contents writer.old) (λ all old input.
+    ensures too_long { IsErrOf result RunFault.TooLong → OfEachAhead R.remaining source.old.chunks desk.old.site backlog.old (W.contents writer.old)
+        (λ all old input.
         IsTooLong all limit old (W.contents writer.new) (input_records input)) }
     ensures read { IsErrOf result RunFault.Read → OfEachAhead R.remaining source.old.chunks desk.old.site backlog.old (W.contents writer.old) (λ all old input.
         IsCut all old (W.contents writer.new) (input_records input)) }
-    ensures memory { IsErrOf result RunFault.Memory → OfEachAhead R.remaining source.old.chunks desk.old.site backlog.old (W.contents writer.old) (λ all old input.
+    ensures memory { IsErrOf result RunFault.Memory → OfEachAhead R.remaining source.old.chunks desk.old.site backlog.old (W.contents writer.old)
+        (λ all old input.
         WrotePrefix (all.text AtEnd) old (W.contents writer.new) (input_records input)) }
 {
     catch_up(rt, desk, backlog, writer)?;
@@ -316,11 +320,13 @@ fn turn<G: Gate, T: Threads + Wait + Sync, R: Read, W: Write>(
     ensures goes { IfOk result (λ over. OfEachAhead R.remaining source.old.chunks desk.old.site backlog.old (W.contents writer.old) (λ all old input.
         MatchOption over (HasReadAhead R.remaining source.new.chunks desk.new.site backlog.new all old (W.contents writer.new) input)
         (λ count. IsDone all limit old (W.contents writer.new) (input_records input) count.records))) }
-    ensures too_long { IsErrOf result RunFault.TooLong → OfEachAhead R.remaining source.old.chunks desk.old.site backlog.old (W.contents writer.old) (λ all old input.
+    ensures too_long { IsErrOf result RunFault.TooLong → OfEachAhead R.remaining source.old.chunks desk.old.site backlog.old (W.contents writer.old)
+        (λ all old input.
         IsTooLong all limit old (W.contents writer.new) (input_records input)) }
     ensures read { IsErrOf result RunFault.Read → OfEachAhead R.remaining source.old.chunks desk.old.site backlog.old (W.contents writer.old) (λ all old input.
         IsCut all old (W.contents writer.new) (input_records input)) }
-    ensures memory { IsErrOf result RunFault.Memory → OfEachAhead R.remaining source.old.chunks desk.old.site backlog.old (W.contents writer.old) (λ all old input.
+    ensures memory { IsErrOf result RunFault.Memory → OfEachAhead R.remaining source.old.chunks desk.old.site backlog.old (W.contents writer.old)
+        (λ all old input.
         WrotePrefix (all.text AtEnd) old (W.contents writer.new) (input_records input)) }
 {
     let left = limit - backlog.answered;
@@ -351,11 +357,13 @@ fn serve<G: Gate, T: Threads + Wait + Sync, R: Read, W: Write>(
     requires limit { limit + 1 < 2 ^ 64 }
     ensures ok { IfOk result (λ count. OfEachAhead R.remaining source.old.chunks desk.old.site backlog.old (W.contents writer.old) (λ all old input.
         IsDone all limit old (W.contents writer.new) (input_records input) count.records)) }
-    ensures too_long { IsErrOf result RunFault.TooLong → OfEachAhead R.remaining source.old.chunks desk.old.site backlog.old (W.contents writer.old) (λ all old input.
+    ensures too_long { IsErrOf result RunFault.TooLong → OfEachAhead R.remaining source.old.chunks desk.old.site backlog.old (W.contents writer.old)
+        (λ all old input.
         IsTooLong all limit old (W.contents writer.new) (input_records input)) }
     ensures read { IsErrOf result RunFault.Read → OfEachAhead R.remaining source.old.chunks desk.old.site backlog.old (W.contents writer.old) (λ all old input.
         IsCut all old (W.contents writer.new) (input_records input)) }
-    ensures memory { IsErrOf result RunFault.Memory → OfEachAhead R.remaining source.old.chunks desk.old.site backlog.old (W.contents writer.old) (λ all old input.
+    ensures memory { IsErrOf result RunFault.Memory → OfEachAhead R.remaining source.old.chunks desk.old.site backlog.old (W.contents writer.old)
+        (λ all old input.
         WrotePrefix (all.text AtEnd) old (W.contents writer.new) (input_records input)) }
 {
     'steps: for _ in 0..u64::MAX {

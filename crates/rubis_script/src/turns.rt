@@ -34,11 +34,15 @@ fn next_or_end<G: Gate, T: Threads + Wait + Sync, R: Read, W: Write>(
 ) -> Result<Option<Count>, RunFault>
     requires held { AreHeld desk.old.site.place site_run.old.window.items site_run.old.run.answered }
     ensures found { IfOk result (λ over. IfNone over (Advances R.remaining site_run.old.run.records site_run.new.run.records true)) }
-    ensures same { IfOk result (λ over. IfNone over ((desk.new ≡ desk.old) × (site_run.new.window ≡ site_run.old.window) × (site_run.new.run.reply ≡ site_run.old.run.reply)
+    ensures same { IfOk result (λ over. IfNone over ((desk.new ≡ desk.old) × (site_run.new.window ≡ site_run.old.window)
+        × (site_run.new.run.reply ≡ site_run.old.run.reply)
         × (site_run.new.run.answered ≡ site_run.old.run.answered) × (writer.new ≡ writer.old))) }
-    ensures done { IfOk result (λ over. IfSome over (λ count. EndsDone R.remaining site_run.old.run (held_by desk.old.site site_run.old.window.items) (W.contents writer.old) (W.contents writer.new) site_run.old.run.answered count.records)) }
-    ensures read { IsErrOf result RunFault.Read → EndsCut R.remaining site_run.old.run (held_by desk.old.site site_run.old.window.items) (W.contents writer.old) (W.contents writer.new) }
-    ensures memory { IsErrOf result RunFault.Memory → EndsInPrefix R.remaining site_run.old.run (held_by desk.old.site site_run.old.window.items) (W.contents writer.old) (W.contents writer.new) }
+    ensures done { IfOk result (λ over. IfSome over (λ count.
+        EndsDone R.remaining site_run.old.run (held_by desk.old.site site_run.old.window.items) (W.contents writer.old) (W.contents writer.new) site_run.old.run.answered count.records)) }
+    ensures read { IsErrOf result RunFault.Read → EndsCut R.remaining site_run.old.run (held_by desk.old.site site_run.old.window.items)
+        (W.contents writer.old) (W.contents writer.new) }
+    ensures memory { IsErrOf result RunFault.Memory → EndsInPrefix R.remaining site_run.old.run (held_by desk.old.site site_run.old.window.items)
+        (W.contents writer.old) (W.contents writer.new) }
     ensures faults { IfErr result (λ e. (e ≡ RunFault.Read) ⊎ (e ≡ RunFault.Write) ⊎ (e ≡ RunFault.Memory)) }
 {
     let SiteRun { run, window } = site_run;
@@ -76,7 +80,8 @@ fn pass_on<G: Gate, T: Threads + Wait + Sync, R: Read, W: Write>(
     requires held { AreHeld desk.old.site.place site_run.old.window.items site_run.old.run.answered }
     ensures held { OnOk result (AreHeld desk.new.site.place site_run.new.window.items site_run.old.run.answered) }
     ensures same { site_run.new.run.answered ≡ site_run.old.run.answered }
-    ensures goes { OnOk result (OfEachRun R.remaining site_run.old.run (held_by desk.old.site site_run.old.window.items) (W.contents writer.old) (λ all old input.
+    ensures goes { OnOk result (OfEachRun R.remaining site_run.old.run (held_by desk.old.site site_run.old.window.items) (W.contents writer.old)
+        (λ all old input.
         StandsAt R.remaining site_run.new.run (held_by desk.new.site site_run.new.window.items) all old (W.contents writer.new) input)) }
     ensures memory { IsErrOf result RunFault.Memory → W.contents writer.new ≡ W.contents writer.old }
     ensures faults { IfErr result (λ e. (e ≡ RunFault.Write) ⊎ (e ≡ RunFault.Memory)) }
@@ -99,10 +104,13 @@ fn take_next<G: Gate, T: Threads + Wait + Sync, R: Read, W: Write>(
     requires held { AreHeld desk.old.site.place site_run.old.window.items site_run.old.run.answered }
     requires room { site_run.old.run.answered + 1 < 2 ^ 64 }
     ensures held { IfOk result (λ over. IfNone over (AreHeld desk.new.site.place site_run.new.window.items (site_run.old.run.answered + 1))) }
-    ensures goes { IfOk result (λ over. HasMoved R.remaining site_run.old.run site_run.new.run (held_by desk.old.site site_run.old.window.items) (held_by desk.new.site site_run.new.window.items) (W.contents writer.old) (W.contents writer.new) over) }
+    ensures goes { IfOk result (λ over. HasMoved R.remaining site_run.old.run site_run.new.run (held_by desk.old.site site_run.old.window.items)
+        (held_by desk.new.site site_run.new.window.items) (W.contents writer.old) (W.contents writer.new) over) }
     ensures counted { IfOk result (λ over. IfNone over (site_run.new.run.answered ≡ site_run.old.run.answered + 1)) }
-    ensures read { IsErrOf result RunFault.Read → EndsCut R.remaining site_run.old.run (held_by desk.old.site site_run.old.window.items) (W.contents writer.old) (W.contents writer.new) }
-    ensures memory { IsErrOf result RunFault.Memory → EndsInPrefix R.remaining site_run.old.run (held_by desk.old.site site_run.old.window.items) (W.contents writer.old) (W.contents writer.new) }
+    ensures read { IsErrOf result RunFault.Read → EndsCut R.remaining site_run.old.run (held_by desk.old.site site_run.old.window.items)
+        (W.contents writer.old) (W.contents writer.new) }
+    ensures memory { IsErrOf result RunFault.Memory → EndsInPrefix R.remaining site_run.old.run (held_by desk.old.site site_run.old.window.items)
+        (W.contents writer.old) (W.contents writer.new) }
     ensures faults { IfErr result (λ e. (e ≡ RunFault.Read) ⊎ (e ≡ RunFault.Write) ⊎ (e ≡ RunFault.Memory)) }
 {
     if let Some(count) = next_or_end(rt, site_run, desk, writer)? {
@@ -129,10 +137,14 @@ fn stop_at<G: Gate, T: Threads + Wait + Sync, R: Read, W: Write>(
     writer: &mut W,
 ) -> Result<Count, RunFault>
     requires held { AreHeld desk.old.site.place site_run.old.window.items site_run.old.run.answered }
-    ensures ok { IfOk result (λ count. EndsDone R.remaining site_run.old.run (held_by desk.old.site site_run.old.window.items) (W.contents writer.old) (W.contents writer.new) site_run.old.run.answered count.records) }
-    ensures too_long { IsErrOf result RunFault.TooLong → EndsTooLong R.remaining site_run.old.run (held_by desk.old.site site_run.old.window.items) (W.contents writer.old) (W.contents writer.new) site_run.old.run.answered }
-    ensures read { IsErrOf result RunFault.Read → EndsCut R.remaining site_run.old.run (held_by desk.old.site site_run.old.window.items) (W.contents writer.old) (W.contents writer.new) }
-    ensures memory { IsErrOf result RunFault.Memory → EndsInPrefix R.remaining site_run.old.run (held_by desk.old.site site_run.old.window.items) (W.contents writer.old) (W.contents writer.new) }
+    ensures ok { IfOk result (λ count. EndsDone R.remaining site_run.old.run (held_by desk.old.site site_run.old.window.items)
+        (W.contents writer.old) (W.contents writer.new) site_run.old.run.answered count.records) }
+    ensures too_long { IsErrOf result RunFault.TooLong → EndsTooLong R.remaining site_run.old.run (held_by desk.old.site site_run.old.window.items)
+        (W.contents writer.old) (W.contents writer.new) site_run.old.run.answered }
+    ensures read { IsErrOf result RunFault.Read → EndsCut R.remaining site_run.old.run (held_by desk.old.site site_run.old.window.items)
+        (W.contents writer.old) (W.contents writer.new) }
+    ensures memory { IsErrOf result RunFault.Memory → EndsInPrefix R.remaining site_run.old.run (held_by desk.old.site site_run.old.window.items)
+        (W.contents writer.old) (W.contents writer.new) }
 {
     let SiteRun { run, window } = site_run;
     desk.flush(rt, run.answered, window, &mut run.reply)?;
@@ -150,10 +162,14 @@ fn serve<G: Gate, T: Threads + Wait + Sync, R: Read, W: Write>(
 ) -> Result<Count, RunFault>
     requires none { site_run.old.window.items ≡ [] }
     requires first { site_run.old.run.answered ≡ 0 }
-    ensures ok { IfOk result (λ count. FromStart R.remaining site_run.old.run (λ records. IsDone (told_by desk.old.site 1) limit (W.contents writer.old) (W.contents writer.new) records count.records)) }
-    ensures too_long { IsErrOf result RunFault.TooLong → FromStart R.remaining site_run.old.run (λ records. IsTooLong (told_by desk.old.site 1) limit (W.contents writer.old) (W.contents writer.new) records) }
-    ensures read { IsErrOf result RunFault.Read → FromStart R.remaining site_run.old.run (λ records. IsCut (told_by desk.old.site 1) (W.contents writer.old) (W.contents writer.new) records) }
-    ensures memory { IsErrOf result RunFault.Memory → FromStart R.remaining site_run.old.run (λ records. WrotePrefix ((told_by desk.old.site 1).text AtEnd) (W.contents writer.old) (W.contents writer.new) records) }
+    ensures ok { IfOk result (λ count. FromStart R.remaining site_run.old.run (λ records.
+        IsDone (told_by desk.old.site 1) limit (W.contents writer.old) (W.contents writer.new) records count.records)) }
+    ensures too_long { IsErrOf result RunFault.TooLong → FromStart R.remaining site_run.old.run (λ records.
+        IsTooLong (told_by desk.old.site 1) limit (W.contents writer.old) (W.contents writer.new) records) }
+    ensures read { IsErrOf result RunFault.Read → FromStart R.remaining site_run.old.run (λ records.
+        IsCut (told_by desk.old.site 1) (W.contents writer.old) (W.contents writer.new) records) }
+    ensures memory { IsErrOf result RunFault.Memory → FromStart R.remaining site_run.old.run (λ records.
+        WrotePrefix ((told_by desk.old.site 1).text AtEnd) (W.contents writer.old) (W.contents writer.new) records) }
 {
     'steps: for _answered in 0..limit {
         if let Some(count) = take_next(rt, site_run, desk, writer)? {

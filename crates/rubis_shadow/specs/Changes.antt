@@ -67,7 +67,8 @@ change_row CatListed (Some (Cat c)) = fits_as (Cat (record { items = count_up c.
 change_row CatEnded (Some (Cat c)) = fits_as (Cat (record c { live = int_up c.live (negsuc 0) }))
 change_row (BidTaken b) (Some (Item i)) = if_open i i.sale (fits_as (Item (record i { bids = count_up i.bids 1; best = better i.best b })))
 change_row (Sold q) (Some (Item i)) =
-    if_open i i.sale (cond (nat_le q i.stock) (fits_as (Item (record i { stock = i.stock - q; sold = count_up i.sold q }))) (misfits_as StockShort (Some (Item i))))
+    if_open i i.sale (cond (nat_le q i.stock) (fits_as (Item (record i { stock = i.stock - q; sold = count_up i.sold q })))
+    (misfits_as StockShort (Some (Item i))))
 change_row (End w) (Some (Item i)) = if_open i i.sale (fits_as (Item (record i { sale = Ended w })))
 change_row (Restocked q) (Some (Item i)) = fits_as (Item (record i { stock = count_up i.stock q }))
 change_row (Renamed n) (Some (User u)) = fits_as (User (record u { nick = n }))

@@ -48,7 +48,8 @@ fn put_row(rows: &mut IndexMap<RowKey, Row>, key: RowKey, row: Row) -> Result<()
 #[tactic(auto, using(crate::proofs::Rows::tables_of_update))]
 fn put_new(rows: &mut IndexMap<RowKey, Row>, key: RowKey, row: Row) -> Result<bool, AllocError>
     ensures free { IfOk result (λ put. put ≡ is_none (map.get (map.from_entries {R = key_order} rows.old.entries) key)) }
-    ensures put { IfOk result (λ put. MatchBool put (map.from_entries {R = key_order} rows.new.entries ≡ map.insert (map.from_entries rows.old.entries) key row) (rows.new.entries ≡ rows.old.entries)) }
+    ensures put { IfOk result (λ put. MatchBool put (map.from_entries {R = key_order} rows.new.entries ≡ map.insert
+        (map.from_entries rows.old.entries) key row) (rows.new.entries ≡ rows.old.entries)) }
     ensures err { OnErr result (rows.new.entries ≡ rows.old.entries) }
 {
     match rows.entry(key)? {

@@ -125,7 +125,8 @@ impl<'a> MessageParts<'a> {
         requires at { at < self.now.shards }
         requires place { place < 3 }
         requires room { HasRoom store.old 1 }
-        requires row { home_or self.now.shards (slice_get (parts_of (core_of self.now.entry)) place) ≡ at → HasBoxedRow (slice_get (parts_of (core_of self.now.entry)) place) row }
+        requires row { home_or self.now.shards (slice_get (parts_of (core_of self.now.entry)) place) ≡ at
+            → HasBoxedRow (slice_get (parts_of (core_of self.now.entry)) place) row }
         ensures folded { held_by store.new ≡ fold_on (held_by store.old) (parts_at self.now.shards at (at_place self.now.entry place)) }
         ensures room { (n : ℕ) → HasRoom store.old (n + 1) → HasRoom store.new n }
     {

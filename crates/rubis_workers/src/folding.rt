@@ -27,7 +27,8 @@ pub fn apply_upto(
     ensures on { at.old ≤ at.new }
     ensures inside { at.new ≤ upto }
     ensures some { 0 < length tables.new }
-    ensures holds { HoldsLog (length tables.old) (cores (take at.old log.now)) tables.old → HoldsLog (length tables.new) (cores (take at.new log.now)) tables.new }
+    ensures holds { HoldsLog (length tables.old) (cores (take at.old log.now)) tables.old
+        → HoldsLog (length tables.new) (cores (take at.new log.now)) tables.new }
     ensures limits { StaysWithin log.now at.old at.new }
     ensures ok { OnOk result (at.new ≡ upto) }
     ensures err { OnErr result (at.new < upto) }

@@ -21,7 +21,7 @@ use Rattle.rubis_world.specs.SitesWorlds.{ComesTo, WorldState}
 
 after_one_more : (keep : ℕ) (done : List (List (List ℕ))) (fields : List (List ℕ)) (w : World) (n : ℕ)
     → world_after keep w n (done ++ fields ∷ [])
-      ≡ (world_step keep (world_after keep w n done) (n + length done) (world_input (length (world_after keep w n done).sites) fields)).0
+    ≡ (world_step keep (world_after keep w n done) (n + length done) (world_input (length (world_after keep w n done).sites) fields)).0
 after_one_more keep [] fields w n = ap (λ k. (world_step keep w k (world_input (length w.sites) fields)).0) (omega arith)
 after_one_more keep (first ∷ done) fields w n =
     let v = (world_step keep w n (world_input (length w.sites) first)).0 in
@@ -49,8 +49,7 @@ led_more rem run after first old new rows (done, rest, split, gives, many, keep,
     let fields = fields_now after.records in
     let led : old.world ≡ world_after first.keep first.world 1 done = world in
     let stepped : new.world ≡ (world_step first.keep old.world (run.answered + 1) (world_input (length old.world.sites) fields)).0 =
-        step ∙ ap (λ k. (world_step k old.world (run.answered + 1) (world_input (length old.world.sites) fields)).0) keep in
-    (
+    step ∙ ap (λ k. (world_step k old.world (run.answered + 1) (world_input (length old.world.sites) fields)).0) keep in (
       done ++ fields ∷ [],
       left,
       split ∙ ap (λ r. done ++ r) took ∙ sym (append_assoc done (fields ∷ []) left),
@@ -58,17 +57,16 @@ led_more rem run after first old new rows (done, rest, split, gives, many, keep,
       let one = length-append done (fields ∷ []) in omega (arith, one, many, next),
       same ∙ keep,
       stepped
-      ∙ ap (λ (w : World). (world_step first.keep w (run.answered + 1) (world_input (length w.sites) fields)).0) led
-      ∙ ap (λ k. (world_step first.keep (world_after first.keep first.world 1 done) k (world_input (length (world_after first.keep first.world 1 done).sites) fields)).0) (omega (arith, many))
-      ∙ sym (after_one_more first.keep done fields first.world 1),
+          ∙ ap (λ (w : World). (world_step first.keep w (run.answered + 1) (world_input (length w.sites) fields)).0) led
+          ∙ ap (λ k. (world_step first.keep (world_after first.keep first.world 1 done) k (world_input (length (world_after first.keep first.world 1 done).sites) fields)).0) (omega (arith, many))
+          ∙ sym (after_one_more first.keep done fields first.world 1),
     )
 
 -- where there is no further record, all of them led there
 pub led_all : {R : Type 0} (rem : R → Option (List ℕ)) (run : Run R) (first old new : WorldState) (rows : List (List (List ℕ)))
     → HasLed rem run first old rows → ((rest : List (List (List ℕ))) → Gives rem run.records rest → rest ≡ []) → new ≡ old → Lead rows first new
 led_all rem run first old new rows (done, rest, split, gives, many, keep, world) end same =
-    let all : rows ≡ done = split ∙ ap (λ r. done ++ r) (end rest gives) ∙ append-nil done in
-    (
+    let all : rows ≡ done = split ∙ ap (λ r. done ++ r) (end rest gives) ∙ append-nil done in (
       ap (λ (s : WorldState). s.keep) same ∙ keep,
       ap (λ (s : WorldState). s.world) same ∙ world ∙ ap (λ r. world_after first.keep first.world 1 r) (sym all),
     )

@@ -42,4 +42,5 @@ LeadsOn rem run after old new (Some count) = ((rows : List (List (List ℕ))) �
 
 -- the first of these records led from one state to the other, and the run has the rest before it
 abbrev pub HasLed : {R : Type 0} → (R → Option (List ℕ)) → Run R → WorldState → WorldState → List (List (List ℕ)) → Type 0
-HasLed rem run old new rows = (done rest : List (List (List ℕ))) × (rows ≡ done ++ rest) × Gives rem run.records rest × (length done ≡ run.answered) × Lead done old new
+HasLed rem run old new rows = (done rest : List (List (List ℕ))) × (rows ≡ done ++ rest) × Gives rem run.records rest × (length done ≡ run.answered)
+    × Lead done old new

@@ -13,7 +13,8 @@ text_grows_by rows old site new same = (new ≡ old ++ rows_text (map (site_row 
 pub none_told : (text : List ℕ) (site : ℕ) → text_grows_by [] text site text site
 none_told text site = (sym (append-nil text), refl)
 
-pub more_told : (xs ys : List (List (List ℕ))) (a b c : List ℕ) (i j k : ℕ) → text_grows_by xs a i b j → text_grows_by ys b j c k → text_grows_by (xs ++ ys) a i c k
+pub more_told : (xs ys : List (List (List ℕ))) (a b c : List ℕ) (i j k : ℕ) → text_grows_by xs a i b j → text_grows_by ys b j c k
+    → text_grows_by (xs ++ ys) a i c k
 more_told xs ys a b c i j k e f =
     let both : rows_text (map (site_row i) (xs ++ ys)) ≡ rows_text (map (site_row i) xs) ++ rows_text (map (site_row i) ys) =
     ap rows_text (map-append (site_row i) xs ys) ∙ flat_map-append (row_text plain_writer) (map (site_row i) xs) (map (site_row i) ys) in

@@ -110,7 +110,8 @@ pub fn check<R: Threads + Wait + Sync>(
     requires among { HaveMessagesAmong (length sites.old.world.sites) (logs_of sites.old.world) }
     ensures same { ComesTo sites.old sites.new sites.old.world }
     ensures verdict { IfOk result (λ found. found ≡ verdict (logs_of sites.old.world)) }
-    ensures waits { (i : ℕ) → i < length sites.old.world.sites → 0 < left_at sites.old i → (result ≡ Err (WorldFault.Site Fault.Behind)) × (sites.new ≡ sites.old) }
+    ensures waits { (i : ℕ) → i < length sites.old.world.sites → 0 < left_at sites.old i → (result ≡ Err (WorldFault.Site Fault.Behind))
+        × (sites.new ≡ sites.old) }
     ensures faults { IfErr result (IsCheckFault sites.new) }
 {
     if some_behind(sites) {

@@ -48,7 +48,8 @@ fn answer_request<R: Threads + Wait + Sync>(
     request: Request,
 ) -> Result<(), OutOfMemory>
     requires { IsEvent (length world.old.world.sites) (At site request) }
-    ensures { OnOk result (IsTold world.old world.new (told_at reply.old.number site (happens world.old.keep world.old.world (At site request))) reply.old.sink reply.new.sink) }
+    ensures { OnOk result (IsTold world.old world.new (told_at reply.old.number site
+        (happens world.old.keep world.old.world (At site request))) reply.old.sink reply.new.sink) }
 {
     let answer = answered(world.at(rt, site, request))?;
     write_answer(reply, site, world.packets(), answer)?;
@@ -63,7 +64,8 @@ fn answer_delivery<R: Threads + Wait + Sync>(
     site: u8,
     which: u64,
 ) -> Result<(), OutOfMemory>
-    ensures { OnOk result (IsTold world.old world.new (told_at reply.old.number site (happens world.old.keep world.old.world (Deliver site which))) reply.old.sink reply.new.sink) }
+    ensures { OnOk result (IsTold world.old world.new (told_at reply.old.number site
+        (happens world.old.keep world.old.world (Deliver site which))) reply.old.sink reply.new.sink) }
 {
     let answer = answered(world.deliver(rt, site, which))?;
     write_answer(reply, site, world.packets(), answer)?;
@@ -76,7 +78,11 @@ fn answer_audit<R: Threads + Wait + Sync>(
     world: &mut World,
     reply: &mut Reply,
 ) -> Result<(), OutOfMemory>
-    ensures { OnOk result (IsTold world.old world.new (world.old.world, verdict_record (verdict (logs_of world.old.world)) ∷ []) reply.old.sink reply.new.sink) }
+    ensures { OnOk result (IsTold world.old world.new (
+      world.old.world,
+      verdict_record
+          (verdict (logs_of world.old.world)) ∷ [],
+    ) reply.old.sink reply.new.sink) }
 {
     let Ok(verdict) = world.check(rt) else {
         return Err(OutOfMemory);
@@ -112,7 +118,8 @@ impl WorldDesk {
         reply: &mut Reply,
     ) -> Result<(), OutOfMemory>
         ensures { OnOk result (IsTold self.old.world self.new.world
-            (world_step self.old.world.keep self.old.world.world reply.old.number (world_input (length self.old.world.world.sites) fields.now)) reply.old.sink reply.new.sink) }
+            (world_step self.old.world.keep self.old.world.world reply.old.number
+            (world_input (length self.old.world.world.sites) fields.now)) reply.old.sink reply.new.sink) }
     {
         let input = read_world_input(self.alloc, fields, self.world.sites())?;
         let world = &mut self.world;

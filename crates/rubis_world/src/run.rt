@@ -27,11 +27,13 @@ fn answer_next<T: Threads + Wait + Sync, R: Read, W: Write>(
     writer: &mut W,
 ) -> Result<Option<Count>, RunFault>
     requires { run.old.answered + 1 < 2 ^ 64 }
-    ensures goes { IfOk result (λ over. HasMoved R.remaining run.old run.new (told_by_world desk.old.world) (told_by_world desk.new.world) (W.contents writer.old) (W.contents writer.new) over) }
+    ensures goes { IfOk result (λ over. HasMoved R.remaining run.old run.new (told_by_world desk.old.world) (told_by_world desk.new.world)
+        (W.contents writer.old) (W.contents writer.new) over) }
     ensures leads { IfOk result (λ over. LeadsOn R.remaining run.old run.new desk.old.world desk.new.world over) }
     ensures counted { IfOk result (λ over. IfNone over (run.new.answered ≡ run.old.answered + 1)) }
     ensures read { IsErrOf result RunFault.Read → EndsCut R.remaining run.old (told_by_world desk.old.world) (W.contents writer.old) (W.contents writer.new) }
-    ensures memory { IsErrOf result RunFault.Memory → EndsInPrefix R.remaining run.old (told_by_world desk.old.world) (W.contents writer.old) (W.contents writer.new) }
+    ensures memory { IsErrOf result RunFault.Memory → EndsInPrefix R.remaining run.old (told_by_world desk.old.world) (W.contents writer.old)
+        (W.contents writer.new) }
     ensures faults { IfErr result (λ e. (e ≡ RunFault.Read) ⊎ (e ≡ RunFault.Write) ⊎ (e ≡ RunFault.Memory)) }
 {
     let sink = &mut run.reply.sink;
@@ -54,11 +56,15 @@ fn serve<T: Threads + Wait + Sync, R: Read, W: Write>(
     limit: u64,
 ) -> Result<Count, RunFault>
     requires { run.old.answered ≡ 0 }
-    ensures ok { IfOk result (λ count. FromStart R.remaining run.old (λ records. IsDone (told_by_world desk.old.world 1) limit (W.contents writer.old) (W.contents writer.new) records count.records)) }
+    ensures ok { IfOk result (λ count. FromStart R.remaining run.old (λ records.
+        IsDone (told_by_world desk.old.world 1) limit (W.contents writer.old) (W.contents writer.new) records count.records)) }
     ensures leads { IfOk result (λ _. (rows : List (List (List ℕ))) → Gives R.remaining run.old.records rows → Lead rows desk.old.world desk.new.world) }
-    ensures too_long { IsErrOf result RunFault.TooLong → FromStart R.remaining run.old (λ records. IsTooLong (told_by_world desk.old.world 1) limit (W.contents writer.old) (W.contents writer.new) records) }
-    ensures read { IsErrOf result RunFault.Read → FromStart R.remaining run.old (λ records. IsCut (told_by_world desk.old.world 1) (W.contents writer.old) (W.contents writer.new) records) }
-    ensures memory { IsErrOf result RunFault.Memory → FromStart R.remaining run.old (λ records. WrotePrefix ((told_by_world desk.old.world 1).text AtEnd) (W.contents writer.old) (W.contents writer.new) records) }
+    ensures too_long { IsErrOf result RunFault.TooLong → FromStart R.remaining run.old (λ records.
+        IsTooLong (told_by_world desk.old.world 1) limit (W.contents writer.old) (W.contents writer.new) records) }
+    ensures read { IsErrOf result RunFault.Read → FromStart R.remaining run.old (λ records.
+        IsCut (told_by_world desk.old.world 1) (W.contents writer.old) (W.contents writer.new) records) }
+    ensures memory { IsErrOf result RunFault.Memory → FromStart R.remaining run.old (λ records.
+        WrotePrefix ((told_by_world desk.old.world 1).text AtEnd) (W.contents writer.old) (W.contents writer.new) records) }
 {
     'steps: for _answered in 0..limit {
         if let Some(count) = answer_next(rt, run, desk, writer)? {
@@ -108,7 +114,8 @@ pub fn run_world<T: Threads + Wait + Sync, R: Read + Drop, W: Write>(
     writer: &mut W,
     config: &WorldConfig,
 ) -> Result<Count, RunFault>
-    ensures run { IsRun (answers_of_world config.now.sites config.now.keep) RECORDS_MAX (R.remaining reader) (W.contents writer.old) (W.contents writer.new) result }
+    ensures run { IsRun (answers_of_world config.now.sites config.now.keep) RECORDS_MAX (R.remaining reader) (W.contents writer.old)
+        (W.contents writer.new) result }
     ensures text { TellsARun config.now.sites config.now.keep RECORDS_MAX (R.remaining reader) (W.contents writer.old) (W.contents writer.new) result }
 {
     let mut desk = WorldDesk::new(alloc, config)?;

@@ -236,7 +236,8 @@ impl Sites {
         ensures step { Steps self.old self.new (happens self.old.keep self.old.world (Deliver site number)) result }
         ensures tables { site < length self.old.world.sites → (p : Sent) → packet_at self.old.world.sent number ≡ Some p → Asks site self.old self.new result }
         ensures absent { length self.old.world.sites ≤ site → (result ≡ Err WorldFault.BadEvent) × (self.new ≡ self.old) }
-        ensures unsent { site < length self.old.world.sites → packet_at self.old.world.sent number ≡ None → (result ≡ Err WorldFault.NoSuchPacket) × (self.new ≡ self.old) }
+        ensures unsent { site < length self.old.world.sites → packet_at self.old.world.sent number ≡ None → (result ≡ Err WorldFault.NoSuchPacket)
+            × (self.new ≡ self.old) }
         ensures behind { result ≡ Err (WorldFault.Site Fault.Behind) → 0 < left_at self.old site }
     {
         let site = usize::from(site);

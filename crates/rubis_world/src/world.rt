@@ -95,7 +95,8 @@ impl World {
         ensures step { Steps self.old self.new (happens self.old.keep self.old.world (Deliver site number)) result }
         ensures tables { site < length self.old.world.sites → (p : Sent) → packet_at self.old.world.sent number ≡ Some p → Asks site self.old self.new result }
         ensures absent { length self.old.world.sites ≤ site → (result ≡ Err WorldFault.BadEvent) × (self.new ≡ self.old) }
-        ensures unsent { site < length self.old.world.sites → packet_at self.old.world.sent number ≡ None → (result ≡ Err WorldFault.NoSuchPacket) × (self.new ≡ self.old) }
+        ensures unsent { site < length self.old.world.sites → packet_at self.old.world.sent number ≡ None → (result ≡ Err WorldFault.NoSuchPacket)
+            × (self.new ≡ self.old) }
         ensures behind { result ≡ Err (WorldFault.Site Fault.Behind) → 0 < left_at self.old site }
         ensures run { InRun self.new.world }
     {
@@ -108,7 +109,8 @@ impl World {
         ensures same { ComesTo self.old self.new self.old.world }
         ensures verdict { IfOk result (λ found. found ≡ verdict (logs_of self.old.world)) }
         ensures agrees { IfOk result (λ found. found ≡ Agree) }
-        ensures waits { (i : ℕ) → i < length self.old.world.sites → 0 < left_at self.old i → (result ≡ Err (WorldFault.Site Fault.Behind)) × (self.new ≡ self.old) }
+        ensures waits { (i : ℕ) → i < length self.old.world.sites → 0 < left_at self.old i → (result ≡ Err (WorldFault.Site Fault.Behind))
+            × (self.new ≡ self.old) }
         ensures faults { IfErr result (IsCheckFault self.new) }
         ensures run { InRun self.new.world }
     {

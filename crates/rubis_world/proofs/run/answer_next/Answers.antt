@@ -54,5 +54,5 @@ returns-clause-leads g c rows gives =
     let answered = rw (c.fields.ensures) at c.in_ok-respond.ensures in
     let (left, took, more) = found rows gives in
     let (keep, world) = steps_on c.args.desk.now.world c.next_record.new.service.world c.respond.new.self.world c.write_out.new.service.world n (fields_now c.next_record.new.records)
-        (ap (λ s. s.world) same.0) answered.0 c.in_ok-write_out.ensures.stays in
+    (ap (λ s. s.world) same.0) answered.0 c.in_ok-write_out.ensures.stays in
     (left, more, took, keep, world)
