@@ -190,9 +190,8 @@ pub fn run_in_turn<G: Gate, T: Threads + Wait + Sync, R: Read + Drop, W: Write>(
 ) -> Result<Count, RunFault>
     ensures { IsRun (told_by desk.old.site 1) limit (R.remaining reader) (W.contents writer.old) (W.contents writer.new) result }
 {
-    let mut site_run = SiteRun {
-        run: Run::new(alloc, reader),
-        window: Vec::new(alloc),
-    };
+    let run = Run::new(alloc, reader);
+    let window = Vec::new(alloc);
+    let mut site_run = SiteRun { run, window };
     serve(rt, &mut site_run, desk, writer, limit)
 }

@@ -1,5 +1,4 @@
-use Rattle.std.proofs.Common.{refl}
-use Rattle.std.specs.Prelude.{IfSome, subst₂}
+use Rattle.std.proofs.Common.{subst₂}
 use Rattle.rubis_engine.specs.Progress.{IsRun}
 use Rattle.rubis_model.specs.Site.{Place, Replica}
 use Rattle.rubis_script.specs.SiteRuns.{site_account}

@@ -5,6 +5,6 @@ use Rattle.rubis_script.proofs.turns.run_in_turn.Goals as goal
 pub returns : goal.returns
 returns g c =
     let said = c.serve.ensures in
-    let run = c.new-site_run-run.ensures in
-    ends_so g.R.Read.remaining c.new-site_run-run.result (told_by c.args.desk.now.site 1) c.args.limit (g.R.Read.remaining c.args.reader)
+    let run = c.new-run.ensures in
+    ends_so g.R.Read.remaining c.new-run.result (told_by c.args.desk.now.site 1) c.args.limit (g.R.Read.remaining c.args.reader)
     (g.W.Write.contents c.args.writer.now) (g.W.Write.contents c.serve.new.writer) c.serve.result run.gives run.empty said.ok said.too_long said.read said.memory
