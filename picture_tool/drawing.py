@@ -112,7 +112,7 @@ class Drawing:
     def order_lines(self) -> None:
         if len(self.made) <= MOST_FOLLOWED:
             for a, b in blue_steps(self.view.events):
-                self.join(a, b, BLUE, 1.8)
+                self.join(a, b, BLUE, 1.8 if len(self.at.rows) <= 6 else 1.2)
                 self.marks.add(Mark.FOLLOWS)
         for a, b, is_next in red_steps(self.view.events):
             self.join(a, b, RED, 3.5, "" if is_next else GAPS)

@@ -66,7 +66,7 @@ def _cell(canvas: Canvas, at: tuple[float, float], wide: float, has: int, sent: 
 
 def _legend(canvas: Canvas, y: float, has_holder: bool, has_lack: bool) -> float:
     """What the marks of the grid mean; returns where it ends."""
-    items = [(FULL, "", "it has all that is known to be made")]
+    items = [(FULL, "", "it has all that is known to be made; the bar says how much it has")]
     if has_lack:
         items.append((LACK, f' stroke="{RING}" stroke-width="2.5"', "it lacks some of them"))
     if has_holder:

@@ -322,7 +322,9 @@ class Picture {
     this.time = performance.now() - began;
   }
 
+  // How strong marks, and their words, are: what comes later is paler, and what isn't about the filter is hardly there.
   alpha(at) { return this.filter.has(at) ? (at <= this.at ? 1 : 0.38) : 0.09; }
+  strength(at) { return this.filter.has(at) ? (at <= this.at ? 1 : 0.7) : 0.12; }
 
   line(x1, y1, x2, y2, colour, width, dashes) {
     const pen = this.pen;
@@ -404,6 +406,8 @@ class Picture {
     for (const at of this.seen(1)) {
       this.pen.globalAlpha = this.alpha(at);
       this.mark(at);
+      this.pen.globalAlpha = this.strength(at);
+      this.number(at);
       if (this.step >= IDS) this.label(at);
     }
     this.pen.globalAlpha = 1;
@@ -415,7 +419,6 @@ class Picture {
     if (m) {
       const radius = Math.min(kind === "made" ? 10 : 5.5, Math.max(2, this.step * 0.42));
       this.dot(x, y, radius, m.red > 0, kind === "held");
-      if (kind === "made" && m.red && this.step >= IDS - 6) this.text(x, y + 3.5, m.red < 100 ? 11 : m.red < 10000 ? 7.5 : 6, String(m.red), "#fff", "bold");
     } else if (kind === "refused") {
       const half = Math.min(5, this.step / 2.4);
       this.line(x - half, y - half, x + half, y + half, run.colours.ink, 2.2);
@@ -428,6 +431,15 @@ class Picture {
     }
   }
 
+  // The red number, in its circle.
+  number(at) {
+    const {run} = this, m = run.messageOf(at);
+    if (!m || !m.red || !run.is(at, "made") || this.step < IDS - 6) return;
+    const size = m.red < 100 ? 11 : m.red < 10000 ? 7.5 : 6, pen = this.pen;
+    pen.font = `bold ${size}px ${FONT}`; pen.textAlign = "center"; pen.fillStyle = at <= this.at ? "#fff" : run.colours.ink;
+    pen.fillText(String(m.red), this.x(run.column[at]), this.y(run.lane[at]) + size / 3);
+  }
+
   dot(x, y, radius, isRed, isHeld) {
     const pen = this.pen, colour = isRed ? this.run.colours.red : this.run.colours.blue;
     pen.fillStyle = isHeld ? "#fff" : colour; pen.strokeStyle = colour; pen.lineWidth = 1.8;
@@ -437,15 +449,18 @@ class Picture {
     if (isHeld) pen.stroke();
   }
 
-  text(x, y, size, text, colour, weight) {
+  // Words with a halo, so that they can be read over lines.
+  text(x, y, size, text, colour) {
     const pen = this.pen;
-    pen.font = `${weight || "normal"} ${size}px ${FONT}`; pen.textAlign = "center"; pen.fillStyle = colour;
-    if (colour !== "#fff") { pen.strokeStyle = "#fff"; pen.lineWidth = 3; pen.setLineDash([]); pen.lineJoin = "round"; pen.strokeText(text, x, y); }
+    pen.font = `${size}px ${FONT}`; pen.textAlign = "center"; pen.fillStyle = colour;
+    pen.strokeStyle = "#fff"; pen.lineWidth = 3; pen.setLineDash([]); pen.lineJoin = "round";
+    pen.strokeText(text, x, y);
     pen.fillText(text, x, y);
   }
 
   label(at) {
     const {run} = this, x = this.x(run.column[at]), y = this.y(run.lane[at]), m = run.messageOf(at), kind = run.kindOf(at);
+    if (x < NAMES + 4) return;
     if (m && (m.id.length < 6 || this.step > m.id.length * 7)) this.text(x, y - 17, m.id.length < 5 ? 11 : 10, m.id, kind === "made" ? run.colours.ink : run.colours.grey);
     if (this.step < CAPTIONS) return;
     const words = kind === "made" ? run.caption(m) : kind === "held" ? "held" : kind === "refused" ? run.texts[at].split(":")[0] : kind === "passed" ? "pass" : kind === "holding" ? "token" : "";
@@ -629,7 +644,7 @@ class Page {
     this.picture.show(at);
     this.step.show(at);
     el("first").disabled = el("back").disabled = at === 0;
-    el("on").disabled = el("last").disabled = at === this.run.count - 1;
+    el("next").disabled = el("last").disabled = at === this.run.count - 1;
     this.redraw();
   }
 
@@ -665,7 +680,7 @@ class Page {
     el("first").onclick = () => this.edge(-1);
     el("last").onclick = () => this.edge(1);
     el("back").onclick = () => this.walk(-1);
-    el("on").onclick = () => this.walk(1);
+    el("next").onclick = () => this.walk(1);
     el("in").onclick = () => this.zoom(1.5);
     el("out").onclick = () => this.zoom(1 / 1.5);
     el("all").onclick = () => this.all();
@@ -755,9 +770,9 @@ class Page {
       if (m && place === 1) { const code = document.createElement("code"); code.textContent = line; part.append(code); } else part.textContent = line;
       return part;
     }));
-    const x = picture.x(run.column[at]);
+    const x = picture.x(run.column[at]), y = picture.y(run.lane[at]);
     tip.style.left = Math.max(0, Math.min(x + 16, picture.width - tip.offsetWidth - 4)) + "px";
-    tip.style.top = picture.y(run.lane[at]) + 22 + "px";
+    tip.style.top = (y > picture.height / 2 ? Math.max(-40, y - 22 - tip.offsetHeight) : y + 22) + "px";
   }
 
   names() {

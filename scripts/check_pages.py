@@ -11,6 +11,7 @@
 - Each link of README.md and docs/ to lines of a source, as [`name`](crates/..#L1-L2), names the lines of that function with
   its contract, or of that definition.
 - The table of crates in docs/ARCHITECTURE.md has the crates of crates.txt in their order, each with those that it stands on.
+- Each image of README.md and docs/ is there.
 - Each picture of docs/ is what scripts/picture.py draws of its conversation.
 
 With --fix, links are set to their lines and pictures are drawn anew first. Each fault is told by file and line; the last line says how many names and statements were looked at.
@@ -39,6 +40,8 @@ PATH_OR_NAME = re.compile(r"^[A-Za-z_]\w*(?:::\w+)*$")
 
 # A link to lines of a source.
 LINK = re.compile(r"\[`([\w:]+)`\]\(([^)#\s]*crates/[^)#\s]+)(?:#L(\d+)-L(\d+))?\)")
+
+IMAGE = re.compile(r"!\[[^]]*\]\(([^)\s]+)\)")
 
 # The pictures of docs/, each with what scripts/picture.py is given for it.
 PICTURES = {
@@ -248,6 +251,12 @@ def check_crates(page: pathlib.Path) -> tuple[int, list[str]]:
     return len(rows), faults
 
 
+def check_images(page: pathlib.Path) -> tuple[int, list[str]]:
+    """Each image that a page shows is there."""
+    shown = [(at, path) for at, line in enumerate(page.read_text().splitlines(), 1) for path in IMAGE.findall(line)]
+    return len(shown), [f"{page.relative_to(TOP)}:{at}: there is no image {path}" for at, path in shown if not (page.parent / path).is_file()]
+
+
 def check_pictures(fix: bool) -> tuple[int, list[str]]:
     faults = []
     for name, (*options, conversation) in PICTURES.items():
@@ -275,7 +284,8 @@ def main() -> int:
         edits.setdefault(path.stem, set()).add(path.relative_to(CRATES).parts[0])
     everything = specs | code_names() | set(edits) | FOREIGN
     found = [check_model(model, specs | code_names()), check_names(promises, everything), check_quotes(promises), check_contracts(fix), check_old_texts(), check_pictures(fix), check_callers(TOP / "docs/CALLING.md"), check_crates(TOP / "docs/ARCHITECTURE.md")]
-    found += [check_links(page, fix) for page in [TOP / "README.md", *sorted(TOP.glob("docs/*.md"))]]
+    pages = [TOP / "README.md", *sorted(TOP.glob("docs/*.md"))]
+    found += [check_links(page, fix) for page in pages] + [check_images(page) for page in pages]
     looked = sum(count for count, _ in found) + len(edits)
     faults = [fault for _, part in found for fault in part]
     for fault in faults:

@@ -6,6 +6,8 @@ says of everything that it is given; 20,000 messages, by size and time; and, in 
 page by keys, by pointer, by filter, at every zoom, and on paper. With names, only the trials of these names are run. What isn't
 installed is skipped, aloud. The last line says how many passed; the status is 1 if one failed."""
 
+import concurrent.futures
+import functools
 import os
 import pathlib
 import subprocess
@@ -20,6 +22,7 @@ sys.path.insert(0, str(TOP))
 from picture_tool.tests.browser import Browser, found  # noqa: E402
 from picture_tool.tests.shops import MadeShop, Network  # noqa: E402
 
+AT_ONCE = 3         # most trials wait for another process
 MANY, MOST_BYTES, MOST_SECONDS = 20_000, 3_000_000, 5.0
 FRAME = 100.0       # ms: what one drawing of 20,000 messages may take on a machine with other work; half of them a quarter of it
 READY = "document.documentElement?.dataset.ready === 'yes'"
@@ -70,6 +73,17 @@ class Folder:
         expect(done.returncode == status, f"{words} ended with status {done.returncode}: {done.stderr}")
         return done.stdout, done.stderr
 
+    def timed(self, *words: str) -> tuple[str, float]:
+        """What scripts/picture.py writes, and the processor time that it takes."""
+        with tempfile.TemporaryFile() as written:
+            command = [sys.executable, str(TOP / "scripts/picture.py"), *words]
+            process = subprocess.Popen(command, cwd=self.path, stdout=written, stdin=subprocess.DEVNULL)
+            _, status, used = os.wait4(process.pid, 0)
+            process.returncode = os.waitstatus_to_exitcode(status)
+            expect(process.returncode == 0, f"{words} ended with status {process.returncode}")
+            written.seek(0)
+            return written.read().decode(), used.ru_utime + used.ru_stime
+
     def write(self, name: str, text: str) -> str:
         (self.path / name).write_text(text)
         return str(self.path / name)
@@ -79,9 +93,9 @@ class Folder:
         return str(self.path / name)
 
 
-def processor_time() -> float:
-    """Of all that this process has run."""
-    return os.times().children_user + os.times().children_system
+@functools.cache
+def many() -> MadeShop:
+    return MadeShop(4, MANY, 5)
 
 
 def lines(texts: list[str]) -> str:
@@ -153,12 +167,9 @@ def test_misuse(at: Folder) -> None:
 
 def test_many(at: Folder) -> None:
     """20,000 messages: the page and the picture, by size and time."""
-    made = MadeShop(4, MANY, 5)
-    shop, logs = at.shop("auction", made), at.write("logs", made.logs())
+    shop, logs = at.shop("auction", many()), at.write("logs", many().logs())
     for words in ([shop, "--html"], [logs, "--html"], [shop], [shop, "--grid", "--text"]):
-        began = processor_time()
-        said = at.picture(*words)[0]
-        took = processor_time() - began
+        said, took = at.timed(*words)
         name = " ".join([pathlib.Path(words[0]).name, *words[1:]])
         print(f"pictures: {MANY:,} messages of 4 sites, {name}: {len(said):,} bytes in {took:.1f} s of processor time")
         expect(len(said) < MOST_BYTES and took < MOST_SECONDS, f"{words[1:]}: {len(said)} bytes in {took:.1f} s")
@@ -216,7 +227,7 @@ def test_page_by_keys(at: Folder) -> None:
             browser.key("Tab")
             names.append(browser.value("""(now => [now.id, now.getAttribute("aria-label") || now.textContent || (now.labels || [{}])[0].textContent])
                 (document.activeElement)"""))
-        expect({"first", "back", "on", "last", "out", "in", "all", "filter", "canvas"} <= {name for name, _ in names}, f"by Tab: {names}")
+        expect({"first", "back", "next", "last", "out", "in", "all", "filter", "canvas"} <= {name for name, _ in names}, f"by Tab: {names}")
         expect(all(text for _, text in names), f"names: {names}")
         expect(not browser.faults, f"{browser.faults}")
 
@@ -271,7 +282,7 @@ def test_page_of_many(at: Folder) -> None:
     """20,000 messages: how long it takes to open, to step, and to draw at every zoom; nothing comes from outside; it is printed."""
     needs_browser()
     with Browser() as browser:
-        text = at.picture("--html", at.shop("auction", MadeShop(4, MANY, 5)))[0]
+        text = at.picture("--html", at.shop("auction", many()))[0]
         expect("http:" not in text.replace("http://www.w3.org/", "") and "https:" not in text and "@import" not in text, "something from outside")
         began = time.monotonic()
         browser.open(at.write("page.html", text), READY)
@@ -314,16 +325,16 @@ def main() -> int:
     program = pathlib.Path(sys.argv[1]).resolve()
     tests = {name[5:]: test for name, test in globals().items() if name.startswith("test_")}
     passed, failed, skipped = 0, 0, 0
-    for name in sys.argv[2:] or tests:
-        fault = tried(tests[name], program)
-        if fault is None:
-            passed += 1
-        elif isinstance(fault, Skipped):
-            skipped += 1
-            print(f"pictures: the trial {name} was skipped: {fault}")
-        else:
-            failed += 1
-            print(f"pictures: {name}: {fault if isinstance(fault, Failed) else repr(fault)}")
+    with concurrent.futures.ThreadPoolExecutor(AT_ONCE) as pool:
+        for name, fault in pool.map(lambda name: (name, tried(tests[name], program)), sys.argv[2:] or tests):
+            if fault is None:
+                passed += 1
+            elif isinstance(fault, Skipped):
+                skipped += 1
+                print(f"pictures: the trial {name} was skipped: {fault}")
+            else:
+                failed += 1
+                print(f"pictures: {name}: {fault if isinstance(fault, Failed) else repr(fault)}")
     print(f"pictures: {passed} passed, {failed} failed" + (f", {skipped} skipped" if skipped else ""))
     return 1 if failed else 0
 
