@@ -30,7 +30,7 @@ import time
 from collections.abc import Callable, Iterator
 from multiprocessing.queues import SimpleQueue
 from multiprocessing.sharedctypes import Synchronized
-from typing import TypeAlias
+from typing import TypeAlias, cast
 
 import cases
 
@@ -324,7 +324,7 @@ def main() -> int:
 
 def compare_all(options: argparse.Namespace, programs: Programs) -> int:
     began = time.monotonic()
-    taken: Taken = multiprocessing.Value(ctypes.c_longlong, options.first)
+    taken = cast(Taken, multiprocessing.Value(ctypes.c_longlong, options.first))
     found: Found = multiprocessing.SimpleQueue()
     workers = [multiprocessing.Process(target=take_shares, args=(options, programs, taken, found)) for _ in range(options.jobs)]
     for worker in workers:

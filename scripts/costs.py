@@ -1,0 +1,252 @@
+#!/usr/bin/env python3
+"""Measures rubis beside the plain program: scripts/costs.py [TABLE..] [--program FILE] [--small]
+
+The tables are `clock`, `count`, `busiest` and `hostile`; without a name, all of them. Each is written as README, the guide and
+docs/COSTS.md have it, under the machine and the date. Both programs get the same inputs, one run after the other, and their
+answers have to be the same bytes.
+
+- clock: processor time and time by the clock, each the least of five runs, and peak memory.
+- count: work that valgrind counts, with one worker: instructions, 10 for each miss of a cache of 32 KiB and 100 for each of one of
+  8 MiB. It is the same on a busy machine, and knows nothing of the kernel and of waiting.
+- busiest: the work of each thread with four workers (scripts/busiest.py).
+- hostile: inputs that somebody may send to slow rubis down, at n, 2n and 4n: processor time of one run, or peak memory.
+
+--small takes a tenth of each size. Needs `cargo`, `valgrind` and /usr/bin/time. The whole takes some forty minutes."""
+
+import argparse
+import contextlib
+import dataclasses
+import datetime
+import os
+import pathlib
+import re
+import subprocess
+import sys
+import tempfile
+import time
+from collections.abc import Callable, Iterator
+
+import busiest
+import workloads
+from workloads import Work
+
+TOP = pathlib.Path(__file__).resolve().parent.parent
+PLAIN = TOP / "plain/target/release/plain"
+RUBIS = TOP / "crates/rubis_app/out/rubis_app"
+RUNS = 5
+CACHES = ["--cache-sim=yes", "--I1=32768,8,64", "--D1=32768,8,64", "--LL=8388608,16,64"]
+FIRST_MISS = 10
+LAST_MISS = 100
+
+# A run that takes longer is ended, and shown as more than that.
+PATIENCE = 300
+
+
+@dataclasses.dataclass
+class Cost:
+    """What a run took."""
+
+    processor: float
+    clock: float
+    memory: float
+    output: bytes
+
+    def least(self, other: "Cost") -> "Cost":
+        return Cost(min(self.processor, other.processor), min(self.clock, other.clock), max(self.memory, other.memory), self.output)
+
+
+@contextlib.contextmanager
+def in_file(text: bytes) -> Iterator[str]:
+    with tempfile.NamedTemporaryFile(dir="/dev/shm") as file:
+        file.write(text)
+        file.flush()
+        yield file.name
+
+
+def measured(program: str, work: Work, more: list[str]) -> Cost:
+    """One run. /usr/bin/time starts it, since the peak memory of a process begins with that of what started it."""
+    with in_file(work.text) as records, tempfile.NamedTemporaryFile("r") as note, open(records, "rb") as source:
+        command = ["/usr/bin/time", "-f", "%U %S %M", "-o", note.name, program, *work.command, *more]
+        began = time.perf_counter()
+        done = subprocess.run(command, stdin=source, capture_output=True, timeout=PATIENCE)
+        took = time.perf_counter() - began
+        user, system, memory = note.read().split("\n")[-2].split()
+        return Cost(float(user) + float(system), took, int(memory) / 1024, done.stdout)
+
+
+def counted(program: str, work: Work, more: list[str]) -> tuple[float, bytes]:
+    """The counted work of one run, and its output."""
+    with in_file(work.text) as records, tempfile.NamedTemporaryFile("r") as counts, open(records, "rb") as source:
+        tool = ["valgrind", "--tool=cachegrind", *CACHES, f"--cachegrind-out-file={counts.name}"]
+        done = subprocess.run([*tool, program, *work.command, *more], stdin=source, capture_output=True, check=True)
+        text = counts.read()
+    events = re.search(r"^events: (.*)$", text, re.M)
+    summary = re.search(r"^summary: (.*)$", text, re.M)
+    assert events and summary
+    of = dict(zip(events[1].split(), map(int, summary[1].split())))
+    first = of["I1mr"] + of["D1mr"] + of["D1mw"]
+    last = of["ILmr"] + of["DLmr"] + of["DLmw"]
+    return of["Ir"] + FIRST_MISS * first + LAST_MISS * last, done.stdout
+
+
+def workers(work: Work, settings: str) -> list[str]:
+    """The options that a command with workers gets."""
+    return settings.split() if work.command[0] in ("site", "world") else []
+
+
+@dataclasses.dataclass
+class Programs:
+    rubis: str
+    plain: str
+    scale: int
+
+    def size(self, many: int) -> int:
+        return max(many // self.scale, 200)
+
+    def same(self, rubis: bytes, plain: bytes) -> str:
+        return "" if rubis == plain else " (OTHER BYTES)"
+
+    def audit(self, many: int) -> Work:
+        """An audit of about so many records, of a world that the plain program runs."""
+        return workloads.audit_of(measured(self.plain, workloads.world_with_logs(many), []).output)
+
+
+def usual(programs: Programs) -> Iterator[tuple[str, Work, str]]:
+    """The usual runs: what each is, and its settings."""
+    one = "--workers 1"
+    size = programs.size
+    yield "{:,}: users, and two listings of all so far", workloads.users(size(200_000)), one
+    yield "{:,} requests of all kinds", workloads.requests(size(100_000)), one
+    yield "the same with 1,000 small listings among them: {:,}", workloads.requests(size(100_000), size(1_000)), one
+    yield "{:,} records of a world of four sites, and what they send", workloads.world(size(100_000)), one
+    in_order = workloads.in_order(size(1_000_000))
+    yield "{:,} messages of another site, in order", in_order, one
+    yield "the same with `--batch 8192 --shards 16` and 4 workers: {:,}", in_order, "--batch 8192 --shards 16 --workers 4"
+    yield "the same with the defaults, 2 workers and batches of 64: {:,}", in_order, ""
+    yield "an audit of {:,} records", programs.audit(size(100_000)), one
+    yield "an audit of {:,} records", programs.audit(size(1_000_000)), one
+
+
+def clock(programs: Programs) -> None:
+    print("| records | processor time | by the clock | memory | plain: time | memory | times as much |\n|---|---|---|---|---|---|---|")
+    for name, work, settings in usual(programs):
+        rubis = measured(programs.rubis, work, workers(work, settings))
+        plain = measured(programs.plain, work, [])
+        for _ in range(RUNS - 1):
+            rubis = rubis.least(measured(programs.rubis, work, workers(work, settings)))
+            plain = plain.least(measured(programs.plain, work, []))
+        what = name.format(work.records()) + programs.same(rubis.output, plain.output)
+        times = f"{rubis.processor / max(plain.processor, 0.01):.1f}"
+        print(f"| {what} | {rubis.processor:.2f} s | {rubis.clock:.2f} s | {rubis.memory:.0f} MiB | {plain.processor:.2f} s | {plain.memory:.0f} MiB | {times} |", flush=True)
+
+
+def count(programs: Programs) -> None:
+    size = programs.size
+    audit = programs.audit(size(100_000))
+    works: list[tuple[str, Work]] = [
+        ("messages in order", workloads.in_order(size(100_000))),
+        ("messages shuffled", workloads.shuffled(size(100_000))),
+        ("messages in reverse order", workloads.reversed_order(size(100_000))),
+        ("requests", workloads.requests(size(100_000))),
+        ("requests with small listings", workloads.requests(size(100_000), size(1_000))),
+        ("users with two listings", workloads.users(size(100_000))),
+        ("a world of four sites", workloads.world(size(100_000))),
+        ("an audit", audit),
+        ("a widening", Work(["widen", "--sites", "4"], audit.text)),
+    ]
+    print("| records | a record: rubis | plain | times as much |\n|---|---|---|---|")
+    for name, work in works:
+        rubis, ours = counted(programs.rubis, work, workers(work, "--workers 1"))
+        plain, theirs = counted(programs.plain, work, [])
+        many = work.records()
+        print(f"| {many:,}: {name}{programs.same(ours, theirs)} | {rubis / many:,.0f} | {plain / many:,.0f} | {rubis / plain:.2f} |", flush=True)
+
+
+def busiest_threads(programs: Programs) -> None:
+    text = busiest.messages(programs.size(300_000))
+    one, alone = busiest.counted(programs.rubis, busiest.ONE, text)
+    four, together = busiest.counted(programs.rubis, busiest.FOUR, text)
+    whole = sum(work for _, work in one)
+    shares = sorted((work / whole for _, work in four), reverse=True)
+    print(f"Of {programs.size(300_000):,} messages in order, with four workers, batches of 8,192 and 16 shards, the busiest thread does {shares[0]:.2f} of the work of a run with one worker, and all together {sum(shares):.2f}{programs.same(alone, together)}.", flush=True)
+
+
+@dataclasses.dataclass
+class Hostile:
+    """An input that somebody may send; `memory` says that memory counts, and not time."""
+
+    what: str
+    many: int
+    make: Callable[[int], Work]
+    memory: bool = False
+
+
+EMPTY_WORLD = ["world", "--sites", "16"]
+
+HOSTILE = [
+    Hostile("an audit of n users with usual nicknames", 25_000, lambda many: workloads.audit_of_users(many, False)),
+    Hostile("an audit of n users with chosen nicknames", 25_000, lambda many: workloads.audit_of_users(many, True)),
+    Hostile("n pairs of a comment and `list,users`, of three users", 10_000, workloads.few_users_behind_many_rows),
+    Hostile("an audit of n logs of nothing", 100_000, workloads.repeated(["audit"], "site,0")),
+    Hostile("n audits of a world of 16 empty sites", 500, workloads.repeated(EMPTY_WORLD, "audit")),
+    Hostile("n `list,categories` of an empty site", 10_000, workloads.repeated(["site"], "list,categories")),
+    Hostile("n `list,tables` of an empty site", 10_000, workloads.repeated(["site"], "list,tables")),
+    Hostile("a world of n records that is audited at every tenth", 2_500, workloads.audited_world),
+    Hostile("an audit of 16 logs of n messages", 15_000, workloads.audit_of_sixteen, True),
+    Hostile("n comments of 200 quotes, listed", 50_000, workloads.quotes, True),
+    Hostile("a line of n bytes without an end", 10_000_000, workloads.endless_line, True),
+    Hostile("n commas", 2_500_000, workloads.commas, True),
+]
+
+
+def figure(program: str, work: Work, memory: bool, settings: str) -> tuple[float, bytes]:
+    try:
+        cost = measured(program, work, workers(work, settings))
+    except subprocess.TimeoutExpired:
+        return float(PATIENCE), b""
+    return (cost.memory if memory else cost.processor), cost.output
+
+
+def hostile(programs: Programs) -> None:
+    print("| input | n | rubis at n, 2n, 4n | plain | times as much at 4n |\n|---|---|---|---|---|")
+    for one in HOSTILE:
+        many = programs.size(one.many)
+        ours: list[float] = []
+        theirs: list[float] = []
+        same = ""
+        for times in (1, 2, 4):
+            work = one.make(times * many)
+            rubis, output = figure(programs.rubis, work, one.memory, "--workers 1")
+            plain, expected = figure(programs.plain, work, one.memory, "")
+            ours.append(rubis)
+            theirs.append(plain)
+            same = same or programs.same(output, expected)
+        unit, form = ("MiB", "{:.0f}") if one.memory else ("s", "{:.2f}")
+        shown = [", ".join(form.format(value) for value in values) + f" {unit}" for values in (ours, theirs)]
+        print(f"| {one.what}{same} | {many:,} | {shown[0]} | {shown[1]} | {ours[-1] / max(theirs[-1], 0.01):.1f} |", flush=True)
+
+
+def machine() -> str:
+    names = re.findall(r"^model name\s*: (.*)$", pathlib.Path("/proc/cpuinfo").read_text(), re.M)
+    return f"{os.cpu_count()} processors, {names[0] if names else 'of no name'}; {datetime.date.today():%d %B %Y}; {os.getloadavg()[0]:.1f} other things to do"
+
+
+TABLES: dict[str, Callable[[Programs], None]] = {"clock": clock, "count": count, "busiest": busiest_threads, "hostile": hostile}
+
+
+def main() -> int:
+    parser = argparse.ArgumentParser(description="Measures rubis beside the plain program.")
+    parser.add_argument("tables", nargs="*", metavar="TABLE", help=", ".join(TABLES))
+    parser.add_argument("--program", default=str(RUBIS))
+    parser.add_argument("--small", action="store_true", help="a tenth of each size")
+    options = parser.parse_args()
+    subprocess.run(["cargo", "build", "--release", "--offline", "--quiet"], cwd=TOP / "plain", check=True)
+    programs = Programs(str(pathlib.Path(options.program).resolve()), str(PLAIN), 10 if options.small else 1)
+    for name in options.tables or TABLES:
+        print(f"\n{name} ({machine()})\n", flush=True)
+        TABLES[name](programs)
+    return 0
+
+
+if __name__ == "__main__":
+    sys.exit(main())
