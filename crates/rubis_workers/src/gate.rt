@@ -1,9 +1,27 @@
 //! What a test may use to hold a worker up between a take and the work.
 
+ghost use Rattle.std.specs.Prelude.{◌≡◌};
+
 /// Called by a worker with the number of each shard that it takes, before it folds the shard's parts: each shard of a batch
 /// is taken once. It may hold the worker up; it has no part in what is done.
 pub trait Gate: Sync {
     fn taken(&self, piece: usize);
+}
+
+/// The word of a worker that the gate was told of its shard. What is done with a shard wants it, so that the gate comes first.
+#[derive(Drop)]
+pub struct Taken {
+    shard: usize,
+}
+
+impl Taken {
+    /// Tells the gate of a shard.
+    pub fn told<G: Gate>(gate: &G, shard: usize) -> Taken
+        ensures { result.shard ≡ shard }
+    {
+        gate.taken(shard);
+        Taken { shard }
+    }
 }
 
 /// The gate that does nothing.

@@ -2,6 +2,7 @@
 
 ghost use Rattle.std.specs.Prelude.{◌≡◌};
 
+use crate::gate::Taken;
 use rubis_message::Message;
 use rubis_pieces::{Done, Piece, fold_share, follow};
 use rubis_shard::PartHomes;
@@ -15,7 +16,8 @@ pub trait Task: Sync {
 
     ghost Worked: { Self → Piece → Done → Type 0 };
 
-    fn work_on(&self, piece: Piece) -> Done
+    /// Does it with a piece that was taken, once the gate was told.
+    fn work_on(&self, piece: Piece, taken: Taken) -> Done
         requires { Fits self.now piece }
         ensures { Worked self.now piece result };
 }
@@ -31,7 +33,7 @@ impl Task for FoldShares {
 
     ghost Worked = { λ _ piece done. IsWorked piece done };
 
-    fn work_on(&self, piece: Piece) -> Done {
+    fn work_on(&self, piece: Piece, _taken: Taken) -> Done {
         fold_share(piece)
     }
 }
@@ -55,7 +57,7 @@ impl<'a> Task for FollowBatch<'a> {
 
     ghost Worked = { λ f piece done. IsFollowed f.first (cores f.batch.now) piece.shard done.done done.shard };
 
-    fn work_on(&self, piece: Piece) -> Done {
+    fn work_on(&self, piece: Piece, _taken: Taken) -> Done {
         let Piece { mut shard, share } = piece;
         let done = follow(&mut shard, self.batch, self.homes, self.first);
         Done { shard, share, done }

@@ -6,7 +6,7 @@ ghost use Rattle.std.specs.Vec.{vec_capacity};
 ghost use Rattle.std.specs.Thread.{IsSync};
 ghost use Rattle.rubis_workers.specs.Work.{having, IsRoom};
 
-use crate::gate::Gate;
+use crate::gate::{Gate, Taken};
 use crate::task::Task;
 use rubis_board::{Board, Pass};
 use rubis_pieces::Done;
@@ -34,8 +34,8 @@ pub fn work<T: Task, G: Gate, R: Wait>(
         let Some(piece) = board.take(rt, &mut pass) else {
             break;
         };
-        gate.taken(piece.shard.number());
-        room.push_reserved(task.work_on(piece));
+        let taken = Taken::told(gate, piece.shard.number());
+        room.push_reserved(task.work_on(piece, taken));
     }
     (pass, room)
 }
