@@ -42,7 +42,7 @@ Decides-same_id_key k l = (yes, λ e. subst (λ m. same_id_key k m ≡ true) e i
   where
     itself : same_id_key k k ≡ true
     itself = λ i. (Decides-eqb (table_place k.table) (table_place k.table)).1 refl i && ((Decides-eqb k.site k.site).1 refl i &&
-    (Decides-eqb k.seq k.seq).1 refl i)
+        (Decides-eqb k.seq k.seq).1 refl i)
 
     yes : same_id_key k l ≡ true → k ≡ l
     yes e =
