@@ -1,5 +1,6 @@
 """Where logs part: what a verdict says of an entry, the other version of it, and what the two logs have in common."""
 
+import collections
 import dataclasses
 from collections.abc import Iterator
 
@@ -92,9 +93,7 @@ class _Parting:
         return next((place for place, message in self.places() if message.red == number), None)
 
     def order(self) -> tuple[str, Place | None]:
-        m, have = self.message, [0] * len(self.message.deps)
-        for message in self.before:
-            have[message.origin] += 1
+        m, have = self.message, collections.Counter(message.origin for message in self.before)
         if m.number != have[m.origin] + 1:
             due = f"{m.origin}.{have[m.origin] + 1}"
             return f"{m.id} stands where {due} is due", self.with_id(due)

@@ -5,7 +5,7 @@ from collections.abc import Iterable
 from shop_tool.grid import GridRow
 
 from .divergences import Log, divergence_of
-from .messages import Fault, Fields, Message, Messages, number_in
+from .messages import Fault, Fields, Message, Messages, number_at
 from .run import Event, Kind, Lane, Run, in_order
 
 
@@ -15,7 +15,7 @@ def logs_of(records: Iterable[Fields]) -> list[Log]:
     messages = Messages()
     for fields in records:
         if fields[0] == "site" and len(fields) == 2:
-            logs.append(Log(number_in(fields[1], "the site"), []))
+            logs.append(Log(number_at(fields, 1), []))
         elif fields[0] == "msg" and logs:
             logs[-1].messages.append(messages.read(fields))
         elif fields[0] != "row" or not logs:
@@ -29,7 +29,7 @@ def listed_logs(rows: Iterable[Fields]) -> list[Log]:
     messages = Messages()
     for fields in rows:
         if fields[2:4] == ["row", "log"] and len(fields) > 5:
-            site = number_in(fields[1], "the site")
+            site = number_at(fields, 1)
             if fields[4] == "1":
                 logs[site] = []
             logs.setdefault(site, []).append(messages.read(fields[5:]))

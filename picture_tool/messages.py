@@ -18,7 +18,10 @@ CAPTION = 12
 
 
 class Fault(Exception):
-    """Why there is no picture."""
+    """Why there is no picture, in one line."""
+
+    def __init__(self, text: str) -> None:
+        super().__init__(" ".join(text.split()))
 
 
 @dataclasses.dataclass(frozen=True, eq=False, slots=True)
@@ -49,9 +52,10 @@ class Message:
 
 
 class Messages:
-    """The messages of a picture, by their fields."""
+    """The messages of a picture, by their fields. `sites` is how many sites they have to count, where that is known."""
 
-    def __init__(self) -> None:
+    def __init__(self, sites: int | None = None) -> None:
+        self.sites = sites
         self._known: dict[tuple[str, ...], Message] = {}
 
     def read(self, fields: Sequence[str]) -> Message:
@@ -59,6 +63,8 @@ class Messages:
         key = tuple(fields)
         if (known := self._known.get(key)) is None:
             known = self._known[key] = _message_of(key)
+            if self.sites not in (None, len(known.deps)):
+                raise Fault(f"a message counts {len(known.deps)} sites, and there are {self.sites}: {known.record[:80]}")
         return known
 
 
@@ -84,8 +90,13 @@ def fields_of(line: str) -> Fields:
     return next(csv.reader([line]), [])
 
 
-def number_in(text: str, what: str) -> int:
-    """A whole number that isn't negative."""
-    if not (text.isascii() and text.isdecimal()):
-        raise Fault(f"{what} {text[:20]!r} is no number")
-    return int(text)
+def is_number(text: str) -> bool:
+    """Whether it is a whole number that isn't negative, and not longer than any of a record."""
+    return text.isascii() and text.isdecimal() and len(text) < 14
+
+
+def number_at(fields: Sequence[str], at: int) -> int:
+    """The number in a field of a record."""
+    if at < len(fields) and is_number(fields[at]):
+        return int(fields[at])
+    raise Fault(f"field {at + 1} is no number: {line_of(list(fields))[:80]}")

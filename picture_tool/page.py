@@ -20,6 +20,7 @@ COLOURS = {
 SHOWN = tuple(mark for mark in Mark if mark not in (Mark.STUB, Mark.LEFT_OUT))
 ON_PAGE = {
     "the step that is shown": '<circle cx="20" cy="12" r="10" fill="none" stroke="{ink}" stroke-width="2.5"/>',
+    "what the pointer is at": '<circle cx="20" cy="12" r="9" fill="none" stroke="{ink}" stroke-width="1.2" stroke-dasharray="2 2"/>',
     "what comes later, or isn't about the filter": '<circle cx="20" cy="12" r="7" fill="{red}" fill-opacity="0.38"/>',
     "many messages, where the columns are narrow":
         '<path d="M10 5v14M14 9v6M18 5v14M30 9v6" stroke="{red}" stroke-width="2"/><path d="M22 5v14M26 9v6" stroke="{blue}" stroke-width="2"/>',

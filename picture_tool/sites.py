@@ -10,7 +10,7 @@ from shop_tool.records import line_of
 from shop_tool.release import Release
 from shop_tool.times import changed
 
-from .messages import Fault, Fields, Message, Messages, number_in, records_of
+from .messages import Fault, Fields, Message, Messages, number_at, records_of
 from .run import Divergence, Event, Kind, Lane, Run, Spot, in_order
 
 
@@ -54,7 +54,7 @@ def recording_in(folder: str) -> Recording:
     if os.path.isfile(f"{folder}/setup"):
         setup = records_of(whole_lines(f"{folder}/setup"))
         if setup and setup[0][0] == "setup" and len(setup[0]) >= 3:
-            found.site, found.sites = number_in(setup[0][1], "the site"), number_in(setup[0][2], "the number of sites")
+            found.site, found.sites = number_at(setup[0], 1), number_at(setup[0], 2)
     beside = f"{os.path.dirname(os.path.abspath(folder))}/shop.json"
     if found.sites is None and os.path.isfile(beside):
         with open(beside, encoding="utf-8") as file:
@@ -82,7 +82,7 @@ class SiteReader:
         place = 0
         for row in self.recording.answers:
             if row[0] == "reply" and len(row) > 2:
-                place = number_in(row[1], "the number of an answer")
+                place = number_at(row, 1)
                 if not 0 < place <= len(self.recording.records):
                     raise Fault(f"{self.recording.name}: there is no record {place}, and an answer to it")
                 record = self.recording.records[place - 1]
@@ -97,22 +97,22 @@ class SiteReader:
 
     def _answer(self, place: int, record: Fields, row: Fields) -> None:
         if row[2] == "refused":
-            self.add(Kind.REFUSED, None, place, f"{row[4]}: {line_of(record)}")
+            self.add(Kind.REFUSED, None, place, f"{row[-1]}: {line_of(record)}")
         elif row[2] == "holding":
-            self.turns[self.add(Kind.HOLDING, None, place)] = int(record[2])
+            self.turns[self.add(Kind.HOLDING, None, place)] = number_at(record, 2)
             self.holds = True
         elif row[2] in ("held", "released"):
             message = self.messages.read(record)
             if row[2] == "held":
                 self.add(Kind.HELD, message, place)
             released = self.state.arrive(message)
-            if len(released) != (int(row[3]) if row[2] == "released" else 0):
+            if len(released) != (number_at(row, 3) if row[2] == "released" else 0):
                 raise Fault(f"{self.recording.name}: not what a site answers: {line_of(row)}")
             self._released(place, released)
 
     def _sends(self, place: int, packet: Fields) -> None:
         if packet[:1] == ["token"]:
-            self.turns[self.add(Kind.PASSED, None, place)] = int(packet[2])
+            self.turns[self.add(Kind.PASSED, None, place)] = number_at(packet, 2)
             self.holds = False
             return
         message = self.messages.read(packet)
@@ -131,7 +131,7 @@ class SiteReader:
 def run_of_sites(recordings: list[Recording]) -> Run:
     """A lane for each recording, and one for each other site of which messages came."""
     sites = _name_sites(recordings)
-    messages = Messages()
+    messages = Messages(sites)
     readers = [SiteReader(recording, sites, messages) for recording in recordings]
     for reader in readers:
         reader.read()
@@ -153,10 +153,11 @@ def run_of_sites(recordings: list[Recording]) -> Run:
 
 def _name_sites(recordings: list[Recording]) -> int:
     """Says of each recording which site it is; how many sites there are."""
-    counted = [len(packet[5].split(":")) for recording in recordings for packet in _packets(recording)[:1]]
+    messages = Messages()
+    counted = [len(messages.read(packet).deps) for recording in recordings for packet in _packets(recording)[:1]]
     told = [recording.sites for recording in recordings if recording.sites]
     for recording in recordings:
-        sent = next((int(row[3]) for row in recording.answers if row[:2] == ["send", "msg"]), None)
+        sent = next((number_at(row, 3) for row in recording.answers if row[:2] == ["send", "msg"]), None)
         recording.site = sent if sent is not None else recording.site or 0
     sites = max([*counted, *told, *(1 + (recording.site or 0) for recording in recordings)])
     if len({recording.site for recording in recordings}) < len(recordings):

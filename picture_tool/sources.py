@@ -8,7 +8,7 @@ import subprocess
 from shop_tool.records import line_of
 
 from .logs import listed_logs, logs_of, run_of_logs
-from .messages import Fault, Fields, fields_of, records_of
+from .messages import Fault, Fields, fields_of, number_at, records_of
 from .run import Run
 from .sites import Recording, recordings_of, run_of_sites
 from .worlds import Said, run_of_world, sites_in, world_said
@@ -137,7 +137,7 @@ def _site(records: Source, answers: Source | None, given: Given) -> Run:
 
 def run_of_conversation(text: str, verdict: str, given: Given) -> Run:
     """The first command of a conversation."""
-    lines = [line for line in text.split("\n") if line and not line.startswith(("#", "% "))]
+    lines = [line for line in written_out(text.split("\n")) if line and not line.startswith(("#", "% "))]
     start = next((at for at, line in enumerate(lines) if line.startswith("$ ")), None)
     if start is None:
         raise Fault("a conversation has a line `$ rubis ..`")
@@ -145,6 +145,22 @@ def run_of_conversation(text: str, verdict: str, given: Given) -> Run:
     rest = lines[start + 1 :]
     end = next((at for at, line in enumerate(rest) if line.startswith("$ ")), len(rest))
     return _conversation_of(words, rest[:end], verdict, given)
+
+
+def written_out(lines: list[str]) -> list[str]:
+    """The lines of a conversation; those between `* FIRST LAST` and `*` for each n, which stands for {n} and {n-1}."""
+    made: list[str] = []
+    again: tuple[range, list[str]] | None = None
+    for line in lines:
+        words = line.split()
+        if again is None and words[:1] == ["*"] and len(words) == 3:
+            again = range(number_at(words, 1), number_at(words, 2) + 1), []
+        elif again is not None and words == ["*"]:
+            made += [one.replace("{n}", str(n)).replace("{n-1}", str(n - 1)) for n in again[0] for one in again[1]]
+            again = None
+        else:
+            (made if again is None else again[1]).append(line)
+    return made
 
 
 def _conversation_of(words: list[str], lines: list[str], verdict: str, given: Given) -> Run:
@@ -175,4 +191,4 @@ def _said(lines: list[str]) -> list[Said]:
 
 
 def _number(words: list[str], option: str, otherwise: int) -> int:
-    return int(words[words.index(option) + 1]) if option in words else otherwise
+    return number_at(words, words.index(option) + 1) if option in words else otherwise

@@ -6,7 +6,7 @@ from shop_tool.grid import GridRow, waits_of
 from shop_tool.records import line_of
 from shop_tool.release import Release
 
-from .messages import Fault, Fields, Message, Messages, number_in
+from .messages import Fault, Fields, Message, Messages, number_at
 from .run import Event, Kind, Lane, Run
 
 Said = tuple[Fields, list[Fields]]      # a record with its answers
@@ -18,7 +18,7 @@ def world_said(records: list[Fields], rows: Iterable[Fields]) -> list[Said]:
     at = 0
     for row in rows:
         if row[:1] == ["at"] and row[2:3] == ["reply"]:
-            at = number_in(row[3], "the number of an answer")
+            at = number_at(row, 3)
         elif row[:1] in (["world"], ["audit"]):
             continue
         if not 0 < at <= len(said):
@@ -41,7 +41,7 @@ class WorldReader:
     """Follows a world record by record."""
 
     def __init__(self, sites: int) -> None:
-        self.messages = Messages()
+        self.messages = Messages(sites)
         self.states: list[Release[Message]] = [Release(sites) for _ in range(sites)]
         self.packets: list[tuple[Fields, Event]] = []
         self.made: dict[Message, Event] = {}
@@ -62,12 +62,12 @@ class WorldReader:
         reply = next((row for row in rows if row[2:3] == ["reply"]), None)
         if reply is None or len(reply) < 5:
             return
-        lane, answer = number_in(reply[1], "the site"), reply[4]
+        lane, answer = number_at(reply, 1), reply[4]
         if lane >= len(self.states):
             raise Fault(f"there is no site {lane}")
         sent: Fields = next((row[3:] for row in rows if row[2:3] == ["send"]), [])
         if answer == "refused":
-            self.add(lane, Kind.REFUSED, None, f"{reply[6]}: {line_of(record)}")
+            self.add(lane, Kind.REFUSED, None, f"{reply[-1]}: {line_of(record)}")
         elif answer in ("ok", "passed"):
             self._sends(lane, sent)
         elif answer in ("held", "released", "holding"):
@@ -84,7 +84,7 @@ class WorldReader:
         self._released(lane, self.states[lane].made(message))
 
     def _takes(self, lane: int, record: Fields, reply: Fields) -> None:
-        at = number_in(record[2], "the packet") - 1
+        at = number_at(record, 2) - 1
         if not 0 <= at < len(self.packets):
             raise Fault(f"there is no packet {record[2]}")
         packet, source = self.packets[at]
@@ -94,7 +94,7 @@ class WorldReader:
             return
         message = self.messages.read(packet)
         released = self.states[lane].arrive(message)
-        if len(released) != (int(reply[5]) if reply[4] == "released" else 0):
+        if len(released) != (number_at(reply, 5) if reply[4] == "released" else 0):
             raise Fault(f"not what a site answers: {line_of(reply)}")
         if reply[4] == "held":
             self.add(lane, Kind.HELD, message, after=source)

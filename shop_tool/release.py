@@ -1,6 +1,7 @@
 """What one site has released, what waits there, and for what: the release rule."""
 
 import heapq
+import operator
 from collections.abc import Sequence
 from typing import Generic, Protocol, TypeVar
 
@@ -49,7 +50,7 @@ class Release(Generic[M]):
     def is_ready(self, message: M) -> bool:
         if self.counts[message.origin] != message.number - 1 or message.red not in (0, self.reds + 1):
             return False
-        return all(have >= need for have, need in zip(self.counts, message.deps))
+        return all(map(operator.ge, self.counts, message.deps))
 
     def made(self, message: M) -> list[M]:
         """The site makes a message; returns what waited and is released now, in order."""

@@ -86,6 +86,22 @@ class Worlds(unittest.TestCase):
         self.assertEqual(kinds(run), [(0, "made", "0.1"), (1, "released", "0.1")])
 
 
+class Conversations(unittest.TestCase):
+    def test_repeated_lines(self) -> None:
+        run = read("$ rubis world\n* 2 4\n> at,0,item,0.1,x,1,1,1,0\nat,0,reply,{n-1},ok,0.{n-1}\n"
+                   "at,0,send,msg,1,0,{n-1},0,{n-1},item,0.1,x,1,1,1,0\n*\n")
+        self.assertEqual([event.message.id for event in run.events if event.message], ["0.1", "0.2", "0.3"])
+
+    def test_a_site(self) -> None:
+        run = read("$ rubis site --site 1 --sites 2\n> msg,1,0,2,2,1:0,user,bob\nreply,1,held\n> msg,1,0,1,1,0:0,user,ann\nreply,2,released,2\n")
+        self.assertEqual([row.has for row in run.rows], [(2, 0)])
+        self.assertEqual([event.kind for event in run.events if run.lanes[event.lane].site == 1], [Kind.HELD, Kind.RELEASED, Kind.RELEASED])
+
+    def test_messages_that_count_other_sites(self) -> None:
+        with self.assertRaisesRegex(Fault, "a message counts 3 sites, and there are 2"):
+            read(CONVERSATION.replace("--sites 3", "--sites 2"))
+
+
 class Folders(unittest.TestCase):
     def setUp(self) -> None:
         folder = tempfile.TemporaryDirectory()
@@ -155,7 +171,7 @@ class Logs(unittest.TestCase):
 
     def test_bad_records_are_refused(self) -> None:
         for text, fault in (("site,0\nmsg,1,0,x,1,0,user,ann\n", "not a message"), ("site,0\nmsg,1,3,1,1,0:0,user,ann\n", "not a message"),
-                            ("site,0\nuser,ann\n", "no record of an audit"), ("site,x\n", "is no number")):
+                            ("site,0\nuser,ann\n", "no record of an audit"), ("site,x\n", "field 2 is no number")):
             with self.assertRaisesRegex(Fault, fault):
                 read(text)
 
