@@ -36,6 +36,7 @@ use Rattle.rubis_model.specs.Meaning.{meaning_row}
 use Rattle.rubis_model.specs.Site.{Place, Replica, opening_at, arrived}
 use Rattle.rubis_model.specs.System.{World, Event, AreEvents, site, run, start}
 use Rattle.rubis_model.specs.System.Event.{At, Deliver}
+use Rattle.rubis_model.specs.RecordedRuns.{IsTextOfARun, record_events, world_at}
 use Rattle.rubis_model.specs.WorldRecords.{world_answers, world_output_of}
 use Rattle.rubis_laws.proofs.Keeps.{start_sound}
 use Rattle.rubis_laws.proofs.Room.{room_start}
@@ -142,6 +143,34 @@ token_output = refl
 -- who passed it doesn't hold it any more
 token_twice : answers 1000000 (At 0 (request.Pass 1) ∷ At 0 (request.Pass 1) ∷ []) (start 2) ≡ Ok (happened.Sent 1) ∷ Err NoToken ∷ []
 token_twice = refl
+
+-- ---- where records lead, and what is no text of their run
+
+token_events : record_events 2 token_records ≡
+    At 0 (request.Pass 1) ∷ Deliver 1 1 ∷ At 1 (request.Pass 0) ∷ Deliver 1 1 ∷ Deliver 0 1 ∷ Deliver 0 2 ∷ []
+unfolding token_records request_at take_at take_delivery take_audit take_site request_of take_request take_kind kind_of number_of digits
+token_events = refl
+
+-- before the first record site 0 holds the token, after it nobody does, and after the second one site 1 does
+first_holds : (site (world_at 2 1000000 token_records 0) 0).held ≡ Some 0
+unfolding token_records
+first_holds = refl
+
+nobody_holds : (site (world_at 2 1000000 token_records 1) 0).held ≡ None
+unfolding token_records request_at take_at take_delivery take_audit take_site request_of take_request take_kind kind_of number_of digits
+nobody_holds = refl
+
+other_holds : (site (world_at 2 1000000 token_records 2) 1).held ≡ Some 0
+unfolding token_records request_at take_at take_delivery take_audit take_site request_of take_request take_kind kind_of number_of digits
+other_holds = refl
+
+-- the text of a run has the answers to all records, and to no others
+no_answers : IsTextOfARun 2 1000000 token_records [] → ⊥
+no_answers t = let e = t.text ∙ token_output in absurd cc
+
+answer_to_none : (row : List (List ℕ)) → IsTextOfARun 2 1000000 [] (row ∷ []) → ⊥
+unfolding world_answers
+answer_to_none row t = let e : row ∷ [] ≡ [] = t.text in absurd cc
 
 -- ---- what is no event, and no request
 
