@@ -461,7 +461,8 @@ class Picture {
   label(at) {
     const {run} = this, x = this.x(run.column[at]), y = this.y(run.lane[at]), m = run.messageOf(at), kind = run.kindOf(at);
     if (x < NAMES + 4) return;
-    if (m && (m.id.length < 6 || this.step > m.id.length * 7)) this.text(x, y - 17, m.id.length < 5 ? 11 : 10, m.id, kind === "made" ? run.colours.ink : run.colours.grey);
+    const found = run.divergence, lift = found && (at === found.at || at === found.other) ? 22 : 17;
+    if (m && (m.id.length < 6 || this.step > m.id.length * 7)) this.text(x, y - lift, m.id.length < 5 ? 11 : 10, m.id, kind === "made" ? run.colours.ink : run.colours.grey);
     if (this.step < CAPTIONS) return;
     const words = kind === "made" ? run.caption(m) : kind === "held" ? "held" : kind === "refused" ? run.texts[at].split(":")[0] : kind === "passed" ? "pass" : kind === "holding" ? "token" : "";
     if (words) this.text(x, y + 26, 10, words, run.colours.ink);
@@ -792,6 +793,22 @@ class Page {
       button.onclick = () => { this.go(at); el("canvas").focus(); };
       el("fault").append(button, " ");
     }
+    if (["Clash", "Order", "RedGap"].includes(found.kind) && found.at >= 0 && found.other >= 0) this.versions(found);
+  }
+
+  // Both versions, side by side.
+  versions(found) {
+    const {run} = this, sides = [found.at, found.other], messages = sides.map(at => run.messageOf(at));
+    const rows = [["", ...sides.map(at => `${run.lanes[run.lane[at]][1]}, ${run.placed} ${run.numbers[at]}`)],
+      ["id", ...messages.map(m => m.id)], ["red number", ...messages.map(m => m.red || "blue")],
+      ["counts", ...messages.map(m => m.deps.join(":"))], ["shadow", ...messages.map(m => m.shadow.join(","))]];
+    el("versions").hidden = false;
+    el("versions").replaceChildren(...rows.map((texts, place) => {
+      const row = document.createElement("tr");
+      texts.forEach((text, column) => this.step.cell(row, text, column && place ? "td" : "th"));
+      if (place && texts[1] !== texts[2]) row.className = "differs";
+      return row;
+    }));
   }
 
   // On paper: the part that is seen, sharper, with its messages as a table.

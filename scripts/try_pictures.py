@@ -24,7 +24,7 @@ from picture_tool.tests.shops import MadeShop, Network  # noqa: E402
 
 AT_ONCE = 3         # most trials wait for another process
 MANY, MOST_BYTES, MOST_SECONDS = 20_000, 3_000_000, 5.0
-FRAME = 100.0       # ms: what one drawing of 20,000 messages may take on a machine with other work; half of them a quarter of it
+HALF, ALL = 25.0, 1000.0    # ms: what half of the drawings and steps of 20,000 messages may take, and any, on a machine with other work
 READY = "document.documentElement?.dataset.ready === 'yes'"
 CLASH = "site,0\nmsg,1,0,1,1,0:0,user,ann\nmsg,1,0,2,2,1:0,user,eve\nsite,1\nmsg,1,0,1,1,0:0,user,ann\nmsg,1,0,2,2,1:0,user,bob\n"
 
@@ -278,6 +278,19 @@ def test_page_by_filter(at: Folder) -> None:
         expect(not browser.faults, f"{browser.faults}")
 
 
+def test_page_of_a_clash(at: Folder) -> None:
+    """Both versions stand side by side, and the page goes to each of them."""
+    needs_browser()
+    with Browser() as browser:
+        page(at, browser, at.write("clash", CLASH), "--verdict", "audit,Clash,2,2")
+        expect(said(browser, "fault").startswith("Clash: two messages have one id."), said(browser, "fault"))
+        rows = browser.value("[...document.querySelectorAll('#versions tr.differs td')].map(cell => cell.textContent)")
+        expect(rows == ["user,bob", "user,eve"], f"{rows}")
+        told = browser.value("[...document.querySelectorAll('#fault button')].map(button => { button.click(); return el('words').textContent; })")
+        expect(told == ["site 1 makes 0.2, red 2: user,bob", "site 0 makes 0.2, red 2: user,eve", "site 1 releases 0.1: user,ann"], f"{told}")
+        expect(not browser.faults, f"{browser.faults}")
+
+
 def test_page_of_many(at: Folder) -> None:
     """20,000 messages: how long it takes to open, to step, and to draw at every zoom; nothing comes from outside; it is printed."""
     needs_browser()
@@ -299,7 +312,7 @@ def test_page_of_many(at: Folder) -> None:
             half, most = found_[len(found_) // 2], found_[-1]
             times_ = f"{len(found_)} {name}, half within {half:.1f} ms, all within {most:.1f} ms"
             print(f"pictures: a page of {MANY:,} messages, opened in {opened:.1f} s: {times_}")
-            expect(half < FRAME / 4 and most < 4 * FRAME, f"{name}: half {half:.1f} ms, all {most:.1f} ms")
+            expect(half < HALF and most < ALL, f"{name}: half {half:.1f} ms, all {most:.1f} ms")
         browser.value("page.picture.step = 60; page.go(5000)")
         browser.paper(str(at.path / "page.pdf"))
         expect((at.path / "page.pdf").read_bytes().startswith(b"%PDF"), "paper")

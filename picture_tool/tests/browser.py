@@ -1,10 +1,12 @@
 """A headless browser that tests drive: Chromium over its debugging pipe."""
 
 import base64
+import fcntl
 import json
 import os
 import shutil
 import subprocess
+import sys
 import tempfile
 import time
 from typing import Any
@@ -13,10 +15,20 @@ NAMES = ("chromium", "chromium-browser", "google-chrome")
 KEYS = {"ArrowRight": 39, "ArrowLeft": 37, "ArrowUp": 38, "ArrowDown": 40, "Home": 36, "End": 35, "Escape": 27, "Tab": 9}
 SECONDS = 30
 
+# The browser reads its file 3, and writes its file 4.
+AS_3_AND_4 = "import os, sys; os.dup2(int(sys.argv[1]), 3); os.dup2(int(sys.argv[2]), 4); os.execv(sys.argv[3], sys.argv[3:])"
+
 
 def found() -> str | None:
     """The browser of this machine, if it has one."""
     return next((path for name in NAMES if (path := shutil.which(name))), None)
+
+
+def high(file: int) -> int:
+    """The same file under a number that is neither 3 nor 4."""
+    other = fcntl.fcntl(file, fcntl.F_DUPFD_CLOEXEC, 10)
+    os.close(file)
+    return other
 
 
 class Browser:
@@ -31,13 +43,14 @@ class Browser:
     def __enter__(self) -> "Browser":
         program = found()
         assert program
-        get, self.put = os.pipe()           # the browser reads the file 3, and writes the file 4
+        get, self.put = os.pipe()
         self.get, put = os.pipe()
-        moved = f"exec {program} \"$@\" 3<&{get} 4>&{put}"
+        get, put = high(get), high(put)
         words = ["--headless", "--no-sandbox", "--disable-gpu", "--hide-scrollbars", "--remote-debugging-pipe", "--no-first-run",
                  f"--user-data-dir={self.folder.name}", f"--window-size={self.width},{self.height}"]
-        self.process = subprocess.Popen(["sh", "-c", moved, "sh", *words], pass_fds=(get, put), stdin=subprocess.DEVNULL,
-                                        stdout=subprocess.DEVNULL, stderr=subprocess.DEVNULL)
+        command = [sys.executable, "-c", AS_3_AND_4, str(get), str(put), program, *words]
+        self.process = subprocess.Popen(
+            command, pass_fds=(get, put), stdin=subprocess.DEVNULL, stdout=subprocess.DEVNULL, stderr=subprocess.DEVNULL)
         os.close(get)
         os.close(put)
         try:
