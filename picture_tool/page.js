@@ -245,7 +245,7 @@ class Filter {
 class Picture {
   constructor(run, filter, canvas, map) {
     Object.assign(this, {run, filter, canvas, map});
-    this.lane = run.lanes.length > 8 ? 46 : 66;
+    this.lane = run.lanes.length > 8 ? 56 : 66;
     this.left = 0;                                          // the column at the left edge
     this.step = 60;                                         // px a column
     this.at = 0;                                            // the event that is shown
@@ -310,6 +310,7 @@ class Picture {
     pen.setTransform(this.scale, 0, 0, this.scale, 0, 0);
     pen.fillStyle = "#fff";
     pen.fillRect(0, 0, this.width, this.height);
+    this.boxes = [];                                        // of the words
     this.first = Math.floor(this.left);
     this.end = Math.ceil(this.column(this.width));
     this.token();
@@ -456,16 +457,27 @@ class Picture {
     pen.strokeStyle = "#fff"; pen.lineWidth = 3; pen.setLineDash([]); pen.lineJoin = "round";
     pen.strokeText(text, x, y);
     pen.fillText(text, x, y);
+    const half = pen.measureText(text).width / 2;
+    this.boxes.push({text, left: x - half, right: x + half, top: y - 0.78 * size, bottom: y + 0.22 * size});
+  }
+
+  // The words, or as many of their letters as are no wider.
+  fitted(words, width, size) {
+    this.pen.font = `${size}px ${FONT}`;
+    if (this.pen.measureText(words).width <= width) return words;
+    let count = words.length - 1;
+    while (count > 1 && this.pen.measureText(words.slice(0, count) + "…").width > width) count--;
+    return words.slice(0, count) + "…";
   }
 
   label(at) {
     const {run} = this, x = this.x(run.column[at]), y = this.y(run.lane[at]), m = run.messageOf(at), kind = run.kindOf(at);
     if (x < NAMES + 4) return;
     const found = run.divergence, lift = found && (at === found.at || at === found.other) ? 22 : 17;
-    if (m && (m.id.length < 6 || this.step > m.id.length * 7)) this.text(x, y - lift, m.id.length < 5 ? 11 : 10, m.id, kind === "made" ? run.colours.ink : run.colours.grey);
+    if (m && this.step > m.id.length * 6.4) this.text(x, y - lift, m.id.length < 5 ? 11 : 10, m.id, kind === "made" ? run.colours.ink : run.colours.grey);
     if (this.step < CAPTIONS) return;
     const words = kind === "made" ? run.caption(m) : kind === "held" ? "held" : kind === "refused" ? run.texts[at].split(":")[0] : kind === "passed" ? "pass" : kind === "holding" ? "token" : "";
-    if (words) this.text(x, y + 26, 10, words, run.colours.ink);
+    if (words) this.text(x, y + 23, 10, this.fitted(words, this.step - 5, 10), run.colours.ink);
   }
 
   // Where columns are narrower than marks: at most one tick for each px and lane.

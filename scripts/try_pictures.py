@@ -196,6 +196,26 @@ def test_labels(at: Folder) -> None:
             expect(count > 5 and not meet, f"{words} has {count} labels, of which these meet: {meet}")
 
 
+def test_labels_of_the_page(at: Folder) -> None:
+    """On the page too no labels meet, at any zoom at which there are some."""
+    needs_browser()
+    wide = CLASH.replace("eve", "w" * 20).replace("bob", "m" * 20)
+    with Browser() as browser:
+        for words in ([at.shop("four", MadeShop(4, 1200, 1))], [at.shop("sixteen", MadeShop(16, 40, 2))], [at.write("clash", wide), "--verdict", "audit,Clash,2,2"]):
+            page(at, browser, *words)
+            count, meet = browser.value("""(() => {
+              const p = page.picture, meet = []; let count = 0;
+              for (p.step = 25; p.step < 110; p.step += 3) for (const part of [0, 0.4, 1]) {
+                p.move(part * page.run.columns); p.draw(); count += p.boxes.length;
+                p.boxes.forEach((a, at) => p.boxes.slice(at + 1).forEach(b => {
+                  if (a.left < b.right && b.left < a.right && a.top < b.bottom && b.top < a.bottom) meet.push([p.step, a.text, b.text]);
+                }));
+              }
+              return [count, meet.slice(0, 4)];
+            })()""")
+            expect(count > 50 and not meet, f"{words} has {count} labels, of which these meet: {meet}")
+
+
 def page(at: Folder, browser: Browser, *words: str) -> None:
     path = at.write("page.html", at.picture("--html", *words)[0])
     browser.open(path, READY)
