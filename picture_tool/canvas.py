@@ -1,6 +1,7 @@
 """An SVG that is being drawn: shapes, and texts that know their boxes."""
 
 import dataclasses
+import re
 from html import escape
 
 from .colours import INK, WHITE
@@ -19,6 +20,14 @@ _ADVANCES = {
     (684, 686, 698, 770, 632, 575, 775, 752, 295, 295, 656, 557, 863, 748, 787, 603, 787, 695, 635, 611, 732, 684, 989, 685, 611, 685),
 ))
 BOLD = 1.13
+
+
+_NO_XML = re.compile("[^\t\n\r\x20-\ud7ff\ue000-\ufffd\U00010000-\U0010ffff]")
+
+
+def escaped(text: str) -> str:
+    """A text as XML has it; what no XML may have is shown as such."""
+    return escape(_NO_XML.sub("\ufffd", text), False)
 
 
 def text_width(text: str, size: float, is_bold: bool = False) -> float:
@@ -55,7 +64,7 @@ class Label:
         more += ' font-weight="bold"' if self.is_bold else ""
         more += ' class="h"' if self.has_halo else ""
         place = f'x="{number(self.x)}" y="{number(self.y)}" font-size="{number(self.size)}"'
-        return f'<text {place} fill="{self.colour}"{more}>{escape(self.text, False)}</text>'
+        return f'<text {place} fill="{self.colour}"{more}>{escaped(self.text)}</text>'
 
 
 def overlapping(labels: list[Label]) -> list[tuple[Label, Label]]:
@@ -100,7 +109,7 @@ class Canvas:
         size = f'width="{number(width)}" height="{number(height)}" viewBox="0 0 {number(width)} {number(height)}"'
         head = [
             f'<svg xmlns="http://www.w3.org/2000/svg" {size} font-family="{FONT}" role="img" aria-label="{escape(title)}">',
-            f"<title>{escape(title, False)}</title>",
+            f"<title>{escaped(title)}</title>",
             f'<style>.h{{paint-order:stroke;stroke:{WHITE};stroke-opacity:.85;stroke-width:3.5;stroke-linejoin:round}}</style>',
             f'<rect width="{number(width)}" height="{number(height)}" fill="{WHITE}"/>',
         ]

@@ -1,8 +1,6 @@
 """The picture of lanes as SVG."""
 
-from html import escape
-
-from .canvas import Canvas, Label, text_width
+from .canvas import Canvas, Label, escaped, text_width
 from .colours import BLUE, GREY, INK, LANE, PALE, RED, WHITE
 from .layout import CAPTION_SIZE, ID_SIZE, NAME_SIZE, RADIUS, SMALL, Layout, above, below
 from .marks import GAPS, Mark, band, bow, cross, diamond, dot, legend, ring, TRAVELS
@@ -158,7 +156,7 @@ class Drawing:
                 self.marks.add(Mark.OTHER if is_other else Mark.FAULT)
 
     def event(self, event: Event) -> None:
-        self.canvas.put(f"<g><title>{escape(self.record(event), False)}</title>")
+        self.canvas.put(f"<g><title>{escaped(self.record(event))}</title>")
         x, y = at = self.at.at(event)
         m = event.message
         if event.kind is Kind.MADE and m:

@@ -76,6 +76,7 @@ def source_of(path: str, text: str | None = None, kind: str | None = None) -> So
     if text is None:
         with open(path, "rb") as file:
             text = file.read().decode("utf-8", "replace")
+    text = text.removeprefix("\ufeff")      # a byte order mark
     return Source(path, kind or kind_of_text(text, path), text)
 
 

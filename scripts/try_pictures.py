@@ -10,6 +10,7 @@ import concurrent.futures
 import functools
 import os
 import pathlib
+import re
 import subprocess
 import sys
 import tempfile
@@ -148,6 +149,17 @@ def test_inputs(at: Folder) -> None:
     expect((at.path / "last.svg").read_text().count(" earlier<") > 0, "a picture in a file")
     grid = at.picture(shop, "--grid", "--text")[0]
     expect("* holds the token" in grid and "last answer" in grid, grid)
+
+
+def test_kept(at: Folder) -> None:
+    """What `rubis keep` keeps of odd bytes is counted as it counts."""
+    odd = b'user,ann\n\n"open\nuser,bob\ruser,cat\r\nlist,users\nitem,0.1,"a ""b"", c",7,1,100,0\nmsg,x\n\xffuser\nuser,dan'
+    folder = str(at.path / "odd")
+    subprocess.run([at.program, "keep", folder, "--sites", "2"], input=odd, capture_output=True, timeout=60, check=True)
+    titles = re.findall(r"<g><title>site 0, (\d+): (\w+): ([^<]*)</title>", at.picture(folder)[0])
+    expect([(number, kind) for number, kind, _ in titles] == [
+        ("1", "made"), ("2", "refused"), ("3", "made"), ("4", "made"), ("6", "made"), ("7", "refused"), ("8", "refused")], f"{titles}")
+    expect(titles[1][2] == "BadRecord: broken" and titles[4][2] == 'msg,1,0,4,0,3:0,item,0.1,"a ""b"", c",7,1,100,0', f"{titles}")
 
 
 def test_misuse(at: Folder) -> None:

@@ -60,6 +60,12 @@ class Lanes(unittest.TestCase):
         self.assertIn('site 1, 3: held: msg,1,0,2,0,1:0:0,item,0.1,"lamp, ""old""",7,1,100,0', titles)
 
 
+    def test_bytes_that_no_xml_has(self) -> None:
+        odd = '\ufeff$ rubis site\n> user,"a\x01<&\ufffe\x00"\nreply,1,refused,1,BadRecord\n'
+        titles = [title.text for title in ET.fromstring(drawn([], odd)).iter("{http://www.w3.org/2000/svg}title")]
+        self.assertIn('site 0, 1: refused: BadRecord: user,a\ufffd<&\ufffd\ufffd', titles)
+
+
 class Windows(unittest.TestCase):
     def setUp(self) -> None:
         self.run_ = shop(3, 200)
