@@ -3,19 +3,25 @@
 
 - Records with bytes that are no text, with other ends of line, with quotes that stay open, and with a byte order mark.
 - A request with quotes, cut off after each of its bytes.
-- Input that fails: at once (it is a folder), and after four messages (a terminal that is gone).
+- Input that fails: at once (it is a folder), and after four messages (a terminal that is gone); and a read that a signal
+  interrupts, which is made again.
 - Output that fails, and more records than a run may have: the greatest number, and one more.
 - Options at their greatest and least value and beyond, and the two faults of a command line that are the program's own.
 
 Each run has to write exactly what is said here, on standard output and on standard error, and to end with that status. Each
 difference is told; the last line says how many runs there were. The status is 1 where something differed."""
 
+import contextlib
 import dataclasses
 import os
 import pathlib
 import pty
+import signal
+import socket
+import struct
 import subprocess
 import sys
+import time
 import tty
 
 SECONDS = 120
@@ -171,6 +177,30 @@ def lost_terminals(program: str) -> list[str | None]:
     return runs
 
 
+def interrupted_read(program: str, options: str) -> str | None:
+    """A read of a socket that a signal interrupts, between two users."""
+    ours, theirs = socket.socketpair()
+    theirs.setsockopt(socket.SOL_SOCKET, socket.SO_RCVTIMEO, struct.pack("ll", SECONDS, 0))
+    with subprocess.Popen([program, "site", *options.split()], stdin=theirs, stdout=subprocess.PIPE, stderr=subprocess.PIPE) as site:
+        assert site.stdout and site.stderr
+        theirs.close()
+        ours.sendall(b"user,ann\n")
+        wrote = site.stdout.readline() + site.stdout.readline()
+        time.sleep(0.1)
+        site.send_signal(signal.SIGSTOP)
+        time.sleep(0.1)
+        site.send_signal(signal.SIGCONT)
+        time.sleep(0.1)
+        with contextlib.suppress(BrokenPipeError):
+            ours.sendall(b"user,bob\n")
+        ours.close()
+        wrote += site.stdout.read()
+        said = site.stderr.read()
+    answers = b"".join(b"reply,%d,ok,0.%d\nsend,msg,1,0,%d,%d,%d,user,%s\n" % (n, n, n, n, n - 1, who) for n, who in ((1, b"ann"), (2, b"bob")))
+    wrong = difference(Expected("", b"", answers), site.returncode, wrote, said)
+    return wrong and f"rubis site {options}, stopped and continued while it reads: {wrong}"
+
+
 def failed_writes(program: str) -> list[str | None]:
     """Output that can't be written; a run that has nothing to write is well all the same."""
     fault = b"run fault: write\n"
@@ -184,6 +214,7 @@ def main() -> int:
     program = str(pathlib.Path(sys.argv[1]).resolve())
     answers = [told(program, expected) for expected in odd_bytes() + cut_off() + command_lines()]
     answers += failed_reads(program) + lost_terminals(program) + failed_writes(program)
+    answers += [interrupted_read(program, options) for options in ("--workers 1", "--workers 2", "--workers 4 --batch 3")]
     answers += [told(program, expected) for expected in too_long()]
     faults = [answer for answer in answers if answer]
     for fault in faults:

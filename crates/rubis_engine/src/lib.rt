@@ -10,6 +10,7 @@ mod record_list;
 mod reply;
 mod run;
 mod service;
+mod signals;
 mod sink;
 
 pub use fault::{Count, OutOfMemory, RunFault};
@@ -19,4 +20,5 @@ pub use record_list::Records;
 pub use reply::Reply;
 pub use run::{Run, end_run, next_record, run_upto, stop, write_out};
 pub use service::{Answering, Course, Service};
+pub use signals::read_through_signals;
 pub use sink::Sink;

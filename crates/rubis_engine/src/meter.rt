@@ -1,15 +1,11 @@
 //! A reader that knows how much it gave.
 
 ghost use Rattle.std.specs.Prelude.{◌≡◌, ◌≤◌, ◌-◌, ◌↔◌, length, true};
-ghost use Rattle.std.specs.Io.{ReadsAtMost};
-ghost use Rattle.std.specs.Io.KnownBytes.{ReadConsumes};
 ghost use Rattle.rubis_engine.specs.Reading.{metered};
 
+use crate::signals::read_through_signals;
 use std::io;
-use std::io::{ErrorKind, Read};
-
-// How often a read is made again that a signal interrupted.
-const AGAIN: u32 = u32::MAX;
+use std::io::Read;
 
 /// A reader that counts the bytes that it gives.
 #[derive(Drop)]
@@ -32,20 +28,6 @@ fn line_ends_of(bytes: &[u8]) -> usize
         Some(last) => bytes.len() - last - 1,
         None => bytes.len(),
     }
-}
-
-// Reads, and reads again what a signal interrupted.
-fn read_through_signals<R: Read>(inner: &mut R, buf: &mut [u8]) -> io::Result<usize>
-    ensures bound { ReadsAtMost result buf.new }
-    ensures bytes { ReadConsumes (R.remaining inner.old) (R.remaining inner.new) result buf.new }
-{
-    for _ in 0..AGAIN {
-        match inner.read(buf) {
-            Err(e) if e.kind() == ErrorKind::Interrupted => {}
-            ended => return ended,
-        }
-    }
-    inner.read(buf)
 }
 
 impl<R> Meter<R> {

@@ -9,19 +9,19 @@ use Rattle.rubis_reading.proofs.held.Held.read_behind.Goals as goal
 pub returns : goal.returns
 returns g c =
     let before = g.R.Read.remaining c.args.reader.now in
-    let after = g.R.Read.remaining c.read.new.self in
+    let after = g.R.Read.remaining c.read_through_signals.new.reader in
     let xs : List ℕ = c.deref_mut.result.now in
     let end : ℕ = c.self.inside.end in
     let given : ℕ = c.in-Ok.given in
-    let few : given ≤ length c.read.new.buf = search rules in
+    let few : given ≤ length c.read_through_signals.new.buf = search rules in
     let within : end ≤ length xs = search rules in
-    let some : 0 < length c.read.new.buf = search rules in
+    let some : 0 < length c.read_through_signals.new.buf = search rules in
     let was : c.args.self.now ≡ slice_range xs c.self.inside.start end = search rules in
     let none : nat_lt 0 given ≡ false → given ≡ 0 = λ e. grind (arith, nat_tests) in
     let past : List ℕ = drop (length xs - end) (drop end xs) in
-    let written : List ℕ = take end xs ++ (c.read.new.buf ++ past) in
-    let back = with_items_is c.self.inside.buffer written (written-length xs c.read.new.buf end within (search rules) ∙ (let ok = c.self.inside.buffer.ok in let len = c.deref_mut.ensures.len in omega arith)) in
-    filled before after xs (c.read.new.buf ++ past) c.self.inside.start end given c.args.self.now _ (nat_lt 0 given) c.self.inside.on within was
+    let written : List ℕ = take end xs ++ (c.read_through_signals.new.buf ++ past) in
+    let back = with_items_is c.self.inside.buffer written (written-length xs c.read_through_signals.new.buf end within (search rules) ∙ (let ok = c.self.inside.buffer.ok in let len = c.deref_mut.ensures.len in omega arith)) in
+    filled before after xs (c.read_through_signals.new.buf ++ past) c.self.inside.start end given c.args.self.now _ (nat_lt 0 given) c.self.inside.on within was
     (ap (λ ys. slice_range ys c.self.inside.start (end + given)) back)
-    (subst (Consumes before after) (sym (take-append-le given c.read.new.buf past few)) c.in-Ok.ensures.bytes.0)
+    (subst (Consumes before after) (sym (take-append-le given c.read_through_signals.new.buf past few)) c.in-Ok.ensures.bytes.0)
     (λ e. c.in-Ok.ensures.bytes.1 e some) none
