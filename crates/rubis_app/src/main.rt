@@ -169,7 +169,7 @@ fn run_sites<R: Print + Eprint + Input + AllocGlobal + RandomSource + Threads + 
 }
 
 // Audits the logs of `sites` sites, from standard input to standard output.
-fn run_auditor<R: Print + Eprint + Input + AllocGlobal>(rt: &R, sites: u8) -> ExitCode
+fn run_auditor<R: Print + Eprint + Input + AllocGlobal + RandomSource>(rt: &R, sites: u8) -> ExitCode
     ensures misuse { SITES_MAX < sites → exit_status result ≡ 2 }
     ensures runs { sites ≤ SITES_MAX → (exit_status result ≡ 0) ⊎ (exit_status result ≡ 1) }
 {
@@ -177,12 +177,13 @@ fn run_auditor<R: Print + Eprint + Input + AllocGlobal>(rt: &R, sites: u8) -> Ex
         return misuse(rt, "there are too many sites");
     }
     let mut writer = io::writer(rt);
-    let ended = run_audit_to_exit(rt.alloc(), rt.reader(), &mut writer, sites);
+    let hashes = Hashes::random(rt);
+    let ended = run_audit_to_exit(rt.alloc(), rt.reader(), &mut writer, sites, hashes);
     end(rt, ended)
 }
 
 // Says what each of the logs of `sites` sites lacks of the others, from standard input to standard output.
-fn run_lacker<R: Print + Eprint + Input + AllocGlobal>(rt: &R, sites: u8) -> ExitCode
+fn run_lacker<R: Print + Eprint + Input + AllocGlobal + RandomSource>(rt: &R, sites: u8) -> ExitCode
     ensures misuse { SITES_MAX < sites → exit_status result ≡ 2 }
     ensures runs { sites ≤ SITES_MAX → (exit_status result ≡ 0) ⊎ (exit_status result ≡ 1) }
 {
@@ -190,7 +191,8 @@ fn run_lacker<R: Print + Eprint + Input + AllocGlobal>(rt: &R, sites: u8) -> Exi
         return misuse(rt, "there are too many sites");
     }
     let mut writer = io::writer(rt);
-    let ended = run_lack(rt.alloc(), rt.reader(), &mut writer, sites);
+    let hashes = Hashes::random(rt);
+    let ended = run_lack(rt.alloc(), rt.reader(), &mut writer, sites, hashes);
     end(rt, ended)
 }
 

@@ -215,6 +215,21 @@ walked_found sites seen after clock last shards logs at log n v k l e w m i f ot
   λ q. absurd cc,
 )
 
+-- of a log of nothing
+pub walked_nothing : (seen : Seen) (logs : List Log) (at : ℕ) (log : Log) → at < length logs → log ≡ get_or logs at log → log.messages ≡ [] → log.rows ≡ None
+    → Walked seen (take at logs) → IsWalked seen logs at None
+walked_nothing seen logs at log l e m r w other g = (
+  subst (λ (x : Log). None ≡ log_fault (messages_of_logs (take at logs)) x) same (λ i. option_or (first_fault (messages_of_logs (take at logs)) log.site [] (sym m i)) (cond (none_wrong i) (Some (kind.Rows, 0)) None)),
+  λ q. record { known = subst (λ xs. IsFaultless xs []) (sym said) w.known; sees = subst (Sees seen) (sym said) w.sees },
+)
+  where
+    same : log ≡ other
+    same = same_log logs at log other l e g
+    none_wrong : false ≡ wrong_rows log
+    none_wrong = λ i. option_map_or (λ rows. not (same_rows rows (shown_rows log.messages))) (sym r i) false
+    said : messages_of_logs (take (at + 1) logs) ≡ messages_of_logs (take at logs)
+    said = next_said at logs other l g ∙ ap (λ xs. messages_of_logs (take at logs) ++ xs) (ap (λ (x : Log). x.messages) (sym same) ∙ m) ∙ append-nil (messages_of_logs (take at logs))
+
 rows_are : (others own : List Message) (shards : List ShardState) → HoldsLog 1 (cores own) shards → table_rows listing.Tables (union shards) ≡ shown_rows own
 rows_are others own shards h = ap (table_rows listing.Tables) (union_of_log 1 (cores own) shards (omega arith) h)
 

@@ -24,7 +24,7 @@ use crate::questions::Question;
 use crate::verdicts::{write_bad_record, write_verdict};
 use rubis_engine::{Answering, Course, InputRecord, OutOfMemory, Reply, Service, Sink};
 use rubis_message::{Message, Verdict};
-use rubis_schema::{Fields, Items};
+use rubis_schema::{Fields, Hashes, Items};
 use std::alloc::{AllocError, Global};
 use std::marker::Model;
 
@@ -36,6 +36,7 @@ pub struct Auditor {
     ended: Vec<Log>,
     current: Option<Log>,
     sites: u8,
+    hashes: Hashes,
     alloc: Global,
 }
 
@@ -127,8 +128,8 @@ fn write_answer(
 }
 
 impl Auditor {
-    /// An auditor of the logs of `sites` sites that has read no log.
-    pub fn new(alloc: Global, sites: u8, asked: Question) -> Auditor
+    /// An auditor of the logs of `sites` sites that has read no log, and hashes by `hashes`.
+    pub fn new(alloc: Global, sites: u8, asked: Question, hashes: Hashes) -> Auditor
         requires { sites ≤ COUNTED_MAX }
         ensures { result ≡ record { sites = sites; asked = asked; logs = [] } }
     {
@@ -137,6 +138,7 @@ impl Auditor {
             ended: Vec::new(alloc),
             current: None,
             sites,
+            hashes,
             alloc,
         }
     }
@@ -188,7 +190,7 @@ impl<T> Service<T> for Auditor {
     fn answer_end(&mut self, _rt: &T, sink: &mut Sink) -> Result<(), OutOfMemory> {
         let current = self.current.take();
         end_log(&mut self.ended, current)?;
-        let verdict = audit(self.alloc, &self.ended, self.sites)?;
+        let verdict = audit(self.alloc, &self.ended, self.sites, self.hashes)?;
         write_answer(
             self.alloc,
             sink,

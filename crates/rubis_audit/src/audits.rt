@@ -11,22 +11,28 @@ use crate::logs::Log;
 use crate::seen::Seen;
 use crate::walks::walk;
 use rubis_message::Verdict;
+use rubis_schema::Hashes;
 use std::alloc::{AllocError, Global};
 
 /// The first fault of these logs, in order, or Agree if there is none. Logs of which it says Agree pass the checks together, and
-/// are sound: they causally serialize one RedBlue order, and the invariants hold over all of them.
+/// are sound: they causally serialize one RedBlue order, and the invariants hold over all of them. No answer depends on the hashes.
 ///
 /// # Errors
 ///
 /// `AllocError` if memory runs out.
-pub fn audit(alloc: Global, logs: &[Log], sites: u8) -> Result<Verdict, AllocError>
+pub fn audit(
+    alloc: Global,
+    logs: &[Log],
+    sites: u8,
+    hashes: Hashes,
+) -> Result<Verdict, AllocError>
     requires few { sites ≤ COUNTED_MAX }
     requires among { HaveMessagesAmong sites logs.now }
     ensures verdict { IfOk result (λ found. found ≡ verdict logs.now) }
     ensures faultless { IfOk result (λ found. found ≡ Agree → AreFaultless logs.now) }
     ensures sound { IfOk result (λ found. found ≡ Agree → AreSound logs.now) }
 {
-    let mut seen = Seen::new(alloc);
+    let mut seen = Seen::new(alloc, hashes);
     for at in 0..logs.len() {
         if let Some((kind, entry)) = walk(alloc, &mut seen, logs, at, sites)? {
             return Ok(Verdict::Found(kind, at + 1, entry));

@@ -10,14 +10,15 @@ ghost use Rattle.rubis_audit.specs.Soundness.{AgreesOnSoundLogs};
 use crate::auditor::Auditor;
 use crate::questions::Question;
 use rubis_engine::{Count, RunFault, run_upto};
-use rubis_schema::RECORDS_MAX;
+use rubis_schema::{Hashes, RECORDS_MAX};
 use std::alloc::Global;
 use std::io::{Read, Write};
 use std::mem;
 
 /// Audits the logs of `sites` sites: reads at most 4,000,000 records of `reader`, until its end or the first malformed
 /// record, and appends the one record of the audit to `writer`. If that is `audit,Agree`, the logs that the input's records
-/// say are sound: they causally serialize one RedBlue order, and the invariants hold over all of them.
+/// say are sound: they causally serialize one RedBlue order, and the invariants hold over all of them. No answer depends on the
+/// hashes.
 ///
 /// # Errors
 ///
@@ -29,13 +30,14 @@ pub fn run_audit<R: Read + Drop, W: Write>(
     reader: R,
     writer: &mut W,
     sites: u8,
+    hashes: Hashes,
 ) -> Result<Count, RunFault>
     requires { sites ≤ COUNTED_MAX }
     ensures run { IsRun (audit_account sites) RECORDS_MAX (R.remaining reader) (W.contents writer.old) (W.contents writer.new) result }
     ensures sound { IfOk result (λ _. IfSome (R.remaining reader) (λ input.
         AgreesOnSoundLogs sites (W.contents writer.old) (W.contents writer.new) (input_records input))) }
 {
-    let mut auditor = Auditor::new(alloc, sites, Question::Agreement);
+    let mut auditor = Auditor::new(alloc, sites, Question::Agreement, hashes);
     run_upto(&(), alloc, reader, writer, &mut auditor, RECORDS_MAX)
 }
 
@@ -50,13 +52,14 @@ pub fn run_audit_to_exit<R: Read + Drop, W: Write>(
     reader: R,
     writer: &mut W,
     sites: u8,
+    hashes: Hashes,
 ) -> Result<Count, RunFault>
     requires { sites ≤ COUNTED_MAX }
     ensures run { IsRun (audit_account sites) RECORDS_MAX (R.remaining reader) (W.contents writer.old) (W.contents writer.new) result }
     ensures sound { IfOk result (λ _. IfSome (R.remaining reader) (λ input.
         AgreesOnSoundLogs sites (W.contents writer.old) (W.contents writer.new) (input_records input))) }
 {
-    let mut auditor = Auditor::new(alloc, sites, Question::Agreement);
+    let mut auditor = Auditor::new(alloc, sites, Question::Agreement, hashes);
     let ended = run_upto(&(), alloc, reader, writer, &mut auditor, RECORDS_MAX);
     mem::forget(auditor);
     ended
@@ -74,11 +77,12 @@ pub fn run_lack<R: Read + Drop, W: Write>(
     reader: R,
     writer: &mut W,
     sites: u8,
+    hashes: Hashes,
 ) -> Result<Count, RunFault>
     requires { sites ≤ COUNTED_MAX }
     ensures { IsRun (lack_account sites) RECORDS_MAX (R.remaining reader) (W.contents writer.old) (W.contents writer.new) result }
 {
-    let mut auditor = Auditor::new(alloc, sites, Question::Lacks);
+    let mut auditor = Auditor::new(alloc, sites, Question::Lacks, hashes);
     let ended = run_upto(&(), alloc, reader, writer, &mut auditor, RECORDS_MAX);
     mem::forget(auditor);
     ended

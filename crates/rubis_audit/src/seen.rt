@@ -7,15 +7,17 @@ ghost use Rattle.rubis_message.specs.Message as model;
 ghost use Rattle.rubis_audit.specs.Seen.{FirstById, FirstByRed, Sees, id_in, red_in};
 
 use rubis_message::Message;
-use rubis_schema::Id;
+use rubis_schema::{Hashes, Id};
 use std::alloc::{AllocError, Global};
 use std::collections::HashMap;
 
-/// The messages of some logs, each found by its id, and a red one by its number.
+/// The messages of some logs, each found by its id, and a red one by its number. The tables of a log that is walked over are
+/// hashed by `hashes`.
 #[derive(Drop)]
 pub struct Seen<'a> {
     by_id: HashMap<Id, &'a Message>,
     by_red: HashMap<u32, &'a Message>,
+    pub(crate) hashes: Hashes,
 }
 
 // Files the message under its id, unless there is one under it already.
@@ -40,12 +42,13 @@ fn note_red<'a>(map: &mut HashMap<u32, &'a Message>, message: &'a Message) -> Re
 
 impl<'a> Seen<'a> {
     /// No messages. It takes no memory yet.
-    pub fn new(alloc: Global) -> Seen<'a>
+    pub fn new(alloc: Global, hashes: Hashes) -> Seen<'a>
         ensures { Sees result [] }
     {
         Seen {
             by_id: HashMap::new(alloc),
             by_red: HashMap::new(alloc),
+            hashes,
         }
     }
 

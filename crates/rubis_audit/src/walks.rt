@@ -20,6 +20,7 @@ use crate::seen::Seen;
 use crate::stamps::{clashes, leaves_gap, out_of_order};
 use rubis_clock::Clock;
 use rubis_message::{Kind, Message};
+use rubis_schema::Hashes;
 use rubis_shadow::Colour;
 use rubis_shard::{LogEntry, Tables};
 use std::alloc::{AllocError, Global};
@@ -34,14 +35,14 @@ struct Past<'a> {
 
 impl<'a> Past<'a> {
     // Nothing stands before it.
-    fn new(alloc: Global, sites: u8) -> Result<Past<'a>, AllocError>
+    fn new(alloc: Global, sites: u8, hashes: Hashes) -> Result<Past<'a>, AllocError>
         requires { sites ≤ COUNTED_MAX }
         ensures { IfOk result (λ past. (past.clock ≡ opening_clock sites) × (option_copied past.last_red ≡ None) × HoldsLog 1 [] past.tables) }
     {
         Ok(Past {
             clock: Clock::new(sites),
             last_red: None,
-            tables: Tables::new(alloc, 1)?,
+            tables: Tables::hashed(alloc, 1, hashes)?,
         })
     }
 
@@ -90,6 +91,35 @@ impl<'a> Past<'a> {
     }
 }
 
+// Walks over the entries and rows of a log, as `walk` does.
+fn walk_entries<'a>(
+    alloc: Global,
+    seen: &mut Seen<'a>,
+    logs: &'a [Log],
+    at: usize,
+    sites: u8,
+) -> Result<Option<(Kind, usize)>, AllocError>
+    requires place { at < length logs.now }
+    requires few { sites ≤ COUNTED_MAX }
+    requires among { HaveMessagesAmong sites logs.now }
+    requires walked { Walked seen.old (take at logs.now) }
+    ensures { IfOk result (λ found. IsWalked seen.new logs.now at (option_map (λ p. (p.0, p.1)) found)) }
+{
+    let log = &logs[at];
+    let mut past = Past::new(alloc, sites, seen.hashes)?;
+    for (n, v) in log.messages().iter().enumerate() {
+        if let Some(kind) = past.fault_of(log.site(), seen, v) {
+            return Ok(Some((kind, n + 1)));
+        }
+        past.take((n + 1) as u32, v)?;
+        seen.note(v)?;
+    }
+    if wrong_rows(alloc, log, &past.tables)? {
+        return Ok(Some((Kind::Rows, 0)));
+    }
+    Ok(None)
+}
+
 /// Walks over the log at that place, where those before it were walked over: its first fault, if it has one, by kind and
 /// entry.
 ///
@@ -109,17 +139,8 @@ pub fn walk<'a>(
     requires walked { Walked seen.old (take at logs.now) }
     ensures { IfOk result (λ found. IsWalked seen.new logs.now at (option_map (λ p. (p.0, p.1)) found)) }
 {
-    let log = &logs[at];
-    let mut past = Past::new(alloc, sites)?;
-    for (n, v) in log.messages().iter().enumerate() {
-        if let Some(kind) = past.fault_of(log.site(), seen, v) {
-            return Ok(Some((kind, n + 1)));
-        }
-        past.take((n + 1) as u32, v)?;
-        seen.note(v)?;
+    if logs[at].is_nothing() {
+        return Ok(None);
     }
-    if wrong_rows(alloc, log, &past.tables)? {
-        return Ok(Some((Kind::Rows, 0)));
-    }
-    Ok(None)
+    walk_entries(alloc, seen, logs, at, sites)
 }

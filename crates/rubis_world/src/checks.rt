@@ -14,7 +14,7 @@ use crate::faults::WorldFault;
 use crate::sites::Sites;
 use rubis_audit::{Log, audit};
 use rubis_message::{Happened, Message, Verdict};
-use rubis_schema::{Fields, Items, Listing};
+use rubis_schema::{Fields, Hashes, Items, Listing};
 use rubis_script::Fault;
 use std::alloc::{AllocError, Global};
 use std::sync::Wait;
@@ -100,11 +100,12 @@ fn logs<R: Threads + Wait + Sync>(
     Ok(logs)
 }
 
-/// The auditor's verdict on the logs of all sites, each with its tables.
+/// The auditor's verdict on the logs of all sites, each with its tables. The auditor hashes by `hashes`.
 pub fn check<R: Threads + Wait + Sync>(
     rt: &R,
     alloc: Global,
     sites: &mut Sites,
+    hashes: Hashes,
 ) -> Result<Verdict, WorldFault>
     requires few { length sites.old.world.sites ≤ SITES_MAX }
     requires among { HaveMessagesAmong (length sites.old.world.sites) (logs_of sites.old.world) }
@@ -118,5 +119,5 @@ pub fn check<R: Threads + Wait + Sync>(
         return Err(WorldFault::Site(Fault::Behind));
     }
     let logs = logs(rt, alloc, sites)?;
-    Ok(audit(alloc, &logs, sites.len() as u8)?)
+    Ok(audit(alloc, &logs, sites.len() as u8, hashes)?)
 }

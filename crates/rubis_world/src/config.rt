@@ -59,6 +59,11 @@ impl WorldConfig {
         WorldConfig { hashes, ..self }
     }
 
+    /// What all maps hash by.
+    pub(crate) fn hashes(&self) -> Hashes {
+        self.hashes
+    }
+
     /// How many sites there are.
     pub fn sites(&self) -> u8
         ensures value { result ≡ self.now.sites }

@@ -21,6 +21,7 @@ use crate::config::WorldConfig;
 use crate::faults::WorldFault;
 use crate::sites::Sites;
 use rubis_message::{Happened, Packet, Request, Verdict};
+use rubis_schema::Hashes;
 use std::alloc::{AllocError, Global};
 use std::marker::Model;
 use std::sync::Wait;
@@ -31,6 +32,7 @@ use std::thread::Threads;
 #[derive(Drop)]
 pub struct World {
     sites: Sites,
+    hashes: Hashes,
     alloc: Global,
 }
 
@@ -54,6 +56,7 @@ impl World {
     {
         Ok(World {
             sites: Sites::new(alloc, config)?,
+            hashes: config.hashes(),
             alloc,
         })
     }
@@ -114,7 +117,7 @@ impl World {
         ensures faults { IfErr result (IsCheckFault self.new) }
         ensures run { InRun self.new.world }
     {
-        check(rt, self.alloc, &mut self.sites)
+        check(rt, self.alloc, &mut self.sites, self.hashes)
     }
 
     /// All packets that were sent, in the order in which they were sent.

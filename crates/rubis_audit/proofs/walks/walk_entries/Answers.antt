@@ -2,7 +2,7 @@ use Rattle.std.proofs.Common.{◌≡◌, ◌<◌, ◌∙◌, ap, arith, false, g
 use Rattle.std.specs.Prelude.{option_copied}
 use Rattle.rubis_audit.specs.Walks.{messages_of_logs}
 use Rattle.rubis_audit.proofs.Walking.{among_at, counts_of, few_entries, found_is, ready_at, sites_at, walked_end, walked_found, walks_more, walks_none}
-use Rattle.rubis_audit.proofs.walks.walk.Goals as goal
+use Rattle.rubis_audit.proofs.walks.walk_entries.Goals as goal
 
 pub loop-n-init : goal.loop-n-init
 loop-n-init c = record {

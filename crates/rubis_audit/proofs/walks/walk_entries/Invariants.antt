@@ -2,7 +2,7 @@ use Rattle.std.proofs.Common.{◌≡◌, take}
 use Rattle.std.specs.Prelude.{option_copied}
 use Rattle.rubis_audit.specs.Walks.{messages_of_logs}
 use Rattle.rubis_audit.proofs.Walking.{Walks}
-use Rattle.rubis_audit.proofs.walks.walk.Given as goal
+use Rattle.rubis_audit.proofs.walks.walk_entries.Given as goal
 
 abbrev pub invariant-loop-n : goal.invariant-loop-n
 invariant-loop-n l = record {
