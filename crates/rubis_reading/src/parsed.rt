@@ -1,7 +1,6 @@
 //! What the records of a piece of text are.
 
 ghost use Rattle.std.specs.Prelude.{◌≡◌, ◌≤◌, ◌++◌, ◌∷◌, [], None, List, ℕ, IfOk, OnOk};
-ghost use Rattle.rubis_schema.specs.declared.limits.TheConstants.{COUNTED_MAX};
 ghost use Rattle.rubis_engine.specs.Reading.{Gives};
 ghost use Rattle.rubis_engine.specs.Text.{input_records};
 ghost use Rattle.rubis_message.specs.Readings.{packet_of};
@@ -52,7 +51,7 @@ pub enum Stretch {
 /// What a record is.
 #[tactic(auto, using(crate::proofs::ParsedFacts::came))]
 pub fn read_record(alloc: Global, fields: &InputRecord, sites: u8) -> Result<Parsed, OutOfMemory>
-    requires { sites ≤ COUNTED_MAX }
+    requires { sites ≤ 16 }
     ensures { IfOk result (λ parsed. IsParsed sites fields.now parsed) }
 {
     match read_packet(alloc, fields, sites) {
@@ -169,7 +168,7 @@ fn read_all<R: Read>(
     sites: u8,
     window: usize,
 ) -> Result<(), OutOfMemory>
-    requires few { sites ≤ COUNTED_MAX }
+    requires few { sites ≤ 16 }
     requires none { list.old.items ≡ [] }
     requires no_messages { messages.old.items ≡ [] }
     ensures { OnOk result ((rows : List (List (List ℕ))) → Gives R.remaining records.old rows
@@ -195,7 +194,7 @@ pub fn read_piece(
     sites: u8,
     window: usize,
 ) -> Result<Vec<Stretch>, OutOfMemory>
-    requires { sites ≤ COUNTED_MAX }
+    requires { sites ≤ 16 }
     ensures { IfOk result (λ list. AreParsed sites (input_records piece.now) (flat list.items)) }
 {
     let mut list = Vec::new(alloc);

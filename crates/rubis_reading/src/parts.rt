@@ -2,7 +2,6 @@
 
 ghost use Rattle.std.specs.Prelude.{◌≡◌, ◌≤◌, ◌++◌, IfOk};
 ghost use Rattle.std.specs.Thread.{IsSync};
-ghost use Rattle.rubis_schema.specs.declared.limits.TheConstants.{COUNTED_MAX};
 ghost use Rattle.rubis_engine.specs.Text.{input_records};
 ghost use Rattle.rubis_reading.specs.Parsed.{AreParsed};
 ghost use Rattle.rubis_reading.specs.Runs.{flat};
@@ -34,7 +33,7 @@ pub fn read_parts<T: Threads + Sync>(
     readers: usize,
     window: usize,
 ) -> Result<Vec<Stretch>, OutOfMemory>
-    requires { sites ≤ COUNTED_MAX }
+    requires { sites ≤ 16 }
     ensures { IfOk result (λ list. AreParsed sites (input_records piece.now) (flat list.items)) }
 {
     if readers < 2 {
@@ -51,11 +50,11 @@ pub fn read_parts<T: Threads + Sync>(
     let (first, others) = thread::join(
         rt,
         move || -> Result<Vec<Stretch>, OutOfMemory>
-            requires { sites ≤ COUNTED_MAX }
+            requires { sites ≤ 16 }
             ensures { IfOk result (λ list. AreParsed sites (input_records front.entry.now) (flat list.items)) }
         { read_piece(alloc, front, sites, window) },
         move || -> Result<Vec<Stretch>, OutOfMemory>
-            requires { IsSync T.row × (sites ≤ COUNTED_MAX) }
+            requires { IsSync T.row × (sites ≤ 16) }
             ensures { IfOk result (λ list. AreParsed sites (input_records rest.entry.now) (flat list.items)) }
         { read_parts(rt, alloc, rest, sites, fewer, window) },
     );
