@@ -92,3 +92,8 @@ tells_a_run sites keep some few small limit (Some bytes) old new (Err fault.Read
     (h.0, appends_a_run sites keep some few small old new (take h.0 (input_records bytes)) h.1)
 tells_a_run sites keep some few small limit (Some bytes) old new (Err fault.Memory) h = tt
 tells_a_run sites keep some few small limit (Some bytes) old new (Err fault.Write) h = tt
+
+-- what follows of what is known
+pub if_some_so : {A : Type 0} (P Q : A → Type 0) (o : Option A) → ((x : A) → P x → Q x) → IfSome o P → IfSome o Q
+if_some_so P Q None f h = tt
+if_some_so P Q (Some x) f h = f x h

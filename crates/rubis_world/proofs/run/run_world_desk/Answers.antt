@@ -2,8 +2,7 @@ use Rattle.std.proofs.Common.{◌≡◌, ap, subst}
 use Rattle.rubis_engine.specs.Progress.{IsRun}
 use Rattle.rubis_engine.specs.Text.{input_records}
 use Rattle.rubis_engine.proofs.RunFacts.{ends_so, if_ok_so}
-use Rattle.rubis_reading.proofs.AheadFacts.{if_some_so}
-use Rattle.rubis_world.proofs.Leading.{tells_a_run}
+use Rattle.rubis_world.proofs.Leading.{if_some_so, tells_a_run}
 use Rattle.rubis_world.specs.SitesWorlds.{WorldState}
 use Rattle.rubis_world.specs.Running.{told_by_world}
 use Rattle.rubis_world.proofs.run.run_world_desk.Goals as goal
