@@ -2,7 +2,7 @@
 
 import collections
 import dataclasses
-from collections.abc import Iterator
+from collections.abc import Callable
 
 from .messages import Fault, Message
 from .run import Divergence, Event, Spot
@@ -78,19 +78,18 @@ class _Parting:
             return self.order()
         return self.red() if kind == "RedGap" else (FAULTS[kind], None)
 
-    def places(self) -> Iterator[tuple[Place, Message]]:
-        """All messages but this one, those of other logs first."""
-        lanes = sorted(range(len(self.logs)), key=lambda lane: lane == self.lane)
-        for lane in lanes:
-            for entry, message in enumerate(self.logs[lane].messages):
-                if message is not self.message:
-                    yield (lane, entry), message
+    def best(self, is_meant: Callable[[Message], bool]) -> Place | None:
+        """Where such a message stands other than this one: in the log of the site that made it, else in another log than this, else here."""
+        found = [
+            (lane == self.lane, log.site != message.origin, lane, entry)
+            for lane, log in enumerate(self.logs) for entry, message in enumerate(log.messages) if message is not self.message and is_meant(message)]
+        return min(found)[2:] if found else None
 
     def with_id(self, name: str) -> Place | None:
-        return next((place for place, message in self.places() if message.id == name), None)
+        return self.best(lambda message: message.id == name)
 
     def with_red(self, number: int) -> Place | None:
-        return next((place for place, message in self.places() if message.red == number), None)
+        return self.best(lambda message: message.red == number)
 
     def order(self) -> tuple[str, Place | None]:
         m, have = self.message, collections.Counter(message.origin for message in self.before)
