@@ -13,7 +13,8 @@ from .marks import Mark, sample
 from .messages import Message
 from .run import Event, Kind, Run, Spot, view_of
 
-HERE = pathlib.Path(__file__).resolve().parent
+WEB = pathlib.Path(__file__).resolve().parent / "web"
+SCRIPTS = ("run.js", "picture.js", "page.js")
 KINDS = tuple(Kind)
 COLOURS = {
     "red": RED, "blue": BLUE, "ink": INK, "grey": GREY, "pale": PALE, "lane": LANE, "ring": RING, "token": TOKEN, "edge": TOKEN_EDGE}
@@ -33,9 +34,9 @@ def page_of(run: Run, begin: int = 0) -> str:
     made = sum(event.kind is Kind.MADE for event in run.events)
     title = f"{made:,} messages of {len({lane.site for lane in run.lanes})} sites"
     parts = {
-        "TITLE": escape(title), "STYLE": (HERE / "page.css").read_text().replace("INK", INK).replace("GREY", GREY),
-        "LEGEND": _legend(run), "DATA": packed, "SCRIPT": (HERE / "page.js").read_text()}
-    page = (HERE / "page.html").read_text()
+        "TITLE": escape(title), "STYLE": (WEB / "page.css").read_text().replace("INK", INK).replace("GREY", GREY),
+        "LEGEND": _legend(run), "DATA": packed, "SCRIPT": "\n".join((WEB / name).read_text() for name in SCRIPTS)}
+    page = (WEB / "page.html").read_text()
     for name, text in parts.items():
         page = page.replace("{{" + name + "}}", text)
     return page
