@@ -13,7 +13,7 @@ ghost use Rattle.rubis_world.specs.Setup.{IsWorldSetup};
 ghost use Rattle.rubis_app.specs.Statuses.{IsStatusOf, status_by, status_of};
 
 use clap::Error;
-use rubis_audit::{run_audit_to_exit, run_lack, run_widen};
+use rubis_audit::{Auditor, Question, run_auditor, run_widen};
 use rubis_cli::{KeepOptions, OptionFault, Options, Run, Setup, Widening, read_options};
 use rubis_keep::{FolderFault, Setup as Place, Wanted, keep_folder};
 use rubis_schema::{Hashes, RECORDS_MAX, SITES_MAX};
@@ -168,31 +168,23 @@ fn run_sites<R: Print + Eprint + Input + AllocGlobal + RandomSource + Threads + 
     end(rt, answer_world(rt, &config))
 }
 
-// Audits the logs of `sites` sites, from standard input to standard output.
-fn run_auditor<R: Print + Eprint + Input + AllocGlobal + RandomSource>(rt: &R, sites: u8) -> ExitCode
+// Answers what is asked of the logs of `sites` sites, from standard input to standard output. The auditor isn't taken apart
+// afterwards.
+fn audit_logs<R: Print + Eprint + Input + AllocGlobal + RandomSource>(
+    rt: &R,
+    sites: u8,
+    asked: Question,
+) -> ExitCode
     ensures misuse { SITES_MAX < sites → exit_status result ≡ 2 }
     ensures runs { sites ≤ SITES_MAX → (exit_status result ≡ 0) ⊎ (exit_status result ≡ 1) }
 {
     if sites > SITES_MAX {
         return misuse(rt, "there are too many sites");
     }
+    let mut auditor = Auditor::hashed(rt.alloc(), sites, asked, Hashes::random(rt));
     let mut writer = io::writer(rt);
-    let hashes = Hashes::random(rt);
-    let ended = run_audit_to_exit(rt.alloc(), rt.reader(), &mut writer, sites, hashes);
-    end(rt, ended)
-}
-
-// Says what each of the logs of `sites` sites lacks of the others, from standard input to standard output.
-fn run_lacker<R: Print + Eprint + Input + AllocGlobal + RandomSource>(rt: &R, sites: u8) -> ExitCode
-    ensures misuse { SITES_MAX < sites → exit_status result ≡ 2 }
-    ensures runs { sites ≤ SITES_MAX → (exit_status result ≡ 0) ⊎ (exit_status result ≡ 1) }
-{
-    if sites > SITES_MAX {
-        return misuse(rt, "there are too many sites");
-    }
-    let mut writer = io::writer(rt);
-    let hashes = Hashes::random(rt);
-    let ended = run_lack(rt.alloc(), rt.reader(), &mut writer, sites, hashes);
+    let ended = run_auditor(rt.alloc(), rt.reader(), &mut writer, &mut auditor);
+    mem::forget(auditor);
     end(rt, ended)
 }
 
@@ -311,8 +303,8 @@ fn start<
     match read_options(rt.alloc(), words) {
         Ok(Run::Site(options)) => run(rt, &options),
         Ok(Run::World(setup)) => run_sites(rt, &setup),
-        Ok(Run::Audit(sites)) => run_auditor(rt, sites),
-        Ok(Run::Lack(sites)) => run_lacker(rt, sites),
+        Ok(Run::Audit(sites)) => audit_logs(rt, sites, Question::Agreement),
+        Ok(Run::Lack(sites)) => audit_logs(rt, sites, Question::Lacks),
         Ok(Run::Widen(counts)) => run_widener(rt, &counts),
         Ok(Run::Keep(options)) => run_keep(rt, &options),
         Err(OptionFault::Memory) => fail(rt, RunFault::Memory),

@@ -225,8 +225,10 @@ walked_nothing seen logs at log l e m r w other g = (
   where
     same : log ≡ other
     same = same_log logs at log other l e g
+
     none_wrong : false ≡ wrong_rows log
     none_wrong = λ i. option_map_or (λ rows. not (same_rows rows (shown_rows log.messages))) (sym r i) false
+
     said : messages_of_logs (take (at + 1) logs) ≡ messages_of_logs (take at logs)
     said = next_said at logs other l g ∙ ap (λ xs. messages_of_logs (take at logs) ++ xs) (ap (λ (x : Log). x.messages) (sym same) ∙ m) ∙ append-nil (messages_of_logs (take at logs))
 

@@ -16,7 +16,7 @@ ghost use Rattle.rubis_engine.specs.Text.{rows_text};
 ghost use Rattle.rubis_audit.specs.Walks.{HaveMessagesAmong};
 ghost use Rattle.rubis_audit.specs.Running.{IsCurrentAmong, account_from, logs_so_far, rows_for};
 
-use crate::audits::audit;
+use crate::audits::audit_hashed;
 use crate::lacks::write_lacks;
 use crate::lines::{Line, read_line};
 use crate::logs::Log;
@@ -128,8 +128,16 @@ fn write_answer(
 }
 
 impl Auditor {
-    /// An auditor of the logs of `sites` sites that has read no log, and hashes by `hashes`.
-    pub fn new(alloc: Global, sites: u8, asked: Question, hashes: Hashes) -> Auditor
+    /// An auditor of the logs of `sites` sites that has read no log. It hashes by keys that are the same in each run.
+    pub fn new(alloc: Global, sites: u8, asked: Question) -> Auditor
+        requires { sites ≤ COUNTED_MAX }
+        ensures { result ≡ record { sites = sites; asked = asked; logs = [] } }
+    {
+        Auditor::hashed(alloc, sites, asked, Hashes::fixed())
+    }
+
+    /// The same, hashing by these keys.
+    pub fn hashed(alloc: Global, sites: u8, asked: Question, hashes: Hashes) -> Auditor
         requires { sites ≤ COUNTED_MAX }
         ensures { result ≡ record { sites = sites; asked = asked; logs = [] } }
     {
@@ -190,7 +198,7 @@ impl<T> Service<T> for Auditor {
     fn answer_end(&mut self, _rt: &T, sink: &mut Sink) -> Result<(), OutOfMemory> {
         let current = self.current.take();
         end_log(&mut self.ended, current)?;
-        let verdict = audit(self.alloc, &self.ended, self.sites, self.hashes)?;
+        let verdict = audit_hashed(self.alloc, &self.ended, self.sites, self.hashes)?;
         write_answer(
             self.alloc,
             sink,

@@ -22,14 +22,14 @@ mod widener;
 mod widening;
 
 pub use auditor::Auditor;
-pub use audits::audit;
+pub use audits::{audit, audit_hashed};
 pub use lacks::write_lacks;
 pub use laws::widened_audits_agree;
 pub use lines::{Line, read_line};
 pub use logs::Log;
 pub use questions::Question;
 pub use rubis_message::{Kind, Verdict};
-pub use run::{run_audit, run_audit_to_exit, run_lack};
+pub use run::{run_audit, run_auditor, run_lack};
 pub use seen::Seen;
 pub use verdicts::write_verdict;
 pub use waits::{awaited, awaited_red};

@@ -7,7 +7,7 @@ use crate::records::Window;
 use crate::tries::{Stop, again};
 use rubis_audit::{Log, Verdict, audit};
 use rubis_message::{Message, ReadFault};
-use rubis_schema::{Hashes, Items};
+use rubis_schema::Items;
 use std::alloc::{AllocError, Global};
 use std::io::Print;
 
@@ -15,12 +15,7 @@ use std::io::Print;
 fn verdict_on(alloc: Global, messages: Items<Message>) -> Result<Verdict, AllocError>
     requires { All (λ m. sites_of m ≡ 2) messages }
 {
-    audit(
-        alloc,
-        &[Log::new(0, messages, None)],
-        2,
-        Hashes::fixed(),
-    )
+    audit(alloc, &[Log::new(0, messages, None)], 2)
 }
 
 // The verdict on the log of a shop.

@@ -5,7 +5,7 @@ use crate::records::{MESSAGES, Window, all_records};
 use crate::telling::tell_rows;
 use crate::tries::{Stop, again};
 use rubis_audit::run_audit;
-use rubis_schema::{Hashes, Listing};
+use rubis_schema::Listing;
 use rubis_world::{Config, Count, RunFault, WorldConfig, run_site, run_world};
 use std::io;
 use std::io::Print;
@@ -114,9 +114,6 @@ msg,1,0,5,4,4:0,close,0.3,9,0.4
 /// An audit of the log of a sale.
 pub fn whole_audit<R: Print + AllocGlobal>(rt: &R) -> Result<(), Stop> {
     let mut writer = io::writer(rt);
-    tell_end(
-        rt,
-        run_audit(rt.alloc(), SALE, &mut writer, 2, Hashes::fixed()),
-    );
+    tell_end(rt, run_audit(rt.alloc(), SALE, &mut writer, 2));
     Ok(())
 }

@@ -3,7 +3,6 @@
 use crate::failing_streams::{FailingReader, FailingWriter};
 use rubis_audit::run_audit;
 use rubis_engine::{Count, RunFault};
-use rubis_schema::Hashes;
 use std::alloc::Global;
 use std::process::Abort;
 
@@ -49,7 +48,7 @@ const LOGS: [(&[u8], &[u8]); 10] = [
 fn each_check_finds_its_fault(rt: HostRuntime) {
     for (text, want) in LOGS {
         let mut out = Vec::new(rt.alloc());
-        let end = run_audit(rt.alloc(), text, &mut out, 2, Hashes::fixed());
+        let end = run_audit(rt.alloc(), text, &mut out, 2);
         assert!(rt; end.is_ok());
         assert!(rt; out.as_slice() == want);
     }
@@ -59,7 +58,7 @@ fn each_check_finds_its_fault(rt: HostRuntime) {
 fn counts_the_records_that_it_reads(rt: HostRuntime) {
     let mut out = Vec::new(rt.alloc());
     let text = b"site,0\nsite,1\nrow\nmsg\nsite,0\n".as_slice();
-    let end = run_audit(rt.alloc(), text, &mut out, 2, Hashes::fixed());
+    let end = run_audit(rt.alloc(), text, &mut out, 2);
     assert!(rt; end == Ok(Count { records: 4 }));
     assert!(rt; out.as_slice() == b"audit,BadRecord,4\n".as_slice());
 }
@@ -75,7 +74,7 @@ fn a_failing_reader(rt: HostRuntime) {
     for cut in 0..SALE.len() + 1 {
         let mut out = Vec::new(rt.alloc());
         let reader = FailingReader::new(&SALE[..cut]);
-        let end = run_audit(rt.alloc(), reader, &mut out, 2, Hashes::fixed());
+        let end = run_audit(rt.alloc(), reader, &mut out, 2);
         assert!(rt; end == Err(RunFault::Read), "after {cut} bytes");
         assert!(rt; out.is_empty(), "after {cut} bytes");
     }
@@ -84,7 +83,7 @@ fn a_failing_reader(rt: HostRuntime) {
 // The writer that fails at one of its calls, and whether the run ended well.
 fn write_until<R: Abort>(rt: &R, alloc: Global, bad: usize) -> (FailingWriter, bool) {
     let mut writer = FailingWriter::new(alloc, bad);
-    let end = run_audit(alloc, SALE, &mut writer, 2, Hashes::fixed());
+    let end = run_audit(alloc, SALE, &mut writer, 2);
     assert!(rt; end.is_ok() || end == Err(RunFault::Write));
     (writer, end.is_ok())
 }

@@ -12,7 +12,7 @@ ghost use Rattle.rubis_shadow.specs.declared.asks.Ask.TheVariants as Ask;
 use crate::worlds::two_sites;
 use rubis_audit::{Log, Verdict, audit};
 use rubis_message::{Arrival, Message, Request};
-use rubis_schema::{Hashes, Nick};
+use rubis_schema::Nick;
 use rubis_shadow::Ask;
 use rubis_world::{Config, Fault, Free, Happened, Site, World, WorldFault};
 use std::alloc::{AllocError, Global};
@@ -58,7 +58,7 @@ pub fn are_in_order(alloc: Global, logs: &[Log], sites: u8) -> Result<bool, Allo
     requires among { HaveMessagesAmong sites logs.now }
     ensures { IfOk result (λ agrees. agrees ≡ true → AreSound logs.now) }
 {
-    match audit(alloc, logs, sites, Hashes::fixed())? {
+    match audit(alloc, logs, sites)? {
         Verdict::Agree => Ok(true),
         _ => Ok(false),
     }

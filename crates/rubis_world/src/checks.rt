@@ -12,7 +12,7 @@ ghost use Rattle.rubis_world.specs.Worlds.{IsCheckFault, SomeBehind};
 
 use crate::faults::WorldFault;
 use crate::sites::Sites;
-use rubis_audit::{Log, audit};
+use rubis_audit::{Log, audit_hashed};
 use rubis_message::{Happened, Message, Verdict};
 use rubis_schema::{Fields, Hashes, Items, Listing};
 use rubis_script::Fault;
@@ -119,5 +119,5 @@ pub fn check<R: Threads + Wait + Sync>(
         return Err(WorldFault::Site(Fault::Behind));
     }
     let logs = logs(rt, alloc, sites)?;
-    Ok(audit(alloc, &logs, sites.len() as u8, hashes)?)
+    Ok(audit_hashed(alloc, &logs, sites.len() as u8, hashes)?)
 }

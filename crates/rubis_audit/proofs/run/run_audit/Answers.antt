@@ -1,13 +1,22 @@
+use Rattle.std.proofs.Common.{◌≡◌, subst, sym, ap}
+use Rattle.rubis_engine.specs.Progress.{IsRun}
+use Rattle.rubis_engine.specs.Text.{input_records}
+use Rattle.rubis_audit.specs.Running.{AuditorState, account_from}
+use Rattle.rubis_schema.specs.declared.limits.TheConstants.{RECORDS_MAX}
 use Rattle.rubis_engine.proofs.RunFacts.{if_ok_so, run_done}
-use Rattle.rubis_audit.specs.Running.{account_from}
 use Rattle.rubis_audit.proofs.Agreeing.{agrees_known}
 use Rattle.rubis_audit.proofs.run.run_audit.Goals as goal
+
+pub returns-clause-run : goal.returns-clause-run
+returns-clause-run g c =
+    subst (λ (a : AuditorState). IsRun (account_from a.asked a.sites 1 a.logs) RECORDS_MAX (g.R.Read.remaining c.args.reader) (g.W.Write.contents c.args.writer.now) (g.W.Write.contents c.run_auditor.new.writer) c.run_auditor.result)
+    c.new-auditor.ensures c.run_auditor.ensures.run
 
 pub returns-clause-sound : goal.returns-clause-sound
 returns-clause-sound g c =
     let auditor = c.new-auditor.result in
     let input = g.R.Read.remaining c.args.reader in
     let old = g.W.Write.contents c.args.writer.now in
-    let new = g.W.Write.contents c.run_upto.new.writer in
-    if_ok_so _ _ c.run_upto.result (λ count. agrees_known c.args.sites 4000000 count.records auditor input old new c.requires c.new-auditor.ensures)
-    (run_done (account_from auditor.asked auditor.sites 1 auditor.logs) 4000000 input old new c.run_upto.result c.run_upto.ensures)
+    let new = g.W.Write.contents c.run_auditor.new.writer in
+    if_ok_so _ _ c.run_auditor.result (λ count. agrees_known c.args.sites 4000000 count.records auditor input old new c.requires c.new-auditor.ensures)
+    (run_done (account_from auditor.asked auditor.sites 1 auditor.logs) 4000000 input old new c.run_auditor.result c.run_auditor.ensures.run)

@@ -1,6 +1,6 @@
 use Rattle.std.proofs.Common.{arith}
 use Rattle.rubis_audit.proofs.Walking.{over_faultless, over_found, over_more, over_sound}
-use Rattle.rubis_audit.proofs.audits.audit.Goals as goal
+use Rattle.rubis_audit.proofs.audits.audit_hashed.Goals as goal
 
 pub returns-in-Some-clause-verdict : goal.returns-in-Some-clause-verdict
 returns-in-Some-clause-verdict c =

@@ -1,5 +1,5 @@
 use Rattle.rubis_audit.proofs.Walking.{Over}
-use Rattle.rubis_audit.proofs.audits.audit.Given as goal
+use Rattle.rubis_audit.proofs.audits.audit_hashed.Given as goal
 
 abbrev pub invariant-loop-at : goal.invariant-loop-at
 invariant-loop-at l = Over l.seen l.at l.logs
