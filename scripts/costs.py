@@ -136,8 +136,9 @@ def clock(programs: Programs) -> None:
             rubis = rubis.least(measured(programs.rubis, work, workers(work, settings)))
             plain = plain.least(measured(programs.plain, work, []))
         what = name.format(work.records()) + programs.same(rubis.output, plain.output)
-        times = f"{rubis.processor / max(plain.processor, 0.01):.1f}"
-        print(f"| {what} | {rubis.processor:.2f} s | {rubis.clock:.2f} s | {rubis.memory:.0f} MiB | {plain.processor:.2f} s | {plain.memory:.0f} MiB | {times} |", flush=True)
+        ours = f"{rubis.processor:.2f} s | {rubis.clock:.2f} s | {rubis.memory:.0f} MiB"
+        theirs = f"{plain.processor:.2f} s | {plain.memory:.0f} MiB"
+        print(f"| {what} | {ours} | {theirs} | {rubis.processor / max(plain.processor, 0.01):.1f} |", flush=True)
 
 
 def count(programs: Programs) -> None:
@@ -163,12 +164,14 @@ def count(programs: Programs) -> None:
 
 
 def busiest_threads(programs: Programs) -> None:
-    text = busiest.messages(programs.size(300_000))
+    many = programs.size(300_000)
+    text = busiest.messages(many)
     one, alone = busiest.counted(programs.rubis, busiest.ONE, text)
     four, together = busiest.counted(programs.rubis, busiest.FOUR, text)
     whole = sum(work for _, work in one)
     shares = sorted((work / whole for _, work in four), reverse=True)
-    print(f"Of {programs.size(300_000):,} messages in order, with four workers, batches of 8,192 and 16 shards, the busiest thread does {shares[0]:.2f} of the work of a run with one worker, and all together {sum(shares):.2f}{programs.same(alone, together)}.", flush=True)
+    print(f"Of {many:,} messages in order, with four workers, batches of 8,192 and 16 shards, the busiest thread does {shares[0]:.2f}")
+    print(f"of the work of a run with one worker, and all together {sum(shares):.2f}{programs.same(alone, together)}.", flush=True)
 
 
 @dataclasses.dataclass
@@ -228,7 +231,8 @@ def hostile(programs: Programs) -> None:
 
 def machine() -> str:
     names = re.findall(r"^model name\s*: (.*)$", pathlib.Path("/proc/cpuinfo").read_text(), re.M)
-    return f"{os.cpu_count()} processors, {names[0] if names else 'of no name'}; {datetime.date.today():%d %B %Y}; {os.getloadavg()[0]:.1f} other things to do"
+    name = names[0] if names else "of no name"
+    return f"{os.cpu_count()} processors, {name}; {datetime.date.today():%d %B %Y}; {os.getloadavg()[0]:.1f} other things to do"
 
 
 TABLES: dict[str, Callable[[Programs], None]] = {"clock": clock, "count": count, "busiest": busiest_threads, "hostile": hostile}

@@ -231,9 +231,11 @@ def smaller(differ: Callable[[cases.Case], bool], case: cases.Case) -> cases.Cas
         runs += 1
         return runs < MOST_RUNS and differ(tried)
 
-    for simpler in (dataclasses.replace(case, chunks=[], live=False), dataclasses.replace(case, command=case.command[: 1 + case.command[1:].index("--sites") + 2])):
-        if still(simpler):
-            case = simpler
+    if still(dataclasses.replace(case, chunks=[], live=False)):
+        case = dataclasses.replace(case, chunks=[], live=False)
+    settled = case.command[: case.command.index("--sites") + 2]
+    if still(dataclasses.replace(case, command=settled)):
+        case = dataclasses.replace(case, command=settled)
     size = len(case.pieces) // 2
     while size and runs < MOST_RUNS:
         at = 0
@@ -344,7 +346,8 @@ def compare_all(options: argparse.Namespace, programs: Programs) -> int:
     records = counts.pop("pieces", 0)
     commands = ", ".join(f"{count} {command}" for command, count in sorted(counts.items()))
     took = time.monotonic() - began
-    print(f"differ: seed {options.seed}, cases {options.first} to {taken.value - 1}: {counts.total()} cases ({commands}), {records} records, {took:.0f} s: {failed} mismatches")
+    print(f"differ: seed {options.seed}, cases {options.first} to {taken.value - 1}: {counts.total()} cases ({commands}), {records} records,", end=" ")
+    print(f"{took:.0f} s: {failed} mismatches")
     return int(failed > 0)
 
 
