@@ -28,6 +28,7 @@ pub use laws::widened_audits_agree;
 pub use lines::{Line, read_line};
 pub use logs::Log;
 pub use questions::Question;
+pub use rubis_clock::Clock;
 pub use rubis_message::{Kind, Verdict};
 pub use run::{run_audit, run_auditor, run_lack};
 pub use seen::Seen;

@@ -123,13 +123,13 @@ fn shards_that_are_no_set_come_back(rt: HostRuntime) -> Result<(), Fail> {
     Ok(())
 }
 
-// The messages of a user, an item and many comments on it.
-fn many_messages(alloc: Global) -> Result<Vec<Message>, Fail> {
+/// That many messages, from three on: of two users, an item, and comments on it.
+pub fn many_messages(alloc: Global, count: u32) -> Result<Vec<Message>, Fail> {
     let mut batch = Vec::new(alloc);
     batch.push(message(alloc, ANN, 2)?)?;
     batch.push(message(alloc, BOB, 2)?)?;
     batch.push(message(alloc, CUP, 2)?)?;
-    for before in 3..SPLIT_MIN as u32 {
+    for before in 3..count {
         batch.push(message(alloc, &comment_behind(alloc, before)?, 2)?)?;
     }
     Ok(batch)
@@ -148,7 +148,7 @@ fn are_same(share: &Share, other: &Share) -> bool {
 // From SPLIT_MIN messages on, several threads make the shares, if there are as many processors as shards; one there always is.
 #[test]
 fn a_large_batch_is_split_as_by_one_thread(rt: HostRuntime) -> Result<(), Fail> {
-    let batch = many_messages(rt.alloc())?;
+    let batch = many_messages(rt.alloc(), SPLIT_MIN as u32)?;
     if batch.len() > 1_000_000 {
         return Err(Fail::from("too many"));
     }

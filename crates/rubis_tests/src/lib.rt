@@ -9,6 +9,8 @@ mod arrivals;
 #[cfg(test)]
 mod audits;
 #[cfg(test)]
+mod awaiting;
+#[cfg(test)]
 mod batches;
 #[cfg(test)]
 mod boards;

@@ -3,8 +3,10 @@
 ghost use Rattle.std.specs.Prelude.{◌≡◌};
 
 use crate::arrivals::{ANN, BOB, CUP, arrive_comment, arrive_three, comment_behind, two_comments};
+use crate::batches::many_messages;
 use crate::gates::{Counting, Gathering, Holders};
 use crate::transcripts::add_line;
+use rubis_workers::{Pace, Tables, apply_batch};
 use rubis_world::{Config, Count, Gate, Site, run_site_upto};
 use std::alloc::Global;
 use std::sync::Wait;
@@ -161,5 +163,45 @@ fn a_batch_too_small_for_threads_has_the_next_one_done_alone(rt: HostRuntime) ->
     let mut site = Site::new(rt.alloc(), &config, gate)?;
     let threads = threads_of_batches(&rt, &mut site, rt.alloc(), &holders)?;
     assert_eq!(rt; threads, [3, 1, 3]);
+    Ok(())
+}
+
+// How many messages the caller's thread goes on with alone after a batch of that many, which four threads applied, each on one of
+// four shards.
+fn rest_after<R: Threads + Wait + Sync>(rt: &R, alloc: Global, count: u32) -> Result<usize, Fail> {
+    let holders = Holders::new();
+    let gate = Gathering {
+        holders: &holders,
+        threads: 4,
+    };
+    let log = many_messages(alloc, count)?;
+    if log.len() > 1_000_000 {
+        return Err(Fail::from("too many"));
+    }
+    let mut tables = Tables::new(alloc, 4)?;
+    let mut stops = Vec::with_capacity(alloc, 4)?;
+    let mut pace = Pace::new();
+    apply_batch(
+        rt,
+        alloc,
+        &mut tables,
+        &log,
+        0,
+        log.len(),
+        &mut stops,
+        4,
+        &mut pace,
+        &gate,
+    )?;
+    Ok(pace.alone)
+}
+
+// The three other threads take three of the four shards, and so apply some 320 messages each, for which they are worth their start,
+// or 319. Where the workers told of one shard more or less that others took, one of these would be as the other.
+#[test]
+fn the_pace_knows_how_many_shards_others_took(rt: HostRuntime) -> Result<(), Fail> {
+    let worth = rest_after(&rt, rt.alloc(), 1_280)?;
+    let less = rest_after(&rt, rt.alloc(), 1_276)?;
+    assert_eq!(rt; (worth, less), (0, 1));
     Ok(())
 }
