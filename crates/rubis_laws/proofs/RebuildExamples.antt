@@ -1,6 +1,7 @@
 -- A worked example of a site that is rebuilt, computed on the definitions.
 use Rattle.std.proofs.Common.{ℕ, ◌≡◌, ◌∙◌, ◌<◌, ◌≤◌, List, [], ◌∷◌, ◌++◌, refl, sym, ap, subst, arith, Some, inl, inr}
 use Rattle.std.specs.Prelude.{◌↔◌, codes, nat_lt, nat_le, ◌&&◌, true}
+use Rattle.std.specs.Fmt.{digits}
 use Rattle.std.proofs.lemmas.Bool.{and_parts, ltb-true, leb-true}
 use Rattle.rubis_schema.specs.Ids.{IsId}
 use Rattle.rubis_schema.specs.declared.ids.Id.{Id}
@@ -22,6 +23,7 @@ use Rattle.rubis_model.specs.Log.{cores}
 use Rattle.rubis_model.specs.Meaning.{meaning_row}
 use Rattle.rubis_model.specs.Arrivals.{after_all}
 use Rattle.rubis_model.specs.Rebuild.{IsRebuilt, ask_of, holding, lacking, prepared, rebuilt, sent_again, sent_by, sent_here, sends_as}
+use Rattle.rubis_model.specs.RebuildRecords.{records_to_rebuild}
 use Rattle.rubis_model.specs.Settle.{Has}
 use Rattle.rubis_model.specs.Site.{Place, Replica, asked, generating, opening_at, passed, rows_at, standing_of}
 use Rattle.rubis_model.specs.System.{World, Event, AreEvents, site, run, start}
@@ -159,6 +161,17 @@ bid_is_made_again = ap bid_by rows_before ∙ bid_by_meaning
 
 site_1_is_rebuilt : rebuilt place_1 tokens messages (opening_at 1) (packet.Msg bid ∷ []) ≡ (after_bid, packet.Msg bid ∷ [])
 site_1_is_rebuilt = ap (λ q. (q.0, q.1 ++ [])) bid_is_made_again
+
+-- ---- the records for it: the messages and the token as they were sent, and the ask
+
+site_1_records : records_to_rebuild place_1 tokens messages (packet.Msg bid ∷ [])
+    ≡ (codes "msg" ∷ codes "1" ∷ codes "0" ∷ codes "3" ∷ codes "0" ∷ codes "2:0" ∷ codes "item" ∷ codes "0.1" ∷ codes "lamp" ∷ codes "7" ∷ codes "1" ∷ codes "100" ∷ codes "0" ∷ [])
+    ∷ (codes "msg" ∷ codes "1" ∷ codes "0" ∷ codes "1" ∷ codes "1" ∷ codes "0:0" ∷ codes "user" ∷ codes "ann" ∷ [])
+    ∷ (codes "msg" ∷ codes "1" ∷ codes "0" ∷ codes "2" ∷ codes "2" ∷ codes "1:0" ∷ codes "user" ∷ codes "bob" ∷ [])
+    ∷ (codes "token" ∷ codes "1" ∷ codes "1" ∷ codes "1" ∷ codes "2" ∷ [])
+    ∷ (codes "bid" ∷ codes "0.3" ∷ codes "0.2" ∷ codes "500" ∷ []) ∷ []
+unfolding digits
+site_1_records = refl
 
 -- ---- by the law, in the run
 
