@@ -290,7 +290,8 @@ class Network:
         self.only = only
         self.oddness = oddness
         self.forging = forging
-        self.blue = dice.one(["", "", "blue"]) == "blue"
+        self.listing = 0.03
+        self.auditing = 0.01
         self.packets: list[Message | Token] = []
         self.lacking: list[list[int]] = [[] for _ in range(sites)]
         self.holder = 0
@@ -378,21 +379,24 @@ class Network:
         roll = dice.random()
         if self.only is not None and roll < self.forging:
             self.forge(self.only)
-        elif roll < 0.03:
-            self.at(place, self.fields.listing(self.sites[place]))
-        elif roll < 0.03 + self.oddness:
-            self.records.append(dice.one(ODD_RECORDS))
         elif roll < 0.06 and len(self.sites) > 1:
             self.pass_on()
-        elif roll < 0.07 and self.only is None:
-            self.records.append("audit")
-        elif len(self.sites) > 1 and roll < 0.55:
+        elif roll < 0.5 and len(self.sites) > 1:
             self.deliver_some()
+        elif dice.often(2 * self.listing):
+            self.at(place, self.fields.listing(self.sites[place]))
+        elif dice.often(2 * self.oddness):
+            self.records.append(dice.one(ODD_RECORDS))
+        elif self.only is None and dice.often(2 * self.auditing):
+            self.records.append("audit")
         else:
             self.ask(self.holder if dice.often(0.5) and self.only is None else place)
 
     def run(self, many: int) -> list[str]:
-        """As many records, unless the only site has too little to do."""
+        """As many records, unless the only site has too little to do. Listings and audits, which show or walk all, are few in a
+        long run."""
+        self.listing = min(0.03, 60 / many)
+        self.auditing = min(0.01, 10 / many)
         for _ in range(4 * many):
             if len(self.records) >= many:
                 break

@@ -47,8 +47,12 @@ OF_ONE_SOURCE = 6
 # A worker takes so many cases at a time.
 SHARE = 60
 
-# How many runs the making smaller of a case may take.
+# How many runs the making smaller of a case may take, and how long a case is made smaller.
 MOST_RUNS = 1_500
+SMALL = 5_000
+
+# After so many seconds a line says how far the comparison is.
+OFTEN = 60
 
 
 @dataclasses.dataclass(frozen=True)
@@ -280,7 +284,7 @@ def compare(programs: Programs, seed: int, first: int, end: int) -> Share:
     for number in range(first, end):
         case = maker.case(number)
         if programs.differ(case):
-            mismatches.append(shown(programs, f"{seed}:{number}", smaller(programs.differ, case)))
+            mismatches.append(shown(programs, f"{seed}:{number}", smaller(programs.differ, case) if len(case.pieces) < SMALL else case))
         counts[case.command[0]] += 1
         counts["pieces"] += len(case.pieces)
     return counts, mismatches
@@ -324,6 +328,13 @@ def main() -> int:
     return compare_all(options, programs)
 
 
+def told(counts: collections.Counter[str]) -> str:
+    """How many cases of each command, and records, there were."""
+    commands = {command: count for command, count in sorted(counts.items()) if command != "pieces"}
+    shares = ", ".join(f"{count} {command}" for command, count in commands.items())
+    return f"{sum(commands.values())} cases ({shares}), {counts['pieces']} records"
+
+
 def compare_all(options: argparse.Namespace, programs: Programs) -> int:
     began = time.monotonic()
     taken = cast(Taken, multiprocessing.Value(ctypes.c_longlong, options.first))
@@ -334,6 +345,7 @@ def compare_all(options: argparse.Namespace, programs: Programs) -> int:
     counts: collections.Counter[str] = collections.Counter()
     failed = 0
     working = len(workers)
+    said = began
     while working:
         share = found.get()
         if share is None:
@@ -343,11 +355,10 @@ def compare_all(options: argparse.Namespace, programs: Programs) -> int:
         failed += len(share[1])
         for mismatch in share[1]:
             print(mismatch, flush=True)
-    records = counts.pop("pieces", 0)
-    commands = ", ".join(f"{count} {command}" for command, count in sorted(counts.items()))
-    took = time.monotonic() - began
-    print(f"differ: seed {options.seed}, cases {options.first} to {taken.value - 1}: {counts.total()} cases ({commands}), {records} records,", end=" ")
-    print(f"{took:.0f} s: {failed} mismatches")
+        if time.monotonic() > said + OFTEN:
+            said = time.monotonic()
+            print(f"so far {told(counts)}, {said - began:.0f} s: {failed} mismatches", flush=True)
+    print(f"differ: seed {options.seed}, cases {options.first} to {taken.value - 1}: {told(counts)}, {time.monotonic() - began:.0f} s: {failed} mismatches")
     return int(failed > 0)
 
 
