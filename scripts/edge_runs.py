@@ -80,7 +80,23 @@ def odd_bytes() -> list[Expected]:
         (b",\n", malformed(1)),
         (b'""\nuser,ann\n', malformed(1) + b"reply,2,ok,0.1\nsend,msg,1,0,1,1,0,user,ann\n"),
     ]
-    return [Expected("site", text, wrote) for text, wrote in runs]
+    return [Expected("site", text, wrote) for text, wrote in runs] + lines_of_records()
+
+
+def lines_of_records() -> list[Expected]:
+    """Records outside the grammar, by the lines in which they begin, under each kind of line end."""
+    nick = b'"a nickname has 1 to 20 of a-z, 0-9 and _, the first a letter"'
+    quote = b"bad,1,%d,2,a quote that opened at line %d closes at line %d\n"
+    runs = [
+        (b"user,ann\r\nuser,A\r\n\r\nuser,B", b"bad,2,2,2,%b\nbad,3,4,2,%b\nchecked,3,2\n" % (nick, nick)),
+        (b"\n\r\nuser,A", b"bad,1,3,2,%b\nchecked,1,1\n" % nick),
+        (b"\xef\xbb\xbfuser,A\n", b"bad,1,1,2,%b\nchecked,1,1\n" % nick),
+        (b'user,"ann\nuser,bob\n"\nuser,C\n', quote % (1, 1, 3) + b"bad,2,4,2,%b\nchecked,2,2\n" % nick),
+        (b'user,ann\n\nuser,"bob\nuser,eve\n', b"bad,2,3,2,a quote that opened at line 3 closes at line 4\nchecked,2,1\n"),
+        (b'user,"ann', b"checked,1,0\n"),
+        (b'"\n",x\n', b"bad,1,1,1,a quote that opened at line 1 closes at line 2\nchecked,1,1\n"),
+    ]
+    return [Expected("check", text, wrote, 1 if b"bad" in wrote else 0) for text, wrote in runs]
 
 
 def cut_off() -> list[Expected]:
@@ -114,7 +130,9 @@ def too_long() -> list[Expected]:
             Expected("site", b"x\n" * many, refused, status, said),
             Expected("world", b"x\n" * many, events, status, said),
             Expected("audit", b"site,0\n" + b"row\n" * (many - 1), b"" if more else b"audit,Rows,1,0\n", status, said),
-            Expected("lack", b"site,0\n" + b"row\n" * (many - 1), b"" if more else b"audit,Rows,1,0\n", status, said),
+            Expected("audit --status", b"site,0\n" + b"row\n" * (many - 1), b"" if more else b"audit,Rows,1,0\n", 1, said),
+            Expected("lack", b"site,0\n" + b"row\n" * (many - 1), b"" if more else b"audit,Rows,1,0\n", 1, said),
+            Expected("check", b"user,ann\n" * many, b"" if more else b"checked,%d,0\n" % MOST, status, said),
             Expected("widen", b"site,0\n" * many, b"site,0\n" * MOST, status, said),
         ]
     return runs
@@ -125,11 +143,13 @@ def command_lines() -> list[Expected]:
     good = [f"site --{option} {value}" for option, most in (("sites", 16), ("shards", 64), ("workers", 16), ("batch", 65536), ("keep", 1000000)) for value in (1, most)]
     good += ["site --site 15 --sites 16", "world --sites 16 --shards 64 --workers 16 --batch 65536 --keep 1000000", "widen --sites 16 --to 16", "widen --to 1", "site --sites=2 --site=1"]
     beyond = [f"site --{option} {value}" for option, most in (("sites", 16), ("shards", 64), ("workers", 16), ("batch", 65536), ("keep", 1000000)) for value in (0, most + 1)]
-    beyond += ["site --site 16 --sites 16", "world --sites 17", "audit --sites 17", "lack --sites 17", "widen --to 17", "widen --to 0"]
+    beyond += ["site --site 16 --sites 16", "world --sites 17", "audit --sites 17", "lack --sites 17", "check --sites 17", "widen --to 17", "widen --to 0"]
     wrong = ["", "frob", "user,ann", "--sites 2", "site extra", "site --frob 1", "site --to 3", "site --sites", "site --sites two"]
-    wrong += ["site --sites 2 --sites 2", "world --site 0", "audit --keep 1", "lack --keep 1", "widen --site 0"]
+    wrong += ["site --sites 2 --sites 2", "world --site 0", "audit --keep 1", "lack --keep 1", "lack --status", "check --keep 1", "check world audit", "widen --site 0"]
     fault = b"fault: site must be below sites\n"
     own = [Expected(words, b"", b"", 2, fault) for words in ("site --site 1", "site --site 2 --sites 2", "site --site 7 --sites 3 --keep 5")]
+    own += [Expected("audit --status", b"", b"audit,Agree\n"), Expected("audit --status", b"x\n", b"audit,BadRecord,1\n", 1), Expected("audit", b"x\n", b"audit,BadRecord,1\n")]
+    own += [Expected("check lack", b"", b"", 2, b"fault: only records of site, world or audit are checked\n")]
     own += [Expected(words, b"", b"", 2, b"fault: to must not be below sites\n") for words in ("widen --sites 3 --to 2", "widen --sites 16 --to 15")]
     return [Expected(words, b"", b"") for words in good] + [Expected(words, b"", b"", 2, None) for words in beyond + wrong] + own
 
@@ -156,7 +176,7 @@ def told(program: str, expected: Expected, **streams) -> str | None:
 def failed_reads(program: str) -> list[str | None]:
     """Input that can't be read."""
     folder = os.open(pathlib.Path(program).parent, os.O_RDONLY)
-    runs = [told(program, Expected(words, b"", b"", 1, b"run fault: read\n"), stdin=folder) for words in ("site", "world", "audit", "lack", "widen")]
+    runs = [told(program, Expected(words, b"", b"", 1, b"run fault: read\n"), stdin=folder) for words in ("site", "world", "audit", "lack", "check", "widen")]
     os.close(folder)
     return runs
 
@@ -204,7 +224,7 @@ def interrupted_read(program: str, options: str) -> str | None:
 def failed_writes(program: str) -> list[str | None]:
     """Output that can't be written; a run that has nothing to write is well all the same."""
     fault = b"run fault: write\n"
-    runs = [("site", b"user,ann\n"), ("world", b"x\n"), ("audit", b""), ("lack", b"site,0\n"), ("widen", b"site,0\n")]
+    runs = [("site", b"user,ann\n"), ("world", b"x\n"), ("audit", b""), ("lack", b"site,0\n"), ("check", b""), ("widen", b"site,0\n")]
     with open("/dev/full", "wb") as full:
         wrong = [told(program, Expected(words, text, b"", 1, fault), stdout=full) for words, text in runs]
         return wrong + [told(program, Expected(words, b"", b""), stdout=full) for words in ("site", "world", "widen")]

@@ -5,7 +5,8 @@
 
 A conversation is a text file of one command or several, each a run of its own. A line as `$ rubis site --sites 2` is the
 command; below it a line that begins with `> ` is a record of the input, and the lines below that are the answers to it.
-Lines that begin with `#` are notes. A command is played under several settings of batch, shards and workers, which change
+A line `? 1` is the status, 0 where there is none. Lines that begin with `#` are notes. Of each command that reads records `rubis
+check` has to name those, and only those, that were answered as outside the grammar. A command is played under several settings of batch, shards and workers, which change
 no answer; what it sets itself stays as it is. Lines before it that begin with `% ` give the settings in place of these, as
 `% --batch 1 7 64 --workers 1 16`: each choice of a value for each option. Lines between `* 4 3003` and `*` are repeated
 for each n from 4 to 3003, with the numbers for `{n}` and `{n-1}`.
@@ -21,7 +22,9 @@ how many were played. The status is 1 where something differed.
 """
 
 import contextlib
+import csv
 import dataclasses
+import io
 import itertools
 import os
 import pathlib
@@ -36,6 +39,15 @@ from collections.abc import Iterator
 
 TOP = pathlib.Path(__file__).resolve().parent.parent
 SECONDS = 120
+
+# As what `rubis check` reads the records of a command, and the answer to one that is outside the grammar.
+CHECKED = {
+    "site": ("site", r"reply,(\d+),refused,1,BadRecord"),
+    "world": ("world", r"(?:at,\d+,reply,(?=\d+,refused,1,)|world,(?=\d+,refused,30,))(\d+),refused,.*"),
+    "audit": ("audit", r"audit,BadRecord,(\d+)"),
+    "lack": ("audit", r"audit,BadRecord,(\d+)"),
+    "widen": ("audit", r"widen,BadRecord,(\d+)"),
+}
 
 # Settings that change no answer.
 SETTINGS = [
@@ -105,6 +117,7 @@ class Run:
     words: list[str]
     settings: list[list[str]]
     last: int
+    status: int = 0
     records: list[str] = dataclasses.field(default_factory=list)
     answers: list[tuple[int, str]] = dataclasses.field(default_factory=list)
 
@@ -118,8 +131,24 @@ class Run:
             shown = shlex.join(["rubis", *command])
             done = subprocess.run([program, *command], input=said.encode(), capture_output=True, timeout=SECONDS)
             compare(name, self.answers, self.last, done.stdout.decode("utf-8", "replace"), shown)
-            if done.returncode != 0:
+            if done.returncode != self.status:
                 raise Failed(f"{name}:{self.last}: {shown} ended with status {done.returncode}: {done.stderr.decode()}")
+        if self.words[0] in CHECKED:
+            self.check(program, name, said)
+
+    def check(self, program: pathlib.Path, name: str, said: str) -> None:
+        """Whether `rubis check` names the records that were answered as outside the grammar, and no others."""
+        sites = next((value for word, value in zip(self.words, self.words[1:]) if word == "--sites"), "1")
+        reading, pattern = CHECKED[self.words[0]]
+        command = ["check", "--sites", sites, reading]
+        done = subprocess.run([program, *command], input=said.encode(), capture_output=True, timeout=SECONDS)
+        rows = list(csv.reader(io.StringIO(done.stdout.decode("utf-8", "replace"))))
+        bad = [int(row[1]) for row in rows[:-1]]
+        answered = [int(found.group(1)) for _, text in self.answers if (found := re.fullmatch(pattern, text))]
+        if reading == "audit":
+            bad = bad[:1]
+        if bad != answered:
+            raise Failed(f"{name}:{self.last}: {shlex.join(['rubis', *command])} names the records {bad}, and refused were {answered}")
 
 
 def written_out(numbered: list[tuple[int, str]]) -> list[tuple[int, str]]:
@@ -151,6 +180,8 @@ def runs_of(path: pathlib.Path, name: str) -> list[Run]:
         elif text.startswith("$ rubis "):
             runs.append(Run(shlex.split(text)[2:], settings, line))
             settings = []
+        elif text.startswith("? ") and runs:
+            runs[-1].status = int(text[2:])
         elif not text.startswith("#"):
             if not runs:
                 raise Failed(f"{name}:{line}: the command is missing, as `$ rubis site`")

@@ -12,11 +12,13 @@ worker. A quarter as many conversations are those of a world of
 up to 16 sites: packets come in any order, again, or not at all, the token goes round, and after each hundred records an
 audit has to agree. At the end all packets are delivered to all sites, whose tables then have to be the same. The logs of
 that world, whole and with a record left out, are then audited as they are and widened to more sites: the audits have to
-say the same, and `rubis lack` says what an audit says if that isn't Agree. Nicknames are few, so that renames meet. The seed is fixed, so each run of this script plays the same
-conversations."""
+say the same, and `rubis lack` says what an audit says if that isn't Agree. With each text 2,000 records are checked of which
+most are outside the grammar: `rubis check` has to name those that a site refuses as that, each with a reason. Nicknames are few, so
+that renames meet. The seed is fixed, so each run of this script plays the same conversations."""
 
 import os
 import random
+import re
 import subprocess
 import sys
 import tempfile
@@ -191,7 +193,7 @@ def fault_in_audits(program: str, dice: random.Random, sites: int, logs: list[st
         to = dice.randint(sites, 16)
         widened = answers(program, ["widen", "--sites", str(sites), "--to", str(to)], records).decode().splitlines()
         said = answers(program, ["audit", "--sites", str(sites)], records).decode()
-        lacks = answers(program, ["lack", "--sites", str(sites)], records).decode()
+        lacks = answers(program, ["lack", "--sites", str(sites)], records, (0, 1)).decode()
         if lacks != said if said != "audit,Agree\n" else "audit" in lacks:
             return "what is lacking isn't said where an audit agrees, and only there"
         if said.startswith("audit,BadRecord,"):
@@ -270,9 +272,70 @@ def settings(dice: random.Random) -> list[str]:
     return ["--batch", str(batch), "--shards", str(dice.randint(1, 64)), "--workers", str(dice.randint(2, 16))]
 
 
-def answers(program: str, command: list[str], records: list[str]) -> bytes:
+def answers(program: str, command: list[str], records: list[str], statuses: tuple[int, ...] = (0,)) -> bytes:
+    """What it writes; its status has to be one of these."""
     text = "".join(f"{record}\n" for record in records).encode()
-    return subprocess.run([program, *command], input=text, capture_output=True, check=True).stdout
+    done = subprocess.run([program, *command], input=text, capture_output=True)
+    if done.returncode not in statuses:
+        raise subprocess.CalledProcessError(done.returncode, [program, *command], done.stdout, done.stderr)
+    return done.stdout
+
+
+# A record of each form, for two sites.
+FORMS = """user,ann
+item,0.1,lamp,7,1,100,0
+bid,0.3,0.2,99
+buy,0.3,0.2,1
+close,0.3,0.1
+comment,0.3,0.2,0.1,-5,good
+restock,0.3,0.1,5
+rename,0.1,eve
+pass,1
+list,users
+list,items,7
+list,bids,0.3
+list,purchases,0.3
+list,comments,0.1
+list,categories
+list,log
+list,misfits
+list,tables
+msg,1,0,1,1,0:0,user,ann
+msg,1,0,2,0,1:0,item,0.1,lamp,7,1,100,0
+msg,1,0,3,2,2:0,bid,0.2,0.1,99
+msg,1,0,3,2,2:0,buy,0.2,0.1,1
+msg,1,0,3,2,2:0,close,0.2,7,none
+msg,1,0,3,2,2:0,close,0.2,7,0.4
+msg,1,0,3,0,2:0,comment,0.2,0.1,0.1,5,good
+msg,2,0,3,0,2:0,restock,0.2,5
+msg,2,0,3,2,2:0,rename,0.1,ann,eve
+token,1,1,1,0""".split("\n")
+
+
+def altered(dice: random.Random, record: str) -> str:
+    """A record with one field or one byte changed, doubled or left out."""
+    fields = record.split(",")
+    place = dice.randrange(len(fields))
+    other = dice.choice(["", "0", "00", "1", "2", "-1", "x", "none", "0.1", "2.1", "0:0", "1:0", "user", "items", "1000000", "1000001", "1000000000001", "a b", "A", "é"])
+    field = fields[place]
+    at = dice.randrange(len(field) + 1)
+    return ",".join(dice.choice([
+        fields[:place] + [other] + fields[place + 1 :],
+        fields[:place] + fields[place + 1 :],
+        fields[: place + 1] + fields[place:],
+        fields[:place] + [field[:at] + dice.choice("0aZ.:-_ ") + field[at:]] + fields[place + 1 :],
+        fields[:place] + [field[:at] + field[at + 1 :]] + fields[place + 1 :],
+    ]))
+
+
+def fault_in_check(program: str, dice: random.Random) -> str | None:
+    """Checks records of which most are outside the grammar; says if others are named than a site refuses as that."""
+    records = [altered(dice, dice.choice(FORMS)) for _ in range(2000)]
+    refused = re.findall(rb"^reply,(\d+),refused,1,BadRecord$", answers(program, ["site", "--site", "1", "--sites", "2"], records), re.M)
+    rows = answers(program, ["check", "--sites", "2"], records, (0, 1))
+    if re.findall(rb"^bad,(\d+),", rows, re.M) != refused:
+        return "other records are named than are refused"
+    return "a record has no reason" if b"not in the grammar" in rows else None
 
 
 def live_answers(program: str, command: list[str], lines: list[str]) -> bytes:
@@ -311,7 +374,7 @@ def main() -> int:
         elif number < many + worlds:
             fault = fault_in_world(program, dice)
         else:
-            fault = fault_in_text(program, dice)
+            fault = fault_in_text(program, dice) or fault_in_check(program, dice)
         if fault:
             print(f"random run {number} of seed {seed}: {fault}")
             return 1

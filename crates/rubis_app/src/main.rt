@@ -2,7 +2,7 @@
 //! them, over standard input and output.
 #![tactic(auto)]
 
-ghost use Rattle.std.specs.Prelude.{◌≡◌, ◌⊎◌, ◌<◌, ◌≤◌, cond, is_ok, map, string_bytes};
+ghost use Rattle.std.specs.Prelude.{◌≡◌, ◌⊎◌, ◌<◌, ◌≤◌, ◌==◌, ◌&&◌, IfErr, IfOk, cond, is_ok, map, not, string_bytes};
 ghost use Rattle.rubis_schema.specs.declared.limits.TheConstants.{SITES_MAX};
 ghost use Rattle.std.specs.Option.{SomeIff};
 ghost use Rattle.std.specs.Process.{exit_status};
@@ -14,7 +14,11 @@ ghost use Rattle.rubis_app.specs.Statuses.{IsStatusOf, status_by, status_of};
 
 use clap::Error;
 use rubis_audit::{Auditor, Question, run_auditor, run_widen};
-use rubis_cli::{KeepOptions, OptionFault, Options, Run, Setup, Widening, read_options};
+use rubis_check::{Grammar, Tally, run_check};
+use rubis_cli::{
+    AuditOptions, CheckOptions, KeepOptions, OptionFault, Options, Reading, Run, Setup, Widening,
+    read_options,
+};
 use rubis_keep::{FolderFault, Setup as Place, Wanted, keep_folder};
 use rubis_schema::{Hashes, RECORDS_MAX, SITES_MAX};
 use rubis_world::{
@@ -31,6 +35,9 @@ use std::{env, io, mem};
 
 /// The status of a run that a fault ended.
 const FAULT: u8 = 1;
+
+/// The status of logs that don't agree, or of which one has lost messages.
+const NOT_WELL: u8 = 1;
 
 /// The status of an invalid command line.
 const MISUSE: u8 = 2;
@@ -68,6 +75,18 @@ fn end<R: Eprint>(rt: &R, ended: Result<Count, RunFault>) -> ExitCode
     ensures { exit_status result ≡ cond (is_ok ended) 0 1 }
 {
     match ended {
+        Ok(_) => ExitCode::SUCCESS,
+        Err(fault) => fail(rt, fault),
+    }
+}
+
+// Says how an audit, or what was asked of logs, ended.
+fn end_audit<R: Eprint>(rt: &R, ended: Result<bool, RunFault>, by_status: bool) -> ExitCode
+    ensures well { IfOk ended (λ is_well. exit_status result ≡ cond (by_status && not is_well) 1 0) }
+    ensures fault { IfErr ended (λ fault. exit_status result ≡ 1) }
+{
+    match ended {
+        Ok(is_well) if by_status && !is_well => ExitCode::from(NOT_WELL),
         Ok(_) => ExitCode::SUCCESS,
         Err(fault) => fail(rt, fault),
     }
@@ -168,12 +187,40 @@ fn run_sites<R: Print + Eprint + Input + AllocGlobal + RandomSource + Threads + 
     end(rt, answer_world(rt, &config))
 }
 
-// Answers what is asked of the logs of `sites` sites, from standard input to standard output. The auditor isn't taken apart
-// afterwards.
-fn audit_logs<R: Print + Eprint + Input + AllocGlobal + RandomSource>(
+// Has an auditor answer what it is asked, from standard input to standard output, and returns whether it found nothing wrong. The
+// auditor isn't taken apart afterwards.
+fn ask_auditor<R: Print + Input + AllocGlobal>(
+    rt: &R,
+    mut auditor: Auditor,
+) -> Result<bool, RunFault> {
+    let mut writer = io::writer(rt);
+    let ended = run_auditor(rt.alloc(), rt.reader(), &mut writer, &mut auditor);
+    let is_well = auditor.is_well();
+    mem::forget(auditor);
+    ended?;
+    Ok(is_well)
+}
+
+// Audits the logs of sites, from standard input to standard output.
+fn run_audit<R: Print + Eprint + Input + AllocGlobal + RandomSource>(
+    rt: &R,
+    options: &AuditOptions,
+) -> ExitCode
+    ensures misuse { SITES_MAX < options.now.sites → exit_status result ≡ 2 }
+    ensures runs { options.now.sites ≤ SITES_MAX → (exit_status result ≡ 0) ⊎ (exit_status result ≡ 1) }
+{
+    if options.sites > SITES_MAX {
+        return misuse(rt, "there are too many sites");
+    }
+    let hashes = Hashes::random(rt);
+    let auditor = Auditor::hashed(rt.alloc(), options.sites, Question::Agreement, hashes);
+    end_audit(rt, ask_auditor(rt, auditor), options.status)
+}
+
+// Says what each of the logs of `sites` sites lacks of the others, from standard input to standard output.
+fn run_lacker<R: Print + Eprint + Input + AllocGlobal + RandomSource>(
     rt: &R,
     sites: u8,
-    asked: Question,
 ) -> ExitCode
     ensures misuse { SITES_MAX < sites → exit_status result ≡ 2 }
     ensures runs { sites ≤ SITES_MAX → (exit_status result ≡ 0) ⊎ (exit_status result ≡ 1) }
@@ -181,11 +228,51 @@ fn audit_logs<R: Print + Eprint + Input + AllocGlobal + RandomSource>(
     if sites > SITES_MAX {
         return misuse(rt, "there are too many sites");
     }
-    let mut auditor = Auditor::hashed(rt.alloc(), sites, asked, Hashes::random(rt));
+    let hashes = Hashes::random(rt);
+    let auditor = Auditor::hashed(rt.alloc(), sites, Question::Lacks, hashes);
+    end_audit(rt, ask_auditor(rt, auditor), true)
+}
+
+// The command whose records are checked.
+fn grammar_of(reading: Reading) -> Grammar {
+    match reading {
+        Reading::Site => Grammar::Site,
+        Reading::World => Grammar::World,
+        Reading::Audit => Grammar::Audit,
+    }
+}
+
+// Says how a check ended: its status is 0 only if no record is outside the grammar.
+fn end_check<R: Eprint>(rt: &R, ended: Result<Tally, RunFault>) -> ExitCode
+    ensures well { IfOk ended (λ tally. exit_status result ≡ cond (tally.bad == 0) 0 1) }
+    ensures fault { IfErr ended (λ fault. exit_status result ≡ 1) }
+{
+    match ended {
+        Ok(tally) if tally.bad > 0 => ExitCode::from(NOT_WELL),
+        Ok(_) => ExitCode::SUCCESS,
+        Err(fault) => fail(rt, fault),
+    }
+}
+
+// Checks records, from standard input to standard output.
+fn run_checker<R: Print + Eprint + Input + AllocGlobal>(rt: &R, options: &CheckOptions) -> ExitCode
+    ensures { (exit_status result ≡ 0) ⊎ (exit_status result ≡ 1) ⊎ (exit_status result ≡ 2) }
+{
+    if options.sites > SITES_MAX {
+        return misuse(rt, "there are too many sites");
+    }
+    let Some(reading) = options.reading else {
+        return misuse(rt, "only records of site, world or audit are checked");
+    };
     let mut writer = io::writer(rt);
-    let ended = run_auditor(rt.alloc(), rt.reader(), &mut writer, &mut auditor);
-    mem::forget(auditor);
-    end(rt, ended)
+    let ended = run_check(
+        rt.alloc(),
+        rt.reader(),
+        &mut writer,
+        grammar_of(reading),
+        options.sites,
+    );
+    end_check(rt, ended)
 }
 
 // Widens logs to more sites, from standard input to standard output.
@@ -303,8 +390,9 @@ fn start<
     match read_options(rt.alloc(), words) {
         Ok(Run::Site(options)) => run(rt, &options),
         Ok(Run::World(setup)) => run_sites(rt, &setup),
-        Ok(Run::Audit(sites)) => audit_logs(rt, sites, Question::Agreement),
-        Ok(Run::Lack(sites)) => audit_logs(rt, sites, Question::Lacks),
+        Ok(Run::Audit(options)) => run_audit(rt, &options),
+        Ok(Run::Lack(sites)) => run_lacker(rt, sites),
+        Ok(Run::Check(options)) => run_checker(rt, &options),
         Ok(Run::Widen(counts)) => run_widener(rt, &counts),
         Ok(Run::Keep(options)) => run_keep(rt, &options),
         Err(OptionFault::Memory) => fail(rt, RunFault::Memory),

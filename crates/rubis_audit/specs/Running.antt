@@ -1,9 +1,12 @@
 -- An auditor that reads records.
-use Rattle.std.specs.Prelude.{◌≡◌, ℕ, ◌+◌, ◌≤◌, suc, List, [], ◌∷◌, option_and_then, reverse, Option, Some, None, Result, Ok, Err}
+use Rattle.std.specs.Prelude.{◌≡◌, ℕ, ◌+◌, ◌≤◌, ◌==◌, ◌&&◌, suc, Bool, true, false, List, [], ◌∷◌, length, option_and_then, reverse, Option, Some, None, Result, Ok, Err}
 use Rattle.rubis_schema.specs.declared.limits.TheConstants.{COUNTED_MAX}
 use Rattle.rubis_message.specs.Message.{Message, sites_of}
+use Rattle.rubis_message.specs.declared.answers.Verdict.{Verdict}
+use Rattle.rubis_message.specs.declared.answers.Verdict.TheVariants.{Agree, Found}
 use Rattle.rubis_model.specs.AuditRecords.{audit_record, line_of, logs_after, with_line}
-use Rattle.rubis_model.specs.LackRecords.{lack_rows_read}
+use Rattle.rubis_model.specs.Lack.{lacked}
+use Rattle.rubis_model.specs.LackRecords.{lack_rows_read, made_at}
 use Rattle.rubis_model.specs.Logs.{Log}
 use Rattle.rubis_model.specs.Settle.{Has}
 use Rattle.rubis_engine.specs.Accounts.{Account, Ending}
@@ -42,6 +45,17 @@ pub record AreRead (sites : ℕ) (ended : List Log) (current : Option Log) : Typ
 abbrev pub rows_for : Question → Result (List Log) ℕ → List (List (List ℕ))
 rows_for Agreement logs = audit_record logs ∷ []
 rows_for Lacks logs = lack_rows_read logs
+
+-- none of these logs lacks a message of its own site that another of all logs has
+abbrev pub none_lost : List Log → List Log → Bool
+none_lost all [] = true
+none_lost all (log ∷ logs) = (length (made_at log.site (lacked all log.messages)) == 0) && none_lost all logs
+
+-- what was asked of logs with that verdict finds nothing wrong: they agree, and, if it is what they lack, none has lost a message
+abbrev pub is_well : Question → List Log → Verdict → Bool
+is_well Agreement logs Agree = true
+is_well Lacks logs Agree = none_lost logs logs
+is_well asked logs (Found kind log entry) = false
 
 -- at the end these; where the run is cut short, nothing
 abbrev pub answer_text : Question → Ending → Result (List Log) ℕ → List ℕ

@@ -14,7 +14,7 @@ ghost use Rattle.rubis_model.specs.Audit.{AreFaultless};
 ghost use Rattle.rubis_model.specs.Verdict.{verdict as verdict_of};
 ghost use Rattle.rubis_engine.specs.Text.{rows_text};
 ghost use Rattle.rubis_audit.specs.Walks.{HaveMessagesAmong};
-ghost use Rattle.rubis_audit.specs.Running.{IsCurrentAmong, account_from, logs_so_far, rows_for};
+ghost use Rattle.rubis_audit.specs.Running.{IsCurrentAmong, account_from, is_well, logs_so_far, rows_for};
 
 use crate::audits::audit_hashed;
 use crate::lacks::write_lacks;
@@ -35,6 +35,8 @@ pub struct Auditor {
     // The logs before the one that is read, in order.
     ended: Vec<Log>,
     current: Option<Log>,
+    // Whether the end was reached, and nothing wrong was found.
+    well: bool,
     sites: u8,
     hashes: Hashes,
     alloc: Global,
@@ -105,7 +107,7 @@ fn claim_row(
     }
 }
 
-// Writes what was asked of the logs, of which that is the verdict.
+// Writes what was asked of the logs, of which that is the verdict, and says whether it finds nothing wrong.
 fn write_answer(
     alloc: Global,
     sink: &mut Sink,
@@ -113,18 +115,20 @@ fn write_answer(
     sites: u8,
     logs: &[Log],
     verdict: Verdict,
-) -> Result<(), AllocError>
+) -> Result<bool, AllocError>
     requires few { sites ≤ COUNTED_MAX }
     requires among { HaveMessagesAmong sites logs.now }
     requires verdict { verdict ≡ verdict_of logs.now }
     requires faultless { verdict ≡ Agree → AreFaultless logs.now }
-    ensures { OnOk result (sink.new ≡ sink.old ++ rows_text (rows_for asked (Ok (reverse logs.now)))) }
+    ensures rows { OnOk result (sink.new ≡ sink.old ++ rows_text (rows_for asked (Ok (reverse logs.now)))) }
+    ensures well { IfOk result (λ well. well ≡ is_well asked logs.now verdict) }
 {
     if let (Question::Lacks, Verdict::Agree) = (asked, verdict) {
         return write_lacks(alloc, sink, sites, logs);
     }
     let mut fields = Fields::new(alloc);
-    write_verdict(&mut fields, sink, verdict)
+    write_verdict(&mut fields, sink, verdict)?;
+    Ok(matches!(verdict, Verdict::Agree))
 }
 
 impl Auditor {
@@ -145,10 +149,17 @@ impl Auditor {
             asked,
             ended: Vec::new(alloc),
             current: None,
+            well: false,
             sites,
             hashes,
             alloc,
         }
+    }
+
+    /// Whether all logs were read and what was asked of them finds nothing wrong: they agree, and, if it is what they lack, none
+    /// has lost messages of its own site.
+    pub fn is_well(&self) -> bool {
+        self.well
     }
 
     // Begins a log of that site.
@@ -199,7 +210,7 @@ impl<T> Service<T> for Auditor {
         let current = self.current.take();
         end_log(&mut self.ended, current)?;
         let verdict = audit_hashed(self.alloc, &self.ended, self.sites, self.hashes)?;
-        write_answer(
+        self.well = write_answer(
             self.alloc,
             sink,
             self.asked,

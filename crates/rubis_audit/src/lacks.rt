@@ -1,10 +1,11 @@
 //! What logs lack of each other, as records.
 
-ghost use Rattle.std.specs.Prelude.{◌≡◌, ◌≤◌, ◌++◌, ◌∷◌, [], OnOk, length, map};
+ghost use Rattle.std.specs.Prelude.{◌≡◌, ◌≤◌, ◌==◌, ◌++◌, ◌∷◌, [], IfOk, OnOk, length, map};
 ghost use Rattle.rubis_schema.specs.declared.limits.TheConstants.{COUNTED_MAX};
 ghost use Rattle.rubis_model.specs.Audit.{AreFaultless};
 ghost use Rattle.rubis_model.specs.LackRecords.{count_row, lack_row, lack_rows, lack_rows_from, made_at};
 ghost use Rattle.rubis_engine.specs.Text.{rows_text};
+ghost use Rattle.rubis_audit.specs.Running.{none_lost};
 ghost use Rattle.rubis_audit.specs.Walks.{HaveMessagesAmong};
 
 use crate::logs::Log;
@@ -75,25 +76,28 @@ fn count_own(site: u8, messages: &[&Message]) -> usize
     many
 }
 
-// Writes what the log of that number lacks.
+// Writes what the log of that number lacks, and says whether none of it is of the log's own site.
 fn write_lack(
     fields: &mut Fields,
     sink: &mut Sink,
     number: usize,
     site: u8,
     messages: &[&Message],
-) -> Result<(), AllocError>
-    ensures { OnOk result (sink.new ≡ sink.old ++ rows_text (lack_rows number site (map (λ m. m.now) messages.now))) }
+) -> Result<bool, AllocError>
+    ensures rows { OnOk result (sink.new ≡ sink.old ++ rows_text (lack_rows number site (map (λ m. m.now) messages.now))) }
+    ensures well { IfOk result (λ well. well ≡ (length (made_at site (map (λ m. m.now) messages.now)) == 0)) }
 {
     let own = count_own(site, messages);
     if own > 0 {
-        return write_count(fields, sink, b"lost", number, own);
+        write_count(fields, sink, b"lost", number, own)?;
+        return Ok(false);
     }
     write_count(fields, sink, b"lacks", number, messages.len())?;
-    write_all_named(fields, sink, number, messages)
+    write_all_named(fields, sink, number, messages)?;
+    Ok(true)
 }
 
-/// Writes what each of these logs lacks of the others, in their order.
+/// Writes what each of these logs lacks of the others, in their order, and says whether none lacks messages of its own site.
 ///
 /// # Errors
 ///
@@ -103,17 +107,19 @@ pub fn write_lacks(
     sink: &mut Sink,
     sites: u8,
     logs: &[Log],
-) -> Result<(), AllocError>
+) -> Result<bool, AllocError>
     requires few { sites ≤ COUNTED_MAX }
     requires among { HaveMessagesAmong sites logs.now }
     requires faultless { AreFaultless logs.now }
-    ensures { OnOk result (sink.new ≡ sink.old ++ rows_text (lack_rows_from 1 logs.now logs.now)) }
+    ensures rows { OnOk result (sink.new ≡ sink.old ++ rows_text (lack_rows_from 1 logs.now logs.now)) }
+    ensures well { IfOk result (λ well. well ≡ none_lost logs.now logs.now) }
 {
     let all = merge(alloc, sites, logs)?;
     let mut fields = Fields::new(alloc);
+    let mut well = true;
     for (at, log) in logs.iter().enumerate() {
         let messages = lacked(alloc, sites, log, &all)?;
-        write_lack(&mut fields, sink, at + 1, log.site(), &messages)?;
+        well &= write_lack(&mut fields, sink, at + 1, log.site(), &messages)?;
     }
-    Ok(())
+    Ok(well)
 }

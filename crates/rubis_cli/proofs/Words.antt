@@ -33,6 +33,11 @@ text_missing (Some x) g t shown e same h = absurd (cc e)
 text_missing None (Some x) t shown e same h = absurd (cc same)
 text_missing None None t shown e same h = absurd (cc h)
 
+pub none_found : {P : Type 0} (f g : Option Text) (t : Text) → None ≡ f → f ≡ g → g ≡ Some t → P
+none_found (Some x) g t e same h = absurd (cc e)
+none_found None (Some x) t e same h = absurd (cc same)
+none_found None None t e same h = absurd (cc h)
+
 -- a command without global options
 pub third_is_false : (a b c d : Bool) → (a && (not b && (not c && d))) ≡ true → c ≡ false
 third_is_false true false false d h = refl

@@ -1,6 +1,7 @@
--- The command line: `rubis site`, with six options that take a number, `rubis world`, with five, `rubis audit` and `rubis lack`, with one,
+-- The command line: `rubis site`, with six options that take a number, `rubis world`, with five, `rubis audit` and `rubis lack`, with one
+-- (and `audit` with one that takes none), `rubis check`, with one and the name of a command,
 -- `rubis widen`, with two, and `rubis keep`, with a folder, six options that take a number, and three that take none.
-use Rattle.std.specs.Prelude.{◌≡◌, ◌≢◌, ℕ, ◌-◌, ◌<◌, ◌^◌, Bool, List, [], ◌∷◌, Option, None, Some, ⊤, false, true, codes, string_bytes}
+use Rattle.std.specs.Prelude.{◌≡◌, ◌≢◌, ℕ, ◌-◌, ◌<◌, ◌^◌, Bool, List, [], ◌∷◌, Option, None, Some, ⊤, false, true, if◌then◌else◌, bytes_eq, codes, string_bytes}
 use Rattle.std.specs.Str.Parse.{IsNumeral, digits_value, without_leading_plus}
 use Rattle.clap.specs.Words.{App, IsAmong, Kinds, Row, Rule, Text, first_of, kind_of, new_app, new_rule, one_of, subcommand_of, with_rule, with_subcommand}
 use Rattle.clap.specs.declared.builder.action.ArgAction.TheVariants.{SetTrue}
@@ -10,17 +11,25 @@ use Rattle.clap.specs.declared.error.kind.ErrorKind.{ErrorKind}
 use Rattle.clap.specs.declared.error.kind.ErrorKind.TheVariants.{OutOfMemory}
 use Rattle.rubis_schema.specs.declared.limits.TheConstants.{BATCH_MAX, KEEP_MAX, SHARDS_MAX, SITES_MAX, WORKERS_MAX}
 use Rattle.rubis_cli.specs.declared.keep_options.KeepOptions.{KeepOptions}
+use Rattle.rubis_cli.specs.declared.options.AuditOptions.{AuditOptions}
+use Rattle.rubis_cli.specs.declared.options.CheckOptions.{CheckOptions}
+use Rattle.rubis_cli.specs.declared.options.Reading.{Reading}
+use Rattle.rubis_cli.specs.declared.options.Reading.TheVariants as reading
 use Rattle.rubis_cli.specs.declared.options.OptionFault.{OptionFault}
 use Rattle.rubis_cli.specs.declared.options.OptionFault.TheVariants.{Memory, Words}
 use Rattle.rubis_cli.specs.declared.options.Options.{Options}
 use Rattle.rubis_cli.specs.declared.options.Run.{Run}
-use Rattle.rubis_cli.specs.declared.options.Run.TheVariants.{Audit, Keep, Lack, Site, Widen, World}
+use Rattle.rubis_cli.specs.declared.options.Run.TheVariants.{Audit, Check, Keep, Lack, Site, Widen, World}
 use Rattle.rubis_cli.specs.declared.options.Setup.{Setup}
 use Rattle.rubis_cli.specs.declared.options.Widening.{Widening}
 
 -- an option that takes a number from `low` to `high`, and that has the value `default` where it isn't given
 abbrev pub number_option : Text → ℕ → ℕ → Text → Rule
 number_option name low high default = record (new_rule name) { long = Some name; value_names = 1; parser = Some (Unsigned low high); defaults = default ∷ [] }
+
+-- an option without a value
+abbrev pub flag_option : Text → Rule
+flag_option name = record (new_rule name) { long = Some name; action = Some SetTrue }
 
 abbrev pub sites_option : Rule
 sites_option = number_option (codes "sites") 1 SITES_MAX (codes "1")
@@ -43,10 +52,17 @@ abbrev pub world_command : App
 world_command = with_setup (new_app (codes "world"))
 
 abbrev pub audit_command : App
-audit_command = with_rule (new_app (codes "audit")) sites_option
+audit_command = with_rule (with_rule (new_app (codes "audit")) sites_option) (flag_option (codes "status"))
 
 abbrev pub lack_command : App
 lack_command = with_rule (new_app (codes "lack")) sites_option
+
+-- the name of the command that reads the records
+abbrev pub reading_option : Rule
+reading_option = record (new_rule (codes "reading")) { value_names = 1; defaults = codes "site" ∷ [] }
+
+abbrev pub check_command : App
+check_command = with_rule (with_rule (new_app (codes "check")) reading_option) sites_option
 
 abbrev pub widen_command : App
 widen_command = with_rule (with_rule (new_app (codes "widen")) sites_option) (number_option (codes "to") 1 SITES_MAX (codes "16"))
@@ -54,10 +70,6 @@ widen_command = with_rule (with_rule (new_app (codes "widen")) sites_option) (nu
 -- an option that takes a number from `low` to `high`, and that has no value where it isn't given
 abbrev pub given_option : Text → ℕ → ℕ → Rule
 given_option name low high = record (new_rule name) { long = Some name; value_names = 1; parser = Some (Unsigned low high) }
-
--- an option without a value
-abbrev pub flag_option : Text → Rule
-flag_option name = record (new_rule name) { long = Some name; action = Some SetTrue }
 
 abbrev pub folder_option : Rule
 folder_option = record (new_rule (codes "folder")) { value_names = 1; required = true }
@@ -81,13 +93,17 @@ program_alone = let a = new_app (codes "rubis") in record a { top = record a.top
 
 abbrev pub command_line : App
 command_line =
-    with_subcommand (with_subcommand (with_subcommand (with_subcommand
-    (with_subcommand (with_subcommand program_alone site_command.top) world_command.top) audit_command.top) lack_command.top) widen_command.top) keep_command.top
+    with_subcommand (with_subcommand (with_subcommand (with_subcommand (with_subcommand (with_subcommand (with_subcommand program_alone
+    site_command.top) world_command.top) audit_command.top) lack_command.top) check_command.top) widen_command.top) keep_command.top
 
 -- n is the number of at most `bits` bits that the text writes: decimal digits, optionally after a plus sign
 abbrev pub IsNumberOf : ℕ → Option Text → ℕ → Type 0
 IsNumberOf bits text n = (t : Text) → text ≡ Some t → IsNumeral 10 (without_leading_plus t) → digits_value 10 (without_leading_plus t) < 2 ^ bits
     → n ≡ digits_value 10 (without_leading_plus t)
+
+-- an option without a value is given
+abbrev pub IsFlag : Option Text → Bool → Type 0
+IsFlag text given = (text ≡ None → given ≡ false) × (text ≡ Some (codes "true") → given ≡ true) × (text ≡ Some (codes "false") → given ≡ false)
 
 -- the numbers are what stands in these rows
 pub record IsSetupIn (rows : List Row) (s : Setup) : Type 0 where
@@ -101,6 +117,10 @@ pub record AreOptionsIn (rows : List Row) (o : Options) : Type 0 where
   pub site : IsNumberOf 8 (one_of (codes "site") rows) o.site
   pub setup : IsSetupIn rows o.setup
 
+pub record AreAuditOptionsIn (rows : List Row) (a : AuditOptions) : Type 0 where
+  pub sites : IsNumberOf 8 (one_of (codes "sites") rows) a.sites
+  pub status : IsFlag (one_of (codes "status") rows) a.status
+
 pub record AreCountsIn (rows : List Row) (w : Widening) : Type 0 where
   pub sites : IsNumberOf 8 (one_of (codes "sites") rows) w.sites
   pub to : IsNumberOf 8 (one_of (codes "to") rows) w.to
@@ -111,9 +131,19 @@ IsGivenNumber bits text n = (text ≡ None → n ≡ None)
     × ((t : Text) → text ≡ Some t → IsNumeral 10 (without_leading_plus t) → digits_value 10 (without_leading_plus t) < 2 ^ bits
     → n ≡ Some (digits_value 10 (without_leading_plus t)))
 
--- an option without a value is given
-abbrev pub IsFlag : Option Text → Bool → Type 0
-IsFlag text given = (text ≡ None → given ≡ false) × (text ≡ Some (codes "true") → given ≡ true) × (text ≡ Some (codes "false") → given ≡ false)
+abbrev pub reading_named : Text → Option Reading
+reading_named name =
+    if bytes_eq name (codes "site") then Some reading.Site
+    else if bytes_eq name (codes "world") then Some reading.World
+    else if bytes_eq name (codes "audit") then Some reading.Audit
+    else None
+
+abbrev pub IsReading : Option Text → Option Reading → Type 0
+IsReading found r = (t : Text) → found ≡ Some t → r ≡ reading_named t
+
+pub record AreCheckOptionsIn (rows : List Row) (c : CheckOptions) : Type 0 where
+  pub reading : IsReading (first_of (codes "reading") rows) c.reading
+  pub sites : IsNumberOf 8 (one_of (codes "sites") rows) c.sites
 
 abbrev pub IsText : Option Text → Text → Type 0
 IsText found text = (t : Text) → found ≡ Some t → text ≡ t
@@ -130,19 +160,17 @@ pub record AreKeepOptionsIn (rows : List Row) (o : KeepOptions) : Type 0 where
   pub shorten : IsFlag (one_of (codes "shorten") rows) o.shorten
   pub upgrade : IsFlag (one_of (codes "upgrade") rows) o.upgrade
 
--- what the words of a command line ask for: an audit, what logs lack, several sites, a widening or a site that keeps its records
+-- what the words of a command line ask for: an audit, what logs lack, a check, several sites, a widening or a site that keeps its records
 -- where that is the command, or else a site, with the options that stand after the command
 abbrev pub IsAsked : List Text → Run → Type 0
-IsAsked words (Audit sites) = (rows : List Row) × (subcommand_of command_line words ≡ Some (codes "audit", rows))
-    × IsNumberOf 8 (one_of (codes "sites") rows) sites
-IsAsked words (Lack sites) = (rows : List Row) × (subcommand_of command_line words ≡ Some (codes "lack", rows))
-    × IsNumberOf 8 (one_of (codes "sites") rows) sites
+IsAsked words (Audit options) = (rows : List Row) × (subcommand_of command_line words ≡ Some (codes "audit", rows)) × AreAuditOptionsIn rows options
+IsAsked words (Lack sites) = (rows : List Row) × (subcommand_of command_line words ≡ Some (codes "lack", rows)) × IsNumberOf 8 (one_of (codes "sites") rows) sites
+IsAsked words (Check options) = (rows : List Row) × (subcommand_of command_line words ≡ Some (codes "check", rows)) × AreCheckOptionsIn rows options
 IsAsked words (World setup) = (rows : List Row) × (subcommand_of command_line words ≡ Some (codes "world", rows)) × IsSetupIn rows setup
 IsAsked words (Widen counts) = (rows : List Row) × (subcommand_of command_line words ≡ Some (codes "widen", rows)) × AreCountsIn rows counts
 IsAsked words (Keep options) = (rows : List Row) × (subcommand_of command_line words ≡ Some (codes "keep", rows)) × AreKeepOptionsIn rows options
 IsAsked words (Site options) =
-    (name : Text) × (rows : List Row) × (subcommand_of command_line words ≡ Some (name, rows)) × (name ≢ codes "audit") × (name ≢ codes "world")
-    × (name ≢ codes "widen") × (name ≢ codes "keep") × (name ≢ codes "lack")
+    (name : Text) × (rows : List Row) × (subcommand_of command_line words ≡ Some (name, rows)) × (name ≢ codes "audit") × (name ≢ codes "world") × (name ≢ codes "widen") × (name ≢ codes "keep") × (name ≢ codes "lack") × (name ≢ codes "check")
     × AreOptionsIn rows options
 
 -- what an error of `clap` is called here

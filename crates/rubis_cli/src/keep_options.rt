@@ -43,8 +43,8 @@ fn given<'a>(alloc: Global, name: &'a str, low: u64, high: u64, help: &'a str) -
         .help(help)
 }
 
-// An option without a value.
-fn flag<'a>(alloc: Global, name: &'a str, help: &'a str) -> Arg<'a>
+/// An option without a value.
+pub(crate) fn flag<'a>(alloc: Global, name: &'a str, help: &'a str) -> Arg<'a>
     ensures rule { rule_of result ≡ flag_option name.entry.now }
     ensures help { result.help ≡ Some help.entry }
     ensures local { result.global ≡ false }
@@ -121,9 +121,13 @@ fn with_flags<'a>(alloc: Global, command: Command<'a>) -> Result<Command<'a>, Al
 pub(crate) fn keep_command<'a>(alloc: Global) -> Result<Command<'a>, AllocError>
     ensures { IfOk result (λ made. app_of made ≡ keep_command) }
 {
-    let keep = Command::new(alloc, "keep").about(
-        "Runs a site that stays up: keeps each record before it is answered, and goes on after a crash",
-    );
+    let keep = Command::new(alloc, "keep")
+        .about(
+            "Runs a site that stays up: keeps each record before it is answered, and goes on after a crash",
+        )
+        .after_help(
+            "Records, for example:\n  user,ann\n  item,0.1,lamp,7,1,100,0\n  list,users\nAll of them: man rubis, and docs/MANUAL.md",
+        );
     let keep = with_place(alloc, keep)?;
     let keep = with_work(alloc, keep)?;
     with_flags(alloc, keep)
@@ -143,8 +147,8 @@ fn given_word(matches: &ArgMatches<'_>, name: &str) -> Option<u32>
     matches.get_one::<u32>(name)
 }
 
-// Whether an option without a value is given.
-fn is_given(matches: &ArgMatches<'_>, name: &str) -> bool
+/// Whether an option without a value is given.
+pub(crate) fn is_given(matches: &ArgMatches<'_>, name: &str) -> bool
     ensures { IsFlag (one_of name.now (rows_of (found_of matches.now))) result }
 {
     matches.get_flag(name)

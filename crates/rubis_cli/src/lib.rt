@@ -6,4 +6,6 @@ mod keep_options;
 mod options;
 
 pub use keep_options::KeepOptions;
-pub use options::{OptionFault, Options, Run, Setup, Widening, read_options};
+pub use options::{
+    AuditOptions, CheckOptions, OptionFault, Options, Reading, Run, Setup, Widening, read_options,
+};

@@ -2,10 +2,10 @@
 
 ghost use Rattle.std.specs.Prelude.{◌≡◌, false, [], Some, codes, map, string_bytes, IfErr, IfOk};
 ghost use Rattle.rubis_schema.specs.declared.limits.TheConstants.{SITES_MAX};
-ghost use Rattle.clap.specs.Words.{app_of, fault_of, found_of, one_of, rows_of, rule_of};
-ghost use Rattle.rubis_cli.specs.CommandLine.{AreCountsIn, AreOptionsIn, IsAsked, IsFaultAmong, IsNumberOf, IsSetupIn, audit_command, command_line, lack_command, number_option, program_alone, site_command, widen_command, with_setup, with_work, world_command};
+ghost use Rattle.clap.specs.Words.{app_of, fault_of, first_of, found_of, one_of, rows_of, rule_of};
+ghost use Rattle.rubis_cli.specs.CommandLine.{AreAuditOptionsIn, AreCheckOptionsIn, AreCountsIn, AreOptionsIn, IsAsked, IsFaultAmong, IsNumberOf, IsReading, IsSetupIn, audit_command, check_command, command_line, lack_command, number_option, program_alone, reading_named, reading_option, site_command, widen_command, with_setup, with_work, world_command};
 
-use crate::keep_options::{KeepOptions, keep_command, read_keep};
+use crate::keep_options::{KeepOptions, flag, is_given, keep_command, read_keep};
 use clap::builder::ValueParser;
 use clap::error::ErrorKind;
 use clap::{Arg, ArgMatches, Command, Error};
@@ -19,10 +19,12 @@ pub enum Run {
     Site(Options),
     /// Several sites in one run.
     World(Setup),
-    /// An audit of the logs of this many sites.
-    Audit(u8),
+    /// An audit of logs.
+    Audit(AuditOptions),
     /// What each of the logs of this many sites lacks of the others.
     Lack(u8),
+    /// A check of records.
+    Check(CheckOptions),
     /// The records of an audit, widened.
     Widen(Widening),
     /// A site that keeps its records.
@@ -79,6 +81,29 @@ pub struct Setup {
 pub struct Widening {
     pub sites: u8,
     pub to: u8,
+}
+
+/// Of how many sites the logs of an audit are, and whether its status says what it found.
+#[derive(Clone, Copy)]
+pub struct AuditOptions {
+    pub sites: u8,
+    /// The status is 0 only if the logs agree.
+    pub status: bool,
+}
+
+/// As what records are read.
+#[derive(Clone, Copy, PartialEq, Eq)]
+pub enum Reading {
+    Site,
+    World,
+    Audit,
+}
+
+/// As what records are checked, if it is one of the three, and of how many sites they are.
+#[derive(Clone, Copy)]
+pub struct CheckOptions {
+    pub reading: Option<Reading>,
+    pub sites: u8,
 }
 
 /// The numbers of one site.
@@ -178,6 +203,9 @@ fn widen<'a>(alloc: Global) -> Result<Command<'a>, AllocError>
         .about(
             "Rewrites logs for more sites, so that they can be audited with those of larger shops",
         )
+        .after_help(
+            "Records, for example:\n  site,0\n  msg,1,0,1,1,0,user,ann\n  row,user,0.1,ann,0,0,0,0\nAll of them: man rubis, and docs/MANUAL.md",
+        )
         .arg(sites(alloc))?
         .arg(number(
             alloc,
@@ -195,6 +223,9 @@ fn site<'a>(alloc: Global) -> Result<Command<'a>, AllocError>
 {
     let site = Command::new(alloc, "site")
         .about("Runs one site: reads records on standard input, writes answers on standard output")
+        .after_help(
+            "Records, for example:\n  user,ann\n  item,0.1,lamp,7,1,100,0\n  list,users\nAll of them: man rubis, and docs/MANUAL.md",
+        )
         .arg(number(
             alloc,
             "site",
@@ -210,9 +241,11 @@ fn site<'a>(alloc: Global) -> Result<Command<'a>, AllocError>
 fn world<'a>(alloc: Global) -> Result<Command<'a>, AllocError>
     ensures { IfOk result (λ made. app_of made ≡ world_command) }
 {
-    let world = Command::new(alloc, "world").about(
-        "Runs several sites and their packets: reads records, writes answers",
-    );
+    let world = Command::new(alloc, "world")
+        .about("Runs several sites and their packets: reads records, writes answers")
+        .after_help(
+            "Records, for example:\n  at,0,user,ann\n  deliver,1,1\n  audit\nAll of them: man rubis, and docs/MANUAL.md",
+        );
     with_setup(alloc, world)
 }
 
@@ -222,7 +255,11 @@ fn audit<'a>(alloc: Global) -> Result<Command<'a>, AllocError>
 {
     Command::new(alloc, "audit")
         .about("Audits the logs of several sites: writes the first fault, or Agree")
-        .arg(sites(alloc))
+        .after_help(
+            "Records, for example:\n  site,0\n  msg,1,0,1,1,0,user,ann\n  row,user,0.1,ann,0,0,0,0\nAll of them: man rubis, and docs/MANUAL.md",
+        )
+        .arg(sites(alloc))?
+        .arg(flag(alloc, "status", "Ends with status 1 unless the logs agree"))
 }
 
 // The command that says what each of several logs lacks of the others.
@@ -233,6 +270,33 @@ fn lack<'a>(alloc: Global) -> Result<Command<'a>, AllocError>
         .about(
             "Writes the messages that each of several logs lacks of the others, or what their audit finds",
         )
+        .after_help(
+            "Records, for example:\n  site,0\n  msg,1,0,1,1,0,user,ann\n  site,1\nAll of them: man rubis, and docs/MANUAL.md",
+        )
+        .arg(sites(alloc))
+}
+
+// The argument that says as what records are checked.
+fn reading_argument<'a>(alloc: Global) -> Arg<'a>
+    ensures rule { rule_of result ≡ reading_option }
+    ensures local { result.global ≡ false }
+{
+    Arg::new(alloc, "reading")
+        .value_name("COMMAND")
+        .default_value("site")
+        .help("The command that reads the records: site, world or audit")
+}
+
+// The command that checks records.
+fn check<'a>(alloc: Global) -> Result<Command<'a>, AllocError>
+    ensures { IfOk result (λ made. app_of made ≡ check_command) }
+{
+    Command::new(alloc, "check")
+        .about("Says of each record that is outside the grammar what is wrong with it")
+        .after_help(
+            "Records, for example:\n  user,ann\n  item,0.1,lamp,7,1,100,0\n  list,users\nAll of them: man rubis, and docs/MANUAL.md",
+        )
+        .arg(reading_argument(alloc))?
         .arg(sites(alloc))
 }
 
@@ -259,6 +323,7 @@ fn program<'a>(alloc: Global) -> Result<Command<'a>, AllocError>
     let program = program.subcommand(world(alloc)?)?;
     let program = program.subcommand(audit(alloc)?)?;
     let program = program.subcommand(lack(alloc)?)?;
+    let program = program.subcommand(check(alloc)?)?;
     let program = program.subcommand(widen(alloc)?)?;
     program.subcommand(keep_command(alloc)?)
 }
@@ -307,6 +372,50 @@ fn counts(matches: &ArgMatches<'_>) -> Widening
     }
 }
 
+fn audit_options(matches: &ArgMatches<'_>) -> AuditOptions
+    ensures { AreAuditOptionsIn (rows_of (found_of matches.now)) result }
+{
+    AuditOptions {
+        sites: byte(matches, "sites"),
+        status: is_given(matches, "status"),
+    }
+}
+
+impl Reading {
+    // What the name of a command says, if it is one of the three.
+    fn named(name: &str) -> Option<Reading>
+        ensures { result ≡ reading_named name.now }
+    {
+        if name == "site" {
+            Some(Reading::Site)
+        } else if name == "world" {
+            Some(Reading::World)
+        } else if name == "audit" {
+            Some(Reading::Audit)
+        } else {
+            None
+        }
+    }
+}
+
+fn read_reading(matches: &ArgMatches<'_>) -> Option<Reading>
+    ensures { IsReading (first_of (codes "reading") (rows_of (found_of matches.now))) result }
+{
+    match matches.get_str("reading") {
+        Some(name) => Reading::named(name),
+        None => None,
+    }
+}
+
+fn check_options(matches: &ArgMatches<'_>) -> CheckOptions
+    ensures { AreCheckOptionsIn (rows_of (found_of matches.now)) result }
+{
+    CheckOptions {
+        reading: read_reading(matches),
+        sites: byte(matches, "sites"),
+    }
+}
+
 /// What the words of a command line, the program's name first, ask for. If they are refused, it is for one of the
 /// reasons that this command line has to refuse them, or because memory ran out.
 pub fn read_options(alloc: Global, words: &[String]) -> Result<Run, OptionFault>
@@ -318,7 +427,7 @@ pub fn read_options(alloc: Global, words: &[String]) -> Result<Run, OptionFault>
     match matches.subcommand() {
         Some((name, inner)) => {
             if name == "audit" {
-                Ok(Run::Audit(byte(inner, "sites")))
+                Ok(Run::Audit(audit_options(inner)))
             } else if name == "world" {
                 Ok(Run::World(read_setup(inner)))
             } else if name == "widen" {
@@ -327,6 +436,8 @@ pub fn read_options(alloc: Global, words: &[String]) -> Result<Run, OptionFault>
                 Ok(Run::Keep(read_keep(alloc, inner)?))
             } else if name == "lack" {
                 Ok(Run::Lack(byte(inner, "sites")))
+            } else if name == "check" {
+                Ok(Run::Check(check_options(inner)))
             } else {
                 Ok(Run::Site(site_options(inner)))
             }

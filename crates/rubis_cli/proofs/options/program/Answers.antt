@@ -16,7 +16,9 @@ returns c =
     let three = c.in_ok-program-4.ensures.shape audit_local ∙ ap₂ with_subcommand two (ap top c.in_ok-audit.ensures) in
     let lack_local = third_is_false _ _ _ _ (ap is_plain c.in_ok-lack.ensures) in
     let four = c.in_ok-program-5.ensures.shape lack_local ∙ ap₂ with_subcommand three (ap top c.in_ok-lack.ensures) in
+    let check_local = third_is_false _ _ _ _ (ap is_plain c.in_ok-check.ensures) in
+    let five = c.in_ok-program-6.ensures.shape check_local ∙ ap₂ with_subcommand four (ap top c.in_ok-check.ensures) in
     let widen_local = third_is_false _ _ _ _ (ap is_plain c.in_ok-widen.ensures) in
-    let five = c.in_ok-program-6.ensures.shape widen_local ∙ ap₂ with_subcommand four (ap top c.in_ok-widen.ensures) in
+    let six = c.in_ok-program-7.ensures.shape widen_local ∙ ap₂ with_subcommand five (ap top c.in_ok-widen.ensures) in
     let keep_local = third_is_false _ _ _ _ (ap is_plain c.in_ok-keep_command.ensures) in
-    IfOk-weaker c.subcommand-6.result _ _ (λ made h. h.shape keep_local ∙ ap₂ with_subcommand five (ap top c.in_ok-keep_command.ensures)) c.subcommand-6.ensures
+    IfOk-weaker c.subcommand-7.result _ _ (λ made h. h.shape keep_local ∙ ap₂ with_subcommand six (ap top c.in_ok-keep_command.ensures)) c.subcommand-7.ensures

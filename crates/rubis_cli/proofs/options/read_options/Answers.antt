@@ -35,7 +35,7 @@ pub returns-then-eq-clause-ok : goal.returns-then-eq-clause-ok
 returns-then-eq-clause-ok c =
     let entered = entered_by _ _ _ c.in-Some.name.now _ c.in-Some.ensures.name c.in-Some.ensures.rows in
     let audit : c.in-Some.name.now ≡ codes "audit" = search rules in
-    (rows_of (found_of c.in-Some.inner.now), entered_line _ _ c.in_ok-matches.matches _ c.in_ok-program.ensures c.in_ok-matches.ensures.matches (entered ∙ ap (λ n. Some (n, rows_of (found_of c.in-Some.inner.now))) audit), c.byte.ensures)
+    (rows_of (found_of c.in-Some.inner.now), entered_line _ _ c.in_ok-matches.matches _ c.in_ok-program.ensures c.in_ok-matches.ensures.matches (entered ∙ ap (λ n. Some (n, rows_of (found_of c.in-Some.inner.now))) audit), c.audit_options.ensures)
 
 pub returns-then-eq-2-clause-ok : goal.returns-then-eq-2-clause-ok
 returns-then-eq-2-clause-ok c =
@@ -74,10 +74,21 @@ pub returns-then-eq-5-clause-ok : goal.returns-then-eq-5-clause-ok
 returns-then-eq-5-clause-ok c =
     let entered = entered_by _ _ _ c.in-Some.name.now _ c.in-Some.ensures.name c.in-Some.ensures.rows in
     let lack : c.in-Some.name.now ≡ codes "lack" = search rules in
-    (rows_of (found_of c.in-Some.inner.now), entered_line _ _ c.in_ok-matches.matches _ c.in_ok-program.ensures c.in_ok-matches.ensures.matches (entered ∙ ap (λ n. Some (n, rows_of (found_of c.in-Some.inner.now))) lack), c.byte-then-eq-5.ensures)
+    (rows_of (found_of c.in-Some.inner.now), entered_line _ _ c.in_ok-matches.matches _ c.in_ok-program.ensures c.in_ok-matches.ensures.matches (entered ∙ ap (λ n. Some (n, rows_of (found_of c.in-Some.inner.now))) lack), c.byte.ensures)
 
 pub returns-then-eq-5-clause-fits : goal.returns-then-eq-5-clause-fits
 returns-then-eq-5-clause-fits c =
+    let line = c.in_ok-program.ensures in
+    fits_line _ _ line (c.in_ok-matches.ensures.kinds (ap is_simple_and_free line ∙ line_is_free))
+
+pub returns-then-eq-6-clause-ok : goal.returns-then-eq-6-clause-ok
+returns-then-eq-6-clause-ok c =
+    let entered = entered_by _ _ _ c.in-Some.name.now _ c.in-Some.ensures.name c.in-Some.ensures.rows in
+    let check : c.in-Some.name.now ≡ codes "check" = search rules in
+    (rows_of (found_of c.in-Some.inner.now), entered_line _ _ c.in_ok-matches.matches _ c.in_ok-program.ensures c.in_ok-matches.ensures.matches (entered ∙ ap (λ n. Some (n, rows_of (found_of c.in-Some.inner.now))) check), c.check_options.ensures)
+
+pub returns-then-eq-6-clause-fits : goal.returns-then-eq-6-clause-fits
+returns-then-eq-6-clause-fits c =
     let line = c.in_ok-program.ensures in
     fits_line _ _ line (c.in_ok-matches.ensures.kinds (ap is_simple_and_free line ∙ line_is_free))
 
@@ -89,4 +100,5 @@ returns-in-Some-clause-ok c =
     let no_widen : c.in-Some.name.now ≢ codes "widen" = search rules in
     let no_keep : c.in-Some.name.now ≢ codes "keep" = search rules in
     let no_lack : c.in-Some.name.now ≢ codes "lack" = search rules in
-    (c.in-Some.name.now, rows_of (found_of c.in-Some.inner.now), entered_line _ _ c.in_ok-matches.matches _ c.in_ok-program.ensures c.in_ok-matches.ensures.matches entered, no_audit, no_world, no_widen, no_keep, no_lack, c.site_options.ensures)
+    let no_check : c.in-Some.name.now ≢ codes "check" = search rules in
+    (c.in-Some.name.now, rows_of (found_of c.in-Some.inner.now), entered_line _ _ c.in_ok-matches.matches _ c.in_ok-program.ensures c.in_ok-matches.ensures.matches entered, no_audit, no_world, no_widen, no_keep, no_lack, no_check, c.site_options.ensures)

@@ -1,0 +1,2 @@
+pub mod CheckFacts
+pub mod FieldFacts
