@@ -5,8 +5,8 @@ _rubis() {
     if [[ $word == = ]]; then word=; elif [[ $before == = ]]; then before=${COMP_WORDS[COMP_CWORD - 2]}; fi
     [[ $COMP_CWORD -gt 1 ]] || command=
     case $command,$before in
-    ,*) words='site world audit lack widen keep help --help --version' ;;
-    help,*) words='site world audit lack widen keep' ;;
+    ,*) words='site world audit lack check widen keep help --help --version' ;;
+    help,*) words='site world audit lack check widen keep' ;;
     site,--site) words='0 1 2 3 4 5 6 7 8 9 10 11 12 13 14 15' ;;
     site,--sites) words='1 2 3 4 5 6 7 8 9 10 11 12 13 14 15 16' ;;
     site,--shards) words='1 2 4 8 16 32 64' ;;
@@ -21,9 +21,11 @@ _rubis() {
     world,--keep) words='1000000' ;;
     world,*) words='--sites --shards --workers --batch --keep --help' ;;
     audit,--sites) words='1 2 3 4 5 6 7 8 9 10 11 12 13 14 15 16' ;;
-    audit,*) words='--sites --help' ;;
+    audit,*) words='--sites --status --help' ;;
     lack,--sites) words='1 2 3 4 5 6 7 8 9 10 11 12 13 14 15 16' ;;
     lack,*) words='--sites --help' ;;
+    check,--sites) words='1 2 3 4 5 6 7 8 9 10 11 12 13 14 15 16' ;;
+    check,*) words='site world audit --sites --help' ;;
     widen,--sites) words='1 2 3 4 5 6 7 8 9 10 11 12 13 14 15 16' ;;
     widen,--to) words='1 2 3 4 5 6 7 8 9 10 11 12 13 14 15 16' ;;
     widen,*) words='--sites --to --help' ;;

@@ -1,7 +1,7 @@
 # Completion of rubis for fish. Written by scripts/write_help.py; changes are lost.
 complete -c rubis -f
 complete -c rubis -s h -l help -d 'Prints the help'
-set -l commands site world audit lack widen keep
+set -l commands site world audit lack check widen keep
 complete -c rubis -n "not __fish_seen_subcommand_from $commands help" -s V -l version -d 'Prints the version'
 complete -c rubis -n "not __fish_seen_subcommand_from $commands help" -a help -d 'Prints the help of a command'
 complete -c rubis -n "__fish_seen_subcommand_from help" -a "$commands"
@@ -20,8 +20,12 @@ complete -c rubis -n "__fish_seen_subcommand_from world" -l batch -x -a '1 2 4 8
 complete -c rubis -n "__fish_seen_subcommand_from world" -l keep -x -a '1000000' -d 'How many messages a site keeps, released and held, 1 to 1000000, 1,000,000 by default'
 complete -c rubis -n "not __fish_seen_subcommand_from $commands help" -a audit -d 'Audits the logs of several sites: writes the first fault, or Agree'
 complete -c rubis -n "__fish_seen_subcommand_from audit" -l sites -x -a '1 2 3 4 5 6 7 8 9 10 11 12 13 14 15 16' -d 'How many sites there are, 1 to 16, 1 by default'
+complete -c rubis -n "__fish_seen_subcommand_from audit" -l status -d 'Ends with status 1 unless the logs agree'
 complete -c rubis -n "not __fish_seen_subcommand_from $commands help" -a lack -d 'Writes the messages that each of several logs lacks of the others, or what their audit finds'
 complete -c rubis -n "__fish_seen_subcommand_from lack" -l sites -x -a '1 2 3 4 5 6 7 8 9 10 11 12 13 14 15 16' -d 'How many sites there are, 1 to 16, 1 by default'
+complete -c rubis -n "not __fish_seen_subcommand_from $commands help" -a check -d 'Says of each record that is outside the grammar what is wrong with it'
+complete -c rubis -n "__fish_seen_subcommand_from check" -l sites -x -a '1 2 3 4 5 6 7 8 9 10 11 12 13 14 15 16' -d 'How many sites there are, 1 to 16, 1 by default'
+complete -c rubis -n "__fish_seen_subcommand_from check" -a "site world audit"
 complete -c rubis -n "not __fish_seen_subcommand_from $commands help" -a widen -d 'Rewrites logs for more sites, so that they can be audited with those of larger shops'
 complete -c rubis -n "__fish_seen_subcommand_from widen" -l sites -x -a '1 2 3 4 5 6 7 8 9 10 11 12 13 14 15 16' -d 'How many sites there are, 1 to 16, 1 by default'
 complete -c rubis -n "__fish_seen_subcommand_from widen" -l to -x -a '1 2 3 4 5 6 7 8 9 10 11 12 13 14 15 16' -d 'How many sites the messages are to count, 1 to 16 and not below --sites, 16 by default'

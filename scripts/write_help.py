@@ -6,7 +6,7 @@
 The program is asked: its `--help` has the commands, their options and defaults, and what it answers to a number that is
 too large has an option's range. So docs/rubis.1, completions/rubis.bash, completions/_rubis (for zsh) and
 completions/rubis.fish say what the program takes. With --check nothing is written: each file that differs from what
-would be written is told, and the status is then 1."""
+would be written is told, and the status is then 1. The man page's records and refusals are those of docs/MANUAL.md."""
 
 import dataclasses
 import pathlib
@@ -55,12 +55,24 @@ class Option:
 
 
 @dataclasses.dataclass
+class Argument:
+    """An argument without a name: a folder, which has to be given, or one of some words."""
+    name: str
+    help: str
+    values: list[str]
+
+    @property
+    def shown(self) -> str:
+        """How the man page shows it."""
+        return f"[\\fI{self.name}\\fR]" if self.values else f"\\fI{self.name}\\fR"
+
+
+@dataclasses.dataclass
 class Command:
     name: str
     about: str
     options: list[Option]
-    # The name and the help of an argument that has to be given, if there is one.
-    argument: tuple[str, str] | None
+    argument: Argument | None
 
 
 @dataclasses.dataclass
@@ -90,9 +102,14 @@ def options_of(program: str, command: str, text: str) -> list[Option]:
     return made
 
 
-def argument_of(text: str) -> tuple[str, str] | None:
-    found = re.search(r"^Arguments:\n  <(\w+)>\s+(.*)", text, re.M)
-    return None if found is None else (found.group(1), found.group(2))
+def argument_of(text: str) -> Argument | None:
+    found = re.search(r"^Arguments:\n  ([<\[])(\w+)[>\]]\s+(.*)", text, re.M)
+    if found is None:
+        return None
+    words = found.group(3).split(" [default:")[0]
+    # One that may be left out is one of the words at the end of its help.
+    values = re.findall(r"\w+", words.split(":")[1].replace(" or ", " ")) if found.group(1) == "[" else []
+    return Argument(found.group(2), words + (f"; {values[0]} by default" if values else ""), values)
 
 
 def command_line_of(program: str) -> CommandLine:
@@ -117,10 +134,29 @@ def roff(text: str) -> str:
 
 
 STATUSES = [
-    ("0", "The run is done, whatever was refused; or the help or the version was asked for."),
-    ("1", "The run ended early. Standard error has one line: run fault: read, run fault: write, run fault: memory, or run fault: too long (more than 4,000,000 records); or, of rubis keep, what else failed and why."),
+    ("0", "The run is done, whatever was refused or found, but for what the next line says; or the help or the version was asked for."),
+    ("1", "Logs don't agree (rubis audit --status, rubis lack) or one has lost messages (rubis lack), or a record is outside the grammar (rubis check); then standard error has nothing. Or the run ended early. Standard error has one line: run fault: read, run fault: write, run fault: memory, or run fault: too long (more than 4,000,000 records); or, of rubis keep, what else failed and why."),
     ("2", "The command line isn't one, or asks for another site than the folder has. Standard error says why."),
 ]
+
+
+def table_of(heading: str) -> list[list[str]]:
+    """The rows of the first table of the manual under that heading."""
+    part = (TOP / "docs/MANUAL.md").read_text().split(f"\n{heading}\n")[1].split("\n#")[0]
+    rows = re.findall(r"^\|(.*)\|$", part.split("|\n\n")[0] + "|", re.M)[2:]
+    return [[cell.strip().replace("`", "") for cell in row.split(" | ")] for row in rows]
+
+
+def records_and_refusals() -> list[str]:
+    """What the manual says of requests, packets and refusals."""
+    out = [".SH RECORDS", roff("Records are CSV, one a line; the manual has the form of each field, and the answers.")]
+    for heading in ("### Requests", "### Packets"):
+        for record, meaning in table_of(heading):
+            out += [".TP", f".B {roff(record)}", roff(meaning) + "."]
+    out.append(".SH REFUSALS")
+    for code, name, meaning in table_of("## Refusals"):
+        out += [".TP", f".B {code} {name}", roff(meaning) + "."]
+    return out
 
 
 def man_page(line: CommandLine) -> str:
@@ -132,7 +168,7 @@ def man_page(line: CommandLine) -> str:
         ".SH SYNOPSIS",
     ]
     for command in line.commands:
-        words = [] if command.argument is None else [f"\\fI{command.argument[0]}\\fR"]
+        words = [] if command.argument is None else [command.argument.shown]
         number = {True: " \\fIn\\fR", False: ""}
         words += [f"[\\fB\\-\\-{option.name}\\fR{number[option.takes_number]}]" for option in command.options]
         out += [f".B rubis {command.name}", " ".join(words), ".br"]
@@ -146,7 +182,7 @@ def man_page(line: CommandLine) -> str:
     for command in line.commands:
         out += [f".SS rubis {command.name}", roff(command.about) + "."]
         if command.argument is not None:
-            out += [".TP", f".I {command.argument[0]}", roff(command.argument[1]) + "."]
+            out += [".TP", f".I {command.argument.name}", roff(command.argument.help) + "."]
         for option in command.options:
             number = ' " \\fIn\\fR"' if option.takes_number else ""
             out += [".TP", f".BR \\-\\-{option.name}{number}", roff(option.words) + "."]
@@ -158,8 +194,9 @@ def man_page(line: CommandLine) -> str:
         ".TP",
         ".BR \\-V \", \" \\-\\-version",
         "Prints the version.",
-        ".SH EXIT STATUS",
     ]
+    out += records_and_refusals()
+    out.append(".SH EXIT STATUS")
     for status, words in STATUSES:
         out += [".TP", f".B {status}", roff(words)]
     out += [
@@ -206,7 +243,8 @@ def bash_completion(line: CommandLine) -> str:
         for option in command.options:
             if option.takes_number:
                 out.append(f"    {command.name},--{option.name}) words='{' '.join(option.values)}' ;;")
-        out.append(f"    {command.name},*) words='{' '.join('--' + option.name for option in command.options)} --help' ;;")
+        values = "" if command.argument is None else "".join(value + " " for value in command.argument.values)
+        out.append(f"    {command.name},*) words='{values}{' '.join('--' + option.name for option in command.options)} --help' ;;")
     out += ["    esac", '    mapfile -t COMPREPLY < <(compgen -W "$words" -- "$word")', "}", "complete -F _rubis rubis", ""]
     return "\n".join(out)
 
@@ -220,7 +258,10 @@ def zsh_completion(line: CommandLine) -> str:
         return quoted(f"--{option.name}=[{words}]:{option.range}{default}:({' '.join(option.values)})")
 
     def argument(command: Command) -> list[str]:
-        return [] if command.argument is None else [f"                {quoted('1:' + command.argument[0] + ':_files -/')}"]
+        if command.argument is None:
+            return []
+        offered = f"({' '.join(command.argument.values)})" if command.argument.values else "_files -/"
+        return [f"                {quoted('1:' + command.argument.name + ':' + offered)}"]
 
     out = [
         "#compdef rubis",
@@ -276,7 +317,8 @@ def fish_completion(line: CommandLine) -> str:
             values = f" -x -a {fish(' '.join(option.values))}" if option.takes_number else ""
             out.append(f"complete -c rubis -n \"__fish_seen_subcommand_from {command.name}\" -l {option.name}{values} -d {fish(option.words)}")
         if command.argument is not None:
-            out.append(f"complete -c rubis -n \"__fish_seen_subcommand_from {command.name}\" -a \"(__fish_complete_directories)\"")
+            offered = " ".join(command.argument.values) or "(__fish_complete_directories)"
+            out.append(f"complete -c rubis -n \"__fish_seen_subcommand_from {command.name}\" -a \"{offered}\"")
     return "\n".join(out) + "\n"
 
 

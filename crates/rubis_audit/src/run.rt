@@ -71,7 +71,7 @@ pub fn run_lack<R: Read + Drop, W: Write>(
     reader: R,
     writer: &mut W,
     sites: u8,
-) -> Result<Audited, RunFault>
+) -> Result<Count, RunFault>
     requires { sites ≤ COUNTED_MAX }
     ensures { IsRun (lack_account sites) RECORDS_MAX (R.remaining reader) (W.contents writer.old) (W.contents writer.new) result }
 {
