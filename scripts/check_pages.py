@@ -155,9 +155,23 @@ def check_old_texts() -> tuple[int, list[str]]:
     return count, faults
 
 
+def place_of_function(lines: list[str], name: str) -> int | None:
+    """The line of a public function, which is named with its type where a file has several of the name; or None."""
+    owner, _, own = name.rpartition("::")
+    block, first = "", None
+    for at, line in enumerate(lines):
+        if re.match(r"impl\b|(?:pub )?trait\b", line):
+            block = line
+        if re.match(rf"\s*pub fn {own}\b", line):
+            if re.search(rf"\b{owner}\b", block):
+                return at
+            first = at if first is None else first
+    return first
+
+
 def lines_of_function(lines: list[str], name: str) -> tuple[int, int] | str:
     """The lines from a public function's comment to its last clause, from 1; or what is wrong."""
-    at = next((at for at, line in enumerate(lines) if re.match(rf"\s*pub fn {name}\b", line)), None)
+    at = place_of_function(lines, name)
     if at is None:
         return "is no public function there"
     first, last = at, at
@@ -191,7 +205,7 @@ def check_links(page: pathlib.Path, fix: bool) -> tuple[int, list[str]]:
         if not source.is_file():
             return "stands in a file that isn't there"
         lines = source.read_text().splitlines()
-        return (lines_of_function if source.suffix == ".rt" else lines_of_definition)(lines, name.split("::")[-1])
+        return lines_of_function(lines, name) if source.suffix == ".rt" else lines_of_definition(lines, name.split("::")[-1])
 
     def fixed(link: re.Match) -> str:
         found = lines_of(link.group(1), link.group(2))
