@@ -228,9 +228,10 @@ def check_links(page: pathlib.Path, fix: bool) -> tuple[int, list[str]]:
 
 
 def check_callers(page: pathlib.Path) -> tuple[int, list[str]]:
-    """Each piece of code on the page for callers stands so in the tests, where it is proved."""
+    """Each piece of code on the page for callers stands so in the tests, where it is proved. A client is a program of its own, which
+    scripts/try_clients.py runs."""
     proved = squeezed((CRATES / "rubis_tests/src/callers.rt").read_text())
-    pieces = re.findall(r"```rust\n(.*?)```", page.read_text(), re.S)
+    pieces = [piece for piece in re.findall(r"```rust\n(.*?)```", page.read_text(), re.S) if "fn main()" not in piece]
     return len(pieces), [f"{page.name}: no such code in rubis_tests: {piece.splitlines()[0]}" for piece in pieces if squeezed(piece) not in proved]
 
 

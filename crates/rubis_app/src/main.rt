@@ -13,8 +13,7 @@ ghost use Rattle.rubis_world.specs.Setup.{IsWorldSetup};
 ghost use Rattle.rubis_app.specs.Statuses.{IsStatusOf, status_by, status_of};
 
 use clap::Error;
-use rubis_audit::{Auditor, Question, run_auditor, run_widen};
-use rubis_check::{Grammar, Tally, run_check};
+use rubis_audit::{Auditor, Grammar, Question, Tally, run_auditor, run_check, run_widen};
 use rubis_cli::{
     AuditOptions, CheckOptions, KeepOptions, OptionFault, Options, Reading, Run, Setup, Widening,
     read_options,
@@ -218,10 +217,7 @@ fn run_audit<R: Print + Eprint + Input + AllocGlobal + RandomSource>(
 }
 
 // Says what each of the logs of `sites` sites lacks of the others, from standard input to standard output.
-fn run_lacker<R: Print + Eprint + Input + AllocGlobal + RandomSource>(
-    rt: &R,
-    sites: u8,
-) -> ExitCode
+fn run_lacker<R: Print + Eprint + Input + AllocGlobal + RandomSource>(rt: &R, sites: u8) -> ExitCode
     ensures misuse { SITES_MAX < sites → exit_status result ≡ 2 }
     ensures runs { sites ≤ SITES_MAX → (exit_status result ≡ 0) ⊎ (exit_status result ≡ 1) }
 {

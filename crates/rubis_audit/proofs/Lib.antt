@@ -12,3 +12,5 @@ pub mod Judging
 pub mod Walking
 pub mod LineFacts
 pub mod Merging
+pub mod CheckFacts
+pub mod FieldFacts

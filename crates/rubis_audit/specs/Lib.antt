@@ -9,3 +9,9 @@ pub mod Past
 pub mod Walks
 pub mod Lines
 pub mod Lacks
+pub mod Checking
+pub mod FieldRules
+pub mod Readings
+pub mod Reasons
+pub mod RecordFaults
+pub mod Shapes

@@ -1,18 +1,26 @@
-//! The auditor: whether the logs of several sites agree, and if not, what the first fault is; what a log lacks; and logs
-//! widened to more sites.
+//! The auditor: whether the logs of several sites agree, and if not, what the first fault is; what a log lacks; logs widened
+//! to more sites; and what is wrong with the records of an input.
 #![tactic(auto)]
 
 mod auditor;
 mod audits;
+mod checker;
 mod contents;
+mod counts;
+mod field_rules;
 mod lacks;
 mod laws;
+mod line_reader;
 mod lines;
 mod logs;
 mod questions;
+mod readings;
+mod reasons;
+mod record_faults;
 mod rows;
 mod run;
 mod seen;
+mod shapes;
 mod stamps;
 mod verdicts;
 mod waits;
@@ -23,6 +31,7 @@ mod widening;
 
 pub use auditor::Auditor;
 pub use audits::{audit, audit_hashed};
+pub use checker::{Grammar, Tally, run_check};
 pub use lacks::write_lacks;
 pub use laws::widened_audits_agree;
 pub use lines::{Line, read_line};

@@ -164,13 +164,15 @@ pub record AreKeepOptionsIn (rows : List Row) (o : KeepOptions) : Type 0 where
 -- where that is the command, or else a site, with the options that stand after the command
 abbrev pub IsAsked : List Text → Run → Type 0
 IsAsked words (Audit options) = (rows : List Row) × (subcommand_of command_line words ≡ Some (codes "audit", rows)) × AreAuditOptionsIn rows options
-IsAsked words (Lack sites) = (rows : List Row) × (subcommand_of command_line words ≡ Some (codes "lack", rows)) × IsNumberOf 8 (one_of (codes "sites") rows) sites
+IsAsked words (Lack sites) = (rows : List Row) × (subcommand_of command_line words ≡ Some (codes "lack", rows))
+    × IsNumberOf 8 (one_of (codes "sites") rows) sites
 IsAsked words (Check options) = (rows : List Row) × (subcommand_of command_line words ≡ Some (codes "check", rows)) × AreCheckOptionsIn rows options
 IsAsked words (World setup) = (rows : List Row) × (subcommand_of command_line words ≡ Some (codes "world", rows)) × IsSetupIn rows setup
 IsAsked words (Widen counts) = (rows : List Row) × (subcommand_of command_line words ≡ Some (codes "widen", rows)) × AreCountsIn rows counts
 IsAsked words (Keep options) = (rows : List Row) × (subcommand_of command_line words ≡ Some (codes "keep", rows)) × AreKeepOptionsIn rows options
 IsAsked words (Site options) =
-    (name : Text) × (rows : List Row) × (subcommand_of command_line words ≡ Some (name, rows)) × (name ≢ codes "audit") × (name ≢ codes "world") × (name ≢ codes "widen") × (name ≢ codes "keep") × (name ≢ codes "lack") × (name ≢ codes "check")
+    (name : Text) × (rows : List Row) × (subcommand_of command_line words ≡ Some (name, rows)) × (name ≢ codes "audit") × (name ≢ codes "world")
+    × (name ≢ codes "widen") × (name ≢ codes "keep") × (name ≢ codes "lack") × (name ≢ codes "check")
     × AreOptionsIn rows options
 
 -- what an error of `clap` is called here

@@ -1,0 +1,12 @@
+use Rattle.std.proofs.Common.{refl}
+use Rattle.rubis_engine.specs.Text.{input_records}
+use Rattle.rubis_engine.proofs.RunFacts.{if_ok_so}
+use Rattle.rubis_audit.proofs.CheckFacts.{begun, if_some_so}
+use Rattle.rubis_audit.proofs.checker.run_check.Goals as goal
+
+pub returns : goal.returns
+returns g c =
+    let rem = g.R.Read.remaining in
+    if_ok_so _ _ c.check_all.result (λ tally whole.
+    if_some_so (rem c.args.reader) c.new.ensures (λ input gives.
+    whole c.args.grammar c.args.sites _ (input_records input) (begun rem _ _ (input_records input) gives refl refl c.new-2.ensures))) c.check_all.ensures

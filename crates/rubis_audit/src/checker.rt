@@ -1,0 +1,283 @@
+//! The check of an input: a row for each record that is outside the grammar.
+
+ghost use Rattle.std.specs.Prelude.{◌≡◌, ◌≤◌, ◌<◌, ◌+◌, ◌∷◌, ◌++◌, ℕ, List, [], IfOk, IfSome, OnOk, Option, true, unwrap_or};
+ghost use Rattle.std.specs.Bool.{MatchBool};
+ghost use Rattle.rubis_schema.specs.declared.limits.TheConstants.{COUNTED_MAX};
+ghost use Rattle.rubis_engine.specs.Reading.{ReadsNext};
+ghost use Rattle.rubis_engine.specs.Text.{input_records, rows_text};
+ghost use Rattle.rubis_audit.specs.Checking.{HasChecked, HasCheckedAll, HasRowOf, IsChecked, OfEachCheck, bad_row, checked_row, checker_after, fault_for, none_so_far, recent};
+ghost use Rattle.rubis_audit.specs.RecordFaults.{fault};
+ghost use Rattle.rubis_audit.specs.declared.record_faults.Reason.TheVariants.{Other};
+
+use crate::line_reader::LineReader;
+use crate::readings::{is_event, is_site_record};
+use crate::reasons::{Lines, reason_text};
+use crate::record_faults::{
+    Fault, Place, Reason, audit_fault, place_after, site_fault, world_fault,
+};
+use rubis_engine::{RunFault, Sink};
+use rubis_schema::{Fields, RECORDS_MAX, Record, push_number};
+use std::alloc::{AllocError, Global};
+use std::io::{Read, Write};
+
+/// As what records are read.
+#[derive(Clone, Copy, PartialEq, Eq, Debug)]
+pub enum Grammar {
+    /// As those of a site.
+    Site,
+    /// As those of several sites in one run.
+    World,
+    /// As those of an audit.
+    Audit,
+}
+
+/// How many records were read, and how many of them are outside the grammar.
+#[derive(Clone, Copy, PartialEq, Eq, Debug)]
+pub struct Tally {
+    pub records: u64,
+    pub bad: u64,
+}
+
+// What is known of the records so far: as what they are read, where the next one stands, and how many there are.
+#[derive(Clone, Copy)]
+struct Checker {
+    grammar: Grammar,
+    sites: u8,
+    place: Place,
+    tally: Tally,
+}
+
+// The fault that was found in a record that couldn't be read.
+fn known(found: Option<Fault>) -> Fault
+    ensures { result ≡ unwrap_or found (fault 0 Other) }
+{
+    match found {
+        Some(fault) => fault,
+        None => Fault {
+            field: 0,
+            reason: Reason::Other,
+        },
+    }
+}
+
+impl Checker {
+    // What is wrong with the next record, if anything.
+    fn fault<F: Record>(&self, alloc: Global, fields: &F) -> Result<Option<Fault>, AllocError>
+        requires { self.now.sites ≤ COUNTED_MAX }
+        ensures { IfOk result (λ fault. fault ≡ fault_for self.now.grammar self.now.sites self.now.place (F.fields fields.now)) }
+    {
+        match self.grammar {
+            Grammar::Site => {
+                if is_site_record(alloc, fields, self.sites)? {
+                    return Ok(None);
+                }
+                Ok(Some(known(site_fault(fields, self.sites))))
+            }
+            Grammar::World => {
+                if is_event(alloc, fields, self.sites)? {
+                    return Ok(None);
+                }
+                Ok(Some(known(world_fault(fields, self.sites))))
+            }
+            Grammar::Audit => Ok(audit_fault(fields, self.place, self.sites)),
+        }
+    }
+
+    // Counts the next record, and says what is wrong with it, if anything.
+    fn check<F: Record>(&mut self, alloc: Global, fields: &F) -> Result<Option<Fault>, AllocError>
+        requires few { self.old.sites ≤ COUNTED_MAX }
+        requires room { self.old.tally.records < 4000000 }
+        requires fewer { self.old.tally.bad ≤ self.old.tally.records }
+        ensures fault { IfOk result (λ fault. fault ≡ fault_for self.old.grammar self.old.sites self.old.place (F.fields fields.now)) }
+        ensures state { OnOk result (self.new ≡ checker_after self.old (F.fields fields.now)) }
+        ensures sites { self.new.sites ≡ self.old.sites }
+    {
+        let fault = self.fault(alloc, fields)?;
+        self.tally.records += 1;
+        match fault {
+            Some(_) => self.tally.bad += 1,
+            None => {
+                if let Grammar::Audit = self.grammar {
+                    self.place = place_after(fields, self.place);
+                }
+            }
+        }
+        Ok(fault)
+    }
+}
+
+// Writes what is wrong with the record of that number.
+fn write_bad<F: Record>(
+    alloc: Global,
+    sink: &mut Sink,
+    row: &F,
+    number: u64,
+    fault: Fault,
+    lines: Lines,
+    sites: u8,
+) -> Result<(), AllocError>
+    ensures { OnOk result (sink.new ≡ sink.old ++ rows_text (bad_row sites number lines fault (F.fields row.now) ∷ [])) }
+{
+    let reason = reason_text(alloc, row, fault, lines, sites)?;
+    let mut fields = Fields::new(alloc);
+    fields.push_plain(b"bad")?;
+    push_number(&mut fields, number)?;
+    push_number(&mut fields, lines.first)?;
+    push_number(&mut fields, fault.field as u64)?;
+    fields.push(&reason)?;
+    sink.write_fields(&fields)
+}
+
+// Writes how many records there were, and how many of them are outside the grammar.
+fn write_checked(alloc: Global, sink: &mut Sink, tally: Tally) -> Result<(), AllocError>
+    ensures { OnOk result (sink.new ≡ sink.old ++ rows_text (checked_row tally ∷ [])) }
+{
+    let mut fields = Fields::new(alloc);
+    fields.push_plain(b"checked")?;
+    push_number(&mut fields, tally.records)?;
+    push_number(&mut fields, tally.bad)?;
+    sink.write_fields(&fields)
+}
+
+// A check as far as it has come.
+#[derive(Drop)]
+struct Check<R> {
+    records: LineReader<R>,
+    checker: Checker,
+    sink: Sink,
+    alloc: Global,
+}
+
+impl<R: Read> Check<R> {
+    // Writes what is wrong with the record that was read last, if anything is.
+    fn check_row(&mut self) -> Result<(), AllocError>
+        requires few { self.old.checker.sites ≤ COUNTED_MAX }
+        requires room { self.old.checker.tally.records < 4000000 }
+        requires fewer { self.old.checker.tally.bad ≤ self.old.checker.tally.records }
+        ensures records { self.new.records ≡ self.old.records }
+        ensures checker { OnOk result (self.new.checker ≡ checker_after self.old.checker self.old.records.row) }
+        ensures sites { self.new.checker.sites ≡ self.old.checker.sites }
+        ensures rows { OnOk result (HasRowOf self.old.checker self.old.records.row self.old.sink self.new.sink) }
+    {
+        let row = self.records.row();
+        let Some(fault) = self.checker.check(self.alloc, row)? else {
+            return Ok(());
+        };
+        write_bad(
+            self.alloc,
+            &mut self.sink,
+            row,
+            self.checker.tally.records,
+            fault,
+            self.records.lines(fault.field),
+            self.checker.sites,
+        )
+    }
+
+    // Goes on to the next record, and says whether there was one. If it can't be read, what was found so far is written out.
+    fn advance<W: Write>(&mut self, writer: &mut W) -> Result<bool, RunFault>
+        ensures takes { IfOk result (λ found. ReadsNext (recent R.remaining) self.old.records.reader self.new.records.reader found self.new.records.row) }
+        ensures kept { OnOk result ((self.new.sink ≡ self.old.sink) × (writer.new ≡ writer.old)) }
+        ensures checker { self.new.checker ≡ self.old.checker }
+    {
+        match self.records.advance() {
+            Ok(found) => Ok(found),
+            Err(fault) => {
+                self.sink.close(writer)?;
+                Err(fault)
+            }
+        }
+    }
+
+    // Checks the next record, if there is one, and says whether there was.
+    fn check_next<W: Write>(&mut self, writer: &mut W) -> Result<bool, RunFault>
+        requires few { self.old.checker.sites ≤ COUNTED_MAX }
+        requires room { self.old.checker.tally.records < 4000000 }
+        requires fewer { self.old.checker.tally.bad ≤ self.old.checker.tally.records }
+        ensures goes { IfOk result (λ found. OfEachCheck R.remaining self.old (W.contents writer.old) (λ grammar sites old all. MatchBool found
+            (HasChecked R.remaining grammar sites self.new old (W.contents writer.new) all)
+            (HasCheckedAll grammar sites self.new.checker.tally self.new.sink old (W.contents writer.new) all))) }
+        ensures counted { IfOk result (λ found. found ≡ true → self.new.checker.tally.records ≡ self.old.checker.tally.records + 1) }
+        ensures fewer { OnOk result (self.new.checker.tally.bad ≤ self.new.checker.tally.records) }
+        ensures sites { self.new.checker.sites ≡ self.old.checker.sites }
+    {
+        if !self.advance(writer)? {
+            return Ok(false);
+        }
+        self.check_row()?;
+        if self.sink.is_full() {
+            self.sink.drain(writer)?;
+        }
+        Ok(true)
+    }
+
+    // Writes the last row, and says how many records there were.
+    fn end<W: Write>(&mut self, writer: &mut W) -> Result<Tally, RunFault>
+        ensures { IfOk result (λ tally. (grammar : Grammar) (sites : ℕ) (old : Option (List ℕ)) (all : List (List (List ℕ)))
+            → HasCheckedAll grammar sites self.old.checker.tally self.old.sink old (W.contents writer.old) all
+            → IsChecked grammar sites old (W.contents writer.new) all tally) }
+    {
+        write_checked(self.alloc, &mut self.sink, self.checker.tally)?;
+        self.sink.close(writer)?;
+        Ok(self.checker.tally)
+    }
+
+    // Ends a check that has read as many records as it reads at most.
+    fn stop<W: Write>(&mut self, writer: &mut W) -> Result<Tally, RunFault>
+        ensures { IfOk result (λ tally. OfEachCheck R.remaining self.old (W.contents writer.old) (λ grammar sites old all.
+            IsChecked grammar sites old (W.contents writer.new) all tally)) }
+    {
+        if self.advance(writer)? {
+            self.sink.close(writer)?;
+            return Err(RunFault::TooLong);
+        }
+        self.end(writer)
+    }
+}
+
+// Checks records until none is left, or as many as it reads at most.
+fn check_all<R: Read, W: Write>(check: &mut Check<R>, writer: &mut W) -> Result<Tally, RunFault>
+    requires few { check.old.checker.sites ≤ COUNTED_MAX }
+    requires none { check.old.checker.tally ≡ none_so_far }
+    ensures { IfOk result (λ tally. OfEachCheck R.remaining check.old (W.contents writer.old) (λ grammar sites old all.
+        IsChecked grammar sites old (W.contents writer.new) all tally)) }
+{
+    'steps: for _checked in 0..RECORDS_MAX {
+        if !check.check_next(writer)? {
+            return check.end(writer);
+        }
+    }
+    check.stop(writer)
+}
+
+/// Checks the records of `reader`, at most 4,000,000, as those of `sites` sites: appends to `writer` a row for each that is
+/// outside the grammar, and last how many records there were and how many of these. Says as many.
+///
+/// # Errors
+///
+/// `Read` if the reader failed, and `TooLong` if the input has more records: what was found so far is written then. `Write` if
+/// the writer failed. `Memory` if memory ran out.
+pub fn run_check<R: Read + Drop, W: Write>(
+    alloc: Global,
+    reader: R,
+    writer: &mut W,
+    grammar: Grammar,
+    sites: u8,
+) -> Result<Tally, RunFault>
+    requires { sites ≤ COUNTED_MAX }
+    ensures { IfOk result (λ tally. IfSome (R.remaining reader) (λ input.
+        IsChecked grammar sites (W.contents writer.old) (W.contents writer.new) (input_records input) tally)) }
+{
+    let mut check = Check {
+        records: LineReader::new(alloc, reader),
+        checker: Checker {
+            grammar,
+            sites,
+            place: Place::BeforeLogs,
+            tally: Tally { records: 0, bad: 0 },
+        },
+        sink: Sink::new(alloc),
+        alloc,
+    };
+    check_all(&mut check, writer)
+}

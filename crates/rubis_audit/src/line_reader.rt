@@ -1,0 +1,206 @@
+//! The records of an input, and the lines in which they stand.
+
+ghost use Rattle.std.specs.Prelude.{◌≡◌, ◌⊎◌, IfErr, IfOk, IfSome, option_map};
+ghost use Rattle.rubis_engine.specs.Reading.{HasToGive, ReadsNext};
+ghost use Rattle.rubis_engine.specs.Text.{input_records};
+ghost use Rattle.rubis_audit.specs.Checking.{recent};
+
+use crate::reasons::Lines;
+use csv::{ByteRecord, Reader, ReaderBuilder};
+use rubis_engine::RunFault;
+use rubis_schema::Record;
+use std::alloc::Global;
+use std::io;
+use std::io::Read;
+use std::marker::Model;
+
+/// A reader that remembers the bytes that it gave last.
+#[derive(Drop)]
+pub struct Recent<R> {
+    inner: R,
+    last: Vec<u8>,
+    // How many bytes it gave.
+    given: u64,
+}
+
+impl<R> Recent<R> {
+    // Remembers these bytes, if there are any. Where memory is refused, none.
+    fn remember(&mut self, bytes: &[u8])
+        ensures { self.new.inner ≡ self.old.inner }
+    {
+        if bytes.is_empty() {
+            return;
+        }
+        self.given = self.given.saturating_add(bytes.len() as u64);
+        self.last.clear();
+        if self.last.extend_from_slice(bytes).is_err() {
+            self.last.clear();
+        }
+    }
+
+    // The byte before the place `end` of all that it gave, if it remembers that.
+    fn byte_before(&self, end: u64) -> Option<u8> {
+        let first = self.given.saturating_sub(self.last.len() as u64);
+        let place = end.checked_sub(1)?.checked_sub(first)?;
+        self.last.get(place as usize).copied()
+    }
+}
+
+impl<R: Read> Read for Recent<R> {
+    ghost remaining = { recent R.remaining };
+
+    fn read(&mut self, buf: &mut [u8]) -> io::Result<usize> {
+        let given = self.inner.read(buf)?;
+        self.remember(&buf[..given]);
+        Ok(given)
+    }
+}
+
+/// A record as it was read. Its fields are looked at where the reader of CSV put them.
+#[derive(Drop)]
+pub struct Row {
+    fields: ByteRecord,
+}
+
+impl Model for Row {
+    ghost use Rattle.std.specs.Prelude.{ℕ, List};
+    ghost use Rattle.csv.specs.Records.{fields_of};
+
+    ghost Value = { List (List ℕ) };
+
+    ghost view = { λ r. fields_of r.fields };
+}
+
+impl Record for Row {
+    ghost fields = { λ r. r };
+
+    #[inline(always)]
+    fn len(&self) -> usize {
+        self.fields.len()
+    }
+
+    #[inline(always)]
+    fn field(&self, place: usize) -> Option<&[u8]> {
+        self.fields.get(place)
+    }
+}
+
+/// The records of a reader, each with any number of fields, and no header row. A byte order mark at the start is removed.
+#[derive(Drop)]
+pub struct LineReader<R> {
+    reader: Reader<Recent<R>>,
+    // The one that was read last.
+    row: Row,
+    // The line in which the reader stood before it.
+    before: u64,
+}
+
+// How many line feeds there are.
+fn line_feeds(bytes: &[u8]) -> u64 {
+    bytes.iter().filter(|byte| **byte == b'\n').count() as u64
+}
+
+impl<R: Read> LineReader<R> {
+    /// The records of this reader, before the first.
+    pub fn new(alloc: Global, reader: R) -> LineReader<R>
+        ensures { IfSome (R.remaining reader) (λ input. HasToGive (recent R.remaining) result.reader (input_records input)) }
+    {
+        let recent = Recent {
+            inner: reader,
+            last: Vec::new(alloc),
+            given: 0,
+        };
+        let reader = ReaderBuilder::new()
+            .has_headers(false)
+            .flexible(true)
+            .from_reader(alloc, recent);
+        LineReader {
+            reader,
+            row: Row {
+                fields: ByteRecord::new(alloc),
+            },
+            before: 1,
+        }
+    }
+
+    /// Goes on to the next record, and says whether there was one.
+    ///
+    /// # Errors
+    ///
+    /// `Read` if the reader failed, and `Memory` if there wasn't enough memory for the record.
+    pub fn advance(&mut self) -> Result<bool, RunFault>
+        ensures takes { IfOk result (λ found. ReadsNext (recent R.remaining) self.old.reader self.new.reader found self.new.row) }
+        ensures faults { IfErr result (λ e. (e ≡ RunFault.Read) ⊎ (e ≡ RunFault.Memory)) }
+    {
+        self.before = self.reader.position().line();
+        let found = match self.reader.read_byte_record(&mut self.row.fields) {
+            Ok(found) => found,
+            Err(e) => {
+                if e.is_io_error() {
+                    return Err(RunFault::Read);
+                }
+                return Err(RunFault::Memory);
+            }
+        };
+        Ok(found)
+    }
+
+    /// The record that was read last.
+    pub fn row(&self) -> &Row
+        ensures { result.now ≡ self.now.row }
+    {
+        &self.row
+    }
+
+    // How many line feeds stand in the fields from the place `first` up to `end`.
+    fn feeds_in(&self, first: usize, end: usize) -> u64 {
+        let mut feeds: u64 = 0;
+        for place in first..end {
+            if let Some(field) = self.row.field(place) {
+                feeds = feeds.saturating_add(line_feeds(field));
+            }
+        }
+        feeds
+    }
+
+    // Whether the last field is in a quote that the end of the input left open behind a line feed.
+    fn is_left_open(&self) -> bool {
+        let end = self.reader.position().byte();
+        let bytes = self.reader.get_ref();
+        let Some(field) = self.row.field(self.row.len().saturating_sub(1)) else {
+            return false;
+        };
+        field.last() == Some(&b'\n')
+            && bytes.byte_before(end) == Some(b'\n')
+            && bytes.byte_before(end.saturating_sub(1)) != Some(b'"')
+    }
+
+    // The line in which the record that was read last begins.
+    fn first_line(&self, is_left_open: bool) -> u64 {
+        let end = self.reader.position();
+        let is_ended = !is_left_open
+            && self.reader.get_ref().byte_before(end.byte()) == Some(b'\n');
+        end.line()
+            .saturating_sub(self.feeds_in(0, self.row.len()))
+            .saturating_sub(u64::from(is_ended))
+            .max(self.before)
+    }
+
+    /// The line in which the record that was read last begins, and those in which the field with that number does and ends. A
+    /// line is what ends in a line feed.
+    pub fn lines(&self, field: usize) -> Lines {
+        let is_left_open = self.is_left_open();
+        let first = self.first_line(is_left_open);
+        let place = field.saturating_sub(1);
+        let opened = first.saturating_add(self.feeds_in(0, place));
+        let is_cut = is_left_open && field == self.row.len();
+        let closed = opened
+            .saturating_add(self.feeds_in(place, field))
+            .saturating_sub(u64::from(is_cut));
+        Lines {
+            first,
+            opened,
+            closed,
+        }
+    }
+}

@@ -1,2 +1,0 @@
-pub mod CheckFacts
-pub mod FieldFacts

@@ -1,6 +1,0 @@
-pub mod Checking
-pub mod FieldRules
-pub mod Readings
-pub mod Reasons
-pub mod RecordFaults
-pub mod Shapes
