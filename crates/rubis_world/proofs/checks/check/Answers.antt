@@ -4,7 +4,7 @@ use Rattle.rubis_model.specs.WorldRecords.{logs_of}
 use Rattle.rubis_audit.specs.Walks.{HaveMessagesAmong}
 use Rattle.rubis_world.proofs.checks.check.Goals as goal
 
-pub audit-requires-clause-among : goal.audit-requires-clause-among
-audit-requires-clause-among g c =
+pub audit_hashed-requires-clause-among : goal.audit_hashed-requires-clause-among
+audit_hashed-requires-clause-among g c =
     let count = sym (c.len.ensures ∙ ap (λ (w : World). length w.sites) c.logs.ensures.same.1) in
     subst (HaveMessagesAmong c.len.result) (sym (c.deref.ensures.value ∙ c.in_ok-logs.ensures.logs)) (subst (λ n. HaveMessagesAmong n (logs_of c.args.sites.now.world)) count c.requires.among)

@@ -7,8 +7,8 @@ invariant_of-self g c =
     all_ended c.end_log.result c.self.inside.sites c.self.inside.ended.items c.end_log.new.ended.items c.self.inside.current c.take-current.new.self
     c.self.invariant (rw c.take-current.ensures.value at c.end_log.ensures.ok) c.end_log.ensures.err c.take-current.ensures.after
 
-pub audit-requires-clause-among : goal.audit-requires-clause-among
-audit-requires-clause-among g c =
+pub audit_hashed-requires-clause-among : goal.audit_hashed-requires-clause-among
+audit_hashed-requires-clause-among g c =
     read_among c.self.inside.sites c.self.inside.ended.items c.deref.result.now c.self.inside.current c.self.invariant
     (c.deref.ensures.value ∙ rw c.take-current.ensures.value at c.in_ok-end_log.ensures.ok)
 
