@@ -2,7 +2,7 @@
 //! them, over standard input and output.
 #![tactic(auto)]
 
-ghost use Rattle.std.specs.Prelude.{◌≡◌, ◌⊎◌, ◌<◌, ◌≤◌, ◌==◌, ◌&&◌, IfErr, IfOk, cond, is_ok, map, not, string_bytes};
+ghost use Rattle.std.specs.Prelude.{◌≡◌, ◌⊎◌, ◌<◌, ◌≤◌, ◌==◌, ◌&&◌, IfErr, IfOk, cond, is_ok, map, string_bytes};
 ghost use Rattle.rubis_schema.specs.declared.limits.TheConstants.{SITES_MAX};
 ghost use Rattle.std.specs.Option.{SomeIff};
 ghost use Rattle.std.specs.Process.{exit_status};
@@ -79,15 +79,13 @@ fn end<R: Eprint>(rt: &R, ended: Result<Count, RunFault>) -> ExitCode
     }
 }
 
-// Says how an audit, or what was asked of logs, ended.
-fn end_audit<R: Eprint>(rt: &R, ended: Result<bool, RunFault>, by_status: bool) -> ExitCode
-    ensures well { IfOk ended (λ is_well. exit_status result ≡ cond (by_status && not is_well) 1 0) }
-    ensures fault { IfErr ended (λ fault. exit_status result ≡ 1) }
+// Says how what was asked of logs ended: the status is 0 only if they are well, where it is by that.
+fn end_audit<R: Eprint>(rt: &R, ended: Result<Count, RunFault>, is_well: bool) -> ExitCode
+    ensures { exit_status result ≡ cond (is_ok ended && is_well) 0 1 }
 {
     match ended {
-        Ok(is_well) if by_status && !is_well => ExitCode::from(NOT_WELL),
-        Ok(_) => ExitCode::SUCCESS,
-        Err(fault) => fail(rt, fault),
+        Ok(_) if !is_well => ExitCode::from(NOT_WELL),
+        ended => end(rt, ended),
     }
 }
 
@@ -186,47 +184,26 @@ fn run_sites<R: Print + Eprint + Input + AllocGlobal + RandomSource + Threads + 
     end(rt, answer_world(rt, &config))
 }
 
-// Has an auditor answer what it is asked, from standard input to standard output, and returns whether it found nothing wrong. The
-// auditor isn't taken apart afterwards.
-fn ask_auditor<R: Print + Input + AllocGlobal>(
+// Answers what is asked of the logs of `sites` sites, from standard input to standard output, and maybe says by the status what was
+// found. The auditor isn't taken apart afterwards.
+fn audit_logs<R: Print + Eprint + Input + AllocGlobal + RandomSource>(
     rt: &R,
-    mut auditor: Auditor,
-) -> Result<bool, RunFault> {
-    let mut writer = io::writer(rt);
-    let ended = run_auditor(rt.alloc(), rt.reader(), &mut writer, &mut auditor);
-    let is_well = auditor.is_well();
-    mem::forget(auditor);
-    ended?;
-    Ok(is_well)
-}
-
-// Audits the logs of sites, from standard input to standard output.
-fn run_audit<R: Print + Eprint + Input + AllocGlobal + RandomSource>(
-    rt: &R,
-    options: &AuditOptions,
+    sites: u8,
+    asked: Question,
+    by_status: bool,
 ) -> ExitCode
-    ensures misuse { SITES_MAX < options.now.sites → exit_status result ≡ 2 }
-    ensures runs { options.now.sites ≤ SITES_MAX → (exit_status result ≡ 0) ⊎ (exit_status result ≡ 1) }
-{
-    if options.sites > SITES_MAX {
-        return misuse(rt, "there are too many sites");
-    }
-    let hashes = Hashes::random(rt);
-    let auditor = Auditor::hashed(rt.alloc(), options.sites, Question::Agreement, hashes);
-    end_audit(rt, ask_auditor(rt, auditor), options.status)
-}
-
-// Says what each of the logs of `sites` sites lacks of the others, from standard input to standard output.
-fn run_lacker<R: Print + Eprint + Input + AllocGlobal + RandomSource>(rt: &R, sites: u8) -> ExitCode
     ensures misuse { SITES_MAX < sites → exit_status result ≡ 2 }
     ensures runs { sites ≤ SITES_MAX → (exit_status result ≡ 0) ⊎ (exit_status result ≡ 1) }
 {
     if sites > SITES_MAX {
         return misuse(rt, "there are too many sites");
     }
-    let hashes = Hashes::random(rt);
-    let auditor = Auditor::hashed(rt.alloc(), sites, Question::Lacks, hashes);
-    end_audit(rt, ask_auditor(rt, auditor), true)
+    let mut auditor = Auditor::hashed(rt.alloc(), sites, asked, Hashes::random(rt));
+    let mut writer = io::writer(rt);
+    let ended = run_auditor(rt.alloc(), rt.reader(), &mut writer, &mut auditor);
+    let is_well = auditor.is_well();
+    mem::forget(auditor);
+    end_audit(rt, ended, is_well || !by_status)
 }
 
 // The command whose records are checked.
@@ -386,8 +363,13 @@ fn start<
     match read_options(rt.alloc(), words) {
         Ok(Run::Site(options)) => run(rt, &options),
         Ok(Run::World(setup)) => run_sites(rt, &setup),
-        Ok(Run::Audit(options)) => run_audit(rt, &options),
-        Ok(Run::Lack(sites)) => run_lacker(rt, sites),
+        Ok(Run::Audit(options)) => audit_logs(
+            rt,
+            options.sites,
+            Question::Agreement,
+            options.status,
+        ),
+        Ok(Run::Lack(sites)) => audit_logs(rt, sites, Question::Lacks, true),
         Ok(Run::Check(options)) => run_checker(rt, &options),
         Ok(Run::Widen(counts)) => run_widener(rt, &counts),
         Ok(Run::Keep(options)) => run_keep(rt, &options),

@@ -12,7 +12,7 @@ use Rattle.rubis_audit.specs.declared.checker.Check.{Check}
 use Rattle.rubis_audit.specs.declared.checker.Grammar.{Grammar}
 use Rattle.rubis_audit.specs.declared.checker.Tally.{Tally}
 use Rattle.rubis_audit.specs.declared.line_reader.Recent.{Recent}
-use Rattle.rubis_audit.specs.declared.record_faults.Place.TheVariants.{BeforeLogs}
+use Rattle.rubis_audit.specs.declared.widener.LinePlace.TheVariants.{BeforeLogs}
 
 module _ {R : Type 0} (rem : R → Option (List ℕ)) (grammar : Grammar) (sites : ℕ) (a b : Check R) (old now : Option (List ℕ)) (all : List (List (List ℕ)))
     (so_far : HasChecked rem grammar sites a old now all) where

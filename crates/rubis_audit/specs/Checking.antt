@@ -14,8 +14,8 @@ use Rattle.rubis_audit.specs.declared.checker.Tally.{Tally}
 use Rattle.rubis_audit.specs.declared.line_reader.Recent.{Recent}
 use Rattle.rubis_audit.specs.declared.reasons.Lines.{Lines}
 use Rattle.rubis_audit.specs.declared.record_faults.Fault.{Fault}
-use Rattle.rubis_audit.specs.declared.record_faults.Place.{Place}
-use Rattle.rubis_audit.specs.declared.record_faults.Place.TheVariants.{BeforeLogs}
+use Rattle.rubis_audit.specs.declared.widener.LinePlace.{LinePlace}
+use Rattle.rubis_audit.specs.declared.widener.LinePlace.TheVariants.{BeforeLogs}
 use Rattle.rubis_audit.specs.declared.record_faults.Reason.TheVariants.{Other}
 
 -- the bytes that a reader has left which remembers some
@@ -28,13 +28,13 @@ fault_unless true found = None
 fault_unless false found = Some (unwrap_or found (fault 0 Other))
 
 -- what is wrong with a record that is read so
-abbrev pub fault_for : Grammar → ℕ → Place → List (List ℕ) → Option Fault
+abbrev pub fault_for : Grammar → ℕ → LinePlace → List (List ℕ) → Option Fault
 fault_for Site sites place fields = fault_unless (is_site_record sites fields) (site_fault sites fields)
 fault_for World sites place fields = fault_unless (is_event sites fields) (world_fault sites fields)
 fault_for Audit sites place fields = audit_fault sites place fields
 
 -- where the next one stands, after one with that fault or none
-abbrev pub place_for : Grammar → Place → List (List ℕ) → Option Fault → Place
+abbrev pub place_for : Grammar → LinePlace → List (List ℕ) → Option Fault → LinePlace
 place_for Audit place fields None = place_after place fields
 place_for grammar place fields fault = place
 
@@ -59,7 +59,7 @@ row_for sites number lines fields None = []
 row_for sites number lines fields (Some fault) = bad_row sites number lines fault fields ∷ []
 
 -- the rows of these records, each of which stands in its lines, after as many records as that
-abbrev pub rows_from : Grammar → ℕ → Place → Tally → List Lines → List (List (List ℕ)) → List (List (List ℕ))
+abbrev pub rows_from : Grammar → ℕ → LinePlace → Tally → List Lines → List (List (List ℕ)) → List (List (List ℕ))
 rows_from grammar sites place tally lines [] = checked_row tally ∷ []
 rows_from grammar sites place tally lines (fields ∷ more) =
     let fault = fault_for grammar sites place fields in
@@ -67,7 +67,7 @@ rows_from grammar sites place tally lines (fields ∷ more) =
     ++ rows_from grammar sites (place_for grammar place fields fault) (tally_for tally fault) (drop 1 lines) more
 
 -- how many of them there are, and how many are outside the grammar
-abbrev pub tally_from : Grammar → ℕ → Place → Tally → List (List (List ℕ)) → Tally
+abbrev pub tally_from : Grammar → ℕ → LinePlace → Tally → List (List (List ℕ)) → Tally
 tally_from grammar sites place tally [] = tally
 tally_from grammar sites place tally (fields ∷ more) =
     let fault = fault_for grammar sites place fields in tally_from grammar sites (place_for grammar place fields fault) (tally_for tally fault) more

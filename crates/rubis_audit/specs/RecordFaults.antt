@@ -9,8 +9,8 @@ use Rattle.rubis_audit.specs.FieldRules.{fits}
 use Rattle.rubis_audit.specs.Shapes.{audit_shape, head_of, is_open, is_sent, request_shape, site_shape, tail_of, world_shape}
 use Rattle.rubis_audit.specs.declared.field_rules.FieldRule.{FieldRule}
 use Rattle.rubis_audit.specs.declared.record_faults.Fault.{Fault}
-use Rattle.rubis_audit.specs.declared.record_faults.Place.{Place}
-use Rattle.rubis_audit.specs.declared.record_faults.Place.TheVariants.{BeforeLogs, InMessages, InRows}
+use Rattle.rubis_audit.specs.declared.widener.LinePlace.{LinePlace}
+use Rattle.rubis_audit.specs.declared.widener.LinePlace.TheVariants.{BeforeLogs, InMessages, InRows}
 use Rattle.rubis_audit.specs.declared.record_faults.Reason.{Reason}
 use Rattle.rubis_audit.specs.declared.record_faults.Reason.TheVariants.{NoRecord, NoRequest, Answer, Count, Rule, NotNext, SameNick, NoLog, BehindRows, LineEnd, Other}
 use Rattle.rubis_audit.specs.declared.shapes.Shape.{Shape}
@@ -117,25 +117,25 @@ abbrev pub world_fault : ℕ → List (List ℕ) → Option Fault
 world_fault sites fields = option_map (in_quotes fields) (event_fault sites fields)
 
 -- with one of an audit, which stands there
-abbrev pub misplaced : Place → Shape → Option Fault
+abbrev pub misplaced : LinePlace → Shape → Option Fault
 misplaced place shape.LogSite = None
 misplaced BeforeLogs shape = Some (fault 1 NoLog)
 misplaced InMessages shape = None
 misplaced InRows shape.LogRow = None
 misplaced InRows shape = Some (fault 1 BehindRows)
 
-abbrev pub line_fault : ℕ → Place → List (List ℕ) → Option Shape → Option Fault
+abbrev pub line_fault : ℕ → LinePlace → List (List ℕ) → Option Shape → Option Fault
 line_fault sites place fields None = Some (unknown fields)
 line_fault sites place fields (Some shape) = option_or (fault_in sites 0 shape fields) (misplaced place shape)
 
-abbrev pub audit_fault : ℕ → Place → List (List ℕ) → Option Fault
+abbrev pub audit_fault : ℕ → LinePlace → List (List ℕ) → Option Fault
 audit_fault sites place fields = option_map (in_quotes fields) (line_fault sites place fields (audit_shape fields))
 
 -- where the record after it stands
-abbrev pub place_behind : Place → Option Shape → Place
+abbrev pub place_behind : LinePlace → Option Shape → LinePlace
 place_behind place (Some shape.LogSite) = InMessages
 place_behind place (Some shape.LogRow) = InRows
 place_behind place other = place
 
-abbrev pub place_after : Place → List (List ℕ) → Place
+abbrev pub place_after : LinePlace → List (List ℕ) → LinePlace
 place_after place fields = place_behind place (audit_shape fields)

@@ -12,9 +12,8 @@ ghost use Rattle.rubis_audit.specs.declared.record_faults.Reason.TheVariants.{Ot
 use crate::line_reader::LineReader;
 use crate::readings::{is_event, is_site_record};
 use crate::reasons::{Lines, reason_text};
-use crate::record_faults::{
-    Fault, Place, Reason, audit_fault, place_after, site_fault, world_fault,
-};
+use crate::record_faults::{Fault, Reason, audit_fault, place_after, site_fault, world_fault};
+use crate::widener::LinePlace;
 use rubis_engine::{RunFault, Sink};
 use rubis_schema::{Fields, RECORDS_MAX, Record, push_number};
 use std::alloc::{AllocError, Global};
@@ -43,7 +42,7 @@ pub struct Tally {
 struct Checker {
     grammar: Grammar,
     sites: u8,
-    place: Place,
+    place: LinePlace,
     tally: Tally,
 }
 
@@ -273,7 +272,7 @@ pub fn run_check<R: Read + Drop, W: Write>(
         checker: Checker {
             grammar,
             sites,
-            place: Place::BeforeLogs,
+            place: LinePlace::BeforeLogs,
             tally: Tally { records: 0, bad: 0 },
         },
         sink: Sink::new(alloc),

@@ -1,5 +1,5 @@
-//! The auditor: whether the logs of several sites agree, and if not, what the first fault is; what a log lacks; logs widened
-//! to more sites; and what is wrong with the records of an input.
+//! The auditor: whether the logs of several sites agree, and if not, what the first fault is; what a log lacks; logs widened to
+//! more sites; and what is wrong with records that are outside the grammar.
 #![tactic(auto)]
 
 mod auditor;

@@ -8,6 +8,7 @@ ghost use Rattle.rubis_audit.specs.RecordFaults.{at_fault, audit_fault, changes_
 use crate::counts::read_counts;
 use crate::field_rules::FieldRule;
 use crate::shapes::{Shape, audit_shape, request_shape, says, site_shape, world_shape};
+use crate::widener::LinePlace;
 use rubis_schema::{Record, SEQ_MAX, read_number};
 
 /// What is wrong with a field, or with a record.
@@ -42,17 +43,6 @@ pub enum Reason {
 pub struct Fault {
     pub field: usize,
     pub reason: Reason,
-}
-
-/// Where the next record of an audit stands.
-#[derive(Clone, Copy, PartialEq, Eq, Debug)]
-pub enum Place {
-    /// No log has begun.
-    BeforeLogs,
-    /// Behind the site of a log or one of its messages.
-    InMessages,
-    /// Behind a row of a log.
-    InRows,
 }
 
 // The first of the fields from the place `from` on that isn't as its rule says.
@@ -219,15 +209,15 @@ fn unknown<F: Record>(fields: &F) -> Fault
 }
 
 // What is wrong with where a record of an audit stands that is well otherwise.
-fn misplaced(place: Place, shape: Shape) -> Option<Fault>
+fn misplaced(place: LinePlace, shape: Shape) -> Option<Fault>
     ensures { result ≡ misplaced place shape }
 {
     let reason = match (place, shape) {
-        (_, Shape::LogSite) | (Place::InMessages, _) | (Place::InRows, Shape::LogRow) => {
+        (_, Shape::LogSite) | (LinePlace::InMessages, _) | (LinePlace::InRows, Shape::LogRow) => {
             return None;
         }
-        (Place::BeforeLogs, _) => Reason::NoLog,
-        (Place::InRows, _) => Reason::BehindRows,
+        (LinePlace::BeforeLogs, _) => Reason::NoLog,
+        (LinePlace::InRows, _) => Reason::BehindRows,
     };
     Some(Fault { field: 1, reason })
 }
@@ -307,7 +297,7 @@ pub fn world_fault<F: Record>(fields: &F, sites: u8) -> Option<Fault>
 }
 
 /// What is wrong with a record of an audit of `sites` sites that stands there, if anything.
-pub fn audit_fault<F: Record>(fields: &F, place: Place, sites: u8) -> Option<Fault>
+pub fn audit_fault<F: Record>(fields: &F, place: LinePlace, sites: u8) -> Option<Fault>
     requires { sites ≤ COUNTED_MAX }
     ensures { result ≡ audit_fault sites place (F.fields fields.now) }
 {
@@ -322,12 +312,12 @@ pub fn audit_fault<F: Record>(fields: &F, place: Place, sites: u8) -> Option<Fau
 }
 
 /// Where the next record of an audit stands, after one that is well.
-pub fn place_after<F: Record>(fields: &F, place: Place) -> Place
+pub fn place_after<F: Record>(fields: &F, place: LinePlace) -> LinePlace
     ensures { result ≡ place_after place (F.fields fields.now) }
 {
     match audit_shape(fields) {
-        Some(Shape::LogSite) => Place::InMessages,
-        Some(Shape::LogRow) => Place::InRows,
+        Some(Shape::LogSite) => LinePlace::InMessages,
+        Some(Shape::LogRow) => LinePlace::InRows,
         _ => place,
     }
 }

@@ -1,10 +1,11 @@
-use Rattle.std.proofs.Common.{◌++◌, ◌+◌, ◌∙◌, ap, subst, sym}
+use Rattle.std.proofs.Common.{◌++◌, ◌+◌, ◌∙◌, ◌&&◌, ◌==◌, ap, drop, length, subst, sym}
 use Rattle.std.specs.Prelude.{map}
-use Rattle.rubis_model.specs.LackRecords.{lack_rows}
+use Rattle.rubis_model.specs.LackRecords.{lack_rows, made_at}
 use Rattle.rubis_engine.specs.Text.{rows_text}
 use Rattle.rubis_laws.proofs.Lacking.{log_released}
 use Rattle.rubis_release.specs.Release.{AllAmong}
-use Rattle.rubis_audit.proofs.Lacking.{log_among, log_at, log_told}
+use Rattle.rubis_audit.specs.Running.{none_lost}
+use Rattle.rubis_audit.proofs.Lacking.{log_among, log_at, log_told, lost_told}
 use Rattle.rubis_audit.proofs.lacks.write_lacks.Goals as goal
 
 pub lacked-requires-clause-among : goal.lacked-requires-clause-among
@@ -31,5 +32,9 @@ loop-at-preserved c =
     let has = log_at logs at log c.loop-at-test.true c.index-logs-at.is in
     let all = ap (map (λ m. m.now)) c.deref.ensures.value ∙ c.in_ok-all.ensures.merged in
     let lacks = ap (map (λ m. m.now)) c.deref-in-loop-at.ensures.value ∙ c.in_ok-messages.ensures logs c.requires.faultless has all in
-    let wrote = c.in_ok-write_lack.ensures ∙ (λ i. sink ++ rows_text (lack_rows (at + 1) (c.site.ensures i) (lacks i))) in
-    log_told logs at log _ sink c.write_lack.new.sink c.loop-at-test.true c.index-logs-at.is c.loop-at.invariant wrote
+    let wrote = c.in_ok-write_lack.ensures.rows ∙ (λ i. sink ++ rows_text (lack_rows (at + 1) (c.site.ensures i) (lacks i))) in
+    let kept = c.in_ok-write_lack.ensures.well ∙ (λ i. length (made_at (c.site.ensures i) (lacks i)) == 0) in (
+      log_told logs at log _ sink c.write_lack.new.sink c.loop-at-test.true c.index-logs-at.is c.loop-at.invariant.0 wrote,
+      ap (λ well. well && none_lost logs (drop (at + 1) logs)) c.both.ensures
+          ∙ lost_told logs at log c.loop-at.well c.in_ok-write_lack.field-0 c.loop-at-test.true c.index-logs-at.is c.loop-at.invariant.1 kept,
+    )

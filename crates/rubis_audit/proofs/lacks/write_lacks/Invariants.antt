@@ -1,8 +1,10 @@
-use Rattle.std.proofs.Common.{◌≡◌, ◌+◌, ◌++◌, drop}
+use Rattle.std.proofs.Common.{◌≡◌, ◌+◌, ◌++◌, ◌&&◌, drop}
 use Rattle.rubis_model.specs.LackRecords.{lack_rows_from}
 use Rattle.rubis_engine.specs.Text.{rows_text}
+use Rattle.rubis_audit.specs.Running.{none_lost}
 use Rattle.rubis_audit.proofs.lacks.write_lacks.Given as goal
 
--- what was written, and the rows of the logs to come
+-- what was written, and the rows of the logs to come; whether a message is lost is up to these and those
 abbrev pub invariant-loop-at : goal.invariant-loop-at
-invariant-loop-at l = l.sink ++ rows_text (lack_rows_from (1 + l.at) l.logs (drop l.at l.logs)) ≡ l.fn.sink ++ rows_text (lack_rows_from 1 l.logs l.logs)
+invariant-loop-at l = (l.sink ++ rows_text (lack_rows_from (1 + l.at) l.logs (drop l.at l.logs)) ≡ l.fn.sink ++ rows_text (lack_rows_from 1 l.logs l.logs))
+    × ((l.well && none_lost l.logs (drop l.at l.logs)) ≡ none_lost l.logs l.logs)
