@@ -35,8 +35,7 @@ impl Model for WorldConfig {
 
 impl WorldConfig {
     /// The configuration with these numbers and hashes that are the same in each run, if each number is within its limits: 1 to
-    /// 16 sites, 1 to 64 shards, 1 to 16 workers,
-    /// batches of 1 to 65,536, and 1 to 1,000,000 messages kept at each site.
+    /// 16 sites, 1 to 64 shards, 1 to 16 workers, batches of 1 to 65,536, and 1 to 1,000,000 messages kept at each site.
     pub fn new(sites: u8, shards: u8, workers: u8, batch: u32, keep: u32) -> Option<WorldConfig>
         ensures { let setup : WorldSetup = record { sites = sites; shards = shards; workers = workers; batch = batch; keep = keep } in SomeIff result
             (IsWorldSetup setup) setup }
