@@ -35,6 +35,6 @@ loop-at-preserved c =
     let wrote = c.in_ok-write_lack.ensures.rows ∙ (λ i. sink ++ rows_text (lack_rows (at + 1) (c.site.ensures i) (lacks i))) in
     let kept = c.in_ok-write_lack.ensures.well ∙ (λ i. length (made_at (c.site.ensures i) (lacks i)) == 0) in (
       log_told logs at log _ sink c.write_lack.new.sink c.loop-at-test.true c.index-logs-at.is c.loop-at.invariant.0 wrote,
-      ap (λ well. well && none_lost logs (drop (at + 1) logs)) c.both.ensures
+      ap (λ well. well && none_lost logs (drop (at + 1) logs)) c.both-well.ensures
           ∙ lost_told logs at log c.loop-at.well c.in_ok-write_lack.field-0 c.loop-at-test.true c.index-logs-at.is c.loop-at.invariant.1 kept,
     )

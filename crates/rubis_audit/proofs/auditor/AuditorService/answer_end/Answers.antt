@@ -22,8 +22,8 @@ invariant_of-self-in_err-verdict g c =
     all_ended c.end_log.result c.self.inside.sites c.self.inside.ended.items c.end_log.new.ended.items c.self.inside.current c.take-current.new.self
     c.self.invariant (rw c.take-current.ensures.value at c.end_log.ensures.ok) c.end_log.ensures.err c.take-current.ensures.after
 
-pub invariant_of-self-in_err-write_answer : goal.invariant_of-self-in_err-write_answer
-invariant_of-self-in_err-write_answer g c =
+pub invariant_of-self-in_err-self-inside : goal.invariant_of-self-in_err-self-inside
+invariant_of-self-in_err-self-inside g c =
     all_ended c.end_log.result c.self.inside.sites c.self.inside.ended.items c.end_log.new.ended.items c.self.inside.current c.take-current.new.self
     c.self.invariant (rw c.take-current.ensures.value at c.end_log.ensures.ok) c.end_log.ensures.err c.take-current.ensures.after
 
