@@ -1,7 +1,7 @@
 #!/usr/bin/env python3
 """Measures rubis beside the plain program: scripts/costs.py [TABLE..] [--program FILE] [--small]
 
-The tables are `clock`, `count`, `busiest` and `hostile`; without a name, all of them. Each is written as README, the guide and
+The tables are `clock`, `count`, `busiest`, `hostile` and `questions`; without a name, all of them. Each is written as README, the guide and
 docs/COSTS.md have it, under the machine and the date. Both programs get the same inputs, one run after the other, and their
 answers have to be the same bytes.
 
@@ -10,6 +10,7 @@ answers have to be the same bytes.
   8 MiB. It is the same on a busy machine, and knows nothing of the kernel and of waiting.
 - busiest: the work of each thread with four workers (scripts/busiest.py).
 - hostile: inputs that somebody may send to slow rubis down, at n, 2n and 4n: processor time of one run, or peak memory.
+- questions: counted work of `rubis lack` and `rubis check`, at n, 2n and 4n, beside that of the audit or the site for the same input.
 
 --small takes a tenth of each size. Needs `cargo`, `valgrind` and /usr/bin/time. The whole takes some forty minutes."""
 
@@ -229,13 +230,32 @@ def hostile(programs: Programs) -> None:
         print(f"| {one.what}{same} | {many:,} | {shown[0]} | {shown[1]} | {ours[-1] / max(theirs[-1], 0.01):.1f} |", flush=True)
 
 
+def questions(programs: Programs) -> None:
+    asked: list[tuple[str, str, int, Callable[[int], Work]]] = [
+        ("lack --sites 16", "what sixteen logs of n messages lack, beside their audit", 6_250, workloads.lagging_logs),
+        ("check --sites 2", "a check of n messages, beside the site", 25_000, workloads.in_order),
+        ("check", "a check of n requests, beside the site", 25_000, workloads.requests),
+    ]
+    print("| question | n | work for each of n, 2n, 4n | times that of the other |\n|---|---|---|---|")
+    for command, what, least, make in asked:
+        each: list[str] = []
+        times: list[str] = []
+        for many in [programs.size(least) * scale for scale in (1, 2, 4)]:
+            work = make(many)
+            other, _ = counted(programs.rubis, work, workers(work, "--workers 1"))
+            question, _ = counted(programs.rubis, Work(command.split(), work.text), [])
+            each.append(f"{question / many:,.0f}")
+            times.append(f"{question / other:.2f}")
+        print(f"| {what} | {programs.size(least):,} | {'; '.join(each)} | {'; '.join(times)} |", flush=True)
+
+
 def machine() -> str:
     names = re.findall(r"^model name\s*: (.*)$", pathlib.Path("/proc/cpuinfo").read_text(), re.M)
     name = names[0] if names else "of no name"
     return f"{os.cpu_count()} processors, {name}; {datetime.date.today():%d %B %Y}; {os.getloadavg()[0]:.1f} other things to do"
 
 
-TABLES: dict[str, Callable[[Programs], None]] = {"clock": clock, "count": count, "busiest": busiest_threads, "hostile": hostile}
+TABLES: dict[str, Callable[[Programs], None]] = {"clock": clock, "count": count, "busiest": busiest_threads, "hostile": hostile, "questions": questions}
 
 
 def main() -> int:

@@ -290,6 +290,14 @@ def audit_of_sixteen(many: int) -> Work:
     return Work(["audit", "--sites", "16"], "".join(f"site,{site}\n{log}" for site in range(16)).encode())
 
 
+def lagging_logs(many: int) -> Work:
+    """An audit of sixteen logs of so many messages of one site; that of site s lacks the last s hundredths of them."""
+    deps = [f"{place}" + ":0" * 15 for place in range(many)]
+    log = [f"msg,1,0,{place + 1},{place + 1},{deps[place]},user,n{place:x}\n" for place in range(many)]
+    logs = (f"site,{site}\n" + "".join(log[: many - many * site // 100]) for site in range(16))
+    return Work(["audit", "--sites", "16"], "".join(logs).encode())
+
+
 def quotes(many: int) -> Work:
     """Comments of 200 quotes, which are then listed."""
     start = ["user,ann", "user,bob", "item,0.1,lamp,7,1,100,0"]
