@@ -76,8 +76,8 @@ abbrev pub message_in : List (List ℕ) → Shape
 message_in fields = unwrap_or (option_and_then effect_said (slice_get fields 6)) SentOther
 
 abbrev pub with_listing : Shape → Shape → Shape
-with_listing listing ListOther = listing
-with_listing listing shape = shape
+with_listing which ListOther = which
+with_listing which shape = shape
 
 -- the request whose first word stands at the place `from`
 abbrev pub request_shape : ℕ → List (List ℕ) → Option Shape
