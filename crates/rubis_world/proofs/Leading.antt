@@ -39,12 +39,12 @@ steps_on old before after new n fields same step last =
 -- before its first record a run has led nowhere
 pub led_none : {R : Type 0} (rem : R → Option (List ℕ)) (run : Run R) (s : WorldState) (rows : List (List (List ℕ))) → run.answered ≡ 0 → Gives rem run.records rows
     → HasLed rem run s s rows
-led_none rem run s rows none gives = ([], rows, refl, gives, sym none, refl, refl)
+led_none rem run s rows none gives = ([], rows, refl, gives, sym none, (refl, refl))
 
 -- a record more leads on
 pub led_more : {R : Type 0} (rem : R → Option (List ℕ)) (run after : Run R) (first old new : WorldState) (rows : List (List (List ℕ)))
     → HasLed rem run first old rows → LeadsOn rem run after old new None → after.answered ≡ run.answered + 1 → HasLed rem after first new rows
-led_more rem run after first old new rows (done, rest, split, gives, many, keep, world) on next =
+led_more rem run after first old new rows (done, rest, split, gives, many, (keep, world)) on next =
     let (left, more, took, same, step) = on rest gives in
     let fields = fields_now after.records in
     let led : old.world ≡ world_after first.keep first.world 1 done = world in
@@ -55,17 +55,19 @@ led_more rem run after first old new rows (done, rest, split, gives, many, keep,
       split ∙ ap (λ r. done ++ r) took ∙ sym (append_assoc done (fields ∷ []) left),
       more,
       let one = length-append done (fields ∷ []) in omega (arith, one, many, next),
-      same ∙ keep,
-      stepped
-          ∙ ap (λ (w : World). (world_step first.keep w (run.answered + 1) (world_input (length w.sites) fields)).0) led
-          ∙ ap (λ k. (world_step first.keep (world_after first.keep first.world 1 done) k (world_input (length (world_after first.keep first.world 1 done).sites) fields)).0) (omega (arith, many))
-          ∙ sym (after_one_more first.keep done fields first.world 1),
+      (
+        same ∙ keep,
+        stepped
+            ∙ ap (λ (w : World). (world_step first.keep w (run.answered + 1) (world_input (length w.sites) fields)).0) led
+            ∙ ap (λ k. (world_step first.keep (world_after first.keep first.world 1 done) k (world_input (length (world_after first.keep first.world 1 done).sites) fields)).0) (omega (arith, many))
+            ∙ sym (after_one_more first.keep done fields first.world 1),
+      ),
     )
 
 -- where there is no further record, all of them led there
 pub led_all : {R : Type 0} (rem : R → Option (List ℕ)) (run : Run R) (first old new : WorldState) (rows : List (List (List ℕ)))
     → HasLed rem run first old rows → ((rest : List (List (List ℕ))) → Gives rem run.records rest → rest ≡ []) → new ≡ old → Lead rows first new
-led_all rem run first old new rows (done, rest, split, gives, many, keep, world) end same =
+led_all rem run first old new rows (done, rest, split, gives, many, (keep, world)) end same =
     let all : rows ≡ done = split ∙ ap (λ r. done ++ r) (end rest gives) ∙ append-nil done in (
       ap (λ (s : WorldState). s.keep) same ∙ keep,
       ap (λ (s : WorldState). s.world) same ∙ world ∙ ap (λ r. world_after first.keep first.world 1 r) (sym all),

@@ -1,11 +1,12 @@
-use Rattle.std.proofs.Common.{◌≡◌, ◌+◌, Option, arith, subst}
+use Rattle.std.proofs.Common.{◌≡◌, ◌+◌, Option, None, arith, rules, subst}
+use Rattle.std.specs.Prelude.{IfNone}
 use Rattle.rubis_engine.specs.declared.fault.Count.{Count}
 use Rattle.rubis_world.specs.Headline.{LeadsOn}
 use Rattle.rubis_engine.specs.Progress.{IsDone}
 use Rattle.rubis_engine.specs.Text.{input_records}
 use Rattle.rubis_world.specs.Running.{told_by_world}
 use Rattle.rubis_engine.proofs.RunFacts.{if_ok_both, if_ok_so, progress-starts}
-use Rattle.rubis_world.proofs.Leading.{led_all, led_none}
+use Rattle.rubis_world.proofs.Leading.{led_all, led_more, led_none}
 use Rattle.rubis_world.proofs.run.serve.Goals as goal
 
 pub steps-init : goal.steps-init
@@ -14,6 +15,17 @@ steps-init g c = record {
   stands = λ input gives empty. progress-starts _ c.args.run.now (told_by_world c.args.desk.now.world) _ input c.requires empty gives;
   led = λ rows gives. led_none _ c.args.run.now c.args.desk.now.world rows c.requires gives;
 }
+
+pub steps-preserved : goal.steps-preserved
+steps-preserved g c =
+    let none : c.in_ok-count.field-0 ≡ None = c.in_default.is in
+    let leads = subst (λ (over : Option Count). LeadsOn g.R.Read.remaining c.steps.run c.answer_next.new.run c.steps.desk.world c.answer_next.new.desk.world over) none c.in_ok-count.ensures.leads in
+    let counted = subst (λ (over : Option Count). IfNone over (c.answer_next.new.run.answered ≡ c.steps.run.answered + 1)) none c.in_ok-count.ensures.counted in
+    record {
+      answered = search rules;
+      stands = search rules;
+      led = λ rows gives. led_more _ c.steps.run c.answer_next.new.run c.args.desk.now.world c.steps.desk.world c.answer_next.new.desk.world rows (c.steps.invariant.led rows gives) leads counted;
+    }
 
 pub returns-clause-ok : goal.returns-clause-ok
 returns-clause-ok g c =
