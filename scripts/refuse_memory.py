@@ -14,7 +14,6 @@ of a thread among them. Each scenario of GROWTHS is run so, and rubis on convers
 - A folder of `rubis keep` is started again after each run, with nothing refused: what was kept is whole lines of the records,
   and is answered.
 - What the long scenarios answer if nothing is refused is what conversations/ says.
-- The lines that `rubis check` says may be others where the memory for what was read last is refused.
 - Where the start of a thread is refused, the n-th alone or all from the n-th on, the answers are those of a run in which
   nothing is refused, and nothing is told: the caller's thread does the work.
 
@@ -281,26 +280,11 @@ class Command(Tried):
 
     fault = re.compile(rb"run fault: memory\n")
 
-    def shown(self, wrote: bytes) -> bytes:
-        """What has to be the same whatever is refused."""
-        return wrote
-
     def check(self, status: int, wrote: bytes, said: bytes) -> None:
-        got, want = self.shown(wrote), self.shown(self.whole)
-        is_whole = status == self.status and not said and got == want
-        is_cut = status == 1 and self.fault.fullmatch(said) is not None and want.startswith(got)
+        is_whole = status == self.status and not said and wrote == self.whole
+        is_cut = status == 1 and self.fault.fullmatch(said) is not None and self.whole.startswith(wrote)
         if not (is_whole or is_cut):
             raise Fault(f"status {status}, {said!r}, {len(wrote)} bytes")
-
-
-class Checking(Command):
-    """rubis check on a conversation's records. It tells lines by the bytes that were read last, and goes on without these where the
-    memory for them is refused: then a line may be another."""
-
-    line = re.compile(rb"^(bad,\d+,)\d+|(at line )\d+", re.M)
-
-    def shown(self, wrote: bytes) -> bytes:
-        return self.line.sub(rb"\1\2", wrote)
 
 
 class Keeping(Command):
@@ -333,9 +317,6 @@ class Keeping(Command):
         return wrote.partition(b"\n")[2]
 
 
-MADE: dict[str, type[Command]] = {"rubis keep": Keeping, "rubis check": Checking}
-
-
 def tried_of(growths: str, program: str) -> list[Tried]:
     """All that is tried."""
     tried: list[Tried] = []
@@ -345,7 +326,7 @@ def tried_of(growths: str, program: str) -> list[Tried]:
     for name, (told, options) in COMMANDS.items():
         words, records, _ = conversation(told)
         text = "".join(f"{record}\n" for record in records)
-        made = MADE.get(name, Command)
+        made = Keeping if name == "rubis keep" else Command
         tried.append(made(name, [program, *words, *options], text, text_of(told, None)))
     return tried
 

@@ -21,10 +21,12 @@ pub struct Recent<R> {
     last: Vec<u8>,
     // How many bytes it gave.
     given: u64,
+    // Whether memory for what it gave was refused.
+    is_refused: bool,
 }
 
 impl<R> Recent<R> {
-    // Remembers these bytes, if there are any. Where memory is refused, none.
+    // Remembers these bytes, if there are any.
     fn remember(&mut self, bytes: &[u8])
         ensures { self.new.inner ≡ self.old.inner }
     {
@@ -34,7 +36,7 @@ impl<R> Recent<R> {
         self.given = self.given.saturating_add(bytes.len() as u64);
         self.last.clear();
         if self.last.extend_from_slice(bytes).is_err() {
-            self.last.clear();
+            self.is_refused = true;
         }
     }
 
@@ -109,6 +111,7 @@ impl<R: Read> LineReader<R> {
             inner: reader,
             last: Vec::new(alloc),
             given: 0,
+            is_refused: false,
         };
         let reader = ReaderBuilder::new()
             .has_headers(false)
@@ -142,6 +145,9 @@ impl<R: Read> LineReader<R> {
                 return Err(RunFault::Memory);
             }
         };
+        if self.reader.get_ref().is_refused {
+            return Err(RunFault::Memory);
+        }
         Ok(found)
     }
 
