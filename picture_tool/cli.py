@@ -15,7 +15,7 @@ from .run import Run, View, around, around_place, between, last_of, made_places,
 from .sources import KINDS, Given, run_of, source_of
 
 MANY = 100          # a picture of more messages shows the last of them
-SOME, FEW = 40, 20  # so many, or with more than six lanes
+SOME, FEW = 40, 20  # with up to six lanes, and with more
 
 ABOUT = """\
 Draws an order of operations: a lane for each site that has something to show, and its messages as marks.

@@ -156,13 +156,13 @@ def made_places(run: Run) -> list[int]:
 
 
 def last_of(run: Run, count: int) -> View:
-    """From where the last messages were made, so many."""
+    """The view of the last `count` messages, from where the first of them was made."""
     places = made_places(run)
     return view_of(run, places[-count] if 0 < count <= len(places) else 0)
 
 
 def around(run: Run, lane: int, entry: int, each: int = 8) -> View:
-    """An entry of a log, with so many messages before it and after it."""
+    """An entry of a log, with `each` messages before it and after it."""
     if not 0 <= lane < len(run.lanes):
         raise Fault(f"there is no log {lane + 1}")
     log = run.log(lane)

@@ -108,7 +108,7 @@ class Programs:
         return "" if rubis == plain else " (OTHER BYTES)"
 
     def audit(self, many: int) -> Work:
-        """An audit of about so many records, of a world that the plain program runs."""
+        """An audit of about `many` records, of a world that the plain program runs."""
         return workloads.audit_of(measured(self.plain, workloads.world_with_logs(many), []).output)
 
 

@@ -44,14 +44,14 @@ PATIENCE = 120.0
 # How many of twenty cases are audits and widenings, of the logs of one run.
 OF_ONE_SOURCE = 6
 
-# A worker takes so many cases at a time.
+# How many cases a worker takes at a time.
 SHARE = 60
 
 # How many runs the making smaller of a case may take, and how long a case is made smaller.
 MOST_RUNS = 1_500
 SMALL = 5_000
 
-# After so many seconds a line says how far the comparison is.
+# How many seconds pass between two lines that say how far the comparison is.
 OFTEN = 60
 
 
@@ -311,7 +311,7 @@ def arguments() -> argparse.Namespace:
     parser.add_argument("--first", type=int, default=0, help="the number of the first case")
     parser.add_argument("--case", type=int, help="this case alone, and its input in a file")
     parser.add_argument("--jobs", type=int, default=os.cpu_count())
-    parser.add_argument("--seconds", type=float, help="begin no case after so many")
+    parser.add_argument("--seconds", type=float, help="begin no case after this many seconds")
     parser.add_argument("--program", default=str(RUBIS))
     parser.add_argument("--plain", help="the plain program; without it cargo builds it")
     return parser.parse_args()

@@ -200,7 +200,7 @@ def audited_world(many: int) -> Work:
 
 
 def world_with_logs(many: int) -> Work:
-    """A world that ends with the log and the tables of each site, of which an audit of about so many records is made."""
+    """A world that ends with the log and the tables of each site, of which an audit of about `many` records is made."""
     market = Market(4)
     market.run(many * 45 // 100)
     for place in range(4):
@@ -284,14 +284,14 @@ def repeated(command: list[str], record: str) -> Callable[[int], Work]:
 
 
 def audit_of_sixteen(many: int) -> Work:
-    """An audit of the same log of so many messages at sixteen sites."""
+    """An audit of the same log of `many` messages at sixteen sites."""
     deps = [f"{place}" + ":0" * 15 for place in range(many)]
     log = "".join(f"msg,1,0,{place + 1},{place + 1},{deps[place]},user,n{place:x}\n" for place in range(many))
     return Work(["audit", "--sites", "16"], "".join(f"site,{site}\n{log}" for site in range(16)).encode())
 
 
 def lagging_logs(many: int) -> Work:
-    """An audit of sixteen logs of so many messages of one site; that of site s lacks the last s hundredths of them."""
+    """An audit of sixteen logs of `many` messages of one site; that of site s lacks the last s hundredths of them."""
     deps = [f"{place}" + ":0" * 15 for place in range(many)]
     log = [f"msg,1,0,{place + 1},{place + 1},{deps[place]},user,n{place:x}\n" for place in range(many)]
     logs = (f"site,{site}\n" + "".join(log[: many - many * site // 100]) for site in range(16))

@@ -110,7 +110,7 @@ class Run {
     return found;
   }
 
-  // The states of all sites, each so many events.
+  // The states of all sites, one every CHECKPOINT events.
 
   _states() {
     const state = {at: 0, counts: this.lanes.map(() => new Int32Array(this.sites)), reds: this.lanes.map(() => 0), waiting: this.lanes.map(() => new Set()), holder: this.holder};
@@ -138,7 +138,7 @@ class Run {
     else if (kind === "holding") state.holder = lane;
   }
 
-  // The state once so many events have happened.
+  // The state after the first `events` events.
   stateAt(events) {
     const state = this.copy(this.states[Math.min(this.states.length - 1, Math.floor(events / CHECKPOINT))]);
     while (state.at < events) this.advance(state);

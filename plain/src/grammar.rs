@@ -7,7 +7,7 @@ const MOST_MONEY: u64 = 1_000_000_000_000;
 const MOST_STOCK: u64 = 1_000_000;
 const LAST_CATEGORY: u64 = 999;
 
-/// The grammar of so many sites.
+/// The grammar of records of `sites` sites.
 #[derive(Clone, Copy, Debug)]
 pub struct Grammar {
     pub sites: usize,

@@ -41,7 +41,7 @@ fn put_wider(lines: &mut Lines, f: Fields, further: usize) {
     lines.end();
 }
 
-/// Widens the records of the grammar's sites to so many.
+/// Widens the records of the grammar's sites to `to` sites.
 pub fn run_widen<R: Read, W: Write>(
     records: Reader<R>,
     out: &mut Output<W>,

@@ -33,7 +33,7 @@ shape_misfit sites from shape fields =
     option_or (misfit sites (from + 1 + 1) (head_of shape) (drop (from + 1) fields))
     (misfit sites (from + 1 + length (head_of shape) + 1) (tail_of shape) (drop (from + 1 + length (head_of shape)) fields))
 
--- a record of this shape may have so many fields
+-- a record of this shape may have `given` fields, of which the shape names `wanted`
 abbrev pub has_room : Shape → ℕ → ℕ → Bool
 has_room shape wanted given = if is_open shape then nat_le wanted given else given == wanted
 
@@ -105,7 +105,7 @@ abbrev pub fault_by : ℕ → List (List ℕ) → Option Shape → Option Fault
 fault_by sites fields None = Some (unknown fields)
 fault_by sites fields (Some shape) = fault_in sites 0 shape fields
 
--- what is wrong with a record of one of so many sites
+-- what is wrong with a record of one of `sites` sites
 abbrev pub site_fault : ℕ → List (List ℕ) → Option Fault
 site_fault sites fields = option_map (in_quotes fields) (fault_by sites fields (site_shape fields))
 

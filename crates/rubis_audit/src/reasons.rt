@@ -119,7 +119,7 @@ fn marks(field: &[u8]) -> usize
     field.iter().filter(|byte| **byte == b':').count()
 }
 
-// Why a field isn't the counts of so many sites.
+// Why a field isn't the counts of `sites` sites.
 fn counts_reason(alloc: Global, field: &[u8], sites: u8) -> Result<Vec<u8>, AllocError>
     ensures { IfOk result (λ text. text.items ≡ counts_text sites field.now) }
 {

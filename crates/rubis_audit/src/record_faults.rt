@@ -139,7 +139,7 @@ fn discord<F: Record>(fields: &F, shape: Shape, sites: u8) -> Option<Fault>
     None
 }
 
-// Whether a record of this shape may have so many fields, of which it is known how many are wanted.
+// Whether a record of this shape may have `given` fields, of which the shape names `wanted`.
 fn has_room(shape: Shape, wanted: usize, given: usize) -> bool
     ensures { result ≡ has_room shape wanted given }
 {
