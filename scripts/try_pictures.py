@@ -6,7 +6,6 @@ says of everything that it is given; 20,000 messages, by size and time; and, in 
 page by keys, by pointer, by filter, at every zoom, and on paper. With names, only the trials of these names are run. What isn't
 installed is skipped, aloud. The last line says how many passed; the status is 1 if one failed."""
 
-import concurrent.futures
 import functools
 import os
 import pathlib
@@ -22,8 +21,8 @@ sys.path.insert(0, str(TOP))
 
 from picture_tool.tests.browser import Browser, found  # noqa: E402
 from picture_tool.tests.shops import MadeShop, Network  # noqa: E402
+from trials import Skipped, expect, run_trials, trials_in  # noqa: E402
 
-AT_ONCE = 3         # most trials wait for another process
 MANY, MOST_BYTES, MOST_SECONDS = 20_000, 3_000_000, 5.0
 HALF, ALL = 25.0, 1000.0    # ms: what half of the drawings and steps of 20,000 messages may take, and any, on a machine with other work
 READY = "document.documentElement?.dataset.ready === 'yes'"
@@ -41,19 +40,6 @@ MEETING = """(() => {
   }));
   return [boxes.length, meet.slice(0, 5)];
 })()"""
-
-
-class Failed(Exception):
-    """What was expected and isn't so."""
-
-
-class Skipped(Exception):
-    """What is missing on this machine."""
-
-
-def expect(claim: bool, what: str) -> None:
-    if not claim:
-        raise Failed(what)
 
 
 class Folder:
@@ -368,20 +354,7 @@ def main() -> int:
         return 2
     os.environ.pop("RUBIS", None)
     program = pathlib.Path(sys.argv[1]).resolve()
-    tests = {name[5:]: test for name, test in globals().items() if name.startswith("test_")}
-    passed, failed, skipped = 0, 0, 0
-    with concurrent.futures.ThreadPoolExecutor(AT_ONCE) as pool:
-        for name, fault in pool.map(lambda name: (name, tried(tests[name], program)), sys.argv[2:] or tests):
-            if fault is None:
-                passed += 1
-            elif isinstance(fault, Skipped):
-                skipped += 1
-                print(f"pictures: the trial {name} was skipped: {fault}")
-            else:
-                failed += 1
-                print(f"pictures: {name}: {fault if isinstance(fault, Failed) else repr(fault)}")
-    print(f"pictures: {passed} passed, {failed} failed" + (f", {skipped} skipped" if skipped else ""))
-    return 1 if failed else 0
+    return run_trials("pictures", trials_in(globals()), lambda trial: tried(trial, program), sys.argv[2:])
 
 
 if __name__ == "__main__":

@@ -5,7 +5,6 @@ Each trial runs in a folder of its own, in which `./shop` is the command and `./
 names are run. A trial that needs what isn't installed is skipped, aloud. The last line says how many passed; the status is 1 if one
 failed."""
 
-import concurrent.futures
 import json
 import os
 import pathlib
@@ -19,23 +18,11 @@ import time
 from collections.abc import Callable
 from typing import Any
 
+from trials import Skipped, expect, run_trials, trials_in
+
 TOP = pathlib.Path(__file__).resolve().parent.parent
 PYTHON = "/usr/bin/python3"
 SECONDS = 60
-AT_ONCE = 3         # most trials wait
-
-
-class Failed(Exception):
-    """What was expected and isn't so."""
-
-
-class Skipped(Exception):
-    """What is missing on this machine."""
-
-
-def expect(claim: bool, what: str) -> None:
-    if not claim:
-        raise Failed(what)
 
 
 class Folder:
@@ -846,20 +833,7 @@ def main() -> int:
         print(__doc__, file=sys.stderr)
         return 2
     program = pathlib.Path(sys.argv[1]).resolve()
-    tests = {name[5:]: test for name, test in globals().items() if name.startswith("test_")}
-    passed, failed, skipped = 0, 0, 0
-    with concurrent.futures.ThreadPoolExecutor(AT_ONCE) as pool:
-        for name, fault in pool.map(lambda name: (name, tried(tests[name], program)), sys.argv[2:] or tests):
-            if fault is None:
-                passed += 1
-            elif isinstance(fault, Skipped):
-                skipped += 1
-                print(f"shop: the trial {name} was skipped: {fault}")
-            else:
-                failed += 1
-                print(f"shop: {name}: {fault if isinstance(fault, Failed) else repr(fault)}")
-    print(f"shop: {passed} passed, {failed} failed" + (f", {skipped} skipped" if skipped else ""))
-    return 1 if failed else 0
+    return run_trials("shop", trials_in(globals()), lambda trial: tried(trial, program), sys.argv[2:])
 
 
 if __name__ == "__main__":

@@ -1,0 +1,44 @@
+"""Trials for scripts/try_shop.py and scripts/try_pictures.py: functions whose names begin with `test_`, of which a few run at once."""
+
+import concurrent.futures
+from collections.abc import Callable, Mapping, Sequence
+from typing import TypeVar
+
+AT_ONCE = 3         # most trials wait for another process
+
+Trial = TypeVar("Trial")
+
+
+class Failed(Exception):
+    """What was expected and isn't so."""
+
+
+class Skipped(Exception):
+    """What is missing on this machine."""
+
+
+def expect(claim: bool, what: str) -> None:
+    if not claim:
+        raise Failed(what)
+
+
+def trials_in(names: Mapping[str, Trial]) -> dict[str, Trial]:
+    """The trials among what a script defines, by their names without `test_`."""
+    return {name[5:]: trial for name, trial in names.items() if name.startswith("test_")}
+
+
+def run_trials(what: str, trials: Mapping[str, Trial], tried: Callable[[Trial], Exception | None], wanted: Sequence[str]) -> int:
+    """Runs these trials, or all, and prints each that failed or was skipped, and last how many there were: the status."""
+    passed, failed, skipped = 0, 0, 0
+    with concurrent.futures.ThreadPoolExecutor(AT_ONCE) as pool:
+        for name, fault in pool.map(lambda name: (name, tried(trials[name])), wanted or trials):
+            if fault is None:
+                passed += 1
+            elif isinstance(fault, Skipped):
+                skipped += 1
+                print(f"{what}: the trial {name} was skipped: {fault}")
+            else:
+                failed += 1
+                print(f"{what}: {name}: {fault if isinstance(fault, Failed) else repr(fault)}")
+    print(f"{what}: {passed} passed, {failed} failed" + (f", {skipped} skipped" if skipped else ""))
+    return 1 if failed else 0
