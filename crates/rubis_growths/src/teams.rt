@@ -17,7 +17,9 @@ use rubis_pool_core::{Event, Pool, run};
 use rubis_schema::{Id, Items, PurchaseRow, Row, RowKey, shard_of};
 use rubis_shadow::{Change, Effect, Numbered};
 use rubis_shard::{Shard, Share, Tables};
-use rubis_workers::{Free, Pace, Worked, apply_all, apply_batch, apply_beside};
+use rubis_workers::{
+    Free, LogBatch, Pace, Worked, Workers, apply_all, apply_batch, apply_beside,
+};
 use std::alloc::{AllocError, Global};
 use std::io::Print;
 use std::sync::Wait;
@@ -221,13 +223,21 @@ fn apply_shared<R: Print + AllocGlobal + Threads + Wait + Sync>(
     requires shards { length tables.old ≤ 255 }
     requires few { length messages.now ≤ 1000 }
 {
-    let (mut pace, upto, shards) = (Pace::new(), messages.len(), tables.len());
+    let (upto, shards) = (messages.len(), tables.len());
     let alloc = rt.alloc();
     let mut stops = again!(rt, "Vec::with_capacity", Vec::with_capacity(alloc, shards));
-    let applied = apply_batch(
-        rt, alloc, tables, messages, 0, upto, &mut stops, 4, &mut pace, &Free,
-    );
-    if applied.is_ok() {
+    let mut workers = Workers {
+        most: 4,
+        pace: Pace::new(),
+        gate: Free,
+        alloc,
+    };
+    let batch = LogBatch {
+        log: messages,
+        from: 0,
+        upto,
+    };
+    if apply_batch(rt, &mut workers, tables, batch, &mut stops).is_ok() {
         return Ok(());
     }
     let parts = count_behind(messages, 0, &stops);

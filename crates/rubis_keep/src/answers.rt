@@ -14,7 +14,7 @@ use std::io::{Read, Write};
 
 /// What answers are appended to.
 pub trait Out: Write {
-    /// All that was kept is answered: so many records, after which the site has released so many messages of each site. The
+    /// All that was kept is answered: how many records that is, and how many messages of each site are released then. The
     /// answers from here on are those to new records.
     fn replayed(&mut self, records: u64, counts: &[u64]) -> io::Result<()>
         ensures { Self.contents self.new ≡ Self.contents self.old };
@@ -52,7 +52,7 @@ impl<O, W> Answers<O, W> {
     }
 }
 
-// Finds a text, which begins after so many whole lines, in what stands there before, as far as that goes, and appends the rest.
+// Finds a text in what stands there before, as far as that goes, and appends the rest. That many whole lines come before the text.
 fn put<O: Read, W: Write>(
     alloc: Global,
     before: &mut O,

@@ -12,7 +12,7 @@ meant (parsed.Came p) = Came p
 meant (parsed.Asked r) = Asked r
 meant parsed.Neither = Neither
 
--- it is of a system of so many sites
+-- it is of a system of that many sites
 abbrev pub FitsIn : ℕ → Parsed → Type 0
 FitsIn sites (parsed.Came p) = IsPacket sites p
 FitsIn sites (parsed.Asked r) = IsRequest sites r

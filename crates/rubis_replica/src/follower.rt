@@ -18,7 +18,9 @@ use rubis_listing::{list_tables, list_tables_shared};
 use rubis_message::Message;
 use rubis_release::Intake;
 use rubis_schema::{Hashes, Listing, SharedSink};
-use rubis_workers::{Gate, Pace, Tables, apply_batch, count_behind, count_parts, follow_rest};
+use rubis_workers::{
+    Gate, LogBatch, Pace, Tables, Workers, apply_batch, count_behind, count_parts, follow_rest,
+};
 use std::alloc::{AllocError, Global};
 use std::marker::Model;
 use std::sync::Wait;
@@ -28,11 +30,8 @@ use std::thread::Threads;
 /// isn't whole, because it ran out of memory, is finished before another begins.
 pub struct Follower<G: Gate> {
     tables: Tables,
-    // The most workers that apply a batch, at most WORKERS_MAX, what each calls for a shard that it takes, and how many threads
-    // a batch is worth. Every application hands these three down.
-    workers: u8,
-    gate: G,
-    pace: Pace,
+    // Who applies the batches.
+    workers: Workers<G>,
     // How many messages are applied, those of the begun batch aside.
     applied: usize,
     // The message that ends the batch that is kept as the next one; `applied` where none is.
@@ -43,7 +42,6 @@ pub struct Follower<G: Gate> {
     stops: Vec<usize>,
     // How many of the begun batch's parts aren't done.
     left: u32,
-    alloc: Global,
 }
 
 impl<G: Gate + Drop> Drop for Follower<G> {
@@ -52,14 +50,11 @@ impl<G: Gate + Drop> Drop for Follower<G> {
         let Follower {
             tables: _,
             workers: _,
-            gate: _,
-            pace: _,
             applied: _,
             kept: _,
             upto: _,
             stops: _,
             left: _,
-            alloc: _,
         } = self;
     }
 }
@@ -79,7 +74,7 @@ impl<G: Gate> Model for Follower<G> {
 
     ghost view = { λ f. record { progress = record { applied = f.applied; kept = f.kept; upto = f.upto; left = f.left }; stops = f.stops.items; tables = f.tables } };
 
-    ghost invariant = { λ f. IsReady f.workers WORKERS_MAX (length f.tables) (vec_capacity f.stops) };
+    ghost invariant = { λ f. IsReady f.workers.most WORKERS_MAX (length f.tables) (vec_capacity f.stops) };
 }
 
 impl<G: Gate + Drop> Follower<G> {
@@ -99,15 +94,17 @@ impl<G: Gate + Drop> Follower<G> {
     {
         Ok(Follower {
             tables: Tables::hashed(alloc, usize::from(shards), hashes)?,
-            workers,
-            gate,
-            pace: Pace::new(),
+            workers: Workers {
+                most: workers,
+                pace: Pace::new(),
+                gate,
+                alloc,
+            },
             applied: 0,
             kept: 0,
             upto: 0,
             stops: Vec::with_capacity(alloc, usize::from(shards))?,
             left: 0,
-            alloc,
         })
     }
 }
@@ -130,10 +127,10 @@ impl<G: Gate> Follower<G> {
     ) -> Result<(), AllocError>
         ensures { OnOk result (S.adds (table_rows listing.now (union self.now.tables)) sink.old sink.new) }
     {
-        if self.workers == 1 {
-            return list_tables(self.alloc, sink, listing, &self.tables);
+        if self.workers.most == 1 {
+            return list_tables(self.workers.alloc, sink, listing, &self.tables);
         }
-        list_tables_shared(rt, self.alloc, sink, listing, &self.tables)
+        list_tables_shared(rt, self.workers.alloc, sink, listing, &self.tables)
     }
 
     /// Whether a batch has begun and isn't whole.
@@ -220,18 +217,13 @@ impl<G: Gate> Follower<G> {
             self.rest_at(upto);
             return Ok(());
         }
-        let workers = usize::from(self.workers);
+        let batch = LogBatch { log, from, upto };
         let ended = apply_batch(
             rt,
-            self.alloc,
+            &mut self.workers,
             &mut self.tables,
-            log,
-            from,
-            upto,
+            batch,
             &mut self.stops,
-            workers,
-            &mut self.pace,
-            &self.gate,
         );
         if ended.is_ok() {
             self.rest_at(upto);
@@ -297,7 +289,7 @@ impl<G: Gate> Follower<G> {
     {
         let before = intake.log().len();
         let _ = self.follow(rt, intake.log());
-        let arrived = take_all(self.alloc, intake, messages);
+        let arrived = take_all(self.workers.alloc, intake, messages);
         self.keep(intake.log(), before);
         arrived
     }

@@ -63,7 +63,7 @@ impl<G: Gate> Model for Site<G> {
 impl<G: Gate + Drop> Site<G> {
     /// A site with nothing done and this configuration. Whenever a batch is applied, the gate is called for each shard, by the
     /// worker that takes it and before it folds the shard's part of the batch. The caller's thread is the only worker of a
-    /// batch of one message, where one worker is configured, and where several weren't worth their threads of late.
+    /// batch of one message, where one worker is configured, and while starting threads hasn't paid.
     pub fn new(alloc: Global, config: &Config, gate: G) -> Result<Site<G>, AllocError>
         ensures { IfOk result (λ site.
             site ≡ record { place = setup_place config.now; state = opening_at config.now.site; progress = resting_at 0; batch = config.now.batch }) }

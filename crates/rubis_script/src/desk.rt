@@ -90,7 +90,7 @@ fn answer_pass<G: Gate>(site: &mut Site<G>, reply: &mut Reply, to: u8) -> Result
     Ok(())
 }
 
-// Answers a request for a listing. The rows are written apart, since how many they are stands before them.
+// Answers a request for a listing. The rows are buffered: the reply line before them carries their count.
 #[inline(never)]
 fn answer_list<G: Gate, R: Threads + Wait + Sync>(
     rt: &R,

@@ -6,7 +6,7 @@ use crate::arrivals::{ANN, BOB, CUP, arrive_comment, arrive_three, comment_behin
 use crate::batches::many_messages;
 use crate::gates::{Counting, Gathering, Holders};
 use crate::transcripts::add_line;
-use rubis_workers::{Pace, Tables, apply_batch};
+use rubis_workers::{LogBatch, Pace, Tables, Workers, apply_batch};
 use rubis_world::{Config, Count, Gate, Site, run_site_upto};
 use std::alloc::Global;
 use std::sync::Wait;
@@ -180,20 +180,19 @@ fn rest_after<R: Threads + Wait + Sync>(rt: &R, alloc: Global, count: u32) -> Re
     }
     let mut tables = Tables::new(alloc, 4)?;
     let mut stops = Vec::with_capacity(alloc, 4)?;
-    let mut pace = Pace::new();
-    apply_batch(
-        rt,
+    let mut workers = Workers {
+        most: 4,
+        pace: Pace::new(),
+        gate,
         alloc,
-        &mut tables,
-        &log,
-        0,
-        log.len(),
-        &mut stops,
-        4,
-        &mut pace,
-        &gate,
-    )?;
-    Ok(pace.alone)
+    };
+    let batch = LogBatch {
+        log: &log,
+        from: 0,
+        upto: log.len(),
+    };
+    apply_batch(rt, &mut workers, &mut tables, batch, &mut stops)?;
+    Ok(workers.pace.alone)
 }
 
 // The three other threads take three of the four shards, and so apply some 320 messages each, for which they are worth their start,

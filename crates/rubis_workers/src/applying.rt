@@ -10,12 +10,12 @@ ghost use Rattle.rubis_workers.specs.Logs.{AppliesTo, AppliesWhole};
 use crate::folding::apply_upto;
 use crate::following::{Followed, follow_by_team};
 use crate::gate::Gate;
-use crate::pace::Pace;
-use rubis_message::Message;
+use crate::task::FollowBatch;
+use crate::workers::{LogBatch, Workers};
 use rubis_pieces::homes_of;
 use rubis_schema::Items;
 use rubis_shard::{Shard, Tables};
-use std::alloc::{AllocError, Global};
+use std::alloc::AllocError;
 use std::sync::Wait;
 use std::thread::Threads;
 
@@ -73,71 +73,62 @@ fn stop_each(stops: &mut Vec<usize>, dones: &[usize], from: usize, messages: usi
 // Applies a batch of a log on the caller's thread, which first takes each shard.
 fn apply_alone<G: Gate>(
     tables: &mut Tables,
-    log: &[Message],
-    from: usize,
-    upto: usize,
+    batch: LogBatch,
     stops: &mut Vec<usize>,
     gate: &G,
 ) -> Result<(), AllocError>
-    requires few { length log.now ≤ KEEP_MAX }
-    requires within { upto ≤ length log.now }
-    requires on { from ≤ upto }
+    requires few { length batch.log.now ≤ KEEP_MAX }
+    requires within { batch.upto ≤ length batch.log.now }
+    requires on { batch.from ≤ batch.upto }
     requires some { 0 < length tables.old }
     requires room { length tables.old ≤ vec_capacity stops.old }
-    ensures ok { OnOk result (AppliesWhole log.now from upto tables.old tables.new) }
-    ensures err { OnErr result (AppliesTo log.now from upto tables.old tables.new stops.new.items) }
+    ensures ok { OnOk result (AppliesWhole batch.log.now batch.from batch.upto tables.old tables.new) }
+    ensures err { OnErr result (AppliesTo batch.log.now batch.from batch.upto tables.old tables.new stops.new.items) }
     ensures room { vec_capacity stops.new ≡ vec_capacity stops.old }
 {
     let shards = tables.len();
     take_each(gate, shards);
-    let mut at = from;
-    if apply_upto(tables, log, &mut at, upto).is_ok() {
+    let mut at = batch.from;
+    if apply_upto(tables, batch.log, &mut at, batch.upto).is_ok() {
         return Ok(());
     }
     stop_all(stops, shards, at);
     Err(AllocError)
 }
 
-// Applies a batch of a log by a team of at most `most` threads, straight from its messages.
+// Applies a batch of a log by a team of at most that many threads, straight from its messages.
 fn apply_together<G: Gate, R: Threads + Wait + Sync>(
     rt: &R,
-    alloc: Global,
+    workers: &mut Workers<G>,
+    threads: usize,
     tables: &mut Tables,
-    log: &[Message],
-    from: usize,
-    upto: usize,
+    batch: LogBatch,
     stops: &mut Vec<usize>,
-    most: usize,
-    pace: &mut Pace,
-    gate: &G,
 ) -> Result<(), AllocError>
-    requires few { length log.now ≤ KEEP_MAX }
-    requires within { upto ≤ length log.now }
-    requires pending { from < upto }
+    requires few { length batch.log.now ≤ KEEP_MAX }
+    requires within { batch.upto ≤ length batch.log.now }
+    requires pending { batch.from < batch.upto }
     requires some { 0 < length tables.old }
     requires shards { length tables.old ≤ 255 }
-    requires most { (0 < most) × (most ≤ WORKERS_MAX) }
+    requires threads { (0 < threads) × (threads ≤ WORKERS_MAX) }
     requires room { length tables.old ≤ vec_capacity stops.old }
-    ensures ok { OnOk result (AppliesWhole log.now from upto tables.old tables.new) }
-    ensures err { OnErr result (AppliesTo log.now from upto tables.old tables.new stops.new.items) }
+    ensures ok { OnOk result (AppliesWhole batch.log.now batch.from batch.upto tables.old tables.new) }
+    ensures err { OnErr result (AppliesTo batch.log.now batch.from batch.upto tables.old tables.new stops.new.items) }
     ensures room { vec_capacity stops.new ≡ vec_capacity stops.old }
+    ensures most { workers.new.most ≡ workers.old.most }
 {
-    let batch = &log[from..upto];
+    let LogBatch { log, from, upto } = batch;
+    let messages = &log[from..upto];
     let shards = tables.len();
-    let messages = upto - from;
     stop_all(stops, shards, from);
-    let homes = homes_of(alloc, batch, shards)?;
-    let (result, ()) = follow_by_team(
-        rt,
-        alloc,
-        tables.take(),
-        batch,
-        &homes,
-        from as u32 + 1,
-        most,
-        gate,
-        || (),
-    );
+    let homes = homes_of(workers.alloc, messages, shards)?;
+    let task = FollowBatch {
+        batch: messages,
+        homes: &homes,
+        first: from as u32 + 1,
+    };
+    let taken = tables.take();
+    let result = follow_by_team(rt, workers.alloc, taken, task, threads, &workers.gate);
     match result {
         Ok(followed) => {
             let Followed {
@@ -147,8 +138,9 @@ fn apply_together<G: Gate, R: Threads + Wait + Sync>(
                 others,
             } = followed;
             *tables = again(list);
-            pace.learn(team - 1, (messages / shards).saturating_mul(others));
-            if stop_each(stops, dones.as_slice(), from, messages) {
+            let each = (upto - from) / shards;
+            workers.pace.learn(team - 1, each.saturating_mul(others));
+            if stop_each(stops, dones.as_slice(), from, upto - from) {
                 Ok(())
             } else {
                 Err(AllocError)
@@ -161,41 +153,38 @@ fn apply_together<G: Gate, R: Threads + Wait + Sync>(
     }
 }
 
-/// Applies the messages of a log after message `from`, up to message `upto`, as one batch, as far as memory goes, by as many of
-/// the workers as its pace says, from 1 to 16. Where that is one thread, the caller's takes each shard, and folds message after
-/// message; else a team takes the shards, and folds straight from the messages on each. Either way the gate is called for each
-/// shard. On an error `stops` says how far each shard stands. A log has at most 1,000,000 messages.
+/// Applies a batch of a log, as far as memory goes, by as many of the workers as their pace says. Where that is one thread, the
+/// caller's takes each shard, and folds message after message; else a team takes the shards, and folds straight from the messages
+/// on each. Either way the gate is called for each shard. On an error `stops` says how far each shard stands. A log has at most
+/// 1,000,000 messages.
 pub fn apply_batch<G: Gate, R: Threads + Wait + Sync>(
     rt: &R,
-    alloc: Global,
+    workers: &mut Workers<G>,
     tables: &mut Tables,
-    log: &[Message],
-    from: usize,
-    upto: usize,
+    batch: LogBatch,
     stops: &mut Vec<usize>,
-    workers: usize,
-    pace: &mut Pace,
-    gate: &G,
 ) -> Result<(), AllocError>
-    requires few { length log.now ≤ KEEP_MAX }
-    requires within { upto ≤ length log.now }
-    requires on { from ≤ upto }
+    requires few { length batch.log.now ≤ KEEP_MAX }
+    requires within { batch.upto ≤ length batch.log.now }
+    requires on { batch.from ≤ batch.upto }
     requires some { 0 < length tables.old }
     requires shards { length tables.old ≤ 255 }
-    requires workers { (0 < workers) × (workers ≤ WORKERS_MAX) }
+    requires workers { (0 < workers.old.most) × (workers.old.most ≤ WORKERS_MAX) }
     requires room { length tables.old ≤ vec_capacity stops.old }
-    ensures ok { OnOk result (AppliesWhole log.now from upto tables.old tables.new) }
-    ensures err { OnErr result (AppliesTo log.now from upto tables.old tables.new stops.new.items) }
+    ensures ok { OnOk result (AppliesWhole batch.log.now batch.from batch.upto tables.old tables.new) }
+    ensures err { OnErr result (AppliesTo batch.log.now batch.from batch.upto tables.old tables.new stops.new.items) }
     ensures room { vec_capacity stops.new ≡ vec_capacity stops.old }
+    ensures most { workers.new.most ≡ workers.old.most }
 {
-    let messages = upto - from;
+    let messages = batch.upto - batch.from;
     if messages == 0 {
         return Ok(());
     }
-    let most = pace.threads(workers, tables.len(), messages);
-    if most == 1 {
-        pace.rest(messages);
-        return apply_alone(tables, log, from, upto, stops, gate);
+    let most = usize::from(workers.most);
+    let threads = workers.pace.threads(most, tables.len(), messages);
+    if threads == 1 {
+        workers.pace.rest(messages);
+        return apply_alone(tables, batch, stops, &workers.gate);
     }
-    apply_together(rt, alloc, tables, log, from, upto, stops, most, pace, gate)
+    apply_together(rt, workers, threads, tables, batch, stops)
 }

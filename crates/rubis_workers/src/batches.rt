@@ -11,7 +11,7 @@ ghost use Rattle.rubis_workers.specs.Work.{AreWorked, AppliesBatch};
 use crate::gate::Gate;
 use crate::rooms::Rooms;
 use crate::task::FoldShares;
-use crate::team::{Teamwork, fan_out};
+use crate::team::{Job, Teamwork, fan_out};
 use rubis_board::Poster;
 use rubis_pieces::{Left, Piece, gather};
 use rubis_schema::Items;
@@ -95,7 +95,8 @@ pub fn apply_by_team<G: Gate, R: Threads + Wait + Sync, A, F: FnOnce() -> A>(
     ensures few { IfOk result.0 (λ r. (0 < r.team) × (r.team ≤ workers)) }
 {
     let pieces = shards.len();
-    let Ok(rooms) = Rooms::new(alloc, pieces, workers.min(pieces)) else {
+    let team = workers.min(pieces);
+    let Ok(rooms) = Rooms::new(alloc, pieces, team) else {
         let unstarted = Unstarted {
             shards: shards.into(),
             shares: shares.into(),
@@ -110,13 +111,17 @@ pub fn apply_by_team<G: Gate, R: Threads + Wait + Sync, A, F: FnOnce() -> A>(
     } = rooms;
     let poster = post_all(rt, poster, shards, shares);
     let (board, pass) = poster.open();
+    let job = Job {
+        board: &board,
+        task: &FoldShares,
+        gate,
+    };
     let Teamwork {
         pass,
         list,
         others,
         answer,
-        team,
-    } = fan_out(rt, &board, pass, mine, others, &FoldShares, gate, beside);
+    } = fan_out(rt, &job, pass, mine, others, beside);
     board.close(pass);
     match gather(list, places) {
         Ok(gathered) => {

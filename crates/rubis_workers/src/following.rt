@@ -13,12 +13,11 @@ ghost use Rattle.rubis_workers.specs.Following.{AreRooms, bare};
 use crate::gate::Gate;
 use crate::rooms::Rooms;
 use crate::task::FollowBatch;
-use crate::team::{Teamwork, fan_out};
+use crate::team::{Job, Teamwork, fan_out};
 use rubis_board::Poster;
-use rubis_message::Message;
 use rubis_pieces::{Counted, Piece, gather_counted};
 use rubis_schema::Items;
-use rubis_shard::{PartHomes, Shard, Share};
+use rubis_shard::{Shard, Share};
 use std::alloc::{AllocError, Global};
 use std::sync::Wait;
 use std::thread::Threads;
@@ -74,38 +73,32 @@ fn rooms_for(
 }
 
 /// Folds the parts of a batch on the shards of a set, each on its home, straight from the messages and as far as memory goes, by at
-/// most `workers` threads, from 1 to 16, and no more than there are shards. The caller's thread is one of them: once it has
-/// started the others it calls `beside`, and then takes shards too. The gate is called for each shard that is taken. Where there
-/// is no room to begin, the shards come back. `beside` is called once in either case. `homes` has the homes of the parts of
-/// each message, and the first message is that entry of the log, from 1; no entry is above 1,000,000.
-pub fn follow_by_team<G: Gate, R: Threads + Wait + Sync, A, F: FnOnce() -> A>(
+/// most `workers` threads, from 1 to 16, and no more than there are shards. The caller's thread is one of them. The gate is called
+/// for each shard that is taken. Where there is no room to begin, the shards come back. No entry of the batch is above 1,000,000.
+pub fn follow_by_team<G: Gate, R: Threads + Wait + Sync>(
     rt: &R,
     alloc: Global,
     shards: Vec<Shard>,
-    batch: &[Message],
-    homes: &[PartHomes],
-    first: u32,
+    task: FollowBatch,
     workers: usize,
     gate: &G,
-    beside: F,
-) -> (Result<Followed, Items<Shard>>, A)
+) -> Result<Followed, Items<Shard>>
     requires some { 0 < length shards.items }
     requires order { AreInOrder shards.items }
-    requires entries { first + length batch.now ≤ 1000001 }
-    requires homes { AreHomes (length shards.items) (cores batch.now) homes.now }
+    requires entries { task.first + length task.batch.now ≤ 1000001 }
+    requires homes { AreHomes (length shards.items) (cores task.batch.now) task.homes.now }
     requires workers { (0 < workers) × (workers ≤ WORKERS_MAX) }
-    requires beside { F.pre beside }
-    ensures followed { IfOk result.0 (λ r. AreFollowed first (cores batch.now) shards.items r.shards r.dones) }
-    ensures others { IfOk result.0 (λ r. r.others ≤ length shards.items) }
-    ensures alone { workers ≡ 1 → IfOk result.0 (λ r. r.others ≡ 0) }
-    ensures back { IfErr result.0 (λ back. back ≡ shards.items) }
-    ensures answer { F.post beside result.1 }
-    ensures team { IfOk result.0 (λ r. r.team ≡ min workers (length shards.items)) }
-    ensures few { IfOk result.0 (λ r. (0 < r.team) × (r.team ≤ workers)) }
+    ensures followed { IfOk result (λ r. AreFollowed task.first (cores task.batch.now) shards.items r.shards r.dones) }
+    ensures others { IfOk result (λ r. r.others ≤ length shards.items) }
+    ensures alone { workers ≡ 1 → IfOk result (λ r. r.others ≡ 0) }
+    ensures back { IfErr result (λ back. back ≡ shards.items) }
+    ensures team { IfOk result (λ r. r.team ≡ min workers (length shards.items)) }
+    ensures few { IfOk result (λ r. (0 < r.team) × (r.team ≤ workers)) }
 {
     let pieces = shards.len();
-    let Ok((rooms, dones)) = rooms_for(alloc, pieces, workers.min(pieces)) else {
-        return (Err(shards.into()), beside());
+    let team = workers.min(pieces);
+    let Ok((rooms, dones)) = rooms_for(alloc, pieces, team) else {
+        return Err(shards.into());
     };
     let Rooms {
         poster,
@@ -115,29 +108,25 @@ pub fn follow_by_team<G: Gate, R: Threads + Wait + Sync, A, F: FnOnce() -> A>(
     } = rooms;
     let poster = post_bare(rt, alloc, poster, shards);
     let (board, pass) = poster.open();
-    let task = FollowBatch {
-        batch,
-        homes,
-        first,
+    let job = Job {
+        board: &board,
+        task: &task,
+        gate,
     };
     let Teamwork {
         pass,
         list,
         others,
-        answer,
-        team,
-    } = fan_out(rt, &board, pass, mine, others, &task, gate, beside);
+        answer: (),
+    } = fan_out(rt, &job, pass, mine, others, || ());
     board.close(pass);
     match gather_counted(list, places, dones) {
-        Ok(counted) => {
-            let followed = Followed {
-                shards: counted.shards,
-                dones: counted.dones,
-                team,
-                others,
-            };
-            (Ok(followed), answer)
-        }
+        Ok(counted) => Ok(Followed {
+            shards: counted.shards,
+            dones: counted.dones,
+            team,
+            others,
+        }),
         Err(_) => unreachable!(),
     }
 }

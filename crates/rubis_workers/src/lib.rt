@@ -11,6 +11,7 @@ mod pace;
 mod rooms;
 mod task;
 mod team;
+mod workers;
 
 pub use applying::apply_batch;
 pub use batches::{TeamResult, Unstarted, Worked, apply_all, apply_beside, apply_by_team};
@@ -20,3 +21,5 @@ pub use gate::{Free, Gate};
 pub use pace::Pace;
 pub use rubis_pieces::{count_behind, follow_rest, misfits};
 pub use rubis_shard::Tables;
+pub use task::FollowBatch;
+pub use workers::{LogBatch, Workers};

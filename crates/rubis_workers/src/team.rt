@@ -1,9 +1,10 @@
 //! A team of workers over one board.
 
-ghost use Rattle.std.specs.Prelude.{◌≡◌, ◌+◌, ◌-◌, ◌<◌, ◌≤◌, [], length, true, vec_len};
+ghost use Rattle.std.specs.Prelude.{◌≡◌, ◌-◌, ◌<◌, ◌≤◌, ◌++◌, [], length, true, vec_len};
 ghost use Rattle.std.specs.List.{All, AllZip};
 ghost use Rattle.std.specs.Vec.{vec_capacity};
 ghost use Rattle.std.specs.Thread.{IsSync};
+ghost use Rattle.rubis_board.specs.Passes.{joined_pass};
 ghost use Rattle.rubis_workers.specs.Work.{having, IsRoom};
 
 use crate::gate::{Gate, Taken};
@@ -14,28 +15,33 @@ use std::sync::Wait;
 use std::thread;
 use std::thread::Threads;
 
+/// What a team does: the board that has the pieces, what is done with each of them, and what is told when one is taken.
+pub struct Job<'a, T, G> {
+    pub board: &'a Board,
+    pub task: &'a T,
+    pub gate: &'a G,
+}
+
 /// One worker: takes pieces until none is left, and does the task of each.
 pub fn work<T: Task, G: Gate, R: Wait>(
     rt: &R,
-    board: &Board,
+    job: &Job<T, G>,
     mut pass: Pass,
     mut room: Vec<Done>,
-    task: &T,
-    gate: &G,
 ) -> (Pass, Vec<Done>)
-    requires board { pass.board ≡ board.now }
-    requires pieces { All (T.Fits task.now) pass.posted }
+    requires board { pass.board ≡ job.now.board.now }
+    requires pieces { All (T.Fits job.now.task.now) pass.posted }
     requires room { (pass.taken ≡ []) × (room.items ≡ []) × (length pass.posted ≤ vec_capacity room) }
     ensures pass { result.0 ≡ having pass result.0.taken true }
-    ensures done { AllZip (T.Worked task.now) result.0.taken result.1.items }
+    ensures done { AllZip (T.Worked job.now.task.now) result.0.taken result.1.items }
     ensures room { length pass.posted ≤ vec_capacity result.1 }
 {
     for _ in rt.forever() {
-        let Some(piece) = board.take(rt, &mut pass) else {
+        let Some(piece) = job.board.take(rt, &mut pass) else {
             break;
         };
-        let taken = Taken::told(gate, piece.shard.number());
-        room.push_reserved(task.work_on(piece, taken));
+        let taken = Taken::told(job.gate, piece.shard.number());
+        room.push_reserved(job.task.work_on(piece, taken));
     }
     (pass, room)
 }
@@ -49,8 +55,43 @@ pub struct Teamwork<A> {
     /// How many of them threads other than the caller's took.
     pub others: usize,
     pub answer: A,
-    /// How many threads were to take them, the caller's included, and any that the system refused to start.
-    pub team: usize,
+}
+
+// What a team made of a board, with what one thread more did, which is none of the caller's.
+fn joined<A>(
+    board: &Board,
+    ours: Teamwork<A>,
+    theirs: Pass,
+    mut done: Vec<Done>,
+) -> Teamwork<A>
+    requires boards { (ours.pass.board ≡ board.now) × (theirs.board ≡ board.now) }
+    requires ours { length ours.list.items ≡ length ours.pass.taken }
+    requires theirs { length done.items ≡ length theirs.taken }
+    requires room { length ours.pass.posted ≤ vec_capacity ours.list }
+    requires others { ours.others ≤ vec_len ours.list }
+    ensures pass { result.pass ≡ joined_pass ours.pass theirs }
+    ensures list { result.list.items ≡ ours.list.items ++ done.items }
+    ensures room { vec_capacity result.list ≡ vec_capacity ours.list }
+    ensures others { result.others ≤ vec_len result.list }
+    ensures answer { result.answer ≡ ours.answer }
+{
+    let Teamwork {
+        pass,
+        mut list,
+        others,
+        answer,
+    } = ours;
+    let pass = board.join(pass, theirs);
+    let more = done.len();
+    match list.append(&mut done) {
+        Ok(()) => Teamwork {
+            pass,
+            list,
+            others: others + more,
+            answer,
+        },
+        Err(_) => unreachable!(),
+    }
 }
 
 /// The caller's thread and one more for each further room: starts a thread for one, goes on with the others, and joins it.
@@ -58,82 +99,59 @@ pub struct Teamwork<A> {
 /// calls `first`, and then works too.
 pub fn fan_out<T: Task, G: Gate, R: Threads + Wait + Sync, A, F: FnOnce() -> A>(
     rt: &R,
-    board: &Board,
+    job: &Job<T, G>,
     pass: Pass,
     room: Vec<Done>,
     mut rooms: Vec<Vec<Done>>,
-    task: &T,
-    gate: &G,
     first: F,
 ) -> Teamwork<A>
-    requires board { pass.board ≡ board.now }
-    requires pieces { All (T.Fits task.now) pass.posted }
+    requires board { pass.board ≡ job.now.board.now }
+    requires pieces { All (T.Fits job.now.task.now) pass.posted }
     requires room { (pass.taken ≡ []) × (room.items ≡ []) × (length pass.posted ≤ vec_capacity room) }
     requires rooms { All (IsRoom (length pass.posted)) rooms.items }
     requires parts { vec_len rooms < pass.parts }
     requires first { F.pre first }
     ensures pass { result.pass ≡ having pass result.pass.taken true }
-    ensures done { AllZip (T.Worked task.now) result.pass.taken result.list.items }
+    ensures done { AllZip (T.Worked job.now.task.now) result.pass.taken result.list.items }
     ensures room { length pass.posted ≤ vec_capacity result.list }
     ensures others { result.others ≤ vec_len result.list }
     ensures alone { vec_len rooms ≡ 0 → result.others ≡ 0 }
     ensures answer { F.post first result.answer }
-    ensures team { result.team ≡ vec_len rooms + 1 }
 {
     let Some(theirs) = rooms.pop() else {
         let answer = first();
-        let (pass, list) = work(rt, board, pass, room, task, gate);
+        let (pass, list) = work(rt, job, pass, room);
         return Teamwork {
             pass,
             list,
             others: 0,
             answer,
-            team: 1,
         };
     };
-    let (mine, new) = board.split(pass);
-    let ((new, mut theirs), ours) = thread::join(
+    let (mine, new) = job.board.split(pass);
+    let ((new, theirs), ours) = thread::join(
         rt,
         move || -> (Pass, Vec<Done>)
-            requires board { new.board ≡ board.now }
-            requires pieces { All (T.Fits task.now) new.posted }
+            requires board { new.board ≡ job.now.board.now }
+            requires pieces { All (T.Fits job.now.task.now) new.posted }
             requires room { (new.taken ≡ []) × (theirs.items ≡ []) × (length new.posted ≤ vec_capacity theirs) }
             ensures pass { result.0 ≡ having new result.0.taken true }
-            ensures done { AllZip (T.Worked task.entry.now) result.0.taken result.1.items }
-        { work(rt, board, new, theirs, task, gate) },
+            ensures done { AllZip (T.Worked job.entry.now.task.now) result.0.taken result.1.items }
+        { work(rt, job, new, theirs) },
         move || -> Teamwork<A>
             requires sync { IsSync R.row }
-            requires board { mine.board ≡ board.now }
-            requires pieces { All (T.Fits task.now) mine.posted }
+            requires board { mine.board ≡ job.now.board.now }
+            requires pieces { All (T.Fits job.now.task.now) mine.posted }
             requires room { (mine.taken ≡ []) × (room.items ≡ []) × (length mine.posted ≤ vec_capacity room) }
             requires rooms { All (IsRoom (length mine.posted)) rooms.items }
             requires parts { vec_len rooms < mine.parts }
             requires first { F.pre first }
             ensures pass { result.pass ≡ having mine result.pass.taken true }
-            ensures done { AllZip (T.Worked task.entry.now) result.pass.taken result.list.items }
+            ensures done { AllZip (T.Worked job.entry.now.task.now) result.pass.taken result.list.items }
             ensures room { length mine.posted ≤ vec_capacity result.list }
             ensures others { result.others ≤ vec_len result.list }
             ensures answer { F.post first result.answer }
-            ensures team { result.team ≡ vec_len rooms + 1 }
-        { fan_out(rt, board, mine, room, rooms, task, gate, first) },
+        { fan_out(rt, job, mine, room, rooms, first) },
     );
-    let Teamwork {
-        pass: mine,
-        mut list,
-        others,
-        answer,
-        team,
-    } = ours;
-    let pass = board.join(mine, new);
-    let more = theirs.len();
-    match list.append(&mut theirs) {
-        Ok(()) => Teamwork {
-            pass,
-            list,
-            others: others + more,
-            answer,
-            team: team + 1,
-        },
-        Err(_) => unreachable!(),
-    }
+    joined(job.board, ours, new, theirs)
 }

@@ -1,0 +1,215 @@
+#!/usr/bin/env python3
+"""Proves the crates that the program is made of and builds it, on all processors: this is what `./rubis` calls where a source is newer.
+
+`rt ci NAME` proves a crate on a copy, over what was proved before, and keeps what passed beside the toolchain. So each crate is given
+to one call of it as soon as those below are proved, the longest chain first, and the last call builds the program over all of them.
+What is kept is there for the next run, if this one is interrupted, and for the gate. Where nothing can be kept, one call proves all.
+The crates are copied without their wrong bodies, which are the gate's.
+
+Standard error tells how far it is, on a terminal in one line that is written over. The first crate that isn't proved ends the run,
+with its errors and no others', and status 1.
+"""
+import os
+import re
+import shutil
+import signal
+import subprocess
+import sys
+import tempfile
+import time
+
+TOP = os.path.dirname(os.path.dirname(os.path.abspath(__file__)))
+APP = "rubis_app"
+PARTS = ("src", "specs", "proofs")
+# What a crate costs beside its lines, in lines: its libraries are loaded, and it is compiled.
+FIXED = 1500
+# What a proof may take of memory, in bytes.
+MEMORY = 4 << 30
+KEPT = "and that is kept"
+
+
+def crates_below(app):
+    """Returns the program's crates, each after those that it stands on, with the repository's crates that it lists."""
+    with open(f"{TOP}/crates.txt", encoding="utf-8") as lines:
+        listed = dict(line.split("#")[0].split(":", 1) for line in lines if re.match(r"\w", line))
+    found = {}
+
+    def visit(name):
+        if name not in found:
+            ours = [it for it in listed[name].split() if it in listed]
+            for below in ours:
+                visit(below)
+            found[name] = ours
+
+    visit(app)
+    return found
+
+
+def copy_crates(crates, to):
+    """Makes a repository of these crates alone, with what their proofs read."""
+    os.makedirs(f"{to}/.git")
+    shutil.copyfile(f"{TOP}/HANDLES", f"{to}/HANDLES")
+    with open(f"{TOP}/crates.txt", encoding="utf-8") as lines, open(f"{to}/crates.txt", "w", encoding="utf-8") as kept:
+        kept.writelines(line for line in lines if line.split(":")[0] in crates)
+    for name in crates:
+        os.makedirs(f"{to}/crates/{name}")
+        for part in sorted(os.listdir(f"{TOP}/crates/{name}")):
+            inside = f"crates/{name}/{part}"
+            if part in PARTS:
+                shutil.copytree(f"{TOP}/{inside}", f"{to}/{inside}")
+            elif name == APP and os.path.isfile(f"{TOP}/{inside}"):
+                shutil.copyfile(f"{TOP}/{inside}", f"{to}/{inside}")
+
+
+def weight(name):
+    """Returns about how much work a crate is, in lines."""
+    walked = (f"{at}/{file}" for part in PARTS for at, _, files in os.walk(f"{TOP}/crates/{name}/{part}") for file in files)
+    lines = FIXED
+    for path in walked:
+        with open(path, "rb") as text:
+            lines += text.read().count(b"\n")
+    return lines
+
+
+def at_once():
+    """Returns how many proofs run at once: each may use two processors, though not all of the time, and some memory."""
+    room = os.sysconf("SC_PHYS_PAGES") * os.sysconf("SC_PAGE_SIZE") // MEMORY
+    return max(1, min(len(os.sched_getaffinity(0)) // 2 + 1, room))
+
+
+class Unproved(Exception):
+    """A crate that isn't proved, or a program that isn't built, and what the toolchain says of it."""
+
+
+class Call:
+    """A call of `rt ci`, and its log."""
+
+    def __init__(self, repository, log, names=()):
+        self.log = log
+        words = {name: value for name, value in os.environ.items() if name != "CI"}
+        with open(log, "wb") as out:
+            self.run = subprocess.Popen(["rt", "ci", *names], cwd=repository, env=words, stdin=subprocess.DEVNULL, stdout=out, stderr=out, start_new_session=True)
+
+    def said(self):
+        with open(self.log, encoding="utf-8", errors="replace") as text:
+            return text.read()
+
+    def proved(self):
+        return re.findall(r"^rt: (\w+) (?:proved|is kept)", self.said(), re.M)
+
+    def is_over(self):
+        """Returns whether it ended well. Where it didn't, or a crate isn't proved, that is raised."""
+        ended, said = self.run.poll(), self.said()
+        failed = re.search(r"^rt: (\w+) NOT PROVED", said, re.M)
+        if failed:
+            raise Unproved(f"{said[max(said.rfind(f'== {failed[1]}'), 0) : failed.start()]}rubis: {failed[1]} isn't proved, so nothing is run\n")
+        if ended:
+            raise Unproved(f"{said[-4000:]}rubis: the program isn't built, so nothing is run\n")
+        return ended == 0
+
+    def stop(self):
+        if self.run.poll() is None:
+            os.killpg(self.run.pid, signal.SIGTERM)
+            self.run.wait()
+
+
+class Progress:
+    """How far the proofs are."""
+
+    def __init__(self, crates):
+        self.crates, self.proved, self.shown, self.began = crates, set(), -1, time.monotonic()
+        self.weights = {name: weight(name) for name in crates}
+        self.whole = self.left()
+
+    def behind(self):
+        """Returns for each crate how much work the longest chain is that begins with it."""
+        behind = {}
+        for name in reversed([*self.crates]):
+            above = [it for it, below in self.crates.items() if name in below]
+            behind[name] = self.weights[name] + max((behind[it] for it in above), default=0)
+        return behind
+
+    def ready(self, running):
+        """Returns the crates that can be proved now, the longest chain first."""
+        behind = self.behind()
+        ready = [name for name, below in self.crates.items() if name not in self.proved | running and self.proved.issuperset(below)]
+        return sorted(ready, key=lambda name: -behind[name])
+
+    def left(self):
+        """Returns the work that no number of processors makes shorter, or that of all processors, whichever is more."""
+        behind = self.behind()
+        still = [name for name in self.crates if name not in self.proved]
+        shared = sum(self.weights[name] for name in still) / at_once()
+        return max([shared, *(behind[name] for name in still)])
+
+    def show(self):
+        """Writes how far it is: over the last line on a terminal, and else where a crate more is proved."""
+        gone, done = time.monotonic() - self.began, self.whole - self.left()
+        left = f"about {gone * self.left() / done / 60 + 1:.0f} min left" if done and gone > 60 else "some 15 to 30 min in all on four processors"
+        text = f"rubis: {len(self.proved)} of {len(self.crates)} crates proved, {gone / 60:.0f} min gone, {left}"
+        if sys.stderr.isatty():
+            sys.stderr.write(f"\r{text}\x1b[K")
+        elif self.shown != len(self.proved):
+            sys.stderr.write(f"{text}\n")
+        sys.stderr.flush()
+        self.shown = len(self.proved)
+
+
+def prove_each(repository, room, progress, calls):
+    """Proves all crates but the program's own, each by a call of its own, and returns whether what was proved is kept."""
+    while len(progress.proved) < len(progress.crates) - 1:
+        # The first crate stands below nearly all others, and shows whether anything is kept.
+        most = at_once() if progress.proved else 1
+        for name in progress.ready(set(calls))[: most - len(calls)]:
+            calls[name] = Call(repository, f"{room}/{name}.log", [name])
+        for name in [name for name, call in calls.items() if call.is_over()]:
+            if KEPT not in calls.pop(name).said():
+                return False
+            progress.proved.add(name)
+        progress.show()
+        time.sleep(0.5)
+    return True
+
+
+def prove(room):
+    """Proves and builds in that folder, and leaves the program where `./rubis` starts it."""
+    crates, repository, calls = crates_below(APP), f"{room}/rubis", {}
+    copy_crates(crates, repository)
+    progress = Progress(crates)
+    try:
+        prove_each(repository, room, progress, calls)
+        last, is_over = Call(repository, f"{room}/{APP}.log"), False
+        calls[APP] = last
+        while not is_over:
+            time.sleep(0.5)
+            is_over = last.is_over()
+            progress.proved.update(it for it in last.proved() if it in crates)
+            progress.show()
+    finally:
+        for call in calls.values():
+            call.stop()
+        if sys.stderr.isatty():
+            sys.stderr.write("\n")
+    made = f"{TOP}/crates/{APP}/out"
+    os.makedirs(made, exist_ok=True)
+    shutil.copy(f"{repository}/crates/{APP}/out/{APP}", f"{made}/{APP}.new")
+    os.replace(f"{made}/{APP}.new", f"{made}/{APP}")
+
+
+def main():
+    sys.stderr.write("rubis: proving the program, once: later runs start at once. For a look without proofs: ./rubis --try\n")
+    signal.signal(signal.SIGTERM, lambda *_: sys.exit(1))
+    try:
+        with tempfile.TemporaryDirectory(prefix="rubis-proving-") as room:
+            prove(room)
+    except Unproved as fault:
+        sys.stderr.write(str(fault).replace(f"{room}/rubis", TOP))
+        return 1
+    except KeyboardInterrupt:
+        sys.stderr.write("\nrubis: interrupted: the next run goes on where this one was\n")
+        return 1
+    return 0
+
+
+if __name__ == "__main__":
+    sys.exit(main())

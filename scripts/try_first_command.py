@@ -1,0 +1,135 @@
+#!/usr/bin/env python3
+"""Tries `./rubis` where the program has still to be proved, over a stand-in for the toolchain: scripts/try_first_command.py
+
+The stand-in says what `rt ci` says, crate by crate, and looks at what it is given. Tried are a program that is proved, one with a
+crate that isn't, a toolchain that stops at once, one that keeps nothing, a run that is interrupted, and that a later run starts the
+program without proofs."""
+
+import os
+import pathlib
+import shutil
+import signal
+import subprocess
+import sys
+import tempfile
+import time
+
+TOP = pathlib.Path(__file__).resolve().parent.parent
+CRATES = {"rubis_numbers": "", "rubis_board": "rubis_numbers", "rubis_app": "rubis_board clap", "rubis_tests": "rubis_app"}
+
+# What the stand-in does first: it fails if it was given a wrong body, or a crate that the program isn't made of.
+LOOKS = """#!/bin/sh
+[ "$1" = ci ] && [ -d .git ] && [ -f HANDLES ] && [ ! -e crates/rubis_tests ] && [ ! -e crates/rubis_board/must-fail ] || exit 2
+[ -f crates/rubis_board/src/lib.rt ] && [ -f crates/rubis_app/args ] && ! grep -q rubis_tests crates.txt || exit 2
+"""
+NAMED = """[ -z "$2" ] || { printf '== %s\\nfn a: proved\\nrt: %s proved\\nrt: %s and the crates below passed, and that is kept.\\n' "$2" "$2" "$2"; exit; }
+"""
+FAILS = """if [ "$2" = rubis_board ]; then
+    printf '== rubis_numbers\\nrt: rubis_numbers is kept\\n== rubis_board\\nerror: src/lib.rt:1: not so\\nrt: rubis_board NOT PROVED\\n'
+    printf '== rubis_app\\nerror: of another crate\\n'
+    sleep 60
+fi
+"""
+WAITS = """[ "$2" != rubis_board ] || { echo $$ > "$STAND_IN_PID"; sleep 60; }
+"""
+FORGETS = """[ -z "$2" ] || { printf '== %s\\nrt: %s proved\\nnote: nothing can be kept\\n' "$2" "$2"; [ "$2" = rubis_numbers ]; exit; }
+"""
+BUILDS = """mkdir -p crates/rubis_app/out
+printf '#!/bin/sh\\necho ran "$@"\\ncat\\n' > crates/rubis_app/out/rubis_app
+chmod +x crates/rubis_app/out/rubis_app
+printf 'rt: rubis_numbers is kept\\nrt: rubis_board is kept\\n== rubis_app\\nrt: rubis_app proved\\nrt: ok\\n3 passed, 0 failed\\n'
+"""
+
+
+def expect(claim: bool, what: str) -> None:
+    if not claim:
+        raise SystemExit(f"the first command: {what}")
+
+
+class Copy:
+    """A repository of four small crates with `./rubis`, and a stand-in for the toolchain."""
+
+    def __init__(self, room: pathlib.Path) -> None:
+        self.top, self.bin, self.pid = room / "rubis", room / "bin", room / "pid"
+        self.bin.mkdir()
+        (self.top / "scripts").mkdir(parents=True)
+        shutil.copy(TOP / "rubis", self.top)
+        shutil.copy(TOP / "scripts/prove_program.py", self.top / "scripts")
+        shutil.copy(TOP / "HANDLES", self.top)
+        (self.top / "crates.txt").write_text("# crates\n" + "".join(f"{name}: {below}\n" for name, below in CRATES.items()))
+        for name in CRATES:
+            for part in ("src", "specs", "proofs", "must-fail"):
+                (self.top / "crates" / name / part).mkdir(parents=True)
+            (self.top / "crates" / name / "src/lib.rt").write_text("//! A crate.\n")
+        (self.top / "crates/rubis_app/args").write_text("site\n")
+
+    def stand_in(self, *parts: str) -> None:
+        (self.bin / "rt").write_text(LOOKS + "".join(parts))
+        (self.bin / "rt").chmod(0o755)
+
+    def start(self) -> "subprocess.Popen[str]":
+        words = {**os.environ, "PATH": f"{self.bin}:{os.environ['PATH']}", "STAND_IN_PID": str(self.pid)}
+        return subprocess.Popen([self.top / "rubis", "site", "--site", "0"], env=words, text=True, stdin=subprocess.PIPE, stdout=subprocess.PIPE, stderr=subprocess.PIPE, start_new_session=True)
+
+    def run(self) -> tuple[int, str, str]:
+        run = self.start()
+        out, said = run.communicate("user,ann\n")
+        return run.returncode, out, said
+
+
+def try_proofs(copy: Copy) -> None:
+    copy.stand_in(FAILS, NAMED, BUILDS)
+    began = time.monotonic()
+    status, out, said = copy.run()
+    expect(status == 3 and out == "", f"a crate that isn't proved gives status {status} and {out!r}")
+    expect("error: src/lib.rt:1: not so" in said and "another crate" not in said, f"not the errors of that crate alone: {said}")
+    expect("rubis_board isn't proved, so nothing is run" in said and time.monotonic() - began < 30, f"it goes on: {said}")
+    copy.stand_in("echo 'rt: the disk is full'\nexit 2\n")
+    status, out, said = copy.run()
+    expect(status == 3 and "the disk is full" in said and "isn't built" in said, f"a toolchain that stops gives status {status} and {said}")
+
+
+def try_program(copy: Copy, *parts: str) -> None:
+    """The program is proved, built and run, and a later run starts it."""
+    copy.stand_in(*parts, BUILDS)
+    status, out, said = copy.run()
+    expect(status == 0 and out == "ran site --site 0\nuser,ann\n", f"the program that is proved gives status {status}, {out!r} and {said}")
+    expect("3 of 3 crates proved" in said, f"it doesn't say how far it is: {said}")
+    copy.stand_in("exit 2\n")
+    status, out, said = copy.run()
+    expect(status == 0 and out == "ran site --site 0\nuser,ann\n" and said == "", f"a later run says {said!r}")
+    time.sleep(1.1)
+    (copy.top / "crates/rubis_board/src/lib.rt").write_text("//! A crate that changed.\n")
+    expect(copy.run()[0] == 3, "a source that is newer isn't proved")
+
+
+def try_interruption(copy: Copy) -> None:
+    """Ctrl-C ends the toolchain too, and leaves nothing among the temporary files."""
+    copy.stand_in(WAITS, NAMED)
+    run = copy.start()
+    for _ in range(300):
+        if copy.pid.exists() and copy.pid.read_text().strip():
+            break
+        time.sleep(0.1)
+    os.killpg(run.pid, signal.SIGINT)
+    _, said = run.communicate()
+    expect(run.returncode != 0 and "the next run goes on where this one was" in said, f"interrupted, it ends with {run.returncode} and {said}")
+    expect(not pathlib.Path(f"/proc/{copy.pid.read_text().strip()}").exists(), "the toolchain goes on")
+
+
+def main() -> int:
+    before = set(pathlib.Path(tempfile.gettempdir()).glob("rubis-proving-*"))
+    with tempfile.TemporaryDirectory(prefix="rubis-first-") as room:
+        copy = Copy(pathlib.Path(room))
+        try_proofs(copy)
+        try_program(copy, NAMED)
+        try_program(copy, FORGETS)
+        try_interruption(copy)
+    left = set(pathlib.Path(tempfile.gettempdir()).glob("rubis-proving-*")) - before
+    expect(not left, f"it leaves {left}")
+    print("the first command: 5 passed, 0 failed")
+    return 0
+
+
+if __name__ == "__main__":
+    sys.exit(main())
