@@ -237,7 +237,7 @@ fn apply_shared<R: Print + AllocGlobal + Threads + Wait + Sync>(
         from: 0,
         upto,
     };
-    if apply_batch(rt, &mut workers, tables, batch, &mut stops).is_ok() {
+    if apply_batch(rt, &mut workers, tables, &batch, &mut stops).is_ok() {
         return Ok(());
     }
     let parts = count_behind(messages, 0, &stops);

@@ -222,7 +222,7 @@ impl<G: Gate> Follower<G> {
             rt,
             &mut self.workers,
             &mut self.tables,
-            batch,
+            &batch,
             &mut self.stops,
         );
         if ended.is_ok() {

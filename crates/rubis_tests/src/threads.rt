@@ -191,7 +191,7 @@ fn rest_after<R: Threads + Wait + Sync>(rt: &R, alloc: Global, count: u32) -> Re
         from: 0,
         upto: log.len(),
     };
-    apply_batch(rt, &mut workers, &mut tables, batch, &mut stops)?;
+    apply_batch(rt, &mut workers, &mut tables, &batch, &mut stops)?;
     Ok(workers.pace.alone)
 }
 

@@ -73,17 +73,17 @@ fn stop_each(stops: &mut Vec<usize>, dones: &[usize], from: usize, messages: usi
 // Applies a batch of a log on the caller's thread, which first takes each shard.
 fn apply_alone<G: Gate>(
     tables: &mut Tables,
-    batch: LogBatch,
+    batch: &LogBatch,
     stops: &mut Vec<usize>,
     gate: &G,
 ) -> Result<(), AllocError>
-    requires few { length batch.log.now ≤ KEEP_MAX }
-    requires within { batch.upto ≤ length batch.log.now }
-    requires on { batch.from ≤ batch.upto }
+    requires few { length batch.now.log.now ≤ KEEP_MAX }
+    requires within { batch.now.upto ≤ length batch.now.log.now }
+    requires on { batch.now.from ≤ batch.now.upto }
     requires some { 0 < length tables.old }
     requires room { length tables.old ≤ vec_capacity stops.old }
-    ensures ok { OnOk result (AppliesWhole batch.log.now batch.from batch.upto tables.old tables.new) }
-    ensures err { OnErr result (AppliesTo batch.log.now batch.from batch.upto tables.old tables.new stops.new.items) }
+    ensures ok { OnOk result (AppliesWhole batch.now.log.now batch.now.from batch.now.upto tables.old tables.new) }
+    ensures err { OnErr result (AppliesTo batch.now.log.now batch.now.from batch.now.upto tables.old tables.new stops.new.items) }
     ensures room { vec_capacity stops.new ≡ vec_capacity stops.old }
 {
     let shards = tables.len();
@@ -102,22 +102,22 @@ fn apply_together<G: Gate, R: Threads + Wait + Sync>(
     workers: &mut Workers<G>,
     threads: usize,
     tables: &mut Tables,
-    batch: LogBatch,
+    batch: &LogBatch,
     stops: &mut Vec<usize>,
 ) -> Result<(), AllocError>
-    requires few { length batch.log.now ≤ KEEP_MAX }
-    requires within { batch.upto ≤ length batch.log.now }
-    requires pending { batch.from < batch.upto }
+    requires few { length batch.now.log.now ≤ KEEP_MAX }
+    requires within { batch.now.upto ≤ length batch.now.log.now }
+    requires pending { batch.now.from < batch.now.upto }
     requires some { 0 < length tables.old }
     requires shards { length tables.old ≤ 255 }
     requires threads { (0 < threads) × (threads ≤ WORKERS_MAX) }
     requires room { length tables.old ≤ vec_capacity stops.old }
-    ensures ok { OnOk result (AppliesWhole batch.log.now batch.from batch.upto tables.old tables.new) }
-    ensures err { OnErr result (AppliesTo batch.log.now batch.from batch.upto tables.old tables.new stops.new.items) }
+    ensures ok { OnOk result (AppliesWhole batch.now.log.now batch.now.from batch.now.upto tables.old tables.new) }
+    ensures err { OnErr result (AppliesTo batch.now.log.now batch.now.from batch.now.upto tables.old tables.new stops.new.items) }
     ensures room { vec_capacity stops.new ≡ vec_capacity stops.old }
     ensures most { workers.new.most ≡ workers.old.most }
 {
-    let LogBatch { log, from, upto } = batch;
+    let LogBatch { log, from, upto } = *batch;
     let messages = &log[from..upto];
     let shards = tables.len();
     stop_all(stops, shards, from);
@@ -128,7 +128,7 @@ fn apply_together<G: Gate, R: Threads + Wait + Sync>(
         first: from as u32 + 1,
     };
     let taken = tables.take();
-    let result = follow_by_team(rt, workers.alloc, taken, task, threads, &workers.gate);
+    let result = follow_by_team(rt, workers.alloc, taken, &task, threads, &workers.gate);
     match result {
         Ok(followed) => {
             let Followed {
@@ -161,18 +161,18 @@ pub fn apply_batch<G: Gate, R: Threads + Wait + Sync>(
     rt: &R,
     workers: &mut Workers<G>,
     tables: &mut Tables,
-    batch: LogBatch,
+    batch: &LogBatch,
     stops: &mut Vec<usize>,
 ) -> Result<(), AllocError>
-    requires few { length batch.log.now ≤ KEEP_MAX }
-    requires within { batch.upto ≤ length batch.log.now }
-    requires on { batch.from ≤ batch.upto }
+    requires few { length batch.now.log.now ≤ KEEP_MAX }
+    requires within { batch.now.upto ≤ length batch.now.log.now }
+    requires on { batch.now.from ≤ batch.now.upto }
     requires some { 0 < length tables.old }
     requires shards { length tables.old ≤ 255 }
     requires workers { (0 < workers.old.most) × (workers.old.most ≤ WORKERS_MAX) }
     requires room { length tables.old ≤ vec_capacity stops.old }
-    ensures ok { OnOk result (AppliesWhole batch.log.now batch.from batch.upto tables.old tables.new) }
-    ensures err { OnErr result (AppliesTo batch.log.now batch.from batch.upto tables.old tables.new stops.new.items) }
+    ensures ok { OnOk result (AppliesWhole batch.now.log.now batch.now.from batch.now.upto tables.old tables.new) }
+    ensures err { OnErr result (AppliesTo batch.now.log.now batch.now.from batch.now.upto tables.old tables.new stops.new.items) }
     ensures room { vec_capacity stops.new ≡ vec_capacity stops.old }
     ensures most { workers.new.most ≡ workers.old.most }
 {

@@ -111,17 +111,23 @@ pub fn apply_by_team<G: Gate, R: Threads + Wait + Sync, A, F: FnOnce() -> A>(
     } = rooms;
     let poster = post_all(rt, poster, shards, shares);
     let (board, pass) = poster.open();
-    let job = Job {
-        board: &board,
-        task: &FoldShares,
-        gate,
-    };
     let Teamwork {
         pass,
         list,
         others,
         answer,
-    } = fan_out(rt, &job, pass, mine, others, beside);
+    } = fan_out(
+        rt,
+        &Job {
+            board: &board,
+            task: &FoldShares,
+            gate,
+        },
+        pass,
+        mine,
+        others,
+        beside,
+    );
     board.close(pass);
     match gather(list, places) {
         Ok(gathered) => {

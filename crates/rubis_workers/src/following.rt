@@ -79,16 +79,16 @@ pub fn follow_by_team<G: Gate, R: Threads + Wait + Sync>(
     rt: &R,
     alloc: Global,
     shards: Vec<Shard>,
-    task: FollowBatch,
+    task: &FollowBatch,
     workers: usize,
     gate: &G,
 ) -> Result<Followed, Items<Shard>>
     requires some { 0 < length shards.items }
     requires order { AreInOrder shards.items }
-    requires entries { task.first + length task.batch.now ≤ 1000001 }
-    requires homes { AreHomes (length shards.items) (cores task.batch.now) task.homes.now }
+    requires entries { task.now.first + length task.now.batch.now ≤ 1000001 }
+    requires homes { AreHomes (length shards.items) (cores task.now.batch.now) task.now.homes.now }
     requires workers { (0 < workers) × (workers ≤ WORKERS_MAX) }
-    ensures followed { IfOk result (λ r. AreFollowed task.first (cores task.batch.now) shards.items r.shards r.dones) }
+    ensures followed { IfOk result (λ r. AreFollowed task.now.first (cores task.now.batch.now) shards.items r.shards r.dones) }
     ensures others { IfOk result (λ r. r.others ≤ length shards.items) }
     ensures alone { workers ≡ 1 → IfOk result (λ r. r.others ≡ 0) }
     ensures back { IfErr result (λ back. back ≡ shards.items) }
@@ -108,17 +108,23 @@ pub fn follow_by_team<G: Gate, R: Threads + Wait + Sync>(
     } = rooms;
     let poster = post_bare(rt, alloc, poster, shards);
     let (board, pass) = poster.open();
-    let job = Job {
-        board: &board,
-        task: &task,
-        gate,
-    };
     let Teamwork {
         pass,
         list,
         others,
         answer: (),
-    } = fan_out(rt, &job, pass, mine, others, || ());
+    } = fan_out(
+        rt,
+        &Job {
+            board: &board,
+            task,
+            gate,
+        },
+        pass,
+        mine,
+        others,
+        || (),
+    );
     board.close(pass);
     match gather_counted(list, places, dones) {
         Ok(counted) => Ok(Followed {

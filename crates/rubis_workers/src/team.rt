@@ -22,6 +22,16 @@ pub struct Job<'a, T, G> {
     pub gate: &'a G,
 }
 
+impl<'a, T, G> Drop for Job<'a, T, G> {
+    fn drop(self) {
+        let Job {
+            board: _,
+            task: _,
+            gate: _,
+        } = self;
+    }
+}
+
 /// One worker: takes pieces until none is left, and does the task of each.
 pub fn work<T: Task, G: Gate, R: Wait>(
     rt: &R,
@@ -58,12 +68,7 @@ pub struct Teamwork<A> {
 }
 
 // What a team made of a board, with what one thread more did, which is none of the caller's.
-fn joined<A>(
-    board: &Board,
-    ours: Teamwork<A>,
-    theirs: Pass,
-    mut done: Vec<Done>,
-) -> Teamwork<A>
+fn joined<A>(board: &Board, ours: Teamwork<A>, theirs: Pass, mut done: Vec<Done>) -> Teamwork<A>
     requires boards { (ours.pass.board ≡ board.now) × (theirs.board ≡ board.now) }
     requires ours { length ours.list.items ≡ length ours.pass.taken }
     requires theirs { length done.items ≡ length theirs.taken }
@@ -71,7 +76,7 @@ fn joined<A>(
     requires others { ours.others ≤ vec_len ours.list }
     ensures pass { result.pass ≡ joined_pass ours.pass theirs }
     ensures list { result.list.items ≡ ours.list.items ++ done.items }
-    ensures room { vec_capacity result.list ≡ vec_capacity ours.list }
+    ensures room { length ours.pass.posted ≤ vec_capacity result.list }
     ensures others { result.others ≤ vec_len result.list }
     ensures answer { result.answer ≡ ours.answer }
 {
@@ -128,30 +133,31 @@ pub fn fan_out<T: Task, G: Gate, R: Threads + Wait + Sync, A, F: FnOnce() -> A>(
             answer,
         };
     };
-    let (mine, new) = job.board.split(pass);
+    let (board, task, gate) = (job.board, job.task, job.gate);
+    let (mine, new) = board.split(pass);
     let ((new, theirs), ours) = thread::join(
         rt,
         move || -> (Pass, Vec<Done>)
-            requires board { new.board ≡ job.now.board.now }
-            requires pieces { All (T.Fits job.now.task.now) new.posted }
+            requires board { new.board ≡ board.now }
+            requires pieces { All (T.Fits task.now) new.posted }
             requires room { (new.taken ≡ []) × (theirs.items ≡ []) × (length new.posted ≤ vec_capacity theirs) }
             ensures pass { result.0 ≡ having new result.0.taken true }
-            ensures done { AllZip (T.Worked job.entry.now.task.now) result.0.taken result.1.items }
-        { work(rt, job, new, theirs) },
+            ensures done { AllZip (T.Worked task.entry.now) result.0.taken result.1.items }
+        { work(rt, &Job { board, task, gate }, new, theirs) },
         move || -> Teamwork<A>
             requires sync { IsSync R.row }
-            requires board { mine.board ≡ job.now.board.now }
-            requires pieces { All (T.Fits job.now.task.now) mine.posted }
+            requires board { mine.board ≡ board.now }
+            requires pieces { All (T.Fits task.now) mine.posted }
             requires room { (mine.taken ≡ []) × (room.items ≡ []) × (length mine.posted ≤ vec_capacity room) }
             requires rooms { All (IsRoom (length mine.posted)) rooms.items }
             requires parts { vec_len rooms < mine.parts }
             requires first { F.pre first }
             ensures pass { result.pass ≡ having mine result.pass.taken true }
-            ensures done { AllZip (T.Worked job.entry.now.task.now) result.pass.taken result.list.items }
+            ensures done { AllZip (T.Worked task.entry.now) result.pass.taken result.list.items }
             ensures room { length mine.posted ≤ vec_capacity result.list }
             ensures others { result.others ≤ vec_len result.list }
             ensures answer { F.post first result.answer }
-        { fan_out(rt, job, mine, room, rooms, first) },
+        { fan_out(rt, &Job { board, task, gate }, mine, room, rooms, first) },
     );
-    joined(job.board, ours, new, theirs)
+    joined(board, ours, new, theirs)
 }

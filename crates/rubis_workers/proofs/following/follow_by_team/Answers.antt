@@ -18,9 +18,9 @@ use Rattle.rubis_workers.proofs.following.follow_by_team.Goals as goal
 pub fan_out-pass-requires-clause-pieces : goal.fan_out-pass-requires-clause-pieces
 fan_out-pass-requires-clause-pieces g c κs within =
     let ss = c.args.shards.items in
-    let batch = cores c.args.task.batch.now in
-    let homes = c.args.task.homes.now in
-    let entries : ℕ = c.args.task.first + length c.args.task.batch.now in
+    let batch = cores c.args.task.now.batch.now in
+    let homes = c.args.task.now.homes.now in
+    let entries : ℕ = c.args.task.now.first + length c.args.task.now.batch.now in
     let Fits : Piece → Type 0 =
     λ p. (p.shard.number < p.shard.shards) × AreHomes p.shard.shards batch homes × (entries ≤ 1000001) in
     let each_fits : (k : ℕ) (s : ShardState) → slice_get ss k ≡ Some s → Fits (bare s) =
@@ -42,7 +42,7 @@ unreachable-requires g c =
     IsPermutation-trans (each bare ss) c.post_bare-poster.result.posted c.fan_out-pass.result.pass.taken c.post_bare-poster.ensures.posted
     (subst (λ l. IsPermutation l c.fan_out-pass.result.pass.taken) (ap (λ (p : PassState). p.posted) c.fan_out-pass.ensures.pass ∙ ap (λ (p : PassState). p.posted) c.open-board.ensures) c.close.ensures) in
     let many : c.in-Ok.rooms.places ≡ length ss = search rules in
-    no_fault c.args.task.first (cores c.args.task.batch.now) ss c.fan_out-pass.result.pass.taken c.fan_out-pass.result.list.items c.requires.order moved
+    no_fault c.args.task.now.first (cores c.args.task.now.batch.now) ss c.fan_out-pass.result.pass.taken c.fan_out-pass.result.list.items c.requires.order moved
     c.fan_out-pass.ensures.done
     c.in-Err.field-0.kind (subst (λ n. IsFault n (numbers_of c.fan_out-pass.result.list.items) c.in-Err.field-0.kind) many
     c.in-Err.ensures.fault)
@@ -54,7 +54,7 @@ returns-clause-followed g c =
     IsPermutation-trans (each bare ss) c.post_bare-poster.result.posted c.fan_out-pass.result.pass.taken c.post_bare-poster.ensures.posted
     (subst (λ l. IsPermutation l c.fan_out-pass.result.pass.taken) (ap (λ (p : PassState). p.posted) c.fan_out-pass.ensures.pass ∙ ap (λ (p : PassState). p.posted) c.open-board.ensures) c.close.ensures) in
     let many : c.in-Ok.rooms.places ≡ length ss = search rules in
-    followed c.args.task.first (cores c.args.task.batch.now) ss c.fan_out-pass.result.pass.taken c.fan_out-pass.result.list.items c.requires.order moved
+    followed c.args.task.now.first (cores c.args.task.now.batch.now) ss c.fan_out-pass.result.pass.taken c.fan_out-pass.result.list.items c.requires.order moved
     c.fan_out-pass.ensures.done
     c.in-Ok-gather_counted.counted (subst (λ n. IsCounted n c.fan_out-pass.result.list.items c.in-Ok-gather_counted.counted) many
     c.in-Ok-gather_counted.ensures.counted)
@@ -65,7 +65,7 @@ returns-clause-others g c =
     let opened = ap (λ (p : PassState). length p.posted) c.open-board.ensures in
     let passed = ap (λ (p : PassState). length p.posted) c.fan_out-pass.ensures.pass in
     let taken = length_permutation c.fan_out-pass.result.pass.posted c.fan_out-pass.result.pass.taken c.close.ensures in
-    let worked = counts_length c.args.task.first (cores c.args.task.batch.now) c.fan_out-pass.result.pass.taken c.fan_out-pass.result.list.items c.fan_out-pass.ensures.done in
+    let worked = counts_length c.args.task.now.first (cores c.args.task.now.batch.now) c.fan_out-pass.result.pass.taken c.fan_out-pass.result.list.items c.fan_out-pass.ensures.done in
     let others = c.fan_out-pass.ensures.others in
     let list_ok = c.fan_out-pass.result.list.ok in
     let shards_ok = c.args.shards.ok in
