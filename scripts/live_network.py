@@ -20,7 +20,7 @@ import tempfile
 import time
 
 SITES = 16
-ASKS_A_SECOND = 4
+ASKS_A_SECOND = 8
 LOSS, REPEAT, DELAY = 0.1, 0.05, 2.0
 SECONDS_TO_KILL = 6.0
 
@@ -146,7 +146,7 @@ class Network:
         self.sites = [Site(program, top / str(site), site, dice) for site in range(SITES)]
         self.on_its_way: list[tuple[float, int, int, str]] = []
         self.order = itertools.count()
-        self.users, self.items = ["0.1"], ["0.1"]
+        self.users, self.items = ["0.1"], [("0.1", "0.1")]
         self.holder, self.is_lossy = 0, True
         for site in self.sites:
             site.start()
@@ -168,25 +168,28 @@ class Network:
                 self.holder = int(fields[3])
                 self.send(packet, self.holder)
                 continue
-            if fields[6] in ("user", "item"):
-                (self.users if fields[6] == "user" else self.items).append(f"{fields[2]}.{fields[3]}")
+            if fields[6] == "user":
+                self.users.append(f"{fields[2]}.{fields[3]}")
+            if fields[6] == "item":
+                self.items.append((f"{fields[2]}.{fields[3]}", fields[7]))
             for to in range(SITES):
                 if to != site:
                     self.send(packet, to)
 
     def a_request(self) -> str:
         """One over users and items that were made somewhere, mostly the last ones."""
-        of = lambda ids: self.dice.choice(ids[-40:] if self.dice.random() < 0.8 else ids)
-        user, item = of(self.users), of(self.items)
-        nick = f"n{self.dice.randrange(10**6)}"
-        return self.dice.choice([
-            f"user,{nick}", f"item,{user},lamp,{self.dice.randrange(1000)},{self.dice.randint(1, 9)},100,300", f"bid,{item},{user},{self.dice.randint(90, 900)}",
-            f"buy,{item},{user},1", f"close,{item},{user}", f"comment,{item},{user},{of(self.users)},{self.dice.randint(-5, 5)},good",
-            f"restock,{item},{user},{self.dice.randint(1, 5)}", f"rename,{user},{nick}", f"pass,{self.dice.randrange(SITES)}",
-        ])  # fmt: skip
+        last = lambda made: self.dice.choice(made[-40:] if self.dice.random() < 0.8 else made)
+        user, (item, seller), nick, count = last(self.users), last(self.items), f"n{self.dice.randrange(10**6)}", self.dice.randint(1, 5)
+        blue = [
+            f"item,{user},lamp,{self.dice.randrange(1000)},{count},100,300", f"comment,{item},{user},{last(self.users)},{count},good",
+            f"comment,{item},{user},{seller},{-count},bad", f"restock,{item},{seller},{count}",
+        ]  # fmt: skip
+        red = [f"user,{nick}", f"bid,{item},{user},{self.dice.randint(90, 900)}", f"buy,{item},{user},1", f"rename,{user},{nick}", f"close,{item},{seller}"]
+        ask = self.dice.choice(blue if self.dice.random() < 0.4 else red)
+        return f"pass,{self.dice.randrange(SITES)}" if self.dice.random() < 0.03 else ask
 
     def ask(self) -> None:
-        at = self.holder if self.dice.random() < 0.5 else self.dice.randrange(SITES)
+        at = self.holder if self.dice.random() < 0.6 else self.dice.randrange(SITES)
         if self.sites[at].child:
             self.tally.asked += 1
             self.publish(at, [line.removeprefix("send,") for line in self.sites[at].answer(self.a_request())[1:]])
@@ -200,7 +203,7 @@ class Network:
                 heapq.heappush(self.on_its_way, (now + 1.0, next(self.order), to, packet))
                 continue
             answer = self.sites[to].answer(packet)[0]
-            expect(answer.split(",")[2] in ("released", "held", "repeat", "taken"), f"site {to} answers {packet} with {answer}")
+            expect(answer.split(",")[2] in ("released", "held", "repeat", "holding"), f"site {to} answers {packet} with {answer}")
 
     def kill(self) -> None:
         site = self.dice.choice([it for it in self.sites if it.child])
