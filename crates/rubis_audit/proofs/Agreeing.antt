@@ -9,7 +9,7 @@ use Rattle.rubis_message.specs.declared.answers.Verdict.TheVariants.{Agree, Foun
 use Rattle.rubis_model.specs.AuditRecords.{audit_of, audit_record, logs_after, verdict_record}
 use Rattle.rubis_model.specs.Logs.{Log}
 use Rattle.rubis_model.specs.Verdict.{verdict}
-use Rattle.rubis_laws.proofs.AgreedAudits.{agreed_audits_are_sound}
+use Rattle.rubis_laws.proofs.Audits.AgreedAudits.{agreed_audits_are_sound}
 use Rattle.rubis_engine.specs.Accounts.Ending.{AtEnd}
 use Rattle.rubis_engine.specs.Progress.{IsDone}
 use Rattle.rubis_engine.specs.Text.{input_records, rows_text}

@@ -24,9 +24,9 @@ use Rattle.rubis_model.specs.Verdict.{checks, clash, first_of, is_early, is_not_
 use Rattle.rubis_model.proofs.CoreLists.{cores_push}
 use Rattle.rubis_model.proofs.Lists.{has_reverse, has_right, push_cases}
 use Rattle.rubis_model.proofs.Settling.{counted_reverse, reds_reverse, reverse_push}
-use Rattle.rubis_laws.proofs.EntryContent.{fits}
-use Rattle.rubis_laws.proofs.LogsChecked.{checked_end, count_reds, new_here, number_is}
-use Rattle.rubis_laws.proofs.Verdicts.{AreClean}
+use Rattle.rubis_laws.proofs.Audits.EntryContent.{fits}
+use Rattle.rubis_laws.proofs.Order.LogsChecked.{checked_end, count_reds, new_here, number_is}
+use Rattle.rubis_laws.proofs.Audits.Verdicts.{AreClean}
 use Rattle.rubis_release.specs.Release.{IsAmong, clock_of}
 use Rattle.rubis_audit.specs.Contents.{nick_taken_in, stock_short_in, wrong_reference_in, wrong_winner_in}
 use Rattle.rubis_audit.specs.Lookups.{by_message_id, by_red, clash_by_id, taken_by_red}

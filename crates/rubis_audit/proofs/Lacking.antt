@@ -8,7 +8,7 @@ use Rattle.rubis_model.specs.Settle.{Has}
 use Rattle.rubis_model.proofs.Lists.{contained}
 use Rattle.rubis_engine.specs.Text.{rows_text}
 use Rattle.rubis_engine.proofs.TextFacts.{text-goes}
-use Rattle.rubis_laws.proofs.Lacking.{in_merged}
+use Rattle.rubis_laws.proofs.Lacking.InOrder.{in_merged}
 use Rattle.rubis_release.specs.Release.{AllAmong}
 use Rattle.rubis_audit.specs.Running.{none_lost}
 use Rattle.rubis_audit.proofs.Merging.{drop_at}

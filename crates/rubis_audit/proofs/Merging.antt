@@ -15,9 +15,9 @@ use Rattle.rubis_model.specs.Settle.{Has, counted}
 use Rattle.rubis_model.proofs.Lists.{contained, has_back, has_left, has_last, has_reverse, push_cases}
 use Rattle.rubis_model.proofs.Pasts.{found, seq_within}
 use Rattle.rubis_model.proofs.Settling.{counted_reverse, reverse_push}
-use Rattle.rubis_laws.proofs.Converging.{ready_forth}
-use Rattle.rubis_laws.proofs.Lacking.{among_in, log_released, of_merged, released_front, released_push}
-use Rattle.rubis_laws.proofs.Resting.{listed}
+use Rattle.rubis_laws.proofs.Runs.Converging.{ready_forth}
+use Rattle.rubis_laws.proofs.Lacking.InOrder.{among_in, log_released, of_merged, released_front, released_push}
+use Rattle.rubis_laws.proofs.Runs.Resting.{listed}
 use Rattle.rubis_release.specs.Release.{AllAmong, IsAmong, clock_of}
 use Rattle.rubis_release.proofs.Counting.{clock_more, counts_at, length_counts, opening_counts, ready_by_clock}
 use Rattle.rubis_audit.specs.Lacks.{IsMerged}

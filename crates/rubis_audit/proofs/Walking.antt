@@ -24,11 +24,11 @@ use Rattle.rubis_model.specs.Verdict.{checks, first_fault, first_of, found_or, l
 use Rattle.rubis_model.proofs.CoreLists.{cores_length, cores_push}
 use Rattle.rubis_model.proofs.Lists.{contained, has_left, has_reverse, has_right}
 use Rattle.rubis_model.proofs.Settling.{counted_reverse, reds_reverse, reverse_push}
-use Rattle.rubis_laws.proofs.FoldIsMeaning.{fold_is_meaning}
-use Rattle.rubis_laws.proofs.Invariants.{checked_holds}
-use Rattle.rubis_laws.proofs.Lengths.{log_small}
-use Rattle.rubis_laws.proofs.Audited.{faultless_sound}
-use Rattle.rubis_laws.proofs.Verdicts.{agree_faultless, clean}
+use Rattle.rubis_laws.proofs.Rows.FoldIsMeaning.{fold_is_meaning}
+use Rattle.rubis_laws.proofs.Runs.Invariants.{checked_holds}
+use Rattle.rubis_laws.proofs.Rows.Lengths.{log_small}
+use Rattle.rubis_laws.proofs.Audits.Audited.{faultless_sound}
+use Rattle.rubis_laws.proofs.Audits.Verdicts.{agree_faultless, clean}
 use Rattle.rubis_shard.specs.Holdings.{HoldsLog, TakesOn, union}
 use Rattle.rubis_shard.specs.States.{ShardState}
 use Rattle.rubis_shard.proofs.Unions.{union_of_log}

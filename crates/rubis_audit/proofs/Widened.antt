@@ -6,8 +6,8 @@ use Rattle.rubis_model.specs.AuditRecords.{Line, IsLine, audit_of, line_of, line
 use Rattle.rubis_model.specs.AuditRecords.Line.{Begin, Claim, Next}
 use Rattle.rubis_model.specs.Logs.{Log}
 use Rattle.rubis_model.specs.WidenedRecords.{widened_line, widened_record}
-use Rattle.rubis_laws.proofs.AuditReadings.{after_line, line_only}
-use Rattle.rubis_laws.proofs.WidenedRecords.{audit_stays}
+use Rattle.rubis_laws.proofs.Audits.AuditReadings.{after_line, line_only}
+use Rattle.rubis_laws.proofs.Widening.WidenedRecords.{audit_stays}
 use Rattle.rubis_engine.specs.Text.{input_records, rows_text}
 use Rattle.rubis_engine.proofs.ReadBack.{HasNoMark, HaveFields, no_mark, rows_back}
 use Rattle.rubis_audit.proofs.Placing.{rows_after}

@@ -4,8 +4,8 @@ use Rattle.std.proofs.lemmas.Bool.{eqb-true}
 use Rattle.rubis_model.specs.Processes.{read_by}
 use Rattle.rubis_model.specs.Restarts.{AreReplayed, Moment, has_read, read_on, recorded}
 use Rattle.rubis_model.specs.Restarts.Moment.{Reads, Replays, Restarts}
-use Rattle.rubis_laws.proofs.Processes.{processes_run, read_more}
-use Rattle.rubis_laws.proofs.Restarts.{nothing_left_out, restarted_agree, restarts_change_nothing}
+use Rattle.rubis_laws.proofs.Processes.AreARun.{processes_run, read_more}
+use Rattle.rubis_laws.proofs.Processes.Restarts.{nothing_left_out, restarted_agree, restarts_change_nothing}
 use Rattle.rubis_model.specs.Processes.{process}
 use Rattle.rubis_model.specs.Site.{opening_at}
 use Rattle.rubis_engine.specs.Text.{input_records}

@@ -7,7 +7,7 @@ use Rattle.rubis_model.specs.Restarts.{IsShortened}
 use Rattle.rubis_model.specs.Runs.{Input, input_of, input_step}
 use Rattle.rubis_model.specs.Site.{Place, Replica}
 use Rattle.rubis_script.specs.Replica.{SiteState}
-use Rattle.rubis_laws.proofs.Restarts.{nothing_left_out}
+use Rattle.rubis_laws.proofs.Processes.Restarts.{nothing_left_out}
 use Rattle.rubis_keep.specs.Lines.{AreSound, begun_after, is_sound, whole_lines}
 use Rattle.rubis_keep.specs.Shortened.{IsShort, Shortens, TakesRecord, TakesRecords, state_after}
 use Rattle.rubis_keep.specs.Whole.{IsWhole}

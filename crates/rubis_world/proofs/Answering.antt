@@ -8,7 +8,7 @@ use Rattle.rubis_message.specs.declared.answers.Happened.{Happened}
 use Rattle.rubis_message.specs.declared.tokens.Packet.{Packet}
 use Rattle.rubis_model.specs.System.{Event, World, happens}
 use Rattle.rubis_model.specs.WorldRecords.{event_rows, told_at, world_answers, world_step}
-use Rattle.rubis_laws.proofs.Refusing.{refusals_change_nothing}
+use Rattle.rubis_laws.proofs.Runs.Refusing.{refusals_change_nothing}
 use Rattle.rubis_script.specs.Replica.fault_variants as fault
 use Rattle.rubis_engine.specs.Text.{rows_text}
 use Rattle.rubis_engine.proofs.TextFacts.{text-goes}

@@ -7,8 +7,8 @@ use Rattle.rubis_model.specs.Verdict.{verdict}
 use Rattle.rubis_model.specs.WorldRecords.{logs_of}
 use Rattle.rubis_model.proofs.Lists.{has_left}
 use Rattle.rubis_audit.specs.Walks.{HaveMessagesAmong}
-use Rattle.rubis_laws.proofs.Recorded.{are_logs, logs_agree}
-use Rattle.rubis_laws.proofs.Runs.{logged}
+use Rattle.rubis_laws.proofs.Runs.Recorded.{are_logs, logs_agree}
+use Rattle.rubis_laws.proofs.Runs.EveryRun.{logged}
 use Rattle.rubis_world.specs.SitesWorlds.{WorldState}
 use Rattle.rubis_world.specs.Worlds.{IsWorld}
 

@@ -5,10 +5,10 @@ use Rattle.rubis_message.specs.declared.answers.Happened.{Happened}
 use Rattle.rubis_model.specs.Laws.{InRun}
 use Rattle.rubis_model.specs.Sound.{AllDeliverable, Room, Sound}
 use Rattle.rubis_model.specs.System.{Event, IsEvent, World, happens}
-use Rattle.rubis_laws.proofs.Formed.{event_deliverable}
-use Rattle.rubis_laws.proofs.Keeps.{event_keeps, event_sites, start_sites, start_sound}
-use Rattle.rubis_laws.proofs.Room.{room_event, room_start}
-use Rattle.rubis_laws.proofs.Runs.{in_run}
+use Rattle.rubis_laws.proofs.Runs.Formed.{event_deliverable}
+use Rattle.rubis_laws.proofs.Runs.SoundSteps.{event_keeps, event_sites, start_sites, start_sound}
+use Rattle.rubis_laws.proofs.Runs.WithinKeep.{room_event, room_start}
+use Rattle.rubis_laws.proofs.Runs.EveryRun.{in_run}
 use Rattle.rubis_script.specs.Replica.{IsCount}
 use Rattle.rubis_script.specs.Replica.fault_variants as fault
 use Rattle.rubis_world.specs.SitesWorlds.{ComesTo, Steps, WorldState, opening_world}

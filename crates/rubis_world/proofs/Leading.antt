@@ -14,7 +14,7 @@ use Rattle.rubis_engine.specs.declared.fault.Count.{Count}
 use Rattle.rubis_engine.specs.declared.fault.RunFault.{RunFault}
 use Rattle.rubis_engine.specs.declared.fault.RunFault.TheVariants as fault
 use Rattle.rubis_engine.specs.declared.run.Run.{Run}
-use Rattle.rubis_laws.proofs.Recorded.{answers_are_a_run}
+use Rattle.rubis_laws.proofs.Runs.Recorded.{answers_are_a_run}
 use Rattle.rubis_world.specs.Headline.{AppendsARun, HasLed, Lead, LeadsOn, TellsARun}
 use Rattle.rubis_world.specs.Running.{answers_of_world}
 use Rattle.rubis_world.specs.SitesWorlds.{ComesTo, WorldState}

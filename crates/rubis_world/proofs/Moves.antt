@@ -16,7 +16,7 @@ use Rattle.rubis_model.specs.Sound.{AllDeliverable, IsDeliverable}
 use Rattle.rubis_model.specs.System.{World, site, place, sends, takes, saying, sending, next_number, shown, at_site, coming, packet_at}
 use Rattle.rubis_model.specs.Log.{cores, fold_of}
 use Rattle.rubis_model.specs.Runs.{listed, listing_rows}
-use Rattle.rubis_laws.proofs.Keeps.{has_packet, same_sites}
+use Rattle.rubis_laws.proofs.Runs.SoundSteps.{has_packet, same_sites}
 use Rattle.rubis_script.specs.Replica.{AnswersAsTheStep, IsReadFault, Lists, ListsTheLog, NeedsNoTables, SiteState, TakesIn}
 use Rattle.rubis_script.specs.Replica.{Fault}
 use Rattle.rubis_script.specs.Replica.fault_variants as fault

@@ -1,4 +1,4 @@
-use Rattle.rubis_laws.proofs.Commuting.{blue_messages_commute}
+use Rattle.rubis_laws.proofs.Rows.Commuting.{blue_messages_commute}
 use Rattle.rubis_laws.proofs.laws.blue_messages_commute.Goals as goal
 
 pub returns : goal.returns

@@ -1,8 +1,8 @@
 use Rattle.rubis_generate.specs.Lookup.{row_by_key}
 use Rattle.rubis_model.specs.Log.{fold_of}
-use Rattle.rubis_laws.proofs.FoldIsMeaning.{fold_is_meaning}
-use Rattle.rubis_laws.proofs.Invariants.{checked_holds}
-use Rattle.rubis_laws.proofs.Decisions.{decided_fits}
+use Rattle.rubis_laws.proofs.Rows.FoldIsMeaning.{fold_is_meaning}
+use Rattle.rubis_laws.proofs.Runs.Invariants.{checked_holds}
+use Rattle.rubis_laws.proofs.Order.Decisions.{decided_fits}
 use Rattle.rubis_laws.proofs.laws.decided_shadows_fit.Goals as goal
 
 pub returns : goal.returns

@@ -1,5 +1,5 @@
-use Rattle.rubis_laws.proofs.Forged.{names_are_held, names_stay, stock_is_kept}
-use Rattle.rubis_laws.proofs.SiteStock.{sites_keep_stock}
+use Rattle.rubis_laws.proofs.Rows.Forged.{names_are_held, names_stay, stock_is_kept}
+use Rattle.rubis_laws.proofs.Rows.SiteStock.{sites_keep_stock}
 use Rattle.rubis_laws.proofs.laws.every_log_holds.Goals as goal
 
 pub returns-clause-stock : goal.returns-clause-stock

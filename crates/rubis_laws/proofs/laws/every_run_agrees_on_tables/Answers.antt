@@ -1,4 +1,4 @@
-use Rattle.rubis_laws.proofs.Runs.{equal_tables}
+use Rattle.rubis_laws.proofs.Runs.EveryRun.{equal_tables}
 use Rattle.rubis_laws.proofs.laws.every_run_agrees_on_tables.Goals as goal
 
 pub returns : goal.returns

@@ -1,7 +1,7 @@
 use Rattle.rubis_model.specs.System.{run, start}
-use Rattle.rubis_laws.proofs.Runs.{sound_run}
-use Rattle.rubis_laws.proofs.Audited.{run_faultless, run_formed}
-use Rattle.rubis_laws.proofs.Verdicts.{faultless_agree}
+use Rattle.rubis_laws.proofs.Runs.EveryRun.{sound_run}
+use Rattle.rubis_laws.proofs.Audits.Audited.{run_faultless, run_formed}
+use Rattle.rubis_laws.proofs.Audits.Verdicts.{faultless_agree}
 use Rattle.rubis_laws.proofs.laws.every_run_is_agreed.Goals as goal
 
 pub returns : goal.returns

@@ -1,6 +1,6 @@
 use Rattle.rubis_model.specs.System.{run, start}
-use Rattle.rubis_laws.proofs.Runs.{sound_run}
-use Rattle.rubis_laws.proofs.Audited.{run_faultless}
+use Rattle.rubis_laws.proofs.Runs.EveryRun.{sound_run}
+use Rattle.rubis_laws.proofs.Audits.Audited.{run_faultless}
 use Rattle.rubis_laws.proofs.laws.every_run_is_faultless.Goals as goal
 
 pub returns : goal.returns

@@ -1,4 +1,4 @@
-use Rattle.rubis_laws.proofs.Runs.{every_order}
+use Rattle.rubis_laws.proofs.Runs.EveryRun.{every_order}
 use Rattle.rubis_laws.proofs.laws.every_run_is_in_order.Goals as goal
 
 pub returns : goal.returns

@@ -1,4 +1,4 @@
-use Rattle.rubis_laws.proofs.Runs.{every_packet}
+use Rattle.rubis_laws.proofs.Runs.EveryRun.{every_packet}
 use Rattle.rubis_laws.proofs.laws.every_run_sends_deliverables.Goals as goal
 
 pub returns : goal.returns

@@ -1,4 +1,4 @@
-use Rattle.rubis_laws.proofs.FoldIsMeaning.{fold_is_meaning, meaning_is_one}
+use Rattle.rubis_laws.proofs.Rows.FoldIsMeaning.{fold_is_meaning, meaning_is_one}
 use Rattle.rubis_laws.proofs.laws.fold_is_meaning.Goals as goal
 
 pub returns-clause-fold : goal.returns-clause-fold

@@ -1,4 +1,4 @@
-use Rattle.rubis_laws.proofs.GivenAll.{given_are_released, given_converge, given_have_the_tables_of_the_run}
+use Rattle.rubis_laws.proofs.Rebuilding.GivenAll.{given_are_released, given_converge, given_have_the_tables_of_the_run}
 use Rattle.rubis_laws.proofs.laws.given_sites_converge.Goals as goal
 
 pub returns-clause-released : goal.returns-clause-released

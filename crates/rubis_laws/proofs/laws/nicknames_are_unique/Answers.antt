@@ -1,4 +1,4 @@
-use Rattle.rubis_laws.proofs.Nicknames.{nicknames_are_unique, reds_are_in_one_order}
+use Rattle.rubis_laws.proofs.Runs.Nicknames.{nicknames_are_unique, reds_are_in_one_order}
 use Rattle.rubis_laws.proofs.laws.nicknames_are_unique.Goals as goal
 
 pub returns-clause-unique : goal.returns-clause-unique

@@ -1,4 +1,4 @@
-use Rattle.rubis_laws.proofs.Recorded.{answers_are_a_run, audits_agree, records_keep, records_run}
+use Rattle.rubis_laws.proofs.Runs.Recorded.{answers_are_a_run, audits_agree, records_keep, records_run}
 use Rattle.rubis_laws.proofs.laws.records_are_a_run.Goals as goal
 
 pub returns-clause-run : goal.returns-clause-run

@@ -1,6 +1,6 @@
-use Rattle.rubis_laws.proofs.RebuildRecords.{asks_are_read_off, records_rebuild}
-use Rattle.rubis_laws.proofs.RebuildInputs.{inputs_rebuild}
-use Rattle.rubis_laws.proofs.RebuiltSites.{sites_are_rebuilt}
+use Rattle.rubis_laws.proofs.Rebuilding.RebuildRecords.{asks_are_read_off, records_rebuild}
+use Rattle.rubis_laws.proofs.Rebuilding.RebuildInputs.{inputs_rebuild}
+use Rattle.rubis_laws.proofs.Rebuilding.RebuiltSites.{sites_are_rebuilt}
 use Rattle.rubis_laws.proofs.laws.sites_are_rebuilt.Goals as goal
 
 pub returns-clause-again : goal.returns-clause-again

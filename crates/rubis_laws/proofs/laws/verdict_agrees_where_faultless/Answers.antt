@@ -1,4 +1,4 @@
-use Rattle.rubis_laws.proofs.Verdicts.{agrees_where_faultless}
+use Rattle.rubis_laws.proofs.Audits.Verdicts.{agrees_where_faultless}
 use Rattle.rubis_laws.proofs.laws.verdict_agrees_where_faultless.Goals as goal
 
 pub returns : goal.returns

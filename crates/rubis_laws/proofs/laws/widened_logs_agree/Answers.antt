@@ -1,5 +1,5 @@
-use Rattle.rubis_laws.proofs.Widening.{meaning_stays, verdict_stays, widened_are_among}
-use Rattle.rubis_laws.proofs.WidenedRecords.{audit_stays}
+use Rattle.rubis_laws.proofs.Widening.WidenedLogs.{meaning_stays, verdict_stays, widened_are_among}
+use Rattle.rubis_laws.proofs.Widening.WidenedRecords.{audit_stays}
 use Rattle.rubis_laws.proofs.laws.widened_logs_agree.Goals as goal
 
 pub returns-clause-among : goal.returns-clause-among

@@ -1,7 +1,7 @@
 use Rattle.std.proofs.Common.{◌∙◌, ◌+◌, ◌≤◌, ap, arith, subst, sym}
 use Rattle.std.specs.Prelude.{option_map}
 use Rattle.rubis_schema.specs.declared.limits.TheConstants.{COUNTED_MAX}
-use Rattle.rubis_laws.proofs.AuditReadings.{line_only}
+use Rattle.rubis_laws.proofs.Audits.AuditReadings.{line_only}
 use Rattle.rubis_engine.specs.Accounts.{AnswersRecord}
 use Rattle.rubis_engine.specs.declared.service.Course.TheVariants.{GoesOn}
 use Rattle.rubis_audit.specs.Lines.{line_as}

@@ -1,0 +1,202 @@
+-- Processes that have read all messages have released all of them, and have equal tables.
+use Rattle.std.proofs.Common.{ℕ, ◌≡◌, ◌≤◌, ◌<◌, false, List, [], ◌∷◌, ◌++◌, refl, sym, ap, ◌∙◌, subst, arith, Option, Some, None, inl, inr, ⊎_elim, append_assoc, append-nil}
+use Rattle.std.specs.Prelude.{◌||◌, ◌==◌, bytes_eq, codes, nat_le, Result, Ok, Err}
+use Rattle.std.proofs.lemmas.Bool.{cases_eq, cond_both}
+use mathlib.Core.Bool.{true≢false}
+use Rattle.rubis_schema.specs.declared.limits.TheConstants.{COUNTED_MAX}
+use Rattle.rubis_schema.specs.declared.refusals.Refusal.{Refusal}
+use Rattle.rubis_schema.specs.declared.refusals.Refusal.TheVariants.{BadTarget, LastTurn}
+use Rattle.rubis_shadow.specs.declared.asks.Ask.TheVariants as ask
+use Rattle.rubis_shadow.specs.declared.shadows.Shadow.{Shadow}
+use Rattle.rubis_generate.specs.Decision.{decision}
+use Rattle.rubis_message.specs.Grammar.{request_record}
+use Rattle.rubis_message.specs.Message.{Message}
+use Rattle.rubis_message.specs.Readings.{packet_of, request_of}
+use Rattle.rubis_message.specs.declared.requests.Request.{Request}
+use Rattle.rubis_message.specs.declared.requests.Request.TheVariants as request
+use Rattle.rubis_message.specs.declared.tokens.Packet.TheVariants as packet
+use Rattle.rubis_message.specs.declared.tokens.Token.{Token}
+use Rattle.rubis_message.proofs.Records.{packet_is, request_is}
+use Rattle.rubis_model.specs.Convergence.{HasAll}
+use Rattle.rubis_model.specs.Laws.{Sent}
+use Rattle.rubis_model.specs.Log.{cores, fold_of}
+use Rattle.rubis_model.specs.Processes.{Carried, HasExactlySent, HasReadAll, KeepsAll, ProcessesConverge, Reading, WasSent, answers_of, process, read_by, state_of}
+use Rattle.rubis_model.specs.Restarts.{IsLevel, Moment, RestartedConverge, has_read, recorded, state_since_start}
+use Rattle.rubis_model.specs.Runs.{Input, input_by, input_of, input_step, output_of}
+use Rattle.rubis_model.specs.Runs.Input.{Asked, Came, Neither}
+use Rattle.rubis_model.specs.Settle.{Has}
+use Rattle.rubis_model.specs.Site.{Place, Replica, arrived, generating, issued_after, made, opening_at, passing, rows_at, standing_of}
+use Rattle.rubis_model.specs.Sound.{Sound}
+use Rattle.rubis_model.specs.System.{World, place, run, site, start}
+use Rattle.rubis_model.proofs.Lists.{contained, contains, has_left, has_reverse, push_cases}
+use Rattle.rubis_laws.proofs.Runs.Converging.{all_had_are_released, rests_run}
+use Rattle.rubis_laws.proofs.Runs.Delivering.{Had, arrived_keeps, had_among, settled_had, took_keeps}
+use Rattle.rubis_laws.proofs.Processes.OwnMessages.{carried_before}
+use Rattle.rubis_laws.proofs.Processes.ProcessLaws.{processes_same_tables}
+use Rattle.rubis_laws.proofs.Processes.AreARun.{answers_stay, number, processes_run, read_here, read_more, read_there, state_here, state_there, step}
+use Rattle.rubis_laws.proofs.Processes.Restarts.{restarts_change_nothing, short_state}
+use Rattle.rubis_laws.proofs.Runs.EveryRun.{sound_run}
+
+-- ---- a site keeps what it has, whatever comes
+
+generating_keeps : (p : Place) (s : Replica) (r : Result Shadow Refusal) (u : Message) → Had s u → Had (generating p s r).0 u
+generating_keeps p s (Err r) u h = h
+generating_keeps p s (Ok x) u h =
+    settled_had (record s { log = s.log ++ made p s x ∷ []; held = issued_after x s.held }) u (⊎_elim (λ k. inl (has_left u s.log (made p s x ∷ []) k)) (λ k. inr k) h)
+
+passing_keeps : (p : Place) (s : Replica) (to : ℕ) (o : Option ℕ) (u : Message) → Had s u → Had (passing p s to o).0 u
+passing_keeps p s to None u h = h
+passing_keeps p s to (Some issued) u h =
+    cond_both (nat_le p.sites to || (to == p.site)) (s, Err BadTarget) _ (λ (q : Replica × Result Token Refusal). Had q.0 u) (λ _. h)
+    (λ _. cond_both (nat_le 1000000000 s.last) (s, Err LastTurn) _ (λ (q : Replica × Result Token Refusal). Had q.0 u) (λ _. h) (λ _. h))
+
+input_keeps : (p : Place) (s : Replica) (n : ℕ) (x : Input) (u : Message) → Had s u → Had (input_step p s n x).0 u
+input_keeps p s n (Asked (request.Ask a)) u h = generating_keeps p s (decision (rows_at s.log) (standing_of p.keep s) a) u h
+input_keeps p s n (Asked (request.Pass to)) u h = passing_keeps p s to s.held u h
+input_keeps p s n (Asked (request.List l)) u h = h
+input_keeps p s n (Came (packet.Msg m)) u h = arrived_keeps p s m u h
+input_keeps p s n (Came (packet.Token t)) u h = took_keeps p s t u h
+input_keeps p s n Neither u h = h
+
+-- ---- no record is a message and a request
+
+abbrev first_word : List (List ℕ) → List ℕ
+first_word [] = []
+first_word (word ∷ rest) = word
+
+asked_otherwise : (q : Request) → bytes_eq (first_word (request_record q)) (codes "msg") ≡ false
+asked_otherwise (request.Ask (ask.User n)) = refl
+asked_otherwise (request.Ask (ask.Item n)) = refl
+asked_otherwise (request.Ask (ask.Bid b)) = refl
+asked_otherwise (request.Ask (ask.Buy p)) = refl
+asked_otherwise (request.Ask (ask.Close c)) = refl
+asked_otherwise (request.Ask (ask.Comment c)) = refl
+asked_otherwise (request.Ask (ask.Restock r)) = refl
+asked_otherwise (request.Ask (ask.Rename r)) = refl
+asked_otherwise (request.Pass to) = refl
+asked_otherwise (request.List l) = refl
+
+module _ (sites : ℕ) (top : sites ≤ COUNTED_MAX) where
+  not_both : (fields : List (List ℕ)) (m : Message) (q : Request) → packet_of sites fields ≡ Some (packet.Msg m) → request_of sites fields ≡ Some q → ⊥
+  not_both fields m q is asked =
+      let a = ((request_is sites (omega (arith, top)) fields q).0 asked).1 in
+      let b = ((packet_is sites (omega (arith, top)) top fields (packet.Msg m)).0 is).1 in
+      true≢false (ap (λ f. bytes_eq (first_word f) (codes "msg")) (sym b ∙ a) ∙ asked_otherwise q)
+
+  message_came : (fields : List (List ℕ)) (m : Message) → packet_of sites fields ≡ Some (packet.Msg m) → input_of sites fields ≡ Came (packet.Msg m)
+  message_came fields m is = at (request_of sites fields) refl
+    where
+      at : (o : Option Request) → request_of sites fields ≡ o → input_of sites fields ≡ Came (packet.Msg m)
+      at (Some q) e = absurd (not_both fields m q is e)
+      at None e = λ j. input_by (e j) (is j)
+
+-- ---- what was sent stays sent
+
+pub sent_later : (sites : ℕ) (keep : ℕ → ℕ) (all before later : List Reading) (fields : List (List ℕ)) → all ≡ before ++ later
+    → WasSent sites keep before fields → WasSent sites keep all fields
+sent_later sites keep all before later fields is h =
+    let p = process sites keep h.0 in (
+      h.0,
+      h.1,
+      subst (Has _) (sym (ap (λ l. output_of p (read_by h.0 l)) is ∙ ap (output_of p) (read_more h.0 before later) ∙ answers_stay p (read_by h.0 before) (read_by h.0 later)))
+          (has_left _ (answers_of sites keep before h.0) _ h.2),
+    )
+
+-- ---- what a process has read it has
+
+module _ (sites : ℕ) (keep : ℕ → ℕ) (some : 1 ≤ sites) (top : sites ≤ COUNTED_MAX) (small : (i : ℕ) → keep i ≤ 1000000) (all : List Reading) (carried : Carried sites keep all) (i : ℕ) (within : i < sites) (keeps : KeepsAll sites keep all i) where
+  -- each message that the process has read is in its log or waits there
+  abbrev HasWhatItRead : List Reading → Type 0
+  HasWhatItRead before =
+      (fields : List (List ℕ)) (m : Message) → packet_of sites fields ≡ Some (packet.Msg m) → Has fields (read_by i before) → Had (state_of sites keep before i) m
+
+  -- a message that it reads now
+  has_now : (before later : List Reading) (r : Reading) → all ≡ before ++ r ∷ later → r.site ≡ i → (m : Message) → packet_of sites r.fields ≡ Some (packet.Msg m)
+      → Had (step sites keep before r).0 m
+  has_now before later r is here m e =
+      let q = processes_run sites keep before some top small (carried_before sites keep all before (r ∷ later) is carried) in
+      let w = run 1000000 q.0 (start sites) in
+      let s = sound_run sites 1000000 q.0 some (omega arith) q.1 in
+      let rest = rests_run sites 1000000 q.0 some (omega arith) q.1 in
+      let a : Sent w m = (q.2.sent (packet.Msg m)).1 (r.fields, carried before later r (packet.Msg m) is e, e) in
+      let covers : (x : Message) → Sent w x → Has x keeps.0 = λ x h. let k = (q.2.sent (packet.Msg x)).0 h in
+      keeps.1 x (k.0, sent_later sites keep all before (r ∷ later) k.0 is k.1, k.2) in
+      let had : Had (arrived (place (keep i) w i) (site w i) m).0 m = had_among w s rest i m a (keep i) keeps.0 covers keeps.2 in
+      let same : (arrived (place (keep i) w i) (site w i) m).0 ≡ (step sites keep before r).0 =
+      (λ j. (arrived (record { site = i; sites = q.2.count j; keep = keep i }) (q.2.states i within j) m).0)
+      ∙ (λ j. (input_step (process sites keep (sym here j)) (state_of sites keep before (sym here j)) (number sites keep before r) (sym (message_came sites top r.fields m e) j)).0) in
+      subst (λ (t : Replica). Had t m) same had
+
+  has_next : (before later : List Reading) (r : Reading) → all ≡ before ++ r ∷ later → HasWhatItRead before → HasWhatItRead (before ++ r ∷ [])
+  has_next before later r is has fields m e h = ⊎_elim here there (cases_eq i r.site)
+    where
+      here : i ≡ r.site → Had (state_of sites keep (before ++ r ∷ []) i) m
+      here k =
+          let now : state_of sites keep (before ++ r ∷ []) i ≡ (step sites keep before r).0 =
+          ap (state_of sites keep (before ++ r ∷ [])) k ∙ state_here sites keep before r in
+          let read : Has fields (read_by i before ++ r.fields ∷ []) = subst (Has fields) ((λ j. read_by (k j) (before ++ r ∷ [])) ∙ read_here before r ∙ (λ j. read_by (sym k j) before ++ r.fields ∷ [])) h in
+          subst (λ (t : Replica). Had t m) (sym now)
+          (⊎_elim
+          (λ q. input_keeps (process sites keep r.site) (state_of sites keep before r.site) (number sites keep before r) (input_of sites r.fields) m
+          (subst (λ x. Had (state_of sites keep before x) m) k (has fields m e q)))
+          (λ q. has_now before later r is (sym k) m (ap (packet_of sites) (sym q) ∙ e))
+          (push_cases fields r.fields (read_by i before) read))
+
+      there : (i ≡ r.site → ⊥) → Had (state_of sites keep (before ++ r ∷ []) i) m
+      there n = subst (λ (t : Replica). Had t m) (sym (state_there sites keep before r i n)) (has fields m e (subst (Has fields) (read_there i before r n) h))
+
+  has_all : (later before : List Reading) → all ≡ before ++ later → HasWhatItRead before → HasWhatItRead all
+  has_all [] before is has = subst HasWhatItRead (sym (is ∙ append-nil before)) has
+  has_all (r ∷ later) before is has = has_all later (before ++ r ∷ []) (is ∙ sym (append_assoc before (r ∷ []) later)) (has_next before later r is has)
+
+  has_exactly : HasReadAll sites keep all i → HasExactlySent sites keep all (state_of sites keep all i)
+  has_exactly read =
+      let q = processes_run sites keep all some top small carried in
+      let w = run 1000000 q.0 (start sites) in
+      let s = sound_run sites 1000000 q.0 some (omega arith) q.1 in
+      let has : HasAll w i = λ m a.
+      let k = (q.2.sent (packet.Msg m)).0 a in
+      ⊎_elim (λ h. subst (λ (t : Replica). Had t m) (sym (q.2.states i within)) (has_all all [] refl (λ fields x e h. absurd h) k.0 m k.2 h))
+      (λ e. inl (subst (λ j. Has m (site w j).log) e (own w s m a))) (read k.0 m k.1 k.2) in
+      let done = all_had_are_released sites 1000000 q.0 some (omega arith) q.1 i has in
+      let same = q.2.states i within in record {
+        none_waits = ap (λ (t : Replica). t.waiting) (sym same) ∙ done.none_waits;
+        released = λ m. (
+          (λ a. subst (λ (t : Replica). Has m t.log) same ((done.released m).0 ((q.2.sent (packet.Msg m)).1 a))),
+          λ h. (q.2.sent (packet.Msg m)).0 ((done.released m).1 (subst (λ (t : Replica). Has m t.log) (sym same) h)),
+        );
+      }
+    where
+      own : (w : World) → Sound w → (m : Message) → Sent w m → Has m (site w m.stamp.id.site).log
+      own w s m a = has_reverse m (site w m.stamp.id.site).log (s.home.home m a)
+
+pub processes_converge : ProcessesConverge
+processes_converge sites keep readings some top small carried i j li lj ri rj ki kj =
+    let a = has_exactly sites keep some top small readings carried i li ki ri in
+    let b = has_exactly sites keep some top small readings carried j lj kj rj in (
+      a,
+      b,
+      processes_same_tables sites keep readings some top small carried sites keep readings some top small carried i j li lj (λ m. (
+        (λ h. contains (state_of sites keep readings j).log m ((b.released m).0 ((a.released m).1 (contained (state_of sites keep readings i).log m h)))),
+        λ h. contains (state_of sites keep readings i).log m ((a.released m).0 ((b.released m).1 (contained (state_of sites keep readings j).log m h))),
+      )),
+    )
+
+-- ---- however often they were restarted
+
+level_state : (sites : ℕ) (keep : ℕ → ℕ) (moments : List Moment) (i : ℕ) → IsLevel sites keep moments i
+    → state_since_start sites keep moments i ≡ state_of sites keep (recorded moments) i
+level_state sites keep moments i e =
+    short_state (process sites keep i) (read_by i (recorded moments)) (has_read i moments) (opening_at i) 1 1 e
+
+-- what is shown of processes in these two states
+abbrev Converged : ℕ → (ℕ → ℕ) → List Reading → Replica → Replica → Type 0
+Converged sites keep readings s t = HasExactlySent sites keep readings s × HasExactlySent sites keep readings t
+    × ((fold_of (cores s.log)).tables ≡ (fold_of (cores t.log)).tables)
+
+pub restarted_converge : RestartedConverge
+restarted_converge sites keep moments some top small replayed carried i j li lj ei ej ri rj ki kj =
+    let s = restarts_change_nothing sites keep moments replayed carried in
+    let c = processes_converge sites keep (recorded moments) some top small s.carried i j li lj ri rj ki kj in
+    subst (λ t. Converged sites keep (recorded moments) t (state_since_start sites keep moments j)) (sym (level_state sites keep moments i ei))
+    (subst (λ t. Converged sites keep (recorded moments) (state_of sites keep (recorded moments) i) t) (sym (level_state sites keep moments j ej)) c)
