@@ -14,12 +14,12 @@ use Rattle.rubis_schema.specs.declared.listings.Listing.{Listing}
 use Rattle.rubis_schema.specs.declared.row_keys.RowKey.{RowKey}
 use Rattle.rubis_schema.specs.declared.row_keys.Table.{Table}
 use Rattle.rubis_schema.specs.declared.rows.Row.{Row}
+use Rattle.rubis_shadow.specs.Tables.{rows_of}
 use Rattle.rubis_model.specs.Listings.{records_of}
-use Rattle.rubis_shard.specs.Listed.{listed_of}
 use Rattle.rubis_shard.specs.Written.{shown}
 use Rattle.rubis_listing.specs.Parts.{AreParts, rows_of_part}
 use Rattle.rubis_listing.proofs.ByTable.{rows_by_table}
-use Rattle.rubis_listing.proofs.Selecting.{Entries, listed_records, records_append}
+use Rattle.rubis_listing.proofs.Selecting.{Entries, records_append}
 
 -- the records of the rows from a place on
 pub rows_more : (l : Listing) (rows : List (RowKey × Bor Row)) (i : ℕ) (d : RowKey × Bor Row) → i < length rows
@@ -41,10 +41,8 @@ range_more l rows i j le =
 
 -- what the tables from a place on add
 pub tables_more : (l : Listing) (m : Tables) (ts : List Table) (i : ℕ) (d : Table) → i < length ts
-    → rows_by_table l m (drop i ts) ≡ records_of l (listed_of l (slice_index_or ts i d) m) ++ rows_by_table l m (drop (i + 1) ts)
-tables_more l m ts i d lt =
-    ap (rows_by_table l m) (drop_more ts i d lt)
-    ∙ ap (λ rows. rows ++ rows_by_table l m (drop (i + 1) ts)) (sym (listed_records l (slice_index_or ts i d) m))
+    → rows_by_table l m (drop i ts) ≡ records_of l (rows_of (slice_index_or ts i d) m) ++ rows_by_table l m (drop (i + 1) ts)
+tables_more l m ts i d lt = ap (rows_by_table l m) (drop_more ts i d lt)
 
 -- the records of the next part, and those after it
 pub part_more : (l : Listing) (es : Entries) → records_of l es ≡ records_of l (take 512 es) ++ records_of l (drop 512 es)
@@ -85,3 +83,7 @@ parts_from holds l es at (suc n) (p ∷ ps) h few =
 pub if_made : {T E : Type 0} (r : Result T E) (P Q : T → Type 0) (R : E → Type 0) → MatchResult r P R → ((v : T) → P v → Q v) → IfOk r Q
 if_made (Ok v) P Q R h f = f v h
 if_made (Err e) P Q R h f = tt
+
+pub if_listed : {T E : Type 0} (r : Result T E) (P Q : T → Type 0) → IfOk r P → ((v : T) → P v → Q v) → IfOk r Q
+if_listed (Ok v) P Q h f = f v h
+if_listed (Err e) P Q h f = h

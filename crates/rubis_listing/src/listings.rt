@@ -2,6 +2,7 @@
 
 ghost use Rattle.std.specs.Prelude.{◌≡◌, ◌∷◌, [], IfOk, OnOk, map as each};
 ghost use Rattle.rubis_schema.specs.declared.listings.Listing.TheVariants as Shown;
+ghost use Rattle.rubis_shadow.specs.Tables.{rows_of};
 ghost use Rattle.rubis_model.specs.Listings.{records_of, table_rows};
 ghost use Rattle.rubis_shard.specs.Holdings.{union};
 ghost use Rattle.rubis_shard.specs.Written.{shown};
@@ -69,6 +70,22 @@ fn tables_of(listing: &Listing) -> &'static [Table]
     }
 }
 
+// The rows of one table that a listing shows, and maybe others that have no record there, in key order. Of the categories only
+// those are looked up that have a record, so that the others need not be put in order.
+fn rows_in<'a>(
+    alloc: Global,
+    table: Table,
+    listing: &Listing,
+    tables: &'a Tables,
+) -> Result<Vec<(RowKey, &'a Row)>, AllocError>
+    ensures { IfOk result (λ rows. records_of listing.now (each shown rows.items) ≡ records_of listing.now (rows_of table (union tables.now))) }
+{
+    match table {
+        Table::Cats => tables.categories(alloc),
+        _ => tables.listed(alloc, table, listing),
+    }
+}
+
 /// Adds the rows of a listing of the tables, in key order. Those of the log and of misfits show no rows of tables.
 pub fn list_tables<S: RowSink>(
     alloc: Global,
@@ -79,7 +96,7 @@ pub fn list_tables<S: RowSink>(
     ensures { OnOk result (S.adds (table_rows listing.now (union tables.now)) sink.old sink.new) }
 {
     for table in tables_of(listing) {
-        let rows = tables.listed(alloc, *table, listing)?;
+        let rows = rows_in(alloc, *table, listing, tables)?;
         put_rows(alloc, sink, listing, &rows)?;
     }
     Ok(())
@@ -97,7 +114,7 @@ pub fn list_tables_shared<S: SharedSink, R: Threads + Sync>(
     ensures { OnOk result (S.adds (table_rows listing.now (union tables.now)) sink.old sink.new) }
 {
     for table in tables_of(listing) {
-        let rows = tables.listed(alloc, *table, listing)?;
+        let rows = rows_in(alloc, *table, listing, tables)?;
         put_rows_shared(rt, alloc, sink, listing, &rows)?;
     }
     Ok(())
