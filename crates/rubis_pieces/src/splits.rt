@@ -114,7 +114,12 @@ fn split_part(
 {
     let from = at * PART;
     let rest = &batch[from..];
-    split_alone(alloc, &rest[..PART.min(rest.len())], first + from as u32, shards)
+    split_alone(
+        alloc,
+        &rest[..PART.min(rest.len())],
+        first + from as u32,
+        shards,
+    )
 }
 
 // The shares of all parts of a batch, each made by one of as many threads as there are processors.
@@ -155,11 +160,7 @@ fn add_share(alloc: Global, share: &mut Share, more: Share) -> Result<(), AllocE
 }
 
 // Puts the parts of each share last in the share of the same shard.
-fn add_shares(
-    alloc: Global,
-    list: &mut Vec<Share>,
-    shares: Vec<Share>,
-) -> Result<(), AllocError>
+fn add_shares(alloc: Global, list: &mut Vec<Share>, shares: Vec<Share>) -> Result<(), AllocError>
     requires { length list.old.items ≡ length shares.items }
     ensures { OnOk result ((shards : ℕ) (ms ns : List Numbered) → AreDealt shards ms list.old.items → AreDealt shards ns shares.items
         → AreDealt shards (ms ++ ns) list.new.items) }

@@ -253,7 +253,8 @@ impl<G: Gate> Site<G> {
             Listing::Log => self.follower.list_log_into(rt, self.intake.log(), sink),
             Listing::Misfits => {
                 let misfits = misfits(self.alloc, self.follower.tables())?;
-                self.follower.list_misfits_into(rt, misfits.as_slice(), sink)
+                self.follower
+                    .list_misfits_into(rt, misfits.as_slice(), sink)
             }
             _ => self.follower.list_into(rt, listing, sink),
         }
