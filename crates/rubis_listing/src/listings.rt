@@ -1,6 +1,6 @@
 //! The listings of the tables.
 
-ghost use Rattle.std.specs.Prelude.{◌≡◌, ◌∷◌, ◌++◌, [], IfOk, OnOk, map as each};
+ghost use Rattle.std.specs.Prelude.{◌≡◌, ◌≤◌, ◌∷◌, ◌++◌, [], IfOk, OnOk, length, map as each, slice_range};
 ghost use Rattle.rubis_schema.specs.declared.listings.Listing.TheVariants as Shown;
 ghost use Rattle.rubis_shadow.specs.Tables.{rows_of};
 ghost use Rattle.rubis_model.specs.Listings.{records_of, table_rows};
@@ -46,6 +46,22 @@ pub fn put_rows<S: RowSink>(
         put_row(sink, &mut record, listing, key, row)?;
     }
     Ok(())
+}
+
+// Adds those of the rows from a place on, up to another, that match the listing.
+pub fn put_rows_between<S: RowSink>(
+    alloc: Global,
+    sink: &mut S,
+    listing: &Listing,
+    rows: &[(RowKey, &Row)],
+    from: usize,
+    upto: usize,
+) -> Result<(), AllocError>
+    requires from { from ≤ upto }
+    requires upto { upto ≤ length rows.now }
+    ensures { OnOk result (S.adds (records_of listing.now (each shown (slice_range rows.now from upto))) sink.old sink.new) }
+{
+    put_rows(alloc, sink, listing, &rows[from..upto])
 }
 
 // The tables whose rows a listing shows, in the order of their keys.
@@ -108,7 +124,7 @@ fn with_rows<'a>(
     rows: Vec<(RowKey, &'a Row)>,
     others: Vec<(RowKey, &'a Row)>,
 ) -> Result<Vec<(RowKey, &'a Row)>, AllocError>
-    ensures { IfOk result (λ all. all.items ≡ rows.items ++ others.items) }
+    ensures { IfOk result (λ all. all.items ≡ rows.entry.items ++ others.entry.items) }
 {
     if rows.is_empty() {
         return Ok(others);

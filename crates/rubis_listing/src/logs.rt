@@ -104,6 +104,21 @@ pub fn list_misfits<S: RowSink>(
     Ok(())
 }
 
+// Adds the rows of misfits from a place on, up to another.
+pub fn put_misfits<S: RowSink>(
+    alloc: Global,
+    sink: &mut S,
+    misfits: &[Misfit],
+    from: usize,
+    upto: usize,
+) -> Result<(), AllocError>
+    requires from { from ≤ upto }
+    requires upto { upto ≤ length misfits.now }
+    ensures { OnOk result (S.adds (rows_of_misfits (slice_range misfits.now from upto)) sink.old sink.new) }
+{
+    list_misfits(alloc, sink, &misfits[from..upto])
+}
+
 /// Adds the rows of misfits as `list_misfits` does. Of SHARED_MIN misfits or more, as many threads as there are processors make
 /// them, in parts, and the caller's thread adds the parts.
 pub fn list_misfits_shared<S: SharedSink, R: Threads + Sync>(

@@ -3,8 +3,8 @@
 ghost use Rattle.std.specs.Prelude.{◌≡◌, ◌≤◌, OnOk};
 ghost use Rattle.rubis_listing.specs.Parts.{between, size_of};
 
-use crate::listings::put_rows;
-use crate::logs::{list_misfits, put_entries};
+use crate::listings::put_rows_between;
+use crate::logs::{put_entries, put_misfits};
 use rubis_message::Message;
 use rubis_schema::{Listing, Row, RowKey, RowSink};
 use rubis_shadow::Misfit;
@@ -44,10 +44,12 @@ impl<'a> Source<'a> {
         requires upto { upto ≤ size_of self.now }
         ensures { OnOk result (S.adds (between self.now from upto) sink.old sink.new) }
     {
-        match self {
-            Source::Rows(listing, rows) => put_rows(alloc, sink, listing, &rows[from..upto]),
+        match *self {
+            Source::Rows(listing, rows) => {
+                put_rows_between(alloc, sink, listing, rows, from, upto)
+            }
             Source::Log(log) => put_entries(alloc, sink, log, from, upto),
-            Source::Misfits(misfits) => list_misfits(alloc, sink, &misfits[from..upto]),
+            Source::Misfits(misfits) => put_misfits(alloc, sink, misfits, from, upto),
         }
     }
 }

@@ -25,7 +25,7 @@ loop-table-preserved c =
     let at = c.loop-table.table-index in
     let inside : at < length ts = search rules in
     let same : records_of l (each shown c.in_ok-rows.rows.items) ≡ records_of l (rows_of (slice_index_or ts at table.Users) m) = search rules in
-    collected_more l m ts at table.Users c.loop-table.all.items c.in_ok-rows.rows.items _ inside c.in_ok-with_rows.ensures same c.loop-table.invariant
+    collected_more l m ts at table.Users c.loop-table.all.items c.in_ok-rows.rows.items _ inside c.in_ok-all.ensures same c.loop-table.invariant
 
 pub returns : goal.returns
 returns c =

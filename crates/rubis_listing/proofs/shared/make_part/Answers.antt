@@ -8,4 +8,4 @@ returns g c =
     let first = c.args.from + c.args.at * 512 in
     let part = c.put.new.sink in
     subst (λ n. g.S.SharedSink.holds (between c.args.source.now first (first + n)) part) c.min.ensures
-    (laws.holds_more [] _ _ part c.empty-part.ensures c.in_ok-put.ensures)
+    (laws.holds_more [] (between c.args.source.now first (first + c.min.result)) c.empty-part.result part c.empty-part.ensures c.in_ok-put.ensures)

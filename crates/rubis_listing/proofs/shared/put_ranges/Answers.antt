@@ -1,4 +1,4 @@
-use Rattle.std.proofs.Common.{arith, ◌≡◌, ◌+◌, ◌∙◌, ap, subst, sym}
+use Rattle.std.proofs.Common.{arith, ◌≡◌, ◌+◌, ◌≤◌, ◌∙◌, ap, subst, sym}
 use Rattle.rubis_listing.specs.Parts.{between, size_of}
 use Rattle.rubis_listing.proofs.Ranges.{between_more, between_none}
 use Rattle.rubis_listing.proofs.shared.put_ranges.Goals as goal
@@ -11,13 +11,13 @@ loop-at-preserved g c =
     let at = c.loop-at.at in
     let upto = at + c.min.result in
     let before = c.loop-at.invariant.within in
-    let within = omega (arith, c.min.ensures, c.len-end.ensures, before) in
+    let within : upto ≤ end = omega (arith, c.min.ensures, c.len-end.ensures, before) in
     record {
       within = within;
       rest = λ s h.
           let more = laws.adds_more (between source at upto) (between source upto end) _ _ s c.in_ok-put_parts.ensures h in
           c.loop-at.invariant.rest s (subst (λ rs. g.S.RowSink.adds rs c.loop-at.sink s)
-          (sym (between_more source at upto end (omega arith) (omega (arith, c.min.ensures, c.len-end.ensures, before)) (omega (arith, c.min.ensures, c.len-end.ensures, before)))) more);
+          (sym (between_more source at upto end (omega arith) within within)) more);
     }
 
 pub returns : goal.returns

@@ -6,8 +6,8 @@ use Rattle.rubis_listing.proofs.sources.Source.put.Goals as goal
 
 pub returns-in-Rows : goal.returns-in-Rows
 returns-in-Rows g c =
-    subst (λ (s : Source). OnOk c.put_rows.result (g.S.RowSink.adds (between s c.args.from c.args.upto) c.args.sink.now c.put_rows.new.sink))
-    (sym c.in-Rows.is) c.put_rows.ensures
+    subst (λ (s : Source). OnOk c.put_rows_between.result (g.S.RowSink.adds (between s c.args.from c.args.upto) c.args.sink.now c.put_rows_between.new.sink))
+    (sym c.in-Rows.is) c.put_rows_between.ensures
 
 pub returns-in-Log : goal.returns-in-Log
 returns-in-Log g c =
@@ -16,5 +16,5 @@ returns-in-Log g c =
 
 pub returns-in-Misfits : goal.returns-in-Misfits
 returns-in-Misfits g c =
-    subst (λ (s : Source). OnOk c.list_misfits.result (g.S.RowSink.adds (between s c.args.from c.args.upto) c.args.sink.now c.list_misfits.new.sink))
-    (sym c.in-Misfits.is) c.list_misfits.ensures
+    subst (λ (s : Source). OnOk c.put_misfits.result (g.S.RowSink.adds (between s c.args.from c.args.upto) c.args.sink.now c.put_misfits.new.sink))
+    (sym c.in-Misfits.is) c.put_misfits.ensures
