@@ -136,6 +136,10 @@ message_end shards entry i m a l end inv =
     subst (λ fs. IsDealtTo shards (number_parts entry 1 m.id fs) a l) (all_places m i end) inv
 
 -- ---- the messages of a batch
+-- after some parts, those of others whose home is a shard
+abbrev pub IsTakenTo : ℕ → ℕ → List Numbered → List Numbered → List Numbered → Type 0
+IsTakenTo shards k ps a b = b ≡ a ++ parts_at shards k ps
+
 -- one message more
 more_messages : (first i : ℕ) (batch : List Message) (x : Message) (m : LogEntry) → i < length batch
     → x ≡ get_or batch i x → m.number ≡ first + i → core_of m ≡ core x
@@ -156,6 +160,16 @@ pub split_turn : (shards first i many : ℕ) (batch : List Message) (x : Message
 split_turn shards first i many batch x m l b same lt got counted is h turn =
     subst (λ qs. AreDealt shards qs b) (sym (more_messages first i batch x m lt got counted is))
     (subst (λ k. IsDealtTo k (numbered_of m) l b) same turn _ h)
+
+-- one shard's parts of one message more
+pub share_turn : (shards k first i : ℕ) (batch : List Message) (x : Message) (m : LogEntry) (l b : List Numbered)
+    → i < length batch → x ≡ get_or batch i x → m.number ≡ first + i → core_of m ≡ core x
+    → l ≡ parts_at shards k (numbered_from first (cores (take i batch))) → IsTakenTo shards k (numbered_of m) l b
+    → b ≡ parts_at shards k (numbered_from first (cores (take (i + 1) batch)))
+share_turn shards k first i batch x m l b lt got counted is h turn =
+    turn ∙ ap (λ qs. qs ++ parts_at shards k (numbered_of m)) h
+    ∙ sym (parts_at_append shards k (numbered_from first (cores (take i batch))) (numbered_of m))
+    ∙ ap (parts_at shards k) (sym (more_messages first i batch x m lt got counted is))
 
 -- what follows where there is no error
 pub if_ok : {T E : Type 0} (r : Result T E) (P Q : T → Type 0) (R : E → Type 0) → MatchResult r P R → ((v : T) → P v → Q v) → IfOk r Q

@@ -151,10 +151,10 @@ fn split_parts<R: Threads + Sync>(
 fn add_share(alloc: Global, share: &mut Share, more: Share) -> Result<(), AllocError>
     ensures { OnOk result (share.new ≡ record { number = share.old.number; effects = share.old.effects ++ more.effects }) }
 {
-    let Share { number: _, effects } = more;
-    let mut more: Vec<Numbered> = effects.into();
+    let mut more = more;
+    let mut others: Vec<Numbered> = mem::replace(&mut more.effects, Items::new(alloc)).into();
     let mut all: Vec<Numbered> = mem::replace(&mut share.effects, Items::new(alloc)).into();
-    all.append(&mut more)?;
+    all.append(&mut others)?;
     share.effects = Items::from(all);
     Ok(())
 }
@@ -181,7 +181,8 @@ fn join_parts(
     shards: usize,
     parts: Vec<Vec<Share>>,
 ) -> Result<Vec<Share>, AllocError>
-    requires { AreOfParts shards first (cores batch.now) parts.items }
+    requires shards { 0 < shards }
+    requires parts { AreOfParts shards first (cores batch.now) parts.items }
     ensures { IfOk result (λ shares. AreShares shards first (cores batch.now) shares.items) }
 {
     let mut list = no_shares(alloc, shards, batch.len() / shards * PARTS_ROOM)?;

@@ -1,8 +1,8 @@
-use Rattle.std.proofs.Common.{rules, arith, ◌≡◌, ◌∷◌, ◌+◌, ◌<◌, ◌≤◌, ◌∙◌, [], suc, drop, length, ap, sym}
+use Rattle.std.proofs.Common.{rules, arith, ◌≡◌, ◌∷◌, ◌+◌, ◌<◌, ◌≤◌, ◌∙◌, [], suc, drop, length, ap, sym, refl}
 use Rattle.std.specs.Prelude.{Some, slice_get}
 use Rattle.std.specs.Vec.Iter.{into_iter_items, into_iter_len}
 use Rattle.std.proofs.lemmas.List.{length-drop, nil_from_length}
-use Rattle.std.proofs.lemmas.Option.{slice_get-get_or}
+use Rattle.std.proofs.lemmas.Option.{slice_get_read}
 use Rattle.rubis_pieces.proofs.Joined.{added_dealt, drop_first, drop_rest, none_added, one_added}
 use Rattle.rubis_pieces.proofs.splits.add_shares.Goals as goal
 
@@ -24,11 +24,12 @@ loop-share-preserved c =
     let left = sym inv.rest ∙ items in
     let next : suc at ≡ at + 1 = omega arith in
     let inside : at < length more = omega (arith, length-drop at more, ap length left, inv.within) in
+    let own : at < length l = omega (arith, inside, inv.added.many, c.requires) in
     record {
       within = omega (arith, inside);
       rest = drop_rest more at c.in-Some.share _ left ∙ ap (λ n. drop n more) next;
-      added = one_added at old more l c.index_mut.result.now c.in-Some.share c.add_share.new.share inv.added (search rules)
-          (search rules) (drop_first more at c.in-Some.share _ left) c.in_ok-add_share.ensures;
+      added = one_added at old more l c.index_mut.result.now c.in-Some.share c.add_share.new.share inv.added own
+          (slice_get_read l (length l) at c.index_mut.result.now refl own (search rules)) (drop_first more at c.in-Some.share _ left) c.in_ok-add_share.ensures;
     }
 
 pub returns : goal.returns

@@ -10,12 +10,13 @@ pub loop-part-init : goal.loop-part-init
 loop-part-init c =
     let batch = cores c.args.batch.now in
     let begin : c.args.first ≡ c.args.first + 0 = omega arith in
-    let items : c.args.parts.items ≡ into_iter_items c.loop-part.part-iterator = search rules in (
+    let items : c.args.parts.items ≡ into_iter_items c.into_iter-part-iterator.result = search rules in (
       [],
       batch,
       refl,
       c.in_ok-list.ensures,
-      subst (λ n. AreOfParts c.args.shards n batch (into_iter_items c.loop-part.part-iterator)) begin (subst (AreOfParts c.args.shards c.args.first batch) items c.requires),
+      subst (λ n. AreOfParts c.args.shards n batch (into_iter_items c.into_iter-part-iterator.result)) begin
+          (subst (AreOfParts c.args.shards c.args.first batch) items c.requires.parts),
     )
 
 pub add_shares-requires : goal.add_shares-requires
