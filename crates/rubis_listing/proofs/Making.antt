@@ -15,7 +15,7 @@ use Rattle.rubis_shadow.specs.Tables.{rows_of}
 use Rattle.rubis_model.specs.Listings.{records_of}
 use Rattle.rubis_shard.specs.Written.{shown}
 use Rattle.rubis_listing.proofs.ByTable.{rows_by_table}
-use Rattle.rubis_listing.proofs.Selecting.{Entries, records_append}
+use Rattle.rubis_listing.proofs.Selecting.{records_append}
 
 -- the records of the rows from a place on
 pub rows_more : (l : Listing) (rows : List (RowKey × Bor Row)) (i : ℕ) (d : RowKey × Bor Row) → i < length rows

@@ -1,5 +1,5 @@
 -- Parts dealt to the shares of their homes, one after the other.
-use Rattle.std.proofs.Common.{ℕ, ◌≡◌, ◌+◌, ◌<◌, List, [], ◌∷◌, ◌++◌, length, take, get_or, set, cond, refl, sym, ap, ◌∙◌, subst}
+use Rattle.std.proofs.Common.{ℕ, ◌≡◌, ◌+◌, ◌<◌, List, [], ◌∷◌, ◌++◌, length, take, get_or, set, cond, sym, ap, ◌∙◌, subst}
 use Rattle.std.proofs.Common.{arith, append_assoc, length-set, ⊎_elim}
 use Rattle.std.specs.Prelude.{Some, None, Ok, Err, IfOk, MatchResult, slice_get}
 use Rattle.std.proofs.lemmas.Bool.{cases_eq, cases_lt}

@@ -1,5 +1,4 @@
 use Rattle.std.proofs.Common.{rules, arith, ◌≡◌, ◌∷◌, ◌+◌, ◌<◌, ◌≤◌, ◌∙◌, [], suc, drop, length, ap, sym, refl}
-use Rattle.std.specs.Prelude.{Some, slice_get}
 use Rattle.std.specs.Vec.Iter.{into_iter_items, into_iter_len}
 use Rattle.std.proofs.lemmas.List.{length-drop, nil_from_length}
 use Rattle.std.proofs.lemmas.Option.{slice_get_read}
