@@ -1,10 +1,11 @@
 -- The records of the rows that match a listing, entry by entry and table by table.
 use Rattle.std.proofs.Common.{◌≡◌, ◌⊎◌, inl, inr, ℕ, Bool, true, false, cond, List, [], ◌∷◌, ◌++◌, refl, sym, ap, ◌∙◌}
-use Rattle.std.specs.Prelude.{filter}
+use Rattle.std.specs.Prelude.{filter, not}
 use Rattle.std.specs.List.{flat_map}
 use Rattle.std.proofs.lemmas.Grind.{flat_map-append}
 use Rattle.std.proofs.lemmas.List.Elements.{filter-append}
 use Rattle.std.specs.FinMap as map
+use Rattle.rubis_schema.specs.Categories.{shows_nothing}
 use Rattle.rubis_schema.specs.Keys.{holds}
 use Rattle.rubis_schema.specs.Tables.{Tables}
 use Rattle.rubis_schema.specs.declared.ids.Id.{Id}
@@ -14,10 +15,12 @@ use Rattle.rubis_schema.specs.declared.row_keys.RowKey.{RowKey}
 use Rattle.rubis_schema.specs.declared.row_keys.RowKey.TheVariants as key
 use Rattle.rubis_schema.specs.declared.row_keys.Table.{Table}
 use Rattle.rubis_schema.specs.declared.row_keys.Table.TheVariants as table
+use Rattle.rubis_schema.specs.declared.rows.CatRow.{CatRow}
 use Rattle.rubis_schema.specs.declared.rows.Row.{Row}
+use Rattle.rubis_schema.specs.declared.rows.Row.TheVariants as row
 use Rattle.rubis_shadow.specs.Tables.{rows_of}
-use Rattle.rubis_model.specs.Listings.{is_of, records_of, row_record, table_rows}
-use Rattle.rubis_shard.specs.Listed.{listed_of}
+use Rattle.rubis_model.specs.Listings.{category_record, is_of, records_of, row_record, table_rows}
+use Rattle.rubis_shard.specs.Listed.{categories_among, categories_of, listed_of, shown_among, shows}
 
 abbrev pub Entries : Type 0
 Entries = List (RowKey × Row)
@@ -111,3 +114,54 @@ again h p (e ∷ es) = by (p e) refl (again h p es)
 pub listed_records : (l : Listing) (t : Table) (m : Tables) → records_of l (listed_of l t m) ≡ records_of l (rows_of t m)
 listed_records l t m = ap (flat_map (λ (e : RowKey × Row). row_record e.0 e.1))
     (again (λ e. holds t e.0) (λ e. is_of l e.0 e.1) (map.entries m))
+
+-- ---- rows without a record
+
+no_record : (l : Listing) (e : RowKey × Row) → row_record e.0 e.1 ≡ [] → records_of l (e ∷ []) ≡ []
+no_record l e none = elim (is_of l e.0 e.1) as (λ b. flat_map (λ (x : RowKey × Row). row_record x.0 x.1) (cond b (e ∷ []) []) ≡ []) [
+  | true ↦ ap (λ (rows : List (List (List ℕ))). rows ++ []) none
+  | false ↦ refl
+]
+
+of_category : (k : RowKey) (c : CatRow) → shows_nothing c ≡ true → row_record k (row.Cat c) ≡ []
+of_category (key.Cat n) c nothing = ap (λ b. cond b [] (category_record n c ∷ [])) nothing
+of_category k c nothing = refl
+
+nothing_shown : (b : Bool) → not b ≡ false → b ≡ true
+nothing_shown true e = refl
+nothing_shown false e = sym e
+
+-- a row that listings don't show has no record
+unshown : (k : RowKey) (r : Row) → shows r ≡ false → row_record k r ≡ []
+unshown k (row.Cat c) e = of_category k c (nothing_shown (shows_nothing c) e)
+unshown k r e = absurd cc
+
+one_record : (l : Listing) (e : RowKey × Row) (xs ys : Entries) → records_of l xs ≡ records_of l ys → records_of l (e ∷ xs) ≡ records_of l (e ∷ ys)
+one_record l e xs ys same =
+    records_append l (e ∷ []) xs ∙ ap (λ rows. records_of l (e ∷ []) ++ rows) same ∙ sym (records_append l (e ∷ []) ys)
+
+-- one row more, shown or not, of the table or of another
+one_category : (l : Listing) (e : RowKey × Row) (has is : Bool) (xs ys : Entries) → (is ≡ false → row_record e.0 e.1 ≡ []) → records_of l xs ≡ records_of l ys
+    → records_of l (cond is (cond has (e ∷ xs) xs) xs) ≡ records_of l (cond has (e ∷ ys) ys)
+one_category l e true true xs ys none same = one_record l e xs ys same
+one_category l e false true xs ys none same = same
+one_category l e true false xs ys none same =
+    same ∙ ap (λ rows. rows ++ records_of l ys) (sym (no_record l e (none refl))) ∙ sym (records_append l (e ∷ []) ys)
+one_category l e false false xs ys none same = same
+
+shown_first : (is : Bool) (e : RowKey × Row) (es : Entries)
+    → filter (λ (x : RowKey × Row). holds table.Cats x.0) (cond is (e ∷ es) es)
+    ≡ cond is (cond (holds table.Cats e.0) (e ∷ filter (λ (x : RowKey × Row). holds table.Cats x.0) es) (filter (λ (x : RowKey × Row). holds table.Cats x.0) es)) (filter (λ (x : RowKey × Row). holds table.Cats x.0) es)
+shown_first true e es = refl
+shown_first false e es = refl
+
+shown_records : (l : Listing) (es : Entries) → records_of l (categories_among es) ≡ records_of l (filter (λ (e : RowKey × Row). holds table.Cats e.0) es)
+shown_records l [] = refl
+shown_records l (e ∷ es) =
+    ap (records_of l) (shown_first (shows e.1) e (shown_among es))
+    ∙ one_category l e (holds table.Cats e.0) (shows e.1) (categories_among es) (filter (λ (x : RowKey × Row). holds table.Cats x.0) es)
+    (unshown e.0 e.1) (shown_records l es)
+
+-- the categories that listings show have the records of all
+pub categories_records : (l : Listing) (m : Tables) → records_of l (categories_of m) ≡ records_of l (rows_of table.Cats m)
+categories_records l m = shown_records l (map.entries m)

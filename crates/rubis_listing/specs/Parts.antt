@@ -1,15 +1,34 @@
 -- The rows of a listing, in parts.
-use Rattle.std.specs.Prelude.{ℕ, ◌*◌, ◌≡◌, List, [], ◌∷◌, drop, take}
-use Rattle.rubis_schema.specs.declared.listings.Listing.{Listing}
-use Rattle.rubis_schema.specs.declared.row_keys.RowKey.{RowKey}
-use Rattle.rubis_schema.specs.declared.rows.Row.{Row}
-use Rattle.rubis_model.specs.Listings.{records_of}
+use Rattle.std.specs.Prelude.{ℕ, ◌+◌, ◌*◌, ◌-◌, ◌≡◌, List, [], ◌∷◌, length, map as each, min, slice_range}
+use Rattle.rubis_model.specs.Listings.{log_from, misfit_rows, records_of}
+use Rattle.rubis_shard.specs.Written.{shown}
+use Rattle.rubis_listing.specs.declared.sources.Source.{Source}
+use Rattle.rubis_listing.specs.declared.sources.Source.TheVariants.{Rows, Log, Misfits}
 
--- a part is of 512 rows, but for the last one
-abbrev pub rows_of_part : {A : Type 0} → ℕ → List A → List A
-rows_of_part at rows = take 512 (drop (at * 512) rows)
+-- how many there are to make rows of
+abbrev pub size_of : Source → ℕ
+size_of (Rows l rows) = length rows.now
+size_of (Log log) = length log.now
+size_of (Misfits ms) = length ms.now
 
--- each part holds the records of the next rows, and all parts those of all rows
-abbrev pub AreParts : {S : Type 0} → (List (List (List ℕ)) → S → Type 0) → Listing → List (RowKey × Row) → List S → Type 0
-AreParts holds l rows [] = rows ≡ []
-AreParts holds l rows (part ∷ parts) = holds (records_of l (take 512 rows)) part × AreParts holds l (drop 512 rows) parts
+-- the rows that are made of those from a place on, up to another
+abbrev pub between : Source → ℕ → ℕ → List (List (List ℕ))
+between (Rows l rows) from upto = records_of l.now (each shown (slice_range rows.now from upto))
+between (Log log) from upto = log_from (from + 1) (slice_range log.now from upto)
+between (Misfits ms) from upto = misfit_rows (slice_range ms.now from upto)
+
+abbrev pub all_of : Source → List (List (List ℕ))
+all_of s = between s 0 (size_of s)
+
+-- the place behind a part, which is of 512 rows or of those that are left
+abbrev pub behind : ℕ → ℕ → ℕ
+behind at upto = at + min 512 (upto - at)
+
+-- a part of the rows from a place on, up to another
+abbrev pub rows_of_part : Source → ℕ → ℕ → ℕ → List (List (List ℕ))
+rows_of_part s from upto at = between s (from + at * 512) (behind (from + at * 512) upto)
+
+-- each part holds the next rows, and all parts those up to the end
+abbrev pub AreParts : {S : Type 0} → (List (List (List ℕ)) → S → Type 0) → Source → ℕ → ℕ → List S → Type 0
+AreParts holds s at upto [] = at ≡ upto
+AreParts holds s at upto (part ∷ parts) = holds (between s at (behind at upto)) part × AreParts holds s (behind at upto) upto parts

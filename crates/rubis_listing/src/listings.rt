@@ -1,14 +1,16 @@
 //! The listings of the tables.
 
-ghost use Rattle.std.specs.Prelude.{◌≡◌, ◌∷◌, [], IfOk, OnOk, map as each};
+ghost use Rattle.std.specs.Prelude.{◌≡◌, ◌≤◌, ◌∷◌, ◌++◌, [], IfOk, OnOk, length, map as each, slice_range};
 ghost use Rattle.rubis_schema.specs.declared.listings.Listing.TheVariants as Shown;
+ghost use Rattle.rubis_shadow.specs.Tables.{rows_of};
 ghost use Rattle.rubis_model.specs.Listings.{records_of, table_rows};
 ghost use Rattle.rubis_shard.specs.Holdings.{union};
 ghost use Rattle.rubis_shard.specs.Written.{shown};
 ghost use Rattle.rubis_listing.specs.ByTable.{tables_of};
 
 use crate::records::put_record;
-use crate::shared::put_rows_shared;
+use crate::shared::put_shared;
+use crate::sources::Source;
 use rubis_schema::{Fields, Id, Items, Listing, Row, RowKey, RowSink, SharedSink, Table};
 use rubis_shard::{Tables, selects};
 use std::alloc::{AllocError, Global};
@@ -46,6 +48,22 @@ pub fn put_rows<S: RowSink>(
     Ok(())
 }
 
+// Adds those of the rows from a place on, up to another, that match the listing.
+pub fn put_rows_between<S: RowSink>(
+    alloc: Global,
+    sink: &mut S,
+    listing: &Listing,
+    rows: &[(RowKey, &Row)],
+    from: usize,
+    upto: usize,
+) -> Result<(), AllocError>
+    requires from { from ≤ upto }
+    requires upto { upto ≤ length rows.now }
+    ensures { OnOk result (S.adds (records_of listing.now (each shown (slice_range rows.now from upto))) sink.old sink.new) }
+{
+    put_rows(alloc, sink, listing, &rows[from..upto])
+}
+
 // The tables whose rows a listing shows, in the order of their keys.
 fn tables_of(listing: &Listing) -> &'static [Table]
     ensures { result.now ≡ tables_of listing.now }
@@ -69,6 +87,22 @@ fn tables_of(listing: &Listing) -> &'static [Table]
     }
 }
 
+// The rows of one table that a listing shows, and maybe others that have no record there, in key order. Of the categories only
+// those are looked up that have a record, so that the others need not be put in order.
+fn rows_in<'a>(
+    alloc: Global,
+    table: Table,
+    listing: &Listing,
+    tables: &'a Tables,
+) -> Result<Vec<(RowKey, &'a Row)>, AllocError>
+    ensures { IfOk result (λ rows. records_of listing.now (each shown rows.items) ≡ records_of listing.now (rows_of table (union tables.now))) }
+{
+    match table {
+        Table::Cats => tables.categories(alloc),
+        _ => tables.listed(alloc, table, listing),
+    }
+}
+
 /// Adds the rows of a listing of the tables, in key order. Those of the log and of misfits show no rows of tables.
 pub fn list_tables<S: RowSink>(
     alloc: Global,
@@ -79,14 +113,45 @@ pub fn list_tables<S: RowSink>(
     ensures { OnOk result (S.adds (table_rows listing.now (union tables.now)) sink.old sink.new) }
 {
     for table in tables_of(listing) {
-        let rows = tables.listed(alloc, *table, listing)?;
+        let rows = rows_in(alloc, *table, listing, tables)?;
         put_rows(alloc, sink, listing, &rows)?;
     }
     Ok(())
 }
 
-/// Adds the rows of a listing of the tables as `list_tables` does. Where at least SHARED_MIN rows of a table are listed, as many
-/// threads as there are processors make them, in parts, and the caller's thread adds the parts.
+// Some rows, and others after them.
+fn with_rows<'a>(
+    rows: Vec<(RowKey, &'a Row)>,
+    others: Vec<(RowKey, &'a Row)>,
+) -> Result<Vec<(RowKey, &'a Row)>, AllocError>
+    ensures { IfOk result (λ all. all.items ≡ rows.entry.items ++ others.entry.items) }
+{
+    if rows.is_empty() {
+        return Ok(others);
+    }
+    let (mut all, mut others) = (rows, others);
+    all.append(&mut others)?;
+    Ok(all)
+}
+
+// The rows of all tables that a listing shows, and maybe others that have no record there, in key order.
+fn rows_of_all<'a>(
+    alloc: Global,
+    listing: &Listing,
+    tables: &'a Tables,
+) -> Result<Vec<(RowKey, &'a Row)>, AllocError>
+    ensures { IfOk result (λ rows. records_of listing.now (each shown rows.items) ≡ table_rows listing.now (union tables.now)) }
+{
+    let mut all = Vec::new(alloc);
+    for table in tables_of(listing) {
+        let rows = rows_in(alloc, *table, listing, tables)?;
+        all = with_rows(all, rows)?;
+    }
+    Ok(all)
+}
+
+/// Adds the rows of a listing of the tables as `list_tables` does. Where at least SHARED_MIN rows are listed, of whichever tables, as
+/// many threads as there are processors make them, in parts, and the caller's thread adds the parts.
 pub fn list_tables_shared<S: SharedSink, R: Threads + Sync>(
     rt: &R,
     alloc: Global,
@@ -96,11 +161,8 @@ pub fn list_tables_shared<S: SharedSink, R: Threads + Sync>(
 ) -> Result<(), AllocError>
     ensures { OnOk result (S.adds (table_rows listing.now (union tables.now)) sink.old sink.new) }
 {
-    for table in tables_of(listing) {
-        let rows = tables.listed(alloc, *table, listing)?;
-        put_rows_shared(rt, alloc, sink, listing, &rows)?;
-    }
-    Ok(())
+    let rows = rows_of_all(alloc, listing, tables)?;
+    put_shared(rt, alloc, sink, &Source::Rows(listing, rows.as_slice()))
 }
 
 // The rows of a listing of the tables as a list.

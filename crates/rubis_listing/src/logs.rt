@@ -1,12 +1,15 @@
 //! The listings of the log and of what didn't fit.
 
-ghost use Rattle.std.specs.Prelude.{◌≡◌, ◌++◌, ◌≤◌, ◌∷◌, [], IfOk, OnOk, length};
-ghost use Rattle.rubis_model.specs.Listings.{kind_name, log_record, log_rows, misfit_record, misfit_rows as rows_of_misfits};
+ghost use Rattle.std.specs.Prelude.{◌≡◌, ◌+◌, ◌++◌, ◌≤◌, ◌∷◌, [], IfOk, OnOk, length, slice_range};
+ghost use Rattle.rubis_model.specs.Listings.{kind_name, log_from, log_record, log_rows, misfit_record, misfit_rows as rows_of_misfits};
 
+use crate::shared::put_shared;
+use crate::sources::Source;
 use rubis_message::{Message, append_message};
-use rubis_schema::{Fields, Items, RowSink, push_number};
+use rubis_schema::{Fields, Items, RowSink, SharedSink, push_number};
 use rubis_shadow::{Misfit, MisfitKind};
 use std::alloc::{AllocError, Global};
+use std::thread::Threads;
 
 // The record of a message that is that entry of the log.
 fn put_entry(fields: &mut Fields, entry: u64, message: &Message) -> Result<(), AllocError>
@@ -19,16 +22,44 @@ fn put_entry(fields: &mut Fields, entry: u64, message: &Message) -> Result<(), A
     append_message(fields, message)
 }
 
-/// Adds the rows of a log, in its order, with entries from 1.
-pub fn list_log<S: RowSink>(alloc: Global, sink: &mut S, log: &[Message]) -> Result<(), AllocError>
-    ensures { OnOk result (S.adds (log_rows log.now) sink.old sink.new) }
+// Adds the rows of the messages of a log from a place on, up to another. The entry of a message is its place, counted from 1.
+pub fn put_entries<S: RowSink>(
+    alloc: Global,
+    sink: &mut S,
+    log: &[Message],
+    from: usize,
+    upto: usize,
+) -> Result<(), AllocError>
+    requires from { from ≤ upto }
+    requires upto { upto ≤ length log.now }
+    ensures { OnOk result (S.adds (log_from (from + 1) (slice_range log.now from upto)) sink.old sink.new) }
 {
     let mut record = Fields::new(alloc);
-    for place in 0..log.len() {
+    for place in from..upto {
         put_entry(&mut record, place as u64 + 1, &log[place])?;
         sink.put(&record)?;
     }
     Ok(())
+}
+
+/// Adds the rows of a log, in its order, with entries from 1.
+pub fn list_log<S: RowSink>(alloc: Global, sink: &mut S, log: &[Message]) -> Result<(), AllocError>
+    ensures { OnOk result (S.adds (log_rows log.now) sink.old sink.new) }
+{
+    put_entries(alloc, sink, log, 0, log.len())
+}
+
+/// Adds the rows of a log as `list_log` does. Of SHARED_MIN messages or more, as many threads as there are processors make them,
+/// in parts, and the caller's thread adds the parts.
+pub fn list_log_shared<S: SharedSink, R: Threads + Sync>(
+    rt: &R,
+    alloc: Global,
+    sink: &mut S,
+    log: &[Message],
+) -> Result<(), AllocError>
+    ensures { OnOk result (S.adds (log_rows log.now) sink.old sink.new) }
+{
+    put_shared(rt, alloc, sink, &Source::Log(log))
 }
 
 // The word for why a part didn't fit.
@@ -71,6 +102,34 @@ pub fn list_misfits<S: RowSink>(
         sink.put(&record)?;
     }
     Ok(())
+}
+
+// Adds the rows of misfits from a place on, up to another.
+pub fn put_misfits<S: RowSink>(
+    alloc: Global,
+    sink: &mut S,
+    misfits: &[Misfit],
+    from: usize,
+    upto: usize,
+) -> Result<(), AllocError>
+    requires from { from ≤ upto }
+    requires upto { upto ≤ length misfits.now }
+    ensures { OnOk result (S.adds (rows_of_misfits (slice_range misfits.now from upto)) sink.old sink.new) }
+{
+    list_misfits(alloc, sink, &misfits[from..upto])
+}
+
+/// Adds the rows of misfits as `list_misfits` does. Of SHARED_MIN misfits or more, as many threads as there are processors make
+/// them, in parts, and the caller's thread adds the parts.
+pub fn list_misfits_shared<S: SharedSink, R: Threads + Sync>(
+    rt: &R,
+    alloc: Global,
+    sink: &mut S,
+    misfits: &[Misfit],
+) -> Result<(), AllocError>
+    ensures { OnOk result (S.adds (rows_of_misfits misfits.now) sink.old sink.new) }
+{
+    put_shared(rt, alloc, sink, &Source::Misfits(misfits))
 }
 
 /// The messages of a log, in its order, with entries from 1.

@@ -1,14 +1,12 @@
 //! Rows of a listing that several threads make.
 
-ghost use Rattle.std.specs.Prelude.{◌≡◌, ◌*◌, ◌≤◌, IfOk, OnOk, length, map as each};
-ghost use Rattle.rubis_model.specs.Listings.{records_of};
-ghost use Rattle.rubis_shard.specs.Written.{shown};
-ghost use Rattle.rubis_listing.specs.Parts.{AreParts, rows_of_part};
+ghost use Rattle.std.specs.Prelude.{◌≡◌, ◌+◌, ◌*◌, ◌≤◌, IfOk, OnOk};
+ghost use Rattle.rubis_listing.specs.Parts.{all_of, between, rows_of_part, size_of, AreParts};
 
-use crate::listings::put_rows;
+use crate::sources::Source;
 use rayon::current_num_threads;
 use rayon::prelude::*;
-use rubis_schema::{Listing, Row, RowKey, SharedSink};
+use rubis_schema::SharedSink;
 use std::alloc::{AllocError, Global};
 use std::thread::Threads;
 
@@ -21,19 +19,21 @@ const PART: usize = 512;
 // The rows of at most this many are in parts at once.
 const RANGE: usize = 65_536;
 
-// The rows of a part, in a sink of their own.
+// The rows of a part, in a sink of their own: part `at` of those from a place on, up to another.
 fn make_part<S: SharedSink>(
     alloc: Global,
-    listing: &Listing,
-    rows: &[(RowKey, &Row)],
+    source: &Source<'_>,
+    from: usize,
+    upto: usize,
     at: usize,
 ) -> Result<S, AllocError>
-    requires { at * 512 ≤ length rows.now }
-    ensures { IfOk result (S.holds (records_of listing.now (rows_of_part at (each shown rows.now)))) }
+    requires place { from + at * 512 ≤ upto }
+    requires upto { upto ≤ size_of source.now }
+    ensures { IfOk result (S.holds (rows_of_part source.now from upto at)) }
 {
+    let first = from + at * PART;
     let mut part = S::empty(alloc);
-    let rest = &rows[at * PART..];
-    put_rows(alloc, &mut part, listing, &rest[..PART.min(rest.len())])?;
+    source.put(alloc, &mut part, first, first + PART.min(upto - first))?;
     Ok(part)
 }
 
@@ -41,19 +41,22 @@ fn make_part<S: SharedSink>(
 fn make_parts<S: SharedSink, R: Threads + Sync>(
     rt: &R,
     alloc: Global,
-    listing: &Listing,
-    rows: &[(RowKey, &Row)],
+    source: &Source<'_>,
+    from: usize,
+    upto: usize,
 ) -> Result<Vec<S>, AllocError>
-    ensures { IfOk result (λ parts. AreParts S.holds listing.now (each shown rows.now) parts.items) }
+    requires from { from ≤ upto }
+    requires upto { upto ≤ size_of source.now }
+    ensures { IfOk result (λ parts. AreParts S.holds source.now from upto parts.items) }
 {
-    let parts: Result<Vec<S>, AllocError> = (0..rows.len() / PART + 1)
+    let parts: Result<Vec<S>, AllocError> = (0..(upto - from) / PART + 1)
         .into_par_iter()
         .with_min_len(1)
         .map(
             |at: usize| -> Result<S, AllocError>
-                requires { at * 512 ≤ length rows.now }
-                ensures { IfOk result (S.holds (records_of listing.entry.now (rows_of_part at (each shown rows.entry.now)))) }
-            { make_part(alloc, listing, rows, at) },
+                requires { (from + at * 512 ≤ upto) × (upto ≤ size_of source.now) }
+                ensures { IfOk result (S.holds (rows_of_part source.entry.now from upto at)) }
+            { make_part(alloc, source, from, upto, at) },
         )
         .collect(rt, alloc)?;
     parts
@@ -62,12 +65,15 @@ fn make_parts<S: SharedSink, R: Threads + Sync>(
 // Adds the rows of all parts.
 fn put_parts<S: SharedSink>(
     sink: &mut S,
-    listing: &Listing,
-    rows: &[(RowKey, &Row)],
+    source: &Source<'_>,
+    from: usize,
+    upto: usize,
     parts: Vec<S>,
 ) -> Result<(), AllocError>
-    requires { AreParts S.holds listing.now (each shown rows.now) parts.items }
-    ensures { OnOk result (S.adds (records_of listing.now (each shown rows.now)) sink.old sink.new) }
+    requires from { from ≤ upto }
+    requires upto { upto ≤ size_of source.now }
+    requires parts { AreParts S.holds source.now from upto parts.items }
+    ensures { OnOk result (S.adds (between source.now from upto) sink.old sink.new) }
 {
     for part in parts {
         sink.append(part)?;
@@ -75,40 +81,38 @@ fn put_parts<S: SharedSink>(
     Ok(())
 }
 
-// Adds those of some rows that match the listing, a range at a time.
+// Adds all rows, a range at a time.
 fn put_ranges<S: SharedSink, R: Threads + Sync>(
     rt: &R,
     alloc: Global,
     sink: &mut S,
-    listing: &Listing,
-    rows: &[(RowKey, &Row)],
+    source: &Source<'_>,
 ) -> Result<(), AllocError>
-    ensures { OnOk result (S.adds (records_of listing.now (each shown rows.now)) sink.old sink.new) }
+    ensures { OnOk result (S.adds (all_of source.now) sink.old sink.new) }
 {
+    let end = source.len();
     let mut at = 0;
-    while at < rows.len() {
-        let upto = at + RANGE.min(rows.len() - at);
-        let range = &rows[at..upto];
-        let parts = make_parts(rt, alloc, listing, range)?;
-        put_parts(sink, listing, range, parts)?;
+    while at < end {
+        let upto = at + RANGE.min(end - at);
+        let parts = make_parts(rt, alloc, source, at, upto)?;
+        put_parts(sink, source, at, upto, parts)?;
         at = upto;
     }
     Ok(())
 }
 
-/// Adds those of some rows that match the listing. Of SHARED_MIN rows or more, several threads make the rows, where there are
-/// several processors.
-pub fn put_rows_shared<S: SharedSink, R: Threads + Sync>(
+/// Adds all rows. Of SHARED_MIN or more, several threads make the rows, where there are several processors.
+pub fn put_shared<S: SharedSink, R: Threads + Sync>(
     rt: &R,
     alloc: Global,
     sink: &mut S,
-    listing: &Listing,
-    rows: &[(RowKey, &Row)],
+    source: &Source<'_>,
 ) -> Result<(), AllocError>
-    ensures { OnOk result (S.adds (records_of listing.now (each shown rows.now)) sink.old sink.new) }
+    ensures { OnOk result (S.adds (all_of source.now) sink.old sink.new) }
 {
-    if rows.len() < SHARED_MIN || current_num_threads(rt) < 2 {
-        return put_rows(alloc, sink, listing, rows);
+    let end = source.len();
+    if end < SHARED_MIN || current_num_threads(rt) < 2 {
+        return source.put(alloc, sink, 0, end);
     }
-    put_ranges(rt, alloc, sink, listing, rows)
+    put_ranges(rt, alloc, sink, source)
 }

@@ -1,13 +1,10 @@
 -- Parts dealt to the shares of their homes, one after the other.
-use Rattle.std.proofs.Common.{ℕ, ◌≡◌, ◌+◌, ◌<◌, List, [], ◌∷◌, ◌++◌, length, take, get_or, set, cond, refl, sym, ap, ◌∙◌, subst}
+use Rattle.std.proofs.Common.{ℕ, ◌≡◌, ◌+◌, ◌<◌, List, [], ◌∷◌, ◌++◌, length, take, get_or, set, cond, sym, ap, ◌∙◌, subst}
 use Rattle.std.proofs.Common.{arith, append_assoc, length-set, ⊎_elim}
-use Rattle.std.specs.Prelude.{Some, None, Ok, Err, IfOk, MatchResult, map, slice_get}
+use Rattle.std.specs.Prelude.{Some, None, Ok, Err, IfOk, MatchResult, slice_get}
 use Rattle.std.proofs.lemmas.Bool.{cases_eq, cases_lt}
 use Rattle.std.proofs.lemmas.Bool.Decides.{Decides-eqb}
-use Rattle.std.specs.List.{AllZip, range_with_len}
-use Rattle.std.specs.declared.alloc.AllocError.{AllocError}
 use Rattle.std.specs.declared.result.Result.{Result}
-use Rattle.std.proofs.lemmas.List.FromFn.{get_or-map-range_with_len, length-map-range_with_len}
 use Rattle.std.proofs.lemmas.List.{append-nil, take_more, take_all, length-map, length-take-le}
 use Rattle.std.proofs.lemmas.Option.{slice_get-get_or, slice_get_within, get_or_from_slice_get}
 use Rattle.rubis_schema.specs.Keys.{home}
@@ -26,7 +23,7 @@ use Rattle.rubis_shard.specs.declared.shares.Share.{Share}
 use Rattle.rubis_shard.proofs.Folds.{not_equal}
 use Rattle.rubis_shard.proofs.Parts.{parts_at_append}
 use Rattle.rubis_shard.proofs.Items.{written_here, written_elsewhere}
-use Rattle.rubis_pieces.specs.Shares.{AreDealt, AreShares, share_at}
+use Rattle.rubis_pieces.specs.Shares.{AreDealt}
 
 -- ---- one part
 here : (shards k : ℕ) (ns : List Numbered) (n : Numbered) → home shards n.effect.key ≡ k
@@ -138,44 +135,11 @@ pub message_end : (shards entry i : ℕ) (m : Core) (a l : List Share) → i ≡
 message_end shards entry i m a l end inv =
     subst (λ fs. IsDealtTo shards (number_parts entry 1 m.id fs) a l) (all_places m i end) inv
 
--- ---- the parts of one message whose home is one shard
--- after some effects, the parts before a place whose home it is
+-- ---- the messages of a batch
+-- after some parts, those of others whose home is a shard
 abbrev pub IsTakenTo : ℕ → ℕ → List Numbered → List Numbered → List Numbered → Type 0
 IsTakenTo shards k ps a b = b ≡ a ++ parts_at shards k ps
 
-pub take_here : (shards k entry i : ℕ) (id : Id) (es : List Effect) (e f : Effect) (a l b : List Numbered)
-    → Some e ≡ slice_get es i → f ≡ e → home shards f.key ≡ k
-    → b ≡ l ++ record { entry = entry; part = i + 1; id = id; effect = f } ∷ []
-    → IsTakenTo shards k (number_parts entry 1 id (take i es)) a l
-    → IsTakenTo shards k (number_parts entry 1 id (take (i + 1) es)) a b
-take_here shards k entry i id es e f a l b there copied at pushed inv =
-    let n : Numbered = record { entry = entry; part = i + 1; id = id; effect = f } in
-    pushed ∙ ap (λ x. x ++ n ∷ []) inv ∙ append_assoc a _ (n ∷ [])
-    ∙ ap (λ ps. a ++ ps) (sym (here shards k (number_parts entry 1 id (take i es)) n at)
-    ∙ ap (parts_at shards k) (sym (next_part entry i id es e f there copied)))
-
-pub take_elsewhere : (shards k entry i : ℕ) (id : Id) (es : List Effect) (e : Effect) (a l : List Numbered)
-    → Some e ≡ slice_get es i → ¬ (home shards e.key ≡ k)
-    → IsTakenTo shards k (number_parts entry 1 id (take i es)) a l
-    → IsTakenTo shards k (number_parts entry 1 id (take (i + 1) es)) a l
-take_elsewhere shards k entry i id es e a l there other inv =
-    let n : Numbered = record { entry = entry; part = i + 1; id = id; effect = e } in
-    inv ∙ ap (λ ps. a ++ ps) (sym (elsewhere shards k (number_parts entry 1 id (take i es)) n other)
-    ∙ ap (parts_at shards k) (sym (next_part entry i id es e e there refl)))
-
-pub take_past : (shards k entry i : ℕ) (id : Id) (es : List Effect) (a l : List Numbered) → None ≡ slice_get es i
-    → IsTakenTo shards k (number_parts entry 1 id (take i es)) a l
-    → IsTakenTo shards k (number_parts entry 1 id (take (i + 1) es)) a l
-take_past shards k entry i id es a l there inv = inv
-    ∙ ap (λ ps. a ++ parts_at shards k ps) (sym (no_part entry i id es there))
-
-pub take_end : (shards k entry i : ℕ) (m : Core) (a l : List Numbered) → i ≡ 3
-    → IsTakenTo shards k (number_parts entry 1 m.id (take i (parts_of m))) a l
-    → IsTakenTo shards k (number_parts entry 1 m.id (parts_of m)) a l
-take_end shards k entry i m a l end inv = inv
-    ∙ ap (λ fs. a ++ parts_at shards k (number_parts entry 1 m.id fs)) (all_places m i end)
-
--- ---- the messages of a batch
 -- one message more
 more_messages : (first i : ℕ) (batch : List Message) (x : Message) (m : LogEntry) → i < length batch
     → x ≡ get_or batch i x → m.number ≡ first + i → core_of m ≡ core x
@@ -206,27 +170,6 @@ share_turn shards k first i batch x m l b lt got counted is h turn =
     turn ∙ ap (λ qs. qs ++ parts_at shards k (numbered_of m)) h
     ∙ sym (parts_at_append shards k (numbered_from first (cores (take i batch))) (numbered_of m))
     ∙ ap (parts_at shards k) (sym (more_messages first i batch x m lt got counted is))
-
--- ---- the shares made one by one
-pub shares_of_each : (shards first : ℕ) (batch : List Core) (shares : List Share)
-    → shares ≡ map (share_at shards (numbered_from first batch)) (range_with_len 0 shards) → AreShares shards first batch shares
-shares_of_each shards first batch shares is = record {
-  many = ap length is ∙ length-map-range_with_len f 0 shards;
-  each = λ k lt.
-      let within : k < length (map f (range_with_len 0 shards)) = let m = length-map-range_with_len f 0 shards in omega (arith, m, lt) in
-      ap (λ l. slice_get l k) is ∙ slice_get-get_or (map f (range_with_len 0 shards)) k (f k) within
-      ∙ ap Some (get_or-map-range_with_len f 0 shards k k (f k) lt (omega arith));
-}
-  where
-    f : ℕ → Share
-    f = share_at shards (numbered_from first batch)
-
-pub made_each : (f : ℕ → Share) (ks : List ℕ) (shares : List Share)
-    → AllZip (λ k (r : Result Share AllocError). IfOk r (λ share. share ≡ f k)) ks (map Ok shares) → shares ≡ map f ks
-made_each f [] [] h = refl
-made_each f [] (s ∷ ss) h = absurd h
-made_each f (k ∷ ks) [] h = absurd h
-made_each f (k ∷ ks) (s ∷ ss) h = λ i. h.0 i ∷ made_each f ks ss h.1 i
 
 -- what follows where there is no error
 pub if_ok : {T E : Type 0} (r : Result T E) (P Q : T → Type 0) (R : E → Type 0) → MatchResult r P R → ((v : T) → P v → Q v) → IfOk r Q

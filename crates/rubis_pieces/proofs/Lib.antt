@@ -1,4 +1,5 @@
 pub mod Dealt
+mod Joined
 pub mod Walk
 pub mod Sorting
 pub mod Order

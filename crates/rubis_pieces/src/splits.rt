@@ -1,23 +1,25 @@
 //! A batch of messages cut into a share for each shard.
 
-ghost use Rattle.std.specs.Prelude.{◌≡◌, ◌+◌, ◌<◌, ◌≤◌, List, ◌∷◌, [], ◌++◌, length, IfOk, OnOk};
+ghost use Rattle.std.specs.Prelude.{◌≡◌, ℕ, ◌+◌, ◌*◌, ◌<◌, ◌≤◌, List, ◌∷◌, [], ◌++◌, length, IfOk, OnOk};
 ghost use Rattle.rubis_shadow.specs.declared.numbered.Numbered.{Numbered};
-ghost use Rattle.rubis_model.specs.Log.{cores, numbered_from};
+ghost use Rattle.rubis_model.specs.Log.{cores};
 ghost use Rattle.rubis_shard.specs.Entries.{numbered_of};
-ghost use Rattle.rubis_shard.specs.Holdings.{parts_at};
-ghost use Rattle.rubis_pieces.specs.Shares.{AreDealt, AreShares, share_at};
+ghost use Rattle.rubis_pieces.specs.Shares.{AreDealt, AreOfParts, AreShares, part_of};
 
-use rayon::current_num_threads;
 use rayon::prelude::*;
 use rubis_message::Message;
 use rubis_schema::{Items, shard_of};
 use rubis_shadow::Numbered;
 use rubis_shard::{LogEntry, Share};
 use std::alloc::{AllocError, Global};
+use std::mem;
 use std::thread::Threads;
 
 /// From this many messages on, several threads make the shares of a batch.
 pub const SPLIT_MIN: usize = 2_048;
+
+// How many messages a thread cuts into shares at a time.
+const PART: usize = 1_024;
 
 // The room that a share begins with, for each message: most messages have two parts, and their homes are spread unevenly.
 const PARTS_ROOM: usize = 3;
@@ -59,6 +61,20 @@ fn deal_message(list: &mut Vec<Share>, entry: &LogEntry<'_>) -> Result<(), Alloc
     Ok(())
 }
 
+// Shares without parts, one for each shard, in order of number, each with room for so many.
+fn no_shares(alloc: Global, shards: usize, room: usize) -> Result<Vec<Share>, AllocError>
+    ensures { IfOk result (λ shares. AreDealt shards [] shares.items) }
+{
+    let mut list = Vec::with_capacity(alloc, shards)?;
+    for number in 0..shards {
+        list.push(Share {
+            number,
+            effects: Items::from(Vec::with_capacity(alloc, room)?),
+        })?;
+    }
+    Ok(list)
+}
+
 /// The shares of a batch, as `split` gives them, made by the caller's thread alone.
 ///
 /// # Errors
@@ -74,14 +90,7 @@ pub fn split_alone(
     requires entries { first + length batch.now ≤ 1000001 }
     ensures { IfOk result (λ shares. AreShares shards first (cores batch.now) shares.items) }
 {
-    let room = batch.len() / shards * PARTS_ROOM;
-    let mut list = Vec::with_capacity(alloc, shards)?;
-    for number in 0..shards {
-        list.push(Share {
-            number,
-            effects: Items::from(Vec::with_capacity(alloc, room)?),
-        })?;
-    }
+    let mut list = no_shares(alloc, shards, batch.len() / shards * PARTS_ROOM)?;
     let mut entry = first;
     for message in batch {
         deal_message(&mut list, &LogEntry::new(entry, message))?;
@@ -90,86 +99,103 @@ pub fn split_alone(
     Ok(list)
 }
 
-// Puts those parts of a message whose home is the shard last among its effects.
-fn take_parts(
-    effects: &mut Vec<Numbered>,
-    shards: usize,
-    number: usize,
-    entry: &LogEntry<'_>,
-) -> Result<(), AllocError>
-    requires { 0 < shards }
-    ensures { OnOk result (effects.new.items ≡ effects.old.items ++ parts_at shards number (numbered_of entry.now)) }
-{
-    for place in 0..3 {
-        let Some(effect) = entry.shadow.effect(entry.id, entry.red, place) else {
-            continue;
-        };
-        if shard_of(&effect.key(), shards) != number {
-            continue;
-        }
-        let effect = effect.own(*effects.allocator())?;
-        effects.push(Numbered {
-            entry: entry.number,
-            part: place + 1,
-            id: entry.id,
-            effect,
-        })?;
-    }
-    Ok(())
-}
-
-// The share of one shard of a batch.
-fn share_of(
+// The shares of one part of a batch: of at most PART messages, from place `at` times PART on.
+fn split_part(
     alloc: Global,
     batch: &[Message],
     first: u32,
     shards: usize,
-    number: usize,
-) -> Result<Share, AllocError>
+    at: usize,
+) -> Result<Vec<Share>, AllocError>
     requires shards { 0 < shards }
     requires entries { first + length batch.now ≤ 1000001 }
-    ensures { IfOk result (λ share. share ≡ share_at shards (numbered_from first (cores batch.now)) number) }
+    requires place { at * 1024 ≤ length batch.now }
+    ensures { IfOk result (λ shares. AreShares shards (first + at * 1024) (part_of (at * 1024) (cores batch.now)) shares.items) }
 {
-    let mut effects = Vec::with_capacity(alloc, batch.len() / shards * PARTS_ROOM)?;
-    for place in 0..batch.len() {
-        let entry = LogEntry::new(first + place as u32, &batch[place]);
-        take_parts(&mut effects, shards, number, &entry)?;
-    }
-    Ok(Share {
-        number,
-        effects: Items::from(effects),
-    })
+    let from = at * PART;
+    let rest = &batch[from..];
+    split_alone(
+        alloc,
+        &rest[..PART.min(rest.len())],
+        first + from as u32,
+        shards,
+    )
 }
 
-// The shares of a batch, as `split` gives them, each made by one of as many threads as there are processors.
-fn split_shared<R: Threads + Sync>(
+// The shares of all parts of a batch, each made by one of as many threads as there are processors.
+fn split_parts<R: Threads + Sync>(
     rt: &R,
     alloc: Global,
     batch: &[Message],
     first: u32,
     shards: usize,
-) -> Result<Vec<Share>, AllocError>
+) -> Result<Vec<Vec<Share>>, AllocError>
     requires shards { 0 < shards }
     requires entries { first + length batch.now ≤ 1000001 }
-    ensures { IfOk result (λ shares. AreShares shards first (cores batch.now) shares.items) }
+    ensures { IfOk result (λ parts. AreOfParts shards first (cores batch.now) parts.items) }
 {
-    let shares: Result<Vec<Share>, AllocError> = (0..shards)
+    let parts: Result<Vec<Vec<Share>>, AllocError> = (0..batch.len() / PART + 1)
         .into_par_iter()
         .with_min_len(1)
         .map(
-            |number: usize| -> Result<Share, AllocError>
-                requires { (0 < shards) × (first + length batch.now ≤ 1000001) }
-                ensures { IfOk result (λ share. share ≡ share_at shards (numbered_from first (cores batch.entry.now)) number) }
-            { share_of(alloc, batch, first, shards, number) },
+            |at: usize| -> Result<Vec<Share>, AllocError>
+                requires { (0 < shards) × (first + length batch.now ≤ 1000001) × (at * 1024 ≤ length batch.now) }
+                ensures { IfOk result (λ shares. AreShares shards (first + at * 1024) (part_of (at * 1024) (cores batch.entry.now)) shares.items) }
+            { split_part(alloc, batch, first, shards, at) },
         )
         .collect(rt, alloc)?;
-    shares
+    parts
+}
+
+// Puts the parts of a share last in another.
+fn add_share(alloc: Global, share: &mut Share, more: Share) -> Result<(), AllocError>
+    ensures { OnOk result (share.new ≡ record { number = share.old.number; effects = share.old.effects ++ more.effects }) }
+{
+    let mut more = more;
+    let mut others: Vec<Numbered> = mem::replace(&mut more.effects, Items::new(alloc)).into();
+    let mut all: Vec<Numbered> = mem::replace(&mut share.effects, Items::new(alloc)).into();
+    all.append(&mut others)?;
+    share.effects = Items::from(all);
+    Ok(())
+}
+
+// Puts the parts of each share last in the share of the same shard.
+fn add_shares(alloc: Global, list: &mut Vec<Share>, shares: Vec<Share>) -> Result<(), AllocError>
+    requires { length list.old.items ≡ length shares.items }
+    ensures { OnOk result ((shards : ℕ) (ms ns : List Numbered) → AreDealt shards ms list.old.items → AreDealt shards ns shares.items
+        → AreDealt shards (ms ++ ns) list.new.items) }
+{
+    let mut number = 0;
+    for share in shares {
+        add_share(alloc, &mut list[number], share)?;
+        number += 1;
+    }
+    Ok(())
+}
+
+// The shares of a batch, put together from those of its parts.
+fn join_parts(
+    alloc: Global,
+    batch: &[Message],
+    first: u32,
+    shards: usize,
+    parts: Vec<Vec<Share>>,
+) -> Result<Vec<Share>, AllocError>
+    requires shards { 0 < shards }
+    requires parts { AreOfParts shards first (cores batch.now) parts.items }
+    ensures { IfOk result (λ shares. AreShares shards first (cores batch.now) shares.items) }
+{
+    let mut list = no_shares(alloc, shards, batch.len() / shards * PARTS_ROOM)?;
+    for part in parts {
+        add_shares(alloc, &mut list, part)?;
+    }
+    Ok(list)
 }
 
 /// The shares of a batch, one for each of `shards` shards, in order of number: the parts whose home the shard is, in
 /// order of entry and part. The batch's first message is entry `first` of the log, from 1; no entry is above 1,000,000.
-/// From SPLIT_MIN messages on, several threads make the shares, if there are at least as many processors as shards: each looks at
-/// every message for each share that it makes.
+/// From SPLIT_MIN messages on, as many threads as there are processors make the shares of parts of the batch, which are then put
+/// together.
 pub fn split<R: Threads + Sync>(
     rt: &R,
     alloc: Global,
@@ -181,8 +207,9 @@ pub fn split<R: Threads + Sync>(
     requires entries { first + length batch.now ≤ 1000001 }
     ensures { IfOk result (λ shares. AreShares shards first (cores batch.now) shares.items) }
 {
-    if batch.len() < SPLIT_MIN || shards > current_num_threads(rt) {
+    if batch.len() < SPLIT_MIN {
         return split_alone(alloc, batch, first, shards);
     }
-    split_shared(rt, alloc, batch, first, shards)
+    let parts = split_parts(rt, alloc, batch, first, shards)?;
+    join_parts(alloc, batch, first, shards, parts)
 }

@@ -3,7 +3,7 @@
 ghost use Rattle.std.specs.Prelude.{◌≡◌, ◌≤◌, ◌<◌, ◌⊎◌, [], All, IfNone, IfOk, IfSome, OnOk, OnErr, length};
 ghost use Rattle.rubis_schema.specs.declared.limits.TheConstants.{KEEP_MAX, WORKERS_MAX};
 ghost use Rattle.rubis_message.specs.Message.{sites_of};
-ghost use Rattle.rubis_model.specs.Listings.{table_rows};
+ghost use Rattle.rubis_model.specs.Listings.{log_rows, misfit_rows, table_rows};
 ghost use Rattle.rubis_model.specs.Log.{cores};
 ghost use Rattle.rubis_workers.specs.Shard.{HoldsLog, union};
 ghost use Rattle.rubis_workers.specs.Pieces.{HoldsTo, StopWithin};
@@ -14,10 +14,13 @@ ghost use Rattle.rubis_replica.specs.Progress.{HasBegun, IsAhead, IsBetween, IsP
 ghost use Rattle.rubis_replica.specs.Counts.{IsCount};
 
 use crate::arriving::{Arrived, take_all};
-use rubis_listing::{list_tables, list_tables_shared};
+use rubis_listing::{
+    list_log, list_log_shared, list_misfits, list_misfits_shared, list_tables, list_tables_shared,
+};
 use rubis_message::Message;
 use rubis_release::Intake;
 use rubis_schema::{Hashes, Listing, SharedSink};
+use rubis_shadow::Misfit;
 use rubis_workers::{
     Gate, LogBatch, Pace, Tables, Workers, apply_batch, count_behind, count_parts, follow_rest,
 };
@@ -131,6 +134,36 @@ impl<G: Gate> Follower<G> {
             return list_tables(self.workers.alloc, sink, listing, &self.tables);
         }
         list_tables_shared(rt, self.workers.alloc, sink, listing, &self.tables)
+    }
+
+    /// Adds the rows of a log. Several threads make those of a long one, unless one worker is configured.
+    pub fn list_log_into<S: SharedSink, R: Threads + Sync>(
+        &self,
+        rt: &R,
+        log: &[Message],
+        sink: &mut S,
+    ) -> Result<(), AllocError>
+        ensures { OnOk result (S.adds (log_rows log.now) sink.old sink.new) }
+    {
+        if self.workers.most == 1 {
+            return list_log(self.workers.alloc, sink, log);
+        }
+        list_log_shared(rt, self.workers.alloc, sink, log)
+    }
+
+    /// Adds the rows of misfits. Several threads make those of many, unless one worker is configured.
+    pub fn list_misfits_into<S: SharedSink, R: Threads + Sync>(
+        &self,
+        rt: &R,
+        misfits: &[Misfit],
+        sink: &mut S,
+    ) -> Result<(), AllocError>
+        ensures { OnOk result (S.adds (misfit_rows misfits.now) sink.old sink.new) }
+    {
+        if self.workers.most == 1 {
+            return list_misfits(self.workers.alloc, sink, misfits);
+        }
+        list_misfits_shared(rt, self.workers.alloc, sink, misfits)
     }
 
     /// Whether a batch has begun and isn't whole.

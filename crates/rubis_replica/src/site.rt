@@ -17,7 +17,6 @@ use crate::config::Config;
 use crate::faults::Fault;
 use crate::follower::Follower;
 use rubis_generate::decide;
-use rubis_listing::{list_log, list_misfits};
 use rubis_message::{Arrival, Message, Taken, Token};
 use rubis_release::Intake;
 use rubis_schema::{Fields, Items, Listing, SharedSink};
@@ -251,10 +250,11 @@ impl<G: Gate> Site<G> {
         ensures { OnOk result (S.adds (listing_rows self.now.state.log (fold_of (cores self.now.state.log)) listing.now) sink.old sink.new) }
     {
         match listing {
-            Listing::Log => list_log(self.alloc, sink, self.intake.log()),
+            Listing::Log => self.follower.list_log_into(rt, self.intake.log(), sink),
             Listing::Misfits => {
                 let misfits = misfits(self.alloc, self.follower.tables())?;
-                list_misfits(self.alloc, sink, misfits.as_slice())
+                self.follower
+                    .list_misfits_into(rt, misfits.as_slice(), sink)
             }
             _ => self.follower.list_into(rt, listing, sink),
         }
@@ -280,7 +280,7 @@ impl<G: Gate> Site<G> {
             if self.follower.is_behind() {
                 return Err(Fault::Behind);
             }
-            return Ok(list_log(self.alloc, sink, self.intake.log())?);
+            return Ok(self.follower.list_log_into(rt, self.intake.log(), sink)?);
         }
         self.refresh(rt)?;
         self.follower.link_rows(listing)?;

@@ -77,4 +77,4 @@ module _ {K : Type 0} (same : K → K → Bool) (old new : List (K × Row)) (key
           let h = some was is in
           let left = h.stays stays in
           ap (λ es. chains_of (written f es)) left.2
-          ∙ chains_set f (same key) old was left.0 is (chain_stays e.change was left.0 (h.changed ∙ left.1))
+          ∙ chains_set f (same key) old was left.0 is (λ k. chain_stays e.change k was left.0 (h.changed ∙ left.1))

@@ -11,6 +11,7 @@ pub mod Picked
 pub mod Linking
 pub mod Walking
 pub mod Distinct
+pub mod Categories
 pub mod OneTable
 pub mod Shown
 pub mod Changed

@@ -8,6 +8,7 @@ use Rattle.std.proofs.lemmas.List.{get_or_append_left, length-take-le, take-appe
 use Rattle.std.specs.Prelude.{Option, None, Some, nat_le}
 use Rattle.std.specs.Map.{lookup, set_value}
 use Rattle.rubis_schema.specs.declared.row_keys.RowKey.{RowKey}
+use Rattle.rubis_schema.specs.declared.row_keys.RowKey.TheVariants as key
 use Rattle.rubis_schema.specs.declared.rows.ItemRow.{ItemRow}
 use Rattle.rubis_schema.specs.declared.rows.Row.{Row}
 use Rattle.rubis_schema.specs.declared.rows.Row.TheVariants as row
@@ -19,8 +20,10 @@ use Rattle.rubis_shadow.specs.declared.changes.Change.{Change}
 use Rattle.rubis_shadow.specs.declared.changes.Change.TheVariants as change
 use Rattle.rubis_shadow.specs.declared.changes.MisfitKind.TheVariants.{OtherUser, StockShort}
 use Rattle.rubis_schema.specs.IdKeyLaws.{same_id_key, Decides-same_id_key}
+use Rattle.rubis_schema.specs.IdKeys.{row_key}
 use Rattle.rubis_schema.specs.declared.id_keys.IdKey.{IdKey}
-use Rattle.rubis_shard.specs.Chains.{chain_of, chains_of, is_in, last_among, last_before, last_noted, IsLinkedSoFar, Links}
+use Rattle.rubis_schema.specs.declared.id_keys.IdTable.TheVariants as table
+use Rattle.rubis_shard.specs.Chains.{chain_of, chain_of_row, chain_of_users, chains_of, is_in, last_among, last_before, last_noted, IsLinkedSoFar, Links}
 use Rattle.rubis_shard.specs.Written.{written}
 use Rattle.rubis_shard.specs.declared.chains.Chains.{Chains}
 
@@ -136,9 +139,9 @@ chains_length f [] = refl
 chains_length f (e ∷ es) = ap suc (chains_length f es)
 
 pub chain_at : {K : Type 0} (f : K → RowKey) (es : List (K × Row)) (i : ℕ) (k : K) (row : Row) → slice_get es i ≡ Some (k, row)
-    → slice_get (chains_of (written f es)) i ≡ Some (chain_of row)
+    → slice_get (chains_of (written f es)) i ≡ Some (chain_of (f k) row)
 chain_at f [] i k row e = absurd cc
-chain_at f (x ∷ es) zero k row e = ap (option_map (λ y. chain_of y.1)) e
+chain_at f (x ∷ es) zero k row e = ap (option_map (λ y. chain_of (f y.0) y.1)) e
 chain_at f (x ∷ es) (suc i) k row e = chain_at f es i k row e
 
 pub linked_none : (cs : List (Option IdKey)) (c : Chains) → Links [] c → IsLinkedSoFar cs c
@@ -161,14 +164,14 @@ linked_more cs ds c linked = record {
 -- ---- what a change does to a row
 chain_or : Option Row → Option IdKey
 chain_or None = None
-chain_or (Some row) = chain_of row
+chain_or (Some row) = chain_of_row row
 
-if_open_kept : (i : ItemRow) (sale : Sale) (d : Done) → chain_or d.row ≡ chain_of (row.Item i) → chain_or (if_open i sale d).row ≡ chain_of (row.Item i)
+if_open_kept : (i : ItemRow) (sale : Sale) (d : Done) → chain_or d.row ≡ chain_of_row (row.Item i) → chain_or (if_open i sale d).row ≡ chain_of_row (row.Item i)
 unfolding chain_or
 if_open_kept i sale.Open d e = e
 if_open_kept i (sale.Ended w) d e = refl
 
-stays : (c : Change) (r : Row) → chain_or (change_row c (Some r)).row ≡ chain_of r
+stays : (c : Change) (r : Row) → chain_or (change_row c (Some r)).row ≡ chain_of_row r
 unfolding change_row chain_or
 stays (change.Insert x) r = refl
 stays change.ItemListed (row.User u) = refl
@@ -177,21 +180,30 @@ stays (change.Rated x) (row.User u) = refl
 stays change.CatListed (row.Cat k) = refl
 stays change.CatEnded (row.Cat k) = refl
 stays (change.BidTaken b) (row.Item i) = if_open_kept i i.sale _ refl
-stays (change.Sold q) (row.Item i) = if_open_kept i i.sale _ (elim (nat_le q i.stock) as (λ b. chain_or (cond b (fits_as (row.Item (record i { stock = i.stock - q; sold = count_up i.sold q }))) (misfits_as StockShort (Some (row.Item i)))).row ≡ chain_of (row.Item i)) [ true ↦ refl | false ↦ refl ])
+stays (change.Sold q) (row.Item i) = if_open_kept i i.sale _ (elim (nat_le q i.stock) as (λ b. chain_or (cond b (fits_as (row.Item (record i { stock = i.stock - q; sold = count_up i.sold q }))) (misfits_as StockShort (Some (row.Item i)))).row ≡ chain_of_row (row.Item i)) [ true ↦ refl | false ↦ refl ])
 stays (change.End w) (row.Item i) = if_open_kept i i.sale _ refl
 stays (change.Restocked q) (row.Item i) = refl
 stays (change.Renamed n) (row.User u) = refl
 stays (change.NickFreed u) (row.Nick i) = elim (same_id u i) as (λ b. chain_or (cond b removed (misfits_as OtherUser (Some (row.Nick i)))).row ≡ None) [ true ↦ refl | false ↦ refl ]
 stays c r = refl
 
-pub chain_stays : (c : Change) (old new : Row) → (change_row c (Some old)).row ≡ Some new → chain_of new ≡ chain_of old
+row_stays : (c : Change) (old new : Row) → (change_row c (Some old)).row ≡ Some new → chain_of_row new ≡ chain_of_row old
 unfolding chain_or
-chain_stays c old new e = ap chain_or (sym e) ∙ stays c old
+row_stays c old new e = ap chain_or (sym e) ∙ stays c old
+
+pub chain_stays : (c : Change) (k : RowKey) (old new : Row) → (change_row c (Some old)).row ≡ Some new → chain_of k new ≡ chain_of k old
+chain_stays c (key.User id) old new e = refl
+chain_stays c k old new e = row_stays c old new e
+
+-- the chain of a row that may be at a key
+chain_there : RowKey → Option Row → Option IdKey
+chain_there k None = None
+chain_there k (Some row) = chain_of k row
 
 -- a row in the place of one that is in the same chain
-pub chains_set : {K : Type 0} (f : K → RowKey) (test : K → Bool) (es : List (K × Row)) (old new : Row) → lookup test es ≡ Some old → chain_of new ≡ chain_of old
+pub chains_set : {K : Type 0} (f : K → RowKey) (test : K → Bool) (es : List (K × Row)) (old new : Row) → lookup test es ≡ Some old → ((k : RowKey) → chain_of k new ≡ chain_of k old)
     → chains_of (written f (set_value test es new)) ≡ chains_of (written f es)
-unfolding chain_or
+unfolding chain_there
 chains_set f test [] old new found same = refl
 chains_set f test (e ∷ es) old new found same =
     at (test e.0) refl (λ is. chains_set f test es old new (ap (λ b. cond b (Some e.1) (lookup test es)) (sym is) ∙ found) same)
@@ -199,12 +211,25 @@ chains_set f test (e ∷ es) old new found same =
     at : (b : Bool) → test e.0 ≡ b → (test e.0 ≡ false → chains_of (written f (set_value test es new)) ≡ chains_of (written f es))
         → chains_of (written f (cond (test e.0) ((e.0, new) ∷ es) (e ∷ set_value test es new))) ≡ chains_of (written f (e ∷ es))
     at true is rest = ap (λ b. chains_of (written f (cond b ((e.0, new) ∷ es) (e ∷ set_value test es new)))) is
-        ∙ ap (λ n. n ∷ chains_of (written f es)) (same ∙ ap chain_or (sym found ∙ ap (λ b. cond b (Some e.1) (lookup test es)) is))
+        ∙ ap (λ n. n ∷ chains_of (written f es)) (same (f e.0) ∙ ap (chain_there (f e.0)) (sym found ∙ ap (λ b. cond b (Some e.1) (lookup test es)) is))
     at false is rest = ap (λ b. chains_of (written f (cond b ((e.0, new) ∷ es) (e ∷ set_value test es new)))) is
-        ∙ ap (λ cs. chain_of e.1 ∷ cs) (rest is)
+        ∙ ap (λ cs. chain_of (f e.0) e.1 ∷ cs) (rest is)
 
 -- one row more
 pub chains_pushed : {K : Type 0} (f : K → RowKey) (es : List (K × Row)) (k : K) (row : Row)
-    → chains_of (written f (es ++ (k, row) ∷ [])) ≡ chains_of (written f es) ++ chain_of row ∷ []
+    → chains_of (written f (es ++ (k, row) ∷ [])) ≡ chains_of (written f es) ++ chain_of (f k) row ∷ []
 chains_pushed f [] k row = refl
-chains_pushed f (e ∷ es) k row = ap (λ cs. chain_of e.1 ∷ cs) (chains_pushed f es k row)
+chains_pushed f (e ∷ es) k row = ap (λ cs. chain_of (f e.0) e.1 ∷ cs) (chains_pushed f es k row)
+
+-- ---- the chain of a key
+pub chain_of_user : (k : IdKey) (row : Row) → k.table ≡ table.User → chain_of (row_key k) row ≡ Some chain_of_users
+chain_of_user k row is = ap (λ t. chain_of (row_key (record { seq = k.seq; site = k.site; table = t })) row) is
+
+pub chain_of_other : (k : IdKey) (row : Row) → (k.table ≡ table.User → ⊥) → chain_of (row_key k) row ≡ chain_of_row row
+chain_of_other k row = elim k.table as (λ t. (t ≡ table.User → ⊥) → chain_of (row_key (record { seq = k.seq; site = k.site; table = t })) row ≡ chain_of_row row) [
+  | table.User ↦ λ other. absurd (other refl)
+  | table.Item ↦ λ other. refl
+  | table.Bid ↦ λ other. refl
+  | table.Purchase ↦ λ other. refl
+  | table.Comment ↦ λ other. refl
+]

@@ -126,6 +126,7 @@ kept_listed l tables.Comments r n c = only_kept l tables.Comments r (λ n v. no_
 -- a listing with a chain is of rows with ids
 pub chain_listed : (l : Listing) (chain : IdKey) → chain_with l ≡ Some chain → (t : Table) (r : Rows) → listed_among l t (kept_of r) ≡ listed_among l t (entries_of r)
 unfolding picked
+chain_listed listing.Users chain w t r = only_kept listing.Users t r (λ n v. refl) (λ n v. refl)
 chain_listed (listing.Items cat) chain w t r = only_kept (listing.Items cat) t r (λ n v. refl) (λ n v. refl)
 chain_listed (listing.Bids item) chain w t r = only_kept (listing.Bids item) t r (λ n v. refl) (λ n v. refl)
 chain_listed (listing.Purchases item) chain w t r = only_kept (listing.Purchases item) t r (λ n v. refl) (λ n v. refl)

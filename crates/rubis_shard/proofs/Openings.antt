@@ -37,7 +37,7 @@ part_empty shards k = same_tables _ _ (λ q.
     ∙ neither (nat_eq (home shards q) k) ∙ sym (map.get-empty key_order q))
 
 -- which no listing shows
-none_there : (t : Tables) → t ≡ map.empty → map.entries t ≡ []
+pub none_there : (t : Tables) → t ≡ map.empty → map.entries t ≡ []
 none_there t e = no_items _ (sym (map.len-entries t) ∙ ap (λ (u : Tables). map.len u) e ∙ map.len-empty key_order Row)
 
 pub no_rows : (t : Table) → rows_of t map.empty ≡ []

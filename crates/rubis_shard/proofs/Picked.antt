@@ -16,6 +16,7 @@ use Rattle.rubis_schema.specs.declared.listings.Listing.{Listing}
 use Rattle.rubis_schema.specs.declared.listings.Listing.TheVariants as listing
 use Rattle.rubis_schema.specs.declared.row_keys.RowKey.{RowKey}
 use Rattle.rubis_schema.specs.declared.row_keys.Table.{Table}
+use Rattle.rubis_schema.specs.declared.row_keys.Table.TheVariants as table
 use Rattle.rubis_schema.specs.declared.rows.Row.{Row}
 use Rattle.rubis_shadow.specs.Tables.{rows_of}
 use Rattle.rubis_shadow.proofs.Entries.{first_of}
@@ -25,7 +26,7 @@ use Rattle.rubis_model.specs.Listings.{is_of}
 use Rattle.rubis_model.specs.Shares.{part_of}
 use Rattle.rubis_model.proofs.Commute.{same_tables}
 use Rattle.rubis_shard.specs.Holdings.{AreInOrder, union}
-use Rattle.rubis_shard.specs.Listed.{listed_of, picked_by}
+use Rattle.rubis_shard.specs.Listed.{categories_of, listed_of, picked_by, shows}
 use Rattle.rubis_shard.specs.States.{ShardState}
 use Rattle.rubis_shard.proofs.Listing.{all_distinct, both, sorted_distinct}
 use Rattle.rubis_shard.proofs.Unions.{entries_of, from_first}
@@ -115,14 +116,19 @@ module _ (p : RowKey × Row → Bool) where
       ∙ sym (map.get-from_sorted key_order (filter p rows) q in_order)) in
       ap map.entries same ∙ map.entries-from_sorted key_order _ in_order
 
--- the entries of one table that match a listing, put in key order
+-- the entries of one table that pass a test, put in key order
+pub passing_listed : (p : RowKey × Row → Bool) (t : Table) (es gs : Entries) → IsDistinct key_eq (keys_of es)
+    → IsPermutation (filter (λ e. holds t e.0) (filter p es)) gs
+    → IsSortedByKey first_of key_order gs → gs ≡ filter (λ e. holds t e.0) (filter p (map.entries (tables_of es)))
+passing_listed p t es gs distinct moved sorted =
+    rows_listed t (filter p es) gs (IsDistinct-keys_filter key_eq p es distinct) moved sorted
+    ∙ ap (filter (λ (e : RowKey × Row). holds t e.0)) (entries_passing p es distinct)
+
+-- those that match a listing
 pub picked_listed : (l : Listing) (t : Table) (es gs : Entries) → IsDistinct key_eq (keys_of es)
     → IsPermutation (filter (λ e. holds t e.0) (picked_by l es)) gs
     → IsSortedByKey first_of key_order gs → gs ≡ listed_of l t (tables_of es)
-picked_listed l t es gs distinct moved sorted =
-    let p = λ (e : RowKey × Row). is_of l e.0 e.1 in
-    rows_listed t (filter p es) gs (IsDistinct-keys_filter key_eq p es distinct) moved sorted
-    ∙ ap (filter (λ (e : RowKey × Row). holds t e.0)) (entries_passing p es distinct)
+picked_listed l t es gs distinct moved sorted = passing_listed (λ (e : RowKey × Row). is_of l e.0 e.1) t es gs distinct moved sorted
 
 -- the listing of all rows shows each of them
 picked_all : (es : Entries) → picked_by listing.Tables es ≡ es
@@ -133,22 +139,37 @@ pub all_listed : (t : Table) (tables : Tables) → listed_of listing.Tables t ta
 all_listed t tables = ap (filter (λ (e : RowKey × Row). holds t e.0)) (picked_all (map.entries tables))
 
 -- ---- shard by shard
+abbrev pub passing_by_shard : (RowKey × Row → Bool) → Table → List ShardState → Entries
+passing_by_shard p t ts = flat_map (λ (s : ShardState). filter (λ e. holds t e.0) (filter p (entries_of s))) ts
+
 abbrev pub listed_by_shard : Listing → Table → List ShardState → Entries
 listed_by_shard l t ts = flat_map (λ (s : ShardState). listed_of l t (part_of s.shards s.number s.folded.tables)) ts
 
-picks_flat : (l : Listing) (t : Table) (ts : List ShardState)
-    → filter (λ e. holds t e.0) (picked_by l (flat_map entries_of ts)) ≡ listed_by_shard l t ts
-picks_flat l t [] = refl
-picks_flat l t (s ∷ ts) =
+abbrev pub categories_by_shard : List ShardState → Entries
+categories_by_shard ts = flat_map (λ (s : ShardState). categories_of (part_of s.shards s.number s.folded.tables)) ts
+
+passing_flat : (p : RowKey × Row → Bool) (t : Table) (ts : List ShardState)
+    → filter (λ e. holds t e.0) (filter p (flat_map entries_of ts)) ≡ passing_by_shard p t ts
+passing_flat p t [] = refl
+passing_flat p t (s ∷ ts) =
     let h = λ (e : RowKey × Row). holds t e.0 in
-    let p = λ (e : RowKey × Row). is_of l e.0 e.1 in
     ap (filter h) (filter-append p (entries_of s) (flat_map entries_of ts))
     ∙ filter-append h (filter p (entries_of s)) (filter p (flat_map entries_of ts))
-    ∙ ap (λ es. filter h (filter p (entries_of s)) ++ es) (picks_flat l t ts)
+    ∙ ap (λ es. filter h (filter p (entries_of s)) ++ es) (passing_flat p t ts)
+
+pub union_passing : (p : RowKey × Row → Bool) (t : Table) (ts : List ShardState) (gs : Entries) → AreInOrder ts
+    → IsPermutation (passing_by_shard p t ts) gs
+    → IsSortedByKey first_of key_order gs → gs ≡ filter (λ e. holds t e.0) (filter p (map.entries (union ts)))
+union_passing p t ts gs order moved sorted =
+    passing_listed p t (flat_map entries_of ts) gs (all_distinct (length ts) 0 ts (from_first ts order))
+    (subst (λ es. IsPermutation es gs) (sym (passing_flat p t ts)) moved) sorted
 
 pub union_picked : (l : Listing) (t : Table) (ts : List ShardState) (gs : Entries) → AreInOrder ts
     → IsPermutation (listed_by_shard l t ts) gs
     → IsSortedByKey first_of key_order gs → gs ≡ listed_of l t (union ts)
-union_picked l t ts gs order moved sorted =
-    picked_listed l t (flat_map entries_of ts) gs (all_distinct (length ts) 0 ts (from_first ts order))
-    (subst (λ es. IsPermutation es gs) (sym (picks_flat l t ts)) moved) sorted
+union_picked l t ts gs order moved sorted = union_passing (λ (e : RowKey × Row). is_of l e.0 e.1) t ts gs order moved sorted
+
+pub union_categories : (ts : List ShardState) (gs : Entries) → AreInOrder ts
+    → IsPermutation (categories_by_shard ts) gs
+    → IsSortedByKey first_of key_order gs → gs ≡ categories_of (union ts)
+union_categories ts gs order moved sorted = union_passing (λ (e : RowKey × Row). shows e.1) table.Cats ts gs order moved sorted

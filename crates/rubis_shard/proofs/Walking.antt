@@ -20,7 +20,7 @@ use Rattle.rubis_schema.specs.declared.rows.Row.{Row}
 use Rattle.rubis_schema.specs.declared.rows.Row.TheVariants as row
 use Rattle.rubis_shadow.specs.Tables.{new_category}
 use Rattle.rubis_model.specs.Listings.{is_of}
-use Rattle.rubis_shard.specs.Chains.{chain_by, chain_of, chain_of_items, chain_with, chains_of, is_in, last_among, Links}
+use Rattle.rubis_shard.specs.Chains.{chain_by, chain_of, chain_of_items, chain_of_users, chain_with, chains_of, is_in, last_among, Links}
 use Rattle.rubis_shard.specs.Rows.{kept_of, linked_of}
 use Rattle.rubis_shard.specs.declared.row_map.Rows.{Rows}
 use Rattle.rubis_shard.specs.Listed.{listed_among}
@@ -31,7 +31,7 @@ pub linked_chains : (r : Rows) → Links (chains_of (linked_of r)) r.chains
 linked_chains r = subst (λ cs. Links cs r.chains) (take-map _ (length r.chains.before.items) (kept_of r)) r.linked.links
 
 pub linked_few : (r : Rows) → length r.chains.before.items ≤ length (kept_of r)
-linked_few r = omega (arith, length-map (kept_of r) (λ (e : RowKey × Row). chain_of e.1), r.linked.many)
+linked_few r = omega (arith, length-map (kept_of r) (λ (e : RowKey × Row). chain_of e.0 e.1), r.linked.many)
 
 pub linked_length : (r : Rows) → length (linked_of r) ≡ length r.chains.before.items
 linked_length r =
@@ -40,24 +40,29 @@ linked_length r =
 abbrev Entry : Type 0
 Entry = RowKey × Row
 
-of_items : (cat : ℕ) (k : RowKey) (r : Row) → is_of (listing.Items cat) k r ≡ true → chain_of r ≡ Some (chain_of_items cat)
+of_users : (k : RowKey) (r : Row) → is_of listing.Users k r ≡ true → chain_of k r ≡ Some chain_of_users
+of_users (key.User id) r e = refl
+of_users k r e = absurd (false≢true e)
+
+of_items : (cat : ℕ) (k : RowKey) (r : Row) → is_of (listing.Items cat) k r ≡ true → chain_of k r ≡ Some (chain_of_items cat)
 of_items cat (key.Item id) (row.Item i) e = ap (λ n. Some (chain_of_items n)) ((Decides-eqb _ _).0 e)
 of_items cat k r e = absurd (false≢true e)
 
-of_bids : (item : Id) (k : RowKey) (r : Row) → is_of (listing.Bids item) k r ≡ true → chain_of r ≡ Some (chain_by table.Bid item)
+of_bids : (item : Id) (k : RowKey) (r : Row) → is_of (listing.Bids item) k r ≡ true → chain_of k r ≡ Some (chain_by table.Bid item)
 of_bids item (key.Bid id) (row.Bid b) e = ap (λ (i : Id). Some (chain_by table.Bid i)) ((Decides-same_id b.item item).0 e)
 of_bids item k r e = absurd (false≢true e)
 
-of_purchases : (item : Id) (k : RowKey) (r : Row) → is_of (listing.Purchases item) k r ≡ true → chain_of r ≡ Some (chain_by table.Purchase item)
+of_purchases : (item : Id) (k : RowKey) (r : Row) → is_of (listing.Purchases item) k r ≡ true → chain_of k r ≡ Some (chain_by table.Purchase item)
 of_purchases item (key.Purchase id) (row.Purchase p) e = ap (λ (i : Id). Some (chain_by table.Purchase i)) ((Decides-same_id p.item item).0 e)
 of_purchases item k r e = absurd (false≢true e)
 
-of_comments : (user : Id) (k : RowKey) (r : Row) → is_of (listing.Comments user) k r ≡ true → chain_of r ≡ Some (chain_by table.Comment user)
+of_comments : (user : Id) (k : RowKey) (r : Row) → is_of (listing.Comments user) k r ≡ true → chain_of k r ≡ Some (chain_by table.Comment user)
 of_comments user (key.Comment id) (row.Comment c) e = ap (λ (i : Id). Some (chain_by table.Comment i)) ((Decides-same_id c.to user).0 e)
 of_comments user k r e = absurd (false≢true e)
 
 -- a row that matches a listing is in the listing's chain
-of_chain : (l : Listing) (k : RowKey) (r : Row) (chain : IdKey) → chain_with l ≡ Some chain → is_of l k r ≡ true → chain_of r ≡ Some chain
+of_chain : (l : Listing) (k : RowKey) (r : Row) (chain : IdKey) → chain_with l ≡ Some chain → is_of l k r ≡ true → chain_of k r ≡ Some chain
+of_chain listing.Users k r chain w e = of_users k r e ∙ w
 of_chain (listing.Items cat) k r chain w e = of_items cat k r e ∙ w
 of_chain (listing.Bids item) k r chain w e = of_bids item k r e ∙ w
 of_chain (listing.Purchases item) k r chain w e = of_purchases item k r e ∙ w
@@ -116,7 +121,7 @@ module _ (l : Listing) (t : Table) (chain : IdKey) (with_chain : chain_with l �
       at : (b : Bool) → is_of l (get_or es n default).0 (get_or es n default).1 ≡ b → is_picked (get_or es n default) ≡ false
       at false e = ap (λ b. b && holds t (get_or es n default).0) e
       at true e =
-          let own : get_or (chains_of es) n None ≡ Some chain = get_or-map (λ (x : Entry). chain_of x.1) es n default None within
+          let own : get_or (chains_of es) n None ≡ Some chain = get_or-map (λ (x : Entry). chain_of x.0 x.1) es n default None within
           ∙ of_chain l (get_or es n default).0 (get_or es n default).1 chain with_chain e in
           absurd (false≢true (sym other ∙ ap (λ o. is_in o chain) own ∙ in_itself chain))
 
@@ -158,7 +163,7 @@ module _ (l : Listing) (t : Table) (chain : IdKey) (with_chain : chain_with l �
   unfolding among
   walk_from last is =
       append-nil (listed_among l t (take last es))
-      ∙ ap among (is ∙ ap (last_among chain (chains_of es)) (length-map es (λ (x : Entry). chain_of x.1)))
+      ∙ ap among (is ∙ ap (last_among chain (chains_of es)) (length-map es (λ (x : Entry). chain_of x.0 x.1)))
       ∙ sym (between (length es) (omega arith)) ∙ ap (listed_among l t) (take_all (length es) es (omega arith))
 
   pub walk_on : (at next : ℕ) (e : Entry) (b : Bool) (picked more : List Entry) → at < length es → slice_get es at ≡ Some e

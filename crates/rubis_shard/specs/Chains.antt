@@ -10,6 +10,7 @@ use Rattle.rubis_schema.specs.declared.ids.Id.{Id}
 use Rattle.rubis_schema.specs.declared.listings.Listing.{Listing}
 use Rattle.rubis_schema.specs.declared.listings.Listing.TheVariants as listing
 use Rattle.rubis_schema.specs.declared.row_keys.RowKey.{RowKey}
+use Rattle.rubis_schema.specs.declared.row_keys.RowKey.TheVariants as key
 use Rattle.rubis_schema.specs.declared.rows.Row.{Row}
 use Rattle.rubis_schema.specs.declared.rows.Row.TheVariants as row
 use Rattle.rubis_shard.specs.declared.chains.Chains.{Chains}
@@ -22,16 +23,26 @@ chain_by t id = record { seq = id.seq; site = id.site; table = t }
 abbrev pub chain_of_items : ℕ → IdKey
 chain_of_items cat = record { seq = cat; site = 0; table = table.Item }
 
--- the chain of a row: by the item, the user or the category by which it is listed; other rows are in none
-abbrev pub chain_of : Row → Option IdKey
-chain_of (row.Item i) = Some (chain_of_items i.cat)
-chain_of (row.Bid b) = Some (chain_by table.Bid b.item)
-chain_of (row.Purchase p) = Some (chain_by table.Purchase p.item)
-chain_of (row.Comment c) = Some (chain_by table.Comment c.to)
-chain_of r = None
+-- the chain of all users
+abbrev pub chain_of_users : IdKey
+chain_of_users = record { seq = 0; site = 0; table = table.User }
+
+-- the chain of a row by the item, the user or the category by which it is listed; other rows are in none
+abbrev pub chain_of_row : Row → Option IdKey
+chain_of_row (row.Item i) = Some (chain_of_items i.cat)
+chain_of_row (row.Bid b) = Some (chain_by table.Bid b.item)
+chain_of_row (row.Purchase p) = Some (chain_by table.Purchase p.item)
+chain_of_row (row.Comment c) = Some (chain_by table.Comment c.to)
+chain_of_row r = None
+
+-- the chain of the row at a key: all users are in one
+abbrev pub chain_of : RowKey → Row → Option IdKey
+chain_of (key.User id) r = Some chain_of_users
+chain_of k r = chain_of_row r
 
 -- the chain that has all rows that match a listing, if one does
 abbrev pub chain_with : Listing → Option IdKey
+chain_with listing.Users = Some chain_of_users
 chain_with (listing.Items cat) = Some (chain_of_items cat)
 chain_with (listing.Bids item) = Some (chain_by table.Bid item)
 chain_with (listing.Purchases item) = Some (chain_by table.Purchase item)
@@ -40,7 +51,7 @@ chain_with l = None
 
 -- the chain of each row
 abbrev pub chains_of : List (RowKey × Row) → List (Option IdKey)
-chains_of es = each (λ e. chain_of e.1) es
+chains_of es = each (λ e. chain_of e.0 e.1) es
 
 -- whether a row that has that chain, or none, is in chain k
 abbrev pub is_in : Option IdKey → IdKey → Bool

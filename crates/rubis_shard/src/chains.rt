@@ -26,10 +26,21 @@ fn chain_of_items(cat: u16) -> IdKey
     }
 }
 
-/// The chain of a row, named by its table and by the item, the user or the category by which the row is listed. Other rows
-/// are in no chain.
-pub fn chain_of(row: &Row) -> Option<IdKey>
-    ensures { result ≡ model.chain_of row.now }
+// The chain of all users. Zeros stand in the place of an id.
+fn chain_of_users() -> IdKey
+    ensures { result ≡ model.chain_of_users }
+{
+    IdKey {
+        seq: 0,
+        site: 0,
+        table: IdTable::User,
+    }
+}
+
+// The chain of a row, named by its table and by the item, the user or the category by which the row is listed. Other rows
+// are in none.
+fn chain_of_row(row: &Row) -> Option<IdKey>
+    ensures { result ≡ model.chain_of_row row.now }
 {
     match row {
         Row::Item(item) => Some(chain_of_items(item.cat)),
@@ -40,11 +51,23 @@ pub fn chain_of(row: &Row) -> Option<IdKey>
     }
 }
 
-/// The chain that has all rows of a listing, if it is of rows that belong together.
+/// The chain of the row at a key: that of all users, or the one of the rows that are listed with it. Other rows are in no
+/// chain.
+pub fn chain_of(key: &IdKey, row: &Row) -> Option<IdKey>
+    ensures { result ≡ model.chain_of (row_key key.now) row.now }
+{
+    match key.table {
+        IdTable::User => Some(chain_of_users()),
+        _ => chain_of_row(row),
+    }
+}
+
+/// The chain that has all rows of a listing, if it is of users or of rows that belong together.
 pub fn chain_with(listing: &Listing) -> Option<IdKey>
     ensures { result ≡ model.chain_with listing.now }
 {
     match listing {
+        Listing::Users => Some(chain_of_users()),
         Listing::Items(cat) => Some(chain_of_items(*cat)),
         Listing::Bids(item) => Some(IdKey::new(IdTable::Bid, *item)),
         Listing::Purchases(item) => Some(IdKey::new(IdTable::Purchase, *item)),
@@ -129,10 +152,10 @@ impl Chains {
         ensures all { OnOk result (length self.new.before.items ≡ length rows.now.entries) }
     {
         for at in self.len()..rows.len() {
-            let Some((_, row)) = rows.get_index(at) else {
+            let Some((key, row)) = rows.get_index(at) else {
                 unreachable!()
             };
-            self.push(chain_of(row))?;
+            self.push(chain_of(key, row))?;
         }
         Ok(())
     }

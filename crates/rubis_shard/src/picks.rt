@@ -3,9 +3,10 @@
 ghost use Rattle.std.specs.Prelude.{◌≡◌, ◌&&◌, Some, IfOk, map as each};
 ghost use Rattle.std.specs.List.Sorted.{IsPermutation};
 ghost use Rattle.rubis_schema.specs.Keys.{holds};
+ghost use Rattle.rubis_schema.specs.declared.row_keys.RowKey.TheVariants as key;
 ghost use Rattle.rubis_model.specs.Listings.{is_of};
 ghost use Rattle.rubis_shard.specs.Chains.{chain_with};
-ghost use Rattle.rubis_shard.specs.Listed.{listed_among, listed_of};
+ghost use Rattle.rubis_shard.specs.Listed.{categories_of, listed_among, listed_of, shown_among, shows};
 ghost use Rattle.rubis_shard.specs.Rows.{entries_of, kept_of, linked_of, tables_in};
 ghost use Rattle.rubis_shard.specs.Written.{shown, written};
 
@@ -142,6 +143,46 @@ pub fn picked_in_order<'a>(
 {
     let _lens = rows.lens();
     let mut picked = picked(alloc, rows, table, listing)?;
+    put_in_order(alloc, &mut picked)?;
+    Ok(picked)
+}
+
+// Whether listings show the row: they leave out a category with neither items nor live ones.
+fn shows(row: &Row) -> bool
+    ensures { result ≡ shows row.now }
+{
+    match row {
+        Row::Cat(cat) => !cat.shows_nothing(),
+        _ => true,
+    }
+}
+
+// The categories that listings show, in the order of their map.
+fn shown_categories<'a>(
+    alloc: Global,
+    cats: &'a IndexMap<u16, Row>,
+) -> Result<Vec<(RowKey, &'a Row)>, AllocError>
+    ensures { IfOk result (λ rows. each shown rows.items ≡ shown_among (written key.Cat cats.now.entries)) }
+{
+    let mut rows = Vec::new(alloc);
+    for (cat, row) in cats.iter() {
+        if shows(row) {
+            rows.reserve(1)?;
+            rows.push_reserved((RowKey::Cat(*cat), row));
+        }
+    }
+    Ok(rows)
+}
+
+/// The categories that listings show, with their keys, in key order. Only these are sorted.
+pub fn categories_in_order<'a>(
+    alloc: Global,
+    rows: &'a Rows,
+) -> Result<Vec<(RowKey, &'a Row)>, AllocError>
+    ensures { IfOk result (λ picked. each shown picked.items ≡ categories_of (tables_in rows.now)) }
+{
+    let _lens = rows.lens();
+    let mut picked = shown_categories(alloc, &rows.cats)?;
     put_in_order(alloc, &mut picked)?;
     Ok(picked)
 }

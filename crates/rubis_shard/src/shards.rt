@@ -8,7 +8,7 @@ ghost use Rattle.rubis_schema.specs.Keys.{key_order};
 ghost use Rattle.rubis_shadow.specs.Tables.{opening, rows_of};
 ghost use Rattle.rubis_model.specs.Shares.{part_of};
 ghost use Rattle.rubis_model.specs.Log.{fold_on, parts_of, step};
-ghost use Rattle.rubis_shard.specs.Listed.{listed_of};
+ghost use Rattle.rubis_shard.specs.Listed.{categories_of, listed_of};
 ghost use Rattle.rubis_shard.specs.States.{opening_shard, with_parts, IsHomeOf, HoldsOwnRows};
 ghost use Rattle.rubis_shard.specs.Entries.{core_of, numbered_of};
 ghost use Rattle.rubis_shard.specs.Messages.{emptied};
@@ -22,7 +22,7 @@ ghost use Rattle.rubis_shard.specs.Written.{shown};
 use crate::entries::LogEntry;
 use crate::message_parts::MessageParts;
 use crate::part_homes::PartHomes;
-use crate::picks::picked_in_order;
+use crate::picks::{categories_in_order, picked_in_order};
 use crate::row_map::Rows;
 use crate::shard_store::Store;
 use crate::shares::Share;
@@ -175,6 +175,17 @@ impl Shard {
     {
         match &self.store {
             Some(store) => picked_in_order(alloc, &store.rows, table, listing),
+            None => Ok(Vec::new(alloc)),
+        }
+    }
+
+    // The categories that listings show, with their keys, in key order.
+    pub(crate) fn categories(&self, alloc: Global) -> Result<Vec<(RowKey, &Row)>, AllocError>
+        ensures rows { IfOk result (λ rows. each shown rows.items ≡ categories_of self.now.folded.tables) }
+        ensures own { HoldsOwnRows self.now }
+    {
+        match &self.store {
+            Some(store) => categories_in_order(alloc, &store.rows),
             None => Ok(Vec::new(alloc)),
         }
     }

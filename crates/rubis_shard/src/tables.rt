@@ -7,7 +7,7 @@ ghost use Rattle.rubis_shadow.specs.Tables.{rows_of};
 ghost use Rattle.rubis_shard.specs.Holdings.{AreInOrder, FoldsAtHome, FoldsOn, HoldsLog, IsSet, TakesOn, parts_at, union};
 ghost use Rattle.rubis_shard.specs.Entries.{core_of, numbered_of};
 ghost use Rattle.rubis_shard.specs.Groups.{group_of};
-ghost use Rattle.rubis_shard.specs.Listed.{listed_of};
+ghost use Rattle.rubis_shard.specs.Listed.{categories_of, listed_of};
 ghost use Rattle.rubis_shard.specs.Written.{shown};
 
 use crate::chains::chain_with;
@@ -189,6 +189,19 @@ impl Tables {
         let mut picked = Vec::new(alloc);
         for shard in &self.shards {
             let mut rows = shard.listed(alloc, table, listing)?;
+            picked.append(&mut rows)?;
+        }
+        put_in_order(alloc, &mut picked)?;
+        Ok(picked)
+    }
+
+    /// The categories of all shards that listings show, with their keys, in key order: those that have items, or live ones.
+    pub fn categories(&self, alloc: Global) -> Result<Vec<(RowKey, &Row)>, AllocError>
+        ensures { IfOk result (λ rows. each shown rows.items ≡ categories_of (union self.now)) }
+    {
+        let mut picked = Vec::new(alloc);
+        for shard in &self.shards {
+            let mut rows = shard.categories(alloc)?;
             picked.append(&mut rows)?;
         }
         put_in_order(alloc, &mut picked)?;

@@ -1,8 +1,8 @@
 use Rattle.std.proofs.Common.{rules, ◌≡◌, ◌+◌, ◌<◌, drop, length, subst, sym, map as each}
 use Rattle.std.specs.Prelude.{slice_index_or}
 use Rattle.rubis_schema.specs.declared.row_keys.Table.TheVariants as table
+use Rattle.rubis_shadow.specs.Tables.{rows_of}
 use Rattle.rubis_shard.specs.Holdings.{union}
-use Rattle.rubis_shard.specs.Listed.{listed_of}
 use Rattle.rubis_shard.specs.Written.{shown}
 use Rattle.rubis_model.specs.Listings.{records_of}
 use Rattle.rubis_listing.specs.ByTable.{tables_of}
@@ -17,8 +17,8 @@ loop-table-preserved g c s h =
     let ts = tables_of listing in
     let at = c.loop-table.table-index in
     let inside : at < length ts = search rules in
-    let rows : each shown c.deref.result.now ≡ listed_of listing (slice_index_or ts at table.Users) m = search rules in
-    let added = subst (λ es. g.S.RowSink.adds (records_of listing es) c.loop-table.sink c.put_rows.new.sink) rows c.in_ok-put_rows.ensures in
+    let rows : records_of listing (each shown c.deref.result.now) ≡ records_of listing (rows_of (slice_index_or ts at table.Users) m) = search rules in
+    let added = subst (λ rs. g.S.RowSink.adds rs c.loop-table.sink c.put_rows.new.sink) rows c.in_ok-put_rows.ensures in
     let more = g.met.S.RowSink.adds_more _ (rows_by_table listing m (drop (at + 1) ts)) _ _ s added h in
     c.loop-table.invariant s (subst (λ rs. g.S.RowSink.adds rs c.loop-table.sink s) (sym (tables_more listing m ts at table.Users inside)) more)
 

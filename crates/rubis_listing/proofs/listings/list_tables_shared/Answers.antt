@@ -1,33 +1,16 @@
-use Rattle.std.proofs.Common.{rules, ◌≡◌, ◌+◌, ◌<◌, drop, length, subst, sym, map as each}
-use Rattle.std.specs.Prelude.{slice_index_or}
-use Rattle.rubis_schema.specs.declared.row_keys.Table.TheVariants as table
-use Rattle.rubis_shard.specs.Holdings.{union}
-use Rattle.rubis_shard.specs.Listed.{listed_of}
-use Rattle.rubis_shard.specs.Written.{shown}
+use Rattle.std.proofs.Common.{List, ap, subst, ◌∙◌, map as each, refl, Bor}
+use Rattle.std.specs.Prelude.{OnOk}
+use Rattle.rubis_schema.specs.declared.row_keys.RowKey.{RowKey}
+use Rattle.rubis_schema.specs.declared.rows.Row.{Row}
 use Rattle.rubis_model.specs.Listings.{records_of}
-use Rattle.rubis_listing.specs.ByTable.{tables_of}
-use Rattle.rubis_listing.proofs.ByTable.{all_by_table, rows_by_table}
-use Rattle.rubis_listing.proofs.Making.{tables_more}
+use Rattle.rubis_shard.specs.Written.{shown}
+use Rattle.rubis_listing.proofs.Ranges.{range_whole}
 use Rattle.rubis_listing.proofs.listings.list_tables_shared.Goals as goal
-
-pub loop-table-preserved : goal.loop-table-preserved
-loop-table-preserved g c s h =
-    let laws = g.met.S.RowSink g.world.𝓛 g.world.𝓜 g.world.𝓡 ((λ s x. x), (λ x. x), (λ x. x), λ x. x) in
-    let listing = c.args.listing.now in
-    let m = union c.args.tables.now in
-    let ts = tables_of listing in
-    let at = c.loop-table.table-index in
-    let inside : at < length ts = search rules in
-    let rows : each shown c.deref.result.now ≡ listed_of listing (slice_index_or ts at table.Users) m = search rules in
-    let added = subst (λ es. g.S.RowSink.adds (records_of listing es) c.loop-table.sink c.put_rows_shared.new.sink) rows c.in_ok-put_rows_shared.ensures in
-    let more = laws.adds_more _ (rows_by_table listing m (drop (at + 1) ts)) _ _ s added h in
-    c.loop-table.invariant s (subst (λ rs. g.S.RowSink.adds rs c.loop-table.sink s) (sym (tables_more listing m ts at table.Users inside)) more)
 
 pub returns : goal.returns
 returns g c =
-    let laws = g.met.S.RowSink g.world.𝓛 g.world.𝓜 g.world.𝓡 ((λ s x. x), (λ x. x), (λ x. x), λ x. x) in
-    let listing = c.args.listing.now in
-    let ts = tables_of listing in
-    let m = union c.args.tables.now in
-    subst (λ rs. g.S.RowSink.adds rs c.args.sink.now c.loop-table.sink) (all_by_table listing m)
-    (c.loop-table.invariant c.loop-table.sink (search (rules, laws.adds_none)))
+    let l = c.args.listing.now in
+    let rows = c.as_slice.result.now in
+    subst (λ rs. OnOk c.put_shared.result (g.S.RowSink.adds rs c.args.sink.now c.put_shared.new.sink))
+    (ap (λ (es : List (RowKey × Bor Row)). records_of l (each shown es)) (range_whole rows _ refl ∙ c.as_slice.ensures.value) ∙ c.in_ok-rows.ensures)
+    c.put_shared.ensures

@@ -1,10 +1,7 @@
-use Rattle.std.proofs.Common.{◌≡◌, ◌+◌, take, []}
+use Rattle.std.proofs.Common.{◌≡◌, ◌+◌, take}
 use Rattle.rubis_model.specs.Log.{cores, numbered_from}
 use Rattle.rubis_pieces.specs.Shares.{AreDealt}
 use Rattle.rubis_pieces.proofs.splits.split_alone.Given as goal
-
-abbrev pub invariant-loop-number : goal.invariant-loop-number
-invariant-loop-number l = AreDealt l.number [] l.list.items
 
 abbrev pub invariant-loop-message : goal.invariant-loop-message
 invariant-loop-message l = record {

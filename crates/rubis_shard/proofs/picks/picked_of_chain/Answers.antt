@@ -24,7 +24,7 @@ loop-place-init c =
     let cs = chains_of es in
     let is : c.last-place.result ≡ last_among c.args.chain.now cs (length cs) =
     c.last-place.ensures ∙ (linked_chains c.args.rows.now).last c.args.chain.now in
-    let within : c.last-place.result ≤ length es = omega (arith, is, last_small c.args.chain.now cs (length cs), length-map es (λ (e : RowKey × Row). chain_of e.1)) in
+    let within : c.last-place.result ≤ length es = omega (arith, is, last_small c.args.chain.now cs (length cs), length-map es (λ (e : RowKey × Row). chain_of e.0 e.1)) in
     record {
       within = within;
       inside = omega (arith, within, linked_length c.args.rows.now, linked_few c.args.rows.now);
@@ -41,7 +41,7 @@ loop-place-smaller c =
     let es = linked_of c.args.rows.now in
     let cs = chains_of es in
     let at = c.loop-place.place - 1 in
-    let size = length-map es (λ (e : RowKey × Row). chain_of e.1) in
+    let size = length-map es (λ (e : RowKey × Row). chain_of e.0 e.1) in
     let is : c.before-place.result ≡ last_among c.args.chain.now cs at =
     c.before-place.ensures ∙ (linked_chains c.args.rows.now).before at (omega (arith, size, c.loop-place.invariant.within))
     ∙ ap (λ o. last_before o cs at) (c.loop-place.invariant.own (omega arith)) in
@@ -54,7 +54,7 @@ loop-place-preserved c =
     let es = linked_of c.args.rows.now in
     let cs = chains_of es in
     let at = c.loop-place.place - 1 in
-    let size = length-map es (λ (e : RowKey × Row). chain_of e.1) in
+    let size = length-map es (λ (e : RowKey × Row). chain_of e.0 e.1) in
     let inside : at < length es = omega (arith, c.loop-place.invariant.within) in
     let next : at + 1 ≡ c.loop-place.place = omega arith in
     let is : c.before-place.result ≡ last_among c.args.chain.now cs at =

@@ -16,8 +16,8 @@ returns-in_ok-misfits-in-Misfits g c =
     let found = c.in_ok-misfits-in-Misfits.misfits.items in
     let all = log_misfits now site.intake.place site.intake.state site.batch site.follower (applied_already _ now c.self.view_is c.requires) c.self.invariant found
     (subst (λ ts. AreOfTheLog ts found) c.tables.ensures c.in_ok-misfits-in-Misfits.ensures.log) in
-    subst (λ rows. OnOk c.list_misfits.result (g.S.RowSink.adds rows c.args.sink.now c.list_misfits.new.sink))
-    (ap misfit_rows (c.as_slice.ensures.value ∙ all) ∙ sym (ap (listing_rows now.state.log (fold_of (cores now.state.log))) c.in-Misfits.is)) c.list_misfits.ensures
+    subst (λ rows. OnOk c.list_misfits_into.result (g.S.RowSink.adds rows c.args.sink.now c.list_misfits_into.new.sink))
+    (ap misfit_rows (c.as_slice.ensures.value ∙ all) ∙ sym (ap (listing_rows now.state.log (fold_of (cores now.state.log))) c.in-Misfits.is)) c.list_misfits_into.ensures
 
 pub returns-in_default : goal.returns-in_default
 returns-in_default g c =

@@ -23,7 +23,7 @@ loop-at-preserved c =
     let cs = chains_of (written row_key es) in
     let at = c.loop-at.at in
     let held = c.loop-at.invariant in
-    let here = chain_at row_key es at c.in-Some.field-0-0.now c.in-Some.row.now (sym c.get_index.ensures.entry ∙ ap (option_map deref_pair) c.in-Some.is)
+    let here = chain_at row_key es at c.in-Some.key.now c.in-Some.row.now (sym c.get_index.ensures.entry ∙ ap (option_map deref_pair) c.in-Some.is)
     ∙ ap (λ (k : Option IdKey). Some k) (sym c.chain_of.ensures) in
     let next : suc at ≡ at + 1 = omega arith in
     let pushed : Links (take at cs ++ c.chain_of.result ∷ []) c.push.new.self = c.in_ok-push.ensures.ok (take at cs) held.links in

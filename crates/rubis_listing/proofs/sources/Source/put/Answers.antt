@@ -1,0 +1,20 @@
+use Rattle.std.proofs.Common.{subst, sym}
+use Rattle.std.specs.Prelude.{OnOk}
+use Rattle.rubis_listing.specs.Parts.{between}
+use Rattle.rubis_listing.specs.declared.sources.Source.{Source}
+use Rattle.rubis_listing.proofs.sources.Source.put.Goals as goal
+
+pub returns-in-Rows : goal.returns-in-Rows
+returns-in-Rows g c =
+    subst (λ (s : Source). OnOk c.put_rows_between.result (g.S.RowSink.adds (between s c.args.from c.args.upto) c.args.sink.now c.put_rows_between.new.sink))
+    (sym c.in-Rows.is) c.put_rows_between.ensures
+
+pub returns-in-Log : goal.returns-in-Log
+returns-in-Log g c =
+    subst (λ (s : Source). OnOk c.put_entries.result (g.S.RowSink.adds (between s c.args.from c.args.upto) c.args.sink.now c.put_entries.new.sink))
+    (sym c.in-Log.is) c.put_entries.ensures
+
+pub returns-in-Misfits : goal.returns-in-Misfits
+returns-in-Misfits g c =
+    subst (λ (s : Source). OnOk c.put_misfits.result (g.S.RowSink.adds (between s c.args.from c.args.upto) c.args.sink.now c.put_misfits.new.sink))
+    (sym c.in-Misfits.is) c.put_misfits.ensures

@@ -1,0 +1,15 @@
+use Rattle.std.proofs.Common.{sym, ap, ◌∙◌, map as each}
+use Rattle.std.specs.Prelude.{Option}
+use Rattle.rubis_shard.specs.Listed.{categories_of}
+use Rattle.rubis_shard.specs.States.{ShardState}
+use Rattle.rubis_shard.specs.Stores.{held_in}
+use Rattle.rubis_shard.specs.Written.{shown}
+use Rattle.rubis_shard.specs.declared.shard_store.Store.{Store}
+use Rattle.rubis_shard.proofs.Categories.{no_categories}
+use Rattle.rubis_shard.proofs.shards.Shard.categories.Goals as goal
+
+pub returns-in-None-clause-rows : goal.returns-in-None-clause-rows
+returns-in-None-clause-rows c =
+    ap (each shown) c.new.ensures.items ∙ sym no_categories
+    ∙ ap (λ (o : Option Store). categories_of (held_in o).tables) (sym c.in-None.is)
+    ∙ ap (λ (s : ShardState). categories_of s.folded.tables) c.self.view_is

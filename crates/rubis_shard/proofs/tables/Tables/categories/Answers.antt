@@ -1,0 +1,23 @@
+use Rattle.std.proofs.Common.{◌≡◌, List, ap, subst, ◌∙◌, map as each, arith}
+use Rattle.std.specs.List.Sorted.{IsPermutation}
+use Rattle.std.proofs.lemmas.List.{take_all, take_at}
+use Rattle.rubis_shard.specs.Holdings.{union}
+use Rattle.rubis_shard.specs.Listed.{categories_of}
+use Rattle.rubis_shard.specs.States.{ShardState}
+use Rattle.rubis_shard.specs.Written.{shown}
+use Rattle.rubis_shard.proofs.Picked.{categories_by_shard, union_categories}
+use Rattle.rubis_shard.proofs.tables.Tables.categories.Goals as goal
+
+pub returns : goal.returns
+returns c =
+    let ts : List ShardState = c.self.inside.shards.items in
+    let gs = each shown c.put_in_order.new.rows in
+    let picked : each shown c.deref_mut.result.now ≡ categories_by_shard ts =
+    ap (each shown) c.deref_mut.ensures.value ∙ c.loop-shard.invariant
+    ∙ ap categories_by_shard (take_all _ _ (omega arith) ∙ c.deref-shard-items.ensures.value) in
+    let moved : IsPermutation (categories_by_shard ts) gs = subst (λ fs. IsPermutation fs gs) picked
+    c.put_in_order.ensures.permutation in
+    let whole = take_at c.put_in_order.new.rows _ c.loop-shard.picked.len (c.put_in_order.ensures.len ∙ c.deref_mut.ensures.len) in
+    ap (each shown) whole
+    ∙ union_categories ts gs c.self.invariant moved c.in_ok-put_in_order.ensures.sorted
+    ∙ ap (λ (us : List ShardState). categories_of (union us)) c.self.view_is
