@@ -7,7 +7,8 @@ pub fn every_step_keeps_the_rule()
     ensures { StepsKeepTheRule }
 {}
 
-/// What is on the board changes by the steps as the posted list of the schedule machine does by its posts and takes.
+/// What is on the board changes by the steps, one or many, as the posted list of the schedule machine does by its posts and
+/// takes.
 pub fn steps_move_the_posted()
     ensures { StepsMoveThePosted }
 {}

@@ -5,3 +5,6 @@ pub mod Steps
 pub mod Numbers
 pub mod Batches
 pub mod Posted
+pub mod Hands
+pub mod Threads
+pub mod ThreadExamples

@@ -2,5 +2,6 @@ pub mod Pieces
 pub mod Machine
 pub mod Schedules
 pub mod Posted
+pub mod Threads
 pub mod Batches
 pub mod Codes

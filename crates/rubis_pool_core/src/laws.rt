@@ -1,8 +1,9 @@
-//! The laws of the machine, stated in specs/Schedules, specs/Batches and specs/Posted.
+//! The laws of the machine, stated in specs/Schedules, specs/Batches, specs/Posted and specs/Threads.
 
 ghost use Rattle.rubis_pool_core.specs.Posted.{EventsMoveThePosted};
 ghost use Rattle.rubis_pool_core.specs.Batches.{EveryScheduleFoldsTheBatch};
 ghost use Rattle.rubis_pool_core.specs.Schedules.{EveryScheduleAccounts, StepsAccount};
+ghost use Rattle.rubis_pool_core.specs.Threads.{EveryListOfStepsIsScheduled, EveryRunIsASchedule, PostsFirstAreARun};
 
 /// After every schedule each piece is posted, held by one worker or returned, once, and each shard is the fold of a
 /// beginning of its share.
@@ -21,4 +22,15 @@ pub fn every_schedule_folds_the_batch()
 /// changes by the same moves, and moves fix the list: so after the same posts and takes both hold the same.
 pub fn events_move_the_posted()
     ensures { EventsMoveThePosted }
+{}
+
+/// For each list of steps that a board allows, posts and takes by workers, there is a list of what the machine does, with
+/// these steps in this order, after each prefix of which the machine has posted what is on the board. In it each worker folds
+/// its piece to the end and gives it back before it takes another. That holds not only of one such list: wherever the workers
+/// do their own work between the steps, each in its turn, the machine can do the same, and each Take takes the piece that
+/// its worker took off the board. Where all posts come first, its state is that of a run.
+pub fn every_list_of_steps_is_scheduled()
+    ensures steps { EveryListOfStepsIsScheduled }
+    ensures runs { EveryRunIsASchedule }
+    ensures posts_first { PostsFirstAreARun }
 {}

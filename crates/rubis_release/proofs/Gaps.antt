@@ -2,7 +2,7 @@
 use Rattle.std.proofs.Common.{◌≡◌, ℕ, zero, suc, ◌+◌, ◌<◌, ◌≤◌, ◌||◌, Bool, true, false, cond, List, [], ◌∷◌, ◌++◌, length, get_or, refl, sym, ap, ◌∙◌, subst, inl, inr, arith, length-append}
 use Rattle.std.specs.Prelude.{Option, None, Some, filter, is_some, slice_get, ◌⊎◌}
 use Rattle.std.specs.List.{remove, AllByRecursion, IsDistinct, list_any}
-use Rattle.std.proofs.lemmas.List.{get_or_append_left, get_or_at}
+use Rattle.std.proofs.lemmas.List.{get_or_append_left, get_or_at, nil_from_length}
 use Rattle.indexmap.specs.IndexMap.{insert_entry, set_value_at}
 use Rattle.rubis_schema.specs.declared.ids.Id.{Id}
 use Rattle.rubis_clock.specs.Clocks.{MessageCounts, IsReady}
@@ -22,6 +22,13 @@ un_some a b e = cc
 
 pub no_some : {X : Type 0} (a : X) → None ≡ Some a → ⊥
 no_some a e = cc
+
+-- where there are no slots, nothing waits
+pub nothing_waits : (es : Slots) (ms : List Message) → length es ≡ 0 → somes es ≡ ms → ms ≡ []
+nothing_waits es ms none is = sym is ∙ ap somes (nil_from_length es none)
+
+pub nothing_ready : (clock : MessageCounts) (ms : List Message) → ms ≡ [] → NoneReady clock ms
+nothing_ready clock ms none = subst (NoneReady clock) (sym none) (λ i d less. absurd (omega (arith, less)))
 
 pub values_at : (es : Slots) (i : ℕ) (k : Id) (v : Option Message) → slice_get es i ≡ Some (k, v) → slice_get (values_of es) i ≡ Some v
 values_at [] i k v there = absurd cc

@@ -55,9 +55,14 @@ impl Waiting {
     }
 
     // Whether a message with that id waits.
+    #[inline(always)]
     pub fn has(&self, id: &Id) -> bool
         ensures { result ≡ list_any (λ m. same_id id.now m.stamp.id) self.now }
     {
+        // Mostly nothing waits.
+        if self.slots.is_empty() {
+            return false;
+        }
         // For the clause that no two slots have one id.
         let _many = self.slots.len();
         has_message(&self.slots, id)
@@ -87,6 +92,9 @@ impl Waiting {
         requires { AllAmong (length clock.now.counts) self.old }
         ensures { MatchOption result (NoneTaken clock.now self.old self.new) (λ m. TakesFirst clock.now self.old m self.new) }
     {
+        if self.slots.is_empty() {
+            return None;
+        }
         // For the clause that there are not too many.
         let _many = self.slots.len();
         let at = first_ready(&self.slots, clock)?;

@@ -1,6 +1,7 @@
 use Rattle.std.proofs.Common.{refl, [], ◌∷◌}
 use Rattle.rubis_board.specs.declared.rule.Item.TheVariants.{Work}
 use Rattle.rubis_board.proofs.Items.{content_append, content_marked}
+use Rattle.rubis_board.proofs.ManySteps.{moves}
 use Rattle.rubis_board.proofs.laws.steps_move_the_posted.Goals as goal
 
 pub returns : goal.returns
@@ -10,4 +11,5 @@ returns c =
       take = λ items p. refl;
       mark = content_marked;
       take_mark = λ items. refl;
+      all = moves;
     }

@@ -1,9 +1,14 @@
-use Rattle.std.proofs.Common.{ap, ◌∙◌}
+use Rattle.std.proofs.Common.{refl, sym, ap, ◌∙◌}
 use Rattle.std.specs.List.{list_any}
 use Rattle.rubis_schema.specs.Keys.{same_id}
 use Rattle.rubis_message.specs.Message.{Message}
-use Rattle.rubis_release.proofs.Gaps.{has_told}
+use Rattle.rubis_release.proofs.Gaps.{has_told, nothing_waits}
 use Rattle.rubis_release.proofs.waiting.Waiting.has.Goals as goal
+
+pub returns-then-is_empty : goal.returns-then-is_empty
+returns-then-is_empty c =
+    ap (list_any (λ (m : Message). same_id c.args.id.now m.stamp.id))
+    (sym (nothing_waits c.self.inside.slots.entries c.args.self.now (c.if-is_empty.ensures.0 refl) c.self.view_is))
 
 pub returns : goal.returns
 returns c =

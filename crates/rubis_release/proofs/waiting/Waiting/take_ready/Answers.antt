@@ -4,11 +4,18 @@ use Rattle.indexmap.specs.IndexMap.{set_value_at}
 use Rattle.rubis_message.specs.Message.{Message}
 use Rattle.rubis_release.specs.Release.{AllAmong, NoneReady}
 use Rattle.rubis_release.specs.Waiting.{AreSlots, NoneTaken, TakesFirst, somes}
-use Rattle.rubis_release.proofs.Gaps.{none_of_slots, taken_first, slots_stay, values_at, un_some, no_some}
+use Rattle.rubis_release.proofs.Gaps.{nothing_waits, nothing_ready, none_of_slots, taken_first, slots_stay, values_at, un_some, no_some}
 use Rattle.rubis_release.proofs.waiting.Waiting.take_ready.Goals as goal
 
 pub first_ready-requires-clause-among : goal.first_ready-requires-clause-among
 first_ready-requires-clause-among c = subst (AllAmong (length c.args.clock.now.counts)) (sym c.self.view_is) c.requires
+
+pub returns-then-is_empty : goal.returns-then-is_empty
+returns-then-is_empty c = (
+  nothing_ready c.args.clock.now c.args.self.now
+      (nothing_waits c.self.inside.slots.entries c.args.self.now (c.if-is_empty.ensures.0 refl) c.self.view_is),
+  refl,
+)
 
 pub returns-in_err-at : goal.returns-in_err-at
 returns-in_err-at c =
