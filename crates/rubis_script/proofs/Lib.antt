@@ -3,3 +3,6 @@ pub mod SiteAnswers
 pub mod OneReading
 pub mod WindowFacts
 pub mod ReplayFacts
+pub mod HeadlineExamples
+pub mod LeadFacts
+pub mod TurnFacts

@@ -1,30 +1,33 @@
--- What a desk that holds nothing has still to write, and how many records are answered.
-use Rattle.std.proofs.Common.{◌++◌, ◌∷◌, zero, suc, append-nil, append_assoc, length-append, ◌≡◌, ◌≤◌, ◌<◌, ◌+◌, ◌⊎◌, inl, inr, [], ℕ, All, List, Option, arith, length, refl, subst, sym, ap}
+-- What a desk that holds nothing has still to write, how many records are answered, and where they lead.
+use Rattle.std.proofs.Common.{◌++◌, ◌∷◌, ◌∙◌, zero, suc, append-nil, append_assoc, length-append, ◌≡◌, ◌≤◌, ◌<◌, ◌+◌, ◌⊎◌, inl, inr, [], ℕ, All, List, Option, arith, length, refl, subst, sym, ap, take}
+use Rattle.std.specs.Io.KnownBytes.{Appends}
+use Rattle.rubis_script.specs.Headline.{AnswersAll, AnswersFirst, AnswersSome, Settles, StepsOn}
 use Rattle.rubis_script.specs.SiteRuns.{told_by}
 use Rattle.rubis_script.specs.Windows.{AreHeld, held_by}
+use Rattle.rubis_script.proofs.LeadFacts.{SiteEnds, held_steps, led_all, led_kept, led_more, led_none, take_all, take_at}
 use Rattle.rubis_script.proofs.WindowFacts.{held_none, holds_more}
-use Rattle.rubis_engine.specs.Accounts.{Account, Ending, Keeps}
+use Rattle.rubis_engine.specs.Accounts.{AnswersRecord, Ending, Keeps}
+use Rattle.rubis_engine.specs.declared.service.Course.TheVariants.{GoesOn}
 use Rattle.rubis_message.specs.Message.{Message, sites_of}
 use Rattle.rubis_message.specs.declared.tokens.Packet.TheVariants.{Msg}
 use Rattle.rubis_model.specs.Site.{Place}
 use Rattle.rubis_reading.specs.Runs.{all_came}
-use Rattle.rubis_reading.specs.Steps.{HasAhead}
 use Rattle.rubis_reading.specs.declared.parsed.Parsed.TheVariants.{Came}
-use Rattle.rubis_model.specs.Runs.{answers}
+use Rattle.rubis_model.specs.Runs.{answers, input_of}
 use Rattle.rubis_engine.specs.Text.{input_records}
 use Rattle.rubis_reading.specs.Chunked.{HasPending}
 use Rattle.rubis_reading.specs.declared.chunks.Chunks.{Chunks}
-use Rattle.rubis_reading.specs.Parsed.{AreParsed, FitsIn}
-use Rattle.rubis_reading.proofs.AheadFacts.{ahead-answered, ahead-kept, ahead-starts, all-fit}
+use Rattle.rubis_reading.specs.Parsed.{AreParsed, FitsIn, meant}
+use Rattle.rubis_reading.proofs.AheadFacts.{ahead-answered, ahead-done, ahead-kept, ahead-prefix, ahead-read, ahead-starts, ahead-too_long, ahead-written, all-fit}
 use Rattle.rubis_reading.specs.declared.parsed.Parsed.{Parsed}
 use Rattle.rubis_replica.specs.State.{SiteState}
-use Rattle.rubis_engine.specs.Accounts.Ending.{AtEnd}
-use Rattle.rubis_engine.specs.Progress.{IsCut, IsDone, IsRun, IsTooLong, WrotePrefix}
+use Rattle.rubis_engine.specs.Accounts.Ending.{AtEnd, Cut}
+use Rattle.rubis_engine.specs.Progress.{WrotePrefix}
 use Rattle.rubis_engine.specs.declared.fault.Count.{Count}
 use Rattle.rubis_engine.specs.declared.fault.RunFault.{RunFault}
 use Rattle.rubis_engine.specs.declared.fault.RunFault.TheVariants as fault
-use Rattle.rubis_script.specs.Runs.{HasReadAhead, IsSound, OfEachAhead, StandsWith}
-use Rattle.std.specs.Prelude.{IfOk, IfSome, IsErrOf, Result, Ok, Err, Some, None}
+use Rattle.rubis_script.specs.Runs.{HasReadAhead, IsSound, OfEachAhead, Stands, StandsWith}
+use Rattle.std.specs.Prelude.{IfOk, IfSome, OnOk, IsErrOf, Result, Ok, Err, Some, None}
 use Rattle.rubis_script.specs.declared.backlog.Backlog.{Backlog}
 
 -- where nothing is held, nothing is left to be written after the last record
@@ -61,26 +64,128 @@ pub parsed-read : (sites s : ℕ) (text text2 : List ℕ) (items list : List Par
 parsed-read sites s text text2 items list same shown is h =
     subst (λ l. AreParsed sites (input_records text2) l) (sym is) (subst (λ t. AreParsed sites (input_records t) items) shown (subst (λ k. AreParsed k (input_records text) items) same h))
 
+-- what holds of a call that went well
+pub at_ok : {T E P : Type 0} (r : Result T E) (v : T) → OnOk r P → r ≡ Ok v → P
+at_ok (Ok x) v h e = h
+at_ok (Err x) v h e = absurd cc
+
 -- nothing was read or answered yet
 pub starts : {R : Type 0} (rem : R → Option (List ℕ)) (chunks : Chunks R) (s : SiteState) (b : Backlog) (old : Option (List ℕ)) (input : List ℕ)
-    → b.ahead ≡ [] → b.window.items ≡ [] → b.reply.sink ≡ [] → b.answered ≡ 0 → HasPending rem chunks (input_records input) → HasReadAhead rem chunks s b (told_by s 1) old old input
+    → b.ahead ≡ [] → b.window.items ≡ [] → b.reply.sink ≡ [] → b.answered ≡ 0 → HasPending rem chunks (input_records input) → HasReadAhead rem chunks s b s old old input
 starts rem chunks s b old input ahead window sink none pending = record {
   later = input_records input;
-  stands = ahead-starts s.place.sites b.ahead (told_by s 1) (held_by s b.window.items (b.answered + 1)) old b.reply.sink (b.answered + 1) (input_records input) ahead sink (omega (arith, none))
-      (held-told s b.window.items (b.answered + 1) window (omega (arith, none)));
+  stands = record {
+    text = ahead-starts s.place.sites b.ahead (told_by s 1) (held_by s b.window.items (b.answered + 1)) old b.reply.sink (b.answered + 1) (input_records input) ahead sink (omega (arith, none))
+        (held-told s b.window.items (b.answered + 1) window (omega (arith, none)));
+    led = led_none s b.window.items b.answered (input_records input) window none;
+  };
   pending = pending;
 }
 
 -- the same, where what was read ahead is kept otherwise
-pub same-stands : (s : SiteState) (b b2 : Backlog) (all : Account) (old now : Option (List ℕ)) (records later : List (List (List ℕ)))
+pub same-stands : (s : SiteState) (b b2 : Backlog) (first : SiteState) (old now : Option (List ℕ)) (records later : List (List (List ℕ)))
     → b2.ahead ≡ b.ahead → b2.window.items ≡ b.window.items → b2.reply.sink ≡ b.reply.sink → b2.answered ≡ b.answered
-    → StandsWith s b all old now records later → StandsWith s b2 all old now records later
-same-stands s b b2 all old now records later ahead window sink count h =
-    let n = b.answered + 1 in
-    let h1 = subst (λ l. HasAhead s.place.sites l all (held_by s b.window.items n) old now b.reply.sink n records later) (sym ahead) h in
-    let h2 = subst (λ w. HasAhead s.place.sites b2.ahead all (held_by s w n) old now b.reply.sink n records later) (sym window) h1 in
-    let h3 = subst (λ t. HasAhead s.place.sites b2.ahead all (held_by s b2.window.items n) old now t n records later) (sym sink) h2 in
-    subst (λ k. HasAhead s.place.sites b2.ahead all (held_by s b2.window.items (k + 1)) old now b2.reply.sink (k + 1) records later) (sym count) h3
+    → StandsWith s b first old now records later → StandsWith s b2 first old now records later
+same-stands s b b2 first old now records later ahead window sink count h =
+    let h1 = subst (λ l. Stands s l b.window.items b.reply.sink b.answered first old now records later) (sym ahead) h in
+    let h2 = subst (λ w. Stands s b2.ahead w b.reply.sink b.answered first old now records later) (sym window) h1 in
+    let h3 = subst (λ t. Stands s b2.ahead b2.window.items t b.answered first old now records later) (sym sink) h2 in
+    subst (λ k. Stands s b2.ahead b2.window.items b2.reply.sink k first old now records later) (sym count) h3
+
+-- ---- a step
+
+first_read : (sites : ℕ) (rows : List (List (List ℕ))) (p : Parsed) (left : List Parsed) → AreParsed sites rows (p ∷ left)
+    → (fields : List (List ℕ)) × (more : List (List (List ℕ))) × (rows ≡ fields ∷ more) × (input_of sites fields ≡ meant p)
+unfolding AreParsed
+first_read sites [] p left h = absurd h
+first_read sites (fields ∷ more) p left h = (fields, more, refl, h.0.means)
+
+-- one more is answered or held
+pub stands-answered : (s s2 : SiteState) (ps left : List Parsed) (p : Parsed) (w w2 : List Message) (first : SiteState) (old now : Option (List ℕ)) (sink sink2 : List ℕ)
+    (answered : ℕ) (records later : List (List (List ℕ))) → ps ≡ p ∷ left
+    → ((fields : List (List ℕ)) → input_of s.place.sites fields ≡ meant p
+    → AnswersRecord GoesOn (held_by s w (answered + 1)) (held_by s2 w2 (answered + 1 + 1)) sink sink2 fields)
+    → StepsOn (answered + 1) (meant p) s w s2 w2
+    → Stands s ps w sink answered first old now records later → Stands s2 left w2 sink2 (answered + 1) first old now records later
+stands-answered s s2 ps left p w w2 first old now sink sink2 answered records later e answers steps stands =
+    let h = stands.text in
+    let (fields, more, rows, means) = first_read s.place.sites h.next p left (subst (λ l. AreParsed s.place.sites h.next l) e h.parsed) in
+    let on : StepsOn (answered + 1) (input_of s.place.sites fields) s w s2 w2 = subst (λ i. StepsOn (answered + 1) i s w s2 w2) (sym means) steps in record {
+      text = ahead-answered s.place.sites s2.place.sites ps left p (told_by first 1) (held_by s w (answered + 1)) (held_by s2 w2 (answered + 1 + 1)) old now sink sink2 (answered + 1) records later
+          (ap (λ p. p.sites) steps.0) e answers h;
+      led = led_more first s s2 w w2 h.done (more ++ later) fields answered records (h.parts ∙ ap (λ r. h.done ++ (r ++ later)) rows) (omega (arith, h.count)) on stands.led;
+    }
+
+-- messages that were held are taken in
+pub stands-kept : (s s2 : SiteState) (ps : List Parsed) (w w2 : List Message) (first : SiteState) (old now : Option (List ℕ)) (sink sink2 : List ℕ)
+    (answered : ℕ) (records later : List (List (List ℕ))) → Keeps (held_by s w (answered + 1)) (held_by s2 w2 (answered + 1)) sink sink2 → Settles s w s2 w2
+    → Stands s ps w sink answered first old now records later → Stands s2 ps w2 sink2 answered first old now records later
+stands-kept s s2 ps w w2 first old now sink sink2 answered records later keeps settles stands = record {
+  text = ahead-kept s.place.sites s2.place.sites ps (told_by first 1) (held_by s w (answered + 1)) (held_by s2 w2 (answered + 1)) old now sink sink2 (answered + 1) records later
+      (ap (λ p. p.sites) settles.0) keeps stands.text;
+  led = led_kept first s s2 w w2 answered records settles stands.led;
+}
+
+-- what waited was written out
+pub stands-written : (s : SiteState) (ps : List Parsed) (w : List Message) (first : SiteState) (old now now2 : Option (List ℕ)) (sink sink2 : List ℕ)
+    (answered : ℕ) (records later : List (List (List ℕ))) → Appends now now2 sink → sink2 ≡ []
+    → Stands s ps w sink answered first old now records later → Stands s ps w sink2 answered first old now2 records later
+stands-written s ps w first old now now2 sink sink2 answered records later out none stands = record {
+  text = ahead-written s.place.sites ps (told_by first 1) (held_by s w (answered + 1)) old now now2 sink sink2 (answered + 1) records later out none stands.text;
+  led = stands.led;
+}
+
+-- all that was read ahead was answered, and more was read
+pub stands-read : (s : SiteState) (ps list : List Parsed) (w : List Message) (first : SiteState) (old now : Option (List ℕ)) (sink : List ℕ)
+    (answered : ℕ) (records later rows rest : List (List (List ℕ))) → ps ≡ [] → later ≡ rows ++ rest → AreParsed s.place.sites rows list
+    → Stands s ps w sink answered first old now records later → Stands s list w sink answered first old now records rest
+stands-read s ps list w first old now sink answered records later rows rest none split parsed stands = record {
+  text = ahead-read s.place.sites s.place.sites ps list (told_by first 1) (held_by s w (answered + 1)) old now sink (answered + 1) records later rows rest refl none split parsed stands.text;
+  led = stands.led;
+}
+
+-- ---- how it ends
+
+-- whatever happens next, a prefix of the text was written
+pub stands-prefix : (s : SiteState) (ps : List Parsed) (w : List Message) (first : SiteState) (old now now2 : Option (List ℕ)) (sink : List ℕ)
+    (answered : ℕ) (records later : List (List (List ℕ))) → now2 ≡ now → Stands s ps w sink answered first old now records later
+    → WrotePrefix ((told_by first 1).text AtEnd) old now2 records
+stands-prefix s ps w first old now now2 sink answered records later same stands =
+    ahead-prefix s.place.sites ps (told_by first 1) (held_by s w (answered + 1)) old now now2 sink (answered + 1) records later same stands.text
+
+-- all is answered
+pub stands-done : (s : SiteState) (ps : List Parsed) (w : List Message) (first : SiteState) (old now : Option (List ℕ)) (sink : List ℕ)
+    (answered limit : ℕ) (records later : List (List (List ℕ))) → sink ≡ [] → w ≡ [] → ps ≡ [] → later ≡ [] → answered ≤ limit
+    → Stands s ps w sink answered first old now records later → AnswersAll limit first s old now records answered
+stands-done s ps w first old now sink answered limit records later empty none ahead last within stands =
+    let done = ahead-done s.place.sites ps (told_by first 1) (held_by s w (answered + 1)) old now sink (answered + 1) answered limit records later
+    empty (held-end s w (answered + 1) AtEnd none) refl ahead last refl within stands.text in
+    ((done.0, led_all first s w answered records records none (take_all records answered done.1) stands.led), done.1, done.2)
+
+-- as many as are taken were answered, and there are more
+pub stands-too_long : (s : SiteState) (ps : List Parsed) (w : List Message) (first : SiteState) (old now : Option (List ℕ)) (sink : List ℕ)
+    (answered limit : ℕ) (records later : List (List (List ℕ))) → sink ≡ [] → w ≡ [] → 0 < length ps → answered ≡ limit
+    → Stands s ps w sink answered first old now records later → AnswersFirst limit first s old now records
+stands-too_long s ps w first old now sink answered limit records later empty none some last stands =
+    let long = ahead-too_long s.place.sites ps (told_by first 1) (held_by s w (answered + 1)) old now sink (answered + 1) limit records later
+    empty (held-end s w (answered + 1) Cut none) (λ fields rest. omega arith) some (omega (arith, last)) stands.text in
+    ((long.0, led_all first s w answered records (take limit records) none (ap (λ k. take k records) last) stands.led), long.1)
+
+-- the run is cut short where nothing is held
+pub stands-cut : (s : SiteState) (ps : List Parsed) (w : List Message) (first : SiteState) (old now : Option (List ℕ)) (sink : List ℕ)
+    (answered : ℕ) (records later : List (List (List ℕ))) → sink ≡ [] → w ≡ []
+    → Stands s ps w sink answered first old now records later → AnswersSome first s old now records
+stands-cut s ps w first old now sink answered records later empty none stands =
+    let h = stands.text in
+    let all = told_by first 1 in
+    let more = held_by s w (answered + 1) in
+    let done : take answered records ≡ h.done = ap (take answered) h.parts ∙ take_at h.done (h.next ++ later) answered (omega (arith, h.count)) in
+    let text : all.text Cut (take answered records) ≡ h.written =
+    ap (all.text Cut) (done ∙ sym (append-nil h.done)) ∙ h.told Cut [] ∙ ap (λ t. h.written ++ (t ++ more.text Cut [])) empty
+    ∙ ap (λ t. h.written ++ t) (held-end s w (answered + 1) Cut none) ∙ append-nil h.written in (
+      answered,
+      (subst (λ t. Appends old now t) (sym text) h.appended, led_all first s w answered records (take answered records) none refl stands.led),
+    )
 
 -- ---- messages that came together
 
@@ -102,49 +207,49 @@ pub all-held : (p : Place) (ms : List Message) (answered many : ℕ) → many �
 all-held p ms answered many size fits = record { sites = all-sites p.sites ms fits; few = omega (arith, size) }
 
 -- they are held, after those that are
-holds-run : (s : SiteState) (ms w : List Message) (left : List Parsed) (all : Account) (old now : Option (List ℕ)) (sink : List ℕ) (n : ℕ) (records later : List (List (List ℕ)))
-    → length w ≤ n → HasAhead s.place.sites (all_came ms ++ left) all (held_by s w n) old now sink n records later
-    → HasAhead s.place.sites left all (held_by s (w ++ ms) (n + length ms)) old now sink (n + length ms) records later
-holds-run s [] w left all old now sink n records later few h =
-    let here : n ≡ n + 0 = omega arith in
-    subst (λ k. HasAhead s.place.sites left all (held_by s (w ++ []) k) old now sink k records later) here
-    (subst (λ v. HasAhead s.place.sites left all (held_by s v n) old now sink n records later) (sym (append-nil w)) h)
-holds-run s (m ∷ ms) w left all old now sink n records later few h =
+holds-run : (s : SiteState) (ms w : List Message) (left : List Parsed) (first : SiteState) (old now : Option (List ℕ)) (sink : List ℕ) (answered : ℕ) (records later : List (List (List ℕ)))
+    → length w ≤ answered + 1 → Stands s (all_came ms ++ left) w sink answered first old now records later
+    → Stands s left (w ++ ms) sink (answered + length ms) first old now records later
+holds-run s [] w left first old now sink answered records later few h =
+    let here : answered ≡ answered + 0 = omega arith in
+    subst (λ k. Stands s left (w ++ []) sink k first old now records later) here
+    (subst (λ v. Stands s left v sink answered first old now records later) (sym (append-nil w)) h)
+holds-run s (m ∷ ms) w left first old now sink answered records later few h =
     let rest = all_came ms ++ left in
-    let one = ahead-answered s.place.sites s.place.sites (Came (Msg m) ∷ rest) rest (Came (Msg m)) all (held_by s w n) (held_by s (w ++ m ∷ []) (n + 1)) old now sink sink n records later refl refl
-    (λ fields is. holds_more s n w m fields sink few is) h in
-    let more = holds-run s ms (w ++ m ∷ []) left all old now sink (n + 1) records later (omega (arith, few, length-append w (m ∷ []))) one in
-    let number : n + 1 + length ms ≡ n + length (m ∷ ms) = omega arith in
-    subst (λ k. HasAhead s.place.sites left all (held_by s (w ++ (m ∷ ms)) k) old now sink k records later) number
-    (subst (λ v. HasAhead s.place.sites left all (held_by s v (n + 1 + length ms)) old now sink (n + 1 + length ms) records later) (append_assoc w (m ∷ []) ms) more)
+    let one = stands-answered s s (Came (Msg m) ∷ rest) rest (Came (Msg m)) w (w ++ m ∷ []) first old now sink sink answered records later refl
+    (λ fields is. holds_more s (answered + 1) w m fields sink few is) (held_steps s (answered + 1) w m (meant (Came (Msg m))) refl) h in
+    let more = holds-run s ms (w ++ m ∷ []) left first old now sink (answered + 1) records later (omega (arith, few, length-append w (m ∷ []))) one in
+    let number : answered + 1 + length ms ≡ answered + length (m ∷ ms) = omega arith in
+    subst (λ k. Stands s left (w ++ (m ∷ ms)) sink k first old now records later) number
+    (subst (λ v. Stands s left v sink (answered + 1 + length ms) first old now records later) (append_assoc w (m ∷ []) ms) more)
 
 -- those that were held were taken in, and these are held
-pub run-held : (old_site site : SiteState) (w ms : List Message) (left : List Parsed) (all : Account) (old now : Option (List ℕ)) (sink sink2 : List ℕ) (answered many : ℕ)
-    (records later : List (List (List ℕ))) → many ≡ length ms → site.place ≡ old_site.place
+pub run-held : (old_site site : SiteState) (w w2 ms : List Message) (left : List Parsed) (first : SiteState) (old now : Option (List ℕ)) (sink sink2 : List ℕ) (answered many : ℕ)
+    (records later : List (List (List ℕ))) → many ≡ length ms → Settles old_site w site w2 → w2 ≡ []
     → Keeps (held_by old_site w (answered + 1)) (told_by site (answered + 1)) sink sink2
-    → HasAhead old_site.place.sites (all_came ms ++ left) all (held_by old_site w (answered + 1)) old now sink (answered + 1) records later
-    → HasAhead site.place.sites left all (held_by site ms (answered + many + 1)) old now sink2 (answered + many + 1) records later
-run-held old_site site w ms left all old now sink sink2 answered many records later size place keeps h =
-    let n = answered + 1 in
-    let kept : HasAhead site.place.sites (all_came ms ++ left) all (held_by site [] n) old now sink2 n records later =
-    ahead-kept old_site.place.sites site.place.sites (all_came ms ++ left) all (held_by old_site w n) (told_by site n) old now sink sink2 n records later (ap (λ p. p.sites) place) keeps h in
-    let number : n + length ms ≡ answered + many + 1 = omega (arith, size) in
-    subst (λ k. HasAhead site.place.sites left all (held_by site ms k) old now sink2 k records later) number
-    (holds-run site ms [] left all old now sink2 n records later (omega arith) kept)
+    → Stands old_site (all_came ms ++ left) w sink answered first old now records later
+    → Stands site left ms sink2 (answered + many) first old now records later
+run-held old_site site w w2 ms left first old now sink sink2 answered many records later size settles none keeps h =
+    let settled : Settles old_site w site [] = subst (λ v. Settles old_site w site v) none settles in
+    let kept : Stands site (all_came ms ++ left) [] sink2 answered first old now records later =
+    stands-kept old_site site (all_came ms ++ left) w [] first old now sink sink2 answered records later keeps settled h in
+    let number : answered + length ms ≡ answered + many = omega (arith, size) in
+    subst (λ k. Stands site left ms sink2 k first old now records later) number
+    (holds-run site ms [] left first old now sink2 answered records later (omega arith) kept)
 
 -- a run that has read nothing ahead so far ends so
-pub ends_ahead : {R : Type 0} (rem : R → Option (List ℕ)) (chunks : Chunks R) (s : SiteState) (b : Backlog) (all : Account) (limit : ℕ)
-    (input old new : Option (List ℕ)) (result : Result Count RunFault)
+pub ends_ahead : {R : Type 0} (rem : R → Option (List ℕ)) (chunks : Chunks R) (s : SiteState) (b : Backlog) (new : SiteState) (limit : ℕ)
+    (input old now : Option (List ℕ)) (result : Result Count RunFault)
     → IfSome input (λ bytes. HasPending rem chunks (input_records bytes))
-    → ((bytes : List ℕ) → HasPending rem chunks (input_records bytes) → HasReadAhead rem chunks s b all old old bytes)
-    → IfOk result (λ count. OfEachAhead rem chunks s b old (λ all old bytes. IsDone all limit old new (input_records bytes) count.records))
-    → (IsErrOf result fault.TooLong → OfEachAhead rem chunks s b old (λ all old bytes. IsTooLong all limit old new (input_records bytes)))
-    → (IsErrOf result fault.Read → OfEachAhead rem chunks s b old (λ all old bytes. IsCut all old new (input_records bytes)))
-    → (IsErrOf result fault.Memory → OfEachAhead rem chunks s b old (λ all old bytes. WrotePrefix (all.text AtEnd) old new (input_records bytes)))
-    → IsRun all limit input old new result
-ends_ahead rem chunks s b all limit None old new result pending starts done long cut prefix = tt
-ends_ahead rem chunks s b all limit (Some bytes) old new (Ok count) pending starts done long cut prefix = done all old bytes (starts bytes pending)
-ends_ahead rem chunks s b all limit (Some bytes) old new (Err fault.TooLong) pending starts done long cut prefix = long refl all old bytes (starts bytes pending)
-ends_ahead rem chunks s b all limit (Some bytes) old new (Err fault.Read) pending starts done long cut prefix = cut refl all old bytes (starts bytes pending)
-ends_ahead rem chunks s b all limit (Some bytes) old new (Err fault.Memory) pending starts done long cut prefix = prefix refl all old bytes (starts bytes pending)
-ends_ahead rem chunks s b all limit (Some bytes) old new (Err fault.Write) pending starts done long cut prefix = tt
+    → ((bytes : List ℕ) → HasPending rem chunks (input_records bytes) → HasReadAhead rem chunks s b s old old bytes)
+    → IfOk result (λ count. OfEachAhead rem chunks s b old (λ first old bytes. AnswersAll limit first new old now (input_records bytes) count.records))
+    → (IsErrOf result fault.TooLong → OfEachAhead rem chunks s b old (λ first old bytes. AnswersFirst limit first new old now (input_records bytes)))
+    → (IsErrOf result fault.Read → OfEachAhead rem chunks s b old (λ first old bytes. AnswersSome first new old now (input_records bytes)))
+    → (IsErrOf result fault.Memory → OfEachAhead rem chunks s b old (λ first old bytes. WrotePrefix ((told_by first 1).text AtEnd) old now (input_records bytes)))
+    → IfSome input (λ bytes. SiteEnds limit s new old now (input_records bytes) result)
+ends_ahead rem chunks s b new limit None old now result pending starts done long cut prefix = tt
+ends_ahead rem chunks s b new limit (Some bytes) old now (Ok count) pending starts done long cut prefix = done s old bytes (starts bytes pending)
+ends_ahead rem chunks s b new limit (Some bytes) old now (Err fault.TooLong) pending starts done long cut prefix = long refl s old bytes (starts bytes pending)
+ends_ahead rem chunks s b new limit (Some bytes) old now (Err fault.Read) pending starts done long cut prefix = cut refl s old bytes (starts bytes pending)
+ends_ahead rem chunks s b new limit (Some bytes) old now (Err fault.Memory) pending starts done long cut prefix = prefix refl s old bytes (starts bytes pending)
+ends_ahead rem chunks s b new limit (Some bytes) old now (Err fault.Write) pending starts done long cut prefix = tt

@@ -19,14 +19,11 @@ use Rattle.rubis_script.specs.SiteRuns.{told_by}
 use Rattle.rubis_engine.specs.declared.record_list.Records.{Records}
 use Rattle.rubis_engine.specs.Text.{rows_text}
 use Rattle.rubis_script.specs.Windows.{AreHeld, arrivals_rows, held_by, window_rows}
+use Rattle.rubis_script.proofs.LeadFacts.{after_more}
 use Rattle.rubis_script.proofs.SiteAnswers.{site_goes}
 use Rattle.rubis_engine.proofs.TextFacts.{text-goes}
 
 -- ---- a message more is held
-
-after_more : (p : Place) (s : Replica) (ms : List Message) (m : Message) → after_all p s (ms ++ m ∷ []) ≡ (arrived p (after_all p s ms) m).0
-after_more p s [] m = refl
-after_more p s (x ∷ ms) m = after_more p (arrived p s x).0 ms m
 
 rows_more : (p : Place) (s : Replica) (n : ℕ) (w : List Message) (m : Message)
     → window_rows p s n (w ++ m ∷ []) ≡ window_rows p s n w ++ (input_step p (after_all p s w) (n + length w) (Came (Msg m))).1

@@ -1,7 +1,9 @@
 -- A run that reads ahead, at the desk of a site.
 use Rattle.std.specs.Prelude.{◌+◌, ◌++◌, ℕ, All, List, Option}
+use Rattle.rubis_message.specs.Message.{Message}
+use Rattle.rubis_script.specs.Headline.{HasLed}
+use Rattle.rubis_script.specs.SiteRuns.{told_by}
 use Rattle.rubis_script.specs.Windows.{AreHeld, held_by}
-use Rattle.rubis_engine.specs.Accounts.{Account}
 use Rattle.rubis_engine.specs.Text.{input_records}
 use Rattle.rubis_reading.specs.Chunked.{HasPending}
 use Rattle.rubis_reading.specs.Parsed.{FitsIn}
@@ -16,36 +18,40 @@ pub record IsSound (s : SiteState) (b : Backlog) : Type 0 where
   pub held : AreHeld s.place b.window.items b.answered
   pub fits : All (λ p. FitsIn s.place.sites p) b.ahead
 
--- the run stands there, with these records to come later than those that were read ahead
-abbrev pub StandsWith : SiteState → Backlog → Account → Option (List ℕ) → Option (List ℕ) → List (List (List ℕ)) → List (List (List ℕ)) → Type 0
-StandsWith s b all old now records later = HasAhead s.place.sites b.ahead all (held_by s b.window.items
-    (b.answered + 1)) old now b.reply.sink (b.answered + 1) records later
+-- the run stands there, with these records to come later than those that were read ahead; `first` is the state in which it began
+pub record Stands (s : SiteState) (ahead : List Parsed) (held : List Message) (sink : List ℕ) (answered : ℕ) (first : SiteState) (old now : Option (List ℕ))
+    (records later : List (List (List ℕ))) : Type 0 where
+  pub text : HasAhead s.place.sites ahead (told_by first 1) (held_by s held (answered + 1)) old now sink (answered + 1) records later
+  pub led : HasLed first s held answered records
+
+abbrev pub StandsWith : SiteState → Backlog → SiteState → Option (List ℕ) → Option (List ℕ) → List (List (List ℕ)) → List (List (List ℕ)) → Type 0
+StandsWith s b first old now records later = Stands s b.ahead b.window.items b.reply.sink b.answered first old now records later
 
 -- wherever the run stood, it has come to stand here, with nothing written
 abbrev pub GoesOn : SiteState → Backlog → SiteState → Backlog → Type 0
-GoesOn s b s2 b2 = (all : Account) (old now : Option (List ℕ)) (records later : List (List (List ℕ))) → StandsWith s b all old now records later
-    → StandsWith s2 b2 all old now records later
+GoesOn s b s2 b2 = (first : SiteState) (old now : Option (List ℕ)) (records later : List (List (List ℕ)))
+    → StandsWith s b first old now records later → StandsWith s2 b2 first old now records later
 
 -- the same, with these records taken off the front of what was read ahead, and answered or held
 abbrev pub GoesOnFrom : List Parsed → SiteState → Backlog → SiteState → Backlog → Type 0
-GoesOnFrom first s b s2 b2 = (all : Account) (old now : Option (List ℕ)) (records later : List (List (List ℕ)))
-    → HasAhead s.place.sites (first ++ b.ahead) all (held_by s b.window.items (b.answered + 1)) old now b.reply.sink (b.answered + 1) records later
-    → StandsWith s2 b2 all old now records later
+GoesOnFrom front s b s2 b2 = (first : SiteState) (old now : Option (List ℕ)) (records later : List (List (List ℕ)))
+    → Stands s (front ++ b.ahead) b.window.items b.reply.sink b.answered first old now records later
+    → StandsWith s2 b2 first old now records later
 
 -- and `after` has come to be written in place of `before`
 abbrev pub GoesOnWriting : SiteState → Backlog → SiteState → Backlog → Option (List ℕ) → Option (List ℕ) → Type 0
-GoesOnWriting s b s2 b2 before after = (all : Account) (old : Option (List ℕ)) (records later : List (List (List ℕ)))
-    → StandsWith s b all old before records later → StandsWith s2 b2 all old after records later
+GoesOnWriting s b s2 b2 before after = (first : SiteState) (old : Option (List ℕ)) (records later : List (List (List ℕ)))
+    → StandsWith s b first old before records later → StandsWith s2 b2 first old after records later
 
 -- the records of the input are those that were answered or are held, those that were read ahead, and those of the text that is left
-pub record HasReadAhead {R : Type 0} (rem : R → Option (List ℕ)) (chunks : Chunks R) (s : SiteState) (b : Backlog) (all : Account) (old now : Option
+pub record HasReadAhead {R : Type 0} (rem : R → Option (List ℕ)) (chunks : Chunks R) (s : SiteState) (b : Backlog) (first : SiteState) (old now : Option
     (List ℕ)) (input : List ℕ) : Type 0 where
   pub later : List (List (List ℕ))
-  pub stands : StandsWith s b all old now (input_records input) later
+  pub stands : StandsWith s b first old now (input_records input) later
   pub pending : HasPending rem chunks later
 
--- of every run that stands there this holds
+-- of every run that stands there this holds, `first` being the state in which it began
 abbrev pub OfEachAhead : {R : Type 0} → (R → Option (List ℕ)) → Chunks R → SiteState → Backlog → Option (List ℕ)
-    → (Account → Option (List ℕ) → List ℕ → Type 0) → Type 0
-OfEachAhead rem chunks s b now holds = (all : Account) (old : Option (List ℕ)) (input : List ℕ) → HasReadAhead rem chunks s b all old now input
-    → holds all old input
+    → (SiteState → Option (List ℕ) → List ℕ → Type 0) → Type 0
+OfEachAhead rem chunks s b now holds = (first : SiteState) (old : Option (List ℕ)) (input : List ℕ) → HasReadAhead rem chunks s b first old now input
+    → holds first old input

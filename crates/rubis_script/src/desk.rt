@@ -13,10 +13,12 @@ ghost use Rattle.rubis_model.specs.Runs.{input_of};
 ghost use Rattle.rubis_model.specs.Runs.Input.{Asked, Came};
 ghost use Rattle.rubis_message.specs.Readings.{packet_of};
 ghost use Rattle.rubis_model.specs.Site.{opening_at};
+ghost use Rattle.rubis_replica.specs.Arrivals.{after_all};
 ghost use Rattle.rubis_replica.specs.Setup.{setup_place};
 ghost use Rattle.rubis_reading.specs.Parsed.{FitsIn, meant};
 ghost use Rattle.rubis_engine.specs.Accounts.{AnswersRecord, Keeps};
 ghost use Rattle.rubis_script.specs.Inputs.{IsAnswered, IsReadOf, answer_of};
+ghost use Rattle.rubis_script.specs.Headline.{Settles, StepsOn};
 ghost use Rattle.rubis_script.specs.SiteRuns.{told_by};
 ghost use Rattle.rubis_engine.specs.Text.{rows_text};
 ghost use Rattle.rubis_script.specs.Windows.{AreHeld, held_by};
@@ -285,6 +287,7 @@ impl<G: Gate> Desk<G> {
         ensures empty { window.new.items ≡ [] }
         ensures flushed { OnOk result (Keeps (held_by self.old.site window.old.items (answered + 1))
             (told_by self.new.site (answered + 1)) reply.old.sink reply.new.sink) }
+        ensures leads { OnOk result (Settles self.old.site window.old.items self.new.site window.new.items) }
     {
         if window.is_empty() {
             return Ok(());
@@ -307,6 +310,7 @@ impl<G: Gate> Desk<G> {
         ensures empty { window.new.items ≡ [] }
         ensures flushed { OnOk result (Keeps (held_by self.old.site window.old.items (answered + 1))
             (told_by self.new.site (answered + 1)) reply.old.sink reply.new.sink) }
+        ensures leads { OnOk result (self.new.site.state ≡ after_all self.old.site.place self.old.site.state window.old.items) }
     {
         let first = answered - window.len() as u64 + 1;
         let messages = mem::replace(window, Vec::new(self.alloc));
@@ -338,6 +342,8 @@ impl<G: Gate> Desk<G> {
         ensures held { OnOk result (AreHeld self.new.site.place window.new.items (answered + 1)) }
         ensures goes { OnOk result (AnswersRecord Course.GoesOn (held_by self.old.site window.old.items (answered + 1))
             (held_by self.new.site window.new.items (answered + 1 + 1)) reply.old.sink reply.new.sink fields.now) }
+        ensures leads { OnOk result (StepsOn (answered + 1) (input_of self.old.site.place.sites fields.now) self.old.site window.old.items
+            self.new.site window.new.items) }
     {
         match read_packet(self.alloc, fields, self.sites) {
             Ok(Packet::Msg(message)) if self.window > 1 => hold(window, message),
@@ -394,6 +400,7 @@ impl<G: Gate> Desk<G> {
         ensures goes { OnOk result ((fields : List (List ℕ)) → input_of self.old.site.place.sites fields ≡ meant parsed
             → AnswersRecord Course.GoesOn (held_by self.old.site window.old.items (answered + 1)) (held_by self.new.site window.new.items
             (answered + 1 + 1)) reply.old.sink reply.new.sink fields) }
+        ensures leads { OnOk result (StepsOn (answered + 1) (meant parsed) self.old.site window.old.items self.new.site window.new.items) }
     {
         self.flush(rt, answered, window, reply)?;
         reply.number = answered + 1;
@@ -413,6 +420,7 @@ impl<G: Gate> Desk<G> {
         ensures held { AreHeld self.new.site.place window.new.items answered }
         ensures kept { OnOk result (Keeps (held_by self.old.site window.old.items (answered + 1))
             (held_by self.new.site window.new.items (answered + 1)) reply.old.sink reply.new.sink) }
+        ensures leads { OnOk result (Settles self.old.site window.old.items self.new.site window.new.items) }
     {
         if self.has_room(window) {
             return Ok(());
@@ -438,6 +446,7 @@ impl<G: Gate> Desk<G> {
         ensures goes { OnOk result ((fields : List (List ℕ)) → input_of self.old.site.place.sites fields ≡ meant parsed
             → AnswersRecord Course.GoesOn (held_by self.old.site window.old.items (answered + 1)) (held_by self.new.site window.new.items
             (answered + 1 + 1)) reply.old.sink reply.new.sink fields) }
+        ensures leads { OnOk result (StepsOn (answered + 1) (meant parsed) self.old.site window.old.items self.new.site window.new.items) }
     {
         if self.window > 1 {
             return match parsed {

@@ -1,11 +1,13 @@
 //! A run of a site that reads ahead.
 
 ghost use Rattle.std.specs.Prelude.{◌≡◌, ◌≤◌, ◌<◌, ◌+◌, ◌^◌, ◌⊎◌, [], List, ℕ, Option, IfErr, IfNone, IfOk, IfSome, IsErrOf, MatchOption, OnOk, length, take};
+ghost use Rattle.rubis_model.specs.Site.{opening_at};
+ghost use Rattle.rubis_replica.specs.State.{SiteState};
+ghost use Rattle.rubis_script.specs.Headline.{AnswersAll, AnswersFirst, AnswersSome, HasAnswered, OfRead, StandsAsProcess, WritesAsProcess};
 ghost use Rattle.rubis_script.specs.Runs.{GoesOnWriting, HasReadAhead, IsSound, OfEachAhead, StandsWith};
 ghost use Rattle.rubis_script.specs.SiteRuns.{told_by};
 ghost use Rattle.rubis_engine.specs.Accounts.Ending.{AtEnd};
-ghost use Rattle.rubis_engine.specs.Accounts.{Account};
-ghost use Rattle.rubis_engine.specs.Progress.{IsCut, IsDone, IsRun, IsTooLong, WrotePrefix};
+ghost use Rattle.rubis_engine.specs.Progress.{IsRun, WrotePrefix};
 ghost use Rattle.rubis_engine.specs.Text.{input_records};
 ghost use Rattle.rubis_reading.specs.Chunked.{HasPending, held_text};
 ghost use Rattle.rubis_reading.specs.Streams.{IsWhole};
@@ -137,9 +139,9 @@ fn stop<G: Gate, T: Threads + Wait + Sync, W: Write>(
     requires sound { IsSound desk.old.site backlog.old }
     requires more { left < length backlog.old.ahead }
     requires room { backlog.old.answered + left + 1 < 2 ^ 64 }
-    ensures too_long { OnOk result ((all : Account) (old : Option (List ℕ)) (records later : List (List (List ℕ)))
-        → StandsWith desk.old.site backlog.old all old (W.contents writer.old) records later
-        → IsTooLong all (backlog.old.answered + left) old (W.contents writer.new) records) }
+    ensures too_long { OnOk result ((first : SiteState) (old : Option (List ℕ)) (records later : List (List (List ℕ)))
+        → StandsWith desk.old.site backlog.old first old (W.contents writer.old) records later
+        → AnswersFirst (backlog.old.answered + left) first desk.new.site old (W.contents writer.new) records) }
     ensures memory { IsErrOf result RunFault.Memory → W.contents writer.new ≡ W.contents writer.old }
     ensures faults { IfErr result (λ e. (e ≡ RunFault.Write) ⊎ (e ≡ RunFault.Memory)) }
 {
@@ -163,8 +165,8 @@ fn go_on<G: Gate, T: Threads + Wait + Sync, R: Read>(
     requires room { backlog.old.answered + length backlog.old.ahead + 1 < 2 ^ 64 }
     ensures sound { OnOk result (IsSound desk.new.site backlog.new) }
     ensures count { OnOk result (backlog.new.answered ≡ backlog.old.answered + length backlog.old.ahead) }
-    ensures goes { OnOk result ((now : Option (List ℕ)) → OfEachAhead R.remaining source.old.chunks desk.old.site backlog.old now (λ all old input.
-        HasReadAhead R.remaining source.new.chunks desk.new.site backlog.new all old now input)) }
+    ensures goes { OnOk result ((now : Option (List ℕ)) → OfEachAhead R.remaining source.old.chunks desk.old.site backlog.old now (λ first old input.
+        HasReadAhead R.remaining source.new.chunks desk.new.site backlog.new first old now input)) }
 {
     let (piece, _) = source.chunks.held().split_at(many);
     let list = read_next(rt, source.alloc, piece, source.plan, desk, backlog)?;
@@ -184,8 +186,8 @@ fn drain_full<G: Gate, R: Read, W: Write>(
     requires { IsSound desk.now.site backlog.old }
     ensures sound { OnOk result (IsSound desk.now.site backlog.new) }
     ensures count { OnOk result (backlog.new.answered ≡ backlog.old.answered) }
-    ensures goes { OnOk result (OfEachAhead R.remaining source.now.chunks desk.now.site backlog.old (W.contents writer.old) (λ all old input.
-        HasReadAhead R.remaining source.now.chunks desk.now.site backlog.new all old (W.contents writer.new) input)) }
+    ensures goes { OnOk result (OfEachAhead R.remaining source.now.chunks desk.now.site backlog.old (W.contents writer.old) (λ first old input.
+        HasReadAhead R.remaining source.now.chunks desk.now.site backlog.new first old (W.contents writer.new) input)) }
     ensures faults { IfErr result (λ e. e ≡ RunFault.Write) }
 {
     if backlog.reply.sink.is_full() {
@@ -208,11 +210,11 @@ fn end<G: Gate, T: Threads + Wait + Sync, R: Read, W: Write>(
     requires within { backlog.old.answered ≤ limit }
     requires limit { limit + 1 < 2 ^ 64 }
     requires last { (rows : List (List (List ℕ))) → HasPending R.remaining source.now.chunks rows → rows ≡ input_records (held_text source.now.chunks) }
-    ensures done { IfOk result (λ count. OfEachAhead R.remaining source.now.chunks desk.old.site backlog.old (W.contents writer.old) (λ all old input.
-        IsDone all limit old (W.contents writer.new) (input_records input) count.records)) }
+    ensures done { IfOk result (λ count. OfEachAhead R.remaining source.now.chunks desk.old.site backlog.old (W.contents writer.old) (λ first old input.
+        AnswersAll limit first desk.new.site old (W.contents writer.new) (input_records input) count.records)) }
     ensures too_long { IsErrOf result RunFault.TooLong → OfEachAhead R.remaining source.now.chunks desk.old.site backlog.old (W.contents writer.old)
-        (λ all old input.
-        IsTooLong all limit old (W.contents writer.new) (input_records input)) }
+        (λ first old input.
+        AnswersFirst limit first desk.new.site old (W.contents writer.new) (input_records input)) }
     ensures memory { IsErrOf result RunFault.Memory → W.contents writer.new ≡ W.contents writer.old }
     ensures faults { IfErr result (λ e. (e ≡ RunFault.Write) ⊎ (e ≡ RunFault.Memory) ⊎ (e ≡ RunFault.TooLong)) }
 {
@@ -253,17 +255,17 @@ fn wait<G: Gate, T: Threads + Wait + Sync, R: Read, W: Write>(
     requires limit { limit + 1 < 2 ^ 64 }
     ensures sound { IfOk result (λ over. IfNone over (IsSound desk.new.site backlog.new)) }
     ensures within { IfOk result (λ over. IfNone over (backlog.new.answered ≤ limit)) }
-    ensures goes { IfOk result (λ over. OfEachAhead R.remaining source.old.chunks desk.old.site backlog.old (W.contents writer.old) (λ all old input.
-        MatchOption over (HasReadAhead R.remaining source.new.chunks desk.new.site backlog.new all old (W.contents writer.new) input)
-        (λ count. IsDone all limit old (W.contents writer.new) (input_records input) count.records))) }
+    ensures goes { IfOk result (λ over. OfEachAhead R.remaining source.old.chunks desk.old.site backlog.old (W.contents writer.old) (λ first old input.
+        MatchOption over (HasReadAhead R.remaining source.new.chunks desk.new.site backlog.new first old (W.contents writer.new) input)
+        (λ count. AnswersAll limit first desk.new.site old (W.contents writer.new) (input_records input) count.records))) }
     ensures too_long { IsErrOf result RunFault.TooLong → OfEachAhead R.remaining source.old.chunks desk.old.site backlog.old (W.contents writer.old)
-        (λ all old input.
-        IsTooLong all limit old (W.contents writer.new) (input_records input)) }
-    ensures read { IsErrOf result RunFault.Read → OfEachAhead R.remaining source.old.chunks desk.old.site backlog.old (W.contents writer.old) (λ all old input.
-        IsCut all old (W.contents writer.new) (input_records input)) }
+        (λ first old input.
+        AnswersFirst limit first desk.new.site old (W.contents writer.new) (input_records input)) }
+    ensures read { IsErrOf result RunFault.Read → OfEachAhead R.remaining source.old.chunks desk.old.site backlog.old (W.contents writer.old)
+        (λ first old input. AnswersSome first desk.new.site old (W.contents writer.new) (input_records input)) }
     ensures memory { IsErrOf result RunFault.Memory → OfEachAhead R.remaining source.old.chunks desk.old.site backlog.old (W.contents writer.old)
-        (λ all old input.
-        WrotePrefix (all.text AtEnd) old (W.contents writer.new) (input_records input)) }
+        (λ first old input.
+        WrotePrefix ((told_by first 1).text AtEnd) old (W.contents writer.new) (input_records input)) }
 {
     catch_up(rt, desk, backlog, writer)?;
     match source.chunks.fill() {
@@ -293,8 +295,8 @@ fn go_on_writing<G: Gate, T: Threads + Wait + Sync, R: Read, W: Write>(
     requires room { backlog.old.answered + length backlog.old.ahead + 1 < 2 ^ 64 }
     ensures sound { OnOk result (IsSound desk.new.site backlog.new) }
     ensures count { OnOk result (backlog.new.answered ≡ backlog.old.answered + length backlog.old.ahead) }
-    ensures goes { OnOk result (OfEachAhead R.remaining source.old.chunks desk.old.site backlog.old (W.contents writer.old) (λ all old input.
-        HasReadAhead R.remaining source.new.chunks desk.new.site backlog.new all old (W.contents writer.new) input)) }
+    ensures goes { OnOk result (OfEachAhead R.remaining source.old.chunks desk.old.site backlog.old (W.contents writer.old) (λ first old input.
+        HasReadAhead R.remaining source.new.chunks desk.new.site backlog.new first old (W.contents writer.new) input)) }
     ensures memory { IsErrOf result RunFault.Memory → W.contents writer.new ≡ W.contents writer.old }
     ensures faults { IfErr result (λ e. (e ≡ RunFault.Write) ⊎ (e ≡ RunFault.Memory)) }
 {
@@ -317,17 +319,17 @@ fn turn<G: Gate, T: Threads + Wait + Sync, R: Read, W: Write>(
     requires limit { limit + 1 < 2 ^ 64 }
     ensures sound { IfOk result (λ over. IfNone over (IsSound desk.new.site backlog.new)) }
     ensures within { IfOk result (λ over. IfNone over (backlog.new.answered ≤ limit)) }
-    ensures goes { IfOk result (λ over. OfEachAhead R.remaining source.old.chunks desk.old.site backlog.old (W.contents writer.old) (λ all old input.
-        MatchOption over (HasReadAhead R.remaining source.new.chunks desk.new.site backlog.new all old (W.contents writer.new) input)
-        (λ count. IsDone all limit old (W.contents writer.new) (input_records input) count.records))) }
+    ensures goes { IfOk result (λ over. OfEachAhead R.remaining source.old.chunks desk.old.site backlog.old (W.contents writer.old) (λ first old input.
+        MatchOption over (HasReadAhead R.remaining source.new.chunks desk.new.site backlog.new first old (W.contents writer.new) input)
+        (λ count. AnswersAll limit first desk.new.site old (W.contents writer.new) (input_records input) count.records))) }
     ensures too_long { IsErrOf result RunFault.TooLong → OfEachAhead R.remaining source.old.chunks desk.old.site backlog.old (W.contents writer.old)
-        (λ all old input.
-        IsTooLong all limit old (W.contents writer.new) (input_records input)) }
-    ensures read { IsErrOf result RunFault.Read → OfEachAhead R.remaining source.old.chunks desk.old.site backlog.old (W.contents writer.old) (λ all old input.
-        IsCut all old (W.contents writer.new) (input_records input)) }
+        (λ first old input.
+        AnswersFirst limit first desk.new.site old (W.contents writer.new) (input_records input)) }
+    ensures read { IsErrOf result RunFault.Read → OfEachAhead R.remaining source.old.chunks desk.old.site backlog.old (W.contents writer.old)
+        (λ first old input. AnswersSome first desk.new.site old (W.contents writer.new) (input_records input)) }
     ensures memory { IsErrOf result RunFault.Memory → OfEachAhead R.remaining source.old.chunks desk.old.site backlog.old (W.contents writer.old)
-        (λ all old input.
-        WrotePrefix (all.text AtEnd) old (W.contents writer.new) (input_records input)) }
+        (λ first old input.
+        WrotePrefix ((told_by first 1).text AtEnd) old (W.contents writer.new) (input_records input)) }
 {
     let left = limit - backlog.answered;
     if backlog.ahead.len() as u64 > left {
@@ -355,16 +357,16 @@ fn serve<G: Gate, T: Threads + Wait + Sync, R: Read, W: Write>(
     requires sound { IsSound desk.old.site backlog.old }
     requires within { backlog.old.answered ≤ limit }
     requires limit { limit + 1 < 2 ^ 64 }
-    ensures ok { IfOk result (λ count. OfEachAhead R.remaining source.old.chunks desk.old.site backlog.old (W.contents writer.old) (λ all old input.
-        IsDone all limit old (W.contents writer.new) (input_records input) count.records)) }
+    ensures ok { IfOk result (λ count. OfEachAhead R.remaining source.old.chunks desk.old.site backlog.old (W.contents writer.old) (λ first old input.
+        AnswersAll limit first desk.new.site old (W.contents writer.new) (input_records input) count.records)) }
     ensures too_long { IsErrOf result RunFault.TooLong → OfEachAhead R.remaining source.old.chunks desk.old.site backlog.old (W.contents writer.old)
-        (λ all old input.
-        IsTooLong all limit old (W.contents writer.new) (input_records input)) }
-    ensures read { IsErrOf result RunFault.Read → OfEachAhead R.remaining source.old.chunks desk.old.site backlog.old (W.contents writer.old) (λ all old input.
-        IsCut all old (W.contents writer.new) (input_records input)) }
+        (λ first old input.
+        AnswersFirst limit first desk.new.site old (W.contents writer.new) (input_records input)) }
+    ensures read { IsErrOf result RunFault.Read → OfEachAhead R.remaining source.old.chunks desk.old.site backlog.old (W.contents writer.old)
+        (λ first old input. AnswersSome first desk.new.site old (W.contents writer.new) (input_records input)) }
     ensures memory { IsErrOf result RunFault.Memory → OfEachAhead R.remaining source.old.chunks desk.old.site backlog.old (W.contents writer.old)
-        (λ all old input.
-        WrotePrefix (all.text AtEnd) old (W.contents writer.new) (input_records input)) }
+        (λ first old input.
+        WrotePrefix ((told_by first 1).text AtEnd) old (W.contents writer.new) (input_records input)) }
 {
     'steps: for _ in 0..u64::MAX {
         if let Some(count) = turn(rt, source, desk, backlog, writer, limit)? {
@@ -385,7 +387,9 @@ fn run_ahead<G: Gate, T: Threads + Wait + Sync, R: Read + Drop, W: Write>(
     limit: u64,
 ) -> Result<Count, RunFault>
     requires { limit + 1 < 2 ^ 64 }
-    ensures { IsRun (told_by desk.old.site 1) limit (R.remaining reader) (W.contents writer.old) (W.contents writer.new) result }
+    ensures run { IsRun (told_by desk.old.site 1) limit (R.remaining reader) (W.contents writer.old) (W.contents writer.new) result }
+    ensures leads { OfRead limit (R.remaining reader) result (λ records.
+        HasAnswered desk.old.site desk.new.site (W.contents writer.old) (W.contents writer.new) records) }
 {
     let mut source = Source::new(alloc, reader, desk.plan);
     let mut backlog = Backlog::new(alloc);
@@ -394,7 +398,8 @@ fn run_ahead<G: Gate, T: Threads + Wait + Sync, R: Read + Drop, W: Write>(
 
 /// Runs the desk of a site over the records of `reader` until its end, or up to `limit` of them: appends the text of its
 /// answers to `writer`. If several workers are configured, the records of the next chunk of text are read by other threads while those
-/// before are answered; with one, nothing is read ahead. The desk is lent, so that a program can let it go as it likes.
+/// before are answered; with one, nothing is read ahead. The desk is lent, so that a program can let it go as it likes; unless the run
+/// ends with `Memory` or `Write`, its site is left in the state to which the answered records lead.
 ///
 /// # Errors
 ///
@@ -409,7 +414,12 @@ pub fn run_desk<G: Gate, T: Threads + Wait + Sync, R: Read + Drop, W: Write>(
     desk: &mut Desk<G>,
     limit: u64,
 ) -> Result<Count, RunFault>
-    ensures { IsRun (told_by desk.old.site 1) limit (R.remaining reader) (W.contents writer.old) (W.contents writer.new) result }
+    ensures run { IsRun (told_by desk.old.site 1) limit (R.remaining reader) (W.contents writer.old) (W.contents writer.new) result }
+    ensures leads { OfRead limit (R.remaining reader) result (λ records.
+        HasAnswered desk.old.site desk.new.site (W.contents writer.old) (W.contents writer.new) records) }
+    ensures process { desk.old.site.state ≡ opening_at desk.old.site.place.site → OfRead limit (R.remaining reader) result (λ records.
+        WritesAsProcess desk.old.site.place (W.contents writer.old) (W.contents writer.new) records
+        × StandsAsProcess desk.old.site.place desk.new.site.state records) }
 {
     if desk.plan.readers > 0 && limit < u64::MAX {
         return run_ahead(rt, alloc, reader, writer, desk, limit);

@@ -3,6 +3,7 @@
 ghost use Rattle.rubis_engine.specs.Progress.{IsRun};
 ghost use Rattle.rubis_replica.specs.Setup.{setup_place};
 ghost use Rattle.rubis_schema.specs.declared.limits.TheConstants.{RECORDS_MAX};
+ghost use Rattle.rubis_script.specs.Headline.{OfRead, WritesAsProcess};
 ghost use Rattle.rubis_script.specs.SiteRuns.{answers_of};
 
 use crate::desk::Desk;
@@ -33,7 +34,9 @@ pub fn run_site_upto<G: Gate + Drop, T: Threads + Wait + Sync, R: Read + Drop, W
     limit: u64,
     gate: G,
 ) -> Result<Count, RunFault>
-    ensures { IsRun (answers_of (setup_place config.now)) limit (R.remaining reader) (W.contents writer.old) (W.contents writer.new) result }
+    ensures run { IsRun (answers_of (setup_place config.now)) limit (R.remaining reader) (W.contents writer.old) (W.contents writer.new) result }
+    ensures process { OfRead limit (R.remaining reader) result (λ records.
+        WritesAsProcess (setup_place config.now) (W.contents writer.old) (W.contents writer.new) records) }
 {
     let mut desk = Desk::new(alloc, config, gate)?;
     run_desk(rt, alloc, reader, writer, &mut desk, limit)
@@ -51,7 +54,9 @@ pub fn run_site<T: Threads + Wait + Sync, R: Read + Drop, W: Write>(
     writer: &mut W,
     config: &Config,
 ) -> Result<Count, RunFault>
-    ensures { IsRun (answers_of (setup_place config.now)) RECORDS_MAX (R.remaining reader) (W.contents writer.old) (W.contents writer.new) result }
+    ensures run { IsRun (answers_of (setup_place config.now)) RECORDS_MAX (R.remaining reader) (W.contents writer.old) (W.contents writer.new) result }
+    ensures process { OfRead RECORDS_MAX (R.remaining reader) result (λ records.
+        WritesAsProcess (setup_place config.now) (W.contents writer.old) (W.contents writer.new) records) }
 {
     run_site_upto(rt, alloc, reader, writer, config, RECORDS_MAX, Free)
 }

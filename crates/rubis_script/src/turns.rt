@@ -2,14 +2,15 @@
 
 ghost use Rattle.std.specs.Prelude.{◌≡◌, ◌<◌, ◌+◌, ◌^◌, ◌⊎◌, [], List, Option, IfErr, IfNone, IfOk, IfSome, IsErrOf, OnOk, true};
 ghost use Rattle.rubis_engine.specs.Accounts.Ending.{AtEnd};
-ghost use Rattle.rubis_engine.specs.Progress.{EndsCut, EndsDone, EndsInPrefix, EndsTooLong, FromStart, HasMoved, IsCut, IsDone, IsRun, IsTooLong, OfEachRun, StandsAt, WrotePrefix};
+ghost use Rattle.rubis_engine.specs.Progress.{Drained, EndsInPrefix, FromStart, IsRun, WrotePrefix};
 ghost use Rattle.rubis_engine.specs.Reading.{Advances};
+ghost use Rattle.rubis_script.specs.Headline.{AnswersAll, AnswersFirst, AnswersSome, HasAnswered, HasMovedSite, OfEachSiteRun, OfRead, Settles, StandsAtSite};
 ghost use Rattle.rubis_script.specs.SiteRuns.{told_by};
 ghost use Rattle.rubis_engine.specs.Text.{input_records, rows_text};
 ghost use Rattle.rubis_script.specs.Windows.{AreHeld, held_by};
 
 use crate::desk::Desk;
-use rubis_engine::{Count, Run, RunFault, end_run, stop, write_out};
+use rubis_engine::{Count, Run, RunFault, write_out};
 use rubis_message::Message;
 use rubis_replica::Gate;
 use std::alloc::Global;
@@ -22,6 +23,26 @@ use std::thread::Threads;
 struct SiteRun<R> {
     run: Run<R>,
     window: Vec<Message>,
+}
+
+// Takes in the messages that are held, and writes the answers out.
+fn settle<G: Gate, T: Threads + Wait + Sync, R: Read, W: Write>(
+    rt: &T,
+    site_run: &mut SiteRun<R>,
+    desk: &mut Desk<G>,
+    writer: &mut W,
+) -> Result<(), RunFault>
+    requires held { AreHeld desk.old.site.place site_run.old.window.items site_run.old.run.answered }
+    ensures drains { OnOk result (Drained (held_by desk.old.site site_run.old.window.items (site_run.old.run.answered + 1))
+        (told_by desk.new.site (site_run.old.run.answered + 1)) site_run.old.run.reply.sink (W.contents writer.old) (W.contents writer.new)) }
+    ensures leads { OnOk result (Settles desk.old.site site_run.old.window.items desk.new.site []) }
+    ensures count { site_run.new.run.answered ≡ site_run.old.run.answered }
+    ensures memory { IsErrOf result RunFault.Memory → W.contents writer.new ≡ W.contents writer.old }
+    ensures faults { IfErr result (λ e. (e ≡ RunFault.Write) ⊎ (e ≡ RunFault.Memory)) }
+{
+    let SiteRun { run, window } = site_run;
+    desk.flush(rt, run.answered, window, &mut run.reply)?;
+    run.reply.sink.close(writer)
 }
 
 // Reads the next record. `None` if there is one. Otherwise answers the messages that are held, writes the rest of the text and
@@ -38,33 +59,25 @@ fn next_or_end<G: Gate, T: Threads + Wait + Sync, R: Read, W: Write>(
         × (site_run.new.run.reply ≡ site_run.old.run.reply)
         × (site_run.new.run.answered ≡ site_run.old.run.answered) × (writer.new ≡ writer.old))) }
     ensures done { IfOk result (λ over. IfSome over (λ count.
-        EndsDone R.remaining site_run.old.run (held_by desk.old.site site_run.old.window.items) (W.contents writer.old) (W.contents writer.new) site_run.old.run.answered count.records)) }
-    ensures read { IsErrOf result RunFault.Read → EndsCut R.remaining site_run.old.run (held_by desk.old.site site_run.old.window.items)
-        (W.contents writer.old) (W.contents writer.new) }
+        OfEachSiteRun R.remaining site_run.old.run desk.old.site site_run.old.window.items (W.contents writer.old) (λ first old input.
+        AnswersAll site_run.old.run.answered first desk.new.site old (W.contents writer.new) (input_records input) count.records))) }
+    ensures read { IsErrOf result RunFault.Read → OfEachSiteRun R.remaining site_run.old.run desk.old.site site_run.old.window.items (W.contents writer.old)
+        (λ first old input. AnswersSome first desk.new.site old (W.contents writer.new) (input_records input)) }
     ensures memory { IsErrOf result RunFault.Memory → EndsInPrefix R.remaining site_run.old.run (held_by desk.old.site site_run.old.window.items)
         (W.contents writer.old) (W.contents writer.new) }
     ensures faults { IfErr result (λ e. (e ≡ RunFault.Read) ⊎ (e ≡ RunFault.Write) ⊎ (e ≡ RunFault.Memory)) }
 {
-    let SiteRun { run, window } = site_run;
-    match run.records.advance() {
+    match site_run.run.records.advance() {
         Ok(true) => Ok(None),
         Ok(false) => {
-            desk.flush(rt, run.answered, window, &mut run.reply)?;
-            let sink = &mut run.reply.sink;
-            end_run(rt, &run.records, desk, sink, writer, run.answered, Ok(()))
+            settle(rt, site_run, desk, writer)?;
+            Ok(Some(Count {
+                records: site_run.run.answered,
+            }))
         }
         Err(fault) => {
-            desk.flush(rt, run.answered, window, &mut run.reply)?;
-            let sink = &mut run.reply.sink;
-            end_run(
-                rt,
-                &run.records,
-                desk,
-                sink,
-                writer,
-                run.answered,
-                Err(fault),
-            )
+            settle(rt, site_run, desk, writer)?;
+            Err(fault)
         }
     }
 }
@@ -80,9 +93,9 @@ fn pass_on<G: Gate, T: Threads + Wait + Sync, R: Read, W: Write>(
     requires held { AreHeld desk.old.site.place site_run.old.window.items site_run.old.run.answered }
     ensures held { OnOk result (AreHeld desk.new.site.place site_run.new.window.items site_run.old.run.answered) }
     ensures same { site_run.new.run.answered ≡ site_run.old.run.answered }
-    ensures goes { OnOk result (OfEachRun R.remaining site_run.old.run (held_by desk.old.site site_run.old.window.items) (W.contents writer.old)
-        (λ all old input.
-        StandsAt R.remaining site_run.new.run (held_by desk.new.site site_run.new.window.items) all old (W.contents writer.new) input)) }
+    ensures goes { OnOk result (OfEachSiteRun R.remaining site_run.old.run desk.old.site site_run.old.window.items (W.contents writer.old)
+        (λ first old input.
+        StandsAtSite R.remaining site_run.new.run desk.new.site site_run.new.window.items first old (W.contents writer.new) input)) }
     ensures memory { IsErrOf result RunFault.Memory → W.contents writer.new ≡ W.contents writer.old }
     ensures faults { IfErr result (λ e. (e ≡ RunFault.Write) ⊎ (e ≡ RunFault.Memory)) }
 {
@@ -104,11 +117,11 @@ fn take_next<G: Gate, T: Threads + Wait + Sync, R: Read, W: Write>(
     requires held { AreHeld desk.old.site.place site_run.old.window.items site_run.old.run.answered }
     requires room { site_run.old.run.answered + 1 < 2 ^ 64 }
     ensures held { IfOk result (λ over. IfNone over (AreHeld desk.new.site.place site_run.new.window.items (site_run.old.run.answered + 1))) }
-    ensures goes { IfOk result (λ over. HasMoved R.remaining site_run.old.run site_run.new.run (held_by desk.old.site site_run.old.window.items)
-        (held_by desk.new.site site_run.new.window.items) (W.contents writer.old) (W.contents writer.new) over) }
+    ensures goes { IfOk result (λ over. HasMovedSite R.remaining site_run.old.run site_run.new.run desk.old.site site_run.old.window.items
+        desk.new.site site_run.new.window.items (W.contents writer.old) (W.contents writer.new) over) }
     ensures counted { IfOk result (λ over. IfNone over (site_run.new.run.answered ≡ site_run.old.run.answered + 1)) }
-    ensures read { IsErrOf result RunFault.Read → EndsCut R.remaining site_run.old.run (held_by desk.old.site site_run.old.window.items)
-        (W.contents writer.old) (W.contents writer.new) }
+    ensures read { IsErrOf result RunFault.Read → OfEachSiteRun R.remaining site_run.old.run desk.old.site site_run.old.window.items (W.contents writer.old)
+        (λ first old input. AnswersSome first desk.new.site old (W.contents writer.new) (input_records input)) }
     ensures memory { IsErrOf result RunFault.Memory → EndsInPrefix R.remaining site_run.old.run (held_by desk.old.site site_run.old.window.items)
         (W.contents writer.old) (W.contents writer.new) }
     ensures faults { IfErr result (λ e. (e ≡ RunFault.Read) ⊎ (e ≡ RunFault.Write) ⊎ (e ≡ RunFault.Memory)) }
@@ -137,19 +150,21 @@ fn stop_at<G: Gate, T: Threads + Wait + Sync, R: Read, W: Write>(
     writer: &mut W,
 ) -> Result<Count, RunFault>
     requires held { AreHeld desk.old.site.place site_run.old.window.items site_run.old.run.answered }
-    ensures ok { IfOk result (λ count. EndsDone R.remaining site_run.old.run (held_by desk.old.site site_run.old.window.items)
-        (W.contents writer.old) (W.contents writer.new) site_run.old.run.answered count.records) }
-    ensures too_long { IsErrOf result RunFault.TooLong → EndsTooLong R.remaining site_run.old.run (held_by desk.old.site site_run.old.window.items)
-        (W.contents writer.old) (W.contents writer.new) site_run.old.run.answered }
-    ensures read { IsErrOf result RunFault.Read → EndsCut R.remaining site_run.old.run (held_by desk.old.site site_run.old.window.items)
-        (W.contents writer.old) (W.contents writer.new) }
+    ensures ok { IfOk result (λ count. OfEachSiteRun R.remaining site_run.old.run desk.old.site site_run.old.window.items (W.contents writer.old)
+        (λ first old input. AnswersAll site_run.old.run.answered first desk.new.site old (W.contents writer.new) (input_records input) count.records)) }
+    ensures too_long { IsErrOf result RunFault.TooLong → OfEachSiteRun R.remaining site_run.old.run desk.old.site site_run.old.window.items
+        (W.contents writer.old) (λ first old input.
+        AnswersFirst site_run.old.run.answered first desk.new.site old (W.contents writer.new) (input_records input)) }
+    ensures read { IsErrOf result RunFault.Read → OfEachSiteRun R.remaining site_run.old.run desk.old.site site_run.old.window.items (W.contents writer.old)
+        (λ first old input. AnswersSome first desk.new.site old (W.contents writer.new) (input_records input)) }
     ensures memory { IsErrOf result RunFault.Memory → EndsInPrefix R.remaining site_run.old.run (held_by desk.old.site site_run.old.window.items)
         (W.contents writer.old) (W.contents writer.new) }
 {
-    let SiteRun { run, window } = site_run;
-    desk.flush(rt, run.answered, window, &mut run.reply)?;
-    let sink = &mut run.reply.sink;
-    stop(rt, &mut run.records, desk, sink, writer, run.answered)
+    if let Some(count) = next_or_end(rt, site_run, desk, writer)? {
+        return Ok(count);
+    }
+    settle(rt, site_run, desk, writer)?;
+    Err(RunFault::TooLong)
 }
 
 // Answers records until there are no more, or up to `limit` of them.
@@ -163,11 +178,11 @@ fn serve<G: Gate, T: Threads + Wait + Sync, R: Read, W: Write>(
     requires none { site_run.old.window.items ≡ [] }
     requires first { site_run.old.run.answered ≡ 0 }
     ensures ok { IfOk result (λ count. FromStart R.remaining site_run.old.run (λ records.
-        IsDone (told_by desk.old.site 1) limit (W.contents writer.old) (W.contents writer.new) records count.records)) }
+        AnswersAll limit desk.old.site desk.new.site (W.contents writer.old) (W.contents writer.new) records count.records)) }
     ensures too_long { IsErrOf result RunFault.TooLong → FromStart R.remaining site_run.old.run (λ records.
-        IsTooLong (told_by desk.old.site 1) limit (W.contents writer.old) (W.contents writer.new) records) }
+        AnswersFirst limit desk.old.site desk.new.site (W.contents writer.old) (W.contents writer.new) records) }
     ensures read { IsErrOf result RunFault.Read → FromStart R.remaining site_run.old.run (λ records.
-        IsCut (told_by desk.old.site 1) (W.contents writer.old) (W.contents writer.new) records) }
+        AnswersSome desk.old.site desk.new.site (W.contents writer.old) (W.contents writer.new) records) }
     ensures memory { IsErrOf result RunFault.Memory → FromStart R.remaining site_run.old.run (λ records.
         WrotePrefix ((told_by desk.old.site 1).text AtEnd) (W.contents writer.old) (W.contents writer.new) records) }
 {
@@ -188,7 +203,9 @@ pub fn run_in_turn<G: Gate, T: Threads + Wait + Sync, R: Read + Drop, W: Write>(
     desk: &mut Desk<G>,
     limit: u64,
 ) -> Result<Count, RunFault>
-    ensures { IsRun (told_by desk.old.site 1) limit (R.remaining reader) (W.contents writer.old) (W.contents writer.new) result }
+    ensures run { IsRun (told_by desk.old.site 1) limit (R.remaining reader) (W.contents writer.old) (W.contents writer.new) result }
+    ensures leads { OfRead limit (R.remaining reader) result (λ records.
+        HasAnswered desk.old.site desk.new.site (W.contents writer.old) (W.contents writer.new) records) }
 {
     let run = Run::new(alloc, reader);
     let window = Vec::new(alloc);

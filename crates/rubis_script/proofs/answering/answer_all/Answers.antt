@@ -1,8 +1,7 @@
-use Rattle.std.proofs.Common.{◌≡◌, ◌∙◌, ◌+◌, ◌++◌, All, ap, arith, length, length-append, subst, sym}
-use Rattle.rubis_script.specs.Windows.{held_by}
+use Rattle.std.proofs.Common.{◌≡◌, ◌∙◌, ◌++◌, All, ap, arith, length, length-append, subst, sym}
 use Rattle.rubis_reading.specs.Parsed.{FitsIn}
 use Rattle.rubis_reading.specs.Runs.{of_stretch}
-use Rattle.rubis_reading.specs.Steps.{HasAhead}
+use Rattle.rubis_script.specs.Runs.{Stands}
 use Rattle.rubis_script.proofs.LoopFacts.{all-back, all-front}
 use Rattle.rubis_script.proofs.answering.answer_all.Goals as goal
 
@@ -33,7 +32,13 @@ runs-preserved g c =
       fits = subst (λ l. All (λ x. FitsIn c.answer_run.new.desk.site.place.sites x) l) (sym same)
           (subst (λ p. All (λ x. FitsIn p.sites x) left) (sym ensured.place) (all-back site.place.sites run left (subst (λ l. All (λ p. FitsIn site.place.sites p) l) parts i.fits)));
       count = omega (arith, long, size, ensured.count, i.count);
-      goes = λ all old now records later h. ensured.goes all old now records later
-          (subst (λ l. HasAhead site.place.sites l all (held_by site c.runs.backlog.window.items (c.runs.backlog.answered + 1)) old now c.runs.backlog.reply.sink (c.runs.backlog.answered + 1) records later) parts
-          (i.goes all old now records later h));
+      goes = λ first old now records later h. ensured.goes first old now records later
+          (subst (λ l. Stands site l c.runs.backlog.window.items c.runs.backlog.reply.sink c.runs.backlog.answered first old now records later) parts
+          (i.goes first old now records later h));
     }
+
+pub returns-in_default-clause-goes : goal.returns-in_default-clause-goes
+returns-in_default-clause-goes g c first old now records later h =
+    let parts : c.runs.backlog.ahead ≡ c.next_stretch.new.self = c.in_default.ensures.parts in
+    subst (λ l. Stands c.runs.desk.site l c.runs.backlog.window.items c.runs.backlog.reply.sink c.runs.backlog.answered first old now records later) parts
+    (c.runs.invariant.goes first old now records later h)

@@ -1,8 +1,8 @@
 use Rattle.std.proofs.Common.{◌++◌, ◌≡◌, ◌∙◌, ◌+◌, ◌∷◌, All, ap, arith, length, subst, suc, sym, zero}
-use Rattle.rubis_script.specs.Windows.{held_by}
 use Rattle.rubis_reading.specs.Parsed.{FitsIn}
 use Rattle.rubis_reading.specs.Runs.{of_stretch}
-use Rattle.rubis_reading.proofs.AheadFacts.{ahead-answered, ahead-kept}
+use Rattle.rubis_script.specs.Runs.{Stands}
+use Rattle.rubis_script.proofs.LoopFacts.{stands-answered, stands-kept}
 use Rattle.rubis_script.proofs.answering.answer_some.Goals as goal
 
 pub steps-preserved : goal.steps-preserved
@@ -24,11 +24,10 @@ steps-preserved g c =
       fits = subst (λ p. All (λ x. FitsIn p.sites x) left) (sym (room.place ∙ took.place)) (λ k d lt. fits (suc k) d (omega (arith, lt)));
       number = omega (arith, i.number);
       size = omega (arith, long, i.size);
-      goes = λ all before now records later h.
-          ahead-kept mid.place.sites new.place.sites left all (held_by mid c.take_parsed.new.window.items (n + 1 + 1)) (held_by new c.make_room.new.window.items (n + 1 + 1)) before now
-          c.take_parsed.new.reply.sink c.make_room.new.reply.sink (n + 1 + 1) records later (ap (λ p. p.sites) room.place) room.kept
-          (ahead-answered old.place.sites mid.place.sites c.steps.ahead left c.in-One.parsed all (held_by old c.steps.window.items (n + 1)) (held_by mid c.take_parsed.new.window.items (n + 1 + 1)) before now
-          c.steps.reply.sink c.take_parsed.new.reply.sink (n + 1) records later (ap (λ p. p.sites) took.place) ps took.goes (i.goes all before now records later h));
+      goes = λ first before now records later h.
+          stands-kept mid new left c.take_parsed.new.window.items c.make_room.new.window.items first before now c.take_parsed.new.reply.sink c.make_room.new.reply.sink (n + 1) records later room.kept room.leads
+          (stands-answered old mid c.steps.ahead left c.in-One.parsed c.steps.window.items c.take_parsed.new.window.items first before now
+          c.steps.reply.sink c.take_parsed.new.reply.sink n records later ps took.goes took.leads (i.goes first before now records later h));
     }
 
 pub take_parsed-requires-clause-fits : goal.take_parsed-requires-clause-fits
@@ -36,3 +35,9 @@ take_parsed-requires-clause-fits g c κs within =
     let left = c.next_stretch.new.self in
     let ps : c.steps.ahead ≡ c.in-One.parsed ∷ left = c.in-Some.ensures.parts ∙ ap (λ r. of_stretch r ++ left) c.in-One.is in
     subst (λ l. All (λ p. FitsIn c.steps.desk.site.place.sites p) l) ps c.steps.invariant.fits zero c.in-One.parsed (omega arith)
+
+pub returns-in_default-clause-goes : goal.returns-in_default-clause-goes
+returns-in_default-clause-goes g c first old now records later h =
+    let parts : c.steps.ahead ≡ c.next_stretch.new.self = c.in_default.ensures.parts in
+    subst (λ l. Stands c.steps.desk.site l c.steps.window.items c.steps.reply.sink c.steps.answered first old now records later) parts
+    (c.steps.invariant.goes first old now records later h)

@@ -11,8 +11,9 @@ returns-clause-held g c =
     (subst (λ p. All (λ x. FitsIn p.sites x) (all_came c.args.list.items)) (sym c.in_ok-flush.ensures.place) c.requires.fits)
 
 pub returns-clause-goes : goal.returns-clause-goes
-returns-clause-goes g c all old now records later h =
+returns-clause-goes g c first old now records later h =
     let size : c.len-many.result ≡ length c.args.list.items = omega (arith, c.len-many.ensures, c.args.list.ok) in
     let b = c.args.backlog.now in
-    run-held c.args.desk.now.site c.flush.new.self.site b.window.items c.args.list.items b.ahead all old now b.reply.sink c.flush.new.reply.sink b.answered c.len-many.result
-    records later size c.in_ok-flush.ensures.place c.in_ok-flush.ensures.flushed h
+    let flushed = c.in_ok-flush.ensures in
+    run-held c.args.desk.now.site c.flush.new.self.site b.window.items c.flush.new.window.items c.args.list.items b.ahead first old now b.reply.sink c.flush.new.reply.sink b.answered c.len-many.result
+    records later size flushed.leads flushed.empty flushed.flushed h

@@ -1,10 +1,10 @@
-use Rattle.std.proofs.Common.{◌≡◌, ◌∙◌, ◌+◌, All, ap, refl, subst, sym, take}
-use Rattle.rubis_script.specs.Windows.{held_by}
+use Rattle.std.proofs.Common.{◌≡◌, ◌∙◌, All, ap, subst, sym, take}
 use Rattle.rubis_engine.specs.Text.{input_records}
 use Rattle.rubis_reading.specs.Chunked.{held_text}
 use Rattle.rubis_reading.specs.Parsed.{AreParsed, FitsIn}
 use Rattle.rubis_reading.specs.Runs.{flat}
-use Rattle.rubis_reading.proofs.AheadFacts.{ahead-read, all-fit}
+use Rattle.rubis_reading.proofs.AheadFacts.{all-fit}
+use Rattle.rubis_script.proofs.LoopFacts.{stands-read}
 use Rattle.rubis_script.proofs.run.go_on.Goals as goal
 
 pub returns-clause-sound : goal.returns-clause-sound
@@ -19,10 +19,9 @@ returns-clause-sound g c =
     }
 
 pub returns-clause-goes : goal.returns-clause-goes
-returns-clause-goes g c now all old input h =
+returns-clause-goes g c now first old input h =
     let site = c.read_next.new.desk.site in
     let b = c.read_next.new.backlog in
-    let n = b.answered + 1 in
     let chunk = take c.args.many (held_text c.args.source.now.chunks) in
     let piece : c.split_at.result.0.now ≡ chunk = c.split_at.ensures.front ∙ ap (take c.args.many) c.held.ensures in
     let parsed = subst (λ p. AreParsed p.sites (input_records c.split_at.result.0.now) (flat c.in_ok-list.list.items)) (sym c.in_ok-list.ensures.place) c.in_ok-list.ensures.parsed in
@@ -31,7 +30,7 @@ returns-clause-goes g c now all old input h =
     let (more, split, pending) = c.pass.ensures h.later h.pending in
     record {
       later = more;
-      stands = ahead-read site.place.sites site.place.sites b.ahead c.in_ok-ahead.ahead all (held_by site b.window.items n) old now b.reply.sink n
-          (input_records input) h.later (input_records chunk) more refl c.in_ok-list.ensures.all split read (c.in_ok-list.ensures.goes all old now (input_records input) h.later h.stands);
+      stands = stands-read site b.ahead c.in_ok-ahead.ahead b.window.items first old now b.reply.sink b.answered
+          (input_records input) h.later (input_records chunk) more c.in_ok-list.ensures.all split read (c.in_ok-list.ensures.goes first old now (input_records input) h.later h.stands);
       pending = pending;
     }

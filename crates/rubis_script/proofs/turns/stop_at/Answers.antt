@@ -1,32 +1,36 @@
-use Rattle.std.proofs.Common.{◌+◌}
-use Rattle.rubis_script.specs.SiteRuns.{told_by}
-use Rattle.rubis_script.specs.Windows.{held_by}
-use Rattle.rubis_engine.proofs.RunFacts.{if_ok_so, progress-kept, progress-prefix}
+use Rattle.std.proofs.Common.{◌∙◌, ap, refl, subst}
+use Rattle.rubis_engine.specs.declared.fault.RunFault.TheVariants as fault
+use Rattle.rubis_engine.proofs.RunFacts.{handed_on, if_none, if_some, progress-stays}
+use Rattle.rubis_script.specs.Headline.{AnswersFirst}
+use Rattle.rubis_engine.specs.Text.{input_records}
+use Rattle.rubis_script.proofs.TurnFacts.{turn_moved, turn_too_long}
 use Rattle.rubis_script.proofs.turns.stop_at.Goals as goal
 
-pub returns-in_err-flush-clause-memory : goal.returns-in_err-flush-clause-memory
-returns-in_err-flush-clause-memory g c e all old input p = progress-prefix _ _ all _ old _ _ _ input p
+pub returns-in-Some-clause-ok : goal.returns-in-Some-clause-ok
+returns-in-Some-clause-ok g c = if_some _ c.in_ok-count.field-0 c.in-Some.count c.in_ok-count.ensures.done c.in-Some.is
 
-pub returns-clause-ok : goal.returns-clause-ok
-returns-clause-ok g c =
-    let n = c.args.site_run.now.run.answered + 1 in
-    if_ok_so _ _ c.stop.result (λ count done all old input p. done all old input
-    (progress-kept _ _ all (held_by c.args.desk.now.site c.args.site_run.now.window.items n) (told_by c.flush.new.self.site n) old _ _ _ n input p c.in_ok-flush.ensures.flushed)) c.stop.ensures.ok
+pub settle-requires-clause-held : goal.settle-requires-clause-held
+settle-requires-clause-held g c κs within =
+    let same = if_none c.in_ok-count.field-0 c.in_ok-count.ensures.same c.in_default.is in
+    rw (same.0, same.1, same.3) c.requires.held
+
+pub returns-in_err-settle-clause-memory : goal.returns-in_err-settle-clause-memory
+returns-in_err-settle-clause-memory g c e all old input p =
+    let same = if_none c.in_ok-count.field-0 c.in_ok-count.ensures.same c.in_default.is in
+    let memory = handed_on c.from_residual-in_err-settle.result c.in_err-settle.field-0.0 fault.Memory c.from_residual-in_err-settle.ensures e in
+    progress-stays _ _ all _ old _ _ _ _ input p (c.in_err-settle.ensures.memory (rw memory refl) ∙ ap g.W.Write.contents same.4)
 
 pub returns-clause-too_long : goal.returns-clause-too_long
-returns-clause-too_long g c e all old input p =
-    let n = c.args.site_run.now.run.answered + 1 in
-    c.stop.ensures.too_long e all old input
-    (progress-kept _ _ all (held_by c.args.desk.now.site c.args.site_run.now.window.items n) (told_by c.flush.new.self.site n) old _ _ _ n input p c.in_ok-flush.ensures.flushed)
-
-pub returns-clause-read : goal.returns-clause-read
-returns-clause-read g c e all old input p =
-    let n = c.args.site_run.now.run.answered + 1 in
-    c.stop.ensures.read e all old input
-    (progress-kept _ _ all (held_by c.args.desk.now.site c.args.site_run.now.window.items n) (told_by c.flush.new.self.site n) old _ _ _ n input p c.in_ok-flush.ensures.flushed)
-
-pub returns-clause-memory : goal.returns-clause-memory
-returns-clause-memory g c e all old input p =
-    let n = c.args.site_run.now.run.answered + 1 in
-    c.stop.ensures.memory e all old input
-    (progress-kept _ _ all (held_by c.args.desk.now.site c.args.site_run.now.window.items n) (told_by c.flush.new.self.site n) old _ _ _ n input p c.in_ok-flush.ensures.flushed)
+returns-clause-too_long g c e first old input p =
+    let start = c.args.site_run.now in
+    let before = c.next_or_end.new.site_run in
+    let site = c.next_or_end.new.desk.site in
+    let same = if_none c.in_ok-count.field-0 c.in_ok-count.ensures.same c.in_default.is in
+    let found = if_none c.in_ok-count.field-0 c.in_ok-count.ensures.found c.in_default.is in
+    let written = g.W.Write.contents c.next_or_end.new.writer in
+    let moved = turn_moved g.R.Read.remaining start.run.records c.args.desk.now.site site start.window.items before.window.items start.run.reply.sink before.run.reply.sink
+    start.run.answered before.run.answered first old (g.W.Write.contents c.args.writer.now) written input
+    (λ i. (same.0 i).site) (λ i. (same.1 i).items) (λ i. (same.2 i).sink) same.3 (ap g.W.Write.contents same.4) p in
+    subst (λ k. AnswersFirst k first c.settle.new.desk.site old (g.W.Write.contents c.settle.new.writer) (input_records input)) same.3
+    (turn_too_long g.R.Read.remaining start.run.records before.run.records site c.settle.new.desk.site before.window.items before.run.reply.sink before.run.answered
+    first old written (g.W.Write.contents c.settle.new.writer) input found c.in_ok-settle.ensures.drains c.in_ok-settle.ensures.leads moved)

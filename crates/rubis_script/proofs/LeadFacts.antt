@@ -1,0 +1,180 @@
+-- Where records lead a site, one after the other.
+use Rattle.std.proofs.Common.{◌≡◌, ◌∙◌, ◌+◌, ◌++◌, ◌∷◌, [], ℕ, List, Option, Some, None, ap, append-nil, append_assoc, arith, length, length-append, refl, subst, sym, take}
+use Rattle.std.specs.Prelude.{IfSome, Result, Ok, Err, ⊤}
+use Rattle.std.proofs.Math.Seq.{take-append_seam}
+use Rattle.std.specs.Io.KnownBytes.{Appends}
+use Rattle.rubis_message.specs.Message.{Message}
+use Rattle.rubis_message.specs.declared.tokens.Packet.TheVariants.{Msg}
+use Rattle.rubis_model.specs.Processes.{process, site_after}
+use Rattle.rubis_model.specs.Runs.{Input, answers, input_of, input_step}
+use Rattle.rubis_model.specs.Runs.Input.{Came}
+use Rattle.rubis_model.specs.Site.{Place, Replica, arrived, opening_at}
+use Rattle.rubis_replica.specs.Arrivals.{TakesFirst, after_all}
+use Rattle.rubis_replica.specs.State.{SiteState}
+use Rattle.rubis_engine.specs.Accounts.Ending.{AtEnd}
+use Rattle.rubis_engine.specs.Progress.{IsRun, WrotePrefix}
+use Rattle.rubis_engine.specs.Text.{input_records, rows_text}
+use Rattle.rubis_engine.specs.declared.fault.Count.{Count}
+use Rattle.rubis_engine.specs.declared.fault.RunFault.{RunFault}
+use Rattle.rubis_engine.specs.declared.fault.RunFault.TheVariants as fault
+use Rattle.rubis_script.specs.Headline.{AnswersAll, AnswersFirst, AnswersSome, HasAnswered, HasLed, Lead, OfRead, Settles, StandsAsProcess, StepsOn, WritesAsProcess}
+use Rattle.rubis_script.specs.SiteRuns.{told_by}
+
+-- ---- messages that are held
+
+pub after_more : (p : Place) (s : Replica) (ms : List Message) (m : Message) → after_all p s (ms ++ m ∷ []) ≡ (arrived p (after_all p s ms) m).0
+after_more p s [] m = refl
+after_more p s (x ∷ ms) m = after_more p (arrived p s x).0 ms m
+
+-- a message more is held
+pub held_steps : (s : SiteState) (n : ℕ) (w : List Message) (m : Message) (input : Input) → input ≡ Came (Msg m) → StepsOn n input s w s (w ++ m ∷ [])
+held_steps s n w m input is =
+    (refl, after_more s.place s.state w m ∙ ap (λ i. (input_step s.place (after_all s.place s.state w) n i).0) (sym is))
+
+-- all of them were taken in
+pub taken_all : (p : Place) (old new : Replica) (window rest : List Message) (told : List _) → TakesFirst p old new window told rest → rest ≡ []
+    → new ≡ after_all p old window
+taken_all p old new window rest told t none =
+    let same : t.taken ≡ window = sym (t.parts ∙ ap (λ r. t.taken ++ r) none ∙ append-nil t.taken) in
+    t.state ∙ ap (after_all p old) same
+
+pub settles_all : (s s2 : SiteState) (w w2 : List Message) → s2.place ≡ s.place → s2.state ≡ after_all s.place s.state w → w2 ≡ [] → Settles s w s2 w2
+settles_all s s2 w w2 place state none = (place, ap (after_all s2.place s2.state) none ∙ state)
+
+-- those that are held are taken in, and then the record is
+pub flush_steps : (old mid new : SiteState) (w w2 : List Message) (n : ℕ) (input : Place → Input) → Settles old w mid w2 → w2 ≡ [] → new.place ≡ mid.place
+    → new.state ≡ (input_step mid.place mid.state n (input mid.place)).0 → StepsOn n (input old.place) old w new w2
+flush_steps old mid new w w2 n input (same, settled) none place state =
+    let taken : mid.state ≡ after_all old.place old.state w = sym (ap (after_all mid.place mid.state) none) ∙ settled in (
+      place ∙ same,
+      ap (after_all new.place new.state) none ∙ state ∙ (λ i. (input_step (same i) (taken i) n (input (same i))).0),
+    )
+
+-- ---- a record more
+
+pub take_at : (xs ys : List (List (List ℕ))) (k : ℕ) → length xs ≡ k → take k (xs ++ ys) ≡ xs
+take_at xs ys k e = subst (λ j. take j (xs ++ ys) ≡ xs) e (take-append_seam xs ys)
+
+pub take_all : (xs : List (List (List ℕ))) (k : ℕ) → k ≡ length xs → take k xs ≡ xs
+take_all xs k e = ap (take k) (sym (append-nil xs)) ∙ take_at xs [] k (sym e)
+
+after_one_more : (p : Place) (s : Replica) (n : ℕ) (done : List (List (List ℕ))) (fields : List (List ℕ))
+    → site_after p s n (done ++ fields ∷ []) ≡ (input_step p (site_after p s n done) (n + length done) (input_of p.sites fields)).0
+after_one_more p s n [] fields = ap (λ k. (input_step p s k (input_of p.sites fields)).0) (omega arith)
+after_one_more p s n (x ∷ done) fields =
+    let t = (input_step p s n (input_of p.sites x)).0 in
+    let u = site_after p t (n + 1) done in
+    after_one_more p t (n + 1) done fields ∙ ap (λ k. (input_step p u k (input_of p.sites fields)).0) (omega arith)
+
+-- before its first record a run has led nowhere
+pub led_none : (s : SiteState) (w : List Message) (answered : ℕ) (records : List (List (List ℕ))) → w ≡ [] → answered ≡ 0 → HasLed s s w answered records
+led_none s w answered records none zero = record {
+  place = refl;
+  state = ap (after_all s.place s.state) none ∙ ap (site_after s.place s.state 1) (sym (take_at [] records answered (sym zero)));
+}
+
+-- messages that were held are taken in
+pub led_kept : (first s s2 : SiteState) (w w2 : List Message) (answered : ℕ) (records : List (List (List ℕ))) → Settles s w s2 w2
+    → HasLed first s w answered records → HasLed first s2 w2 answered records
+led_kept first s s2 w w2 answered records (place, state) h = record { place = place ∙ h.place; state = state ∙ h.state }
+
+-- a record more leads on
+pub led_more : (first s s2 : SiteState) (w w2 : List Message) (done rest : List (List (List ℕ))) (fields : List (List ℕ)) (answered : ℕ) (records : List (List (List ℕ)))
+    → records ≡ done ++ (fields ∷ rest) → length done ≡ answered → StepsOn (answered + 1) (input_of s.place.sites fields) s w s2 w2
+    → HasLed first s w answered records → HasLed first s2 w2 (answered + 1) records
+led_more first s s2 w w2 done rest fields answered records parts count (place, state) h =
+    let step = λ (p : Place) (t : Replica) (k : ℕ). (input_step p t k (input_of p.sites fields)).0 in
+    let here : take answered records ≡ done = ap (take answered) parts ∙ take_at done (fields ∷ rest) answered count in
+    let next : take (answered + 1) records ≡ done ++ fields ∷ [] =
+    ap (take (answered + 1)) (parts ∙ sym (append_assoc done (fields ∷ []) rest))
+    ∙ take_at (done ++ fields ∷ []) rest (answered + 1) (omega (arith, length-append done (fields ∷ []), count)) in
+    let number : answered + 1 ≡ 1 + length done = omega (arith, count) in
+    record {
+      place = place ∙ h.place;
+      state = state
+          ∙ (λ i. step (h.place i) (h.state i) (answered + 1))
+          ∙ (λ i. step first.place (site_after first.place first.state 1 (here i)) (number i))
+          ∙ sym (after_one_more first.place first.state 1 done fields)
+          ∙ ap (site_after first.place first.state 1) (sym next);
+    }
+
+-- the records that were answered led there, where nothing is held
+pub led_all : (first s : SiteState) (w : List Message) (answered : ℕ) (records taken : List (List (List ℕ))) → w ≡ [] → take answered records ≡ taken
+    → HasLed first s w answered records → Lead taken first s
+led_all first s w answered records taken none same h =
+    (h.place, sym (ap (after_all s.place s.state) none) ∙ h.state ∙ ap (site_after first.place first.state 1) same)
+
+-- ---- how a run ends
+
+abbrev pub SiteEnds : ℕ → SiteState → SiteState → Option (List ℕ) → Option (List ℕ) → List (List (List ℕ)) → Result Count RunFault → Type 0
+SiteEnds limit first new old now records (Ok count) = AnswersAll limit first new old now records count.records
+SiteEnds limit first new old now records (Err fault.TooLong) = AnswersFirst limit first new old now records
+SiteEnds limit first new old now records (Err fault.Read) = AnswersSome first new old now records
+SiteEnds limit first new old now records (Err fault.Memory) = WrotePrefix ((told_by first 1).text AtEnd) old now records
+SiteEnds limit first new old now records (Err fault.Write) = ⊤
+
+-- what it leaves in its writer is a run
+pub ends_run : (limit : ℕ) (first new : SiteState) (input old now : Option (List ℕ)) (result : Result Count RunFault)
+    → IfSome input (λ bytes. SiteEnds limit first new old now (input_records bytes) result) → IsRun (told_by first 1) limit input old now result
+ends_run limit first new None old now result h = tt
+ends_run limit first new (Some bytes) old now (Ok count) h = (h.0.0, h.1, h.2)
+ends_run limit first new (Some bytes) old now (Err fault.TooLong) h = (h.0.0, h.1, h.1)
+ends_run limit first new (Some bytes) old now (Err fault.Read) h = (h.0, h.1.0)
+ends_run limit first new (Some bytes) old now (Err fault.Memory) h = h
+ends_run limit first new (Some bytes) old now (Err fault.Write) h = tt
+
+-- and its records lead to where it ends
+pub ends_led : (limit : ℕ) (first new : SiteState) (input old now : Option (List ℕ)) (result : Result Count RunFault)
+    → IfSome input (λ bytes. SiteEnds limit first new old now (input_records bytes) result) → OfRead limit input result (λ records. HasAnswered first new old now records)
+ends_led limit first new None old now (Ok count) h = tt
+ends_led limit first new None old now (Err fault.TooLong) h = tt
+ends_led limit first new None old now (Err fault.Read) h = tt
+ends_led limit first new None old now (Err fault.Memory) h = tt
+ends_led limit first new None old now (Err fault.Write) h = tt
+ends_led limit first new (Some bytes) old now (Ok count) h = h.0
+ends_led limit first new (Some bytes) old now (Err fault.TooLong) h = h.0
+ends_led limit first new (Some bytes) old now (Err fault.Read) h = h
+ends_led limit first new (Some bytes) old now (Err fault.Memory) h = tt
+ends_led limit first new (Some bytes) old now (Err fault.Write) h = tt
+
+-- what follows of the records that a run answers
+pub of_read_so : (P Q : List (List (List ℕ)) → Type 0) (limit : ℕ) (input : Option (List ℕ)) (result : Result Count RunFault)
+    → ((records : List (List (List ℕ))) → P records → Q records) → OfRead limit input result P → OfRead limit input result Q
+of_read_so P Q limit None (Ok count) f h = tt
+of_read_so P Q limit None (Err fault.TooLong) f h = tt
+of_read_so P Q limit None (Err fault.Read) f h = tt
+of_read_so P Q limit None (Err fault.Memory) f h = tt
+of_read_so P Q limit None (Err fault.Write) f h = tt
+of_read_so P Q limit (Some bytes) (Ok count) f h = f (input_records bytes) h
+of_read_so P Q limit (Some bytes) (Err fault.TooLong) f h = f (take limit (input_records bytes)) h
+of_read_so P Q limit (Some bytes) (Err fault.Read) f h = (h.0, f (take h.0 (input_records bytes)) h.1)
+of_read_so P Q limit (Some bytes) (Err fault.Memory) f h = tt
+of_read_so P Q limit (Some bytes) (Err fault.Write) f h = tt
+
+-- ---- the process that a site is
+
+-- what was read by the process, in its place
+process_place : (p : Place) (keep : ℕ → ℕ) → keep p.site ≡ p.keep → process p.sites keep p.site ≡ p
+process_place p keep kept = λ i. record { site = p.site; sites = p.sites; keep = kept i }
+
+pub writes_as : (old new : SiteState) (before after : Option (List ℕ)) (records : List (List (List ℕ))) → old.state ≡ opening_at old.place.site
+    → HasAnswered old new before after records → WritesAsProcess old.place before after records
+writes_as old new before after records opened h keep readings (kept, read) =
+    let same = process_place old.place keep kept in
+    subst (λ rows. Appends before after (rows_text rows)) (sym (λ i. answers (same i) (sym opened i) 1 (read i))) h.0
+
+pub stands_as : (old new : SiteState) (before after : Option (List ℕ)) (records : List (List (List ℕ))) → old.state ≡ opening_at old.place.site
+    → HasAnswered old new before after records → StandsAsProcess old.place new.state records
+stands_as old new before after records opened h keep readings (kept, read) =
+    let same = process_place old.place keep kept in
+    let state = h.1.1 ∙ sym (λ i. site_after (same i) (sym opened i) 1 (read i)) in (
+      state,
+      λ within. record { within = within; messages = ap (λ (s : Replica). s.log) state; rows = tt },
+    )
+
+pub as_process : (old new : SiteState) (limit : ℕ) (input before after : Option (List ℕ)) (result : Result Count RunFault) → old.state ≡ opening_at old.place.site
+    → OfRead limit input result (λ records. HasAnswered old new before after records)
+    → OfRead limit input result (λ records. WritesAsProcess old.place before after records × StandsAsProcess old.place new.state records)
+as_process old new limit input before after result opened h =
+    of_read_so (λ records. HasAnswered old new before after records) (λ records. WritesAsProcess old.place before after records × StandsAsProcess old.place new.state records) limit input result
+    (λ records done. (writes_as old new before after records opened done, stands_as old new before after records opened done)) h

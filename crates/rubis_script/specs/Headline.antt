@@ -1,0 +1,105 @@
+-- What a run of one site says of it: what the site answers to the records that it reads, and the state in which they leave it.
+use Rattle.std.specs.Prelude.{◌≡◌, ◌≤◌, ◌<◌, ◌+◌, ℕ, ⊤, IfSome, List, MatchOption, Option, None, Result, Ok, Err, length, take}
+use Rattle.std.specs.Io.KnownBytes.{Appends}
+use Rattle.rubis_message.specs.Message.{Message}
+use Rattle.rubis_model.specs.Processes.{IsLogOfProcess, Reading, answers_of, read_by, site_after, state_of}
+use Rattle.rubis_model.specs.Runs.{Input, answers, input_step}
+use Rattle.rubis_model.specs.Site.{Place, Replica}
+use Rattle.rubis_replica.specs.Arrivals.{after_all}
+use Rattle.rubis_replica.specs.State.{SiteState}
+use Rattle.rubis_engine.specs.Progress.{HasComeSoFar}
+use Rattle.rubis_engine.specs.Text.{input_records, rows_text}
+use Rattle.rubis_engine.specs.declared.fault.Count.{Count}
+use Rattle.rubis_engine.specs.declared.fault.RunFault.{RunFault}
+use Rattle.rubis_engine.specs.declared.fault.RunFault.TheVariants.{Memory, Read, TooLong, Write}
+use Rattle.rubis_engine.specs.declared.record_list.Records.{Records}
+use Rattle.rubis_engine.specs.declared.run.Run.{Run}
+use Rattle.rubis_script.specs.SiteRuns.{told_by}
+use Rattle.rubis_script.specs.Windows.{held_by}
+
+-- of the records that a run answers this holds, by how it ends: of all records at the end of the input, of the first `limit` where
+-- there are more, of some first ones where the reader failed. Where memory ran out or the writer failed, nothing is said
+abbrev pub OfRead : ℕ → Option (List ℕ) → Result Count RunFault → (List (List (List ℕ)) → Type 0) → Type 0
+OfRead limit input (Ok count) holds = IfSome input (λ bytes. holds (input_records bytes))
+OfRead limit input (Err TooLong) holds = IfSome input (λ bytes. holds (take limit (input_records bytes)))
+OfRead limit input (Err Read) holds = IfSome input (λ bytes. (k : ℕ) × holds (take k (input_records bytes)))
+OfRead limit input (Err Memory) holds = ⊤
+OfRead limit input (Err Write) holds = ⊤
+
+-- these records lead from one state of a site to the other
+abbrev pub Lead : List (List (List ℕ)) → SiteState → SiteState → Type 0
+Lead records old new = (new.place ≡ old.place) × (new.state ≡ site_after old.place old.state 1 records)
+
+-- what the site answers to these records stands behind what stood there before, and they led it from one state to the other
+abbrev pub HasAnswered : SiteState → SiteState → Option (List ℕ) → Option (List ℕ) → List (List (List ℕ)) → Type 0
+HasAnswered old new before after records = Appends before after (rows_text (answers old.place old.state 1 records)) × Lead records old new
+
+-- ---- the same of a site with nothing done before, in the words of the laws of processes
+
+-- the process of this site keeps as many messages, and of all readings it has read just these records
+abbrev pub HasReadJust : Place → (ℕ → ℕ) → List Reading → List (List (List ℕ)) → Type 0
+HasReadJust p keep readings records = (keep p.site ≡ p.keep) × (read_by p.site readings ≡ records)
+
+-- what was appended are the answers of such a process
+abbrev pub WritesAsProcess : Place → Option (List ℕ) → Option (List ℕ) → List (List (List ℕ)) → Type 0
+WritesAsProcess p before after records = (keep : ℕ → ℕ) (readings : List Reading) → HasReadJust p keep readings records
+    → Appends before after (rows_text (answers_of p.sites keep readings p.site))
+
+-- the site stands as such a process does, and its log is that of the process
+abbrev pub StandsAsProcess : Place → Replica → List (List (List ℕ)) → Type 0
+StandsAsProcess p state records = (keep : ℕ → ℕ) (readings : List Reading) → HasReadJust p keep readings records
+    → (state ≡ state_of p.sites keep readings p.site)
+    × (p.site < p.sites → IsLogOfProcess p.sites keep readings (record { site = p.site; messages = state.log; rows = None }))
+
+-- ---- steps of a run
+
+-- the site was led from the one state, with these messages held, to the other, where only messages that it held were taken in
+abbrev pub Settles : SiteState → List Message → SiteState → List Message → Type 0
+Settles old held new left = (new.place ≡ old.place) × (after_all new.place new.state left ≡ after_all old.place old.state held)
+
+-- the same, where record n was taken in after them, or is held too
+abbrev pub StepsOn : ℕ → Input → SiteState → List Message → SiteState → List Message → Type 0
+StepsOn n input old held new left =
+    (new.place ≡ old.place) × (after_all new.place new.state left ≡ (input_step old.place (after_all old.place old.state held) n input).0)
+
+-- the first `answered` of these records have led there, once the messages that are held are taken in
+pub record HasLed (first s : SiteState) (held : List Message) (answered : ℕ) (records : List (List (List ℕ))) : Type 0 where
+  pub place : s.place ≡ first.place
+  pub state : after_all s.place s.state held ≡ site_after first.place first.state 1 (take answered records)
+
+-- all records are answered, at most `limit`
+abbrev pub AnswersAll : ℕ → SiteState → SiteState → Option (List ℕ) → Option (List ℕ) → List (List (List ℕ)) → ℕ → Type 0
+AnswersAll limit first new old now records count = HasAnswered first new old now records × (count ≡ length records) × (count ≤ limit)
+
+-- the first `limit` are, and there are more
+abbrev pub AnswersFirst : ℕ → SiteState → SiteState → Option (List ℕ) → Option (List ℕ) → List (List (List ℕ)) → Type 0
+AnswersFirst limit first new old now records = HasAnswered first new old now (take limit records) × (limit < length records)
+
+-- some first ones are
+abbrev pub AnswersSome : SiteState → SiteState → Option (List ℕ) → Option (List ℕ) → List (List (List ℕ)) → Type 0
+AnswersSome first new old now records = (k : ℕ) × HasAnswered first new old now (take k records)
+
+-- ---- a run that reads each record when those before it are answered
+
+-- it has come so far, from the state in which it began
+pub record StandsFrom {R : Type 0} (rem : R → Option (List ℕ)) (records : Records R) (s : SiteState) (held : List Message) (sink : List ℕ) (answered : ℕ)
+    (first : SiteState) (old now : Option (List ℕ)) (input : List ℕ) : Type 0 where
+  pub text : HasComeSoFar rem records (told_by first 1) (held_by s held (answered + 1)) old now sink (answered + 1) input
+  pub led : HasLed first s held answered (input_records input)
+
+abbrev pub StandsAtSite : {R : Type 0} → (R → Option (List ℕ)) → Run R → SiteState → List Message → SiteState
+    → Option (List ℕ) → Option (List ℕ) → List ℕ → Type 0
+StandsAtSite rem run s held first old now input = StandsFrom rem run.records s held run.reply.sink run.answered first old now input
+
+-- of every run that stands there this holds, `first` being the state in which it began
+abbrev pub OfEachSiteRun : {R : Type 0} → (R → Option (List ℕ)) → Run R → SiteState → List Message → Option (List ℕ)
+    → (SiteState → Option (List ℕ) → List ℕ → Type 0) → Type 0
+OfEachSiteRun rem run s held now holds = (first : SiteState) (old : Option (List ℕ)) (input : List ℕ)
+    → StandsAtSite rem run s held first old now input → holds first old input
+
+-- after one record more it stands there, or all are answered
+abbrev pub HasMovedSite : {R : Type 0} → (R → Option (List ℕ)) → Run R → Run R → SiteState → List Message → SiteState → List Message
+    → Option (List ℕ) → Option (List ℕ) → Option Count → Type 0
+HasMovedSite rem run after s held s2 held2 before now over = OfEachSiteRun rem run s held before (λ first old input.
+    MatchOption over (StandsAtSite rem after s2 held2 first old now input)
+    (λ count. AnswersAll (run.answered + 1) first s2 old now (input_records input) count.records))

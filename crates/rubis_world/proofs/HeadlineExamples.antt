@@ -1,0 +1,236 @@
+-- What a run of several sites says of them, worked out on two records: site 0 passes the token to site 1, which then takes it.
+use Rattle.std.proofs.Common.{◌≡◌, ◌∙◌, ◌+◌, ◌≤◌, ◌++◌, ◌∷◌, [], ℕ, zero, suc, List, Option, Some, None, ap, arith, inl, inr, length, refl, subst, sym, take}
+use Rattle.std.specs.Prelude.{codes, is_some, Ok, Err}
+use Rattle.std.specs.Fmt.{digits}
+use mathlib.Core.Bool.{true≢false}
+use Rattle.rubis_numbers.specs.Numbers.{number_of}
+use Rattle.rubis_message.specs.Forms.{take_number, take_site}
+use Rattle.rubis_message.specs.Readings.{request_of, take_kind, take_request}
+use Rattle.rubis_message.specs.Words.{kind_of}
+use Rattle.rubis_message.specs.WorldReadings.{request_at, take_at, take_audit, take_delivery, world_input}
+use Rattle.rubis_message.specs.declared.tokens.Packet.TheVariants as packet
+use Rattle.rubis_model.specs.RecordedRuns.{IsTextOfARun, world_after}
+use Rattle.rubis_model.specs.Site.{Replica}
+use Rattle.rubis_model.specs.System.{World, site, start}
+use Rattle.rubis_model.specs.WorldRecords.{world_answers, world_output_of, world_step}
+use Rattle.rubis_engine.specs.Reading.{Gives, fields_now}
+use Rattle.rubis_engine.specs.Text.{input_records, rows_text}
+use Rattle.rubis_engine.proofs.ReadBack.{HaveFields, HasNoMark, no_mark, rows_back}
+use Rattle.rubis_engine.specs.declared.fault.Count.{Count}
+use Rattle.rubis_engine.specs.declared.fault.RunFault.TheVariants as fault
+use Rattle.rubis_engine.specs.declared.run.Run.{Run}
+use Rattle.rubis_laws.proofs.Recorded.{answers_are_a_run}
+use Rattle.rubis_world.specs.Headline.{AppendsARun, Lead, LeadsOn, TellsARun}
+use Rattle.rubis_world.specs.SitesWorlds.{WorldState, opening_world}
+
+passes_on : List (List ℕ)
+passes_on = codes "at" ∷ codes "0" ∷ codes "pass" ∷ codes "1" ∷ []
+
+is_delivered : List (List ℕ)
+is_delivered = codes "deliver" ∷ codes "1" ∷ codes "1" ∷ []
+
+abbrev both : List (List (List ℕ))
+both = passes_on ∷ is_delivered ∷ []
+
+-- a site with nothing released, and with the token or without
+abbrev at_turn : Option ℕ → ℕ → Replica
+at_turn held last = record { log = []; waiting = []; held = held; last = last }
+
+abbrev in_state : List Replica → WorldState
+in_state sites = record {
+  keep = 1000000;
+  world = record { sites = sites; sent = packet.Token (record { turn = 1; to = 1; issued = 0 }) ∷ [] };
+  left = 0 ∷ 0 ∷ [];
+}
+
+-- the sites before the first record, between the two, and after them
+abbrev opened : WorldState
+opened = opening_world 1000000 2
+
+abbrev passed : WorldState
+passed = in_state (at_turn None 0 ∷ at_turn None 0 ∷ [])
+
+abbrev ended : WorldState
+ended = in_state (at_turn None 0 ∷ at_turn (Some 0) 1 ∷ [])
+
+-- what is answered to the first record, to the second, and to both
+abbrev first_rows : List (List (List ℕ))
+first_rows =
+    (codes "at" ∷ codes "0" ∷ codes "reply" ∷ codes "1" ∷ codes "passed" ∷ [])
+    ∷ (codes "at" ∷ codes "0" ∷ codes "send" ∷ codes "token" ∷ codes "1" ∷ codes "1" ∷ codes "1" ∷ codes "0" ∷ [])
+    ∷ []
+
+abbrev last_rows : List (List (List ℕ))
+last_rows = (codes "at" ∷ codes "1" ∷ codes "reply" ∷ codes "2" ∷ codes "holding" ∷ []) ∷ []
+
+abbrev all_rows : List (List (List ℕ))
+all_rows = first_rows ++ last_rows
+
+first_step : (world_step 1000000 (start 2) 1 (world_input 2 passes_on)).0 ≡ passed.world
+unfolding passes_on request_at take_at take_delivery take_audit request_of take_request take_kind kind_of take_site number_of digits
+first_step = refl
+
+both_led : world_after 1000000 (start 2) 1 both ≡ ended.world
+unfolding passes_on is_delivered request_at take_at take_delivery take_audit request_of take_request take_kind kind_of take_site number_of digits
+both_led = refl
+
+first_told : world_output_of 2 1000000 (passes_on ∷ []) ≡ first_rows
+unfolding world_answers passes_on request_at take_at take_delivery take_audit request_of take_request take_kind kind_of take_site number_of digits
+first_told = refl
+
+both_told : world_output_of 2 1000000 both ≡ all_rows
+unfolding world_answers passes_on is_delivered request_at take_at take_delivery take_audit request_of take_request take_kind kind_of take_site number_of digits
+both_told = refl
+
+-- one site alone can pass it to no other
+alone_told : length (world_output_of 1 1000000 both) ≡ 2
+unfolding world_answers passes_on is_delivered request_at take_at take_delivery take_audit request_of take_request take_kind kind_of take_site number_of digits
+alone_told = refl
+
+-- rows with the same text are the same
+abbrev Readable : List (List (List ℕ)) → Type 0
+Readable rows = HaveFields rows × HasNoMark (rows_text rows)
+
+has_first : (field : List ℕ) (fields : List (List ℕ)) (rows : List (List (List ℕ))) → HaveFields rows → HaveFields ((field ∷ fields) ∷ rows)
+has_first field fields rows more row (inl e) none = absurd cc
+has_first field fields rows more row (inr h) none = more row h none
+
+has_none : HaveFields []
+has_none row h none = absurd h
+
+none_readable : Readable []
+none_readable = (has_none, no_mark [] refl)
+
+first_readable : Readable first_rows
+first_readable = (has_first _ _ _ (has_first _ _ _ has_none), no_mark (rows_text first_rows) refl)
+
+last_readable : Readable last_rows
+last_readable = (has_first _ _ _ has_none, no_mark (rows_text last_rows) refl)
+
+all_readable : Readable all_rows
+all_readable = (has_first _ _ _ (has_first _ _ _ (has_first _ _ _ has_none)), no_mark (rows_text all_rows) refl)
+
+same_rows : (rows others : List (List (List ℕ))) → Readable rows → Readable others → rows_text rows ≡ rows_text others → rows ≡ others
+same_rows rows others (some, mark) (more, unmarked) e = sym (rows_back rows some mark) ∙ ap input_records e ∙ rows_back others more unmarked
+
+-- ---- where records lead
+
+both_lead : Lead both opened ended
+both_lead = (refl, sym both_led)
+
+passed_is_too_early : Lead both opened passed → ⊥
+passed_is_too_early h = true≢false (sym (ap (λ (w : World). is_some (site w 1).held) (h.1 ∙ both_led)))
+
+opened_is_fresh : Lead both opened opened → ⊥
+opened_is_fresh h = true≢false (sym (ap (λ (w : World). is_some (site w 1).held) (h.1 ∙ both_led)))
+
+fewer_kept_since : Lead both opened (record ended { keep = 2 }) → ⊥
+fewer_kept_since h = let kept = h.0 in absurd (omega (arith, kept))
+
+-- ---- the next record
+
+next_leads : {R : Type 0} (rem : R → Option (List ℕ)) (run after : Run R) → run.answered ≡ 0 → fields_now after.records ≡ passes_on
+    → ((rows : List (List (List ℕ))) → Gives rem run.records rows → rows ≡ passes_on ∷ []) → Gives rem after.records [] → LeadsOn rem run after opened passed None
+next_leads rem run after none is one end rows gives = (
+  [],
+  end,
+  one rows gives ∙ ap (λ fields. fields ∷ []) (sym is),
+  refl,
+  sym first_step ∙ (λ i. (world_step 1000000 (start 2) (sym none i + 1) (world_input 2 (sym is i))).0),
+)
+
+-- it doesn't leave the sites where they were
+opened_leads_not : {R : Type 0} (rem : R → Option (List ℕ)) (run after : Run R) → run.answered ≡ 0 → fields_now after.records ≡ passes_on
+    → Gives rem run.records (passes_on ∷ []) → LeadsOn rem run after opened opened None → ⊥
+opened_leads_not rem run after none is gives h =
+    let (rest, more, took, keep, world) = h (passes_on ∷ []) gives in
+    true≢false (ap (λ (w : World). is_some (site w 0).held)
+    (world ∙ (λ i. (world_step 1000000 (start 2) (none i + 1) (world_input 2 (is i))).0) ∙ first_step))
+
+-- nor is one taken for another
+other_leads_not : {R : Type 0} (rem : R → Option (List ℕ)) (run after : Run R) → fields_now after.records ≡ []
+    → Gives rem run.records (passes_on ∷ []) → LeadsOn rem run after opened opened None → ⊥
+unfolding passes_on
+other_leads_not rem run after is gives h =
+    let (rest, more, took, keep, world) = h (passes_on ∷ []) gives in
+    let none : passes_on ≡ [] = ap (first_of) took ∙ is in
+    let many = ap length none in
+    absurd (omega (arith, many))
+  where
+    first_of : List (List (List ℕ)) → List (List ℕ)
+    first_of [] = []
+    first_of (fields ∷ rest) = fields
+
+-- where there is none, the sites stay
+none_left_stays : {R : Type 0} (rem : R → Option (List ℕ)) (run after : Run R) (count : Count) → LeadsOn rem run after opened passed (Some count) → ⊥
+none_left_stays rem run after count h = true≢false (sym (ap (λ (s : WorldState). is_some (site s.world 0).held) h.1))
+
+none_left_is_all : {R : Type 0} (rem : R → Option (List ℕ)) (run after : Run R) (count : Count) → Gives rem run.records (passes_on ∷ [])
+    → LeadsOn rem run after opened opened (Some count) → ⊥
+none_left_is_all rem run after count gives h = let many = ap length (h.0 (passes_on ∷ []) gives) in absurd (omega (arith, many))
+
+-- ---- the text of a run
+
+both_are_text : IsTextOfARun 2 1000000 both all_rows
+both_are_text = subst (IsTextOfARun 2 1000000 both) both_told (answers_are_a_run 2 1000000 both (omega arith) (omega arith) (omega arith))
+
+first_is_text : IsTextOfARun 2 1000000 (passes_on ∷ []) first_rows
+first_is_text = subst (IsTextOfARun 2 1000000 (passes_on ∷ [])) first_told (answers_are_a_run 2 1000000 (passes_on ∷ []) (omega arith) (omega arith) (omega arith))
+
+-- not with an answer too few or too many, nor that of another number of sites
+too_few_are_no_text : IsTextOfARun 2 1000000 both first_rows → ⊥
+too_few_are_no_text h = let many = ap length (h.text ∙ both_told) in absurd (omega (arith, many))
+
+too_many_are_no_text : IsTextOfARun 2 1000000 (passes_on ∷ []) all_rows → ⊥
+too_many_are_no_text h = let many = ap length (h.text ∙ first_told) in absurd (omega (arith, many))
+
+other_sites_are_no_text : IsTextOfARun 1 1000000 both all_rows → ⊥
+other_sites_are_no_text h = let many = ap length h.text ∙ alone_told in absurd (omega (arith, many))
+
+-- ---- what was written, by how the run ends
+
+all_told_at_end : (bytes : List ℕ) (count : Count) → input_records bytes ≡ both
+    → TellsARun 2 1000000 5 (Some bytes) (Some []) (Some (rows_text all_rows)) (Ok count)
+all_told_at_end bytes count is = (all_rows, refl, subst (λ r. IsTextOfARun 2 1000000 r all_rows) (sym is) both_are_text)
+
+first_told_where_too_long : (bytes : List ℕ) → input_records bytes ≡ both
+    → TellsARun 2 1000000 1 (Some bytes) (Some []) (Some (rows_text first_rows)) (Err fault.TooLong)
+first_told_where_too_long bytes is =
+    (first_rows, refl, subst (λ r. IsTextOfARun 2 1000000 (take 1 r) first_rows) (sym is) first_is_text)
+
+first_told_where_read_fails : (bytes : List ℕ) → input_records bytes ≡ both
+    → TellsARun 2 1000000 5 (Some bytes) (Some []) (Some (rows_text first_rows)) (Err fault.Read)
+first_told_where_read_fails bytes is =
+    (1, (first_rows, refl, subst (λ r. IsTextOfARun 2 1000000 (take 1 r) first_rows) (sym is) first_is_text))
+
+-- what was written are the rows of a run of the records
+written : (records rows told : List (List (List ℕ))) → Readable rows → Readable told → world_output_of 2 1000000 records ≡ told
+    → AppendsARun 2 1000000 (Some []) (Some (rows_text rows)) records → rows ≡ told
+written records rows told one two is (others, appended, run) = same_rows rows told one two (appended ∙ ap rows_text (run.text ∙ is))
+
+too_few_at_end : (bytes : List ℕ) (count : Count) → input_records bytes ≡ both
+    → TellsARun 2 1000000 5 (Some bytes) (Some []) (Some (rows_text first_rows)) (Ok count) → ⊥
+too_few_at_end bytes count is h =
+    let many = ap length (written both first_rows all_rows first_readable all_readable both_told (subst (AppendsARun 2 1000000 (Some []) (Some (rows_text first_rows))) is h)) in
+    absurd (omega (arith, many))
+
+too_many_where_too_long : (bytes : List ℕ) → input_records bytes ≡ both
+    → TellsARun 2 1000000 1 (Some bytes) (Some []) (Some (rows_text all_rows)) (Err fault.TooLong) → ⊥
+too_many_where_too_long bytes is h =
+    let one = subst (λ r. AppendsARun 2 1000000 (Some []) (Some (rows_text all_rows)) (take 1 r)) is h in
+    let many = ap length (written (passes_on ∷ []) all_rows first_rows all_readable first_readable first_told one) in
+    absurd (omega (arith, many))
+
+-- the answers to the last record alone are those to no first records
+last_alone_where_read_fails : (bytes : List ℕ) → input_records bytes ≡ both
+    → TellsARun 2 1000000 5 (Some bytes) (Some []) (Some (rows_text last_rows)) (Err fault.Read) → ⊥
+last_alone_where_read_fails bytes is (k, h) = at k (subst (λ r. AppendsARun 2 1000000 (Some []) (Some (rows_text last_rows)) (take k r)) is h)
+  where
+    none_told : world_output_of 2 1000000 [] ≡ []
+    unfolding world_answers
+    none_told = refl
+
+    at : (k : ℕ) → AppendsARun 2 1000000 (Some []) (Some (rows_text last_rows)) (take k both) → ⊥
+    at zero h = let many = ap length (written [] last_rows [] last_readable none_readable none_told h) in absurd (omega (arith, many))
+    at (suc zero) h = let many = ap length (written (passes_on ∷ []) last_rows first_rows last_readable first_readable first_told h) in absurd (omega (arith, many))
+    at (suc (suc k)) h = let many = ap length (written both last_rows all_rows last_readable all_readable both_told h) in absurd (omega (arith, many))
