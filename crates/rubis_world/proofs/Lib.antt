@@ -4,3 +4,4 @@ pub mod Checking
 pub mod Moves
 pub mod Beginning
 pub mod Leading
+pub mod WaitingFacts
