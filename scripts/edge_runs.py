@@ -132,6 +132,7 @@ def too_long() -> list[Expected]:
             Expected("audit", b"site,0\n" + b"row\n" * (many - 1), b"" if more else b"audit,Rows,1,0\n", status, said),
             Expected("audit --status", b"site,0\n" + b"row\n" * (many - 1), b"" if more else b"audit,Rows,1,0\n", 1, said),
             Expected("lack", b"site,0\n" + b"row\n" * (many - 1), b"" if more else b"audit,Rows,1,0\n", 1, said),
+            Expected("lack --waiting", b"x\n" * many, b"", status, said),
             Expected("check", b"user,ann\n" * many, b"" if more else b"checked,%d,0\n" % MOST, status, said),
             Expected("widen", b"site,0\n" * many, b"site,0\n" * MOST, status, said),
         ]
@@ -141,13 +142,13 @@ def too_long() -> list[Expected]:
 def command_lines() -> list[Expected]:
     """Command lines with values at the ends of their ranges and beyond, and what else is wrong with one."""
     good = [f"site --{option} {value}" for option, most in (("sites", 16), ("shards", 64), ("workers", 16), ("batch", 65536), ("keep", 1000000)) for value in (1, most)]
-    good += ["site --site 15 --sites 16", "world --sites 16 --shards 64 --workers 16 --batch 65536 --keep 1000000", "widen --sites 16 --to 16", "widen --to 1", "site --sites=2 --site=1"]
+    good += ["site --site 15 --sites 16", "world --sites 16 --shards 64 --workers 16 --batch 65536 --keep 1000000", "widen --sites 16 --to 16", "widen --to 1", "lack --waiting --site 15 --sites 16 --keep 1000000", "lack --waiting --keep 1", "site --sites=2 --site=1"]
     beyond = [f"site --{option} {value}" for option, most in (("sites", 16), ("shards", 64), ("workers", 16), ("batch", 65536), ("keep", 1000000)) for value in (0, most + 1)]
-    beyond += ["site --site 16 --sites 16", "world --sites 17", "audit --sites 17", "lack --sites 17", "check --sites 17", "widen --to 17", "widen --to 0"]
+    beyond += ["site --site 16 --sites 16", "world --sites 17", "audit --sites 17", "lack --sites 17", "lack --waiting --site 16 --sites 16", "lack --keep 0", "check --sites 17", "widen --to 17", "widen --to 0"]
     wrong = ["", "frob", "user,ann", "--sites 2", "site extra", "site --frob 1", "site --to 3", "site --sites", "site --sites two"]
-    wrong += ["site --sites 2 --sites 2", "world --site 0", "audit --keep 1", "lack --keep 1", "lack --status", "check --keep 1", "check world audit", "widen --site 0"]
+    wrong += ["site --sites 2 --sites 2", "world --site 0", "audit --keep 1", "lack --shards 1", "lack --status", "lack --waiting 1", "check --keep 1", "check world audit", "widen --site 0"]
     fault = b"fault: site must be below sites\n"
-    own = [Expected(words, b"", b"", 2, fault) for words in ("site --site 1", "site --site 2 --sites 2", "site --site 7 --sites 3 --keep 5")]
+    own = [Expected(words, b"", b"", 2, fault) for words in ("site --site 1", "site --site 2 --sites 2", "site --site 7 --sites 3 --keep 5", "lack --waiting --site 2 --sites 2")]
     own += [Expected("audit --status", b"", b"audit,Agree\n"), Expected("audit --status", b"x\n", b"audit,BadRecord,1\n", 1), Expected("audit", b"x\n", b"audit,BadRecord,1\n")]
     own += [Expected("check lack", b"", b"", 2, b"fault: only records of site, world or audit are checked\n")]
     own += [Expected(words, b"", b"", 2, b"fault: to must not be below sites\n") for words in ("widen --sites 3 --to 2", "widen --sites 16 --to 15")]
@@ -176,7 +177,7 @@ def told(program: str, expected: Expected, **streams) -> str | None:
 def failed_reads(program: str) -> list[str | None]:
     """Input that can't be read."""
     folder = os.open(pathlib.Path(program).parent, os.O_RDONLY)
-    runs = [told(program, Expected(words, b"", b"", 1, b"run fault: read\n"), stdin=folder) for words in ("site", "world", "audit", "lack", "check", "widen")]
+    runs = [told(program, Expected(words, b"", b"", 1, b"run fault: read\n"), stdin=folder) for words in ("site", "world", "audit", "lack", "lack --waiting", "check", "widen")]
     os.close(folder)
     return runs
 
@@ -225,9 +226,10 @@ def failed_writes(program: str) -> list[str | None]:
     """Output that can't be written; a run that has nothing to write is well all the same."""
     fault = b"run fault: write\n"
     runs = [("site", b"user,ann\n"), ("world", b"x\n"), ("audit", b""), ("lack", b"site,0\n"), ("check", b""), ("widen", b"site,0\n")]
+    runs.append(("lack --waiting --site 1 --sites 2", b"msg,1,0,2,0,1:0,item,0.1,cup,9,3,50,80\n"))
     with open("/dev/full", "wb") as full:
         wrong = [told(program, Expected(words, text, b"", 1, fault), stdout=full) for words, text in runs]
-        return wrong + [told(program, Expected(words, b"", b""), stdout=full) for words in ("site", "world", "widen")]
+        return wrong + [told(program, Expected(words, b"", b""), stdout=full) for words in ("site", "world", "lack --waiting", "widen")]
 
 
 def main() -> int:

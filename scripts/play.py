@@ -133,7 +133,8 @@ class Run:
             compare(name, self.answers, self.last, done.stdout.decode("utf-8", "replace"), shown)
             if done.returncode != self.status:
                 raise Failed(f"{name}:{self.last}: {shown} ended with status {done.returncode}: {done.stderr.decode()}")
-        if self.words[0] in CHECKED:
+        # What waits at a site doesn't say which of its records were outside the grammar.
+        if self.words[0] in CHECKED and "--waiting" not in self.words:
             self.check(program, name, said)
 
     def check(self, program: pathlib.Path, name: str, said: str) -> None:

@@ -139,6 +139,7 @@ COMMANDS = {
     "rubis world": ("a_bid_at_another_site_comes_too_late.txt", ["--workers", "4", "--shards", "5", "--batch", "2"]),
     "rubis audit": ("an_audit_of_a_sale_agrees.txt", []),
     "rubis lack": ("what_two_logs_lack.txt", []),
+    "rubis lack --waiting": ("what_waits_at_a_site.txt", []),
     "rubis check": ("what_is_wrong_with_a_record.txt", []),
     "rubis widen": ("logs_are_widened.txt", []),
 }

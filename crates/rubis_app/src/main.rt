@@ -1,5 +1,5 @@
-//! `rubis`: an auction site, several in one run, an auditor of their logs, what says what these lack of each other, or what widens
-//! them, over standard input and output.
+//! `rubis`: an auction site, several in one run, an auditor of their logs, what says what these lack of each other or what waits at a
+//! site, or what widens them, over standard input and output.
 #![tactic(auto)]
 
 ghost use Rattle.std.specs.Prelude.{◌≡◌, ◌⊎◌, ◌<◌, ◌≤◌, ◌==◌, ◌&&◌, IfErr, IfOk, cond, is_ok, map, string_bytes};
@@ -8,20 +8,21 @@ ghost use Rattle.std.specs.Option.{SomeIff};
 ghost use Rattle.std.specs.Process.{exit_status};
 ghost use Rattle.clap.specs.Words.{kind_of};
 ghost use Rattle.rubis_world.specs.Script.{IsSetup};
-ghost use Rattle.rubis_app.specs.Setups.{setup_of, world_setup_of};
+ghost use Rattle.rubis_app.specs.Setups.{setup_of, waiting_options, world_setup_of};
 ghost use Rattle.rubis_world.specs.Setup.{IsWorldSetup};
 ghost use Rattle.rubis_app.specs.Statuses.{IsStatusOf, status_by, status_of};
 
 use clap::Error;
 use rubis_audit::{Auditor, Grammar, Question, Tally, run_auditor, run_check, run_widen};
 use rubis_cli::{
-    AuditOptions, CheckOptions, KeepOptions, OptionFault, Options, Reading, Run, Setup, Widening,
-    read_options,
+    AuditOptions, CheckOptions, KeepOptions, LackOptions, OptionFault, Options, Reading, Run,
+    Setup, Widening, read_options,
 };
 use rubis_keep::{FolderFault, Setup as Place, Wanted, keep_folder};
 use rubis_schema::{Hashes, RECORDS_MAX, SITES_MAX};
 use rubis_world::{
-    Config, Count, Desk, Free, RunFault, WorldConfig, WorldDesk, run_desk, run_world_desk,
+    Config, Count, Desk, Free, RunFault, WorldConfig, WorldDesk, run_desk, run_waiting,
+    run_world_desk,
 };
 use std::fs::{File, Files};
 use std::io::ErrorKind;
@@ -206,6 +207,55 @@ fn audit_logs<R: Print + Eprint + Input + AllocGlobal + RandomSource>(
     end_audit(rt, ended, is_well || !by_status)
 }
 
+// How a site is set up whose input is read for what waits: no answer, and so nothing that waits, depends on the numbers that aren't
+// options.
+fn waiting_options(options: &LackOptions) -> Options
+    ensures { result ≡ waiting_options options.now }
+{
+    Options {
+        site: options.site,
+        setup: Setup {
+            sites: options.sites,
+            shards: 4,
+            workers: 1,
+            batch: 64,
+            keep: options.keep,
+        },
+    }
+}
+
+// Reads the input of a site from standard input, and writes what waits at its end to standard output.
+fn run_waits<R: Print + Eprint + Input + AllocGlobal + RandomSource + Threads + Wait + Sync>(
+    rt: &R,
+    options: &LackOptions,
+) -> ExitCode
+    ensures misuse { ¬ IsSetup (setup_of (waiting_options options.now)) → exit_status result ≡ 2 }
+    ensures runs { IsSetup (setup_of (waiting_options options.now)) → (exit_status result ≡ 0) ⊎ (exit_status result ≡ 1) }
+{
+    let Some(config) = config_of(&waiting_options(options)) else {
+        return misuse(rt, "site must be below sites");
+    };
+    let config = config.with_hashes(Hashes::random(rt));
+    let mut writer = io::writer(rt);
+    end(
+        rt,
+        run_waiting(rt, rt.alloc(), rt.reader(), &mut writer, &config),
+    )
+}
+
+// Says what logs lack of each other, or what waits at a site.
+fn run_lack<R: Print + Eprint + Input + AllocGlobal + RandomSource + Threads + Wait + Sync>(
+    rt: &R,
+    options: &LackOptions,
+) -> ExitCode
+    ensures { (exit_status result ≡ 0) ⊎ (exit_status result ≡ 1) ⊎ (exit_status result ≡ 2) }
+{
+    if options.waiting {
+        return run_waits(rt, options);
+    }
+    audit_logs(rt, options.sites, Question::Lacks, true)
+}
+
 // The command whose records are checked.
 fn grammar_of(reading: Reading) -> Grammar {
     match reading {
@@ -369,7 +419,7 @@ fn start<
             Question::Agreement,
             options.status,
         ),
-        Ok(Run::Lack(sites)) => audit_logs(rt, sites, Question::Lacks, true),
+        Ok(Run::Lack(options)) => run_lack(rt, &options),
         Ok(Run::Check(options)) => run_checker(rt, &options),
         Ok(Run::Widen(counts)) => run_widener(rt, &counts),
         Ok(Run::Keep(options)) => run_keep(rt, &options),

@@ -1,5 +1,5 @@
 -- An audit that wrote that the logs agree was given sound logs.
-use Rattle.std.proofs.Common.{ℕ, ◌≡◌, ◌≢◌, ◌≤◌, ◌∙◌, List, [], ◌∷◌, ◌++◌, Option, Some, None, refl, sym, ap, subst, ⊎_elim}
+use Rattle.std.proofs.Common.{ℕ, ◌≡◌, ◌≢◌, ◌≤◌, ◌∙◌, Bool, List, [], ◌∷◌, ◌++◌, Option, Some, None, refl, sym, ap, subst, ⊎_elim}
 use Rattle.std.specs.Prelude.{Result, Ok, Err, reverse, IfSome}
 use Rattle.std.specs.Io.KnownBytes.{Appends}
 use Rattle.std.proofs.lemmas.List.{append_cancel_left}
@@ -59,11 +59,11 @@ agrees_on_sound sites (Some xs) (Some ys) records few wrote before is agreed =
     agreed_audits_are_sound sites records few (same_front (audit_record read) (verdict_record Agree) rows)
 
 -- the same of the bytes of a reader, if they are known, and of an auditor that had read nothing
-pub agrees_known : (sites limit count : ℕ) (auditor : AuditorState) (input old now : Option (List ℕ)) → sites ≤ COUNTED_MAX
-    → auditor ≡ record { sites = sites; asked = Agreement; logs = [] }
+pub agrees_known : (sites limit count : ℕ) (auditor : AuditorState) (well : Bool) (input old now : Option (List ℕ)) → sites ≤ COUNTED_MAX
+    → auditor ≡ record { sites = sites; asked = Agreement; logs = []; well = well }
     → IfSome input (λ text. IsDone (account_from auditor.asked auditor.sites 1 auditor.logs) limit old now (input_records text) count)
     → IfSome input (λ text. AgreesOnSoundLogs sites old now (input_records text))
-agrees_known sites limit count auditor None old now few fresh done = tt
-agrees_known sites limit count auditor (Some text) old now few fresh done =
+agrees_known sites limit count auditor well None old now few fresh done = tt
+agrees_known sites limit count auditor well (Some text) old now few fresh done =
     agrees_on_sound sites old now (input_records text) few
     (subst (λ (a : AuditorState). Appends old now ((account_from a.asked a.sites 1 a.logs).text AtEnd (input_records text))) fresh done.0)

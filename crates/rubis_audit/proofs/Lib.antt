@@ -1,4 +1,5 @@
 pub mod Agreeing
+pub mod Awaiting
 pub mod CheckFacts
 pub mod Collecting
 pub mod Comparing

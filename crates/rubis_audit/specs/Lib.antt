@@ -13,5 +13,6 @@ pub mod Running
 pub mod Seen
 pub mod Shapes
 pub mod Soundness
+pub mod Waits
 pub mod Walks
 pub mod Widening

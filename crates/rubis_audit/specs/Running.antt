@@ -9,17 +9,20 @@ use Rattle.rubis_model.specs.Lack.{lacked}
 use Rattle.rubis_model.specs.LackRecords.{lack_rows_read, made_at}
 use Rattle.rubis_model.specs.Logs.{Log}
 use Rattle.rubis_model.specs.Settle.{Has}
+use Rattle.rubis_model.specs.Verdict.{verdict}
 use Rattle.rubis_engine.specs.Accounts.{Account, Ending}
 use Rattle.rubis_engine.specs.Accounts.Ending.{AtEnd, Cut}
 use Rattle.rubis_engine.specs.Text.{rows_text}
 use Rattle.rubis_audit.specs.declared.questions.Question.{Question}
 use Rattle.rubis_audit.specs.declared.questions.Question.TheVariants.{Agreement, Lacks}
 
--- among how many sites, what is asked of the logs, and the logs so far, newest first
+-- among how many sites, what is asked of the logs, the logs so far, newest first, and whether that was answered and nothing wrong was
+-- found
 pub record AuditorState : Type 0 where
   pub sites : ℕ
   pub asked : Question
   pub logs : List Log
+  pub well : Bool
 
 -- the logs that ended, in order, and the one that is read, if one has begun
 abbrev pub logs_so_far : List Log → Option Log → List Log
@@ -56,6 +59,10 @@ abbrev pub is_well : Question → List Log → Verdict → Bool
 is_well Agreement logs Agree = true
 is_well Lacks logs Agree = none_lost logs logs
 is_well asked logs (Found kind log entry) = false
+
+-- what was asked of all logs was answered, and it is known whether nothing wrong was found
+abbrev pub HasFound : AuditorState → AuditorState → Type 0
+HasFound old new = new.well ≡ is_well old.asked (reverse old.logs) (verdict (reverse old.logs))
 
 -- at the end these; where the run is cut short, nothing
 abbrev pub answer_text : Question → Ending → Result (List Log) ℕ → List ℕ

@@ -1,7 +1,7 @@
 //! The auditor as a service: it reads logs, record by record, and answers once it has read them all.
 
-ghost use Rattle.std.proofs.Common.{rules};
-ghost use Rattle.std.specs.Prelude.{◌≡◌, ◌++◌, ◌≤◌, ℕ, List, [], IfOk, None, Ok, OnErr, OnOk, Some, ⊤, refl, reverse};
+ghost use Rattle.std.proofs.Common.{inl, rules};
+ghost use Rattle.std.specs.Prelude.{◌≡◌, ◌++◌, ◌≤◌, ◌⊎◌, ℕ, List, [], IfOk, None, Ok, OnErr, OnOk, Some, false, refl, reverse};
 ghost use Rattle.rubis_message.specs.Message.{sites_of};
 ghost use Rattle.rubis_model.specs.Logs as logs;
 ghost use Rattle.std.specs.Bool.{MatchBool};
@@ -14,7 +14,7 @@ ghost use Rattle.rubis_model.specs.Audit.{AreFaultless};
 ghost use Rattle.rubis_model.specs.Verdict.{verdict as verdict_of};
 ghost use Rattle.rubis_engine.specs.Text.{rows_text};
 ghost use Rattle.rubis_audit.specs.Walks.{HaveMessagesAmong};
-ghost use Rattle.rubis_audit.specs.Running.{IsCurrentAmong, account_from, is_well, logs_so_far, rows_for};
+ghost use Rattle.rubis_audit.specs.Running.{HasFound, IsCurrentAmong, account_from, is_well, logs_so_far, rows_for};
 
 use crate::audits::audit_hashed;
 use crate::lacks::write_lacks;
@@ -28,7 +28,8 @@ use rubis_schema::{Fields, Hashes, Items};
 use std::alloc::{AllocError, Global};
 use std::marker::Model;
 
-/// An auditor of the logs of `sites` sites, as far as it has read them. Contracts see what is asked, and the logs, newest first.
+/// An auditor of the logs of `sites` sites, as far as it has read them. Contracts see what is asked, the logs, newest first, and
+/// whether nothing wrong was found in them.
 #[derive(Drop)]
 pub struct Auditor {
     asked: Question,
@@ -47,7 +48,7 @@ impl Model for Auditor {
 
     ghost Value = { AuditorState };
 
-    ghost view = { λ a. record { sites = a.sites; asked = a.asked; logs = logs_so_far a.ended.items a.current } };
+    ghost view = { λ a. record { sites = a.sites; asked = a.asked; logs = logs_so_far a.ended.items a.current; well = a.well } };
 
     ghost invariant = { λ a. AreRead a.sites a.ended.items a.current };
 }
@@ -135,7 +136,7 @@ impl Auditor {
     /// An auditor of the logs of `sites` sites that has read no log. It hashes by keys that are the same in each run.
     pub fn new(alloc: Global, sites: u8, asked: Question) -> Auditor
         requires { sites ≤ COUNTED_MAX }
-        ensures { result ≡ record { sites = sites; asked = asked; logs = [] } }
+        ensures { result ≡ record { sites = sites; asked = asked; logs = []; well = false } }
     {
         Auditor::hashed(alloc, sites, asked, Hashes::fixed())
     }
@@ -143,7 +144,7 @@ impl Auditor {
     /// The same, hashing by these keys.
     pub fn hashed(alloc: Global, sites: u8, asked: Question, hashes: Hashes) -> Auditor
         requires { sites ≤ COUNTED_MAX }
-        ensures { result ≡ record { sites = sites; asked = asked; logs = [] } }
+        ensures { result ≡ record { sites = sites; asked = asked; logs = []; well = false } }
     {
         Auditor {
             asked,
@@ -158,13 +159,16 @@ impl Auditor {
 
     /// Whether all logs were read and what was asked of them finds nothing wrong: they agree, and, if it is what they lack, none
     /// has lost messages of its own site.
-    pub fn is_well(&self) -> bool {
+    pub fn is_well(&self) -> bool
+        ensures { result ≡ self.now.well }
+    {
         self.well
     }
 
     // Begins a log of that site.
     fn begin(&mut self, site: u8) -> Result<(), AllocError>
         ensures sites { (self.new.sites ≡ self.old.sites) × (self.new.asked ≡ self.old.asked) }
+        ensures well { self.new.well ≡ self.old.well }
         ensures log { OnOk result (with_line self.old.logs (Begin site) ≡ Some self.new.logs) }
     {
         let log = Log::new(site, Items::new(self.alloc), None);
@@ -176,6 +180,7 @@ impl Auditor {
     fn take(&mut self, fields: &InputRecord, line: Line) -> Result<bool, AllocError>
         requires { IsAmongLine self.old.sites (Some line) }
         ensures sites { (self.new.sites ≡ self.old.sites) × (self.new.asked ≡ self.old.asked) }
+        ensures well { self.new.well ≡ self.old.well }
         ensures logs { IfOk result (λ taken. MatchBool taken
             (with_line self.old.logs (line_as fields.now line) ≡ Some self.new.logs)
             (with_line self.old.logs (line_as fields.now line) ≡ None)) }
@@ -194,9 +199,9 @@ impl Auditor {
 impl<T> Service<T> for Auditor {
     ghost account = { λ s n. account_from s.asked s.sites n s.logs };
 
-    ghost stays = { λ old new. ⊤ };
+    ghost stays = { λ old new. (new ≡ old) ⊎ HasFound old new };
 
-    ghost stays_same = { λ s. tt };
+    ghost stays_same = { λ s. inl refl };
 
     ghost reads_none = { λ s n. refl };
 

@@ -2,7 +2,7 @@
 
 ghost use Rattle.std.specs.Prelude.{◌≡◌, ◌≤◌, ◌<◌, ◌+◌, ◌∷◌, ◌++◌, ℕ, List, [], IfOk, IfSome, OnOk, Option, true, unwrap_or};
 ghost use Rattle.std.specs.Bool.{MatchBool};
-ghost use Rattle.rubis_schema.specs.declared.limits.TheConstants.{COUNTED_MAX};
+ghost use Rattle.rubis_schema.specs.declared.limits.TheConstants.{COUNTED_MAX, RECORDS_MAX};
 ghost use Rattle.rubis_engine.specs.Reading.{ReadsNext};
 ghost use Rattle.rubis_engine.specs.Text.{input_records, rows_text};
 ghost use Rattle.rubis_audit.specs.Checking.{HasChecked, HasCheckedAll, HasRowOf, IsChecked, OfEachCheck, bad_row, checked_row, checker_after, fault_for, none_so_far, recent};
@@ -85,7 +85,7 @@ impl Checker {
     // Counts the next record, and says what is wrong with it, if anything.
     fn check<F: Record>(&mut self, alloc: Global, fields: &F) -> Result<Option<Fault>, AllocError>
         requires few { self.old.sites ≤ COUNTED_MAX }
-        requires room { self.old.tally.records < 4000000 }
+        requires room { self.old.tally.records < RECORDS_MAX }
         requires fewer { self.old.tally.bad ≤ self.old.tally.records }
         ensures fault { IfOk result (λ fault. fault ≡ fault_for self.old.grammar self.old.sites self.old.place (F.fields fields.now)) }
         ensures state { OnOk result (self.new ≡ checker_after self.old (F.fields fields.now)) }
@@ -105,22 +105,21 @@ impl Checker {
     }
 }
 
-// Writes what is wrong with the record of that number.
+// Writes what is wrong with the record that was counted last.
 fn write_bad<F: Record>(
     alloc: Global,
     sink: &mut Sink,
+    checker: &Checker,
     row: &F,
-    number: u64,
     fault: Fault,
     lines: Lines,
-    sites: u8,
 ) -> Result<(), AllocError>
-    ensures { OnOk result (sink.new ≡ sink.old ++ rows_text (bad_row sites number lines fault (F.fields row.now) ∷ [])) }
+    ensures { OnOk result (sink.new ≡ sink.old ++ rows_text (bad_row checker.now.sites checker.now.tally.records lines fault (F.fields row.now) ∷ [])) }
 {
-    let reason = reason_text(alloc, row, fault, lines, sites)?;
+    let reason = reason_text(alloc, row, fault, lines, checker.sites)?;
     let mut fields = Fields::new(alloc);
     fields.push_plain(b"bad")?;
-    push_number(&mut fields, number)?;
+    push_number(&mut fields, checker.tally.records)?;
     push_number(&mut fields, lines.first)?;
     push_number(&mut fields, fault.field as u64)?;
     fields.push(&reason)?;
@@ -151,7 +150,7 @@ impl<R: Read> Check<R> {
     // Writes what is wrong with the record that was read last, if anything is.
     fn check_row(&mut self) -> Result<(), AllocError>
         requires few { self.old.checker.sites ≤ COUNTED_MAX }
-        requires room { self.old.checker.tally.records < 4000000 }
+        requires room { self.old.checker.tally.records < RECORDS_MAX }
         requires fewer { self.old.checker.tally.bad ≤ self.old.checker.tally.records }
         ensures records { self.new.records ≡ self.old.records }
         ensures checker { OnOk result (self.new.checker ≡ checker_after self.old.checker self.old.records.row) }
@@ -165,11 +164,10 @@ impl<R: Read> Check<R> {
         write_bad(
             self.alloc,
             &mut self.sink,
+            &self.checker,
             row,
-            self.checker.tally.records,
             fault,
             self.records.lines(fault.field),
-            self.checker.sites,
         )
     }
 
@@ -191,7 +189,7 @@ impl<R: Read> Check<R> {
     // Checks the next record, if there is one, and says whether there was.
     fn check_next<W: Write>(&mut self, writer: &mut W) -> Result<bool, RunFault>
         requires few { self.old.checker.sites ≤ COUNTED_MAX }
-        requires room { self.old.checker.tally.records < 4000000 }
+        requires room { self.old.checker.tally.records < RECORDS_MAX }
         requires fewer { self.old.checker.tally.bad ≤ self.old.checker.tally.records }
         ensures goes { IfOk result (λ found. OfEachCheck R.remaining self.old (W.contents writer.old) (λ grammar sites old all. MatchBool found
             (HasChecked R.remaining grammar sites self.new old (W.contents writer.new) all)

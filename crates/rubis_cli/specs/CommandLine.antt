@@ -1,5 +1,5 @@
--- The command line: `rubis site`, with six options that take a number, `rubis world`, with five, `rubis audit` and `rubis lack`, with one
--- (and `audit` with one that takes none), `rubis check`, with one and the name of a command,
+-- The command line: `rubis site`, with six options that take a number, `rubis world`, with five, `rubis audit`, with one, and `rubis lack`,
+-- with three (and each of the two with one that takes none), `rubis check`, with one and the name of a command,
 -- `rubis widen`, with two, and `rubis keep`, with a folder, six options that take a number, and three that take none.
 use Rattle.std.specs.Prelude.{◌≡◌, ◌≢◌, ℕ, ◌-◌, ◌<◌, ◌^◌, Bool, List, [], ◌∷◌, Option, None, Some, ⊤, false, true, if◌then◌else◌, bytes_eq, codes, string_bytes}
 use Rattle.std.specs.Str.Parse.{IsNumeral, digits_value, without_leading_plus}
@@ -13,6 +13,7 @@ use Rattle.rubis_schema.specs.declared.limits.TheConstants.{BATCH_MAX, KEEP_MAX,
 use Rattle.rubis_cli.specs.declared.keep_options.KeepOptions.{KeepOptions}
 use Rattle.rubis_cli.specs.declared.options.AuditOptions.{AuditOptions}
 use Rattle.rubis_cli.specs.declared.options.CheckOptions.{CheckOptions}
+use Rattle.rubis_cli.specs.declared.options.LackOptions.{LackOptions}
 use Rattle.rubis_cli.specs.declared.options.Reading.{Reading}
 use Rattle.rubis_cli.specs.declared.options.Reading.TheVariants as reading
 use Rattle.rubis_cli.specs.declared.options.OptionFault.{OptionFault}
@@ -34,6 +35,12 @@ flag_option name = record (new_rule name) { long = Some name; action = Some SetT
 abbrev pub sites_option : Rule
 sites_option = number_option (codes "sites") 1 SITES_MAX (codes "1")
 
+abbrev pub site_option : Rule
+site_option = number_option (codes "site") 0 (SITES_MAX - 1) (codes "0")
+
+abbrev pub keep_option : Rule
+keep_option = number_option (codes "keep") 1 KEEP_MAX (codes "1000000")
+
 -- the options that say how the work of a site is done
 abbrev pub with_work : App → App
 with_work a = with_rule (with_rule (with_rule a
@@ -43,10 +50,10 @@ with_work a = with_rule (with_rule (with_rule a
 
 -- the options that say how sites are set up
 abbrev pub with_setup : App → App
-with_setup a = with_rule (with_work (with_rule a sites_option)) (number_option (codes "keep") 1 KEEP_MAX (codes "1000000"))
+with_setup a = with_rule (with_work (with_rule a sites_option)) keep_option
 
 abbrev pub site_command : App
-site_command = with_setup (with_rule (new_app (codes "site")) (number_option (codes "site") 0 (SITES_MAX - 1) (codes "0")))
+site_command = with_setup (with_rule (new_app (codes "site")) site_option)
 
 abbrev pub world_command : App
 world_command = with_setup (new_app (codes "world"))
@@ -54,8 +61,12 @@ world_command = with_setup (new_app (codes "world"))
 abbrev pub audit_command : App
 audit_command = with_rule (with_rule (new_app (codes "audit")) sites_option) (flag_option (codes "status"))
 
+-- the options that say that a site's input is read for what waits, and which site it is
+abbrev pub with_input : App → App
+with_input a = with_rule (with_rule (with_rule a (flag_option (codes "waiting"))) site_option) keep_option
+
 abbrev pub lack_command : App
-lack_command = with_rule (new_app (codes "lack")) sites_option
+lack_command = with_input (with_rule (new_app (codes "lack")) sites_option)
 
 -- the name of the command that reads the records
 abbrev pub reading_option : Rule
@@ -121,6 +132,12 @@ pub record AreAuditOptionsIn (rows : List Row) (a : AuditOptions) : Type 0 where
   pub sites : IsNumberOf 8 (one_of (codes "sites") rows) a.sites
   pub status : IsFlag (one_of (codes "status") rows) a.status
 
+pub record AreLackOptionsIn (rows : List Row) (l : LackOptions) : Type 0 where
+  pub sites : IsNumberOf 8 (one_of (codes "sites") rows) l.sites
+  pub waiting : IsFlag (one_of (codes "waiting") rows) l.waiting
+  pub site : IsNumberOf 8 (one_of (codes "site") rows) l.site
+  pub keep : IsNumberOf 32 (one_of (codes "keep") rows) l.keep
+
 pub record AreCountsIn (rows : List Row) (w : Widening) : Type 0 where
   pub sites : IsNumberOf 8 (one_of (codes "sites") rows) w.sites
   pub to : IsNumberOf 8 (one_of (codes "to") rows) w.to
@@ -160,12 +177,11 @@ pub record AreKeepOptionsIn (rows : List Row) (o : KeepOptions) : Type 0 where
   pub shorten : IsFlag (one_of (codes "shorten") rows) o.shorten
   pub upgrade : IsFlag (one_of (codes "upgrade") rows) o.upgrade
 
--- what the words of a command line ask for: an audit, what logs lack, a check, several sites, a widening or a site that keeps its records
+-- what the words of a command line ask for: an audit, what logs lack or what waits, a check, several sites, a widening or a site that keeps its records
 -- where that is the command, or else a site, with the options that stand after the command
 abbrev pub IsAsked : List Text → Run → Type 0
 IsAsked words (Audit options) = (rows : List Row) × (subcommand_of command_line words ≡ Some (codes "audit", rows)) × AreAuditOptionsIn rows options
-IsAsked words (Lack sites) = (rows : List Row) × (subcommand_of command_line words ≡ Some (codes "lack", rows))
-    × IsNumberOf 8 (one_of (codes "sites") rows) sites
+IsAsked words (Lack options) = (rows : List Row) × (subcommand_of command_line words ≡ Some (codes "lack", rows)) × AreLackOptionsIn rows options
 IsAsked words (Check options) = (rows : List Row) × (subcommand_of command_line words ≡ Some (codes "check", rows)) × AreCheckOptionsIn rows options
 IsAsked words (World setup) = (rows : List Row) × (subcommand_of command_line words ≡ Some (codes "world", rows)) × IsSetupIn rows setup
 IsAsked words (Widen counts) = (rows : List Row) × (subcommand_of command_line words ≡ Some (codes "widen", rows)) × AreCountsIn rows counts

@@ -7,5 +7,6 @@ mod options;
 
 pub use keep_options::KeepOptions;
 pub use options::{
-    AuditOptions, CheckOptions, OptionFault, Options, Reading, Run, Setup, Widening, read_options,
+    AuditOptions, CheckOptions, LackOptions, OptionFault, Options, Reading, Run, Setup, Widening,
+    read_options,
 };

@@ -3,7 +3,7 @@
 ghost use Rattle.std.specs.Prelude.{◌≡◌, false, [], Some, codes, map, string_bytes, IfErr, IfOk};
 ghost use Rattle.rubis_schema.specs.declared.limits.TheConstants.{SITES_MAX};
 ghost use Rattle.clap.specs.Words.{app_of, fault_of, first_of, found_of, one_of, rows_of, rule_of};
-ghost use Rattle.rubis_cli.specs.CommandLine.{AreAuditOptionsIn, AreCheckOptionsIn, AreCountsIn, AreOptionsIn, IsAsked, IsFaultAmong, IsNumberOf, IsReading, IsSetupIn, audit_command, check_command, command_line, lack_command, number_option, program_alone, reading_named, reading_option, site_command, widen_command, with_setup, with_work, world_command};
+ghost use Rattle.rubis_cli.specs.CommandLine.{AreAuditOptionsIn, AreCheckOptionsIn, AreCountsIn, AreLackOptionsIn, AreOptionsIn, IsAsked, IsFaultAmong, IsNumberOf, IsReading, IsSetupIn, audit_command, check_command, command_line, keep_option, lack_command, number_option, program_alone, reading_named, reading_option, site_command, site_option, widen_command, with_input, with_setup, with_work, world_command};
 
 use crate::keep_options::{KeepOptions, flag, is_given, keep_command, read_keep};
 use clap::builder::ValueParser;
@@ -21,8 +21,8 @@ pub enum Run {
     World(Setup),
     /// An audit of logs.
     Audit(AuditOptions),
-    /// What each of the logs of this many sites lacks of the others.
-    Lack(u8),
+    /// What each of several logs lacks of the others, or what waits at a site.
+    Lack(LackOptions),
     /// A check of records.
     Check(CheckOptions),
     /// The records of an audit, widened.
@@ -91,6 +91,17 @@ pub struct AuditOptions {
     pub status: bool,
 }
 
+/// Of how many sites the logs are, and whether it is asked instead what waits at a site once its input ends; and then which site it
+/// is, and how many messages it keeps.
+#[derive(Clone, Copy)]
+pub struct LackOptions {
+    pub sites: u8,
+    /// A site's input is read, and no logs.
+    pub waiting: bool,
+    pub site: u8,
+    pub keep: u32,
+}
+
 /// As what records are read.
 #[derive(Clone, Copy, PartialEq, Eq)]
 pub enum Reading {
@@ -149,6 +160,36 @@ fn sites<'a>(alloc: Global) -> Arg<'a>
     )
 }
 
+// The option that says which site it is.
+fn site_number<'a>(alloc: Global) -> Arg<'a>
+    ensures rule { rule_of result ≡ site_option }
+    ensures local { result.global ≡ false }
+{
+    number(
+        alloc,
+        "site",
+        0,
+        SITES_MAX as u64 - 1,
+        "0",
+        "Which site this is, 0 to 15 and below --sites",
+    )
+}
+
+// The option that says how many messages a site keeps.
+fn keep_number<'a>(alloc: Global) -> Arg<'a>
+    ensures rule { rule_of result ≡ keep_option }
+    ensures local { result.global ≡ false }
+{
+    number(
+        alloc,
+        "keep",
+        1,
+        KEEP_MAX as u64,
+        "1000000",
+        "How many messages a site keeps, released and held, 1 to 1000000",
+    )
+}
+
 /// The options that say how the work of a site is done.
 pub(crate) fn with_work<'a>(alloc: Global, command: Command<'a>) -> Result<Command<'a>, AllocError>
     ensures { IfOk result (λ made. app_of made ≡ with_work (app_of command.entry)) }
@@ -185,14 +226,21 @@ fn with_setup<'a>(alloc: Global, command: Command<'a>) -> Result<Command<'a>, Al
     ensures { IfOk result (λ made. app_of made ≡ with_setup (app_of command.entry)) }
 {
     let command = command.arg(sites(alloc))?;
-    with_work(alloc, command)?.arg(number(
-        alloc,
-        "keep",
-        1,
-        KEEP_MAX as u64,
-        "1000000",
-        "How many messages a site keeps, released and held, 1 to 1000000",
-    ))
+    with_work(alloc, command)?.arg(keep_number(alloc))
+}
+
+// The options that say that a site's input is read for what waits, and which site it is.
+fn with_input<'a>(alloc: Global, command: Command<'a>) -> Result<Command<'a>, AllocError>
+    ensures { IfOk result (λ made. app_of made ≡ with_input (app_of command.entry)) }
+{
+    command
+        .arg(flag(
+            alloc,
+            "waiting",
+            "Reads the input of one site in place of logs, and writes what each message that waits at its end waits for",
+        ))?
+        .arg(site_number(alloc))?
+        .arg(keep_number(alloc))
 }
 
 // The command that widens the records of an audit.
@@ -226,14 +274,7 @@ fn site<'a>(alloc: Global) -> Result<Command<'a>, AllocError>
         .after_help(
             "Records, for example:\n  user,ann\n  item,0.1,lamp,7,1,100,0\n  list,users\nAll of them: man rubis, and docs/MANUAL.md",
         )
-        .arg(number(
-            alloc,
-            "site",
-            0,
-            SITES_MAX as u64 - 1,
-            "0",
-            "Which site this is, 0 to 15 and below --sites",
-        ))?;
+        .arg(site_number(alloc))?;
     with_setup(alloc, site)
 }
 
@@ -262,18 +303,19 @@ fn audit<'a>(alloc: Global) -> Result<Command<'a>, AllocError>
         .arg(flag(alloc, "status", "Ends with status 1 unless the logs agree"))
 }
 
-// The command that says what each of several logs lacks of the others.
+// The command that says what each of several logs lacks of the others, or what waits at a site.
 fn lack<'a>(alloc: Global) -> Result<Command<'a>, AllocError>
     ensures { IfOk result (λ made. app_of made ≡ lack_command) }
 {
-    Command::new(alloc, "lack")
+    let lack = Command::new(alloc, "lack")
         .about(
             "Writes the messages that each of several logs lacks of the others, or what their audit finds",
         )
         .after_help(
             "Records, for example:\n  site,0\n  msg,1,0,1,1,0,user,ann\n  site,1\nAll of them: man rubis, and docs/MANUAL.md",
         )
-        .arg(sites(alloc))
+        .arg(sites(alloc))?;
+    with_input(alloc, lack)
 }
 
 // The argument that says as what records are checked.
@@ -381,6 +423,17 @@ fn audit_options(matches: &ArgMatches<'_>) -> AuditOptions
     }
 }
 
+fn lack_options(matches: &ArgMatches<'_>) -> LackOptions
+    ensures { AreLackOptionsIn (rows_of (found_of matches.now)) result }
+{
+    LackOptions {
+        sites: byte(matches, "sites"),
+        waiting: is_given(matches, "waiting"),
+        site: byte(matches, "site"),
+        keep: word(matches, "keep"),
+    }
+}
+
 impl Reading {
     // What the name of a command says, if it is one of the three.
     fn named(name: &str) -> Option<Reading>
@@ -435,7 +488,7 @@ pub fn read_options(alloc: Global, words: &[String]) -> Result<Run, OptionFault>
             } else if name == "keep" {
                 Ok(Run::Keep(read_keep(alloc, inner)?))
             } else if name == "lack" {
-                Ok(Run::Lack(byte(inner, "sites")))
+                Ok(Run::Lack(lack_options(inner)))
             } else if name == "check" {
                 Ok(Run::Check(check_options(inner)))
             } else {

@@ -6,3 +6,4 @@ pub mod Intakes
 pub mod Makes
 pub mod Slots
 pub mod Gaps
+pub mod Listing

@@ -1,6 +1,6 @@
 //! What a site has taken in: its log, the messages that wait, and the token.
 
-ghost use Rattle.std.specs.Prelude.{◌≡◌, ◌<◌, ◌≤◌, ◌-◌, true, false, Ok, IfOk, IfErr, OnOk, OnErr, length};
+ghost use Rattle.std.specs.Prelude.{◌≡◌, ◌<◌, ◌≤◌, ◌-◌, true, false, Ok, IfOk, IfErr, OnOk, OnErr, length, map};
 ghost use Rattle.rubis_schema.specs.declared.limits.TheConstants.{COUNTED_MAX, KEEP_MAX};
 ghost use Rattle.rubis_message.specs.Message.{sites_of};
 ghost use Rattle.rubis_shadow.specs.Limits.{InLimits};
@@ -146,6 +146,18 @@ impl Intake {
         ensures conditions { IsIntake self.now }
     {
         self.messages.waiting()
+    }
+
+    /// The messages that wait, in arrival order.
+    ///
+    /// # Errors
+    ///
+    /// `AllocError` if memory runs out.
+    pub fn waiting_messages<'a>(&'a self, alloc: Global) -> Result<Vec<&'a Message>, AllocError>
+        ensures value { IfOk result (λ messages. map (λ m. m.now) messages.items ≡ self.now.state.waiting) }
+        ensures conditions { IsIntake self.now }
+    {
+        self.messages.waiting_messages(alloc)
     }
 
     /// What a decision has to know of the site.

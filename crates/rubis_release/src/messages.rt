@@ -1,6 +1,6 @@
 //! Messages by origin and number, and those that become ready as others are released.
 
-ghost use Rattle.std.specs.Prelude.{◌≡◌, ◌≤◌, ◌++◌, [], ◌∷◌, false, true, length, IfErr, OnOk, OnErr};
+ghost use Rattle.std.specs.Prelude.{◌≡◌, ◌≤◌, ◌++◌, [], ◌∷◌, false, true, length, map, IfErr, IfOk, OnOk, OnErr};
 ghost use Rattle.std.specs.List.{list_any};
 ghost use Rattle.rubis_schema.specs.declared.limits.TheConstants.{COUNTED_MAX};
 ghost use Rattle.rubis_schema.specs.Keys.{same_id};
@@ -14,7 +14,7 @@ use crate::waiting::Waiting;
 use rubis_clock::Clock;
 use rubis_message::Message;
 use rubis_schema::{Hashes, Id};
-use std::alloc::{AllocFailed, Global};
+use std::alloc::{AllocError, AllocFailed, Global};
 use std::marker::Model;
 
 // The messages of a site: those that it released, and those that wait to be released.
@@ -87,6 +87,13 @@ impl Messages {
         ensures { result ≡ length self.now.waiting }
     {
         self.waiting.len()
+    }
+
+    // Those that wait, in arrival order.
+    pub fn waiting_messages<'a>(&'a self, alloc: Global) -> Result<Vec<&'a Message>, AllocError>
+        ensures { IfOk result (λ messages. map (λ m. m.now) messages.items ≡ self.now.waiting) }
+    {
+        self.waiting.messages(alloc)
     }
 
     // Whether a message with that id waits.

@@ -1,6 +1,6 @@
 //! The messages that wait for others.
 
-ghost use Rattle.std.specs.Prelude.{◌≡◌, ◌<◌, ◌++◌, [], ◌∷◌, false, true, length, is_some, None, IfErr, MatchOption, OnOk, OnErr};
+ghost use Rattle.std.specs.Prelude.{◌≡◌, ◌<◌, ◌++◌, [], ◌∷◌, false, true, length, is_some, map, None, IfErr, IfOk, MatchOption, OnOk, OnErr};
 ghost use Rattle.rubis_message.specs.Message as model;
 ghost use Rattle.std.specs.List.{list_any};
 ghost use Rattle.rubis_schema.specs.Keys.{same_id};
@@ -12,7 +12,7 @@ use indexmap::IndexMap;
 use rubis_clock::Clock;
 use rubis_message::Message;
 use rubis_schema::{Hashes, Id, KeyHashes};
-use std::alloc::{AllocFailed, Global};
+use std::alloc::{AllocError, AllocFailed, Global};
 use std::marker::Model;
 
 // The messages that wait to be released, by id, in arrival order; none where one was taken out.
@@ -52,6 +52,13 @@ impl Waiting {
         ensures { result ≡ length self.now }
     {
         self.slots.len() - self.gone
+    }
+
+    // Those that wait, in arrival order.
+    pub fn messages<'a>(&'a self, alloc: Global) -> Result<Vec<&'a Message>, AllocError>
+        ensures { IfOk result (λ messages. map (λ m. m.now) messages.items ≡ self.now) }
+    {
+        list_messages(alloc, &self.slots)
     }
 
     // Whether a message with that id waits.
@@ -128,6 +135,23 @@ impl Waiting {
         close(&mut self.slots, none);
         self.gone = 0;
     }
+}
+
+// The messages of the slots, in their order.
+fn list_messages<'a>(
+    alloc: Global,
+    slots: &'a IndexMap<Id, Option<Message>, KeyHashes>,
+) -> Result<Vec<&'a Message>, AllocError>
+    ensures { IfOk result (λ messages. map (λ m. m.now) messages.items ≡ somes slots.now.entries) }
+{
+    let mut messages = Vec::new(alloc);
+    for slot in slots.values() {
+        if let Some(message) = slot {
+            messages.reserve(1)?;
+            messages.push_reserved(message);
+        }
+    }
+    Ok(messages)
 }
 
 // Whether the slot of an id has a message.

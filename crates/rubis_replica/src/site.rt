@@ -348,6 +348,13 @@ impl<G: Gate> Site<G> {
         self.follower.is_behind()
     }
 
+    /// What the site has taken in: its log, the messages that wait, and the token.
+    pub fn intake(&self) -> &Intake
+        ensures { result.now ≡ record { place = self.now.place; state = self.now.state } }
+    {
+        &self.intake
+    }
+
     /// The released messages, in release order.
     pub fn history(&self) -> &[Message]
         ensures value { result.now ≡ self.now.state.log }

@@ -5,3 +5,4 @@ pub mod Moves
 pub mod Beginning
 pub mod Leading
 pub mod HeadlineExamples
+pub mod WaitingFacts

@@ -10,6 +10,7 @@ mod packets;
 mod run;
 mod site_rows;
 mod sites;
+mod waiting;
 mod world;
 
 pub use config::WorldConfig;
@@ -23,4 +24,5 @@ pub use rubis_script::{
 };
 pub use run::{run_world, run_world_desk};
 pub use sites::Sites;
+pub use waiting::run_waiting;
 pub use world::World;

@@ -1,4 +1,4 @@
-use Rattle.std.proofs.Common.{◌≡◌, subst, sym, ap}
+use Rattle.std.proofs.Common.{◌≡◌, false, subst, sym, ap}
 use Rattle.rubis_engine.specs.Progress.{IsRun}
 use Rattle.rubis_engine.specs.Text.{input_records}
 use Rattle.rubis_audit.specs.Running.{AuditorState, account_from}
@@ -18,5 +18,5 @@ returns-clause-sound g c =
     let input = g.R.Read.remaining c.args.reader in
     let old = g.W.Write.contents c.args.writer.now in
     let new = g.W.Write.contents c.run_auditor.new.writer in
-    if_ok_so _ _ c.run_auditor.result (λ count. agrees_known c.args.sites 4000000 count.records auditor input old new c.requires c.new-auditor.ensures)
-    (run_done (account_from auditor.asked auditor.sites 1 auditor.logs) 4000000 input old new c.run_auditor.result c.run_auditor.ensures.run)
+    if_ok_so _ _ c.run_auditor.result (λ count. agrees_known c.args.sites RECORDS_MAX count.records auditor false input old new c.requires c.new-auditor.ensures)
+    (run_done (account_from auditor.asked auditor.sites 1 auditor.logs) RECORDS_MAX input old new c.run_auditor.result c.run_auditor.ensures.run)

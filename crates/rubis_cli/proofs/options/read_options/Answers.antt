@@ -74,7 +74,7 @@ pub returns-then-eq-5-clause-ok : goal.returns-then-eq-5-clause-ok
 returns-then-eq-5-clause-ok c =
     let entered = entered_by _ _ _ c.in-Some.name.now _ c.in-Some.ensures.name c.in-Some.ensures.rows in
     let lack : c.in-Some.name.now ≡ codes "lack" = search rules in
-    (rows_of (found_of c.in-Some.inner.now), entered_line _ _ c.in_ok-matches.matches _ c.in_ok-program.ensures c.in_ok-matches.ensures.matches (entered ∙ ap (λ n. Some (n, rows_of (found_of c.in-Some.inner.now))) lack), c.byte.ensures)
+    (rows_of (found_of c.in-Some.inner.now), entered_line _ _ c.in_ok-matches.matches _ c.in_ok-program.ensures c.in_ok-matches.ensures.matches (entered ∙ ap (λ n. Some (n, rows_of (found_of c.in-Some.inner.now))) lack), c.lack_options.ensures)
 
 pub returns-then-eq-5-clause-fits : goal.returns-then-eq-5-clause-fits
 returns-then-eq-5-clause-fits c =

@@ -8,4 +8,4 @@ pub returns : goal.returns
 returns c =
     let sites = c.in_ok-command.ensures.shape c.sites.ensures.local ∙ ap₂ with_rule refl c.sites.ensures.rule in
     let work = c.in_ok-with_work.ensures ∙ ap with_work sites in
-    IfOk-weaker c.arg-2.result _ _ (λ made h. h.shape c.number.ensures.local ∙ ap₂ with_rule work c.number.ensures.rule) c.arg-2.ensures
+    IfOk-weaker c.arg-2.result _ _ (λ made h. h.shape c.keep_number.ensures.local ∙ ap₂ with_rule work c.keep_number.ensures.rule) c.arg-2.ensures

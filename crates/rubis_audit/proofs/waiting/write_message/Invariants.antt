@@ -1,0 +1,11 @@
+use Rattle.std.proofs.Common.{◌≡◌, ◌++◌, List}
+use Rattle.rubis_message.specs.Message.{Message, sites_of}
+use Rattle.rubis_engine.specs.Text.{rows_text}
+use Rattle.rubis_release.specs.Release.{clock_of}
+use Rattle.rubis_audit.specs.Waits.{for_rows_from}
+use Rattle.rubis_audit.proofs.waiting.write_message.Given as goal
+
+-- what was written, and the rows of the sites to come
+abbrev pub invariant-loop-site : goal.invariant-loop-site
+invariant-loop-site l = (log : List Message) → l.clock ≡ clock_of (sites_of l.message) log
+    → l.sink ++ rows_text (for_rows_from log l.message l.site) ≡ l.fn.sink ++ rows_text (for_rows_from log l.message 0)

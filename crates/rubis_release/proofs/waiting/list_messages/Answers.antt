@@ -1,0 +1,13 @@
+use Rattle.std.proofs.Common.{◌∙◌, ◌++◌, ap, sym}
+use Rattle.std.specs.Prelude.{map}
+use Rattle.std.proofs.lemmas.List.{append-nil}
+use Rattle.rubis_release.proofs.Listing.{messages_of, none_listed, of_slots, one_listed}
+use Rattle.rubis_release.proofs.waiting.list_messages.Goals as goal
+
+pub returns : goal.returns
+returns c =
+    sym (append-nil (map (λ m. m.now) c.loop-slot.messages.items))
+    ∙ ap (λ rest. map (λ m. m.now) c.loop-slot.messages.items ++ messages_of rest) (sym c.in-None.ensures.steps.0)
+    ∙ c.loop-slot.invariant
+    ∙ ap messages_of (c.into_iter-slot-iterator.ensures.into_iter_gives ∙ c.values-slot-items.ensures.rest)
+    ∙ of_slots c.args.slots.now.entries
