@@ -15,8 +15,8 @@ ghost use Rattle.rubis_app.specs.Statuses.{IsStatusOf, status_by, status_of};
 use clap::Error;
 use rubis_audit::{Auditor, Grammar, Question, Tally, run_auditor, run_check, run_widen};
 use rubis_cli::{
-    AuditOptions, CheckOptions, KeepOptions, LackOptions, OptionFault, Options, Reading, Run,
-    Setup, Widening, read_options,
+    AuditOptions, CheckOptions, Invocation, KeepOptions, LackOptions, OptionFault, Options,
+    Reading, Setup, Widening, read_options,
 };
 use rubis_keep::{FolderFault, Setup as Place, Wanted, keep_folder};
 use rubis_schema::{Hashes, RECORDS_MAX, SITES_MAX};
@@ -411,18 +411,18 @@ fn start<
     ensures { IsStatusOf (map string_bytes words.now) (exit_status result) }
 {
     match read_options(rt.alloc(), words) {
-        Ok(Run::Site(options)) => run(rt, &options),
-        Ok(Run::World(setup)) => run_sites(rt, &setup),
-        Ok(Run::Audit(options)) => audit_logs(
+        Ok(Invocation::Site(options)) => run(rt, &options),
+        Ok(Invocation::World(setup)) => run_sites(rt, &setup),
+        Ok(Invocation::Audit(options)) => audit_logs(
             rt,
             options.sites,
             Question::Agreement,
             options.status,
         ),
-        Ok(Run::Lack(options)) => run_lack(rt, &options),
-        Ok(Run::Check(options)) => run_checker(rt, &options),
-        Ok(Run::Widen(counts)) => run_widener(rt, &counts),
-        Ok(Run::Keep(options)) => run_keep(rt, &options),
+        Ok(Invocation::Lack(options)) => run_lack(rt, &options),
+        Ok(Invocation::Check(options)) => run_checker(rt, &options),
+        Ok(Invocation::Widen(counts)) => run_widener(rt, &counts),
+        Ok(Invocation::Keep(options)) => run_keep(rt, &options),
         Err(OptionFault::Memory) => fail(rt, RunFault::Memory),
         Err(OptionFault::Words(error)) => tell(rt, &error),
     }

@@ -19,8 +19,8 @@ use Rattle.rubis_cli.specs.declared.options.Reading.TheVariants as reading
 use Rattle.rubis_cli.specs.declared.options.OptionFault.{OptionFault}
 use Rattle.rubis_cli.specs.declared.options.OptionFault.TheVariants.{Memory, Words}
 use Rattle.rubis_cli.specs.declared.options.Options.{Options}
-use Rattle.rubis_cli.specs.declared.options.Run.{Run}
-use Rattle.rubis_cli.specs.declared.options.Run.TheVariants.{Audit, Check, Keep, Lack, Site, Widen, World}
+use Rattle.rubis_cli.specs.declared.options.Invocation.{Invocation}
+use Rattle.rubis_cli.specs.declared.options.Invocation.TheVariants.{Audit, Check, Keep, Lack, Site, Widen, World}
 use Rattle.rubis_cli.specs.declared.options.Setup.{Setup}
 use Rattle.rubis_cli.specs.declared.options.Widening.{Widening}
 
@@ -179,7 +179,7 @@ pub record AreKeepOptionsIn (rows : List Row) (o : KeepOptions) : Type 0 where
 
 -- what the words of a command line ask for: an audit, what logs lack or what waits, a check, several sites, a widening or a site that keeps its records
 -- where that is the command, or else a site, with the options that stand after the command
-abbrev pub IsAsked : List Text → Run → Type 0
+abbrev pub IsAsked : List Text → Invocation → Type 0
 IsAsked words (Audit options) = (rows : List Row) × (subcommand_of command_line words ≡ Some (codes "audit", rows)) × AreAuditOptionsIn rows options
 IsAsked words (Lack options) = (rows : List Row) × (subcommand_of command_line words ≡ Some (codes "lack", rows)) × AreLackOptionsIn rows options
 IsAsked words (Check options) = (rows : List Row) × (subcommand_of command_line words ≡ Some (codes "check", rows)) × AreCheckOptionsIn rows options

@@ -14,7 +14,7 @@ use std::alloc::{AllocError, Global};
 
 /// What the command line asks for.
 #[derive(Drop)]
-pub enum Run {
+pub enum Invocation {
     /// One site.
     Site(Options),
     /// Several sites in one run.
@@ -471,7 +471,7 @@ fn check_options(matches: &ArgMatches<'_>) -> CheckOptions
 
 /// What the words of a command line, the program's name first, ask for. If they are refused, it is for one of the
 /// reasons that this command line has to refuse them, or because memory ran out.
-pub fn read_options(alloc: Global, words: &[String]) -> Result<Run, OptionFault>
+pub fn read_options(alloc: Global, words: &[String]) -> Result<Invocation, OptionFault>
     ensures ok { IfOk result (IsAsked (map string_bytes words.now)) }
     ensures fits { IfOk result (λ run. fault_of command_line (map string_bytes words.now) ≡ []) }
     ensures fault { IfErr result (IsFaultAmong (fault_of command_line (map string_bytes words.now))) }
@@ -480,19 +480,19 @@ pub fn read_options(alloc: Global, words: &[String]) -> Result<Run, OptionFault>
     match matches.subcommand() {
         Some((name, inner)) => {
             if name == "audit" {
-                Ok(Run::Audit(audit_options(inner)))
+                Ok(Invocation::Audit(audit_options(inner)))
             } else if name == "world" {
-                Ok(Run::World(read_setup(inner)))
+                Ok(Invocation::World(read_setup(inner)))
             } else if name == "widen" {
-                Ok(Run::Widen(counts(inner)))
+                Ok(Invocation::Widen(counts(inner)))
             } else if name == "keep" {
-                Ok(Run::Keep(read_keep(alloc, inner)?))
+                Ok(Invocation::Keep(read_keep(alloc, inner)?))
             } else if name == "lack" {
-                Ok(Run::Lack(lack_options(inner)))
+                Ok(Invocation::Lack(lack_options(inner)))
             } else if name == "check" {
-                Ok(Run::Check(check_options(inner)))
+                Ok(Invocation::Check(check_options(inner)))
             } else {
-                Ok(Run::Site(site_options(inner)))
+                Ok(Invocation::Site(site_options(inner)))
             }
         }
         None => unreachable!(),
