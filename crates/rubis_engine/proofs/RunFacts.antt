@@ -206,18 +206,6 @@ pub if_ok_so : {T E : Type 0} (P Q : T → Type 0) (r : Result T E) → ((x : T)
 if_ok_so P Q (Ok v) f p = f v p
 if_ok_so P Q (Err e) f p = tt
 
--- what holds always holds of what was found
-pub over_so : {A E P : Type 0} (r : Result (Option A) E) → P → IfOk r (λ o. IfSome o (λ _. P))
-over_so (Ok (Some x)) p = p
-over_so (Ok None) p = tt
-over_so (Err e) p = tt
-
--- what follows from what is so of what was found
-pub if_ended : {A E : Type 0} (P Q : A → Type 0) (r : Result (Option A) E) → ((x : A) → P x → Q x) → IfOk r (λ o. IfSome o P) → IfOk r (λ o. IfSome o Q)
-if_ended P Q (Ok (Some x)) f p = f x p
-if_ended P Q (Ok None) f p = tt
-if_ended P Q (Err e) f p = tt
-
 -- the same prefix, where nothing more was written
 pub progress-stays : {R : Type 0} (rem : R → Option (List ℕ)) (a : Records R) (all more : Account)
     (old now now2 : Option (List ℕ)) (sink : List ℕ) (n : ℕ) (input : List ℕ)

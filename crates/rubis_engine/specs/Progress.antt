@@ -40,10 +40,6 @@ abbrev pub InEachRun : {R : Type 0} → (R → Option (List ℕ)) → Records R 
 InEachRun rem records more now sink number holds = (all : Account) (old : Option (List ℕ)) (input : List ℕ)
     → HasComeSoFar rem records all more old now sink number input → holds all old input
 
--- of every reader that has come to this one this holds
-abbrev pub BeforeEach : {R : Type 0} → (R → Option (List ℕ)) → Records R → (Records R → Type 0) → Type 0
-BeforeEach {R} rem now holds = (before : Records R) → holds before
-
 -- the run is done: the text of all records was written, and as many were read as there are to read, at most `limit`
 abbrev pub IsDone : Account → ℕ → Option (List ℕ) → Option (List ℕ) → List (List (List ℕ)) → ℕ → Type 0
 IsDone all limit old now records count = Appends old now (all.text AtEnd records) × (count ≡ all.read records) × (count ≤ limit)

@@ -18,7 +18,7 @@ pub use input_record::InputRecord;
 pub use lines::sent_lines_are_read_as_sent;
 pub use record_list::Records;
 pub use reply::Reply;
-pub use run::{Run, end_run, next_record, run_upto, stop, write_out};
+pub use run::{Run, next_record, run_upto, stop, write_out};
 pub use service::{Answering, Course, Service};
 pub use signals::read_through_signals;
 pub use sink::Sink;

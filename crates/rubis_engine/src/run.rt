@@ -4,7 +4,7 @@ ghost use Rattle.std.specs.Prelude.{◌≡◌, ◌<◌, ◌+◌, ◌++◌, ◌^�
 ghost use Rattle.std.specs.Io.KnownBytes.{Appends};
 ghost use Rattle.rubis_engine.specs.Accounts.{Account};
 ghost use Rattle.rubis_engine.specs.Accounts.Ending.{AtEnd, Cut};
-ghost use Rattle.rubis_engine.specs.Progress.{BeforeEach, Drained, EndsCut, EndsInPrefix, FromStart, HasComeSoFar, HasMoved, InEachRun, IsCut, IsDone, IsRun, IsTooLong, WrotePrefix};
+ghost use Rattle.rubis_engine.specs.Progress.{Drained, EndsCut, EndsInPrefix, FromStart, HasComeSoFar, HasMoved, InEachRun, IsCut, IsDone, IsRun, IsTooLong, WrotePrefix};
 ghost use Rattle.rubis_engine.specs.Reading.{Advances, Gives};
 ghost use Rattle.rubis_engine.specs.Text.{input_records};
 
@@ -76,44 +76,6 @@ pub fn write_out<T, S: Service<T>, R: Read, W: Write>(
     Ok(())
 }
 
-/// Ends a run after `answered` records, where no other was found: writes the rest of the text, and returns how many records
-/// were read, or the fault with which the next one was to be read.
-pub fn end_run<T, S: Service<T>, R: Read, W: Write>(
-    rt: &T,
-    records: &Records<R>,
-    service: &mut S,
-    sink: &mut Sink,
-    writer: &mut W,
-    answered: u64,
-    found: Result<(), RunFault>,
-) -> Result<Option<Count>, RunFault>
-    requires { IfErr found (λ e. (e ≡ RunFault.Read) ⊎ (e ≡ RunFault.Memory)) }
-    ensures ends { IfOk result (λ over. IfNone over ⊥) }
-    ensures fails { IfErr found (λ fault. IfOk result (λ over. ⊥)) }
-    ensures done { IfOk result (λ over. IfSome over (λ count. BeforeEach R.remaining records.now (λ before. Advances R.remaining before records.now false
-        → InEachRun R.remaining before (S.account service.old (answered + 1)) (W.contents writer.old) sink.old (answered + 1) (λ all old input.
-        IsDone all answered old (W.contents writer.new) (input_records input) count.records)))) }
-    ensures stays { IfOk result (λ over. IfSome over (λ _. S.stays service.old service.new)) }
-    ensures read { IsErrOf result RunFault.Read → BeforeEach R.remaining records.now (λ before.
-        InEachRun R.remaining before (S.account service.old (answered + 1)) (W.contents writer.old) sink.old (answered + 1) (λ all old input.
-        IsCut all old (W.contents writer.new) (input_records input))) }
-    ensures memory { IsErrOf result RunFault.Memory → BeforeEach R.remaining records.now (λ before.
-        InEachRun R.remaining before (S.account service.old (answered + 1)) (W.contents writer.old) sink.old (answered + 1) (λ all old input.
-        WrotePrefix (all.text AtEnd) old (W.contents writer.new) (input_records input))) }
-    ensures faults { IfErr result (λ e. (e ≡ RunFault.Read) ⊎ (e ≡ RunFault.Write) ⊎ (e ≡ RunFault.Memory)) }
-{
-    match found {
-        Ok(()) => {
-            write_out_end(rt, service, sink, writer)?;
-            Ok(Some(Count { records: answered }))
-        }
-        Err(fault) => {
-            write_out_held(rt, service, sink, writer)?;
-            Err(fault)
-        }
-    }
-}
-
 /// Reads the next record, after `answered` that were answered. `None` if there is one. Otherwise writes the rest of the
 /// text and returns how many records were read.
 pub fn next_record<T, S: Service<T>, R: Read, W: Write>(
@@ -141,8 +103,14 @@ pub fn next_record<T, S: Service<T>, R: Read, W: Write>(
 {
     match records.advance() {
         Ok(true) => Ok(None),
-        Ok(false) => end_run(rt, records, service, sink, writer, answered, Ok(())),
-        Err(fault) => end_run(rt, records, service, sink, writer, answered, Err(fault)),
+        Ok(false) => {
+            write_out_end(rt, service, sink, writer)?;
+            Ok(Some(Count { records: answered }))
+        }
+        Err(fault) => {
+            write_out_held(rt, service, sink, writer)?;
+            Err(fault)
+        }
     }
 }
 

@@ -1,5 +1,6 @@
-use Rattle.std.proofs.Common.{◌≡◌, false, true, rules}
-use Rattle.rubis_engine.proofs.RunFacts.{if_ended, if_ok_so, over_so, takes-at}
+use Rattle.std.proofs.Common.{◌≡◌, ◌+◌, false, true, refl, rules, arith}
+use Rattle.rubis_engine.specs.declared.fault.RunFault.TheVariants as fault
+use Rattle.rubis_engine.proofs.RunFacts.{handed_on, progress-cut, progress-drained, progress-end, progress-prefix, progress-stays, takes-at}
 use Rattle.rubis_engine.proofs.run.next_record.Goals as goal
 
 pub returns-in-Ok-true-clause-found : goal.returns-in-Ok-true-clause-found
@@ -7,33 +8,37 @@ returns-in-Ok-true-clause-found g c =
     let found : c.in-Ok-true.field-0 ≡ true = search rules in
     takes-at _ c.args.records.now c.advance.new.self _ _ found c.in-Ok-true.ensures.takes
 
-pub returns-in-Ok-false-clause-done : goal.returns-in-Ok-false-clause-done
-returns-in-Ok-false-clause-done g c =
+pub returns-in_ok-write_out_end-in-Ok-false-clause-done : goal.returns-in_ok-write_out_end-in-Ok-false-clause-done
+returns-in_ok-write_out_end-in-Ok-false-clause-done g c all old input p =
     let none : c.in-Ok-false.field-0 ≡ false = search rules in
-    if_ended _ _ c.end_run.result (λ count done. done c.args.records.now (takes-at _ c.args.records.now c.advance.new.self _ _ none c.in-Ok-false.ensures.takes)) c.end_run.ensures.done
+    progress-end _ c.args.records.now c.advance.new.self all _ old _ _ _ _ c.args.answered c.args.answered input p
+    (takes-at _ c.args.records.now c.advance.new.self _ _ none c.in-Ok-false.ensures.takes)
+    (c.in_ok-write_out_end-in-Ok-false.ensures.ok (c.args.answered + 1)) (g.met.S.Service.reads_none c.args.service.now (c.args.answered + 1)) refl (omega arith)
 
-pub returns-in-Ok-false-clause-read : goal.returns-in-Ok-false-clause-read
-returns-in-Ok-false-clause-read g c e = c.end_run.ensures.read e c.args.records.now
-
-pub returns-in-Ok-false-clause-memory : goal.returns-in-Ok-false-clause-memory
-returns-in-Ok-false-clause-memory g c e = c.end_run.ensures.memory e c.args.records.now
-
-pub returns-in-Err-clause-done : goal.returns-in-Err-clause-done
-returns-in-Err-clause-done g c = if_ok_so _ _ c.end_run-in-Err.result (λ over none. absurd none) c.end_run-in-Err.ensures.fails
-
-pub returns-in-Err-clause-read : goal.returns-in-Err-clause-read
-returns-in-Err-clause-read g c e = c.end_run-in-Err.ensures.read e c.args.records.now
-
-pub returns-in-Err-clause-memory : goal.returns-in-Err-clause-memory
-returns-in-Err-clause-memory g c e = c.end_run-in-Err.ensures.memory e c.args.records.now
-
-pub returns-in-Ok-false-clause-ended : goal.returns-in-Ok-false-clause-ended
-returns-in-Ok-false-clause-ended g c =
+pub returns-in_ok-write_out_end-in-Ok-false-clause-ended : goal.returns-in_ok-write_out_end-in-Ok-false-clause-ended
+returns-in_ok-write_out_end-in-Ok-false-clause-ended g c =
     let none : c.in-Ok-false.field-0 ≡ false = search rules in
-    over_so c.end_run.result (takes-at _ c.args.records.now c.advance.new.self _ _ none c.in-Ok-false.ensures.takes)
+    takes-at _ c.args.records.now c.advance.new.self _ _ none c.in-Ok-false.ensures.takes
 
-pub returns-in-Err-clause-ended : goal.returns-in-Err-clause-ended
-returns-in-Err-clause-ended g c = if_ok_so _ _ c.end_run-in-Err.result (λ over none. absurd none) c.end_run-in-Err.ensures.fails
+pub returns-in_err-write_out_end-in-Ok-false-clause-memory : goal.returns-in_err-write_out_end-in-Ok-false-clause-memory
+returns-in_err-write_out_end-in-Ok-false-clause-memory g c e all old input p =
+    let memory = handed_on c.from_residual.result c.in_err-write_out_end-in-Ok-false.field-0.0 fault.Memory c.from_residual.ensures e in
+    progress-stays _ _ all _ old _ _ _ _ input p (c.in_err-write_out_end-in-Ok-false.ensures.memory (rw memory refl))
 
-pub returns-in-Err-clause-stays : goal.returns-in-Err-clause-stays
-returns-in-Err-clause-stays g c = if_ok_so _ _ c.end_run-in-Err.result (λ over none. absurd none) c.end_run-in-Err.ensures.fails
+pub returns-in_ok-write_out_held-in-Err-clause-read : goal.returns-in_ok-write_out_held-in-Err-clause-read
+returns-in_ok-write_out_held-in-Err-clause-read g c e all old input p = (
+  c.args.answered,
+  progress-cut _ _ all (g.S.Service.account c.write_out_held.new.service (c.args.answered + 1)) old _ _ c.args.answered input
+      (progress-drained _ _ all _ _ old _ _ _ _ input p (c.in_ok-write_out_held-in-Err.ensures.drains (c.args.answered + 1)))
+      (c.in_ok-write_out_held-in-Err.ensures.none (c.args.answered + 1)) refl,
+)
+
+pub returns-in_ok-write_out_held-in-Err-clause-memory : goal.returns-in_ok-write_out_held-in-Err-clause-memory
+returns-in_ok-write_out_held-in-Err-clause-memory g c e all old input p =
+    progress-prefix _ _ all (g.S.Service.account c.write_out_held.new.service (c.args.answered + 1)) old _ _ _ input
+    (progress-drained _ _ all _ _ old _ _ _ _ input p (c.in_ok-write_out_held-in-Err.ensures.drains (c.args.answered + 1)))
+
+pub returns-in_err-write_out_held-in-Err-clause-memory : goal.returns-in_err-write_out_held-in-Err-clause-memory
+returns-in_err-write_out_held-in-Err-clause-memory g c e all old input p =
+    let memory = handed_on c.from_residual-in_err-write_out_held-in-Err.result c.in_err-write_out_held-in-Err.field-0.0 fault.Memory c.from_residual-in_err-write_out_held-in-Err.ensures e in
+    progress-stays _ _ all _ old _ _ _ _ input p (c.in_err-write_out_held-in-Err.ensures.memory (rw memory refl))
