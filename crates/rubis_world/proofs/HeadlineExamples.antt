@@ -1,33 +1,41 @@
 -- What a run of several sites says of them, worked out on two records: site 0 passes the token to site 1, which then takes it.
-use Rattle.std.proofs.Common.{◌≡◌, ◌∙◌, ◌+◌, ◌≤◌, ◌++◌, ◌∷◌, [], ℕ, zero, suc, List, Option, Some, None, ap, arith, inl, inr, length, refl, subst, sym, take}
-use Rattle.std.specs.Prelude.{codes, is_some, Ok, Err}
-use Rattle.std.specs.Fmt.{digits}
+use Rattle.std.proofs.Common.{◌≡◌, ◌∙◌, ◌+◌, ◌^◌, ◌≤◌, ◌<◌, ◌++◌, ◌∷◌, [], ℕ, zero, suc, List, Option, Some, None, ap, arith, inl, inr, length, refl, subst, sym, take}
+use Rattle.std.specs.Prelude.{codes, decimal, is_some, map, nat_lt, option_and_then, unwrap_or, Ok, Err, ⊤}
+use Rattle.std.specs.Option.{option_or}
 use mathlib.Core.Bool.{true≢false}
-use Rattle.rubis_numbers.specs.Numbers.{number_of}
-use Rattle.rubis_message.specs.Forms.{take_number, take_site}
-use Rattle.rubis_message.specs.Readings.{request_of, take_kind, take_request}
-use Rattle.rubis_message.specs.Words.{kind_of}
-use Rattle.rubis_message.specs.WorldReadings.{request_at, take_at, take_audit, take_delivery, world_input}
+use Rattle.rubis_schema.specs.NumberForms.{number_of}
+use Rattle.rubis_schema.specs.declared.limits.TheConstants.{RECORDS_MAX}
+use Rattle.rubis_schema.specs.declared.refusals.Refusal.TheVariants.{BadTarget}
+use Rattle.rubis_schema.proofs.NumberForms.{number_is}
+use Rattle.rubis_message.specs.Forms.{◌>>=◌, ◌>>◌, give, kept, one, take_site, whole}
+use Rattle.rubis_message.specs.Grammar.{request_record}
+use Rattle.rubis_message.specs.WorldReadings.{asked_with, request_at, take_at, take_audit, take_delivery, take_word, world_input}
+use Rattle.rubis_message.specs.declared.answers.Taken.TheVariants as taken
+use Rattle.rubis_message.specs.declared.requests.Request.TheVariants as request
 use Rattle.rubis_message.specs.declared.tokens.Packet.TheVariants as packet
+use Rattle.rubis_message.specs.declared.world_inputs.WorldInput.{WorldInput}
+use Rattle.rubis_message.specs.declared.world_inputs.WorldInput.TheVariants.{Asked, Delivered, Neither}
+use Rattle.rubis_message.proofs.Records.{request_is}
+use Rattle.rubis_model.specs.Answers.{passed_rows, refused_row, took_rows}
 use Rattle.rubis_model.specs.RecordedRuns.{IsTextOfARun, world_after}
 use Rattle.rubis_model.specs.Site.{Replica}
 use Rattle.rubis_model.specs.System.{World, site, start}
-use Rattle.rubis_model.specs.WorldRecords.{world_answers, world_output_of, world_step}
+use Rattle.rubis_model.specs.WorldRecords.{site_row, world_answers, world_output_of, world_step}
 use Rattle.rubis_engine.specs.Reading.{Gives, fields_now}
 use Rattle.rubis_engine.specs.Text.{input_records, rows_text}
-use Rattle.rubis_engine.proofs.ReadBack.{HaveFields, HasNoMark, no_mark, rows_back}
 use Rattle.rubis_engine.specs.declared.fault.Count.{Count}
 use Rattle.rubis_engine.specs.declared.fault.RunFault.TheVariants as fault
 use Rattle.rubis_engine.specs.declared.run.Run.{Run}
+use Rattle.rubis_engine.proofs.ReadBack.{HaveFields, HasNoMark, no_mark, rows_back}
 use Rattle.rubis_laws.proofs.Recorded.{answers_are_a_run}
 use Rattle.rubis_world.specs.Headline.{AppendsARun, Lead, LeadsOn, TellsARun}
 use Rattle.rubis_world.specs.SitesWorlds.{WorldState, opening_world}
 
 passes_on : List (List ℕ)
-passes_on = codes "at" ∷ codes "0" ∷ codes "pass" ∷ codes "1" ∷ []
+passes_on = codes "at" ∷ decimal 0 ∷ request_record (request.Pass 1)
 
 is_delivered : List (List ℕ)
-is_delivered = codes "deliver" ∷ codes "1" ∷ codes "1" ∷ []
+is_delivered = codes "deliver" ∷ decimal 1 ∷ decimal 1 ∷ []
 
 abbrev both : List (List (List ℕ))
 both = passes_on ∷ is_delivered ∷ []
@@ -55,60 +63,100 @@ ended = in_state (at_turn None 0 ∷ at_turn (Some 0) 1 ∷ [])
 
 -- what is answered to the first record, to the second, and to both
 abbrev first_rows : List (List (List ℕ))
-first_rows =
-    (codes "at" ∷ codes "0" ∷ codes "reply" ∷ codes "1" ∷ codes "passed" ∷ [])
-    ∷ (codes "at" ∷ codes "0" ∷ codes "send" ∷ codes "token" ∷ codes "1" ∷ codes "1" ∷ codes "1" ∷ codes "0" ∷ [])
-    ∷ []
+first_rows = map (site_row 0) (passed_rows 1 (Ok (record { turn = 1; to = 1; issued = 0 })))
 
 abbrev last_rows : List (List (List ℕ))
-last_rows = (codes "at" ∷ codes "1" ∷ codes "reply" ∷ codes "2" ∷ codes "holding" ∷ []) ∷ []
+last_rows = map (site_row 1) (took_rows 2 (Ok taken.Holding))
 
 abbrev all_rows : List (List (List ℕ))
 all_rows = first_rows ++ last_rows
 
+-- one site alone has no other to pass the token to
+abbrev refused_rows : List (List (List ℕ))
+refused_rows = site_row 0 (refused_row 1 BadTarget) ∷ []
+
+-- ---- the records are read
+
+number_back : (high n : ℕ) → high < 2 ^ 64 → n ≤ high → number_of high (decimal n) ≡ Some n
+number_back high n top few = (number_is high top).back n few
+
+-- a record that begins with `at` and a site, by what the site is read as
+abbrev at_site : ℕ → Option ℕ → List (List ℕ) → WorldInput
+at_site sites n fields =
+    unwrap_or (option_or (option_and_then (λ p. asked_with sites p.0 p.1) ((take_word (codes "at") >> kept (λ k. nat_lt k sites) (one (λ _. n))) fields))
+    (option_or (whole (take_delivery sites) fields) (whole take_audit fields))) Neither
+
+passes_is : world_input 2 passes_on ≡ Asked 0 (Some (request.Pass 1))
+unfolding passes_on request_at take_at take_site
+passes_is =
+    (λ i. at_site 2 (number_back 255 0 (omega arith) (omega arith) i) passes_on)
+    ∙ ap (Asked 0) ((request_is 2 (omega arith) (request_record (request.Pass 1)) (request.Pass 1)).1 (omega arith, refl))
+
+passes_alone_is : world_input 1 passes_on ≡ Asked 0 (Some (request.Pass 1))
+unfolding passes_on request_at take_at take_site
+passes_alone_is =
+    (λ i. at_site 1 (number_back 255 0 (omega arith) (omega arith) i) passes_on)
+    ∙ ap (Asked 0) ((request_is 1 (omega arith) (request_record (request.Pass 1)) (request.Pass 1)).1 (omega arith, refl))
+
+-- one that begins with `deliver`, by what the site is read as, and how the packet is read
+abbrev delivery : Option ℕ → (List ℕ → Option ℕ) → List (List ℕ) → WorldInput
+delivery n read fields =
+    unwrap_or (option_or (request_at 2 fields)
+    (option_or (whole (take_word (codes "deliver") >> (kept (λ i. nat_lt i 2) (one (λ _. n)) >>= (λ i. one read >>= (λ k. give (Delivered i k))))) fields)
+    (whole take_audit fields))) Neither
+
+delivered_is : world_input 2 is_delivered ≡ Delivered 1 1
+unfolding is_delivered request_at take_at take_site take_delivery
+delivered_is =
+    (λ i. delivery (number_back 255 1 (omega arith) (omega arith) i) (number_of RECORDS_MAX) is_delivered)
+    ∙ (λ i. delivery (Some 1) (λ _. number_back RECORDS_MAX 1 (omega arith) (omega arith) i) is_delivered)
+
 first_step : (world_step 1000000 (start 2) 1 (world_input 2 passes_on)).0 ≡ passed.world
-unfolding passes_on request_at take_at take_delivery take_audit request_of take_request take_kind kind_of take_site number_of digits
-first_step = refl
+first_step = λ i. (world_step 1000000 (start 2) 1 (passes_is i)).0
 
 both_led : world_after 1000000 (start 2) 1 both ≡ ended.world
-unfolding passes_on is_delivered request_at take_at take_delivery take_audit request_of take_request take_kind kind_of take_site number_of digits
-both_led = refl
+both_led = ap (λ (w : World). world_after 1000000 w 2 (is_delivered ∷ [])) first_step ∙ (λ i. (world_step 1000000 passed.world 2 (delivered_is i)).0)
 
 first_told : world_output_of 2 1000000 (passes_on ∷ []) ≡ first_rows
-unfolding world_answers passes_on request_at take_at take_delivery take_audit request_of take_request take_kind kind_of take_site number_of digits
-first_told = refl
+unfolding world_answers
+first_told = λ i. (world_step 1000000 (start 2) 1 (passes_is i)).1 ++ []
 
 both_told : world_output_of 2 1000000 both ≡ all_rows
-unfolding world_answers passes_on is_delivered request_at take_at take_delivery take_audit request_of take_request take_kind kind_of take_site number_of digits
-both_told = refl
+unfolding world_answers
+both_told =
+    (λ i. (world_step 1000000 (start 2) 1 (passes_is i)).1 ++ world_answers 1000000 (world_step 1000000 (start 2) 1 (passes_is i)).0 2 (is_delivered ∷ []))
+    ∙ (λ i. first_rows ++ ((world_step 1000000 passed.world 2 (delivered_is i)).1 ++ []))
 
--- one site alone can pass it to no other
-alone_told : length (world_output_of 1 1000000 both) ≡ 2
-unfolding world_answers passes_on is_delivered request_at take_at take_delivery take_audit request_of take_request take_kind kind_of take_site number_of digits
-alone_told = refl
+alone_told : world_output_of 1 1000000 (passes_on ∷ []) ≡ refused_rows
+unfolding world_answers
+alone_told = λ i. (world_step 1000000 (start 1) 1 (passes_alone_is i)).1 ++ []
 
 -- rows with the same text are the same
 abbrev Readable : List (List (List ℕ)) → Type 0
 Readable rows = HaveFields rows × HasNoMark (rows_text rows)
 
-has_first : (field : List ℕ) (fields : List (List ℕ)) (rows : List (List (List ℕ))) → HaveFields rows → HaveFields ((field ∷ fields) ∷ rows)
-has_first field fields rows more row (inl e) none = absurd cc
-has_first field fields rows more row (inr h) none = more row h none
+abbrev HaveFirst : List (List (List ℕ)) → Type 0
+HaveFirst [] = ⊤
+HaveFirst ([] ∷ rows) = ⊥
+HaveFirst ((field ∷ fields) ∷ rows) = HaveFirst rows
 
-has_none : HaveFields []
-has_none row h none = absurd h
+have_fields : (rows : List (List (List ℕ))) → HaveFirst rows → HaveFields rows
+have_fields [] h row is none = absurd is
+have_fields ([] ∷ rows) h row is none = absurd h
+have_fields ((field ∷ fields) ∷ rows) h row (inl e) none = absurd cc
+have_fields ((field ∷ fields) ∷ rows) h row (inr is) none = have_fields rows h row is none
 
 none_readable : Readable []
-none_readable = (has_none, no_mark [] refl)
+none_readable = (have_fields [] tt, no_mark [] refl)
 
 first_readable : Readable first_rows
-first_readable = (has_first _ _ _ (has_first _ _ _ has_none), no_mark (rows_text first_rows) refl)
+first_readable = (have_fields first_rows tt, no_mark (rows_text first_rows) refl)
 
 last_readable : Readable last_rows
-last_readable = (has_first _ _ _ has_none, no_mark (rows_text last_rows) refl)
+last_readable = (have_fields last_rows tt, no_mark (rows_text last_rows) refl)
 
 all_readable : Readable all_rows
-all_readable = (has_first _ _ _ (has_first _ _ _ (has_first _ _ _ has_none)), no_mark (rows_text all_rows) refl)
+all_readable = (have_fields all_rows tt, no_mark (rows_text all_rows) refl)
 
 same_rows : (rows others : List (List (List ℕ))) → Readable rows → Readable others → rows_text rows ≡ rows_text others → rows ≡ others
 same_rows rows others (some, mark) (more, unmarked) e = sym (rows_back rows some mark) ∙ ap input_records e ∙ rows_back others more unmarked
@@ -184,14 +232,17 @@ too_few_are_no_text h = let many = ap length (h.text ∙ both_told) in absurd (o
 too_many_are_no_text : IsTextOfARun 2 1000000 (passes_on ∷ []) all_rows → ⊥
 too_many_are_no_text h = let many = ap length (h.text ∙ first_told) in absurd (omega (arith, many))
 
-other_sites_are_no_text : IsTextOfARun 1 1000000 both all_rows → ⊥
-other_sites_are_no_text h = let many = ap length h.text ∙ alone_told in absurd (omega (arith, many))
+alone_is_text : IsTextOfARun 1 1000000 (passes_on ∷ []) refused_rows
+alone_is_text = subst (IsTextOfARun 1 1000000 (passes_on ∷ [])) alone_told (answers_are_a_run 1 1000000 (passes_on ∷ []) (omega arith) (omega arith) (omega arith))
+
+other_sites_are_no_text : IsTextOfARun 1 1000000 (passes_on ∷ []) first_rows → ⊥
+other_sites_are_no_text h = let many = ap length (h.text ∙ alone_told) in absurd (omega (arith, many))
 
 -- ---- what was written, by how the run ends
 
-all_told_at_end : (bytes : List ℕ) (count : Count) → input_records bytes ≡ both
-    → TellsARun 2 1000000 5 (Some bytes) (Some []) (Some (rows_text all_rows)) (Ok count)
-all_told_at_end bytes count is = (all_rows, refl, subst (λ r. IsTextOfARun 2 1000000 r all_rows) (sym is) both_are_text)
+all_told_at_end : (limit : ℕ) (bytes : List ℕ) (count : Count) → input_records bytes ≡ both
+    → TellsARun 2 1000000 limit (Some bytes) (Some []) (Some (rows_text all_rows)) (Ok count)
+all_told_at_end limit bytes count is = (all_rows, refl, subst (λ r. IsTextOfARun 2 1000000 r all_rows) (sym is) both_are_text)
 
 first_told_where_too_long : (bytes : List ℕ) → input_records bytes ≡ both
     → TellsARun 2 1000000 1 (Some bytes) (Some []) (Some (rows_text first_rows)) (Err fault.TooLong)
@@ -221,16 +272,23 @@ too_many_where_too_long bytes is h =
     let many = ap length (written (passes_on ∷ []) all_rows first_rows all_readable first_readable first_told one) in
     absurd (omega (arith, many))
 
+take_none : (k : ℕ) → take {A = List (List ℕ)} k [] ≡ []
+take_none zero = refl
+take_none (suc k) = refl
+
+none_told : world_output_of 2 1000000 [] ≡ []
+unfolding world_answers
+none_told = refl
+
 -- the answers to the last record alone are those to no first records
 last_alone_where_read_fails : (bytes : List ℕ) → input_records bytes ≡ both
     → TellsARun 2 1000000 5 (Some bytes) (Some []) (Some (rows_text last_rows)) (Err fault.Read) → ⊥
 last_alone_where_read_fails bytes is (k, h) = at k (subst (λ r. AppendsARun 2 1000000 (Some []) (Some (rows_text last_rows)) (take k r)) is h)
   where
-    none_told : world_output_of 2 1000000 [] ≡ []
-    unfolding world_answers
-    none_told = refl
-
     at : (k : ℕ) → AppendsARun 2 1000000 (Some []) (Some (rows_text last_rows)) (take k both) → ⊥
     at zero h = let many = ap length (written [] last_rows [] last_readable none_readable none_told h) in absurd (omega (arith, many))
     at (suc zero) h = let many = ap length (written (passes_on ∷ []) last_rows first_rows last_readable first_readable first_told h) in absurd (omega (arith, many))
-    at (suc (suc k)) h = let many = ap length (written both last_rows all_rows last_readable all_readable both_told h) in absurd (omega (arith, many))
+    at (suc (suc k)) h =
+        let all = subst (λ r. AppendsARun 2 1000000 (Some []) (Some (rows_text last_rows)) (passes_on ∷ is_delivered ∷ r)) (take_none k) h in
+        let many = ap length (written both last_rows all_rows last_readable all_readable both_told all) in
+        absurd (omega (arith, many))
