@@ -6,9 +6,10 @@ use Rattle.std.proofs.lemmas.Bool.{not-true}
 use Rattle.std.proofs.lemmas.List.Folds.{list_any-append}
 use Rattle.std.proofs.lemmas.List.{append-nil, append_assoc}
 use Rattle.rubis_schema.specs.NumberForms.{◌>>=◌, number_of}
-use Rattle.rubis_schema.specs.FieldForms.{cut_at}
+use Rattle.rubis_schema.specs.FieldForms.{cut_at, number_before}
 use Rattle.rubis_schema.specs.FieldList.{is_mark, is_plain}
 use Rattle.rubis_schema.specs.declared.limits.TheConstants.{COUNT_MAX}
+use Rattle.rubis_schema.proofs.Before.{before_then}
 use Rattle.rubis_message.specs.Counts.{deps_of}
 use Rattle.rubis_message.specs.Grammar.{deps_text}
 
@@ -49,6 +50,10 @@ more_by k back first = first >>= (λ count. option_map (λ others. count ∷ oth
 abbrev left_by : ℕ → Option (List ℕ × List ℕ) → Option (List ℕ)
 left_by k cut = cut >>= (λ parts. more_by k parts.1 (number_of COUNT_MAX parts.0))
 
+-- the same, by the count before the first mark, with what follows the mark
+abbrev left_before : ℕ → Option (ℕ × List ℕ) → Option (List ℕ)
+left_before k first = first >>= (λ f. option_map (λ others. f.0 ∷ others) (deps_of (suc k) f.1))
+
 pushed_by : (read : List ℕ) (n : ℕ) (left : Option (List ℕ))
     → then_left (read ++ n ∷ []) left ≡ then_left read (option_map (λ others. n ∷ others) left)
 pushed_by read n None = refl
@@ -77,6 +82,23 @@ module _ (size k : ℕ) (read rest : List ℕ) (all : Option (List ℕ)) (so_far
     one_less front back pushed n less cut is push size =
         (λ i. then_left (push i) (deps_of (size i) back)) ∙ pushed_by read n (deps_of (suc k) back)
         ∙ by_count front back (Some n) cut is
+
+    by_first : (first : Option (ℕ × List ℕ)) → first ≡ number_before 58 COUNT_MAX rest
+        → then_left read (left_before k first) ≡ all
+    unfolding deps_of
+    by_first first is =
+        ap (λ f. then_left read (left_before k f)) is
+        ∙ ap (then_left read) (sym (before_then 58 COUNT_MAX rest (λ f. option_map (λ others. f.0 ∷ others) (deps_of (suc k) f.1))))
+        ∙ ap (λ n. then_left read (deps_of n rest)) (sym more) ∙ so_far
+
+    pub no_first_left : None ≡ number_before 58 COUNT_MAX rest → None ≡ all
+    no_first_left none = by_first None none
+
+    pub first_less : (back pushed : List ℕ) (n less : ℕ) → Some (n, back) ≡ number_before 58 COUNT_MAX rest
+        → pushed ≡ read ++ n ∷ [] → less ≡ suc k → then_left pushed (deps_of less back) ≡ all
+    first_less back pushed n less is push size =
+        (λ i. then_left (push i) (deps_of (size i) back)) ∙ pushed_by read n (deps_of (suc k) back)
+        ∙ by_first (Some (n, back)) is
 
   module _ (last : size ≡ 1) where
     by_last : (o : Option ℕ) → o ≡ number_of COUNT_MAX rest → then_left read (option_map (λ n. n ∷ []) o) ≡ all

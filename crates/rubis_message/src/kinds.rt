@@ -32,12 +32,21 @@ pub enum Shown {
     Tables,
 }
 
-/// Whether the field is this word.
+/// Whether the field is this word. Words are short and known where this is inlined, so a step for each byte is less work than
+/// the library's comparison, which is made for long texts.
 #[inline(always)]
 pub fn says(field: &[u8], word: &[u8]) -> bool
     ensures { result ≡ bytes_eq field.now word.now }
 {
-    field == word
+    if field.len() != word.len() {
+        return false;
+    }
+    for at in 0..word.len() {
+        if field[at] != word[at] {
+            return false;
+        }
+    }
+    true
 }
 
 impl RecordKind {

@@ -7,7 +7,7 @@ ghost use Rattle.rubis_message.specs.Grammar.{deps_text};
 
 use rubis_clock::Deps;
 use rubis_schema::{
-    COUNT_MAX, COUNTED_MAX, COUNTS_TEXT_MAX, Fields, ShortText, read_number, split_once,
+    COUNT_MAX, COUNTED_MAX, COUNTS_TEXT_MAX, Fields, ShortText, read_number, read_number_before,
 };
 use std::alloc::AllocError;
 
@@ -21,8 +21,7 @@ pub fn read_deps(text: &[u8], sites: u8) -> Option<Deps>
     let mut deps = Deps::new();
     let mut rest = text;
     for _site in 1..sites {
-        let (digits, others) = split_once(rest, b':')?;
-        let count = read_number(digits, COUNT_MAX)?;
+        let (count, others) = read_number_before(rest, b':', COUNT_MAX)?;
         deps.push(count as u32);
         rest = others;
     }

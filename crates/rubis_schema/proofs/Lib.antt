@@ -1,6 +1,7 @@
 pub mod Nicknames
 pub mod FieldFacts
 pub mod Marks
+pub mod Before
 pub mod IdTexts
 pub mod FieldLaws
 pub mod PlainTexts

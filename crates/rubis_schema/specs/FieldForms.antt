@@ -1,5 +1,5 @@
 -- What a single field is read as: its value, or none.
-use Rattle.std.specs.Prelude.{ℕ, ◌+◌, ◌==◌, ◌&&◌, nat_lt, List, take, drop, position, Option, option_map}
+use Rattle.std.specs.Prelude.{ℕ, ◌+◌, ◌==◌, ◌&&◌, nat_lt, List, take, drop, position, Option, Some, option_map}
 use Rattle.rubis_numbers.specs.Numbers.{◌>>=◌, number_of, only_if}
 use Rattle.rubis_schema.specs.Texts.{is_nick, is_name, is_text}
 use Rattle.rubis_schema.specs.declared.ids.Id.{Id}
@@ -8,6 +8,13 @@ use Rattle.rubis_schema.specs.declared.limits.TheConstants.{SEQ_MAX}
 -- what stands before the first mark, and what follows it
 abbrev pub cut_at : ℕ → List ℕ → Option (List ℕ × List ℕ)
 cut_at mark field = option_map (λ place. (take place field, drop (place + 1) field)) (position (λ b. b == mark) field)
+
+-- the number, up to the greatest, that stands before the first mark, and what follows the mark
+unfoldable pub number_before : ℕ → ℕ → List ℕ → Option (ℕ × List ℕ)
+number_before mark high field = do
+  parts ← cut_at mark field
+  number ← number_of high parts.0
+  Some (number, parts.1)
 
 -- an id whose site is below `sites`: its site and its number, separated by a point
 unfoldable pub id_of : ℕ → List ℕ → Option Id

@@ -8,7 +8,7 @@ ghost use Rattle.rubis_schema.specs.Ids.{id_text};
 use crate::field_list::Fields;
 use crate::limits::{ID_TEXT_MAX, SEQ_MAX};
 use crate::short_texts::ShortText;
-use crate::splits::split_once;
+use crate::splits::read_number_before;
 use rubis_numbers::read_number;
 use std::alloc::{AllocError, Global};
 use std::hash::{Hash, Hasher};
@@ -38,13 +38,11 @@ impl Hash for Id {
 
 impl Id {
     /// Parses an id whose site is below `sites`. `None` if `bytes` isn't one.
-    #[tactic(auto, unfolding(crate::specs::FieldForms::id_of))]
     pub fn read(bytes: &[u8], sites: u8) -> Option<Id>
         ensures { result ≡ id_of sites bytes.now }
     {
-        let (front, back) = split_once(bytes, b'.')?;
-        let site = read_number(front, u64::from(u8::MAX))?;
-        let seq = read_number(back, u64::from(SEQ_MAX))?;
+        let (site, digits) = read_number_before(bytes, b'.', u64::from(u8::MAX))?;
+        let seq = read_number(digits, u64::from(SEQ_MAX))?;
         if site >= u64::from(sites) || seq == 0 {
             return None;
         }

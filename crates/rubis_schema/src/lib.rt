@@ -53,6 +53,6 @@ pub use rows::{Best, BidRow, CatRow, CommentRow, ItemRow, PurchaseRow, Row, Sale
 pub use rubis_numbers::{RATING_MAX, read_number, read_rating};
 pub use shared::Shared;
 pub use short_texts::ShortText;
-pub use splits::split_once;
+pub use splits::{read_number_before, split_once};
 pub use texts::{Name, Text};
 pub use views::View;

@@ -1,27 +1,20 @@
 use Rattle.std.proofs.Common.{◌-◌, [], ◌∷◌, length, length-append, ap, ◌∙◌, arith}
-use Rattle.rubis_message.proofs.Counts.{no_mark_left, no_count_left, one_less, no_last_left, none_left}
+use Rattle.rubis_message.proofs.Counts.{no_first_left, first_less, no_last_left, none_left}
 use Rattle.rubis_message.proofs.stamps.read_deps.Goals as goal
-
-pub returns-in_err-digits-clause-value : goal.returns-in_err-digits-clause-value
-returns-in_err-digits-clause-value c =
-    let site = c.loop-site._site in
-    c.from_residual.ensures
-    ∙ no_mark_left _ (c.args.sites - site - 1) _ _ _ c.loop-site.invariant.2 (omega arith) c.in_err-digits.ensures
 
 pub returns-in_err-count-clause-value : goal.returns-in_err-count-clause-value
 returns-in_err-count-clause-value c =
     let site = c.loop-site._site in
-    c.from_residual-in_err-count.ensures
-    ∙ no_count_left _ (c.args.sites - site - 1) _ _ _ c.loop-site.invariant.2
-    (omega arith) _ _ c.in_ok-digits.ensures c.in_err-count.ensures.value
+    c.from_residual.ensures
+    ∙ no_first_left _ (c.args.sites - site - 1) _ _ _ c.loop-site.invariant.2 (omega arith) c.in_err-count.ensures.value
 
 pub loop-site-preserved : goal.loop-site-preserved
 loop-site-preserved c =
     let site = c.loop-site._site in (
       omega (arith, ap length c.push.ensures, length-append c.loop-site.deps (c.in_ok-count.count ∷ [])),
       omega arith,
-      one_less _ (c.args.sites - site - 1) _ _ _ c.loop-site.invariant.2
-          (omega arith) _ _ _ _ _ c.in_ok-digits.ensures c.in_ok-count.ensures.value c.push.ensures (omega arith),
+      first_less _ (c.args.sites - site - 1) _ _ _ c.loop-site.invariant.2
+          (omega arith) _ _ _ _ c.in_ok-count.ensures.value c.push.ensures (omega arith),
     )
 
 pub returns-in_err-last-clause-value : goal.returns-in_err-last-clause-value
