@@ -17,9 +17,7 @@ use rubis_pool_core::{Event, Pool, run};
 use rubis_schema::{Id, Items, PurchaseRow, Row, RowKey, shard_of};
 use rubis_shadow::{Change, Effect, Numbered};
 use rubis_shard::{Shard, Share, Tables};
-use rubis_workers::{
-    Free, LogBatch, Pace, Worked, Workers, apply_all, apply_batch, apply_beside,
-};
+use rubis_workers::{Free, LogBatch, Pace, Worked, Workers, apply_all, apply_batch, apply_beside};
 use std::alloc::{AllocError, Global};
 use std::io::Print;
 use std::sync::Wait;
