@@ -9,7 +9,7 @@ use Rattle.rubis_message.specs.declared.tokens.Packet.{Packet}
 use Rattle.rubis_message.specs.declared.tokens.Packet.TheVariants as packet
 use Rattle.rubis_message.proofs.Records.{packet_is, request_is}
 use Rattle.rubis_model.specs.Answers.{passed_rows, took_rows}
-use Rattle.rubis_model.specs.Processes.{IsLogOfProcess, Reading, site_after}
+use Rattle.rubis_model.specs.Processes.{IsLogOfProcess, Reading, answers_of, site_after, state_of}
 use Rattle.rubis_model.specs.Runs.{answers, input_of, input_step}
 use Rattle.rubis_model.specs.Runs.Input.{Asked, Came}
 use Rattle.rubis_model.specs.Site.{Place, Replica, opening_at}
@@ -141,22 +141,30 @@ not_first_alone_read h = let many = ap length h.1 in absurd (omega (arith, many)
 not_fewer_kept : HasReadJust there (λ i. 2) among_others both → ⊥
 not_fewer_kept h = let kept = h.0 in absurd (omega (arith, kept))
 
+-- so site 1 answers and stands as it does where it reads nothing else
+others_told : answers_of 2 most among_others 1 ≡ all_rows
+unfolding among_others most
+others_told = both_told
+
+others_led : state_of 2 most among_others 1 ≡ ended.state
+unfolding among_others most
+others_led = both_led
+
 process_stands : StandsAsProcess there ended.state both
 process_stands = stands_as opened ended (Some []) (Some (rows_text all_rows)) both refl both_answered
 
--- its log is that of a process: nothing was released yet
-process_log : IsLogOfProcess 2 most among_others (record { site = 1; messages = []; rows = None })
-process_log = (process_stands most among_others both_read).1 (omega arith)
-
 holding_stands_not : StandsAsProcess there holding.state both → ⊥
-holding_stands_not h =
-    true≢false (ap (λ (s : Replica). is_some s.held) ((h most among_others both_read).0 ∙ sym (process_stands most among_others both_read).0))
+holding_stands_not h = true≢false (ap (λ (s : Replica). is_some s.held) ((h most among_others both_read).0 ∙ others_led))
+
+-- its log is that of a process: nothing was released yet
+process_log : StandsAsProcess there ended.state both → IsLogOfProcess 2 most among_others (record { site = 1; messages = []; rows = None })
+process_log h = (h most among_others both_read).1 (omega arith)
 
 process_writes : WritesAsProcess there (Some []) (Some (rows_text all_rows)) both
 process_writes = writes_as opened ended (Some []) (Some (rows_text all_rows)) both refl both_answered
 
 first_alone_writes_not : WritesAsProcess there (Some []) (Some (rows_text first_rows)) both → ⊥
-first_alone_writes_not h = first_is_not_all (h most among_others both_read ∙ sym (process_writes most among_others both_read))
+first_alone_writes_not h = first_is_not_all (h most among_others both_read ∙ ap rows_text others_told)
 
 -- ---- of which records it is said
 
