@@ -109,6 +109,7 @@ impl Shadow {
     }
 
     /// The row that the first part inserts, where that is in a box or shared.
+    #[inline(always)]
     pub fn boxed_row(&self, alloc: Global) -> Result<Option<Row>, AllocError>
         ensures { IfOk result (λ row. (id : Id) (red : ℕ) → HasBoxedRow (slice_get (parts id red self.now) 0) row) }
     {

@@ -2,6 +2,7 @@
 #![tactic(auto)]
 
 mod chains;
+mod direct_parts;
 mod entries;
 mod groups;
 mod laws;

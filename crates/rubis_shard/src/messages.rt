@@ -15,7 +15,7 @@ use crate::part_homes::PartHomes;
 use crate::shard_store::Store;
 use crate::shards::Shard;
 use rubis_schema::{Row, shard_of};
-use rubis_shadow::Numbered;
+use rubis_shadow::{Numbered, Shadow};
 use std::alloc::{AllocError, Global};
 
 // The home of the entry's part at this place, or the number of shards where there is none.
@@ -145,10 +145,10 @@ impl<'a> MessageParts<'a> {
         });
     }
 
-    /// Folds the parts on whose home is the shard, with that row for the first. It is long, and one copy of it serves both of its
-    /// callers: a second one would no longer fit a processor's first cache.
+    // Folds the parts on whose home is the shard, whatever the shadow is, with that row for the first. It is long, and one copy
+    // of it serves all callers: a second one would no longer fit a processor's first cache.
     #[inline(never)]
-    pub fn fold_at(&self, store: &mut Store, at: usize, row: Option<Row>)
+    fn fold_any(&self, store: &mut Store, at: usize, row: Option<Row>)
         requires at { at < self.now.shards }
         requires room { HasRoom store.old 3 }
         requires row { self.now.first ≡ at → HasBoxedRow (slice_get (parts_of (core_of self.now.entry)) 0) row }
@@ -157,6 +157,22 @@ impl<'a> MessageParts<'a> {
         self.fold_place(store, at, 0, row);
         self.fold_place(store, at, 1, None);
         self.fold_place(store, at, 2, None);
+    }
+
+    /// Folds the parts on whose home is the shard, with that row for the first. Bids and purchases, of which there are most, are
+    /// folded as what they are. For comments too it would take fewer instructions, but more misses of a processor's first cache.
+    #[inline(always)]
+    pub fn fold_at(&self, store: &mut Store, at: usize, row: Option<Row>)
+        requires at { at < self.now.shards }
+        requires room { HasRoom store.old 3 }
+        requires row { self.now.first ≡ at → HasBoxedRow (slice_get (parts_of (core_of self.now.entry)) 0) row }
+        ensures { held_by store.new ≡ fold_on (held_by store.old) (parts_at self.now.shards at (numbered_of self.now.entry)) }
+    {
+        match self.entry.shadow {
+            Shadow::Bid(bid) => self.fold_bid(store, at, bid),
+            Shadow::Buy(purchase) => self.fold_purchase(store, at, purchase),
+            _ => self.fold_any(store, at, row),
+        }
     }
 
     // Folds the parts on whose home is the shard, if they are wanted.
