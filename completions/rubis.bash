@@ -23,7 +23,9 @@ _rubis() {
     audit,--sites) words='1 2 3 4 5 6 7 8 9 10 11 12 13 14 15 16' ;;
     audit,*) words='--sites --status --help' ;;
     lack,--sites) words='1 2 3 4 5 6 7 8 9 10 11 12 13 14 15 16' ;;
-    lack,*) words='--sites --help' ;;
+    lack,--site) words='0 1 2 3 4 5 6 7 8 9 10 11 12 13 14 15' ;;
+    lack,--keep) words='1000000' ;;
+    lack,*) words='--sites --site --keep --waiting --help' ;;
     check,--sites) words='1 2 3 4 5 6 7 8 9 10 11 12 13 14 15 16' ;;
     check,*) words='site world audit --sites --help' ;;
     widen,--sites) words='1 2 3 4 5 6 7 8 9 10 11 12 13 14 15 16' ;;

@@ -23,6 +23,9 @@ complete -c rubis -n "__fish_seen_subcommand_from audit" -l sites -x -a '1 2 3 4
 complete -c rubis -n "__fish_seen_subcommand_from audit" -l status -d 'Ends with status 1 unless the logs agree'
 complete -c rubis -n "not __fish_seen_subcommand_from $commands help" -a lack -d 'Writes the messages that each of several logs lacks of the others, or what their audit finds'
 complete -c rubis -n "__fish_seen_subcommand_from lack" -l sites -x -a '1 2 3 4 5 6 7 8 9 10 11 12 13 14 15 16' -d 'How many sites there are, 1 to 16, 1 by default'
+complete -c rubis -n "__fish_seen_subcommand_from lack" -l site -x -a '0 1 2 3 4 5 6 7 8 9 10 11 12 13 14 15' -d 'Which site this is, 0 to 15 and below --sites, 0 by default'
+complete -c rubis -n "__fish_seen_subcommand_from lack" -l keep -x -a '1000000' -d 'How many messages a site keeps, released and held, 1 to 1000000, 1,000,000 by default'
+complete -c rubis -n "__fish_seen_subcommand_from lack" -l waiting -d 'Reads the input of one site in place of logs, and writes what each message that waits at its end waits for'
 complete -c rubis -n "not __fish_seen_subcommand_from $commands help" -a check -d 'Says of each record that is outside the grammar what is wrong with it'
 complete -c rubis -n "__fish_seen_subcommand_from check" -l sites -x -a '1 2 3 4 5 6 7 8 9 10 11 12 13 14 15 16' -d 'How many sites there are, 1 to 16, 1 by default'
 complete -c rubis -n "__fish_seen_subcommand_from check" -a "site world audit"

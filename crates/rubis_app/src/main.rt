@@ -12,6 +12,9 @@ ghost use Rattle.rubis_app.specs.Setups.{setup_of, waiting_options, world_setup_
 ghost use Rattle.rubis_world.specs.Setup.{IsWorldSetup};
 ghost use Rattle.rubis_app.specs.Statuses.{IsStatusOf, status_by, status_of};
 
+mod streams;
+
+use crate::streams::{Remembering, reason_of};
 use clap::Error;
 use rubis_audit::{Auditor, Grammar, Question, Tally, run_auditor, run_check, run_widen};
 use rubis_cli::{
@@ -25,7 +28,7 @@ use rubis_world::{
     run_world_desk,
 };
 use std::fs::{File, Files};
-use std::io::ErrorKind;
+use std::io::{ErrorKind, Read, Write};
 use std::process::ExitCode;
 use std::random::RandomSource;
 use std::rt::Clock;
@@ -50,6 +53,22 @@ fn fail<R: Eprint>(rt: &R, fault: RunFault) -> ExitCode
     ExitCode::from(FAULT)
 }
 
+// Says why the run ended, and on a line of its own what the system said of a stream that failed.
+fn fail_on<R: Eprint, I, O>(
+    rt: &R,
+    fault: RunFault,
+    input: &Remembering<I>,
+    output: &Remembering<O>,
+) -> ExitCode
+    ensures { exit_status result ≡ 1 }
+{
+    let status = fail(rt, fault);
+    if let Some(reason) = reason_of(fault, input, output) {
+        let _ = eprintln!(rt; "{reason}");
+    }
+    status
+}
+
 // Says what is wrong with the command line.
 fn misuse<R: Eprint>(rt: &R, text: &str) -> ExitCode
     ensures { exit_status result ≡ 2 }
@@ -71,22 +90,33 @@ fn tell<R: Print + Eprint>(rt: &R, error: &Error) -> ExitCode
 }
 
 // Says how a run ended, if a fault ended it.
-fn end<R: Eprint>(rt: &R, ended: Result<Count, RunFault>) -> ExitCode
+fn end<R: Eprint, I, O>(
+    rt: &R,
+    ended: Result<Count, RunFault>,
+    input: &Remembering<I>,
+    output: &Remembering<O>,
+) -> ExitCode
     ensures { exit_status result ≡ cond (is_ok ended) 0 1 }
 {
     match ended {
         Ok(_) => ExitCode::SUCCESS,
-        Err(fault) => fail(rt, fault),
+        Err(fault) => fail_on(rt, fault, input, output),
     }
 }
 
 // Says how what was asked of logs ended: the status is 0 only if they are well, where it is by that.
-fn end_audit<R: Eprint>(rt: &R, ended: Result<Count, RunFault>, is_well: bool) -> ExitCode
+fn end_audit<R: Eprint, I, O>(
+    rt: &R,
+    ended: Result<Count, RunFault>,
+    input: &Remembering<I>,
+    output: &Remembering<O>,
+    is_well: bool,
+) -> ExitCode
     ensures { exit_status result ≡ cond (is_ok ended && is_well) 0 1 }
 {
     match ended {
         Ok(_) if !is_well => ExitCode::from(NOT_WELL),
-        ended => end(rt, ended),
+        ended => end(rt, ended, input, output),
     }
 }
 
@@ -105,20 +135,14 @@ fn config_of(options: &Options) -> Option<Config>
 }
 
 // Answers the records of a site. The site isn't taken apart afterwards: the process ends, and its memory goes back at once.
-fn answer_site<R: Print + Input + AllocGlobal + Threads + Wait + Sync>(
+fn answer_site<R: AllocGlobal + Threads + Wait + Sync, I: Read, O: Write>(
     rt: &R,
     config: &Config,
+    input: &mut Remembering<I>,
+    output: &mut Remembering<O>,
 ) -> Result<Count, RunFault> {
     let mut desk = Desk::new(rt.alloc(), config, Free)?;
-    let mut writer = io::writer(rt);
-    let ended = run_desk(
-        rt,
-        rt.alloc(),
-        rt.reader(),
-        &mut writer,
-        &mut desk,
-        RECORDS_MAX,
-    );
+    let ended = run_desk(rt, rt.alloc(), input, output, &mut desk, RECORDS_MAX);
     mem::forget(desk);
     ended
 }
@@ -135,7 +159,10 @@ fn run<R: Print + Eprint + Input + AllocGlobal + RandomSource + Threads + Wait +
         return misuse(rt, "site must be below sites");
     };
     let config = config.with_hashes(Hashes::random(rt));
-    end(rt, answer_site(rt, &config))
+    let mut input = Remembering::new(rt.reader());
+    let mut output = Remembering::new(io::writer(rt));
+    let ended = answer_site(rt, &config, &mut input, &mut output);
+    end(rt, ended, &input, &output)
 }
 
 // The configuration of several sites, if each number is within its limits.
@@ -152,20 +179,14 @@ fn world_config_of(setup: &Setup) -> Option<WorldConfig>
 }
 
 // Answers the records of several sites. They aren't taken apart afterwards.
-fn answer_world<R: Print + Input + AllocGlobal + Threads + Wait + Sync>(
+fn answer_world<R: AllocGlobal + Threads + Wait + Sync, I: Read, O: Write>(
     rt: &R,
     config: &WorldConfig,
+    input: &mut Remembering<I>,
+    output: &mut Remembering<O>,
 ) -> Result<Count, RunFault> {
     let mut desk = WorldDesk::new(rt.alloc(), config)?;
-    let mut writer = io::writer(rt);
-    let ended = run_world_desk(
-        rt,
-        rt.alloc(),
-        rt.reader(),
-        &mut writer,
-        &mut desk,
-        RECORDS_MAX,
-    );
+    let ended = run_world_desk(rt, rt.alloc(), input, output, &mut desk, RECORDS_MAX);
     mem::forget(desk);
     ended
 }
@@ -182,7 +203,10 @@ fn run_sites<R: Print + Eprint + Input + AllocGlobal + RandomSource + Threads + 
         return misuse(rt, "a number isn't within its limits");
     };
     let config = config.with_hashes(Hashes::random(rt));
-    end(rt, answer_world(rt, &config))
+    let mut input = Remembering::new(rt.reader());
+    let mut output = Remembering::new(io::writer(rt));
+    let ended = answer_world(rt, &config, &mut input, &mut output);
+    end(rt, ended, &input, &output)
 }
 
 // Answers what is asked of the logs of `sites` sites, from standard input to standard output, and maybe says by the status what was
@@ -200,11 +224,12 @@ fn audit_logs<R: Print + Eprint + Input + AllocGlobal + RandomSource>(
         return misuse(rt, "there are too many sites");
     }
     let mut auditor = Auditor::hashed(rt.alloc(), sites, asked, Hashes::random(rt));
-    let mut writer = io::writer(rt);
-    let ended = run_auditor(rt.alloc(), rt.reader(), &mut writer, &mut auditor);
+    let mut input = Remembering::new(rt.reader());
+    let mut output = Remembering::new(io::writer(rt));
+    let ended = run_auditor(rt.alloc(), &mut input, &mut output, &mut auditor);
     let is_well = auditor.is_well();
     mem::forget(auditor);
-    end_audit(rt, ended, is_well || !by_status)
+    end_audit(rt, ended, &input, &output, is_well || !by_status)
 }
 
 // How a site is set up whose input is read for what waits: no answer, and so nothing that waits, depends on the numbers that aren't
@@ -236,11 +261,10 @@ fn run_waits<R: Print + Eprint + Input + AllocGlobal + RandomSource + Threads + 
         return misuse(rt, "site must be below sites");
     };
     let config = config.with_hashes(Hashes::random(rt));
-    let mut writer = io::writer(rt);
-    end(
-        rt,
-        run_waiting(rt, rt.alloc(), rt.reader(), &mut writer, &config),
-    )
+    let mut input = Remembering::new(rt.reader());
+    let mut output = Remembering::new(io::writer(rt));
+    let ended = run_waiting(rt, rt.alloc(), &mut input, &mut output, &config);
+    end(rt, ended, &input, &output)
 }
 
 // Says what logs lack of each other, or what waits at a site.
@@ -266,14 +290,19 @@ fn grammar_of(reading: Reading) -> Grammar {
 }
 
 // Says how a check ended: its status is 0 only if no record is outside the grammar.
-fn end_check<R: Eprint>(rt: &R, ended: Result<Tally, RunFault>) -> ExitCode
+fn end_check<R: Eprint, I, O>(
+    rt: &R,
+    ended: Result<Tally, RunFault>,
+    input: &Remembering<I>,
+    output: &Remembering<O>,
+) -> ExitCode
     ensures well { IfOk ended (λ tally. exit_status result ≡ cond (tally.bad == 0) 0 1) }
     ensures fault { IfErr ended (λ fault. exit_status result ≡ 1) }
 {
     match ended {
         Ok(tally) if tally.bad > 0 => ExitCode::from(NOT_WELL),
         Ok(_) => ExitCode::SUCCESS,
-        Err(fault) => fail(rt, fault),
+        Err(fault) => fail_on(rt, fault, input, output),
     }
 }
 
@@ -287,15 +316,16 @@ fn run_checker<R: Print + Eprint + Input + AllocGlobal>(rt: &R, options: &CheckO
     let Some(reading) = options.reading else {
         return misuse(rt, "only records of site, world or audit are checked");
     };
-    let mut writer = io::writer(rt);
+    let mut input = Remembering::new(rt.reader());
+    let mut output = Remembering::new(io::writer(rt));
     let ended = run_check(
         rt.alloc(),
-        rt.reader(),
-        &mut writer,
+        &mut input,
+        &mut output,
         grammar_of(reading),
         options.sites,
     );
-    end_check(rt, ended)
+    end_check(rt, ended, &input, &output)
 }
 
 // Widens logs to more sites, from standard input to standard output.
@@ -309,15 +339,10 @@ fn run_widener<R: Print + Eprint + Input + AllocGlobal>(rt: &R, counts: &Widenin
     if counts.to > SITES_MAX {
         return misuse(rt, "there are too many sites");
     }
-    let mut writer = io::writer(rt);
-    let ended = run_widen(
-        rt.alloc(),
-        rt.reader(),
-        &mut writer,
-        counts.sites,
-        counts.to,
-    );
-    end(rt, ended)
+    let mut input = Remembering::new(rt.reader());
+    let mut output = Remembering::new(io::writer(rt));
+    let ended = run_widen(rt.alloc(), &mut input, &mut output, counts.sites, counts.to);
+    end(rt, ended, &input, &output)
 }
 
 // Says why a site in a folder isn't run, or ended early.
