@@ -27,7 +27,7 @@ use Rattle.rubis_engine.specs.declared.fault.Count.{Count}
 use Rattle.rubis_engine.specs.declared.fault.RunFault.TheVariants as fault
 use Rattle.rubis_engine.specs.declared.run.Run.{Run}
 use Rattle.rubis_engine.proofs.ReadBack.{HaveFields, HasNoMark, no_mark, rows_back}
-use Rattle.rubis_laws.proofs.Recorded.{answers_are_a_run}
+use Rattle.rubis_laws.proofs.Runs.Recorded.{answers_are_a_run}
 use Rattle.rubis_world.specs.Headline.{AppendsARun, Lead, LeadsOn, TellsARun}
 use Rattle.rubis_world.specs.SitesWorlds.{WorldState, opening_world}
 
