@@ -177,7 +177,7 @@ def told(program: str, expected: Expected, **streams) -> str | None:
 def failed_reads(program: str) -> list[str | None]:
     """Input that can't be read."""
     folder = os.open(pathlib.Path(program).parent, os.O_RDONLY)
-    runs = [told(program, Expected(words, b"", b"", 1, b"run fault: read\nIs a directory (os error 21)\n"), stdin=folder) for words in ("site", "world", "audit", "lack", "lack --waiting", "check", "widen")]
+    runs = [told(program, Expected(words, b"", b"", 1, b"run fault: read\n"), stdin=folder) for words in ("site", "world", "audit", "lack", "lack --waiting", "check", "widen")]
     os.close(folder)
     return runs
 
@@ -192,7 +192,7 @@ def lost_terminals(program: str) -> list[str | None]:
         tty.setraw(writer)
         os.write(writer, text)
         os.close(writer)
-        expected = Expected(f"site --site 1 --sites 2 {options}", text, wrote, 1, b"run fault: read\nInput/output error (os error 5)\n")
+        expected = Expected(f"site --site 1 --sites 2 {options}", text, wrote, 1, b"run fault: read\n")
         runs.append(told(program, expected, stdin=reader))
         os.close(reader)
     return runs
@@ -224,7 +224,7 @@ def interrupted_read(program: str, options: str) -> str | None:
 
 def failed_writes(program: str) -> list[str | None]:
     """Output that can't be written; a run that has nothing to write is well all the same."""
-    fault = b"run fault: write\nNo space left on device (os error 28)\n"
+    fault = b"run fault: write\n"
     runs = [("site", b"user,ann\n"), ("world", b"x\n"), ("audit", b""), ("lack", b"site,0\n"), ("check", b""), ("widen", b"site,0\n")]
     runs.append(("lack --waiting --site 1 --sites 2", b"msg,1,0,2,0,1:0,item,0.1,cup,9,3,50,80\n"))
     with open("/dev/full", "wb") as full:

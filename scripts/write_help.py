@@ -135,7 +135,7 @@ def roff(text: str) -> str:
 
 STATUSES = [
     ("0", "The run is done, whatever was refused or found, but for what the next line says; or the help or the version was asked for."),
-    ("1", "Logs don't agree (rubis audit --status, rubis lack) or one has lost messages (rubis lack), or a record is outside the grammar (rubis check); then standard error has nothing. Or the run ended early. Standard error says so: run fault: read or run fault: write, with the system's reason on a second line, run fault: memory, or run fault: too long (more than 4,000,000 records); or, of rubis keep, what else failed, with the reason on the same line."),
+    ("1", "Logs don't agree (rubis audit --status, rubis lack) or one has lost messages (rubis lack), or a record is outside the grammar (rubis check); then standard error has nothing. Or the run ended early. Standard error has one line: run fault: read, run fault: write, run fault: memory, or run fault: too long (more than 4,000,000 records); or, of rubis keep, what else failed and why."),
     ("2", "The command line isn't one, or asks for another site than the folder has. Standard error says why."),
 ]
 

@@ -12,9 +12,6 @@ ghost use Rattle.rubis_app.specs.Setups.{setup_of, waiting_options, world_setup_
 ghost use Rattle.rubis_world.specs.Setup.{IsWorldSetup};
 ghost use Rattle.rubis_app.specs.Statuses.{IsStatusOf, status_by, status_of};
 
-mod streams;
-
-use crate::streams::{Remembering, reason_of};
 use clap::Error;
 use rubis_audit::{Auditor, Grammar, Question, Tally, run_auditor, run_check, run_widen};
 use rubis_cli::{
@@ -28,7 +25,7 @@ use rubis_world::{
     run_world_desk,
 };
 use std::fs::{File, Files};
-use std::io::{ErrorKind, Read, Write};
+use std::io::ErrorKind;
 use std::process::ExitCode;
 use std::random::RandomSource;
 use std::rt::Clock;
@@ -53,22 +50,6 @@ fn fail<R: Eprint>(rt: &R, fault: RunFault) -> ExitCode
     ExitCode::from(FAULT)
 }
 
-// Says why the run ended, and on a line of its own what the system said of a stream that failed.
-fn fail_on<R: Eprint, I, O>(
-    rt: &R,
-    fault: RunFault,
-    input: &Remembering<I>,
-    output: &Remembering<O>,
-) -> ExitCode
-    ensures { exit_status result ≡ 1 }
-{
-    let status = fail(rt, fault);
-    if let Some(reason) = reason_of(fault, input, output) {
-        let _ = eprintln!(rt; "{reason}");
-    }
-    status
-}
-
 // Says what is wrong with the command line.
 fn misuse<R: Eprint>(rt: &R, text: &str) -> ExitCode
     ensures { exit_status result ≡ 2 }
@@ -90,33 +71,22 @@ fn tell<R: Print + Eprint>(rt: &R, error: &Error) -> ExitCode
 }
 
 // Says how a run ended, if a fault ended it.
-fn end<R: Eprint, I, O>(
-    rt: &R,
-    ended: Result<Count, RunFault>,
-    input: &Remembering<I>,
-    output: &Remembering<O>,
-) -> ExitCode
+fn end<R: Eprint>(rt: &R, ended: Result<Count, RunFault>) -> ExitCode
     ensures { exit_status result ≡ cond (is_ok ended) 0 1 }
 {
     match ended {
         Ok(_) => ExitCode::SUCCESS,
-        Err(fault) => fail_on(rt, fault, input, output),
+        Err(fault) => fail(rt, fault),
     }
 }
 
 // Says how what was asked of logs ended: the status is 0 only if they are well, where it is by that.
-fn end_audit<R: Eprint, I, O>(
-    rt: &R,
-    ended: Result<Count, RunFault>,
-    input: &Remembering<I>,
-    output: &Remembering<O>,
-    is_well: bool,
-) -> ExitCode
+fn end_audit<R: Eprint>(rt: &R, ended: Result<Count, RunFault>, is_well: bool) -> ExitCode
     ensures { exit_status result ≡ cond (is_ok ended && is_well) 0 1 }
 {
     match ended {
         Ok(_) if !is_well => ExitCode::from(NOT_WELL),
-        ended => end(rt, ended, input, output),
+        ended => end(rt, ended),
     }
 }
 
@@ -135,14 +105,20 @@ fn config_of(options: &Options) -> Option<Config>
 }
 
 // Answers the records of a site. The site isn't taken apart afterwards: the process ends, and its memory goes back at once.
-fn answer_site<R: AllocGlobal + Threads + Wait + Sync, I: Read, O: Write>(
+fn answer_site<R: Print + Input + AllocGlobal + Threads + Wait + Sync>(
     rt: &R,
     config: &Config,
-    input: &mut Remembering<I>,
-    output: &mut Remembering<O>,
 ) -> Result<Count, RunFault> {
     let mut desk = Desk::new(rt.alloc(), config, Free)?;
-    let ended = run_desk(rt, rt.alloc(), input, output, &mut desk, RECORDS_MAX);
+    let mut writer = io::writer(rt);
+    let ended = run_desk(
+        rt,
+        rt.alloc(),
+        rt.reader(),
+        &mut writer,
+        &mut desk,
+        RECORDS_MAX,
+    );
     mem::forget(desk);
     ended
 }
@@ -159,10 +135,7 @@ fn run<R: Print + Eprint + Input + AllocGlobal + RandomSource + Threads + Wait +
         return misuse(rt, "site must be below sites");
     };
     let config = config.with_hashes(Hashes::random(rt));
-    let mut input = Remembering::new(rt.reader());
-    let mut output = Remembering::new(io::writer(rt));
-    let ended = answer_site(rt, &config, &mut input, &mut output);
-    end(rt, ended, &input, &output)
+    end(rt, answer_site(rt, &config))
 }
 
 // The configuration of several sites, if each number is within its limits.
@@ -179,14 +152,20 @@ fn world_config_of(setup: &Setup) -> Option<WorldConfig>
 }
 
 // Answers the records of several sites. They aren't taken apart afterwards.
-fn answer_world<R: AllocGlobal + Threads + Wait + Sync, I: Read, O: Write>(
+fn answer_world<R: Print + Input + AllocGlobal + Threads + Wait + Sync>(
     rt: &R,
     config: &WorldConfig,
-    input: &mut Remembering<I>,
-    output: &mut Remembering<O>,
 ) -> Result<Count, RunFault> {
     let mut desk = WorldDesk::new(rt.alloc(), config)?;
-    let ended = run_world_desk(rt, rt.alloc(), input, output, &mut desk, RECORDS_MAX);
+    let mut writer = io::writer(rt);
+    let ended = run_world_desk(
+        rt,
+        rt.alloc(),
+        rt.reader(),
+        &mut writer,
+        &mut desk,
+        RECORDS_MAX,
+    );
     mem::forget(desk);
     ended
 }
@@ -203,10 +182,7 @@ fn run_sites<R: Print + Eprint + Input + AllocGlobal + RandomSource + Threads + 
         return misuse(rt, "a number isn't within its limits");
     };
     let config = config.with_hashes(Hashes::random(rt));
-    let mut input = Remembering::new(rt.reader());
-    let mut output = Remembering::new(io::writer(rt));
-    let ended = answer_world(rt, &config, &mut input, &mut output);
-    end(rt, ended, &input, &output)
+    end(rt, answer_world(rt, &config))
 }
 
 // Answers what is asked of the logs of `sites` sites, from standard input to standard output, and maybe says by the status what was
@@ -224,12 +200,11 @@ fn audit_logs<R: Print + Eprint + Input + AllocGlobal + RandomSource>(
         return misuse(rt, "there are too many sites");
     }
     let mut auditor = Auditor::hashed(rt.alloc(), sites, asked, Hashes::random(rt));
-    let mut input = Remembering::new(rt.reader());
-    let mut output = Remembering::new(io::writer(rt));
-    let ended = run_auditor(rt.alloc(), &mut input, &mut output, &mut auditor);
+    let mut writer = io::writer(rt);
+    let ended = run_auditor(rt.alloc(), rt.reader(), &mut writer, &mut auditor);
     let is_well = auditor.is_well();
     mem::forget(auditor);
-    end_audit(rt, ended, &input, &output, is_well || !by_status)
+    end_audit(rt, ended, is_well || !by_status)
 }
 
 // How a site is set up whose input is read for what waits: no answer, and so nothing that waits, depends on the numbers that aren't
@@ -261,10 +236,11 @@ fn run_waits<R: Print + Eprint + Input + AllocGlobal + RandomSource + Threads + 
         return misuse(rt, "site must be below sites");
     };
     let config = config.with_hashes(Hashes::random(rt));
-    let mut input = Remembering::new(rt.reader());
-    let mut output = Remembering::new(io::writer(rt));
-    let ended = run_waiting(rt, rt.alloc(), &mut input, &mut output, &config);
-    end(rt, ended, &input, &output)
+    let mut writer = io::writer(rt);
+    end(
+        rt,
+        run_waiting(rt, rt.alloc(), rt.reader(), &mut writer, &config),
+    )
 }
 
 // Says what logs lack of each other, or what waits at a site.
@@ -290,19 +266,14 @@ fn grammar_of(reading: Reading) -> Grammar {
 }
 
 // Says how a check ended: its status is 0 only if no record is outside the grammar.
-fn end_check<R: Eprint, I, O>(
-    rt: &R,
-    ended: Result<Tally, RunFault>,
-    input: &Remembering<I>,
-    output: &Remembering<O>,
-) -> ExitCode
+fn end_check<R: Eprint>(rt: &R, ended: Result<Tally, RunFault>) -> ExitCode
     ensures well { IfOk ended (λ tally. exit_status result ≡ cond (tally.bad == 0) 0 1) }
     ensures fault { IfErr ended (λ fault. exit_status result ≡ 1) }
 {
     match ended {
         Ok(tally) if tally.bad > 0 => ExitCode::from(NOT_WELL),
         Ok(_) => ExitCode::SUCCESS,
-        Err(fault) => fail_on(rt, fault, input, output),
+        Err(fault) => fail(rt, fault),
     }
 }
 
@@ -316,16 +287,15 @@ fn run_checker<R: Print + Eprint + Input + AllocGlobal>(rt: &R, options: &CheckO
     let Some(reading) = options.reading else {
         return misuse(rt, "only records of site, world or audit are checked");
     };
-    let mut input = Remembering::new(rt.reader());
-    let mut output = Remembering::new(io::writer(rt));
+    let mut writer = io::writer(rt);
     let ended = run_check(
         rt.alloc(),
-        &mut input,
-        &mut output,
+        rt.reader(),
+        &mut writer,
         grammar_of(reading),
         options.sites,
     );
-    end_check(rt, ended, &input, &output)
+    end_check(rt, ended)
 }
 
 // Widens logs to more sites, from standard input to standard output.
@@ -339,10 +309,15 @@ fn run_widener<R: Print + Eprint + Input + AllocGlobal>(rt: &R, counts: &Widenin
     if counts.to > SITES_MAX {
         return misuse(rt, "there are too many sites");
     }
-    let mut input = Remembering::new(rt.reader());
-    let mut output = Remembering::new(io::writer(rt));
-    let ended = run_widen(rt.alloc(), &mut input, &mut output, counts.sites, counts.to);
-    end(rt, ended, &input, &output)
+    let mut writer = io::writer(rt);
+    let ended = run_widen(
+        rt.alloc(),
+        rt.reader(),
+        &mut writer,
+        counts.sites,
+        counts.to,
+    );
+    end(rt, ended)
 }
 
 // Says why a site in a folder isn't run, or ended early.
