@@ -18,11 +18,14 @@ import subprocess
 import sys
 import tempfile
 import time
+from typing import TypeVar
 
 SITES = 16
 ASKS_A_SECOND = 8
 LOSS, REPEAT, DELAY = 0.1, 0.05, 2.0
 SECONDS_TO_KILL = 6.0
+
+Made = TypeVar("Made")
 
 
 class Failed(Exception):
@@ -176,12 +179,15 @@ class Network:
                 if to != site:
                     self.send(packet, to)
 
+    def one_of(self, made: list[Made]) -> Made:
+        """Mostly one of the last."""
+        return self.dice.choice(made[-40:] if self.dice.random() < 0.8 else made)
+
     def a_request(self) -> str:
-        """One over users and items that were made somewhere, mostly the last ones."""
-        last = lambda made: self.dice.choice(made[-40:] if self.dice.random() < 0.8 else made)
-        user, (item, seller), nick, count = last(self.users), last(self.items), f"n{self.dice.randrange(10**6)}", self.dice.randint(1, 5)
+        """One over users and items that were made somewhere."""
+        user, (item, seller), nick, count = self.one_of(self.users), self.one_of(self.items), f"n{self.dice.randrange(10**6)}", self.dice.randint(1, 5)
         blue = [
-            f"item,{user},lamp,{self.dice.randrange(1000)},{count},100,300", f"comment,{item},{user},{last(self.users)},{count},good",
+            f"item,{user},lamp,{self.dice.randrange(1000)},{count},100,300", f"comment,{item},{user},{self.one_of(self.users)},{count},good",
             f"comment,{item},{user},{seller},{-count},bad", f"restock,{item},{seller},{count}",
         ]  # fmt: skip
         red = [f"user,{nick}", f"bid,{item},{user},{self.dice.randint(90, 900)}", f"buy,{item},{user},1", f"rename,{user},{nick}", f"close,{item},{seller}"]

@@ -9,6 +9,8 @@ The crates are copied without their wrong bodies, which are the gate's.
 Standard error tells how far it is, on a terminal in one line that is written over. The first crate that isn't proved ends the run,
 with its errors and no others', and status 1.
 """
+from __future__ import annotations
+
 import os
 import re
 import shutil
@@ -17,6 +19,8 @@ import subprocess
 import sys
 import tempfile
 import time
+from collections.abc import Iterable
+from typing import Dict, List
 
 TOP = os.path.dirname(os.path.dirname(os.path.abspath(__file__)))
 APP = "rubis_app"
@@ -27,14 +31,17 @@ FIXED = 1500
 MEMORY = 4 << 30
 KEPT = "and that is kept"
 
+# Crates, each with those that it stands on.
+Below = Dict[str, List[str]]
 
-def crates_below(app):
+
+def crates_below(app: str) -> Below:
     """Returns the program's crates, each after those that it stands on, with the repository's crates that it lists."""
     with open(f"{TOP}/crates.txt", encoding="utf-8") as lines:
         listed = dict(line.split("#")[0].split(":", 1) for line in lines if re.match(r"\w", line))
-    found = {}
+    found: Below = {}
 
-    def visit(name):
+    def visit(name: str) -> None:
         if name not in found:
             ours = [it for it in listed[name].split() if it in listed]
             for below in ours:
@@ -45,7 +52,7 @@ def crates_below(app):
     return found
 
 
-def copy_crates(crates, to):
+def copy_crates(crates: Iterable[str], to: str) -> None:
     """Makes a repository of these crates alone, with what their proofs read."""
     os.makedirs(f"{to}/.git")
     shutil.copyfile(f"{TOP}/HANDLES", f"{to}/HANDLES")
@@ -61,7 +68,7 @@ def copy_crates(crates, to):
                 shutil.copyfile(f"{TOP}/{inside}", f"{to}/{inside}")
 
 
-def weight(name):
+def weight(name: str) -> int:
     """Returns about how much work a crate is, in lines."""
     walked = (f"{at}/{file}" for part in PARTS for at, _, files in os.walk(f"{TOP}/crates/{name}/{part}") for file in files)
     lines = FIXED
@@ -71,7 +78,7 @@ def weight(name):
     return lines
 
 
-def at_once():
+def at_once() -> int:
     """Returns how many proofs run at once: each may use two processors, though not all of the time, and some memory."""
     room = os.sysconf("SC_PHYS_PAGES") * os.sysconf("SC_PAGE_SIZE") // MEMORY
     return max(1, min(len(os.sched_getaffinity(0)) // 2 + 1, room))
@@ -84,20 +91,20 @@ class Unproved(Exception):
 class Call:
     """A call of `rt ci`, and its log."""
 
-    def __init__(self, repository, log, names=()):
+    def __init__(self, repository: str, log: str, names: Iterable[str] = ()) -> None:
         self.log = log
         words = {name: value for name, value in os.environ.items() if name != "CI"}
         with open(log, "wb") as out:
             self.run = subprocess.Popen(["rt", "ci", *names], cwd=repository, env=words, stdin=subprocess.DEVNULL, stdout=out, stderr=out, start_new_session=True)
 
-    def said(self):
+    def said(self) -> str:
         with open(self.log, encoding="utf-8", errors="replace") as text:
             return text.read()
 
-    def proved(self):
+    def proved(self) -> list[str]:
         return re.findall(r"^rt: (\w+) (?:proved|is kept)", self.said(), re.M)
 
-    def is_over(self):
+    def is_over(self) -> bool:
         """Returns whether it ended well. Where it didn't, or a crate isn't proved, that is raised."""
         ended, said = self.run.poll(), self.said()
         failed = re.search(r"^rt: (\w+) NOT PROVED", said, re.M)
@@ -107,7 +114,7 @@ class Call:
             raise Unproved(f"{said[-4000:]}rubis: the program isn't built, so nothing is run\n")
         return ended == 0
 
-    def stop(self):
+    def stop(self) -> None:
         if self.run.poll() is None:
             os.killpg(self.run.pid, signal.SIGTERM)
             self.run.wait()
@@ -116,33 +123,34 @@ class Call:
 class Progress:
     """How far the proofs are."""
 
-    def __init__(self, crates):
-        self.crates, self.proved, self.shown, self.began = crates, set(), -1, time.monotonic()
+    def __init__(self, crates: Below) -> None:
+        self.crates, self.shown, self.began = crates, -1, time.monotonic()
+        self.proved: set[str] = set()
         self.weights = {name: weight(name) for name in crates}
         self.whole = self.left()
 
-    def behind(self):
+    def behind(self) -> dict[str, int]:
         """Returns for each crate how much work the longest chain is that begins with it."""
-        behind = {}
+        behind: dict[str, int] = {}
         for name in reversed([*self.crates]):
             above = [it for it, below in self.crates.items() if name in below]
             behind[name] = self.weights[name] + max((behind[it] for it in above), default=0)
         return behind
 
-    def ready(self, running):
+    def ready(self, running: set[str]) -> list[str]:
         """Returns the crates that can be proved now, the longest chain first."""
         behind = self.behind()
         ready = [name for name, below in self.crates.items() if name not in self.proved | running and self.proved.issuperset(below)]
         return sorted(ready, key=lambda name: -behind[name])
 
-    def left(self):
+    def left(self) -> float:
         """Returns the work that no number of processors makes shorter, or that of all processors, whichever is more."""
         behind = self.behind()
         still = [name for name in self.crates if name not in self.proved]
         shared = sum(self.weights[name] for name in still) / at_once()
         return max([shared, *(behind[name] for name in still)])
 
-    def show(self):
+    def show(self) -> None:
         """Writes how far it is: over the last line on a terminal, and else where a crate more is proved."""
         gone, done = time.monotonic() - self.began, self.whole - self.left()
         left = f"about {gone * self.left() / done / 60 + 1:.0f} min left" if done and gone > 60 else "some 15 to 30 min in all on four processors"
@@ -155,7 +163,7 @@ class Progress:
         self.shown = len(self.proved)
 
 
-def prove_each(repository, room, progress, calls):
+def prove_each(repository: str, room: str, progress: Progress, calls: dict[str, Call]) -> bool:
     """Proves all crates but the program's own, each by a call of its own, and returns whether what was proved is kept."""
     while len(progress.proved) < len(progress.crates) - 1:
         # The first crate stands below nearly all others, and shows whether anything is kept.
@@ -171,9 +179,10 @@ def prove_each(repository, room, progress, calls):
     return True
 
 
-def prove(room):
+def prove(room: str) -> None:
     """Proves and builds in that folder, and leaves the program where `./rubis` starts it."""
-    crates, repository, calls = crates_below(APP), f"{room}/rubis", {}
+    crates, repository = crates_below(APP), f"{room}/rubis"
+    calls: dict[str, Call] = {}
     copy_crates(crates, repository)
     progress = Progress(crates)
     try:
@@ -196,7 +205,7 @@ def prove(room):
     os.replace(f"{made}/{APP}.new", f"{made}/{APP}")
 
 
-def main():
+def main() -> int:
     sys.stderr.write("rubis: proving the program, once: later runs start at once. For a look without proofs: ./rubis --try\n")
     signal.signal(signal.SIGTERM, lambda *_: sys.exit(1))
     try:

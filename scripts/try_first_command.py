@@ -50,8 +50,9 @@ class Copy:
     """A repository of four small crates with `./rubis`, and a stand-in for the toolchain."""
 
     def __init__(self, room: pathlib.Path) -> None:
-        self.top, self.bin, self.pid = room / "rubis", room / "bin", room / "pid"
+        self.top, self.bin, self.temporary, self.pid = room / "rubis", room / "bin", room / "temporary", room / "pid"
         self.bin.mkdir()
+        self.temporary.mkdir()
         (self.top / "scripts").mkdir(parents=True)
         shutil.copy(TOP / "rubis", self.top)
         shutil.copy(TOP / "scripts/prove_program.py", self.top / "scripts")
@@ -68,7 +69,7 @@ class Copy:
         (self.bin / "rt").chmod(0o755)
 
     def start(self) -> "subprocess.Popen[str]":
-        words = {**os.environ, "PATH": f"{self.bin}:{os.environ['PATH']}", "STAND_IN_PID": str(self.pid)}
+        words = {**os.environ, "PATH": f"{self.bin}:{os.environ['PATH']}", "STAND_IN_PID": str(self.pid), "TMPDIR": str(self.temporary)}
         return subprocess.Popen([self.top / "rubis", "site", "--site", "0"], env=words, text=True, stdin=subprocess.PIPE, stdout=subprocess.PIPE, stderr=subprocess.PIPE, start_new_session=True)
 
     def run(self) -> tuple[int, str, str]:
@@ -118,15 +119,14 @@ def try_interruption(copy: Copy) -> None:
 
 
 def main() -> int:
-    before = set(pathlib.Path(tempfile.gettempdir()).glob("rubis-proving-*"))
     with tempfile.TemporaryDirectory(prefix="rubis-first-") as room:
         copy = Copy(pathlib.Path(room))
         try_proofs(copy)
         try_program(copy, NAMED)
         try_program(copy, FORGETS)
         try_interruption(copy)
-    left = set(pathlib.Path(tempfile.gettempdir()).glob("rubis-proving-*")) - before
-    expect(not left, f"it leaves {left}")
+        left = list(copy.temporary.iterdir())
+        expect(not left, f"it leaves {left}")
     print("the first command: 5 passed, 0 failed")
     return 0
 
