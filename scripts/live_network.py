@@ -20,21 +20,14 @@ import tempfile
 import time
 from typing import TypeVar
 
+from trials import Failed, expect
+
 SITES = 16
 ASKS_A_SECOND = 8
 LOSS, REPEAT, DELAY = 0.1, 0.05, 2.0
 SECONDS_TO_KILL = 6.0
 
 Made = TypeVar("Made")
-
-
-class Failed(Exception):
-    """What was expected and isn't so."""
-
-
-def expect(claim: bool, what: str) -> None:
-    if not claim:
-        raise Failed(what)
 
 
 @dataclasses.dataclass

@@ -199,9 +199,11 @@ def prove(room: str) -> None:
             call.stop()
         if sys.stderr.isatty():
             sys.stderr.write("\n")
-    made = f"{TOP}/crates/{APP}/out"
+    built, made = f"{repository}/crates/{APP}/out/{APP}", f"{TOP}/crates/{APP}/out"
+    if not os.path.isfile(built):
+        raise Unproved(f"{last.said()[-4000:]}rubis: the program isn't built, so nothing is run\n")
     os.makedirs(made, exist_ok=True)
-    shutil.copy(f"{repository}/crates/{APP}/out/{APP}", f"{made}/{APP}.new")
+    shutil.copy(built, f"{made}/{APP}.new")
     os.replace(f"{made}/{APP}.new", f"{made}/{APP}")
 
 

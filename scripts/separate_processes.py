@@ -15,17 +15,10 @@ import random
 import subprocess
 import sys
 
+from trials import Failed, expect
+
 SITES = 4
 NICKS = [f"{name}{digit}" for name in ["ann", "bob", "cat", "dan", "eve"] for digit in range(3)]
-
-
-class Failed(Exception):
-    """What was expected and isn't so."""
-
-
-def expect(claim: bool, what: str) -> None:
-    if not claim:
-        raise Failed(what)
 
 
 @dataclasses.dataclass

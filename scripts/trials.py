@@ -1,4 +1,4 @@
-"""Trials for scripts/try_shop.py and scripts/try_pictures.py: functions whose names begin with `test_`, of which a few run at once."""
+"""What scripts that try something share: what they expect; and for those whose functions `test_` are trials, running a few at once."""
 
 import concurrent.futures
 from collections.abc import Callable, Mapping, Sequence

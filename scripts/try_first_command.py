@@ -119,6 +119,8 @@ def try_interruption(copy: Copy) -> None:
 
 
 def main() -> int:
+    # A command in the background is started with this signal ignored, and hands that on.
+    signal.signal(signal.SIGINT, signal.default_int_handler)
     with tempfile.TemporaryDirectory(prefix="rubis-first-") as room:
         copy = Copy(pathlib.Path(room))
         try_proofs(copy)
