@@ -2,7 +2,8 @@
 """Proves the crates that the program is made of and builds it, on all processors: this is what `./rubis` calls where a source is newer.
 
 `rt ci NAME` proves a crate on a copy, over what was proved before, and keeps what passed beside the toolchain. So each crate is given
-to one call of it as soon as those below are proved, the longest chain first, and the last call builds the program over all of them.
+to one call of it as soon as those below are proved, the longest chain first and before all others, and the last call builds the program
+over all of them.
 What is kept is there for the next run, if this one is interrupted, and for the gate. Where nothing can be kept, one call proves all.
 The crates are copied without their wrong bodies, which are the gate's.
 
@@ -27,6 +28,8 @@ APP = "rubis_app"
 PARTS = ("src", "specs", "proofs")
 # What a crate costs beside its lines, in lines: its libraries are loaded, and it is compiled.
 FIXED = 1500
+# How much a crate beside the longest chain gives way to those on it (`nice`).
+BEHIND = 10
 # What a proof may take of memory, in bytes.
 MEMORY = 4 << 30
 KEPT = "and that is kept"
@@ -91,11 +94,12 @@ class Unproved(Exception):
 class Call:
     """A call of `rt ci`, and its log."""
 
-    def __init__(self, repository: str, log: str, names: Iterable[str] = ()) -> None:
+    def __init__(self, repository: str, log: str, names: Iterable[str] = (), waits: int = 0) -> None:
         self.log = log
         words = {name: value for name, value in os.environ.items() if name != "CI"}
+        command = ["nice", "-n", str(waits), "rt", "ci", *names]
         with open(log, "wb") as out:
-            self.run = subprocess.Popen(["rt", "ci", *names], cwd=repository, env=words, stdin=subprocess.DEVNULL, stdout=out, stderr=out, start_new_session=True)
+            self.run = subprocess.Popen(command, cwd=repository, env=words, stdin=subprocess.DEVNULL, stdout=out, stderr=out, start_new_session=True)
 
     def said(self) -> str:
         with open(self.log, encoding="utf-8", errors="replace") as text:
@@ -143,6 +147,11 @@ class Progress:
         ready = [name for name, below in self.crates.items() if name not in self.proved | running and self.proved.issuperset(below)]
         return sorted(ready, key=lambda name: -behind[name])
 
+    def is_longest(self, name: str) -> bool:
+        """Returns whether the longest chain of those that aren't proved begins with this crate."""
+        behind = self.behind()
+        return behind[name] == max(behind[it] for it in self.crates if it not in self.proved)
+
     def left(self) -> float:
         """Returns the work that no number of processors makes shorter, or that of all processors, whichever is more."""
         behind = self.behind()
@@ -169,7 +178,7 @@ def prove_each(repository: str, room: str, progress: Progress, calls: dict[str, 
         # The first crate stands below nearly all others, and shows whether anything is kept.
         most = at_once() if progress.proved else 1
         for name in progress.ready(set(calls))[: most - len(calls)]:
-            calls[name] = Call(repository, f"{room}/{name}.log", [name])
+            calls[name] = Call(repository, f"{room}/{name}.log", [name], 0 if progress.is_longest(name) else BEHIND)
         for name in [name for name, call in calls.items() if call.is_over()]:
             if KEPT not in calls.pop(name).said():
                 return False
