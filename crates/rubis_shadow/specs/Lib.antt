@@ -1,6 +1,7 @@
 pub mod Renames
 pub mod Shadows
 pub mod Tables
+pub mod Freed
 pub mod Changes
 pub mod Parts
 pub mod Limits

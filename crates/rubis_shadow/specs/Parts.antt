@@ -7,6 +7,7 @@ use Rattle.rubis_schema.specs.declared.rows.Row.TheVariants as row
 use Rattle.rubis_schema.specs.declared.rows.ItemRow.{ItemRow}
 use Rattle.rubis_schema.specs.declared.rows.UserRow.{UserRow}
 use Rattle.rubis_schema.specs.declared.rows.Sale.TheVariants.{Open}
+use Rattle.rubis_shadow.specs.Freed.{FreesOnlyNicks}
 use Rattle.rubis_shadow.specs.declared.changes.Change.{Change}
 use Rattle.rubis_shadow.specs.declared.changes.Change.TheVariants.{Insert, ItemListed, Bought, Rated, CatListed, CatEnded, BidTaken, Sold, End, Restocked, Renamed, NickFreed}
 use Rattle.rubis_shadow.specs.declared.changes.Effect.{Effect}
@@ -14,8 +15,9 @@ use Rattle.rubis_shadow.specs.declared.shadows.NewItem.{NewItem}
 use Rattle.rubis_shadow.specs.declared.shadows.Shadow.{Shadow}
 use Rattle.rubis_shadow.specs.declared.shadows.Shadow.TheVariants.{User, Item, Bid, Buy, Close, Comment, Restock, Rename}
 
-abbrev pub part : RowKey → Change → Effect
-part k c = record { key = k; change = c }
+-- a change of the row at a key, with the proof that only a nickname is given up
+abbrev pub part : (k : RowKey) (c : Change) → FreesOnlyNicks k c → Effect
+part k c h = record { key = k; change = c; frees = h }
 
 -- a new user has listed and bought nothing, and is not rated
 abbrev pub new_user : List ℕ → UserRow
@@ -28,23 +30,23 @@ new_item n = record { seller = n.seller; name = n.name; cat = n.cat; stock = n.s
 -- the parts of the shadow with that id and red number
 abbrev pub parts : Id → ℕ → Shadow → List Effect
 parts id red (User n) =
-    part (key.User id) (Insert (row.User (new_user n)))
-    ∷ part (key.Nick n) (Insert (row.Nick id)) ∷ []
+    part (key.User id) (Insert (row.User (new_user n))) tt
+    ∷ part (key.Nick n) (Insert (row.Nick id)) tt ∷ []
 parts id red (Item n) =
-    part (key.Item id) (Insert (row.Item (new_item n)))
-    ∷ part (key.User n.seller) ItemListed ∷ part (key.Cat n.cat) CatListed ∷ []
+    part (key.Item id) (Insert (row.Item (new_item n))) tt
+    ∷ part (key.User n.seller) ItemListed tt ∷ part (key.Cat n.cat) CatListed tt ∷ []
 parts id red (Bid b) =
-    part (key.Bid id) (Insert (row.Bid (record { item = b.item; bidder = b.bidder; amount = b.amount; red = red })))
-    ∷ part (key.Item b.item) (BidTaken (record { bid = id; amount = b.amount })) ∷ []
+    part (key.Bid id) (Insert (row.Bid (record { item = b.item; bidder = b.bidder; amount = b.amount; red = red }))) tt
+    ∷ part (key.Item b.item) (BidTaken (record { bid = id; amount = b.amount })) tt ∷ []
 parts id red (Buy p) =
-    part (key.Purchase id) (Insert (row.Purchase p))
-    ∷ part (key.Item p.item) (Sold p.quantity) ∷ part (key.User p.buyer) (Bought p.quantity) ∷ []
-parts id red (Close c) = part (key.Item c.item) (End c.winner) ∷ part (key.Cat c.cat) CatEnded ∷ []
-parts id red (Comment c) = part (key.Comment id) (Insert (row.Comment c)) ∷ part (key.User c.to) (Rated c.rating) ∷ []
-parts id red (Restock r) = part (key.Item r.item) (Restocked r.quantity) ∷ []
+    part (key.Purchase id) (Insert (row.Purchase p)) tt
+    ∷ part (key.Item p.item) (Sold p.quantity) tt ∷ part (key.User p.buyer) (Bought p.quantity) tt ∷ []
+parts id red (Close c) = part (key.Item c.item) (End c.winner) tt ∷ part (key.Cat c.cat) CatEnded tt ∷ []
+parts id red (Comment c) = part (key.Comment id) (Insert (row.Comment c)) tt ∷ part (key.User c.to) (Rated c.rating) tt ∷ []
+parts id red (Restock r) = part (key.Item r.item) (Restocked r.quantity) tt ∷ []
 parts id red (Rename r) =
-    part (key.User r.user) (Renamed r.to) ∷ part (key.Nick r.from) (NickFreed r.user)
-    ∷ part (key.Nick r.to) (Insert (row.Nick r.user)) ∷ []
+    part (key.User r.user) (Renamed r.to) tt ∷ part (key.Nick r.from) (NickFreed r.user) tt
+    ∷ part (key.Nick r.to) (Insert (row.Nick r.user)) tt ∷ []
 
 abbrev pub key_of : Effect → RowKey
 key_of e = e.key

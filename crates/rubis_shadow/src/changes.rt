@@ -1,6 +1,7 @@
 //! A change of a row, and the effect on a key.
 
 ghost use Rattle.std.specs.Prelude.{◌≡◌, IfOk};
+ghost use Rattle.rubis_shadow.specs.Freed.{FreesOnlyNicks, FreesOnlyNicks-prop};
 
 use rubis_schema::{Best, Id, Nick, Row, RowKey};
 use std::alloc::AllocError;
@@ -43,11 +44,12 @@ impl Change {
     }
 }
 
-/// One part of a shadow: a change of the row at a key.
+/// One part of a shadow: a change of the row at a key. Only a nickname's key is given up: no other row is ever removed.
 #[derive(Drop)]
 pub struct Effect {
     pub key: RowKey,
     pub change: Change,
+    pub ghost frees: { FreesOnlyNicks key change } by { FreesOnlyNicks-prop key change },
 }
 
 impl Effect {

@@ -6,6 +6,7 @@ ghost use Rattle.std.specs.Iterator.{item_count, YieldsFirst};
 ghost use Rattle.rubis_shadow.specs.declared.shadows.Shadow.TheVariants as Shadow;
 ghost use Rattle.rubis_shadow.specs.Parts.{new_item, new_user, parts};
 ghost use Rattle.rubis_shadow.specs.Borrowed.{change_of};
+ghost use Rattle.rubis_shadow.specs.Freed.{FreesOnlyNicks, FreesOnlyNicks-prop};
 ghost use Rattle.rubis_shadow.specs.BoxedRows.{HasBoxedRow, boxed_row_in};
 ghost use Rattle.rubis_schema.specs.declared.rows.Row.TheVariants as rows;
 
@@ -49,15 +50,19 @@ enum ChangeRef<'a> {
 pub struct EffectRef<'a> {
     key: RowKey,
     change: ChangeRef<'a>,
+    ghost frees: { FreesOnlyNicks key (change_of change) } by { FreesOnlyNicks-prop key (change_of change) },
 }
 
 impl<'a> Model for EffectRef<'a> {
     ghost use Rattle.rubis_shadow.specs.declared.changes.Effect.{Effect};
+    ghost use Rattle.rubis_shadow.specs.contracts.changes.Effect as effect;
     ghost use Rattle.rubis_shadow.specs.Borrowed.{change_of};
 
     ghost Value = { Effect };
 
-    ghost view = { λ e. record { key = e.key; change = change_of e.change } };
+    ghost coded = { effect.the_row.coded };
+
+    ghost view = { λ e. record { key = e.key; change = change_of e.change; frees = e.frees } };
 }
 
 /// The parts of a shadow, in order. Contracts see those that are left.
@@ -72,11 +77,15 @@ pub struct Effects<'a> {
 
 impl<'a> Model for Effects<'a> {
     ghost use Rattle.std.specs.Prelude.{List, drop, ◌≤◌};
+    ghost use Rattle.std.specs.Coded.{coded_list};
     ghost use Rattle.rubis_shadow.specs.declared.changes.Effect.{Effect};
+    ghost use Rattle.rubis_shadow.specs.contracts.changes.Effect as effect;
     ghost use Rattle.rubis_shadow.specs.Parts.{parts};
     ghost use Rattle.rubis_shadow.specs.declared.parts.TheConstants.{PARTS_MAX};
 
     ghost Value = { List Effect };
+
+    ghost coded = { coded_list effect.the_row.coded };
 
     ghost view = { λ e. drop e.given (parts e.id e.red e.shadow.now) };
 
