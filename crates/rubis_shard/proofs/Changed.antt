@@ -1,6 +1,6 @@
 -- A row of one map that is changed where it stands.
-use Rattle.std.proofs.Common.{◌≡◌, Bool, true, false, List, sym, ap, ◌∙◌, subst, cond, refl}
-use Rattle.std.specs.Prelude.{Option, Some, None, is_none, not}
+use Rattle.std.proofs.Common.{◌≡◌, ◌-◌, Bool, true, false, List, sym, ap, ◌∙◌, subst, cond, refl}
+use Rattle.std.specs.Prelude.{Option, Some, None, is_none, is_some, not, nat_le, IsSome}
 use Rattle.std.specs.FinMap as map
 use Rattle.std.specs.Map.{lookup}
 use Rattle.indexmap.specs.IndexMap.{insert_entry}
@@ -8,14 +8,22 @@ use Rattle.rubis_schema.specs.IdKeys.{row_key, same_id_key}
 use Rattle.rubis_schema.specs.declared.id_keys.IdKey.{IdKey}
 use Rattle.rubis_schema.specs.Tables.{Tables}
 use Rattle.rubis_schema.specs.declared.row_keys.RowKey.{RowKey}
+use Rattle.rubis_schema.specs.declared.rows.ItemRow.{ItemRow}
 use Rattle.rubis_schema.specs.declared.rows.Row.{Row}
-use Rattle.rubis_shadow.specs.Changes.{after_part, misfit_of, with_row}
+use Rattle.rubis_schema.specs.declared.rows.Row.TheVariants as row
+use Rattle.rubis_schema.specs.declared.rows.Sale.{Sale}
+use Rattle.rubis_schema.specs.declared.rows.Sale.TheVariants as sale
+use Rattle.rubis_shadow.specs.Changes.{after_part, change_row, count_up, fits_as, if_open, misfit_of, misfits_as, with_row, Done}
+use Rattle.rubis_shadow.specs.Freed.{FreesOnlyNicks, IsNick}
+use Rattle.rubis_shadow.specs.declared.changes.Change.{Change}
+use Rattle.rubis_shadow.specs.declared.changes.Change.TheVariants as change
 use Rattle.rubis_shadow.specs.declared.changes.Change.TheVariants.{Insert}
 use Rattle.rubis_shadow.specs.declared.changes.Effect.{Effect}
 use Rattle.rubis_shadow.specs.declared.changes.Fate.{Fate}
-use Rattle.rubis_shadow.proofs.Rows.{after_alter, misfit_alter, after_none, misfit_none, remove_none, not_insert, none_of}
+use Rattle.rubis_shadow.specs.declared.changes.MisfitKind.TheVariants.{StockShort}
+use Rattle.rubis_shadow.proofs.Rows.{after_alter, misfit_alter, after_none, misfit_none, remove_none, not_insert, none_of, row_stays}
 use Rattle.rubis_shard.specs.Chains.{chains_of, IsLinkedSoFar}
-use Rattle.rubis_shard.specs.Rows.{no_row, IsChanged}
+use Rattle.rubis_shard.specs.Rows.{no_row, IsAltered, IsChanged}
 use Rattle.rubis_shard.specs.Written.{written}
 use Rattle.rubis_shard.specs.declared.chains.Chains.{Chains}
 use Rattle.rubis_shard.proofs.InMaps.{new_last}
@@ -67,14 +75,50 @@ module _ {K : Type 0} (same : K → K → Bool) (old new : List (K × Row)) (key
       by None is = ap (λ (f : Fate). f.misfit) (none is).1 ∙ misfit_none t e _ (at ∙ is) (not_insert e.change insert)
       by (Some was) is = misfit_alter t e was fate.misfit (at ∙ is) (some was is).told
 
-  -- a row that stays is in the chain that it was in
-  pub changed_chains : (f : K → RowKey) → fate.stays ≡ true → chains_of (written f new) ≡ chains_of (written f old)
-  changed_chains f stays = by (lookup (same key) old) refl
+-- ---- rows with ids and categories are never removed
+if_open_stays : (i : ItemRow) (sale : Sale) (d : Done) → IsSome d.row → IsSome (if_open i sale d).row
+if_open_stays i sale.Open d e = e
+if_open_stays i (sale.Ended w) d e = refl
+
+pub row_stays_at : (k : RowKey) (c : Change) (r : Row) → ¬ IsNick k → FreesOnlyNicks k c → IsSome (change_row c (Some r)).row
+unfolding change_row
+row_stays_at k change.ItemListed (row.User u) other frees = refl
+row_stays_at k (change.Bought q) (row.User u) other frees = refl
+row_stays_at k (change.Rated x) (row.User u) other frees = refl
+row_stays_at k change.CatListed (row.Cat n) other frees = refl
+row_stays_at k change.CatEnded (row.Cat n) other frees = refl
+row_stays_at k (change.BidTaken b) (row.Item i) other frees = if_open_stays i i.sale _ refl
+row_stays_at k (change.Sold q) (row.Item i) other frees = if_open_stays i i.sale _ (elim (nat_le q i.stock) as (λ b. IsSome (cond b (fits_as (row.Item (record i { stock = i.stock - q; sold = count_up i.sold q }))) (misfits_as StockShort (Some (row.Item i)))).row) [ true ↦ refl | false ↦ refl ])
+row_stays_at k (change.End w) (row.Item i) other frees = if_open_stays i i.sale _ refl
+row_stays_at k (change.Restocked q) (row.Item i) other frees = refl
+row_stays_at k (change.Renamed n) (row.User u) other frees = refl
+row_stays_at k (change.NickFreed u) r other frees = absurd (other frees)
+row_stays_at k c r other frees = refl
+
+stays_if_some : (b : Bool) (row : Row) (o : Option Row) → IsSome o → o ≡ cond b (Some row) None → b ≡ true
+stays_if_some true row o some is = refl
+stays_if_some false row o some is = absurd (let none : true ≡ false = sym some ∙ ap is_some is in cc)
+
+-- a row that was changed where it stands, by a change that removes none
+module _ {K : Type 0} (same : K → K → Bool) (old new : List (K × Row)) (key : K) (c : Change) (fate : Fate)
+    (none : lookup (same key) old ≡ None → (new ≡ old) × (fate ≡ no_row))
+    (some : (was : Row) → lookup (same key) old ≡ Some was → IsAltered same old new key c was fate)
+    (stays : (was : Row) → IsSome (change_row c (Some was)).row) where
+  kept : (was : Row) (is : lookup (same key) old ≡ Some was) → (change_row c (Some was)).row ≡ Some (some was is).row
+  kept was is =
+      let h = some was is in
+      h.changed ∙ row_stays fate.stays h.row (stays_if_some fate.stays h.row _ (stays was) h.changed)
+
+  pub altered : (was : Row) → lookup (same key) old ≡ Some was → IsChanged same old new key c was fate
+  altered was is = let h = some was is in record { row = Some h.row; changed = kept was is; told = h.told; found = h.found }
+
+  -- it is in the chain that it was in
+  pub altered_chains : (f : K → RowKey) → chains_of (written f new) ≡ chains_of (written f old)
+  altered_chains f = by (lookup (same key) old) refl
     where
       by : (o : Option Row) → lookup (same key) old ≡ o → chains_of (written f new) ≡ chains_of (written f old)
       by None is = ap (λ es. chains_of (written f es)) (none is).0
       by (Some was) is =
           let h = some was is in
-          let left = h.stays stays in
-          ap (λ es. chains_of (written f es)) left.2
-          ∙ chains_set f (same key) old was left.0 is (λ k. chain_stays e.change k was left.0 (h.changed ∙ left.1))
+          ap (λ es. chains_of (written f es)) h.entries
+          ∙ chains_set f (same key) old was h.row is (λ k. chain_stays c k was h.row (kept was is))

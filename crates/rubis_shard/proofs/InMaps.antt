@@ -14,6 +14,7 @@ use Rattle.rubis_schema.specs.declared.row_keys.RowKey.TheVariants as key
 use Rattle.rubis_schema.specs.declared.rows.Row.{Row}
 use Rattle.rubis_shadow.proofs.Rows.{tables_of, get_tables_of, tables_of_update, tables_of_remove}
 use Rattle.rubis_shadow.specs.Changes.{with_row}
+use Rattle.rubis_shadow.specs.Freed.{IsNick}
 use Rattle.rubis_shard.specs.MapKeys.{key_at}
 use Rattle.rubis_shard.specs.Written.{written}
 use Rattle.rubis_shard.specs.declared.map_keys.MapPlace.{MapPlace}
@@ -89,6 +90,15 @@ cat_of_key k n = elim k.table as (λ t. key_eq (row_key (record { seq = k.seq; s
   | table.Bid ↦ refl
   | table.Purchase ↦ refl
   | table.Comment ↦ refl
+]
+
+pub kept_is_no_nick : (k : IdKey) → ¬ IsNick (row_key k)
+kept_is_no_nick k = elim k.table as (λ t. ¬ IsNick (row_key (record { seq = k.seq; site = k.site; table = t }))) [
+  | table.User ↦ λ nick. nick
+  | table.Item ↦ λ nick. nick
+  | table.Bid ↦ λ nick. nick
+  | table.Purchase ↦ λ nick. nick
+  | table.Comment ↦ λ nick. nick
 ]
 
 -- the entries of the three maps

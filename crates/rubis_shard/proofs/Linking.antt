@@ -144,12 +144,6 @@ chain_at f [] i k row e = absurd cc
 chain_at f (x ∷ es) zero k row e = ap (option_map (λ y. chain_of (f y.0) y.1)) e
 chain_at f (x ∷ es) (suc i) k row e = chain_at f es i k row e
 
-pub linked_none : (cs : List (Option IdKey)) (c : Chains) → Links [] c → IsLinkedSoFar cs c
-linked_none cs c links = record {
-  many = omega (arith, links.many);
-  links = subst (λ n. Links (take n cs) c) (sym links.many) links;
-}
-
 pub linked_links : (cs : List (Option IdKey)) (n : ℕ) (c : Chains) → Links (take n cs) c → n ≤ length cs → IsLinkedSoFar cs c
 linked_links cs n c links few =
     let size : length c.before.items ≡ n = links.many ∙ length-take-le n cs few in

@@ -53,5 +53,4 @@ pub record IsChanged {K : Type 0} (same : K → K → Bool) (old new : List (K �
   pub row : Option Row
   pub changed : (change_row change (Some was)).row ≡ row
   pub told : (change_row change (Some was)).misfit ≡ fate.misfit
-  pub stays : fate.stays ≡ true → (value : Row) × (row ≡ Some value) × (new ≡ set_value (same key) old value)
   pub found : (q : K) → lookup (same q) new ≡ cond (same key q) row (lookup (same q) old)

@@ -137,14 +137,6 @@ impl Chains {
         self.before.len()
     }
 
-    /// Links no row any more.
-    pub fn clear(&mut self)
-        ensures { (cs : List _) → IsLinkedSoFar cs self.new }
-    {
-        self.last.clear();
-        self.before.clear();
-    }
-
     /// Links the rows after those that are linked. When out of memory, some of them may be linked.
     pub fn link(&mut self, rows: &IndexMap<IdKey, Row, KeyHashes>) -> Result<(), AllocError>
         requires { IsLinkedSoFar (chains_of (written row_key rows.now.entries)) self.old }

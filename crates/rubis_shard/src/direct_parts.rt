@@ -15,17 +15,17 @@ use rubis_shadow::{Change, Effect, NewBid, Numbered};
 
 // Folds part number `part` of an entry on, from 1, for which there is room.
 #[inline(always)]
-fn fold_part(store: &mut Store, entry: &LogEntry<'_>, part: u8, key: RowKey, change: Change)
+fn fold_part(store: &mut Store, entry: &LogEntry<'_>, part: u8, effect: Effect)
     requires { HasRoom store.old 1 }
     ensures folded { held_by store.new ≡ step (held_by store.old)
-        (record { entry = entry.now.number; part = part; id = entry.now.id; effect = record { key = key; change = change } }) }
+        (record { entry = entry.now.number; part = part; id = entry.now.id; effect = effect }) }
     ensures room { (n : ℕ) → HasRoom store.old (n + 1) → HasRoom store.new n }
 {
     store.fold(Numbered {
         entry: entry.number,
         part,
         id: entry.id,
-        effect: Effect { key, change },
+        effect,
     });
 }
 
@@ -46,20 +46,22 @@ impl<'a> MessageParts<'a> {
                 amount: bid.amount,
                 red: entry.red,
             });
-            fold_part(store, entry, 1, RowKey::Bid(entry.id), Change::Insert(row));
+            let effect = Effect {
+                key: RowKey::Bid(entry.id),
+                change: Change::Insert(row),
+            };
+            fold_part(store, entry, 1, effect);
         }
         if self.second == at {
             let best = Best {
                 bid: entry.id,
                 amount: bid.amount,
             };
-            fold_part(
-                store,
-                entry,
-                2,
-                RowKey::Item(bid.item),
-                Change::BidTaken(best),
-            );
+            let effect = Effect {
+                key: RowKey::Item(bid.item),
+                change: Change::BidTaken(best),
+            };
+            fold_part(store, entry, 2, effect);
         }
     }
 
@@ -73,22 +75,25 @@ impl<'a> MessageParts<'a> {
     {
         let entry = &self.entry;
         if self.first == at {
-            let row = Row::Purchase(*purchase);
-            fold_part(
-                store,
-                entry,
-                1,
-                RowKey::Purchase(entry.id),
-                Change::Insert(row),
-            );
+            let effect = Effect {
+                key: RowKey::Purchase(entry.id),
+                change: Change::Insert(Row::Purchase(*purchase)),
+            };
+            fold_part(store, entry, 1, effect);
         }
         if self.second == at {
-            let sold = Change::Sold(purchase.quantity);
-            fold_part(store, entry, 2, RowKey::Item(purchase.item), sold);
+            let effect = Effect {
+                key: RowKey::Item(purchase.item),
+                change: Change::Sold(purchase.quantity),
+            };
+            fold_part(store, entry, 2, effect);
         }
         if self.third == at {
-            let bought = Change::Bought(purchase.quantity);
-            fold_part(store, entry, 3, RowKey::User(purchase.buyer), bought);
+            let effect = Effect {
+                key: RowKey::User(purchase.buyer),
+                change: Change::Bought(purchase.quantity),
+            };
+            fold_part(store, entry, 3, effect);
         }
     }
 }

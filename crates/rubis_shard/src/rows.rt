@@ -10,7 +10,9 @@ ghost use Rattle.rubis_schema.specs.IdKeys.{same_id_key};
 ghost use Rattle.rubis_schema.specs.Keys.{key_eq};
 ghost use Rattle.rubis_schema.specs.declared.id_keys.IdKey.{IdKey};
 ghost use Rattle.rubis_schema.specs.declared.rows.Row.{Row};
-ghost use Rattle.rubis_shadow.specs.Changes.{after_part, misfit_of};
+ghost use Rattle.rubis_shadow.specs.Changes as model;
+ghost use Rattle.rubis_shadow.specs.Changes.{after_part, misfit_of, with_row};
+ghost use Rattle.rubis_shadow.specs.Freed.{FreesOnlyNicks};
 ghost use Rattle.rubis_shadow.specs.declared.changes.Change.TheVariants.{Insert};
 ghost use Rattle.rubis_shard.specs.Rows.{entries_of, kept_of, linked_of, no_row, tables_in, HasRoomForRows, IsAltered, IsChanged};
 
@@ -175,25 +177,19 @@ impl Rows {
         }
     }
 
-    // Does a change of a row, where the row is. Where one of the first map is removed, another takes its place, and no row
-    // stays linked; no shadow has such a part.
+    // Does a change of a row, where the row is. Only a nickname's row is ever removed, so that the rows with ids stay linked.
     #[inline(always)]
     fn change_row(&mut self, key: &RowKey, change: &Change) -> Option<MisfitKind>
-        requires { (row : Row) → change.now ≢ Insert row }
-        ensures tables { tables_in self.new ≡ after_part (tables_in self.old) (record { key = key.now; change = change.now }) }
-        ensures misfit { result ≡ misfit_of (tables_in self.old) (record { key = key.now; change = change.now }) }
+        requires insert { (row : Row) → change.now ≢ Insert row }
+        requires frees { FreesOnlyNicks key.now change.now }
+        ensures tables { tables_in self.new ≡ with_row (tables_in self.old) key.now (model.change_row change.now (map.get (tables_in self.old) key.now)).row }
+        ensures misfit { result ≡ (model.change_row change.now (map.get (tables_in self.old) key.now)).misfit }
         ensures room { (n : ℕ) → HasRoomForRows self.old n → HasRoomForRows self.new n }
     {
         match place_of(key) {
-            MapPlace::Kept(id) => {
-                let fate = change_in(&mut self.kept, &id, change);
-                if !fate.stays {
-                    self.chains.clear();
-                }
-                fate.misfit
-            }
+            MapPlace::Kept(id) => alter_in(&mut self.kept, &id, change).misfit,
             MapPlace::Nick(nick) => change_in(&mut self.nicks, &nick, change).misfit,
-            MapPlace::Cat(cat) => change_in(&mut self.cats, &cat, change).misfit,
+            MapPlace::Cat(cat) => alter_in(&mut self.cats, &cat, change).misfit,
         }
     }
 

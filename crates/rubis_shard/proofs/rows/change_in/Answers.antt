@@ -1,4 +1,4 @@
-use Rattle.std.proofs.Common.{◌≡◌, true, false, refl, sym, ◌∙◌}
+use Rattle.std.proofs.Common.{◌∙◌}
 use Rattle.std.specs.Prelude.{Some, None}
 use Rattle.rubis_shadow.proofs.Rows.{row_stays, row_goes}
 use Rattle.rubis_shard.proofs.Changed.{not_false, not_true, removed_found}
@@ -12,7 +12,6 @@ returns-then-not-fate-clause-some g c = λ was is.
       row = None;
       changed = h.changed ∙ row_goes _ h.row goes;
       told = h.told;
-      stays = λ yes. absurd (let wrong : true ≡ false = sym yes ∙ goes in cc);
       found = λ q. removed_found _ h.row _ _ _ (c.swap_remove.ensures.updates.0 q) (h.found q);
     }
 
@@ -23,6 +22,5 @@ returns-else-not-fate-clause-some g c = λ was is.
       row = Some h.row;
       changed = h.changed ∙ row_stays _ h.row (not_false _ c.if-not-fate.false);
       told = h.told;
-      stays = λ yes. (h.row, refl, h.entries);
       found = h.found;
     }
