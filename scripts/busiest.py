@@ -74,20 +74,20 @@ def threads_of(folder: pathlib.Path) -> list[tuple[int, int]]:
     return found
 
 
-def counted(program: str, settings: list[str], text: bytes) -> tuple[list[tuple[int, int]], bytes]:
+def counted(program: str, command: list[str], text: bytes) -> tuple[list[tuple[int, int]], bytes]:
     """The counts of each thread of a run over a file, and its answers."""
     with tempfile.TemporaryDirectory() as folder, tempfile.TemporaryFile() as records:
         records.write(text)
         records.seek(0)
         counter = ["valgrind", "-q", "--tool=callgrind", "--separate-threads=yes", *CACHES, f"--callgrind-out-file={folder}/counts"]
-        run = subprocess.run([*counter, program, *SITE, *settings], stdin=records, capture_output=True, check=True)
+        run = subprocess.run([*counter, program, *command], stdin=records, capture_output=True, check=True)
         return threads_of(pathlib.Path(folder)), run.stdout
 
 
 def main() -> int:
     text = messages(int(sys.argv[2]) if len(sys.argv) > 2 else 300_000)
-    one, alone = counted(sys.argv[1], ONE, text)
-    four, together = counted(sys.argv[1], FOUR, text)
+    one, alone = counted(sys.argv[1], [*SITE, *ONE], text)
+    four, together = counted(sys.argv[1], [*SITE, *FOUR], text)
     for place, what in ((1, "work"), (0, "instructions")):
         whole = sum(counts[place] for counts in one)
         shares = [counts[place] / whole for counts in four]

@@ -165,14 +165,22 @@ def count(programs: Programs) -> None:
 
 
 def busiest_threads(programs: Programs) -> None:
-    many = programs.size(300_000)
-    text = busiest.messages(many)
-    one, alone = busiest.counted(programs.rubis, busiest.ONE, text)
-    four, together = busiest.counted(programs.rubis, busiest.FOUR, text)
-    whole = sum(work for _, work in one)
-    shares = sorted((work / whole for _, work in four), reverse=True)
-    print(f"Of {many:,} messages in order, with four workers, batches of 8,192 and 16 shards, the busiest thread does {shares[0]:.2f}")
-    print(f"of the work of a run with one worker, and all together {sum(shares):.2f}{programs.same(alone, together)}.", flush=True)
+    """Writes what the busiest of four threads does of the work of a run with one worker, and of its instructions, and what all do."""
+    texts = [
+        ("messages in order", busiest.messages(programs.size(300_000)), busiest.SITE),
+        ("requests", workloads.requests(programs.size(100_000)).text, ["site"]),
+    ]
+    print("| records | work: busiest | all | instructions: busiest | all |\n|---|---|---|---|---|")
+    for name, text, command in texts:
+        one, alone = busiest.counted(programs.rubis, [*command, *busiest.ONE], text)
+        four, together = busiest.counted(programs.rubis, [*command, *busiest.FOUR], text)
+        lines = text.count(b"\n")
+        cells = [f"{lines:,}: {name}{programs.same(alone, together)}"]
+        for each in (1, 0):
+            whole = sum(counts[each] for counts in one)
+            shares = [counts[each] / whole for counts in four]
+            cells += [f"{max(shares):.2f}", f"{sum(shares):.2f}"]
+        print("| " + " | ".join(cells) + " |", flush=True)
 
 
 @dataclasses.dataclass
