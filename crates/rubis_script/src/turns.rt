@@ -4,7 +4,7 @@ ghost use Rattle.std.specs.Prelude.{◌≡◌, ◌<◌, ◌+◌, ◌^◌, ◌⊎
 ghost use Rattle.rubis_engine.specs.Accounts.Ending.{AtEnd};
 ghost use Rattle.rubis_engine.specs.Progress.{Drained, EndsInPrefix, FromStart, IsRun, WrotePrefix};
 ghost use Rattle.rubis_engine.specs.Reading.{Advances};
-ghost use Rattle.rubis_script.specs.Headline.{AnswersAll, AnswersFirst, AnswersSome, HasAnswered, HasMovedSite, OfEachSiteRun, OfRead, Settles, StandsAtSite};
+ghost use Rattle.rubis_script.specs.Headline.{AnswersAll, AnswersFirst, AnswersJust, HasAnswered, HasMovedSite, OfEachSiteRun, OfRead, Settles, StandsAtSite};
 ghost use Rattle.rubis_script.specs.SiteRuns.{told_by};
 ghost use Rattle.rubis_engine.specs.Text.{input_records, rows_text};
 ghost use Rattle.rubis_script.specs.Windows.{AreHeld, held_by};
@@ -62,7 +62,8 @@ fn next_or_end<G: Gate, T: Threads + Wait + Sync, R: Read, W: Write>(
         OfEachSiteRun R.remaining site_run.old.run desk.old.site site_run.old.window.items (W.contents writer.old) (λ first old input.
         AnswersAll site_run.old.run.answered first desk.new.site old (W.contents writer.new) (input_records input) count.records))) }
     ensures read { IsErrOf result RunFault.Read → OfEachSiteRun R.remaining site_run.old.run desk.old.site site_run.old.window.items (W.contents writer.old)
-        (λ first old input. AnswersSome first desk.new.site old (W.contents writer.new) (input_records input)) }
+        (λ first old input. AnswersJust site_run.old.run.answered first desk.new.site old (W.contents writer.new) (input_records input)) }
+    ensures count { site_run.new.run.answered ≡ site_run.old.run.answered }
     ensures memory { IsErrOf result RunFault.Memory → EndsInPrefix R.remaining site_run.old.run (held_by desk.old.site site_run.old.window.items)
         (W.contents writer.old) (W.contents writer.new) }
     ensures faults { IfErr result (λ e. (e ≡ RunFault.Read) ⊎ (e ≡ RunFault.Write) ⊎ (e ≡ RunFault.Memory)) }
@@ -120,8 +121,9 @@ fn take_next<G: Gate, T: Threads + Wait + Sync, R: Read, W: Write>(
     ensures goes { IfOk result (λ over. HasMovedSite R.remaining site_run.old.run site_run.new.run desk.old.site site_run.old.window.items
         desk.new.site site_run.new.window.items (W.contents writer.old) (W.contents writer.new) over) }
     ensures counted { IfOk result (λ over. IfNone over (site_run.new.run.answered ≡ site_run.old.run.answered + 1)) }
+    ensures cut { IsErrOf result RunFault.Read → site_run.new.run.answered ≡ site_run.old.run.answered }
     ensures read { IsErrOf result RunFault.Read → OfEachSiteRun R.remaining site_run.old.run desk.old.site site_run.old.window.items (W.contents writer.old)
-        (λ first old input. AnswersSome first desk.new.site old (W.contents writer.new) (input_records input)) }
+        (λ first old input. AnswersJust site_run.old.run.answered first desk.new.site old (W.contents writer.new) (input_records input)) }
     ensures memory { IsErrOf result RunFault.Memory → EndsInPrefix R.remaining site_run.old.run (held_by desk.old.site site_run.old.window.items)
         (W.contents writer.old) (W.contents writer.new) }
     ensures faults { IfErr result (λ e. (e ≡ RunFault.Read) ⊎ (e ≡ RunFault.Write) ⊎ (e ≡ RunFault.Memory)) }
@@ -155,8 +157,9 @@ fn stop_at<G: Gate, T: Threads + Wait + Sync, R: Read, W: Write>(
     ensures too_long { IsErrOf result RunFault.TooLong → OfEachSiteRun R.remaining site_run.old.run desk.old.site site_run.old.window.items
         (W.contents writer.old) (λ first old input.
         AnswersFirst site_run.old.run.answered first desk.new.site old (W.contents writer.new) (input_records input)) }
+    ensures cut { IsErrOf result RunFault.Read → site_run.new.run.answered ≡ site_run.old.run.answered }
     ensures read { IsErrOf result RunFault.Read → OfEachSiteRun R.remaining site_run.old.run desk.old.site site_run.old.window.items (W.contents writer.old)
-        (λ first old input. AnswersSome first desk.new.site old (W.contents writer.new) (input_records input)) }
+        (λ first old input. AnswersJust site_run.old.run.answered first desk.new.site old (W.contents writer.new) (input_records input)) }
     ensures memory { IsErrOf result RunFault.Memory → EndsInPrefix R.remaining site_run.old.run (held_by desk.old.site site_run.old.window.items)
         (W.contents writer.old) (W.contents writer.new) }
 {
@@ -182,7 +185,7 @@ fn serve<G: Gate, T: Threads + Wait + Sync, R: Read, W: Write>(
     ensures too_long { IsErrOf result RunFault.TooLong → FromStart R.remaining site_run.old.run (λ records.
         AnswersFirst limit desk.old.site desk.new.site (W.contents writer.old) (W.contents writer.new) records) }
     ensures read { IsErrOf result RunFault.Read → FromStart R.remaining site_run.old.run (λ records.
-        AnswersSome desk.old.site desk.new.site (W.contents writer.old) (W.contents writer.new) records) }
+        AnswersJust site_run.new.run.answered desk.old.site desk.new.site (W.contents writer.old) (W.contents writer.new) records) }
     ensures memory { IsErrOf result RunFault.Memory → FromStart R.remaining site_run.old.run (λ records.
         WrotePrefix ((told_by desk.old.site 1).text AtEnd) (W.contents writer.old) (W.contents writer.new) records) }
 {

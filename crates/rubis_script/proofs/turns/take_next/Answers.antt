@@ -9,6 +9,11 @@ returns-in-Some-clause-goes g c first old input p =
     let done = if_some _ c.in_ok-count.field-0 c.in-Some.count c.in_ok-count.ensures.done c.in-Some.is first old input p in
     (done.0, done.1, omega (arith, done.2))
 
+pub returns-in_err-count-clause-read : goal.returns-in_err-count-clause-read
+returns-in_err-count-clause-read g c e first old input p =
+    let read = handed_on c.from_residual.result c.in_err-count.field-0.0 fault.Read c.from_residual.ensures e in
+    c.in_err-count.ensures.read (rw read refl) first old input p
+
 pub take-requires-clause-held : goal.take-requires-clause-held
 take-requires-clause-held g c κs within =
     let same = if_none c.in_ok-count.field-0 c.in_ok-count.ensures.same c.in_default.is in
