@@ -79,10 +79,6 @@ AnswersFirst limit first new old now records = HasAnswered first new old now (ta
 abbrev pub AnswersJust : ℕ → SiteState → SiteState → Option (List ℕ) → Option (List ℕ) → List (List (List ℕ)) → Type 0
 AnswersJust n first new old now records = HasAnswered first new old now (take n records) × (n ≤ length records)
 
--- some first ones are
-abbrev pub AnswersSome : SiteState → SiteState → Option (List ℕ) → Option (List ℕ) → List (List (List ℕ)) → Type 0
-AnswersSome first new old now records = (k : ℕ) × HasAnswered first new old now (take k records)
-
 -- ---- a run that reads each record when those before it are answered
 
 -- it has come so far, from the state in which it began
