@@ -7,3 +7,4 @@ pub mod AheadFacts
 pub mod PartFacts
 pub mod RunFacts
 mod HeldFacts
+pub mod EndFacts

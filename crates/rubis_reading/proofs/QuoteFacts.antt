@@ -44,14 +44,14 @@ like-step s t c like =
       | inr both ↦ between-step s c both.0 ∙ sym (between-step t c both.1)
     ]
 
-like-between : (s t : State) → IsLike s t → IsBetween s → IsBetween t
+pub like-between : (s t : State) → IsLike s t → IsBetween s → IsBetween t
 like-between s t like h =
     elim like [
       | inl e ↦ subst IsBetween e h
       | inr both ↦ both.1
     ]
 
-like-back : (s t : State) → IsLike s t → IsLike t s
+pub like-back : (s t : State) → IsLike s t → IsLike t s
 like-back s t like =
     elim like [
       | inl e ↦ inl (sym e)
@@ -65,7 +65,7 @@ like-then s t u like more =
       | inr both ↦ inr (both.0, like-between t u more both.1)
     ]
 
-stands-like : (s t : State) (xs : List ℕ) → IsLike s t → IsLike (stands s xs) (stands t xs)
+pub stands-like : (s t : State) (xs : List ℕ) → IsLike s t → IsLike (stands s xs) (stands t xs)
 unfolding stands
 stands-like s t [] like = like
 stands-like s t (c ∷ xs) like = inl (ap (λ u. stands u xs) (like-step s t c like))
@@ -146,7 +146,7 @@ unfolding HasNoQuote
 no-quote-last [] c h = h.0
 no-quote-last (x ∷ front) c h = no-quote-last front c h.1
 
-no-quote-take : (k : ℕ) (xs : List ℕ) → HasNoQuote xs → HasNoQuote (take k xs)
+pub no-quote-take : (k : ℕ) (xs : List ℕ) → HasNoQuote xs → HasNoQuote (take k xs)
 unfolding HasNoQuote
 no-quote-take zero xs h = tt
 no-quote-take (suc k) [] h = tt
@@ -245,19 +245,19 @@ within-take (suc cut) zero xs h = absurd (omega (arith, h))
 within-take (suc cut) (suc room) [] h = absurd (omega (arith, h))
 within-take (suc cut) (suc room) (x ∷ xs) h = let more = within-take cut room xs (omega (arith, h)) in omega (arith, more)
 
-get-within : (i room : ℕ) (xs : List ℕ) → i < length (take room xs) → get_or (take room xs) i 0 ≡ get_or xs i 0
+pub get-within : (i room : ℕ) (xs : List ℕ) → i < length (take room xs) → get_or (take room xs) i 0 ≡ get_or xs i 0
 get-within i zero xs h = absurd (omega (arith, h))
 get-within i (suc room) [] h = absurd (omega (arith, h))
 get-within zero (suc room) (x ∷ xs) h = refl
 get-within (suc i) (suc room) (x ∷ xs) h = get-within i room xs (omega (arith, h))
 
-take-sum : (a b : ℕ) (xs : List ℕ) → take (a + b) xs ≡ take a xs ++ take b (drop a xs)
+pub take-sum : (a b : ℕ) (xs : List ℕ) → take (a + b) xs ≡ take a xs ++ take b (drop a xs)
 take-sum zero b xs = let e : 0 + b ≡ b = omega arith in rw e refl
 take-sum (suc a) zero [] = let e : suc a + 0 ≡ suc a = omega arith in rw e refl
 take-sum (suc a) (suc b) [] = let e : suc a + suc b ≡ suc (a + suc b) = omega arith in rw e refl
 take-sum (suc a) b (x ∷ xs) = let e : suc a + b ≡ suc (a + b) = omega arith in rw e (ap (λ t. x ∷ t) (take-sum a b xs))
 
-stands-append : (s : State) (xs ys : List ℕ) → stands s (xs ++ ys) ≡ stands (stands s xs) ys
+pub stands-append : (s : State) (xs ys : List ℕ) → stands s (xs ++ ys) ≡ stands (stands s xs) ys
 unfolding stands
 stands-append s [] ys = refl
 stands-append s (x ∷ xs) ys = stands-append (step default_config s x).0 xs ys

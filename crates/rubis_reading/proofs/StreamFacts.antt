@@ -95,16 +95,16 @@ neither-mark : (p q : Bool) → (p && false && q) ≡ false
 neither-mark true q = refl
 neither-mark false q = refl
 
-no-mark-third : (p q : Bool) → (p && q && false) ≡ false
+pub no-mark-third : (p q : Bool) → (p && q && false) ≡ false
 no-mark-third true true = refl
 no-mark-third true false = refl
 no-mark-third false q = refl
 
 -- no byte of a mark ends a line
-abbrev HasNoMark : ℕ → Type 0
+abbrev pub HasNoMark : ℕ → Type 0
 HasNoMark b = ((b == 239) ≡ false) × ((b == 187) ≡ false) × ((b == 191) ≡ false)
 
-no-mark : (b : ℕ) → IsLineEnd b → HasNoMark b
+pub no-mark : (b : ℕ) → IsLineEnd b → HasNoMark b
 no-mark b ends =
     elim ends [
       | inl e ↦ subst HasNoMark (sym e) (refl, refl, refl)

@@ -1,5 +1,5 @@
 -- Records that were read, one after the other, messages in lists of their own.
-use Rattle.std.specs.Prelude.{◌++◌, ◌∷◌, [], List, None, Option, Some}
+use Rattle.std.specs.Prelude.{◌++◌, ◌∷◌, ◌≤◌, ◌<◌, [], ⊤, ℕ, List, None, Option, Some, length}
 use Rattle.rubis_message.specs.Message.{Message}
 use Rattle.rubis_message.specs.declared.tokens.Packet.TheVariants.{Msg}
 use Rattle.rubis_reading.specs.declared.parsed.Parsed.{Parsed}
@@ -22,7 +22,31 @@ abbrev pub flat : List Stretch → List Parsed
 flat [] = []
 flat (r ∷ rest) = of_stretch r ++ flat rest
 
--- what the next has, if there is one
-abbrev pub of_next : Option Stretch → List Parsed
+-- the next, if there is one
+abbrev pub of_next : Option Stretch → List Stretch
 of_next None = []
-of_next (Some r) = of_stretch r
+of_next (Some r) = r ∷ []
+
+-- it is one record
+abbrev pub IsSingle : Stretch → Type 0
+IsSingle (Messages list) = ⊥
+IsSingle (One p) = ⊤
+
+-- each of them is
+abbrev pub AreSingle : List Stretch → Type 0
+AreSingle [] = ⊤
+AreSingle (r ∷ rest) = IsSingle r × AreSingle rest
+
+-- no more messages came together than a window has; a window of 0 sets no limit
+abbrev pub FitsWindow : ℕ → Stretch → Type 0
+FitsWindow window (Messages list) = 0 < window → length list.items ≤ window
+FitsWindow window (One p) = ⊤
+
+-- so it is with each of them
+abbrev pub FitWindow : ℕ → List Stretch → Type 0
+FitWindow window [] = ⊤
+FitWindow window (r ∷ rest) = FitsWindow window r × FitWindow window rest
+
+-- and with the messages that came last, which are still to be put behind
+abbrev pub HaveWindow : ℕ → List Stretch → List Message → Type 0
+HaveWindow window runs messages = FitWindow window runs × (0 < window → length messages ≤ window)

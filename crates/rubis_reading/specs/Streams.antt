@@ -75,3 +75,11 @@ pub record EndsFrom (s : State) (text : List ℕ) (n : ℕ) : Type 0 where
 -- the same state, or both where no record is begun: what follows is read alike
 abbrev pub IsLike : State → State → Type 0
 IsLike s t = (s ≡ t) ⊎ (IsBetween s × IsBetween t)
+
+-- no line ends later than after the first n of these bytes, so that no record is begun then
+abbrev pub NoEndAfter : State → List ℕ → ℕ → Type 0
+NoEndAfter s text n = (k : ℕ) → n < k → EndsFrom s text k → ⊥
+
+-- no more than the first n of these bytes are whole records
+abbrev pub NoWholeAfter : List ℕ → ℕ → Type 0
+NoWholeAfter text n = (k : ℕ) → n < k → k ≤ length text → IsWhole (take k text) → ⊥

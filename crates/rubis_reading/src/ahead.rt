@@ -2,7 +2,7 @@
 
 ghost use Rattle.std.specs.Prelude.{◌≡◌, ◌++◌, ◌∷◌, [], length, IfNone, IfOk, IfSome, OnOk};
 ghost use Rattle.std.specs.Vec.Iter.{into_iter_items};
-ghost use Rattle.rubis_reading.specs.Runs.{all_came, flat, of_next, of_stretch};
+ghost use Rattle.rubis_reading.specs.Runs.{AreSingle, all_came, flat, of_next, of_stretch};
 
 use crate::parsed::{Parsed, Stretch, push_stretch};
 use rubis_engine::OutOfMemory;
@@ -38,7 +38,9 @@ fn count_stretches(list: &[Stretch]) -> Option<usize>
 
 // Puts the records of a run behind, one by one.
 fn add_singles(list: &mut Vec<Stretch>, run: Stretch) -> Result<(), OutOfMemory>
-    ensures { OnOk result (flat list.new.items ≡ flat list.old.items ++ of_stretch run) }
+    requires { AreSingle list.old.items }
+    ensures same { OnOk result (flat list.new.items ≡ flat list.old.items ++ of_stretch run) }
+    ensures single { OnOk result (AreSingle list.new.items) }
 {
     let messages = match run {
         Stretch::One(parsed) => return push_stretch(list, Stretch::One(parsed)),
@@ -56,7 +58,9 @@ fn add_singles(list: &mut Vec<Stretch>, run: Stretch) -> Result<(), OutOfMemory>
 
 // Puts the records of several runs behind, one by one.
 fn add_all_singles(list: &mut Vec<Stretch>, mut rest: IntoIter<Stretch>) -> Result<(), OutOfMemory>
-    ensures { OnOk result (flat list.new.items ≡ flat list.old.items ++ flat (into_iter_items rest)) }
+    requires { AreSingle list.old.items }
+    ensures same { OnOk result (flat list.new.items ≡ flat list.old.items ++ flat (into_iter_items rest)) }
+    ensures single { OnOk result (AreSingle list.new.items) }
 {
     'runs: for _ in 0..u64::MAX {
         let Some(run) = rest.next() else {
@@ -67,7 +71,7 @@ fn add_all_singles(list: &mut Vec<Stretch>, mut rest: IntoIter<Stretch>) -> Resu
     Err(OutOfMemory)
 }
 
-/// Records that were read, in order. Contracts see those that are left.
+/// Records that were read, in order, messages that came together in one run. Contracts see the runs that are left.
 #[derive(Drop)]
 pub struct Ahead {
     rest: IntoIter<Stretch>,
@@ -79,12 +83,11 @@ pub struct Ahead {
 impl Model for Ahead {
     ghost use Rattle.std.specs.Prelude.{List};
     ghost use Rattle.std.specs.Vec.Iter.{into_iter_items};
-    ghost use Rattle.rubis_reading.specs.Runs.{flat};
-    ghost use Rattle.rubis_reading.specs.declared.parsed.Parsed.{Parsed};
+    ghost use Rattle.rubis_reading.specs.declared.parsed.Stretch.{Stretch};
 
-    ghost Value = { List Parsed };
+    ghost Value = { List Stretch };
 
-    ghost view = { λ a. flat (into_iter_items a.rest) };
+    ghost view = { λ a. into_iter_items a.rest };
 }
 
 impl Ahead {
@@ -104,7 +107,7 @@ impl Ahead {
     ///
     /// Where they have more records than a number can tell.
     pub fn of(list: Vec<Stretch>) -> Result<Ahead, OutOfMemory>
-        ensures { IfOk result (λ ahead. ahead ≡ flat list.items) }
+        ensures { IfOk result (λ ahead. ahead ≡ list.items) }
     {
         let Some(many) = count_stretches(list.as_slice()) else {
             return Err(OutOfMemory);
@@ -117,7 +120,7 @@ impl Ahead {
 
     /// How many are left.
     pub fn len(&self) -> usize
-        ensures { result ≡ length self.now }
+        ensures { result ≡ length (flat self.now) }
     {
         self.many
     }
@@ -136,7 +139,8 @@ impl Ahead {
 
     /// The same records, one by one.
     pub fn singles(self, alloc: Global) -> Result<Ahead, OutOfMemory>
-        ensures { IfOk result (λ ahead. ahead ≡ self) }
+        ensures same { IfOk result (λ ahead. flat ahead ≡ flat self) }
+        ensures single { IfOk result (λ ahead. AreSingle ahead) }
     {
         let Ahead { rest, many } = self;
         let mut list = Vec::new(alloc);

@@ -1,7 +1,7 @@
 //! A source of chunks of text, each of whole records, over a reader.
 
 ghost use Rattle.std.specs.Prelude.{◌≡◌, ◌≤◌, ◌<◌, ◌-◌, drop, false, length, take, List, ℕ, IfSome, IfOk, OnOk};
-ghost use Rattle.rubis_reading.specs.Streams.{IsWhole};
+ghost use Rattle.rubis_reading.specs.Streams.{IsWhole, NoWholeAfter};
 ghost use Rattle.rubis_engine.specs.Text.{input_records};
 ghost use Rattle.rubis_reading.specs.Chunked.{HasPending, KeepsPending, TakesOff, held_text, pending_text};
 
@@ -55,6 +55,7 @@ impl<R: Read> Chunks<R> {
     pub fn whole(&self, most: usize) -> usize
         ensures within { result ≤ length (held_text self.now) }
         ensures whole { 0 < result → IsWhole (take result (held_text self.now)) }
+        ensures none { result ≤ 1 → NoWholeAfter (held_text self.now) 1 }
     {
         let held = self.held();
         let front = whole_end(&held[..most.min(held.len())]);

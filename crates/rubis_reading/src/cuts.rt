@@ -5,7 +5,7 @@ ghost use Rattle.std.specs.Prelude.{◌≡◌, ◌≤◌, ◌<◌, IfNone, IfSom
 ghost use Rattle.csv.specs.Reading.{strip_bom};
 ghost use Rattle.csv.specs.declared.parser.State.TheVariants as st;
 ghost use Rattle.rubis_reading.specs.Standings.{state_of};
-ghost use Rattle.rubis_reading.specs.Streams.{EndsFrom, HasNoQuote, IsLike, IsOutside, IsWhole, stands};
+ghost use Rattle.rubis_reading.specs.Streams.{EndsFrom, HasNoQuote, IsLike, IsOutside, IsWhole, NoEndAfter, NoWholeAfter, stands};
 
 use crate::standing::{Standing, after, in_field};
 use memchr::{memchr, memrchr2};
@@ -31,6 +31,7 @@ fn last_line(at: Standing, run: &[u8]) -> usize
     requires { HasNoQuote run.now }
     ensures within { result ≤ length run.now }
     ensures ends { 0 < result → EndsFrom (state_of at) run.now result }
+    ensures last { NoEndAfter (state_of at) run.now result }
 {
     if is_quoted(at) {
         return 0;
@@ -57,12 +58,13 @@ fn over(at: Standing, run: &[u8]) -> Standing
 
 // The end of the last line after which no record is begun, quoted or not: between two quotes only lines and fields end.
 fn records_end(text: &[u8]) -> usize
-    ensures { 0 < result → EndsFrom st.StartRecord text.now result }
+    ensures ends { 0 < result → EndsFrom st.StartRecord text.now result }
+    ensures last { NoEndAfter st.StartRecord text.now result }
 {
     let mut at = Standing::Start;
     let mut place = 0;
     let mut end = 0;
-    'quotes: for _ in 0..u64::MAX {
+    'quotes: for _passed in 0..u64::MAX {
         let (_, rest) = text.split_at(place);
         let Some(quote) = before_quote(rest) else {
             let line = last_line(at, rest);
@@ -91,10 +93,12 @@ fn mark_len(text: &[u8]) -> usize
     }
 }
 
-/// How many of the first bytes are whole records whose last ends with a line feed or a carriage return: 0 where none are.
+/// How many of the first bytes are whole records whose last ends with a line feed or a carriage return, as many as there are: 0
+/// where none are.
 pub fn whole_end(text: &[u8]) -> usize
     ensures within { result ≤ length text.now }
     ensures whole { 0 < result → IsWhole (take result text.now) }
+    ensures last { NoWholeAfter text.now result }
 {
     let mark = mark_len(text);
     let (_, rest) = text.split_at(mark);

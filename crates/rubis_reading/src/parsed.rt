@@ -1,11 +1,11 @@
 //! What the records of a piece of text are.
 
-ghost use Rattle.std.specs.Prelude.{◌≡◌, ◌≤◌, ◌++◌, ◌∷◌, [], None, List, ℕ, IfOk, OnOk};
+ghost use Rattle.std.specs.Prelude.{◌≡◌, ◌≤◌, ◌<◌, ◌++◌, ◌∷◌, [], None, List, ℕ, IfOk, OnOk, length};
 ghost use Rattle.rubis_engine.specs.Reading.{Gives};
 ghost use Rattle.rubis_engine.specs.Text.{input_records};
 ghost use Rattle.rubis_message.specs.Readings.{packet_of};
 ghost use Rattle.rubis_reading.specs.Parsed.{AreParsed, IsParsed};
-ghost use Rattle.rubis_reading.specs.Runs.{all_came, flat, of_stretch};
+ghost use Rattle.rubis_reading.specs.Runs.{FitWindow, HaveWindow, all_came, flat, of_stretch};
 ghost use Rattle.rubis_message.specs.declared.tokens.Packet.TheVariants.{Msg};
 ghost use Rattle.rubis_reading.specs.declared.parsed.Parsed.TheVariants.{Came};
 
@@ -64,7 +64,8 @@ pub fn read_record(alloc: Global, fields: &InputRecord, sites: u8) -> Result<Par
 /// Puts a run behind.
 #[tactic(auto, using(crate::proofs::RunFacts::run_facts))]
 pub(crate) fn push_stretch(list: &mut Vec<Stretch>, run: Stretch) -> Result<(), OutOfMemory>
-    ensures { OnOk result (flat list.new.items ≡ flat list.old.items ++ of_stretch run) }
+    ensures records { OnOk result (flat list.new.items ≡ flat list.old.items ++ of_stretch run) }
+    ensures last { OnOk result (list.new.items ≡ list.old.items ++ run ∷ []) }
 {
     match list.push(run) {
         Ok(()) => Ok(()),
@@ -75,7 +76,8 @@ pub(crate) fn push_stretch(list: &mut Vec<Stretch>, run: Stretch) -> Result<(), 
 // Puts a message to those that came together.
 #[tactic(auto, using(crate::proofs::RunFacts::came_facts))]
 fn push_message(messages: &mut Vec<Message>, message: Message) -> Result<(), OutOfMemory>
-    ensures { OnOk result (all_came messages.new.items ≡ all_came messages.old.items ++ Came (Msg message) ∷ []) }
+    ensures records { OnOk result (all_came messages.new.items ≡ all_came messages.old.items ++ Came (Msg message) ∷ []) }
+    ensures last { OnOk result (messages.new.items ≡ messages.old.items ++ message ∷ []) }
 {
     match messages.push(message) {
         Ok(()) => Ok(()),
@@ -86,7 +88,8 @@ fn push_message(messages: &mut Vec<Message>, message: Message) -> Result<(), Out
 // Puts the messages behind that came together, if there are any.
 #[inline(always)]
 fn keep_messages(list: &mut Vec<Stretch>, messages: Vec<Message>) -> Result<(), OutOfMemory>
-    ensures { OnOk result (flat list.new.items ≡ flat list.old.items ++ all_came messages.items) }
+    ensures records { OnOk result (flat list.new.items ≡ flat list.old.items ++ all_came messages.items) }
+    ensures window { OnOk result ((window : ℕ) → HaveWindow window list.old.items messages.items → FitWindow window list.new.items) }
 {
     if messages.is_empty() {
         return Ok(());
@@ -100,7 +103,8 @@ fn keep_one(
     messages: Vec<Message>,
     parsed: Parsed,
 ) -> Result<(), OutOfMemory>
-    ensures { OnOk result (flat list.new.items ≡ (flat list.old.items ++ all_came messages.items) ++ parsed ∷ []) }
+    ensures records { OnOk result (flat list.new.items ≡ (flat list.old.items ++ all_came messages.items) ++ parsed ∷ []) }
+    ensures window { OnOk result ((window : ℕ) → HaveWindow window list.old.items messages.items → FitWindow window list.new.items) }
 {
     keep_messages(list, messages)?;
     push_stretch(list, Stretch::One(parsed))
@@ -115,8 +119,10 @@ fn keep_message(
     window: usize,
     message: Message,
 ) -> Result<(), OutOfMemory>
-    ensures { OnOk result (flat list.new.items ++ all_came messages.new.items ≡ (flat list.old.items ++ all_came messages.old.items) ++ Came
+    requires window { HaveWindow window list.old.items messages.old.items }
+    ensures records { OnOk result (flat list.new.items ++ all_came messages.new.items ≡ (flat list.old.items ++ all_came messages.old.items) ++ Came
         (Msg message) ∷ []) }
+    ensures window { OnOk result (HaveWindow window list.new.items messages.new.items) }
 {
     if messages.len() >= window {
         let full = mem::replace(messages, Vec::new(alloc));
@@ -134,7 +140,9 @@ fn keep(
     window: usize,
     parsed: Parsed,
 ) -> Result<(), OutOfMemory>
-    ensures { OnOk result (flat list.new.items ++ all_came messages.new.items ≡ (flat list.old.items ++ all_came messages.old.items) ++ parsed ∷ []) }
+    requires window { HaveWindow window list.old.items messages.old.items }
+    ensures records { OnOk result (flat list.new.items ++ all_came messages.new.items ≡ (flat list.old.items ++ all_came messages.old.items) ++ parsed ∷ []) }
+    ensures window { OnOk result (HaveWindow window list.new.items messages.new.items) }
 {
     match parsed {
         Parsed::Came(Packet::Msg(message)) => keep_message(alloc, list, messages, window, message),
@@ -171,8 +179,9 @@ fn read_all<R: Read>(
     requires few { sites ≤ 16 }
     requires none { list.old.items ≡ [] }
     requires no_messages { messages.old.items ≡ [] }
-    ensures { OnOk result ((rows : List (List (List ℕ))) → Gives R.remaining records.old rows
+    ensures parsed { OnOk result ((rows : List (List (List ℕ))) → Gives R.remaining records.old rows
         → AreParsed sites rows (flat list.new.items ++ all_came messages.new.items)) }
+    ensures window { OnOk result (HaveWindow window list.new.items messages.new.items) }
 {
     'steps: for _ in 0..u64::MAX {
         let Ok(found) = records.advance() else {
@@ -187,7 +196,8 @@ fn read_all<R: Read>(
     Err(OutOfMemory)
 }
 
-/// What the records of a piece of text are, in order. At most `window` messages that come one after the other are one run.
+/// What the records of a piece of text are, in order. At most `window` messages that come one after the other are one run, or
+/// one message where `window` is 0.
 pub fn read_piece(
     alloc: Global,
     piece: &[u8],
@@ -195,7 +205,8 @@ pub fn read_piece(
     window: usize,
 ) -> Result<Vec<Stretch>, OutOfMemory>
     requires { sites ≤ 16 }
-    ensures { IfOk result (λ list. AreParsed sites (input_records piece.now) (flat list.items)) }
+    ensures parsed { IfOk result (λ list. AreParsed sites (input_records piece.now) (flat list.items)) }
+    ensures window { IfOk result (λ list. FitWindow window list.items) }
 {
     let mut list = Vec::new(alloc);
     let room = (piece.len() / SHORT).min(window).min(ROOM_MAX);

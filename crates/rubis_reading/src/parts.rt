@@ -4,7 +4,7 @@ ghost use Rattle.std.specs.Prelude.{◌≡◌, ◌≤◌, ◌++◌, IfOk};
 ghost use Rattle.std.specs.Thread.{IsSync};
 ghost use Rattle.rubis_engine.specs.Text.{input_records};
 ghost use Rattle.rubis_reading.specs.Parsed.{AreParsed};
-ghost use Rattle.rubis_reading.specs.Runs.{flat};
+ghost use Rattle.rubis_reading.specs.Runs.{FitWindow, flat};
 
 use crate::cuts::whole_end;
 use crate::parsed::{Stretch, read_piece};
@@ -24,7 +24,8 @@ fn both(mut front: Vec<Stretch>, mut rest: Vec<Stretch>) -> Result<Vec<Stretch>,
 }
 
 /// What the records of a piece of text are, in order, read by at most `readers` threads, the caller's included: each reads whole
-/// records, and as much of the text as the others. At most `window` messages that come one after the other are one run.
+/// records, and as much of the text as the others. At most `window` messages that come one after the other are one run, or one
+/// message where `window` is 0.
 pub fn read_parts<T: Threads + Sync>(
     rt: &T,
     alloc: Global,
@@ -34,7 +35,8 @@ pub fn read_parts<T: Threads + Sync>(
     window: usize,
 ) -> Result<Vec<Stretch>, OutOfMemory>
     requires { sites ≤ 16 }
-    ensures { IfOk result (λ list. AreParsed sites (input_records piece.now) (flat list.items)) }
+    ensures parsed { IfOk result (λ list. AreParsed sites (input_records piece.now) (flat list.items)) }
+    ensures window { IfOk result (λ list. FitWindow window list.items) }
 {
     if readers < 2 {
         return read_piece(alloc, piece, sites, window);
@@ -51,11 +53,11 @@ pub fn read_parts<T: Threads + Sync>(
         rt,
         move || -> Result<Vec<Stretch>, OutOfMemory>
             requires { sites ≤ 16 }
-            ensures { IfOk result (λ list. AreParsed sites (input_records front.entry.now) (flat list.items)) }
+            ensures { IfOk result (λ list. AreParsed sites (input_records front.entry.now) (flat list.items) × FitWindow window list.items) }
         { read_piece(alloc, front, sites, window) },
         move || -> Result<Vec<Stretch>, OutOfMemory>
             requires { IsSync T.row × (sites ≤ 16) }
-            ensures { IfOk result (λ list. AreParsed sites (input_records rest.entry.now) (flat list.items)) }
+            ensures { IfOk result (λ list. AreParsed sites (input_records rest.entry.now) (flat list.items) × FitWindow window list.items) }
         { read_parts(rt, alloc, rest, sites, fewer, window) },
     );
     both(first?, others?)

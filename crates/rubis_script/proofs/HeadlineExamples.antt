@@ -19,7 +19,7 @@ use Rattle.rubis_engine.specs.Text.{input_records, rows_text}
 use Rattle.rubis_engine.specs.declared.fault.Count.{Count}
 use Rattle.rubis_engine.specs.declared.fault.RunFault.TheVariants as fault
 use Rattle.rubis_engine.proofs.ReadBack.{HaveFields, HasNoMark, no_mark, rows_back}
-use Rattle.rubis_script.specs.Headline.{HasAnswered, HasReadJust, OfRead, StandsAsProcess, WritesAsProcess}
+use Rattle.rubis_script.specs.Headline.{AnswersJust, HasAnswered, HasReadJust, OfRead, StandsAsProcess, WritesAsProcess}
 use Rattle.rubis_script.proofs.LeadFacts.{stands_as, writes_as}
 use Rattle.rubis_script.proofs.OneReading.{asked, came}
 
@@ -67,6 +67,9 @@ token_is =
 pass_is : input_of 2 passes_back ≡ Asked (request.Pass 0)
 unfolding passes_back
 pass_is = asked 2 passes_back (request.Pass 0) ((request_is 2 (omega arith) passes_back (request.Pass 0)).1 (omega arith, refl))
+
+first_led : site_after there (opening_at 1) 1 (token_comes ∷ []) ≡ holding.state
+first_led = λ i. (input_step there (opening_at 1) 1 (token_is i)).0
 
 both_led : site_after there (opening_at 1) 1 both ≡ ended.state
 both_led = λ i. (input_step there (input_step there (opening_at 1) 1 (token_is i)).0 2 (pass_is i)).0
@@ -116,6 +119,16 @@ fewer_kept_has_not before after h = let kept = ap (λ (p : Place). p.keep) h.1.0
 -- nor where only the first record was answered
 first_alone_has_not : HasAnswered opened ended (Some []) (Some (rows_text first_rows)) both → ⊥
 first_alone_has_not h = first_is_not_all (h.0 ∙ ap rows_text both_told)
+
+-- just both records are answered, and not the first alone, nor three
+just_both : AnswersJust 2 opened ended (Some []) (Some (rows_text all_rows)) both
+just_both = (both_answered, omega arith)
+
+not_just_one : (before after : Option (List ℕ)) → AnswersJust 1 opened ended before after both → ⊥
+not_just_one before after h = true≢false (sym (ap (λ (s : Replica). is_some s.held) (h.0.1.1 ∙ first_led)))
+
+not_three : (before after : Option (List ℕ)) → AnswersJust 3 opened ended before after both → ⊥
+not_three before after h = absurd (omega (arith, h.1))
 
 -- ---- in the words of processes
 

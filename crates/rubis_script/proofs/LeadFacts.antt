@@ -17,7 +17,7 @@ use Rattle.rubis_engine.specs.Text.{input_records, rows_text}
 use Rattle.rubis_engine.specs.declared.fault.Count.{Count}
 use Rattle.rubis_engine.specs.declared.fault.RunFault.{RunFault}
 use Rattle.rubis_engine.specs.declared.fault.RunFault.TheVariants as fault
-use Rattle.rubis_script.specs.Headline.{AnswersAll, AnswersFirst, AnswersSome, HasAnswered, HasLed, Lead, OfRead, Settles, StandsAsProcess, StepsOn, WritesAsProcess}
+use Rattle.rubis_script.specs.Headline.{AnswersAll, AnswersFirst, HasAnswered, HasLed, Lead, OfRead, Settles, StandsAsProcess, StepsOn, WritesAsProcess}
 use Rattle.rubis_script.specs.SiteRuns.{told_by}
 
 -- ---- messages that are held
@@ -30,6 +30,12 @@ after_more p s (x ∷ ms) m = after_more p (arrived p s x).0 ms m
 pub held_steps : (s : SiteState) (n : ℕ) (w : List Message) (m : Message) (input : Input) → input ≡ Came (Msg m) → StepsOn n input s w s (w ++ m ∷ [])
 held_steps s n w m input is =
     (refl, after_more s.place s.state w m ∙ ap (λ i. (input_step s.place (after_all s.place s.state w) n i).0) (sym is))
+
+-- those that are held are settled, and then one more is held
+pub settled_steps : (old mid : SiteState) (n : ℕ) (w w1 w2 : List Message) (m : Message) → Settles old w mid w1 → w2 ≡ w1 ++ m ∷ []
+    → StepsOn n (Came (Msg m)) old w mid w2
+settled_steps old mid n w w1 w2 m (place, settled) items =
+    (place, ap (after_all mid.place mid.state) items ∙ after_more mid.place mid.state w1 m ∙ (λ i. (input_step (place i) (settled i) n (Came (Msg m))).0))
 
 -- all of them were taken in
 pub taken_all : (p : Place) (old new : Replica) (window rest : List Message) (told : List _) → TakesFirst p old new window told rest → rest ≡ []
@@ -109,7 +115,7 @@ led_all first s w answered records taken none same h =
 abbrev pub SiteEnds : ℕ → SiteState → SiteState → Option (List ℕ) → Option (List ℕ) → List (List (List ℕ)) → Result Count RunFault → Type 0
 SiteEnds limit first new old now records (Ok count) = AnswersAll limit first new old now records count.records
 SiteEnds limit first new old now records (Err fault.TooLong) = AnswersFirst limit first new old now records
-SiteEnds limit first new old now records (Err fault.Read) = AnswersSome first new old now records
+SiteEnds limit first new old now records (Err fault.Read) = (k : ℕ) × HasAnswered first new old now (take k records)
 SiteEnds limit first new old now records (Err fault.Memory) = WrotePrefix ((told_by first 1).text AtEnd) old now records
 SiteEnds limit first new old now records (Err fault.Write) = ⊤
 

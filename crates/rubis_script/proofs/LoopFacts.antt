@@ -1,9 +1,9 @@
 -- What a desk that holds nothing has still to write, how many records are answered, and where they lead.
 use Rattle.std.proofs.Common.{◌++◌, ◌∷◌, ◌∙◌, zero, suc, append-nil, append_assoc, length-append, ◌≡◌, ◌≤◌, ◌<◌, ◌+◌, ◌⊎◌, inl, inr, [], ℕ, All, List, Option, arith, length, refl, subst, sym, ap, take}
 use Rattle.std.specs.Io.KnownBytes.{Appends}
-use Rattle.rubis_script.specs.Headline.{AnswersAll, AnswersFirst, AnswersSome, Settles, StepsOn}
+use Rattle.rubis_script.specs.Headline.{AnswersAll, AnswersFirst, AnswersJust, Settles, StepsOn}
 use Rattle.rubis_script.specs.SiteRuns.{told_by}
-use Rattle.rubis_script.specs.Windows.{AreHeld, held_by}
+use Rattle.rubis_script.specs.Windows.{AreHeld, FitPlan, held_by}
 use Rattle.rubis_script.proofs.LeadFacts.{SiteEnds, held_steps, led_all, led_kept, led_more, led_none, take_all, take_at}
 use Rattle.rubis_script.proofs.WindowFacts.{held_none, holds_more}
 use Rattle.rubis_engine.specs.Accounts.{AnswersRecord, Ending, Keeps}
@@ -11,13 +11,15 @@ use Rattle.rubis_engine.specs.declared.service.Course.TheVariants.{GoesOn}
 use Rattle.rubis_message.specs.Message.{Message, sites_of}
 use Rattle.rubis_message.specs.declared.tokens.Packet.TheVariants.{Msg}
 use Rattle.rubis_model.specs.Site.{Place}
-use Rattle.rubis_reading.specs.Runs.{all_came}
+use Rattle.rubis_reading.specs.Runs.{AreSingle, FitWindow, all_came, flat}
+use Rattle.rubis_reading.specs.declared.parsed.Stretch.{Stretch}
 use Rattle.rubis_reading.specs.declared.parsed.Parsed.TheVariants.{Came}
 use Rattle.rubis_model.specs.Runs.{answers, input_of}
 use Rattle.rubis_engine.specs.Text.{input_records}
 use Rattle.rubis_reading.specs.Chunked.{HasPending}
 use Rattle.rubis_reading.specs.declared.chunks.Chunks.{Chunks}
 use Rattle.rubis_reading.specs.Parsed.{AreParsed, FitsIn, meant}
+use Rattle.rubis_reading.proofs.RunFacts.{window-singles}
 use Rattle.rubis_reading.proofs.AheadFacts.{ahead-answered, ahead-done, ahead-kept, ahead-prefix, ahead-read, ahead-starts, ahead-too_long, ahead-written, all-fit}
 use Rattle.rubis_reading.specs.declared.parsed.Parsed.{Parsed}
 use Rattle.rubis_replica.specs.State.{SiteState}
@@ -29,6 +31,7 @@ use Rattle.rubis_engine.specs.declared.fault.RunFault.TheVariants as fault
 use Rattle.rubis_script.specs.Runs.{HasReadAhead, IsSound, OfEachAhead, Stands, StandsWith}
 use Rattle.std.specs.Prelude.{IfOk, IfSome, OnOk, IsErrOf, Result, Ok, Err, Some, None}
 use Rattle.rubis_script.specs.declared.backlog.Backlog.{Backlog}
+use Rattle.rubis_script.specs.declared.plan.Plan.{Plan}
 
 -- where nothing is held, nothing is left to be written after the last record
 pub held-end : (s : SiteState) (window : List Message) (n : ℕ) (ending : Ending) → window ≡ [] → (held_by s window n).text ending [] ≡ []
@@ -38,20 +41,44 @@ held-end s window n ending none = rw none refl
 pub held-told : (s : SiteState) (window : List Message) (n : ℕ) → window ≡ [] → n ≡ 1 → held_by s window n ≡ told_by s 1
 held-told s window n none one = rw (none, one) refl
 
-pub fits-none : (sites : ℕ) (ahead : List Parsed) → ahead ≡ [] → All (λ p. FitsIn sites p) ahead
-fits-none sites ahead none = subst (λ l. All (λ p. FitsIn sites p) l) (sym none) (λ k d lt. absurd (omega (arith, lt)))
+fits-none : (sites : ℕ) (ahead : List Stretch) → ahead ≡ [] → All (λ p. FitsIn sites p) (flat ahead)
+fits-none sites ahead none = subst (λ l. All (λ p. FitsIn sites p) (flat l)) (sym none) (λ k d lt. absurd (omega (arith, lt)))
 
 -- nothing is held, and nothing was read ahead
-pub sound-none : (s : SiteState) (b : Backlog) → b.ahead ≡ [] → b.window.items ≡ [] → IsSound s b
-sound-none s b ahead window = record { held = held_none s.place b.window.items b.answered window; fits = fits-none s.place.sites b.ahead ahead }
+pub sound-none : (s : SiteState) (plan : Plan) (b : Backlog) → b.ahead ≡ [] → b.window.items ≡ [] → IsSound s plan b
+sound-none s plan b ahead window = record {
+  held = held_none s.place b.window.items b.answered window;
+  few = let none = ap length window in omega (arith, none);
+  fits = fits-none s.place.sites b.ahead ahead;
+  windows = subst (λ l. FitWindow plan.window l) (sym ahead) tt;
+}
+
+-- it is of another site in the same place, with the same plan
+pub sound-same : (s s2 : SiteState) (plan plan2 : Plan) (b : Backlog) → s2.place ≡ s.place → plan2 ≡ plan → IsSound s plan b → IsSound s2 plan2 b
+sound-same s s2 plan plan2 b place same h = record {
+  held = subst (λ p. AreHeld p b.window.items b.answered) (sym place) h.held;
+  few = subst (λ p. FitPlan p b.window.items) (sym same) h.few;
+  fits = subst (λ p. All (λ x. FitsIn p.sites x) (flat b.ahead)) (sym place) h.fits;
+  windows = subst (λ p. FitWindow p.window b.ahead) (sym same) h.windows;
+}
+
+-- what was read ahead is taken apart
+pub sound-single : (s : SiteState) (plan : Plan) (b b2 : Backlog) → flat b2.ahead ≡ flat b.ahead → AreSingle b2.ahead → b2.window.items ≡ b.window.items → b2.answered ≡ b.answered
+    → IsSound s plan b → IsSound s plan b2
+sound-single s plan b b2 ahead single window count h = record {
+  held = subst (λ k. AreHeld s.place b2.window.items k) (sym count) (subst (λ w. AreHeld s.place w b.answered) (sym window) h.held);
+  few = subst (λ w. FitPlan plan w) (sym window) h.few;
+  fits = subst (λ l. All (λ x. FitsIn s.place.sites x) l) (sym ahead) h.fits;
+  windows = window-singles plan.window b2.ahead single;
+}
 
 -- as many were answered as were to be, and there are more
-pub stop-count : (before after left many : ℕ) (ahead : List Parsed) → (after ≡ before + left) ⊎ (ahead ≡ []) → after + length ahead ≡ before + many → left < many → after ≤ before + left
-    → (after ≡ before + left) × (0 < length ahead)
+pub stop-count : (before after left many : ℕ) (ahead : List Stretch) → (after ≡ before + left) ⊎ (ahead ≡ []) → after + length (flat ahead) ≡ before + many → left < many
+    → after ≤ before + left → (after ≡ before + left) × (0 < length (flat ahead))
 stop-count before after left many ahead stop count more within =
     elim stop [
       | inl e ↦ (e, omega (arith, e, count, more))
-      | inr none ↦ let zero : length ahead ≡ 0 = ap length none in absurd (omega (arith, zero, count, more, within))
+      | inr none ↦ let zero : length (flat ahead) ≡ 0 = ap (λ l. length (flat l)) none in absurd (omega (arith, zero, count, more, within))
     ]
 
 -- what a list was read from, as its reader and its owner name them
@@ -75,7 +102,7 @@ pub starts : {R : Type 0} (rem : R → Option (List ℕ)) (chunks : Chunks R) (s
 starts rem chunks s b old input ahead window sink none pending = record {
   later = input_records input;
   stands = record {
-    text = ahead-starts s.place.sites b.ahead (told_by s 1) (held_by s b.window.items (b.answered + 1)) old b.reply.sink (b.answered + 1) (input_records input) ahead sink (omega (arith, none))
+    text = ahead-starts s.place.sites (flat b.ahead) (told_by s 1) (held_by s b.window.items (b.answered + 1)) old b.reply.sink (b.answered + 1) (input_records input) (ap flat ahead) sink (omega (arith, none))
         (held-told s b.window.items (b.answered + 1) window (omega (arith, none)));
     led = led_none s b.window.items b.answered (input_records input) window none;
   };
@@ -84,13 +111,13 @@ starts rem chunks s b old input ahead window sink none pending = record {
 
 -- the same, where what was read ahead is kept otherwise
 pub same-stands : (s : SiteState) (b b2 : Backlog) (first : SiteState) (old now : Option (List ℕ)) (records later : List (List (List ℕ)))
-    → b2.ahead ≡ b.ahead → b2.window.items ≡ b.window.items → b2.reply.sink ≡ b.reply.sink → b2.answered ≡ b.answered
+    → flat b2.ahead ≡ flat b.ahead → b2.window.items ≡ b.window.items → b2.reply.sink ≡ b.reply.sink → b2.answered ≡ b.answered
     → StandsWith s b first old now records later → StandsWith s b2 first old now records later
 same-stands s b b2 first old now records later ahead window sink count h =
     let h1 = subst (λ l. Stands s l b.window.items b.reply.sink b.answered first old now records later) (sym ahead) h in
-    let h2 = subst (λ w. Stands s b2.ahead w b.reply.sink b.answered first old now records later) (sym window) h1 in
-    let h3 = subst (λ t. Stands s b2.ahead b2.window.items t b.answered first old now records later) (sym sink) h2 in
-    subst (λ k. Stands s b2.ahead b2.window.items b2.reply.sink k first old now records later) (sym count) h3
+    let h2 = subst (λ w. Stands s (flat b2.ahead) w b.reply.sink b.answered first old now records later) (sym window) h1 in
+    let h3 = subst (λ t. Stands s (flat b2.ahead) b2.window.items t b.answered first old now records later) (sym sink) h2 in
+    subst (λ k. Stands s (flat b2.ahead) b2.window.items b2.reply.sink k first old now records later) (sym count) h3
 
 -- ---- a step
 
@@ -174,7 +201,7 @@ stands-too_long s ps w first old now sink answered limit records later empty non
 -- the run is cut short where nothing is held
 pub stands-cut : (s : SiteState) (ps : List Parsed) (w : List Message) (first : SiteState) (old now : Option (List ℕ)) (sink : List ℕ)
     (answered : ℕ) (records later : List (List (List ℕ))) → sink ≡ [] → w ≡ []
-    → Stands s ps w sink answered first old now records later → AnswersSome first s old now records
+    → Stands s ps w sink answered first old now records later → AnswersJust answered first s old now records
 stands-cut s ps w first old now sink answered records later empty none stands =
     let h = stands.text in
     let all = told_by first 1 in
@@ -182,9 +209,10 @@ stands-cut s ps w first old now sink answered records later empty none stands =
     let done : take answered records ≡ h.done = ap (take answered) h.parts ∙ take_at h.done (h.next ++ later) answered (omega (arith, h.count)) in
     let text : all.text Cut (take answered records) ≡ h.written =
     ap (all.text Cut) (done ∙ sym (append-nil h.done)) ∙ h.told Cut [] ∙ ap (λ t. h.written ++ (t ++ more.text Cut [])) empty
-    ∙ ap (λ t. h.written ++ t) (held-end s w (answered + 1) Cut none) ∙ append-nil h.written in (
-      answered,
+    ∙ ap (λ t. h.written ++ t) (held-end s w (answered + 1) Cut none) ∙ append-nil h.written in
+    let many : length records ≡ length h.done + length (h.next ++ later) = ap length h.parts ∙ length-append h.done (h.next ++ later) in (
       (subst (λ t. Appends old now t) (sym text) h.appended, led_all first s w answered records (take answered records) none refl stands.led),
+      omega (arith, many, h.count),
     )
 
 -- ---- messages that came together
@@ -238,18 +266,18 @@ run-held old_site site w w2 ms left first old now sink sink2 answered many recor
     (holds-run site ms [] left first old now sink2 answered records later (omega arith) kept)
 
 -- a run that has read nothing ahead so far ends so
-pub ends_ahead : {R : Type 0} (rem : R → Option (List ℕ)) (chunks : Chunks R) (s : SiteState) (b : Backlog) (new : SiteState) (limit : ℕ)
+pub ends_ahead : {R : Type 0} (rem : R → Option (List ℕ)) (chunks : Chunks R) (s : SiteState) (b : Backlog) (new : SiteState) (limit answered : ℕ)
     (input old now : Option (List ℕ)) (result : Result Count RunFault)
     → IfSome input (λ bytes. HasPending rem chunks (input_records bytes))
     → ((bytes : List ℕ) → HasPending rem chunks (input_records bytes) → HasReadAhead rem chunks s b s old old bytes)
     → IfOk result (λ count. OfEachAhead rem chunks s b old (λ first old bytes. AnswersAll limit first new old now (input_records bytes) count.records))
     → (IsErrOf result fault.TooLong → OfEachAhead rem chunks s b old (λ first old bytes. AnswersFirst limit first new old now (input_records bytes)))
-    → (IsErrOf result fault.Read → OfEachAhead rem chunks s b old (λ first old bytes. AnswersSome first new old now (input_records bytes)))
+    → (IsErrOf result fault.Read → OfEachAhead rem chunks s b old (λ first old bytes. AnswersJust answered first new old now (input_records bytes)))
     → (IsErrOf result fault.Memory → OfEachAhead rem chunks s b old (λ first old bytes. WrotePrefix ((told_by first 1).text AtEnd) old now (input_records bytes)))
     → IfSome input (λ bytes. SiteEnds limit s new old now (input_records bytes) result)
-ends_ahead rem chunks s b new limit None old now result pending starts done long cut prefix = tt
-ends_ahead rem chunks s b new limit (Some bytes) old now (Ok count) pending starts done long cut prefix = done s old bytes (starts bytes pending)
-ends_ahead rem chunks s b new limit (Some bytes) old now (Err fault.TooLong) pending starts done long cut prefix = long refl s old bytes (starts bytes pending)
-ends_ahead rem chunks s b new limit (Some bytes) old now (Err fault.Read) pending starts done long cut prefix = cut refl s old bytes (starts bytes pending)
-ends_ahead rem chunks s b new limit (Some bytes) old now (Err fault.Memory) pending starts done long cut prefix = prefix refl s old bytes (starts bytes pending)
-ends_ahead rem chunks s b new limit (Some bytes) old now (Err fault.Write) pending starts done long cut prefix = tt
+ends_ahead rem chunks s b new limit answered None old now result pending starts done long cut prefix = tt
+ends_ahead rem chunks s b new limit answered (Some bytes) old now (Ok count) pending starts done long cut prefix = done s old bytes (starts bytes pending)
+ends_ahead rem chunks s b new limit answered (Some bytes) old now (Err fault.TooLong) pending starts done long cut prefix = long refl s old bytes (starts bytes pending)
+ends_ahead rem chunks s b new limit answered (Some bytes) old now (Err fault.Read) pending starts done long cut prefix = (answered, (cut refl s old bytes (starts bytes pending)).0)
+ends_ahead rem chunks s b new limit answered (Some bytes) old now (Err fault.Memory) pending starts done long cut prefix = prefix refl s old bytes (starts bytes pending)
+ends_ahead rem chunks s b new limit answered (Some bytes) old now (Err fault.Write) pending starts done long cut prefix = tt

@@ -1,5 +1,5 @@
 -- A run that reads each record when those before it are answered, and where these lead its site.
-use Rattle.std.proofs.Common.{◌≡◌, ◌∙◌, ◌+◌, ◌++◌, [], ℕ, List, Option, Some, None, true, false, ap, append-nil, arith, refl, subst, sym, take}
+use Rattle.std.proofs.Common.{◌≡◌, ◌∙◌, ◌+◌, ◌++◌, [], ℕ, List, Option, Some, None, true, false, ap, append-nil, arith, length, length-append, refl, subst, sym, take}
 use Rattle.std.specs.Prelude.{IfOk, IfSome, IsErrOf, Result, Ok, Err}
 use Rattle.std.specs.Io.KnownBytes.{Appends}
 use Rattle.rubis_message.specs.Message.{Message}
@@ -17,7 +17,7 @@ use Rattle.rubis_engine.specs.declared.record_list.Records.{Records}
 use Rattle.rubis_engine.specs.declared.run.Run.{Run}
 use Rattle.rubis_engine.specs.declared.service.Course.TheVariants.{GoesOn}
 use Rattle.rubis_engine.proofs.RunFacts.{progress-cut, progress-drained, progress-end, progress-more, progress-step}
-use Rattle.rubis_script.specs.Headline.{AnswersAll, AnswersFirst, AnswersSome, Settles, StandsFrom, StepsOn}
+use Rattle.rubis_script.specs.Headline.{AnswersAll, AnswersFirst, AnswersJust, Settles, StandsFrom, StepsOn}
 use Rattle.rubis_script.specs.SiteRuns.{told_by}
 use Rattle.rubis_script.specs.Windows.{held_by}
 use Rattle.rubis_script.proofs.LeadFacts.{SiteEnds, led_all, led_kept, led_more, take_all}
@@ -82,17 +82,18 @@ turn_done rem a b s s2 w sink answered count first old now now2 input takes drai
 pub turn_cut : {R : Type 0} (rem : R → Option (List ℕ)) (a : Records R) (s s2 : SiteState) (w : List Message) (sink : List ℕ) (answered : ℕ)
     (first : SiteState) (old now now2 : Option (List ℕ)) (input : List ℕ)
     → Drained (held_by s w (answered + 1)) (told_by s2 (answered + 1)) sink now now2 → Settles s w s2 []
-    → StandsFrom rem a s w sink answered first old now input → AnswersSome first s2 old now2 (input_records input)
+    → StandsFrom rem a s w sink answered first old now input → AnswersJust answered first s2 old now2 (input_records input)
 turn_cut rem a s s2 w sink answered first old now now2 input drained settles stands =
     let p = stands.text in
     let records = input_records input in
     let more = told_by s2 (answered + 1) in
-    let q = progress-drained rem a (told_by first 1) (held_by s w (answered + 1)) more old now now2 sink (answered + 1) input p drained in (
-      answered,
+    let q = progress-drained rem a (told_by first 1) (held_by s w (answered + 1)) more old now now2 sink (answered + 1) input p drained in
+    let many : length records ≡ length p.done + length p.rest = ap length p.parts ∙ length-append p.done p.rest in (
       (
         progress-cut rem a (told_by first 1) more old now2 (answered + 1) answered input q (held-end s2 [] (answered + 1) Cut refl) refl,
         led_all first s2 [] answered records (take answered records) refl refl (led_kept first s s2 w [] answered records settles stands.led),
       ),
+      omega (arith, many, p.count),
     )
 
 -- there are more records
@@ -114,16 +115,16 @@ turn_too_long rem a b s s2 w sink answered first old now now2 input takes draine
     )
 
 -- a run from the first record of its input on ends so
-pub ends_in_turn : {R : Type 0} (rem : R → Option (List ℕ)) (run : Run R) (first new : SiteState) (limit : ℕ) (input old now : Option (List ℕ)) (result : Result Count RunFault)
+pub ends_in_turn : {R : Type 0} (rem : R → Option (List ℕ)) (run : Run R) (first new : SiteState) (limit answered : ℕ) (input old now : Option (List ℕ)) (result : Result Count RunFault)
     → IfSome input (λ bytes. Gives rem run.records (input_records bytes)) → run.reply.sink ≡ []
     → IfOk result (λ count. FromStart rem run (λ records. AnswersAll limit first new old now records count.records))
     → (IsErrOf result fault.TooLong → FromStart rem run (λ records. AnswersFirst limit first new old now records))
-    → (IsErrOf result fault.Read → FromStart rem run (λ records. AnswersSome first new old now records))
+    → (IsErrOf result fault.Read → FromStart rem run (λ records. AnswersJust answered first new old now records))
     → (IsErrOf result fault.Memory → FromStart rem run (λ records. WrotePrefix ((told_by first 1).text AtEnd) old now records))
     → IfSome input (λ bytes. SiteEnds limit first new old now (input_records bytes) result)
-ends_in_turn rem run first new limit None old now result gives empty done long cut prefix = tt
-ends_in_turn rem run first new limit (Some bytes) old now (Ok count) gives empty done long cut prefix = done bytes gives empty
-ends_in_turn rem run first new limit (Some bytes) old now (Err fault.TooLong) gives empty done long cut prefix = long refl bytes gives empty
-ends_in_turn rem run first new limit (Some bytes) old now (Err fault.Read) gives empty done long cut prefix = cut refl bytes gives empty
-ends_in_turn rem run first new limit (Some bytes) old now (Err fault.Memory) gives empty done long cut prefix = prefix refl bytes gives empty
-ends_in_turn rem run first new limit (Some bytes) old now (Err fault.Write) gives empty done long cut prefix = tt
+ends_in_turn rem run first new limit answered None old now result gives empty done long cut prefix = tt
+ends_in_turn rem run first new limit answered (Some bytes) old now (Ok count) gives empty done long cut prefix = done bytes gives empty
+ends_in_turn rem run first new limit answered (Some bytes) old now (Err fault.TooLong) gives empty done long cut prefix = long refl bytes gives empty
+ends_in_turn rem run first new limit answered (Some bytes) old now (Err fault.Read) gives empty done long cut prefix = (answered, (cut refl bytes gives empty).0)
+ends_in_turn rem run first new limit answered (Some bytes) old now (Err fault.Memory) gives empty done long cut prefix = prefix refl bytes gives empty
+ends_in_turn rem run first new limit answered (Some bytes) old now (Err fault.Write) gives empty done long cut prefix = tt

@@ -71,6 +71,16 @@ held_more p w m answered held one = record {
 pub held_none : (p : Place) (w : List Message) (answered : ℕ) → w ≡ [] → AreHeld p w answered
 held_none p w answered none = rw none (record { sites = search arith; few = omega arith })
 
+-- something is made of what is held, and then the record is answered
+pub kept_answers : (held mid new : Account) (sink sink2 sink3 : List ℕ) (fields : List (List ℕ)) → Keeps held mid sink sink2
+    → AnswersRecord GoesOn mid new sink2 sink3 fields → AnswersRecord GoesOn held new sink sink3 fields
+kept_answers held mid new sink sink2 sink3 fields keeps answers more =
+    let read = (keeps (fields ∷ more)).1 in
+    let one = (answers more).1 in (
+      λ ending. (keeps (fields ∷ more)).0 ending ∙ (answers more).0 ending,
+      omega (arith, read, one),
+    )
+
 -- ---- those that are held are taken in
 
 told_rows : (p : Place) (s : Replica) (n : ℕ) (ms : List Message) → arrivals_rows n (answers_to p s ms) ≡ window_rows p s n ms

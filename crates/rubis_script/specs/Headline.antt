@@ -75,9 +75,9 @@ AnswersAll limit first new old now records count = HasAnswered first new old now
 abbrev pub AnswersFirst : ℕ → SiteState → SiteState → Option (List ℕ) → Option (List ℕ) → List (List (List ℕ)) → Type 0
 AnswersFirst limit first new old now records = HasAnswered first new old now (take limit records) × (limit < length records)
 
--- some first ones are
-abbrev pub AnswersSome : SiteState → SiteState → Option (List ℕ) → Option (List ℕ) → List (List (List ℕ)) → Type 0
-AnswersSome first new old now records = (k : ℕ) × HasAnswered first new old now (take k records)
+-- just the first n are, and no more
+abbrev pub AnswersJust : ℕ → SiteState → SiteState → Option (List ℕ) → Option (List ℕ) → List (List (List ℕ)) → Type 0
+AnswersJust n first new old now records = HasAnswered first new old now (take n records) × (n ≤ length records)
 
 -- ---- a run that reads each record when those before it are answered
 

@@ -3,20 +3,24 @@ use Rattle.std.specs.Prelude.{◌+◌, ◌++◌, ℕ, All, List, Option}
 use Rattle.rubis_message.specs.Message.{Message}
 use Rattle.rubis_script.specs.Headline.{HasLed}
 use Rattle.rubis_script.specs.SiteRuns.{told_by}
-use Rattle.rubis_script.specs.Windows.{AreHeld, held_by}
+use Rattle.rubis_script.specs.Windows.{AreHeld, FitPlan, held_by}
 use Rattle.rubis_engine.specs.Text.{input_records}
 use Rattle.rubis_reading.specs.Chunked.{HasPending}
 use Rattle.rubis_reading.specs.Parsed.{FitsIn}
+use Rattle.rubis_reading.specs.Runs.{FitWindow, flat}
 use Rattle.rubis_reading.specs.declared.parsed.Parsed.{Parsed}
 use Rattle.rubis_reading.specs.declared.chunks.Chunks.{Chunks}
 use Rattle.rubis_replica.specs.State.{SiteState}
 use Rattle.rubis_reading.specs.Steps.{HasAhead}
 use Rattle.rubis_script.specs.declared.backlog.Backlog.{Backlog}
+use Rattle.rubis_script.specs.declared.plan.Plan.{Plan}
 
--- what is held and what was read ahead is of this site's system
-pub record IsSound (s : SiteState) (b : Backlog) : Type 0 where
+-- what is held and what was read ahead is of this site's system, and no more messages are together than the plan says
+pub record IsSound (s : SiteState) (plan : Plan) (b : Backlog) : Type 0 where
   pub held : AreHeld s.place b.window.items b.answered
-  pub fits : All (λ p. FitsIn s.place.sites p) b.ahead
+  pub few : FitPlan plan b.window.items
+  pub fits : All (λ p. FitsIn s.place.sites p) (flat b.ahead)
+  pub windows : FitWindow plan.window b.ahead
 
 -- the run stands there, with these records to come later than those that were read ahead; `first` is the state in which it began
 pub record Stands (s : SiteState) (ahead : List Parsed) (held : List Message) (sink : List ℕ) (answered : ℕ) (first : SiteState) (old now : Option (List ℕ))
@@ -25,7 +29,7 @@ pub record Stands (s : SiteState) (ahead : List Parsed) (held : List Message) (s
   pub led : HasLed first s held answered records
 
 abbrev pub StandsWith : SiteState → Backlog → SiteState → Option (List ℕ) → Option (List ℕ) → List (List (List ℕ)) → List (List (List ℕ)) → Type 0
-StandsWith s b first old now records later = Stands s b.ahead b.window.items b.reply.sink b.answered first old now records later
+StandsWith s b first old now records later = Stands s (flat b.ahead) b.window.items b.reply.sink b.answered first old now records later
 
 -- wherever the run stood, it has come to stand here, with nothing written
 abbrev pub GoesOn : SiteState → Backlog → SiteState → Backlog → Type 0
@@ -35,7 +39,7 @@ GoesOn s b s2 b2 = (first : SiteState) (old now : Option (List ℕ)) (records la
 -- the same, with these records taken off the front of what was read ahead, and answered or held
 abbrev pub GoesOnFrom : List Parsed → SiteState → Backlog → SiteState → Backlog → Type 0
 GoesOnFrom front s b s2 b2 = (first : SiteState) (old now : Option (List ℕ)) (records later : List (List (List ℕ)))
-    → Stands s (front ++ b.ahead) b.window.items b.reply.sink b.answered first old now records later
+    → Stands s (front ++ flat b.ahead) b.window.items b.reply.sink b.answered first old now records later
     → StandsWith s2 b2 first old now records later
 
 -- and `after` has come to be written in place of `before`

@@ -12,6 +12,7 @@ use Rattle.rubis_replica.specs.Arrivals.{after_all}
 use Rattle.rubis_replica.specs.State.{SiteState}
 use Rattle.rubis_engine.specs.Accounts.{Account}
 use Rattle.rubis_engine.specs.Text.{rows_text}
+use Rattle.rubis_script.specs.declared.plan.Plan.{Plan}
 
 -- the rows that say what became of messages, the first of which was record n
 abbrev pub arrivals_rows : ℕ → List (Result Arrival Refusal) → List (List (List ℕ))
@@ -34,3 +35,7 @@ held_by s window n = record {
 pub record AreHeld (p : Place) (window : List Message) (answered : ℕ) : Type 0 where
   pub sites : All (λ m. sites_of m ≡ p.sites) window
   pub few : length window ≤ answered
+
+-- they are at most as many as are taken in together
+abbrev pub FitPlan : Plan → List Message → Type 0
+FitPlan plan window = length window ≤ plan.window

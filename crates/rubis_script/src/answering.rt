@@ -2,9 +2,9 @@
 
 ghost use Rattle.std.specs.Prelude.{◌≡◌, ◌≤◌, ◌<◌, ◌+◌, ◌∷◌, ◌^◌, ◌⊎◌, [], All, OnOk, length};
 ghost use Rattle.rubis_script.specs.Runs.{GoesOn, GoesOnFrom, IsSound};
-ghost use Rattle.rubis_script.specs.Windows.{AreHeld};
+ghost use Rattle.rubis_script.specs.Windows.{AreHeld, FitPlan};
 ghost use Rattle.rubis_reading.specs.Parsed.{FitsIn};
-ghost use Rattle.rubis_reading.specs.Runs.{all_came, of_stretch};
+ghost use Rattle.rubis_reading.specs.Runs.{FitsWindow, all_came, flat, of_stretch};
 
 use crate::backlog::Backlog;
 use crate::desk::Desk;
@@ -23,11 +23,12 @@ pub fn answer_some<G: Gate, T: Threads + Wait + Sync>(
     backlog: &mut Backlog,
     most: u64,
 ) -> Result<(), OutOfMemory>
-    requires sound { IsSound desk.old.site backlog.old }
+    requires sound { IsSound desk.old.site desk.old.plan backlog.old }
     requires room { backlog.old.answered + most + 1 < 2 ^ 64 }
     ensures place { OnOk result (desk.new.site.place ≡ desk.old.site.place) }
-    ensures sound { OnOk result (IsSound desk.new.site backlog.new) }
-    ensures count { OnOk result (backlog.new.answered + length backlog.new.ahead ≡ backlog.old.answered + length backlog.old.ahead) }
+    ensures plan { OnOk result (desk.new.plan ≡ desk.old.plan) }
+    ensures sound { OnOk result (IsSound desk.new.site desk.new.plan backlog.new) }
+    ensures count { OnOk result (backlog.new.answered + length (flat backlog.new.ahead) ≡ backlog.old.answered + length (flat backlog.old.ahead)) }
     ensures some { OnOk result ((backlog.new.answered ≡ backlog.old.answered + most) ⊎ (backlog.new.ahead ≡ [])) }
     ensures within { OnOk result (backlog.new.answered ≤ backlog.old.answered + most) }
     ensures goes { OnOk result (GoesOn desk.old.site backlog.old desk.new.site backlog.new) }
@@ -47,7 +48,6 @@ pub fn answer_some<G: Gate, T: Threads + Wait + Sync>(
         };
         desk.take_parsed(rt, *answered, parsed, window, reply)?;
         *answered += 1;
-        desk.make_room(rt, *answered, window, reply)?;
     }
     Ok(())
 }
@@ -63,7 +63,9 @@ fn answer_one<G: Gate, T: Threads + Wait + Sync>(
     requires fits { FitsIn desk.old.site.place.sites parsed }
     requires room { backlog.old.answered + 1 < 2 ^ 64 }
     ensures place { OnOk result (desk.new.site.place ≡ desk.old.site.place) }
+    ensures plan { OnOk result (desk.new.plan ≡ desk.old.plan) }
     ensures held { OnOk result (AreHeld desk.new.site.place backlog.new.window.items backlog.new.answered) }
+    ensures few { OnOk result (FitPlan desk.new.plan backlog.new.window.items) }
     ensures ahead { backlog.new.ahead ≡ backlog.old.ahead }
     ensures count { OnOk result (backlog.new.answered ≡ backlog.old.answered + 1) }
     ensures goes { OnOk result (GoesOnFrom (parsed ∷ []) desk.old.site backlog.old desk.new.site backlog.new) }
@@ -76,15 +78,10 @@ fn answer_one<G: Gate, T: Threads + Wait + Sync>(
         &mut backlog.reply,
     )?;
     backlog.answered += 1;
-    desk.make_room(
-        rt,
-        backlog.answered,
-        &mut backlog.window,
-        &mut backlog.reply,
-    )
+    Ok(())
 }
 
-// Takes in the messages that are held, and holds these, which were read ahead and taken off the front.
+// Takes in the messages that are held, and holds these, which were read ahead and taken off the front: no more than the plan says.
 fn hold_messages<G: Gate, T: Threads + Wait + Sync>(
     rt: &T,
     desk: &mut Desk<G>,
@@ -93,9 +90,12 @@ fn hold_messages<G: Gate, T: Threads + Wait + Sync>(
 ) -> Result<(), OutOfMemory>
     requires held { AreHeld desk.old.site.place backlog.old.window.items backlog.old.answered }
     requires fits { All (λ p. FitsIn desk.old.site.place.sites p) (all_came list.items) }
+    requires window { FitPlan desk.old.plan list.items }
     requires room { backlog.old.answered + length list.items + 1 < 2 ^ 64 }
     ensures place { OnOk result (desk.new.site.place ≡ desk.old.site.place) }
+    ensures plan { OnOk result (desk.new.plan ≡ desk.old.plan) }
     ensures held { OnOk result (AreHeld desk.new.site.place backlog.new.window.items backlog.new.answered) }
+    ensures few { OnOk result (FitPlan desk.new.plan backlog.new.window.items) }
     ensures ahead { backlog.new.ahead ≡ backlog.old.ahead }
     ensures count { OnOk result (backlog.new.answered ≡ backlog.old.answered + length list.items) }
     ensures goes { OnOk result (GoesOnFrom (all_came list.items) desk.old.site backlog.old desk.new.site backlog.new) }
@@ -121,9 +121,12 @@ fn answer_run<G: Gate, T: Threads + Wait + Sync>(
 ) -> Result<(), OutOfMemory>
     requires held { AreHeld desk.old.site.place backlog.old.window.items backlog.old.answered }
     requires fits { All (λ p. FitsIn desk.old.site.place.sites p) (of_stretch run) }
+    requires window { FitsWindow desk.old.plan.window run }
     requires room { backlog.old.answered + length (of_stretch run) + 1 < 2 ^ 64 }
     ensures place { OnOk result (desk.new.site.place ≡ desk.old.site.place) }
+    ensures plan { OnOk result (desk.new.plan ≡ desk.old.plan) }
     ensures held { OnOk result (AreHeld desk.new.site.place backlog.new.window.items backlog.new.answered) }
+    ensures few { OnOk result (FitPlan desk.new.plan backlog.new.window.items) }
     ensures ahead { backlog.new.ahead ≡ backlog.old.ahead }
     ensures count { OnOk result (backlog.new.answered ≡ backlog.old.answered + length (of_stretch run)) }
     ensures goes { OnOk result (GoesOnFrom (of_stretch run) desk.old.site backlog.old desk.new.site backlog.new) }
@@ -140,12 +143,13 @@ pub fn answer_all<G: Gate, T: Threads + Wait + Sync>(
     desk: &mut Desk<G>,
     backlog: &mut Backlog,
 ) -> Result<(), OutOfMemory>
-    requires sound { IsSound desk.old.site backlog.old }
-    requires room { backlog.old.answered + length backlog.old.ahead + 1 < 2 ^ 64 }
+    requires sound { IsSound desk.old.site desk.old.plan backlog.old }
+    requires room { backlog.old.answered + length (flat backlog.old.ahead) + 1 < 2 ^ 64 }
     ensures place { OnOk result (desk.new.site.place ≡ desk.old.site.place) }
-    ensures sound { OnOk result (IsSound desk.new.site backlog.new) }
+    ensures plan { OnOk result (desk.new.plan ≡ desk.old.plan) }
+    ensures sound { OnOk result (IsSound desk.new.site desk.new.plan backlog.new) }
     ensures all { OnOk result (backlog.new.ahead ≡ []) }
-    ensures count { OnOk result (backlog.new.answered ≡ backlog.old.answered + length backlog.old.ahead) }
+    ensures count { OnOk result (backlog.new.answered ≡ backlog.old.answered + length (flat backlog.old.ahead)) }
     ensures goes { OnOk result (GoesOn desk.old.site backlog.old desk.new.site backlog.new) }
 {
     'runs: for _ in 0..u64::MAX {

@@ -1,7 +1,7 @@
 //! A site as a service: a record in, its answers out.
 
 ghost use Rattle.std.proofs.Common.{rules};
-ghost use Rattle.std.specs.Prelude.{◌≡◌, ◌≤◌, ◌<◌, ◌+◌, ◌++◌, ◌∷◌, ◌^◌, [], IfOk, List, None, OnOk, ℕ, length, refl};
+ghost use Rattle.std.specs.Prelude.{◌≡◌, ◌≤◌, ◌<◌, ◌+◌, ◌++◌, ◌∷◌, ◌^◌, [], IfOk, IsTrue, List, None, OnOk, ℕ, length, refl};
 ghost use Rattle.rubis_schema.specs.declared.limits.TheConstants.{COUNTED_MAX};
 ghost use Rattle.rubis_shadow.specs.Limits.{IsAsk};
 ghost use Rattle.rubis_message.specs.Grammar.{IsPacket, IsRequest};
@@ -21,7 +21,7 @@ ghost use Rattle.rubis_script.specs.Inputs.{IsAnswered, IsReadOf, answer_of};
 ghost use Rattle.rubis_script.specs.Headline.{Settles, StepsOn};
 ghost use Rattle.rubis_script.specs.SiteRuns.{told_by};
 ghost use Rattle.rubis_engine.specs.Text.{rows_text};
-ghost use Rattle.rubis_script.specs.Windows.{AreHeld, held_by};
+ghost use Rattle.rubis_script.specs.Windows.{AreHeld, FitPlan, held_by};
 ghost use Rattle.rubis_engine.specs.declared.service.Course.TheVariants as Course;
 
 use crate::plan::Plan;
@@ -184,19 +184,22 @@ fn answer_packet<G: Gate, R: Threads + Wait + Sync>(
 pub struct Desk<G: Gate = Free> {
     pub site: Site<G>,
     sites: u8,
-    // How many messages are taken in together.
+    // How many messages are taken in together, where they are read one by one.
     window: usize,
     /// How it reads ahead.
     pub plan: Plan,
     alloc: Global,
     ghost same: { sites ≡ site.place.sites },
     ghost few: { sites ≤ COUNTED_MAX },
+    ghost some: { 0 < plan.window },
+    ghost most: { window ≤ plan.window },
 }
 
 impl<G: Gate + Drop> Desk<G> {
     /// A site with nothing done, set up so, whose batches are applied under the gate.
     pub fn new(alloc: Global, config: &Config, gate: G) -> Result<Desk<G>, AllocError>
-        ensures { IfOk result (λ desk. (desk.site.place ≡ setup_place config.now) × (desk.site.state ≡ opening_at config.now.site)) }
+        ensures site { IfOk result (λ desk. (desk.site.place ≡ setup_place config.now) × (desk.site.state ≡ opening_at config.now.site)) }
+        ensures window { IfOk result (λ desk. desk.plan.window ≡ config.now.batch) }
     {
         Ok(Desk {
             site: Site::new(alloc, config, gate)?,
@@ -220,6 +223,7 @@ impl<G: Gate> Desk<G> {
     ) -> Result<(), OutOfMemory>
         requires { packet_of self.old.site.place.sites fields.now ≡ None }
         ensures place { self.new.site.place ≡ self.old.site.place }
+        ensures plan { self.new.plan ≡ self.old.plan }
         ensures answered { OnOk result (IsAnswered reply.old.number
             (input_of self.old.site.place.sites fields.now) self.old.site self.new.site reply.old.sink reply.new.sink) }
     {
@@ -243,6 +247,7 @@ impl<G: Gate> Desk<G> {
     ) -> Result<(), OutOfMemory>
         requires { IsReadOf self.old.site.place.sites fields.now read }
         ensures place { self.new.site.place ≡ self.old.site.place }
+        ensures plan { self.new.plan ≡ self.old.plan }
         ensures answered { OnOk result (IsAnswered reply.old.number
             (input_of self.old.site.place.sites fields.now) self.old.site self.new.site reply.old.sink reply.new.sink) }
     {
@@ -261,6 +266,7 @@ impl<G: Gate> Desk<G> {
         reply: &mut Reply,
     ) -> Result<(), OutOfMemory>
         ensures place { self.new.site.place ≡ self.old.site.place }
+        ensures plan { self.new.plan ≡ self.old.plan }
         ensures answered { OnOk result (IsAnswered reply.old.number
             (input_of self.old.site.place.sites fields.now) self.old.site self.new.site reply.old.sink reply.new.sink) }
     {
@@ -268,8 +274,10 @@ impl<G: Gate> Desk<G> {
         self.respond_to(rt, fields, read, reply)
     }
 
-    // Whether one more message is held before these are taken in. It decides when messages are taken in, and not what is answered.
-    pub(crate) fn has_room(&self, window: &Vec<Message>) -> bool {
+    // Whether one more message is held before these are taken in.
+    fn has_room(&self, window: &Vec<Message>) -> bool
+        ensures { IsTrue result → length window.now.items < self.now.plan.window }
+    {
         window.len() < self.window
     }
 
@@ -284,6 +292,7 @@ impl<G: Gate> Desk<G> {
     ) -> Result<(), OutOfMemory>
         requires held { AreHeld self.old.site.place window.old.items answered }
         ensures place { self.new.site.place ≡ self.old.site.place }
+        ensures plan { self.new.plan ≡ self.old.plan }
         ensures empty { window.new.items ≡ [] }
         ensures flushed { OnOk result (Keeps (held_by self.old.site window.old.items (answered + 1))
             (told_by self.new.site (answered + 1)) reply.old.sink reply.new.sink) }
@@ -307,6 +316,7 @@ impl<G: Gate> Desk<G> {
         requires held { AreHeld self.old.site.place window.old.items answered }
         requires some { 0 < length window.old.items }
         ensures place { self.new.site.place ≡ self.old.site.place }
+        ensures plan { self.new.plan ≡ self.old.plan }
         ensures empty { window.new.items ≡ [] }
         ensures flushed { OnOk result (Keeps (held_by self.old.site window.old.items (answered + 1))
             (told_by self.new.site (answered + 1)) reply.old.sink reply.new.sink) }
@@ -327,8 +337,57 @@ impl<G: Gate> Desk<G> {
         Ok(())
     }
 
-    /// Holds the next record, if it is a message and messages are held at all; otherwise takes in those that are held, and
-    /// answers it.
+    /// Takes in the messages that are held, if there is no room for one more.
+    pub fn make_room<R: Threads + Wait + Sync>(
+        &mut self,
+        rt: &R,
+        answered: u64,
+        window: &mut Vec<Message>,
+        reply: &mut Reply,
+    ) -> Result<(), OutOfMemory>
+        requires held { AreHeld self.old.site.place window.old.items answered }
+        ensures place { self.new.site.place ≡ self.old.site.place }
+        ensures plan { self.new.plan ≡ self.old.plan }
+        ensures held { AreHeld self.new.site.place window.new.items answered }
+        ensures room { length window.new.items < self.new.plan.window }
+        ensures kept { OnOk result (Keeps (held_by self.old.site window.old.items (answered + 1))
+            (held_by self.new.site window.new.items (answered + 1)) reply.old.sink reply.new.sink) }
+        ensures leads { OnOk result (Settles self.old.site window.old.items self.new.site window.new.items) }
+    {
+        if self.has_room(window) {
+            return Ok(());
+        }
+        self.flush(rt, answered, window, reply)
+    }
+
+    // Holds one more message. Where there is no room for it, those that are held are taken in before.
+    #[inline(always)]
+    fn hold_next<R: Threads + Wait + Sync>(
+        &mut self,
+        rt: &R,
+        answered: u64,
+        message: Message,
+        window: &mut Vec<Message>,
+        reply: &mut Reply,
+    ) -> Result<(), OutOfMemory>
+        requires held { AreHeld self.old.site.place window.old.items answered }
+        requires sites { sites_of message ≡ self.old.site.place.sites }
+        ensures place { self.new.site.place ≡ self.old.site.place }
+        ensures plan { self.new.plan ≡ self.old.plan }
+        ensures held { OnOk result (AreHeld self.new.site.place window.new.items (answered + 1)) }
+        ensures few { OnOk result (FitPlan self.new.plan window.new.items) }
+        ensures goes { OnOk result ((fields : List (List ℕ)) → input_of self.old.site.place.sites fields ≡ Came (Packet.Msg message)
+            → AnswersRecord Course.GoesOn (held_by self.old.site window.old.items (answered + 1)) (held_by self.new.site window.new.items
+            (answered + 1 + 1)) reply.old.sink reply.new.sink fields) }
+        ensures leads { OnOk result (StepsOn (answered + 1) (Came (Packet.Msg message)) self.old.site window.old.items
+            self.new.site window.new.items) }
+    {
+        self.make_room(rt, answered, window, reply)?;
+        hold(window, message)
+    }
+
+    /// Holds the next record, if it is a message and messages are held at all, at most as many as the plan says; otherwise takes
+    /// in those that are held, and answers it.
     pub fn take<R: Threads + Wait + Sync>(
         &mut self,
         rt: &R,
@@ -339,14 +398,18 @@ impl<G: Gate> Desk<G> {
     ) -> Result<(), OutOfMemory>
         requires held { AreHeld self.old.site.place window.old.items answered }
         requires room { answered + 1 < 2 ^ 64 }
+        ensures plan { self.new.plan ≡ self.old.plan }
         ensures held { OnOk result (AreHeld self.new.site.place window.new.items (answered + 1)) }
+        ensures few { OnOk result (FitPlan self.new.plan window.new.items) }
         ensures goes { OnOk result (AnswersRecord Course.GoesOn (held_by self.old.site window.old.items (answered + 1))
             (held_by self.new.site window.new.items (answered + 1 + 1)) reply.old.sink reply.new.sink fields.now) }
         ensures leads { OnOk result (StepsOn (answered + 1) (input_of self.old.site.place.sites fields.now) self.old.site window.old.items
             self.new.site window.new.items) }
     {
         match read_packet(self.alloc, fields, self.sites) {
-            Ok(Packet::Msg(message)) if self.window > 1 => hold(window, message),
+            Ok(Packet::Msg(message)) if self.window > 1 => {
+                self.hold_next(rt, answered, message, window, reply)
+            }
             read => {
                 self.flush(rt, answered, window, reply)?;
                 reply.number = answered + 1;
@@ -374,6 +437,7 @@ impl<G: Gate> Desk<G> {
     ) -> Result<(), OutOfMemory>
         requires { FitsIn self.old.site.place.sites parsed }
         ensures place { self.new.site.place ≡ self.old.site.place }
+        ensures plan { self.new.plan ≡ self.old.plan }
         ensures answered { OnOk result (IsAnswered reply.old.number (meant parsed) self.old.site self.new.site reply.old.sink reply.new.sink) }
     {
         match parsed {
@@ -396,6 +460,7 @@ impl<G: Gate> Desk<G> {
         requires room { answered + 1 < 2 ^ 64 }
         requires fits { FitsIn self.old.site.place.sites parsed }
         ensures place { self.new.site.place ≡ self.old.site.place }
+        ensures plan { self.new.plan ≡ self.old.plan }
         ensures empty { window.new.items ≡ [] }
         ensures goes { OnOk result ((fields : List (List ℕ)) → input_of self.old.site.place.sites fields ≡ meant parsed
             → AnswersRecord Course.GoesOn (held_by self.old.site window.old.items (answered + 1)) (held_by self.new.site window.new.items
@@ -407,29 +472,8 @@ impl<G: Gate> Desk<G> {
         self.respond_parsed(rt, parsed, reply)
     }
 
-    /// Takes in the messages that are held, if there is no room for one more.
-    pub fn make_room<R: Threads + Wait + Sync>(
-        &mut self,
-        rt: &R,
-        answered: u64,
-        window: &mut Vec<Message>,
-        reply: &mut Reply,
-    ) -> Result<(), OutOfMemory>
-        requires held { AreHeld self.old.site.place window.old.items answered }
-        ensures place { self.new.site.place ≡ self.old.site.place }
-        ensures held { AreHeld self.new.site.place window.new.items answered }
-        ensures kept { OnOk result (Keeps (held_by self.old.site window.old.items (answered + 1))
-            (held_by self.new.site window.new.items (answered + 1)) reply.old.sink reply.new.sink) }
-        ensures leads { OnOk result (Settles self.old.site window.old.items self.new.site window.new.items) }
-    {
-        if self.has_room(window) {
-            return Ok(());
-        }
-        self.flush(rt, answered, window, reply)
-    }
-
-    /// Holds what the next record was read as, if it is a message and messages are held at all; otherwise takes in those that are
-    /// held, and answers it.
+    /// Holds what the next record was read as, if it is a message and messages are held at all, at most as many as the plan says;
+    /// otherwise takes in those that are held, and answers it.
     pub fn take_parsed<R: Threads + Wait + Sync>(
         &mut self,
         rt: &R,
@@ -442,7 +486,9 @@ impl<G: Gate> Desk<G> {
         requires room { answered + 1 < 2 ^ 64 }
         requires fits { FitsIn self.old.site.place.sites parsed }
         ensures place { self.new.site.place ≡ self.old.site.place }
+        ensures plan { self.new.plan ≡ self.old.plan }
         ensures held { OnOk result (AreHeld self.new.site.place window.new.items (answered + 1)) }
+        ensures few { OnOk result (FitPlan self.new.plan window.new.items) }
         ensures goes { OnOk result ((fields : List (List ℕ)) → input_of self.old.site.place.sites fields ≡ meant parsed
             → AnswersRecord Course.GoesOn (held_by self.old.site window.old.items (answered + 1)) (held_by self.new.site window.new.items
             (answered + 1 + 1)) reply.old.sink reply.new.sink fields) }
@@ -450,7 +496,9 @@ impl<G: Gate> Desk<G> {
     {
         if self.window > 1 {
             return match parsed {
-                Parsed::Came(Packet::Msg(message)) => hold(window, message),
+                Parsed::Came(Packet::Msg(message)) => {
+                    self.hold_next(rt, answered, message, window, reply)
+                }
                 Parsed::Came(Packet::Token(token)) => {
                     let other = Parsed::Came(Packet::Token(token));
                     self.answer_parsed(rt, answered, other, window, reply)
@@ -470,11 +518,11 @@ impl<G: Gate> Desk<G> {
 impl<G: Gate, T> Service<T> for Desk<G> {
     ghost account = { λ s n. told_by s.site n };
 
-    ghost stays = { λ old new. new.site ≡ old.site };
+    ghost stays = { λ old new. (new.site ≡ old.site) × (new.plan ≡ old.plan) };
 
     ghost reads_none = { λ s n. refl };
 
-    ghost stays_same = { λ s. refl };
+    ghost stays_same = { λ s. (refl, refl) };
 
     ghost reads_next = { Prim.search rules };
 

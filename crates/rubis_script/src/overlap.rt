@@ -6,7 +6,7 @@ ghost use Rattle.rubis_schema.specs.declared.limits.TheConstants.{COUNTED_MAX};
 ghost use Rattle.rubis_script.specs.Runs.{GoesOn, IsSound};
 ghost use Rattle.rubis_engine.specs.Text.{input_records};
 ghost use Rattle.rubis_reading.specs.Parsed.{AreParsed};
-ghost use Rattle.rubis_reading.specs.Runs.{flat};
+ghost use Rattle.rubis_reading.specs.Runs.{FitWindow, flat};
 
 use crate::answering::answer_all;
 use crate::backlog::Backlog;
@@ -27,33 +27,37 @@ fn read_beside<G: Gate, T: Threads + Wait + Sync>(
     rt: &T,
     alloc: Global,
     piece: &[u8],
-    plan: Plan,
     desk: &mut Desk<G>,
     backlog: &mut Backlog,
 ) -> Result<Vec<Stretch>, OutOfMemory>
-    requires sound { IsSound desk.old.site backlog.old }
-    requires room { backlog.old.answered + length backlog.old.ahead + 1 < 2 ^ 64 }
+    requires sound { IsSound desk.old.site desk.old.plan backlog.old }
+    requires room { backlog.old.answered + length (flat backlog.old.ahead) + 1 < 2 ^ 64 }
     ensures place { OnOk result (desk.new.site.place ≡ desk.old.site.place) }
-    ensures sound { OnOk result (IsSound desk.new.site backlog.new) }
+    ensures plan { OnOk result (desk.new.plan ≡ desk.old.plan) }
+    ensures sound { OnOk result (IsSound desk.new.site desk.new.plan backlog.new) }
     ensures all { OnOk result (backlog.new.ahead ≡ []) }
-    ensures count { OnOk result (backlog.new.answered ≡ backlog.old.answered + length backlog.old.ahead) }
+    ensures count { OnOk result (backlog.new.answered ≡ backlog.old.answered + length (flat backlog.old.ahead)) }
     ensures goes { OnOk result (GoesOn desk.old.site backlog.old desk.new.site backlog.new) }
     ensures parsed { IfOk result (λ list. AreParsed desk.old.site.place.sites (input_records piece.now) (flat list.items)) }
+    ensures windows { IfOk result (λ list. FitWindow desk.old.plan.window list.items) }
 {
     let sites = desk.sites();
-    let Plan { readers, window } = plan;
+    let Plan { readers, window } = desk.plan;
     let (list, answered) = join_mut(
         rt,
         &mut || -> Result<Vec<Stretch>, OutOfMemory>
             requires { IsSync T.row × (sites ≤ COUNTED_MAX) }
-            ensures { IfOk result (λ list. AreParsed sites (input_records piece.entry.now) (flat list.items)) }
+            ensures { IfOk result (λ list. AreParsed sites (input_records piece.entry.now) (flat list.items) × FitWindow window list.items) }
         { read_parts(rt, alloc, piece, sites, readers, window) },
         &mut || -> Result<(), OutOfMemory>
-            requires { IsSync T.row × IsSound desk.now.site backlog.now × (backlog.now.answered + length backlog.now.ahead + 1 < 2 ^ 64) }
-            ensures { OnOk result ((desk.exit.now.site.place ≡ desk.entry.now.site.place) × IsSound desk.exit.now.site backlog.exit.now
+            requires { IsSync T.row × IsSound desk.now.site desk.now.plan backlog.now
+                × (backlog.now.answered + length (flat backlog.now.ahead) + 1 < 2 ^ 64) }
+            ensures { OnOk result ((desk.exit.now.site.place ≡ desk.entry.now.site.place)
+                × IsSound desk.exit.now.site desk.exit.now.plan backlog.exit.now
                 × (backlog.exit.now.ahead ≡ [])
-                × (backlog.exit.now.answered ≡ backlog.entry.now.answered + length backlog.entry.now.ahead)
-                × GoesOn desk.entry.now.site backlog.entry.now desk.exit.now.site backlog.exit.now) }
+                × (backlog.exit.now.answered ≡ backlog.entry.now.answered + length (flat backlog.entry.now.ahead))
+                × GoesOn desk.entry.now.site backlog.entry.now desk.exit.now.site backlog.exit.now
+                × (desk.exit.now.plan ≡ desk.entry.now.plan)) }
         { answer_all(rt, desk, backlog) },
     );
     answered?;
@@ -66,23 +70,25 @@ pub fn read_next<G: Gate, T: Threads + Wait + Sync>(
     rt: &T,
     alloc: Global,
     piece: &[u8],
-    plan: Plan,
     desk: &mut Desk<G>,
     backlog: &mut Backlog,
 ) -> Result<Vec<Stretch>, OutOfMemory>
-    requires sound { IsSound desk.old.site backlog.old }
-    requires room { backlog.old.answered + length backlog.old.ahead + 1 < 2 ^ 64 }
+    requires sound { IsSound desk.old.site desk.old.plan backlog.old }
+    requires room { backlog.old.answered + length (flat backlog.old.ahead) + 1 < 2 ^ 64 }
     ensures place { OnOk result (desk.new.site.place ≡ desk.old.site.place) }
-    ensures sound { OnOk result (IsSound desk.new.site backlog.new) }
+    ensures plan { OnOk result (desk.new.plan ≡ desk.old.plan) }
+    ensures sound { OnOk result (IsSound desk.new.site desk.new.plan backlog.new) }
     ensures all { OnOk result (backlog.new.ahead ≡ []) }
-    ensures count { OnOk result (backlog.new.answered ≡ backlog.old.answered + length backlog.old.ahead) }
+    ensures count { OnOk result (backlog.new.answered ≡ backlog.old.answered + length (flat backlog.old.ahead)) }
     ensures goes { OnOk result (GoesOn desk.old.site backlog.old desk.new.site backlog.new) }
     ensures parsed { IfOk result (λ list. AreParsed desk.old.site.place.sites (input_records piece.now) (flat list.items)) }
+    ensures windows { IfOk result (λ list. FitWindow desk.old.plan.window list.items) }
 {
     if piece.len() > SMALL {
-        return read_beside(rt, alloc, piece, plan, desk, backlog);
+        return read_beside(rt, alloc, piece, desk, backlog);
     }
     let sites = desk.sites();
+    let window = desk.plan.window;
     answer_all(rt, desk, backlog)?;
-    read_piece(alloc, piece, sites, plan.window)
+    read_piece(alloc, piece, sites, window)
 }

@@ -1,5 +1,7 @@
 //! How a site reads ahead.
 
+ghost use Rattle.std.specs.Prelude.{◌≡◌, ◌<◌};
+
 use rubis_replica::Config;
 
 /// How a text is read ahead.
@@ -14,7 +16,10 @@ pub struct Plan {
 impl Plan {
     /// How a site of that configuration reads ahead: half of its workers read, and a window has at most as many messages as a
     /// batch.
-    pub fn of(config: &Config) -> Plan {
+    pub fn of(config: &Config) -> Plan
+        ensures window { result.window ≡ config.now.batch }
+        ensures some { 0 < result.window }
+    {
         Plan {
             readers: usize::from(config.workers()) / 2,
             window: config.batch() as usize,

@@ -3,20 +3,20 @@
 ghost use Rattle.std.specs.Prelude.{◌≡◌, ◌≤◌, ◌<◌, ◌+◌, ◌^◌, ◌⊎◌, [], List, ℕ, Option, IfErr, IfNone, IfOk, IfSome, IsErrOf, MatchOption, OnOk, length, take};
 ghost use Rattle.rubis_model.specs.Site.{opening_at};
 ghost use Rattle.rubis_replica.specs.State.{SiteState};
-ghost use Rattle.rubis_script.specs.Headline.{AnswersAll, AnswersFirst, AnswersSome, HasAnswered, OfRead, StandsAsProcess, WritesAsProcess};
+ghost use Rattle.rubis_script.specs.Headline.{AnswersAll, AnswersFirst, AnswersJust, HasAnswered, OfRead, StandsAsProcess, WritesAsProcess};
 ghost use Rattle.rubis_script.specs.Runs.{GoesOnWriting, HasReadAhead, IsSound, OfEachAhead, StandsWith};
 ghost use Rattle.rubis_script.specs.SiteRuns.{told_by};
 ghost use Rattle.rubis_engine.specs.Accounts.Ending.{AtEnd};
 ghost use Rattle.rubis_engine.specs.Progress.{IsRun, WrotePrefix};
 ghost use Rattle.rubis_engine.specs.Text.{input_records};
 ghost use Rattle.rubis_reading.specs.Chunked.{HasPending, held_text};
-ghost use Rattle.rubis_reading.specs.Streams.{IsWhole};
+ghost use Rattle.rubis_reading.specs.Runs.{AreSingle, flat};
+ghost use Rattle.rubis_reading.specs.Streams.{IsWhole, NoWholeAfter};
 
 use crate::answering::{answer_all, answer_some};
 use crate::backlog::Backlog;
 use crate::desk::Desk;
 use crate::overlap::read_next;
-use crate::plan::Plan;
 use crate::turns::run_in_turn;
 use rubis_engine::{Count, OutOfMemory, RunFault};
 use rubis_reading::{Ahead, ChunkFault, Chunks, read_parts};
@@ -49,17 +49,15 @@ fn chunk_of(held: usize, ahead: usize) -> usize {
 #[derive(Drop)]
 struct Source<R> {
     chunks: Chunks<R>,
-    plan: Plan,
     alloc: Global,
 }
 
 impl<R: Read + Drop> Source<R> {
-    fn new(alloc: Global, reader: R, plan: Plan) -> Source<R>
+    fn new(alloc: Global, reader: R) -> Source<R>
         ensures { IfSome (R.remaining reader) (λ input. HasPending R.remaining result.chunks (input_records input)) }
     {
         Source {
             chunks: Chunks::new(alloc, reader, BLOCK),
-            plan,
             alloc,
         }
     }
@@ -72,9 +70,10 @@ fn settle<G: Gate, T: Threads + Wait + Sync, W: Write>(
     backlog: &mut Backlog,
     writer: &mut W,
 ) -> Result<(), RunFault>
-    requires { IsSound desk.old.site backlog.old }
+    requires { IsSound desk.old.site desk.old.plan backlog.old }
     ensures place { OnOk result (desk.new.site.place ≡ desk.old.site.place) }
-    ensures sound { OnOk result (IsSound desk.new.site backlog.new) }
+    ensures plan { OnOk result (desk.new.plan ≡ desk.old.plan) }
+    ensures sound { OnOk result (IsSound desk.new.site desk.new.plan backlog.new) }
     ensures ahead { backlog.new.ahead ≡ backlog.old.ahead }
     ensures window { OnOk result (backlog.new.window.items ≡ []) }
     ensures empty { OnOk result (backlog.new.reply.sink ≡ []) }
@@ -99,14 +98,15 @@ fn catch_up<G: Gate, T: Threads + Wait + Sync, W: Write>(
     backlog: &mut Backlog,
     writer: &mut W,
 ) -> Result<(), RunFault>
-    requires sound { IsSound desk.old.site backlog.old }
-    requires room { backlog.old.answered + length backlog.old.ahead + 1 < 2 ^ 64 }
+    requires sound { IsSound desk.old.site desk.old.plan backlog.old }
+    requires room { backlog.old.answered + length (flat backlog.old.ahead) + 1 < 2 ^ 64 }
     ensures place { OnOk result (desk.new.site.place ≡ desk.old.site.place) }
-    ensures sound { OnOk result (IsSound desk.new.site backlog.new) }
+    ensures plan { OnOk result (desk.new.plan ≡ desk.old.plan) }
+    ensures sound { OnOk result (IsSound desk.new.site desk.new.plan backlog.new) }
     ensures all { OnOk result (backlog.new.ahead ≡ []) }
     ensures window { OnOk result (backlog.new.window.items ≡ []) }
     ensures empty { OnOk result (backlog.new.reply.sink ≡ []) }
-    ensures count { OnOk result (backlog.new.answered ≡ backlog.old.answered + length backlog.old.ahead) }
+    ensures count { OnOk result (backlog.new.answered ≡ backlog.old.answered + length (flat backlog.old.ahead)) }
     ensures goes { OnOk result (GoesOnWriting desk.old.site backlog.old desk.new.site backlog.new (W.contents writer.old) (W.contents writer.new)) }
     ensures memory { IsErrOf result RunFault.Memory → W.contents writer.new ≡ W.contents writer.old }
     ensures faults { IfErr result (λ e. (e ≡ RunFault.Write) ⊎ (e ≡ RunFault.Memory)) }
@@ -117,7 +117,8 @@ fn catch_up<G: Gate, T: Threads + Wait + Sync, W: Write>(
 
 // Takes messages that came together apart, so that any number of records can be answered.
 fn make_single(backlog: &mut Backlog) -> Result<(), OutOfMemory>
-    ensures ahead { OnOk result (backlog.new.ahead ≡ backlog.old.ahead) }
+    ensures ahead { OnOk result (flat backlog.new.ahead ≡ flat backlog.old.ahead) }
+    ensures single { OnOk result (AreSingle backlog.new.ahead) }
     ensures window { backlog.new.window.items ≡ backlog.old.window.items }
     ensures sink { backlog.new.reply.sink ≡ backlog.old.reply.sink }
     ensures count { backlog.new.answered ≡ backlog.old.answered }
@@ -136,8 +137,8 @@ fn stop<G: Gate, T: Threads + Wait + Sync, W: Write>(
     writer: &mut W,
     left: u64,
 ) -> Result<(), RunFault>
-    requires sound { IsSound desk.old.site backlog.old }
-    requires more { left < length backlog.old.ahead }
+    requires sound { IsSound desk.old.site desk.old.plan backlog.old }
+    requires more { left < length (flat backlog.old.ahead) }
     requires room { backlog.old.answered + left + 1 < 2 ^ 64 }
     ensures too_long { OnOk result ((first : SiteState) (old : Option (List ℕ)) (records later : List (List (List ℕ)))
         → StandsWith desk.old.site backlog.old first old (W.contents writer.old) records later
@@ -161,15 +162,16 @@ fn go_on<G: Gate, T: Threads + Wait + Sync, R: Read>(
     requires some { 0 < many }
     requires text { many ≤ length (held_text source.old.chunks) }
     requires whole { IsWhole (take many (held_text source.old.chunks)) }
-    requires sound { IsSound desk.old.site backlog.old }
-    requires room { backlog.old.answered + length backlog.old.ahead + 1 < 2 ^ 64 }
-    ensures sound { OnOk result (IsSound desk.new.site backlog.new) }
-    ensures count { OnOk result (backlog.new.answered ≡ backlog.old.answered + length backlog.old.ahead) }
+    requires sound { IsSound desk.old.site desk.old.plan backlog.old }
+    requires room { backlog.old.answered + length (flat backlog.old.ahead) + 1 < 2 ^ 64 }
+    ensures plan { OnOk result (desk.new.plan ≡ desk.old.plan) }
+    ensures sound { OnOk result (IsSound desk.new.site desk.new.plan backlog.new) }
+    ensures count { OnOk result (backlog.new.answered ≡ backlog.old.answered + length (flat backlog.old.ahead)) }
     ensures goes { OnOk result ((now : Option (List ℕ)) → OfEachAhead R.remaining source.old.chunks desk.old.site backlog.old now (λ first old input.
         HasReadAhead R.remaining source.new.chunks desk.new.site backlog.new first old now input)) }
 {
     let (piece, _) = source.chunks.held().split_at(many);
-    let list = read_next(rt, source.alloc, piece, source.plan, desk, backlog)?;
+    let list = read_next(rt, source.alloc, piece, desk, backlog)?;
     source.chunks.pass(many);
     let ahead = Ahead::of(list)?;
     backlog.ahead = ahead;
@@ -183,8 +185,8 @@ fn drain_full<G: Gate, R: Read, W: Write>(
     backlog: &mut Backlog,
     writer: &mut W,
 ) -> Result<(), RunFault>
-    requires { IsSound desk.now.site backlog.old }
-    ensures sound { OnOk result (IsSound desk.now.site backlog.new) }
+    requires { IsSound desk.now.site desk.now.plan backlog.old }
+    ensures sound { OnOk result (IsSound desk.now.site desk.now.plan backlog.new) }
     ensures count { OnOk result (backlog.new.answered ≡ backlog.old.answered) }
     ensures goes { OnOk result (OfEachAhead R.remaining source.now.chunks desk.now.site backlog.old (W.contents writer.old) (λ first old input.
         HasReadAhead R.remaining source.now.chunks desk.now.site backlog.new first old (W.contents writer.new) input)) }
@@ -206,7 +208,7 @@ fn end<G: Gate, T: Threads + Wait + Sync, R: Read, W: Write>(
     limit: u64,
 ) -> Result<Count, RunFault>
     requires none { backlog.old.ahead ≡ [] }
-    requires sound { IsSound desk.old.site backlog.old }
+    requires sound { IsSound desk.old.site desk.old.plan backlog.old }
     requires within { backlog.old.answered ≤ limit }
     requires limit { limit + 1 < 2 ^ 64 }
     requires last { (rows : List (List (List ℕ))) → HasPending R.remaining source.now.chunks rows → rows ≡ input_records (held_text source.now.chunks) }
@@ -224,8 +226,8 @@ fn end<G: Gate, T: Threads + Wait + Sync, R: Read, W: Write>(
         source.alloc,
         source.chunks.held(),
         sites,
-        source.plan.readers,
-        source.plan.window,
+        desk.plan.readers,
+        desk.plan.window,
     )?;
     let ahead = Ahead::of(list)?;
     backlog.ahead = ahead;
@@ -250,10 +252,11 @@ fn wait<G: Gate, T: Threads + Wait + Sync, R: Read, W: Write>(
     writer: &mut W,
     limit: u64,
 ) -> Result<Option<Count>, RunFault>
-    requires sound { IsSound desk.old.site backlog.old }
-    requires within { backlog.old.answered + length backlog.old.ahead ≤ limit }
+    requires sound { IsSound desk.old.site desk.old.plan backlog.old }
+    requires within { backlog.old.answered + length (flat backlog.old.ahead) ≤ limit }
     requires limit { limit + 1 < 2 ^ 64 }
-    ensures sound { IfOk result (λ over. IfNone over (IsSound desk.new.site backlog.new)) }
+    ensures plan { IfOk result (λ over. IfNone over (desk.new.plan ≡ desk.old.plan)) }
+    ensures sound { IfOk result (λ over. IfNone over (IsSound desk.new.site desk.new.plan backlog.new)) }
     ensures within { IfOk result (λ over. IfNone over (backlog.new.answered ≤ limit)) }
     ensures goes { IfOk result (λ over. OfEachAhead R.remaining source.old.chunks desk.old.site backlog.old (W.contents writer.old) (λ first old input.
         MatchOption over (HasReadAhead R.remaining source.new.chunks desk.new.site backlog.new first old (W.contents writer.new) input)
@@ -261,8 +264,10 @@ fn wait<G: Gate, T: Threads + Wait + Sync, R: Read, W: Write>(
     ensures too_long { IsErrOf result RunFault.TooLong → OfEachAhead R.remaining source.old.chunks desk.old.site backlog.old (W.contents writer.old)
         (λ first old input.
         AnswersFirst limit first desk.new.site old (W.contents writer.new) (input_records input)) }
+    ensures cut { IsErrOf result RunFault.Read → backlog.new.answered ≡ backlog.old.answered + length (flat backlog.old.ahead) }
     ensures read { IsErrOf result RunFault.Read → OfEachAhead R.remaining source.old.chunks desk.old.site backlog.old (W.contents writer.old)
-        (λ first old input. AnswersSome first desk.new.site old (W.contents writer.new) (input_records input)) }
+        (λ first old input.
+        AnswersJust (backlog.old.answered + length (flat backlog.old.ahead)) first desk.new.site old (W.contents writer.new) (input_records input)) }
     ensures memory { IsErrOf result RunFault.Memory → OfEachAhead R.remaining source.old.chunks desk.old.site backlog.old (W.contents writer.old)
         (λ first old input.
         WrotePrefix ((told_by first 1).text AtEnd) old (W.contents writer.new) (input_records input)) }
@@ -291,10 +296,11 @@ fn go_on_writing<G: Gate, T: Threads + Wait + Sync, R: Read, W: Write>(
     requires some { 0 < many }
     requires text { many ≤ length (held_text source.old.chunks) }
     requires whole { IsWhole (take many (held_text source.old.chunks)) }
-    requires sound { IsSound desk.old.site backlog.old }
-    requires room { backlog.old.answered + length backlog.old.ahead + 1 < 2 ^ 64 }
-    ensures sound { OnOk result (IsSound desk.new.site backlog.new) }
-    ensures count { OnOk result (backlog.new.answered ≡ backlog.old.answered + length backlog.old.ahead) }
+    requires sound { IsSound desk.old.site desk.old.plan backlog.old }
+    requires room { backlog.old.answered + length (flat backlog.old.ahead) + 1 < 2 ^ 64 }
+    ensures plan { OnOk result (desk.new.plan ≡ desk.old.plan) }
+    ensures sound { OnOk result (IsSound desk.new.site desk.new.plan backlog.new) }
+    ensures count { OnOk result (backlog.new.answered ≡ backlog.old.answered + length (flat backlog.old.ahead)) }
     ensures goes { OnOk result (OfEachAhead R.remaining source.old.chunks desk.old.site backlog.old (W.contents writer.old) (λ first old input.
         HasReadAhead R.remaining source.new.chunks desk.new.site backlog.new first old (W.contents writer.new) input)) }
     ensures memory { IsErrOf result RunFault.Memory → W.contents writer.new ≡ W.contents writer.old }
@@ -314,10 +320,11 @@ fn turn<G: Gate, T: Threads + Wait + Sync, R: Read, W: Write>(
     writer: &mut W,
     limit: u64,
 ) -> Result<Option<Count>, RunFault>
-    requires sound { IsSound desk.old.site backlog.old }
+    requires sound { IsSound desk.old.site desk.old.plan backlog.old }
     requires within { backlog.old.answered ≤ limit }
     requires limit { limit + 1 < 2 ^ 64 }
-    ensures sound { IfOk result (λ over. IfNone over (IsSound desk.new.site backlog.new)) }
+    ensures plan { IfOk result (λ over. IfNone over (desk.new.plan ≡ desk.old.plan)) }
+    ensures sound { IfOk result (λ over. IfNone over (IsSound desk.new.site desk.new.plan backlog.new)) }
     ensures within { IfOk result (λ over. IfNone over (backlog.new.answered ≤ limit)) }
     ensures goes { IfOk result (λ over. OfEachAhead R.remaining source.old.chunks desk.old.site backlog.old (W.contents writer.old) (λ first old input.
         MatchOption over (HasReadAhead R.remaining source.new.chunks desk.new.site backlog.new first old (W.contents writer.new) input)
@@ -325,8 +332,11 @@ fn turn<G: Gate, T: Threads + Wait + Sync, R: Read, W: Write>(
     ensures too_long { IsErrOf result RunFault.TooLong → OfEachAhead R.remaining source.old.chunks desk.old.site backlog.old (W.contents writer.old)
         (λ first old input.
         AnswersFirst limit first desk.new.site old (W.contents writer.new) (input_records input)) }
+    ensures left { IsErrOf result RunFault.Read → NoWholeAfter (held_text source.old.chunks) 1 }
+    ensures cut { IsErrOf result RunFault.Read → backlog.new.answered ≡ backlog.old.answered + length (flat backlog.old.ahead) }
     ensures read { IsErrOf result RunFault.Read → OfEachAhead R.remaining source.old.chunks desk.old.site backlog.old (W.contents writer.old)
-        (λ first old input. AnswersSome first desk.new.site old (W.contents writer.new) (input_records input)) }
+        (λ first old input.
+        AnswersJust (backlog.old.answered + length (flat backlog.old.ahead)) first desk.new.site old (W.contents writer.new) (input_records input)) }
     ensures memory { IsErrOf result RunFault.Memory → OfEachAhead R.remaining source.old.chunks desk.old.site backlog.old (W.contents writer.old)
         (λ first old input.
         WrotePrefix ((told_by first 1).text AtEnd) old (W.contents writer.new) (input_records input)) }
@@ -354,7 +364,7 @@ fn serve<G: Gate, T: Threads + Wait + Sync, R: Read, W: Write>(
     writer: &mut W,
     limit: u64,
 ) -> Result<Count, RunFault>
-    requires sound { IsSound desk.old.site backlog.old }
+    requires sound { IsSound desk.old.site desk.old.plan backlog.old }
     requires within { backlog.old.answered ≤ limit }
     requires limit { limit + 1 < 2 ^ 64 }
     ensures ok { IfOk result (λ count. OfEachAhead R.remaining source.old.chunks desk.old.site backlog.old (W.contents writer.old) (λ first old input.
@@ -363,7 +373,7 @@ fn serve<G: Gate, T: Threads + Wait + Sync, R: Read, W: Write>(
         (λ first old input.
         AnswersFirst limit first desk.new.site old (W.contents writer.new) (input_records input)) }
     ensures read { IsErrOf result RunFault.Read → OfEachAhead R.remaining source.old.chunks desk.old.site backlog.old (W.contents writer.old)
-        (λ first old input. AnswersSome first desk.new.site old (W.contents writer.new) (input_records input)) }
+        (λ first old input. AnswersJust backlog.new.answered first desk.new.site old (W.contents writer.new) (input_records input)) }
     ensures memory { IsErrOf result RunFault.Memory → OfEachAhead R.remaining source.old.chunks desk.old.site backlog.old (W.contents writer.old)
         (λ first old input.
         WrotePrefix ((told_by first 1).text AtEnd) old (W.contents writer.new) (input_records input)) }
@@ -391,7 +401,7 @@ fn run_ahead<G: Gate, T: Threads + Wait + Sync, R: Read + Drop, W: Write>(
     ensures leads { OfRead limit (R.remaining reader) result (λ records.
         HasAnswered desk.old.site desk.new.site (W.contents writer.old) (W.contents writer.new) records) }
 {
-    let mut source = Source::new(alloc, reader, desk.plan);
+    let mut source = Source::new(alloc, reader);
     let mut backlog = Backlog::new(alloc);
     serve(rt, &mut source, desk, &mut backlog, writer, limit)
 }
@@ -403,7 +413,7 @@ fn run_ahead<G: Gate, T: Threads + Wait + Sync, R: Read + Drop, W: Write>(
 ///
 /// # Errors
 ///
-/// `Read` if the reader failed: the first records are answered then, as if there were no more. `Write` if the writer
+/// `Read` if the reader failed: the records that came whole before are answered then, as if there were no more. `Write` if the writer
 /// failed. `Memory` if memory ran out: what was written is a prefix of the whole text. `TooLong` if the input has more
 /// than `limit` records: the first `limit` are answered then.
 pub fn run_desk<G: Gate, T: Threads + Wait + Sync, R: Read + Drop, W: Write>(

@@ -1,13 +1,13 @@
 //! A run of a site that reads each record when those before it are answered.
 
-ghost use Rattle.std.specs.Prelude.{◌≡◌, ◌<◌, ◌+◌, ◌^◌, ◌⊎◌, [], List, Option, IfErr, IfNone, IfOk, IfSome, IsErrOf, OnOk, true};
+ghost use Rattle.std.specs.Prelude.{◌≡◌, ◌≤◌, ◌<◌, ◌+◌, ◌^◌, ◌⊎◌, [], List, Option, IfErr, IfNone, IfOk, IfSome, IsErrOf, OnOk, length, true};
 ghost use Rattle.rubis_engine.specs.Accounts.Ending.{AtEnd};
 ghost use Rattle.rubis_engine.specs.Progress.{Drained, EndsInPrefix, FromStart, IsRun, WrotePrefix};
 ghost use Rattle.rubis_engine.specs.Reading.{Advances};
-ghost use Rattle.rubis_script.specs.Headline.{AnswersAll, AnswersFirst, AnswersSome, HasAnswered, HasMovedSite, OfEachSiteRun, OfRead, Settles, StandsAtSite};
+ghost use Rattle.rubis_script.specs.Headline.{AnswersAll, AnswersFirst, AnswersJust, HasAnswered, HasMovedSite, OfEachSiteRun, OfRead, Settles, StandsAtSite};
 ghost use Rattle.rubis_script.specs.SiteRuns.{told_by};
 ghost use Rattle.rubis_engine.specs.Text.{input_records, rows_text};
-ghost use Rattle.rubis_script.specs.Windows.{AreHeld, held_by};
+ghost use Rattle.rubis_script.specs.Windows.{AreHeld, FitPlan, held_by};
 
 use crate::desk::Desk;
 use rubis_engine::{Count, Run, RunFault, write_out};
@@ -37,6 +37,7 @@ fn settle<G: Gate, T: Threads + Wait + Sync, R: Read, W: Write>(
         (told_by desk.new.site (site_run.old.run.answered + 1)) site_run.old.run.reply.sink (W.contents writer.old) (W.contents writer.new)) }
     ensures leads { OnOk result (Settles desk.old.site site_run.old.window.items desk.new.site []) }
     ensures count { site_run.new.run.answered ≡ site_run.old.run.answered }
+    ensures plan { desk.new.plan ≡ desk.old.plan }
     ensures memory { IsErrOf result RunFault.Memory → W.contents writer.new ≡ W.contents writer.old }
     ensures faults { IfErr result (λ e. (e ≡ RunFault.Write) ⊎ (e ≡ RunFault.Memory)) }
 {
@@ -62,7 +63,8 @@ fn next_or_end<G: Gate, T: Threads + Wait + Sync, R: Read, W: Write>(
         OfEachSiteRun R.remaining site_run.old.run desk.old.site site_run.old.window.items (W.contents writer.old) (λ first old input.
         AnswersAll site_run.old.run.answered first desk.new.site old (W.contents writer.new) (input_records input) count.records))) }
     ensures read { IsErrOf result RunFault.Read → OfEachSiteRun R.remaining site_run.old.run desk.old.site site_run.old.window.items (W.contents writer.old)
-        (λ first old input. AnswersSome first desk.new.site old (W.contents writer.new) (input_records input)) }
+        (λ first old input. AnswersJust site_run.old.run.answered first desk.new.site old (W.contents writer.new) (input_records input)) }
+    ensures count { site_run.new.run.answered ≡ site_run.old.run.answered }
     ensures memory { IsErrOf result RunFault.Memory → EndsInPrefix R.remaining site_run.old.run (held_by desk.old.site site_run.old.window.items)
         (W.contents writer.old) (W.contents writer.new) }
     ensures faults { IfErr result (λ e. (e ≡ RunFault.Read) ⊎ (e ≡ RunFault.Write) ⊎ (e ≡ RunFault.Memory)) }
@@ -82,8 +84,8 @@ fn next_or_end<G: Gate, T: Threads + Wait + Sync, R: Read, W: Write>(
     }
 }
 
-// Passes on what was answered: takes in the messages that are held, unless there is room for more of them and more can be read
-// at once, and writes out, where nothing is held.
+// Passes on what was answered: takes in the messages that are held, unless more can be read at once, and writes out, where
+// nothing is held.
 fn pass_on<G: Gate, T: Threads + Wait + Sync, R: Read, W: Write>(
     rt: &T,
     site_run: &mut SiteRun<R>,
@@ -92,6 +94,8 @@ fn pass_on<G: Gate, T: Threads + Wait + Sync, R: Read, W: Write>(
 ) -> Result<(), RunFault>
     requires held { AreHeld desk.old.site.place site_run.old.window.items site_run.old.run.answered }
     ensures held { OnOk result (AreHeld desk.new.site.place site_run.new.window.items site_run.old.run.answered) }
+    ensures few { OnOk result (length site_run.new.window.items ≤ length site_run.old.window.items) }
+    ensures plan { OnOk result (desk.new.plan ≡ desk.old.plan) }
     ensures same { site_run.new.run.answered ≡ site_run.old.run.answered }
     ensures goes { OnOk result (OfEachSiteRun R.remaining site_run.old.run desk.old.site site_run.old.window.items (W.contents writer.old)
         (λ first old input.
@@ -100,7 +104,7 @@ fn pass_on<G: Gate, T: Threads + Wait + Sync, R: Read, W: Write>(
     ensures faults { IfErr result (λ e. (e ≡ RunFault.Write) ⊎ (e ≡ RunFault.Memory)) }
 {
     let SiteRun { run, window } = site_run;
-    if !window.is_empty() && desk.has_room(window) && !run.records.is_used_up() {
+    if !window.is_empty() && !run.records.is_used_up() {
         return Ok(());
     }
     desk.flush(rt, run.answered, window, &mut run.reply)?;
@@ -117,11 +121,14 @@ fn take_next<G: Gate, T: Threads + Wait + Sync, R: Read, W: Write>(
     requires held { AreHeld desk.old.site.place site_run.old.window.items site_run.old.run.answered }
     requires room { site_run.old.run.answered + 1 < 2 ^ 64 }
     ensures held { IfOk result (λ over. IfNone over (AreHeld desk.new.site.place site_run.new.window.items (site_run.old.run.answered + 1))) }
+    ensures few { IfOk result (λ over. IfNone over (FitPlan desk.new.plan site_run.new.window.items)) }
+    ensures plan { IfOk result (λ over. IfNone over (desk.new.plan ≡ desk.old.plan)) }
     ensures goes { IfOk result (λ over. HasMovedSite R.remaining site_run.old.run site_run.new.run desk.old.site site_run.old.window.items
         desk.new.site site_run.new.window.items (W.contents writer.old) (W.contents writer.new) over) }
     ensures counted { IfOk result (λ over. IfNone over (site_run.new.run.answered ≡ site_run.old.run.answered + 1)) }
+    ensures cut { IsErrOf result RunFault.Read → site_run.new.run.answered ≡ site_run.old.run.answered }
     ensures read { IsErrOf result RunFault.Read → OfEachSiteRun R.remaining site_run.old.run desk.old.site site_run.old.window.items (W.contents writer.old)
-        (λ first old input. AnswersSome first desk.new.site old (W.contents writer.new) (input_records input)) }
+        (λ first old input. AnswersJust site_run.old.run.answered first desk.new.site old (W.contents writer.new) (input_records input)) }
     ensures memory { IsErrOf result RunFault.Memory → EndsInPrefix R.remaining site_run.old.run (held_by desk.old.site site_run.old.window.items)
         (W.contents writer.old) (W.contents writer.new) }
     ensures faults { IfErr result (λ e. (e ≡ RunFault.Read) ⊎ (e ≡ RunFault.Write) ⊎ (e ≡ RunFault.Memory)) }
@@ -155,8 +162,9 @@ fn stop_at<G: Gate, T: Threads + Wait + Sync, R: Read, W: Write>(
     ensures too_long { IsErrOf result RunFault.TooLong → OfEachSiteRun R.remaining site_run.old.run desk.old.site site_run.old.window.items
         (W.contents writer.old) (λ first old input.
         AnswersFirst site_run.old.run.answered first desk.new.site old (W.contents writer.new) (input_records input)) }
+    ensures cut { IsErrOf result RunFault.Read → site_run.new.run.answered ≡ site_run.old.run.answered }
     ensures read { IsErrOf result RunFault.Read → OfEachSiteRun R.remaining site_run.old.run desk.old.site site_run.old.window.items (W.contents writer.old)
-        (λ first old input. AnswersSome first desk.new.site old (W.contents writer.new) (input_records input)) }
+        (λ first old input. AnswersJust site_run.old.run.answered first desk.new.site old (W.contents writer.new) (input_records input)) }
     ensures memory { IsErrOf result RunFault.Memory → EndsInPrefix R.remaining site_run.old.run (held_by desk.old.site site_run.old.window.items)
         (W.contents writer.old) (W.contents writer.new) }
 {
@@ -182,7 +190,7 @@ fn serve<G: Gate, T: Threads + Wait + Sync, R: Read, W: Write>(
     ensures too_long { IsErrOf result RunFault.TooLong → FromStart R.remaining site_run.old.run (λ records.
         AnswersFirst limit desk.old.site desk.new.site (W.contents writer.old) (W.contents writer.new) records) }
     ensures read { IsErrOf result RunFault.Read → FromStart R.remaining site_run.old.run (λ records.
-        AnswersSome desk.old.site desk.new.site (W.contents writer.old) (W.contents writer.new) records) }
+        AnswersJust site_run.new.run.answered desk.old.site desk.new.site (W.contents writer.old) (W.contents writer.new) records) }
     ensures memory { IsErrOf result RunFault.Memory → FromStart R.remaining site_run.old.run (λ records.
         WrotePrefix ((told_by desk.old.site 1).text AtEnd) (W.contents writer.old) (W.contents writer.new) records) }
 {

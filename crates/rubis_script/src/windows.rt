@@ -23,12 +23,11 @@ pub(crate) fn hold(window: &mut Vec<Message>, message: Message) -> Result<(), Ou
 
 /// How many messages are taken in together, where they are read one by one: as many as a batch has. With one worker each is taken
 /// in as it comes.
-pub(crate) fn window_of(config: &Config) -> usize {
-    if config.workers() > 1 {
-        config.batch() as usize
-    } else {
-        1
-    }
+pub(crate) fn window_of(config: &Config) -> usize
+    ensures { result ≤ config.now.batch }
+{
+    let batch = config.batch() as usize;
+    if config.workers() > 1 { batch } else { 1 }
 }
 
 /// Says what became of messages that arrived together, the first of which is the record with that number.

@@ -1,17 +1,24 @@
-use Rattle.std.proofs.Common.{◌≡◌, ◌∙◌, ◌<◌, ap, arith, drop, get_or, inl, length, length-drop, refl, subst, sym, take}
+use Rattle.std.proofs.Common.{◌≡◌, ◌∙◌, ◌<◌, ◌+◌, ap, arith, drop, get_or, inl, length, length-drop, refl, subst, sym, take}
 use Rattle.csv.specs.declared.parser.State.TheVariants as st
 use Rattle.rubis_reading.specs.Standings.{state_of}
-use Rattle.rubis_reading.specs.Streams.{EndsFrom, IsLike, stands}
+use Rattle.rubis_reading.specs.Streams.{EndsFrom, IsLike, NoEndAfter, stands}
+use Rattle.rubis_reading.proofs.EndFacts.{none-between, none-later}
 use Rattle.rubis_reading.proofs.QuoteFacts.{after-quote, front-ends, rest-ends}
 use Rattle.rubis_reading.proofs.cuts.records_end.Goals.{then-line-gt0-2, else-line-gt0-2}
 use Rattle.rubis_reading.proofs.cuts.records_end.Goals as goal
 
 pub quotes-init : goal.quotes-init
 unfolding stands
-quotes-init c = record { like = inl refl; within = omega arith; found = λ some. absurd (omega (arith, some)) }
+quotes-init c = record {
+  like = inl refl;
+  within = omega arith;
+  passed = omega arith;
+  found = λ some. absurd (omega (arith, some));
+  none = λ k lt upto h. absurd (omega (arith, lt, upto));
+}
 
-pub returns-then-line-gt0 : goal.returns-then-line-gt0
-returns-then-line-gt0 c some =
+pub returns-then-line-gt0-clause-ends : goal.returns-then-line-gt0-clause-ends
+returns-then-line-gt0-clause-ends c some =
     let line = c.last_line-line.result in
     rest-ends (state_of c.quotes.at) c.args.text.now c.quotes.place line c.quotes.invariant.within c.quotes.invariant.like
     (subst (λ r. EndsFrom (state_of c.quotes.at) r line) c.split_at.ensures.back (c.last_line-line.ensures.ends c.if-line-gt0.true))
@@ -31,6 +38,7 @@ quotes-preserved c =
     record {
       like = after-quote s (state_of c.over.result) (state_of c.after-at.result) text place quote c.quotes.invariant.like lt is over c.after-at.ensures;
       within = omega (arith, lt, length-drop place text, c.quotes.invariant.within);
+      passed = omega (arith, c.quotes.invariant.passed);
       found = λ some.
           elim c.if-line-gt0-2.branch [
             | then-line-gt0-2 w ↦ subst (λ e. EndsFrom st.StartRecord text e) (sym w.end-is) (
@@ -39,4 +47,30 @@ quotes-preserved c =
                 (front-ends s quote line (drop place text) (subst (λ r. EndsFrom s r line) run (c.last_line-line-in-quotes.ensures.ends w.if-line-gt0-2.true))))
             | else-line-gt0-2 w ↦ subst (λ e. EndsFrom st.StartRecord text e) (sym w.end-is) (c.quotes.invariant.found (subst (λ e. 0 < e) w.end-is some))
           ];
+      none = λ k later upto h.
+          let line = c.last_line-line-in-quotes.result in
+          let last = subst (λ r. NoEndAfter s r line) run c.last_line-line-in-quotes.ensures.last in
+          elim c.if-line-gt0-2.branch [
+            | then-line-gt0-2 w ↦
+                none-between s text place quote line (place + line) c.quotes.invariant.within c.quotes.invariant.like lt is last
+                (λ j after within e. absurd (omega (arith, after, within))) (λ j after past. omega (arith, after, past)) k (subst (λ e. e < k) w.end-is later) (omega (arith, upto)) h
+            | else-line-gt0-2 w ↦
+                none-between s text place quote line c.quotes.end c.quotes.invariant.within c.quotes.invariant.like lt is last
+                c.quotes.invariant.none (λ j after past. omega (arith, w.if-line-gt0-2.false, past)) k (subst (λ e. e < k) w.end-is later) (omega (arith, upto)) h
+          ];
     }
+
+pub returns-then-line-gt0-clause-last : goal.returns-then-line-gt0-clause-last
+returns-then-line-gt0-clause-last c =
+    let line = c.last_line-line.result in
+    let place = c.quotes.place in
+    none-later (state_of c.quotes.at) c.args.text.now place line (place + line) c.quotes.invariant.within c.quotes.invariant.like
+    (subst (λ r. NoEndAfter (state_of c.quotes.at) r line) c.split_at.ensures.back c.last_line-line.ensures.last)
+    (λ j after within e. absurd (omega (arith, after, within))) (λ j after past. omega (arith, after, past))
+
+pub returns-else-line-gt0-clause-last : goal.returns-else-line-gt0-clause-last
+returns-else-line-gt0-clause-last c =
+    let line = c.last_line-line.result in
+    none-later (state_of c.quotes.at) c.args.text.now c.quotes.place line c.quotes.end c.quotes.invariant.within c.quotes.invariant.like
+    (subst (λ r. NoEndAfter (state_of c.quotes.at) r line) c.split_at.ensures.back c.last_line-line.ensures.last)
+    c.quotes.invariant.none (λ j after past. omega (arith, c.if-line-gt0.false, past))

@@ -1,7 +1,7 @@
 use Rattle.std.proofs.Common.{ap, arith, length, subst, sym}
 use Rattle.std.specs.Prelude.{OnOk}
 use Rattle.std.proofs.lemmas.Result.{on_ok_weaker}
-use Rattle.rubis_reading.specs.Runs.{of_stretch}
+use Rattle.rubis_reading.specs.Runs.{FitsWindow, of_stretch}
 use Rattle.rubis_reading.proofs.RunFacts.{came-length}
 use Rattle.rubis_script.specs.Runs.{GoesOnFrom}
 use Rattle.rubis_script.proofs.answering.answer_run.Goals as goal
@@ -10,6 +10,9 @@ pub hold_messages-requires-clause-room : goal.hold_messages-requires-clause-room
 hold_messages-requires-clause-room g c κs within =
     let is = ap (λ r. length (of_stretch r)) c.in-Messages.is in
     omega (arith, is, came-length c.in-Messages.list.items, c.requires.room)
+
+pub hold_messages-requires-clause-window : goal.hold_messages-requires-clause-window
+hold_messages-requires-clause-window g c κs within = subst (λ r. FitsWindow c.args.desk.now.plan.window r) c.in-Messages.is c.requires.window c.args.desk.now.some
 
 pub returns-in-Messages-clause-count : goal.returns-in-Messages-clause-count
 returns-in-Messages-clause-count g c =

@@ -3,7 +3,7 @@ use Rattle.rubis_script.proofs.LoopFacts.{ends_ahead, sound-none, starts}
 use Rattle.rubis_script.proofs.run.run_ahead.Goals as goal
 
 pub serve-requires-clause-sound : goal.serve-requires-clause-sound
-serve-requires-clause-sound g c κs within = sound-none c.args.desk.now.site c.new-backlog.result c.new-backlog.ensures.ahead c.new-backlog.ensures.window
+serve-requires-clause-sound g c κs within = sound-none c.args.desk.now.site c.args.desk.now.plan c.new-backlog.result c.new-backlog.ensures.ahead c.new-backlog.ensures.window
 
 pub returns-clause-run : goal.returns-clause-run
 returns-clause-run g c =
@@ -17,7 +17,7 @@ returns-clause-run g c =
     let old = g.W.Write.contents c.args.writer.now in
     let now = g.W.Write.contents c.serve.new.writer in
     ends_run c.args.limit site new input old now c.serve.result
-    (ends_ahead g.R.Read.remaining chunks site b new c.args.limit input old now c.serve.result c.new-source.ensures
+    (ends_ahead g.R.Read.remaining chunks site b new c.args.limit c.serve.new.backlog.answered input old now c.serve.result c.new-source.ensures
     (λ bytes pending. starts g.R.Read.remaining chunks site b old bytes first.ahead first.window first.empty first.none pending)
     said.ok said.too_long said.read said.memory)
 
@@ -33,6 +33,6 @@ returns-clause-leads g c =
     let old = g.W.Write.contents c.args.writer.now in
     let now = g.W.Write.contents c.serve.new.writer in
     ends_led c.args.limit site new input old now c.serve.result
-    (ends_ahead g.R.Read.remaining chunks site b new c.args.limit input old now c.serve.result c.new-source.ensures
+    (ends_ahead g.R.Read.remaining chunks site b new c.args.limit c.serve.new.backlog.answered input old now c.serve.result c.new-source.ensures
     (λ bytes pending. starts g.R.Read.remaining chunks site b old bytes first.ahead first.window first.empty first.none pending)
     said.ok said.too_long said.read said.memory)

@@ -5,7 +5,7 @@ use Rattle.rubis_script.proofs.run.serve.Given as goal
 
 abbrev pub invariant-steps : goal.invariant-steps
 invariant-steps g l = record {
-  sound : IsSound l.desk.site l.backlog;
+  sound : IsSound l.desk.site l.desk.plan l.backlog;
   within : l.backlog.answered ≤ l.limit;
   stands : (first : SiteState) (old : Option (List ℕ)) (input : List ℕ)
       → HasReadAhead g.R.Read.remaining l.fn.source.chunks l.fn.desk.site l.fn.backlog first old (g.W.Write.contents l.fn.writer) input

@@ -1,7 +1,9 @@
-use Rattle.std.proofs.Common.{◌≡◌, false, refl, rules}
+use Rattle.std.proofs.Common.{◌≡◌, false, refl, rules, subst}
 use Rattle.rubis_engine.specs.Text.{input_records}
+use Rattle.rubis_reading.specs.Runs.{flat}
 use Rattle.rubis_engine.specs.declared.fault.RunFault.TheVariants as fault
 use Rattle.rubis_engine.proofs.RunFacts.{handed_on}
+use Rattle.rubis_script.specs.Headline.{AnswersJust}
 use Rattle.rubis_script.proofs.LoopFacts.{stands-cut, stands-prefix}
 use Rattle.rubis_script.proofs.run.wait.Goals as goal
 
@@ -46,8 +48,9 @@ pub returns-in-Err-Read-clause-read : goal.returns-in-Err-Read-clause-read
 returns-in-Err-Read-clause-read g c e first old input h =
     let b = c.catch_up.new.backlog in
     let site = c.catch_up.new.desk.site in
-    stands-cut site b.ahead b.window.items first old (g.W.Write.contents c.catch_up.new.writer) b.reply.sink b.answered (input_records input) h.later
-    c.in_ok-catch_up.ensures.empty c.in_ok-catch_up.ensures.window (c.in_ok-catch_up.ensures.goes first old (input_records input) h.later h.stands)
+    subst (λ k. AnswersJust k first site old (g.W.Write.contents c.catch_up.new.writer) (input_records input)) c.in_ok-catch_up.ensures.count
+    (stands-cut site (flat b.ahead) b.window.items first old (g.W.Write.contents c.catch_up.new.writer) b.reply.sink b.answered (input_records input) h.later
+    c.in_ok-catch_up.ensures.empty c.in_ok-catch_up.ensures.window (c.in_ok-catch_up.ensures.goes first old (input_records input) h.later h.stands))
 
 pub returns-in-Err-Memory-clause-memory : goal.returns-in-Err-Memory-clause-memory
 returns-in-Err-Memory-clause-memory g c e first old input h =

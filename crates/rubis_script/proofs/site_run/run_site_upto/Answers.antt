@@ -8,13 +8,13 @@ use Rattle.rubis_script.proofs.site_run.run_site_upto.Goals as goal
 
 pub returns-clause-run : goal.returns-clause-run
 returns-clause-run g c =
-    let (place, state) = c.in_ok-desk.ensures in
+    let (place, state) = c.in_ok-desk.ensures.site in
     subst₂ (λ (p : Place) (s : Replica). IsRun (site_account p s 1) c.args.limit (g.R.Read.remaining c.args.reader) (g.W.Write.contents c.args.writer.now) (g.W.Write.contents c.run_desk.new.writer) c.run_desk.result)
     place state c.run_desk.ensures.run
 
 pub returns-clause-process : goal.returns-clause-process
 returns-clause-process g c =
-    let (place, state) = c.in_ok-desk.ensures in
+    let (place, state) = c.in_ok-desk.ensures.site in
     let input = g.R.Read.remaining c.args.reader in
     let old = g.W.Write.contents c.args.writer.now in
     let now = g.W.Write.contents c.run_desk.new.writer in

@@ -9,6 +9,11 @@ use Rattle.rubis_script.proofs.turns.stop_at.Goals as goal
 pub returns-in-Some-clause-ok : goal.returns-in-Some-clause-ok
 returns-in-Some-clause-ok g c = if_some _ c.in_ok-count.field-0 c.in-Some.count c.in_ok-count.ensures.done c.in-Some.is
 
+pub returns-in_err-count-clause-read : goal.returns-in_err-count-clause-read
+returns-in_err-count-clause-read g c e first old input p =
+    let read = handed_on c.from_residual.result c.in_err-count.field-0.0 fault.Read c.from_residual.ensures e in
+    c.in_err-count.ensures.read (rw read refl) first old input p
+
 pub settle-requires-clause-held : goal.settle-requires-clause-held
 settle-requires-clause-held g c κs within =
     let same = if_none c.in_ok-count.field-0 c.in_ok-count.ensures.same c.in_default.is in
