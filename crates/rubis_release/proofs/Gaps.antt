@@ -9,7 +9,7 @@ use Rattle.rubis_clock.specs.Clocks.{MessageCounts, IsReady}
 use Rattle.rubis_message.specs.Message.{Message}
 use Rattle.rubis_model.specs.Settle.{Has}
 use Rattle.rubis_release.specs.Release.{AllAmong, IsFirst, NoneReady}
-use Rattle.rubis_release.specs.Waiting.{Slots, somes, put_some, IsItsSlot, HaveTheirIds, AreSlots, IsReadySlot, IsFirstOf, NoSlotOf, TakesFirst, is_there}
+use Rattle.rubis_release.specs.Waiting.{Slots, somes, put_some, IsItsSlot, HaveTheirIds, AreApart, AreSlots, IsReadySlot, IsFirstOf, NoSlotOf, TakesFirst, is_there}
 use Rattle.std.specs.Map.{keys_of, lookup, values_of}
 use mathlib.Core.Bool.{true≢false}
 use Rattle.rubis_schema.specs.Keys.{same_id}
@@ -141,6 +141,11 @@ ids_stay [] at h = h
 ids_stay (e ∷ es) zero h = (tt, h.1)
 ids_stay (e ∷ es) (suc i) h = (h.0, ids_stay es i h.1)
 
+keys_stay : (es : Slots) (at : ℕ) (v : Option Message) → keys_of (set_value_at es at v) ≡ keys_of es
+keys_stay [] at v = refl
+keys_stay (e ∷ es) zero v = refl
+keys_stay (e ∷ es) (suc i) v = ap (λ ks. e.0 ∷ ks) (keys_stay es i v)
+
 pub slots_stay : (es : Slots) (at gone : ℕ) (k : Id) (m : Message) → slice_get es at ≡ Some (k, Some m) → AreSlots es gone → AreSlots (set_value_at es at None) (gone + 1)
 slots_stay es at gone k m there slots =
     let h = split_slots es at k m there in
@@ -148,7 +153,11 @@ slots_stay es at gone k m there slots =
     let new = ap (λ (zs : Slots). length (somes zs)) h.after ∙ ap length (somes_append h.front ((k, None) ∷ h.back)) ∙ length-append (somes h.front) (somes h.back) in
     let all = ap length h.before ∙ length-append h.front ((k, Some m) ∷ h.back) in
     let left = ap length h.after ∙ length-append h.front ((k, None) ∷ h.back) in
-    record { own = ids_stay es at slots.own; gone = omega (arith, slots.gone, old, new, all, left) }
+    record {
+      own = ids_stay es at slots.own;
+      apart = subst (IsDistinct same_id) (sym (keys_stay es at None)) slots.apart;
+      gone = omega (arith, slots.gone, old, new, all, left);
+    }
 
 -- ---- empty slots go
 pub somes_kept : (es : Slots) → somes (filter (λ e. is_some e.1) es) ≡ somes es
@@ -246,8 +255,9 @@ own_more : (es : Slots) (k : Id) (m : Message) → HaveTheirIds es → m.stamp.i
 own_more [] k m h is = (is, tt)
 own_more (e ∷ es) k m h is = (h.0, own_more es k m h.1 is)
 
-pub slots_more : (es : Slots) (gone : ℕ) (k : Id) (m : Message) → AreSlots es gone → m.stamp.id ≡ k → AreSlots (es ++ (k, Some m) ∷ []) gone
-slots_more es gone k m slots is =
+pub slots_more : (es : Slots) (gone : ℕ) (k : Id) (m : Message) → AreSlots es gone → m.stamp.id ≡ k → AreApart (es ++ (k, Some m) ∷ [])
+    → AreSlots (es ++ (k, Some m) ∷ []) gone
+slots_more es gone k m slots is apart =
     let a = ap length (somes_append es ((k, Some m) ∷ [])) ∙ length-append (somes es) (m ∷ []) in
     let b = length-append es ((k, Some m) ∷ []) in
-    record { own = own_more es k m slots.own is; gone = omega (arith, a, b, slots.gone) }
+    record { own = own_more es k m slots.own is; apart = apart; gone = omega (arith, a, b, slots.gone) }

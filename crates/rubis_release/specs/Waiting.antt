@@ -1,6 +1,8 @@
 -- The slots of the messages that wait: by id, in arrival order, and empty where one was taken out.
 use Rattle.std.specs.Prelude.{◌≡◌, ℕ, ◌+◌, ◌≤◌, ⊤, List, [], ◌∷◌, length, Option, None, Some, slice_get, min, Bool, false, is_some}
-use Rattle.std.specs.List.{remove}
+use Rattle.std.specs.List.{IsDistinct, remove}
+use Rattle.std.specs.Map.{keys_of}
+use Rattle.rubis_schema.specs.Keys.{same_id}
 use Rattle.rubis_schema.specs.declared.ids.Id.{Id}
 use Rattle.rubis_clock.specs.Clocks.{MessageCounts, IsReady}
 use Rattle.rubis_message.specs.Message.{Message}
@@ -27,8 +29,13 @@ abbrev pub HaveTheirIds : Slots → Type 0
 HaveTheirIds [] = ⊤
 HaveTheirIds (e ∷ es) = IsItsSlot e.0 e.1 × HaveTheirIds es
 
+-- no two slots have one id
+abbrev pub AreApart : Slots → Type 0
+AreApart es = IsDistinct same_id (keys_of es)
+
 pub record AreSlots (es : Slots) (empty : ℕ) : Type 0 where
   pub own : HaveTheirIds es
+  pub apart : AreApart es
   pub gone : length (somes es) + empty ≡ length es
 
 -- of one site, a message in a slot that is ready

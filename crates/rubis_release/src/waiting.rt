@@ -5,7 +5,7 @@ ghost use Rattle.rubis_message.specs.Message as model;
 ghost use Rattle.std.specs.List.{list_any};
 ghost use Rattle.rubis_schema.specs.Keys.{same_id};
 ghost use Rattle.rubis_release.specs.Release.{AllAmong};
-ghost use Rattle.rubis_release.specs.Waiting.{NoneTaken, TakesFirst, IsFirstOf, HaveTheirIds, AreSlots, first_of, is_there, somes};
+ghost use Rattle.rubis_release.specs.Waiting.{NoneTaken, TakesFirst, IsFirstOf, HaveTheirIds, AreApart, AreSlots, first_of, is_there, somes};
 ghost use Rattle.indexmap.specs.IndexMap.{get};
 
 use indexmap::IndexMap;
@@ -70,8 +70,6 @@ impl Waiting {
         if self.slots.is_empty() {
             return false;
         }
-        // For the clause that no two slots have one id.
-        let _many = self.slots.len();
         has_message(&self.slots, id)
     }
 
@@ -99,11 +97,10 @@ impl Waiting {
         requires { AllAmong (length clock.now.counts) self.old }
         ensures { MatchOption result (NoneTaken clock.now self.old self.new) (λ m. TakesFirst clock.now self.old m self.new) }
     {
-        if self.slots.is_empty() {
+        let slots = self.slots.len();
+        if slots == 0 {
             return None;
         }
-        // For the clause that there are not too many.
-        let _many = self.slots.len();
         let at = first_ready(&self.slots, clock)?;
         let Some(slot) = self.slots.get_index_mut(at) else {
             unreachable!()
@@ -178,8 +175,6 @@ fn make_place(slots: &mut IndexMap<Id, Option<Message>, KeyHashes>, gone: usize,
     }
     let none = gone == slots.len();
     close(slots, none);
-    // For the clause that no two slots have one id.
-    let _many = slots.len();
     0
 }
 
@@ -198,6 +193,7 @@ fn close(slots: &mut IndexMap<Id, Option<Message>, KeyHashes>, none: bool)
     requires { none ≡ true → somes slots.old.entries ≡ [] }
     ensures same { somes slots.new.entries ≡ somes slots.old.entries }
     ensures own { HaveTheirIds slots.old.entries → HaveTheirIds slots.new.entries }
+    ensures apart { AreApart slots.new.entries }
     ensures full { length (somes slots.new.entries) ≡ length slots.new.entries }
 {
     if none {
@@ -223,14 +219,13 @@ fn ready_of(
     requires site { site < length clock.now.counts }
     requires among { AllAmong (length clock.now.counts) (somes slots.now.entries) }
     requires own { HaveTheirIds slots.now.entries }
+    requires apart { AreApart slots.now.entries }
     ensures { IsFirstOf clock.now slots.now.entries (λ j. j ≡ site) result }
 {
     let id = Id {
         site,
         seq: clock.count(site).saturating_add(1),
     };
-    // For the clause that no two slots have one id.
-    let _many = slots.len();
     let Some((at, _key, slot)) = slots.get_full(&id) else {
         return None;
     };
@@ -259,6 +254,7 @@ fn earlier(a: Option<usize>, b: Option<usize>) -> Option<usize>
 fn first_ready(slots: &IndexMap<Id, Option<Message>, KeyHashes>, clock: &Clock) -> Option<usize>
     requires among { AllAmong (length clock.now.counts) (somes slots.now.entries) }
     requires own { HaveTheirIds slots.now.entries }
+    requires apart { AreApart slots.now.entries }
     ensures { IsFirstOf clock.now slots.now.entries (λ j. j < length clock.now.counts) result }
 {
     let mut first = None;

@@ -11,7 +11,7 @@ use crate::folding::apply_upto;
 use crate::following::{Followed, follow_by_team};
 use crate::gate::Gate;
 use crate::task::FollowBatch;
-use crate::workers::{LogBatch, Workers};
+use crate::workers::{LogBatch, TeamSetup, Workers};
 use rubis_pieces::homes_of;
 use rubis_schema::Items;
 use rubis_shard::{Shard, Tables};
@@ -127,8 +127,13 @@ fn apply_together<G: Gate, R: Threads + Wait + Sync>(
         homes: &homes,
         first: from as u32 + 1,
     };
+    let setup = TeamSetup {
+        most: threads,
+        gate: &workers.gate,
+        alloc: workers.alloc,
+    };
     let taken = tables.take();
-    let result = follow_by_team(rt, workers.alloc, taken, &task, threads, &workers.gate);
+    let result = follow_by_team(rt, &setup, taken, &task);
     match result {
         Ok(followed) => {
             let Followed {

@@ -12,6 +12,7 @@ use crate::gate::Gate;
 use crate::rooms::Rooms;
 use crate::task::FoldShares;
 use crate::team::{Job, Teamwork, fan_out};
+use crate::workers::TeamSetup;
 use rubis_board::Poster;
 use rubis_pieces::{Left, Piece, gather};
 use rubis_schema::Items;
@@ -70,33 +71,31 @@ fn post_all<R: Wait>(
     poster
 }
 
-/// Folds each share on its shard as `apply_beside` does, and tells who took the shards.
+/// Folds each share on its shard as `apply_beside` does, by a team that is set up so, and tells who took the shards.
 pub fn apply_by_team<G: Gate, R: Threads + Wait + Sync, A, F: FnOnce() -> A>(
     rt: &R,
-    alloc: Global,
+    setup: &TeamSetup<G>,
     shards: Vec<Shard>,
     shares: Vec<Share>,
-    workers: usize,
-    gate: &G,
     beside: F,
 ) -> (Result<TeamResult, Unstarted>, A)
     requires some { 0 < length shards.items }
     requires order { AreInOrder shards.items }
     requires belong { Belong shards.items shares.items }
-    requires workers { (0 < workers) × (workers ≤ WORKERS_MAX) }
+    requires workers { (0 < setup.now.most) × (setup.now.most ≤ WORKERS_MAX) }
     requires beside { F.pre beside }
     ensures folded { IfOk result.0 (λ r. AreWorked shards.items shares.items r.worked) }
     ensures batch { IfOk result.0 (λ r. AppliesBatch shards.items shares.items r.worked) }
     ensures others { IfOk result.0 (λ r. r.others ≤ length shards.items) }
-    ensures alone { workers ≡ 1 → IfOk result.0 (λ r. r.others ≡ 0) }
+    ensures alone { setup.now.most ≡ 1 → IfOk result.0 (λ r. r.others ≡ 0) }
     ensures back { IfErr result.0 (λ unstarted. (unstarted.shards ≡ shards.items) × (unstarted.shares ≡ shares.items)) }
     ensures answer { F.post beside result.1 }
-    ensures team { IfOk result.0 (λ r. r.team ≡ min workers (length shards.items)) }
-    ensures few { IfOk result.0 (λ r. (0 < r.team) × (r.team ≤ workers)) }
+    ensures team { IfOk result.0 (λ r. r.team ≡ min setup.now.most (length shards.items)) }
+    ensures few { IfOk result.0 (λ r. (0 < r.team) × (r.team ≤ setup.now.most)) }
 {
     let pieces = shards.len();
-    let team = workers.min(pieces);
-    let Ok(rooms) = Rooms::new(alloc, pieces, team) else {
+    let team = setup.most.min(pieces);
+    let Ok(rooms) = Rooms::new(setup.alloc, pieces, team) else {
         let unstarted = Unstarted {
             shards: shards.into(),
             shares: shares.into(),
@@ -121,7 +120,7 @@ pub fn apply_by_team<G: Gate, R: Threads + Wait + Sync, A, F: FnOnce() -> A>(
         &Job {
             board: &board,
             task: &FoldShares,
-            gate,
+            gate: setup.gate,
         },
         pass,
         mine,
@@ -171,7 +170,12 @@ pub fn apply_beside<G: Gate, R: Threads + Wait + Sync, A, F: FnOnce() -> A>(
     ensures back { IfErr result.0 (λ unstarted. (unstarted.shards ≡ shards.items) × (unstarted.shares ≡ shares.items)) }
     ensures answer { F.post beside result.1 }
 {
-    let (result, answer) = apply_by_team(rt, alloc, shards, shares, workers, gate, beside);
+    let setup = TeamSetup {
+        most: workers,
+        gate,
+        alloc,
+    };
+    let (result, answer) = apply_by_team(rt, &setup, shards, shares, beside);
     match result {
         Ok(result) => (Ok(result.worked), answer),
         Err(unstarted) => (Err(unstarted), answer),

@@ -14,6 +14,7 @@ use crate::gate::Gate;
 use crate::rooms::Rooms;
 use crate::task::FollowBatch;
 use crate::team::{Job, Teamwork, fan_out};
+use crate::workers::TeamSetup;
 use rubis_board::Poster;
 use rubis_pieces::{Counted, Piece, gather_counted};
 use rubis_schema::Items;
@@ -72,32 +73,30 @@ fn rooms_for(
     Ok((rooms, dones))
 }
 
-/// Folds the parts of a batch on the shards of a set, each on its home, straight from the messages and as far as memory goes, by at
-/// most `workers` threads, from 1 to 16, and no more than there are shards. The caller's thread is one of them. The gate is called
-/// for each shard that is taken. Where there is no room to begin, the shards come back. No entry of the batch is above 1,000,000.
+/// Folds the parts of a batch on the shards of a set, each on its home, straight from the messages and as far as memory goes, by a
+/// team that is set up so, of no more threads than there are shards. The caller's thread is one of them. The gate is called for each
+/// shard that is taken. Where there is no room to begin, the shards come back. No entry of the batch is above 1,000,000.
 pub fn follow_by_team<G: Gate, R: Threads + Wait + Sync>(
     rt: &R,
-    alloc: Global,
+    setup: &TeamSetup<G>,
     shards: Vec<Shard>,
     task: &FollowBatch,
-    workers: usize,
-    gate: &G,
 ) -> Result<Followed, Items<Shard>>
     requires some { 0 < length shards.items }
     requires order { AreInOrder shards.items }
     requires entries { task.now.first + length task.now.batch.now ≤ 1000001 }
     requires homes { AreHomes (length shards.items) (cores task.now.batch.now) task.now.homes.now }
-    requires workers { (0 < workers) × (workers ≤ WORKERS_MAX) }
+    requires workers { (0 < setup.now.most) × (setup.now.most ≤ WORKERS_MAX) }
     ensures followed { IfOk result (λ r. AreFollowed task.now.first (cores task.now.batch.now) shards.items r.shards r.dones) }
     ensures others { IfOk result (λ r. r.others ≤ length shards.items) }
-    ensures alone { workers ≡ 1 → IfOk result (λ r. r.others ≡ 0) }
+    ensures alone { setup.now.most ≡ 1 → IfOk result (λ r. r.others ≡ 0) }
     ensures back { IfErr result (λ back. back ≡ shards.items) }
-    ensures team { IfOk result (λ r. r.team ≡ min workers (length shards.items)) }
-    ensures few { IfOk result (λ r. (0 < r.team) × (r.team ≤ workers)) }
+    ensures team { IfOk result (λ r. r.team ≡ min setup.now.most (length shards.items)) }
+    ensures few { IfOk result (λ r. (0 < r.team) × (r.team ≤ setup.now.most)) }
 {
     let pieces = shards.len();
-    let team = workers.min(pieces);
-    let Ok((rooms, dones)) = rooms_for(alloc, pieces, team) else {
+    let team = setup.most.min(pieces);
+    let Ok((rooms, dones)) = rooms_for(setup.alloc, pieces, team) else {
         return Err(shards.into());
     };
     let Rooms {
@@ -106,7 +105,7 @@ pub fn follow_by_team<G: Gate, R: Threads + Wait + Sync>(
         mine,
         others,
     } = rooms;
-    let poster = post_bare(rt, alloc, poster, shards);
+    let poster = post_bare(rt, setup.alloc, poster, shards);
     let (board, pass) = poster.open();
     let Teamwork {
         pass,
@@ -118,7 +117,7 @@ pub fn follow_by_team<G: Gate, R: Threads + Wait + Sync>(
         &Job {
             board: &board,
             task,
-            gate,
+            gate: setup.gate,
         },
         pass,
         mine,

@@ -22,4 +22,4 @@ pub use pace::Pace;
 pub use rubis_pieces::{count_behind, follow_rest, misfits};
 pub use rubis_shard::Tables;
 pub use task::FollowBatch;
-pub use workers::{LogBatch, Workers};
+pub use workers::{LogBatch, TeamSetup, Workers};

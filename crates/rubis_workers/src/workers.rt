@@ -16,6 +16,25 @@ pub struct Workers<G> {
     pub alloc: Global,
 }
 
+/// How a team is set up for one batch.
+pub struct TeamSetup<'a, G> {
+    /// The most threads that take part, the caller's included, from 1 to 16.
+    pub most: usize,
+    /// What each of them calls for a shard that it takes.
+    pub gate: &'a G,
+    pub alloc: Global,
+}
+
+impl<'a, G> Drop for TeamSetup<'a, G> {
+    fn drop(self) {
+        let TeamSetup {
+            most: _,
+            gate: _,
+            alloc: _,
+        } = self;
+    }
+}
+
 /// The messages of a log after message `from`, up to message `upto`.
 #[derive(Clone, Copy, Drop)]
 pub struct LogBatch<'a> {

@@ -1,7 +1,7 @@
 use Rattle.std.proofs.Common.{◌≡◌, length, sym, ap, ◌∙◌, subst, rules}
 use Rattle.std.specs.Prelude.{filter, is_some}
 use Rattle.indexmap.proofs.CallerLemmas.{filter-RetainsPairs}
-use Rattle.rubis_release.specs.Waiting.{Slots, somes, HaveTheirIds}
+use Rattle.rubis_release.specs.Waiting.{Slots, somes, HaveTheirIds, AreApart}
 use Rattle.rubis_release.proofs.Gaps.{somes_kept, own_kept, full_kept}
 use Rattle.rubis_release.proofs.waiting.close.Goals as goal
 
@@ -11,6 +11,7 @@ returns-then-none c =
     record {
       same = ap somes is ∙ sym (c.requires c.if-none.true);
       own = λ h. subst HaveTheirIds (sym is) tt;
+      apart = c.truncate.ensures.unique;
       full = ap (λ (es : Slots). length (somes es)) is ∙ sym (ap length is);
     }
 
@@ -22,5 +23,6 @@ returns c =
     record {
       same = ap somes is ∙ somes_kept es;
       own = λ h. subst HaveTheirIds (sym is) (own_kept es h);
+      apart = subst AreApart (sym c.give_room_back.ensures) c.retain.ensures.unique;
       full = ap (λ (fs : Slots). length (somes fs)) is ∙ full_kept es ∙ sym (ap length is);
     }

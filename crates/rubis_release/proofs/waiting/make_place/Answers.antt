@@ -17,11 +17,11 @@ close-requires c = λ e.
     nil_from_length (somes c.args.slots.now.entries) (omega (arith, same, c.len.ensures.len, c.requires.slots.gone))
 
 pub returns-clause-slots : goal.returns-clause-slots
-returns-clause-slots c = record { own = c.close.ensures.own c.requires.slots.own; gone = omega (arith, c.close.ensures.full) }
+returns-clause-slots c = record { own = c.close.ensures.own c.requires.slots.own; apart = c.close.ensures.apart; gone = omega (arith, c.close.ensures.full) }
 
 pub returns-clause-absent : goal.returns-clause-absent
 returns-clause-absent c =
     let es = c.close.new.slots.entries in
     full_lookup (same_id c.args.id.now) es c.close.ensures.full
-    (has_told es c.args.id.now (c.close.ensures.own c.requires.slots.own) c.len-many.ensures.unique
+    (has_told es c.args.id.now (c.close.ensures.own c.requires.slots.own) c.close.ensures.apart
     ∙ ap (list_any (λ (m : Message). same_id c.args.id.now m.stamp.id)) c.close.ensures.same ∙ c.requires.none)

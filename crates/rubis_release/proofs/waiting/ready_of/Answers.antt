@@ -22,7 +22,7 @@ returns-in_default-slot c =
     let id : Id = record { site = c.args.site; seq = c.saturating_add.result } in
     found_none c.args.clock.now c.args.slots.now.entries id c.requires.own
     (λ m h. (c.requires.among m h).id.small) (λ l. omega (arith, l, c.saturating_add.ensures, c.count.ensures))
-    c.in-Some.at c.in-Some._key.now c.in-Some.slot.now c.len-many.ensures.unique c.in-Some.ensures.entry
+    c.in-Some.at c.in-Some._key.now c.in-Some.slot.now c.requires.apart c.in-Some.ensures.entry
     (key_passes (same_id id) c.args.slots.now.entries c.in-Some._key.now c.in-Some.ensures.key)
     (λ m is ready. c.in_default-slot.not-Some m is)
 
@@ -44,7 +44,7 @@ returns-then-not-ready c =
     let id : Id = record { site = c.args.site; seq = c.saturating_add.result } in
     found_none c.args.clock.now c.args.slots.now.entries id c.requires.own
     (λ m h. (c.requires.among m h).id.small) (λ l. omega (arith, l, c.saturating_add.ensures, c.count.ensures))
-    c.in-Some.at c.in-Some._key.now c.in-Some.slot.now c.len-many.ensures.unique c.in-Some.ensures.entry
+    c.in-Some.at c.in-Some._key.now c.in-Some.slot.now c.requires.apart c.in-Some.ensures.entry
     (key_passes (same_id id) c.args.slots.now.entries c.in-Some._key.now c.in-Some.ensures.key)
     (λ m is ready.
     let same = un_some c.in-Some-slot.message m (sym c.in-Some-slot.is ∙ is) in
@@ -57,7 +57,7 @@ returns c =
     let id : Id = record { site = c.args.site; seq = c.saturating_add.result } in
     found_first c.args.clock.now c.args.slots.now.entries id c.requires.own
     (λ m h. (c.requires.among m h).id.small) (λ l. omega (arith, l, c.saturating_add.ensures, c.count.ensures))
-    c.in-Some.at c.in-Some._key.now c.in-Some.slot.now c.len-many.ensures.unique c.in-Some.ensures.entry
+    c.in-Some.at c.in-Some._key.now c.in-Some.slot.now c.requires.apart c.in-Some.ensures.entry
     (key_passes (same_id id) c.args.slots.now.entries c.in-Some._key.now c.in-Some.ensures.key)
     c.in-Some-slot.message c.in-Some-slot.is
     (subst (IsReady c.args.clock.now) c.stamp.ensures.value (c.ready.ensures.0 c.if-not-ready.false))

@@ -10,7 +10,7 @@ close-requires c = λ e.
     nil_from_length (somes c.self.inside.slots.entries) (omega (arith, same, c.len.ensures.len, c.self.invariant.gone))
 
 pub invariant_of-self : goal.invariant_of-self
-invariant_of-self c = record { own = c.close.ensures.own c.self.invariant.own; gone = omega (arith, c.close.ensures.full) }
+invariant_of-self c = record { own = c.close.ensures.own c.self.invariant.own; apart = c.close.ensures.apart; gone = omega (arith, c.close.ensures.full) }
 
 pub returns : goal.returns
 returns c = c.close.ensures.same ∙ c.self.view_is

@@ -12,5 +12,5 @@ returns-then-is_empty c =
 
 pub returns : goal.returns
 returns c =
-    c.has_message.ensures ∙ has_told c.self.inside.slots.entries c.args.id.now c.self.invariant.own c.len-many.ensures.unique
+    c.has_message.ensures ∙ has_told c.self.inside.slots.entries c.args.id.now c.self.invariant.own c.self.invariant.apart
     ∙ ap (list_any (λ (m : Message). same_id c.args.id.now m.stamp.id)) c.self.view_is

@@ -6,7 +6,7 @@ use Rattle.rubis_schema.specs.Keys.{same_id}
 use Rattle.rubis_schema.specs.declared.ids.Id.{Id}
 use Rattle.rubis_clock.specs.declared.stamps.Stamp.{Stamp}
 use Rattle.rubis_message.specs.Message.{Message}
-use Rattle.rubis_release.specs.Waiting.{AreSlots, somes}
+use Rattle.rubis_release.specs.Waiting.{AreApart, AreSlots, somes}
 use Rattle.rubis_release.proofs.Gaps.{new_last, slots_more, somes_append}
 use Rattle.rubis_release.proofs.waiting.Waiting.push.Goals as goal
 
@@ -20,7 +20,8 @@ invariant_of-self-2 c =
     let k = c.stamp.result.now.id in
     let es = c.make_place-self-inside.new.slots.entries in
     subst (λ fs. AreSlots fs c.make_place-self-inside.result) (sym (c.in-Ok.ensures.entries ∙ ap (λ fs. insert_entry same_id fs k (Some c.args.message)) c.reserve.ensures.entries ∙ new_last k (Some c.args.message) es c.make_place-self-inside.ensures.absent))
-    (slots_more es c.make_place-self-inside.result k c.args.message c.make_place-self-inside.ensures.slots (sym (ap (λ (s : Stamp). s.id) c.stamp.ensures.value)))
+    (slots_more es c.make_place-self-inside.result k c.args.message c.make_place-self-inside.ensures.slots (sym (ap (λ (s : Stamp). s.id) c.stamp.ensures.value))
+    (subst AreApart (c.in-Ok.ensures.entries ∙ ap (λ fs. insert_entry same_id fs k (Some c.args.message)) c.reserve.ensures.entries ∙ new_last k (Some c.args.message) es c.make_place-self-inside.ensures.absent) c.insert.ensures.unique))
 
 pub returns-clause-ok : goal.returns-clause-ok
 returns-clause-ok c =

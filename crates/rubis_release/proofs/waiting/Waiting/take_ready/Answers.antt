@@ -10,10 +10,10 @@ use Rattle.rubis_release.proofs.waiting.Waiting.take_ready.Goals as goal
 pub first_ready-requires-clause-among : goal.first_ready-requires-clause-among
 first_ready-requires-clause-among c = subst (AllAmong (length c.args.clock.now.counts)) (sym c.self.view_is) c.requires
 
-pub returns-then-is_empty : goal.returns-then-is_empty
-returns-then-is_empty c = (
+pub returns-then-slots-eq0 : goal.returns-then-slots-eq0
+returns-then-slots-eq0 c = (
   nothing_ready c.args.clock.now c.args.self.now
-      (nothing_waits c.self.inside.slots.entries c.args.self.now (c.if-is_empty.ensures.0 refl) c.self.view_is),
+      (nothing_waits c.self.inside.slots.entries c.args.self.now (sym c.len-slots.ensures.len ∙ c.if-slots-eq0.true) c.self.view_is),
   refl,
 )
 
@@ -36,7 +36,7 @@ unreachable-requires-in_default-take c =
     ∙ un_some c.in-Some.slot.now (Some r.message) (c.in-Some.ensures.value ∙ values_at c.self.inside.slots.entries c.in_ok-at.at r.key (Some r.message) r.there))
 
 pub overflow_add-self : goal.overflow_add-self
-overflow_add-self c = omega (arith, c.self.invariant.gone, c.len-many.ensures.len, c.len-many.ensures.small)
+overflow_add-self c = omega (arith, c.self.invariant.gone, c.len-slots.ensures.len, c.len-slots.ensures.small)
 
 pub invariant_of-self : goal.invariant_of-self
 invariant_of-self c =
