@@ -10,6 +10,7 @@ pub mod Knowing
 pub mod Lacking
 pub mod LineFacts
 pub mod Merging
+pub mod Opened
 pub mod Placing
 pub mod Showing
 pub mod SiteTests

@@ -1,6 +1,6 @@
 //! Logs as an auditor is given them.
 
-ghost use Rattle.std.specs.Prelude.{◌≡◌, ◌++◌, ◌∷◌, [], None, OnErr, OnOk, Some, option_map, true, unwrap_or};
+ghost use Rattle.std.specs.Prelude.{◌≡◌, ◌++◌, ◌∷◌, [], OnErr, OnOk, Some, option_map, true, unwrap_or};
 
 use rubis_message::Message;
 use rubis_schema::{Fields, Items};
@@ -71,9 +71,13 @@ impl Log {
 
     /// Whether it has no message and claims no row.
     pub(crate) fn is_nothing(&self) -> bool
-        ensures { result ≡ true → (self.now.messages ≡ []) × (self.now.rows ≡ None) }
+        ensures { result ≡ true → (self.now.messages ≡ []) × (unwrap_or self.now.rows [] ≡ []) }
     {
-        self.messages.is_empty() && self.rows.is_none()
+        let claims_none = match &self.rows {
+            Some(rows) => rows.is_empty(),
+            None => true,
+        };
+        self.messages.is_empty() && claims_none
     }
 
     /// Puts a message last. Without memory for it the log stays as it was.
