@@ -12,6 +12,7 @@ pub mod LineFacts
 pub mod Merging
 pub mod Opened
 pub mod Placing
+pub mod Repeats
 pub mod Showing
 pub mod SiteTests
 pub mod Walking

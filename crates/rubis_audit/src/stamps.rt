@@ -5,18 +5,19 @@ ghost use Rattle.rubis_message.specs.Message as model;
 ghost use Rattle.rubis_message.specs.Message.{sites_of};
 ghost use Rattle.rubis_model.specs.Verdict.{comes_before};
 ghost use Rattle.rubis_audit.specs.Lookups.{clash_by_id, differs_by, early_by, exceeds, forgets_by_id, gap_by, order_by, taken_by_red};
-ghost use Rattle.rubis_audit.specs.Seen.{Sees};
+ghost use Rattle.rubis_audit.specs.Seen.{Sees, id_in};
 
 use crate::seen::Seen;
 use rubis_clock::Clock;
 use rubis_message::Message;
 use rubis_schema::Id;
 
-/// Whether another message has the id of `v`.
-pub fn clashes(seen: &Seen, v: &Message) -> bool
-    ensures { (all : List model.Message) → Sees seen.now all → result ≡ clash_by_id all v.now }
+/// Whether another message has the id of `v`, which `known` has.
+pub fn clashes(_seen: &Seen, known: Option<&Message>, v: &Message) -> bool
+    requires { option_copied known ≡ id_in _seen.now v.now.stamp.id }
+    ensures { (all : List model.Message) → Sees _seen.now all → result ≡ clash_by_id all v.now }
 {
-    match seen.with_id(v.stamp().id) {
+    match known {
         Some(u) => u != v,
         None => false,
     }
