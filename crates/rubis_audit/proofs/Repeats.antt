@@ -1,5 +1,5 @@
--- A message that was seen already adds nothing to what look-ups find.
-use Rattle.std.proofs.Common.{ℕ, ◌≡◌, List, [], ◌∷◌, ◌++◌, Bool, true, false, cond, refl, sym, ap, ◌∙◌, Option, Some, None, inl, inr}
+-- A message that was seen already adds nothing to what look-ups find, and none has number 0.
+use Rattle.std.proofs.Common.{ℕ, ◌≡◌, List, [], ◌∷◌, ◌++◌, Bool, true, false, cond, refl, sym, ap, ◌∙◌, subst, ⊎_elim, arith, Option, Some, None, inl, inr}
 use Rattle.std.specs.Prelude.{◌==◌, not, is_some, option_copied}
 use Rattle.std.specs.Borrow.{Bor}
 use Rattle.std.specs.Option.{option_map_or, option_or}
@@ -8,9 +8,10 @@ use Rattle.rubis_schema.specs.KeyLaws.{Decides-same_id}
 use Rattle.rubis_schema.specs.Keys.{same_id}
 use Rattle.rubis_schema.specs.declared.ids.Id.{Id}
 use Rattle.rubis_message.specs.Equal.{Decides-same_message, same_message}
-use Rattle.rubis_message.specs.Message.{Message}
+use Rattle.rubis_message.specs.Message.{IsMessage, Message}
 use Rattle.rubis_model.specs.Settle.{Has}
-use Rattle.rubis_audit.specs.Lookups.{by_message_id, by_red, clash_by_id}
+use Rattle.rubis_model.proofs.Lists.{push_cases}
+use Rattle.rubis_audit.specs.Lookups.{by_message_id, by_red, clash_by_id, exceeds}
 use Rattle.rubis_audit.specs.Seen.{Sees, id_in}
 use Rattle.rubis_audit.specs.declared.seen.Seen.{Seen}
 use Rattle.rubis_audit.proofs.Finding.{by_id_push, by_red_push}
@@ -44,14 +45,19 @@ again_red r all m h = by_red_push r all m ∙ at (r == m.stamp.red) refl
     at true t = let f = some_red r all m h t in or_found (by_red r all) f.0 m f.1
     at false t = or_none (by_red r all)
 
+pub more_formed : (all : List Message) (m : Message) → ((u : Message) → Has u all → IsMessage u) → IsMessage m → (u : Message) → Has u (all ++ m ∷ []) → IsMessage u
+more_formed all m formed f u h = ⊎_elim (λ l. formed u l) (λ e. subst IsMessage (sym e) f) (push_cases u m all h)
+
 seen_again : (s : Seen) (all : List Message) (m u : Message) → id_in s m.stamp.id ≡ Some u → Sees s all → clash_by_id all m ≡ false → Sees s (all ++ m ∷ [])
 seen_again s all m u k h clear =
     let e : by_message_id m.stamp.id all ≡ Some u = sym (h.ids m.stamp.id) ∙ k in
     let same : u ≡ m = (Decides-same_message u m).0 (not_false _ (sym (ap (λ o. option_map_or (λ w. not (same_message w m)) o false) e) ∙ clear)) in
     let f : by_message_id m.stamp.id all ≡ Some m = e ∙ ap Some same in
+    let there = (found_id m.stamp.id all m f).0 in
     record {
+      formed = more_formed all m h.formed (h.formed m there);
       ids = λ i. h.ids i ∙ sym (again_id i all m f);
-      reds = λ r. h.reds r ∙ sym (again_red r all m (found_id m.stamp.id all m f).0);
+      reds = λ r. h.reds r ∙ sym (again_red r all m there);
     }
 
 pub seen_known : (s : Seen) (known : Option (Bor Message)) (all : List Message) (m : Message) → is_some known ≡ true → option_copied known ≡ id_in s m.stamp.id
@@ -63,3 +69,15 @@ pub none_known : (known there : Option (Bor Message)) → is_some known ≡ fals
 none_known None None t k = refl
 none_known None (Some u) t k = absurd (let q : None ≡ Some u.now = k in cc)
 none_known (Some u) there t k = absurd (true≢false t)
+
+-- no message has number 0
+pub none_at_nought : (s : Seen) (all : List Message) (v : Message) (last : Id) → Sees s all → last.seq ≡ 0 → option_map_or (exceeds v) (by_message_id last all) false ≡ false
+none_at_nought s all v last h z = at (by_message_id last all) refl
+  where
+    at : (o : Option Message) → by_message_id last all ≡ o → option_map_or (exceeds v) o false ≡ false
+    at None e = refl
+    at (Some u) e =
+        let f = found_id last all u e in
+        let p = (h.formed u f.0).id.positive in
+        let q = ap (λ (i : Id). i.seq) f.1 in
+        absurd (omega (arith, p, q, z))

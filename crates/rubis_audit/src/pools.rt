@@ -52,6 +52,7 @@ impl Pool {
     }
 
     // Keeps a message that isn't there.
+    #[inline(always)]
     fn keep(&mut self, message: Message) -> Result<Shared<Message>, AllocError>
         ensures { IfOk result (λ shared. shared ≡ message) }
     {

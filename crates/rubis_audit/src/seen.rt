@@ -4,6 +4,7 @@ ghost use Rattle.std.specs.Prelude.{◌≡◌, ◌++◌, ◌∷◌, [], List, If
 ghost use Rattle.std.specs.HashMap as hash;
 ghost use Rattle.rubis_schema.specs.Keys.{same_id};
 ghost use Rattle.rubis_message.specs.Message as model;
+ghost use Rattle.rubis_message.specs.Message.{IsMessage};
 ghost use Rattle.rubis_audit.specs.Lookups.{clash_by_id};
 ghost use Rattle.rubis_audit.specs.Seen.{FirstById, FirstByRed, Sees, id_in, red_in};
 
@@ -87,7 +88,8 @@ impl<'a> Seen<'a> {
         known: Option<&Message>,
         message: &'a Message,
     ) -> Result<(), AllocError>
-        requires { option_copied known ≡ id_in self.old message.now.stamp.id }
+        requires conditions { IsMessage message.now }
+        requires known { option_copied known ≡ id_in self.old message.now.stamp.id }
         ensures { OnOk result ((all : List model.Message) → Sees self.old all → clash_by_id all message.now ≡ false
             → Sees self.new (all ++ message.now ∷ [])) }
     {
