@@ -15,8 +15,10 @@ use std::io::Print;
 fn verdict_on(alloc: Global, messages: Items<Message>) -> Result<Verdict, AllocError>
     requires { All (λ m. sites_of m ≡ 2) messages }
 {
-    let shared = Pool::new(alloc).share_all(messages.as_slice())?;
-    audit(alloc, &[Log::new(0, shared, None)], 2)
+    let mut pool = Pool::new(alloc);
+    let shared = pool.share_all(messages.as_slice())?;
+    let log = Log::new(0, shared, None);
+    audit(alloc, &[log], 2)
 }
 
 // The verdict on the log of a shop.
