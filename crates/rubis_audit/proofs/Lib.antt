@@ -10,7 +10,9 @@ pub mod Knowing
 pub mod Lacking
 pub mod LineFacts
 pub mod Merging
+pub mod Opened
 pub mod Placing
+pub mod Repeats
 pub mod Showing
 pub mod SiteTests
 pub mod Walking

@@ -1,12 +1,13 @@
 -- How a walk goes on: over a log, and from log to log.
-use Rattle.std.proofs.Common.{ℕ, ◌≡◌, ◌+◌, ◌*◌, ◌^◌, ◌≤◌, ◌<◌, zero, suc, List, [], ◌∷◌, ◌++◌, length, get_or, take, drop, Bool, false, cond, replicate, refl, sym, ap, ◌∙◌, subst, arith, Option, Some, None, inl, inr, drop-cons, add-one, append_assoc}
-use Rattle.std.specs.Prelude.{option_map, reverse, not, slice_get, find}
+use Rattle.std.proofs.Common.{ℕ, ◌≡◌, ◌+◌, ◌*◌, ◌^◌, ◌≤◌, ◌<◌, zero, suc, List, [], ◌∷◌, ◌++◌, length, get_or, take, drop, Bool, true, false, cond, replicate, refl, sym, ap, ◌∙◌, subst, arith, Option, Some, None, inl, inr, drop-cons, add-one, append_assoc}
+use Rattle.std.specs.Prelude.{option_map, reverse, not, slice_get, find, unwrap_or}
 use Rattle.std.specs.FinMap as map
 use Rattle.std.specs.Option.{option_or, option_map_or}
 use Rattle.std.proofs.lemmas.List.{append-nil, drop_all, get_or-replicate, length-replicate, length-take-le, take_all, take_more}
 use Rattle.std.proofs.lemmas.Grind.{flat_map-append, same_number_lists}
 use Rattle.std.proofs.lemmas.Option.{get_or_from_slice_get}
 use Rattle.rubis_schema.specs.Ids.{IsId}
+use Rattle.rubis_schema.specs.Tables.{Tables}
 use Rattle.rubis_schema.specs.declared.listings.Listing.TheVariants as listing
 use Rattle.rubis_shadow.specs.Shadows.{is_red}
 use Rattle.rubis_clock.specs.Clocks.{MessageCounts, IsReady, advanced, opening_clock}
@@ -34,10 +35,12 @@ use Rattle.rubis_shard.specs.States.{ShardState}
 use Rattle.rubis_shard.proofs.Unions.{union_of_log}
 use Rattle.rubis_release.specs.Release.{IsAmong, clock_of}
 use Rattle.rubis_release.proofs.Counting.{clock_more, counts_at, length_counts, ready_by_clock}
+use Rattle.rubis_audit.specs.Lookups.{clash_by_id}
 use Rattle.rubis_audit.specs.Past.{IsFaultless, Remembers, Shows, checks_by}
 use Rattle.rubis_audit.specs.Seen.{Sees}
 use Rattle.rubis_audit.specs.Walks.{HaveMessagesAmong, IsWalked, Walked, messages_of_logs}
 use Rattle.rubis_audit.specs.declared.seen.Seen.{Seen}
+use Rattle.rubis_audit.proofs.Opened.{nothing_shown}
 use Rattle.rubis_audit.proofs.Judging.{checks_are, known_log, known_none, known_push, ready}
 
 -- ---- what stands before an entry
@@ -215,8 +218,13 @@ walked_found sites seen after clock last shards logs at log n v k l e w m i f ot
   λ q. absurd cc,
 )
 
+-- no message and no row: the tables show none either
+claims_none : (o : Option (List (List (List ℕ)))) → unwrap_or o [] ≡ [] → option_map_or (λ rows. not (same_rows rows (shown_rows []))) o false ≡ false
+claims_none None e = refl
+claims_none (Some rows) e = (λ i. not (same_rows (e i) (nothing_shown i)))
+
 -- of a log of nothing
-pub walked_nothing : (seen : Seen) (logs : List Log) (at : ℕ) (log : Log) → at < length logs → log ≡ get_or logs at log → log.messages ≡ [] → log.rows ≡ None
+pub walked_nothing : (seen : Seen) (logs : List Log) (at : ℕ) (log : Log) → at < length logs → log ≡ get_or logs at log → log.messages ≡ [] → unwrap_or log.rows [] ≡ []
     → Walked seen (take at logs) → IsWalked seen logs at None
 walked_nothing seen logs at log l e m r w other g = (
   subst (λ (x : Log). None ≡ log_fault (messages_of_logs (take at logs)) x) same (λ i. option_or (first_fault (messages_of_logs (take at logs)) log.site [] (sym m i)) (cond (none_wrong i) (Some (kind.Rows, 0)) None)),
@@ -227,7 +235,7 @@ walked_nothing seen logs at log l e m r w other g = (
     same = same_log logs at log other l e g
 
     none_wrong : false ≡ wrong_rows log
-    none_wrong = λ i. option_map_or (λ rows. not (same_rows rows (shown_rows log.messages))) (sym r i) false
+    none_wrong = sym (claims_none log.rows r) ∙ (λ i. option_map_or (λ rows. not (same_rows rows (shown_rows (sym m i)))) log.rows false)
 
     said : messages_of_logs (take (at + 1) logs) ≡ messages_of_logs (take at logs)
     said = next_said at logs other l g ∙ ap (λ xs. messages_of_logs (take at logs) ++ xs) (ap (λ (x : Log). x.messages) (sym same) ∙ m) ∙ append-nil (messages_of_logs (take at logs))
@@ -261,6 +269,18 @@ walked_end sites after clock last shards logs at log n wrong l e w m r other g =
 
     said_more : messages_of_logs (take (at + 1) logs) ≡ messages_of_logs (take at logs) ++ log.messages
     said_more = next_said at logs log l (g ∙ ap Some (sym same))
+
+first_clear : (b : Bool) (k : Kind) (o : Option Kind) → cond b (Some k) o ≡ None → b ≡ false
+first_clear true k o e = absurd cc
+first_clear false k o e = refl
+
+-- where no check finds a fault, no other message has the id
+pub no_clash : (site : ℕ) (clock : MessageCounts) (last : Option Message) (t : Tables) (all : List Message) (v : Message) → first_of (checks_by site clock last t all v) ≡ None → clash_by_id all v ≡ false
+no_clash site clock last t all v e = first_clear (clash_by_id all v) kind.Clash _ e
+
+-- the value of a shared entry of a log
+pub entry_is : (items messages : List Message) (n : ℕ) (shared v : Message) → items ≡ messages → shared ≡ get_or items n shared → v ≡ shared → v ≡ get_or messages n v
+entry_is items messages n shared v same is e = subst (λ xs. v ≡ get_or xs n v) same (subst (λ u. u ≡ get_or items n u) (sym e) is)
 
 -- a message of a log counts `sites` sites and belongs to one of them
 pub among_at : (sites : ℕ) (logs : List Log) (at : ℕ) (log : Log) (n : ℕ) (v : Message) → HaveMessagesAmong sites logs → at < length logs → log ≡ get_or logs at log

@@ -5,7 +5,8 @@ use Rattle.std.specs.HashMap as hash
 use Rattle.std.specs.Option.{option_or}
 use Rattle.rubis_schema.specs.Keys.{same_id}
 use Rattle.rubis_schema.specs.declared.ids.Id.{Id}
-use Rattle.rubis_message.specs.Message.{Message}
+use Rattle.rubis_message.specs.Message.{IsMessage, Message}
+use Rattle.rubis_model.specs.Settle.{Has}
 use Rattle.rubis_audit.specs.declared.seen.Seen.{Seen}
 use Rattle.rubis_audit.specs.Lookups.{by_message_id, by_red}
 
@@ -15,8 +16,9 @@ id_in s i = option_copied (hash.get same_id s.by_id i)
 abbrev pub red_in : Seen → ℕ → Option Message
 red_in s r = option_copied (hash.get nat_eq s.by_red r)
 
--- the look-ups find the first of all these messages with the id, and with the red number
+-- all these messages are formed, and the look-ups find the first of them with the id, and with the red number
 pub record Sees (s : Seen) (all : List Message) : Type 0 where
+  pub formed : (m : Message) → Has m all → IsMessage m
   pub ids : (i : Id) → id_in s i ≡ by_message_id i all
   pub reds : (r : ℕ) → red_in s r ≡ by_red r all
 

@@ -20,11 +20,12 @@ use crate::audits::audit_hashed;
 use crate::lacks::write_lacks;
 use crate::lines::{Line, read_line};
 use crate::logs::Log;
+use crate::pools::Pool;
 use crate::questions::Question;
 use crate::verdicts::{write_bad_record, write_verdict};
 use rubis_engine::{Answering, Course, InputRecord, OutOfMemory, Reply, Service, Sink};
 use rubis_message::{Message, Verdict};
-use rubis_schema::{Fields, Hashes, Items};
+use rubis_schema::{Fields, Hashes, Items, Shared};
 use std::alloc::{AllocError, Global};
 use std::marker::Model;
 
@@ -36,6 +37,7 @@ pub struct Auditor {
     // The logs before the one that is read, in order.
     ended: Vec<Log>,
     current: Option<Log>,
+    pool: Pool,
     // Whether the end was reached, and nothing wrong was found.
     well: bool,
     sites: u8,
@@ -70,7 +72,7 @@ fn end_log(ended: &mut Vec<Log>, current: Option<Log>) -> Result<(), AllocError>
 }
 
 // Appends a message to the log that is read, if there is one that claims no row so far, and says whether there is.
-fn push_message(current: &mut Option<Log>, message: Message) -> Result<bool, AllocError>
+fn push_message(current: &mut Option<Log>, message: Shared<Message>) -> Result<bool, AllocError>
     ensures ok { IfOk result (λ pushed. (ended : List logs.Log) → MatchBool pushed
         (with_line (logs_so_far ended current.old) (Next message) ≡ Some (logs_so_far ended current.new))
         (with_line (logs_so_far ended current.old) (Next message) ≡ None)) }
@@ -150,6 +152,7 @@ impl Auditor {
             asked,
             ended: Vec::new(alloc),
             current: None,
+            pool: Pool::new(alloc),
             well: false,
             sites,
             hashes,
@@ -190,7 +193,10 @@ impl Auditor {
                 self.begin(site)?;
                 Ok(true)
             }
-            Line::Next(message) => push_message(&mut self.current, message),
+            Line::Next(message) => {
+                let message = self.pool.share(message)?;
+                push_message(&mut self.current, message)
+            }
             Line::Claim => claim_row(self.alloc, &mut self.current, fields),
         }
     }

@@ -14,6 +14,15 @@ use rubis_message::Verdict;
 use rubis_schema::Hashes;
 use std::alloc::{AllocError, Global};
 
+// How many messages the longest log has.
+fn longest(logs: &[Log]) -> usize {
+    let mut many = 0;
+    for log in logs {
+        many = log.messages().len().max(many);
+    }
+    many
+}
+
 /// The first fault of these logs, in order, or Agree if there is none. Logs of which it says Agree pass the checks together, and
 /// are sound: they causally serialize one RedBlue order, and the invariants hold over all of them. It hashes by keys that are the
 /// same in each run; `audit_hashed` takes others.
@@ -48,7 +57,7 @@ pub fn audit_hashed(
     ensures faultless { IfOk result (λ found. found ≡ Agree → AreFaultless logs.now) }
     ensures sound { IfOk result (λ found. found ≡ Agree → AreSound logs.now) }
 {
-    let mut seen = Seen::new(alloc, hashes);
+    let mut seen = Seen::with_room(alloc, hashes, longest(logs))?;
     for at in 0..logs.len() {
         if let Some((kind, entry)) = walk(alloc, &mut seen, logs, at, sites)? {
             return Ok(Verdict::Found(kind, at + 1, entry));

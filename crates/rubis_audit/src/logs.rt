@@ -1,16 +1,17 @@
 //! Logs as an auditor is given them.
 
-ghost use Rattle.std.specs.Prelude.{◌≡◌, ◌++◌, ◌∷◌, [], None, OnErr, OnOk, Some, option_map, true, unwrap_or};
+ghost use Rattle.std.specs.Prelude.{◌≡◌, ◌++◌, ◌∷◌, [], OnErr, OnOk, Some, option_map, true, unwrap_or};
 
 use rubis_message::Message;
-use rubis_schema::{Fields, Items};
+use rubis_schema::{Fields, Items, Shared};
 use std::alloc::{AllocError, Global};
 use std::marker::Model;
 
-/// The log of a site: its messages in release order, and the rows of its tables as it claims them, if it does.
+/// The log of a site: its messages in release order, which other logs may have too, and the rows of its tables as it claims them, if
+/// it does.
 pub struct Log {
     site: u8,
-    messages: Items<Message>,
+    messages: Items<Shared<Message>>,
     rows: Option<Items<Fields>>,
 }
 
@@ -35,7 +36,7 @@ impl Model for Log {
 
 impl Log {
     /// The log of that site with these messages, in release order, and with the rows that it claims, if it does.
-    pub fn new(site: u8, messages: Items<Message>, rows: Option<Items<Fields>>) -> Log
+    pub fn new(site: u8, messages: Items<Shared<Message>>, rows: Option<Items<Fields>>) -> Log
         ensures { result ≡ record { site = site; messages = messages; rows = rows } }
     {
         Log {
@@ -53,7 +54,7 @@ impl Log {
     }
 
     /// The messages, in release order.
-    pub fn messages(&self) -> &[Message]
+    pub fn messages(&self) -> &[Shared<Message>]
         ensures { result.now ≡ self.now.messages }
     {
         self.messages.as_slice()
@@ -71,13 +72,17 @@ impl Log {
 
     /// Whether it has no message and claims no row.
     pub(crate) fn is_nothing(&self) -> bool
-        ensures { result ≡ true → (self.now.messages ≡ []) × (self.now.rows ≡ None) }
+        ensures { result ≡ true → (self.now.messages ≡ []) × (unwrap_or self.now.rows [] ≡ []) }
     {
-        self.messages.is_empty() && self.rows.is_none()
+        let claims_none = match &self.rows {
+            Some(rows) => rows.is_empty(),
+            None => true,
+        };
+        self.messages.is_empty() && claims_none
     }
 
     /// Puts a message last. Without memory for it the log stays as it was.
-    pub fn push(&mut self, message: Message) -> Result<(), AllocError>
+    pub fn push(&mut self, message: Shared<Message>) -> Result<(), AllocError>
         ensures ok { OnOk result (self.new ≡ record self.old { messages = self.old.messages ++ message ∷ [] }) }
         ensures err { OnErr result (self.new ≡ self.old) }
     {

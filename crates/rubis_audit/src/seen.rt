@@ -1,9 +1,11 @@
 //! All messages so far, found by id and by red number.
 
-ghost use Rattle.std.specs.Prelude.{◌≡◌, ◌++◌, ◌∷◌, [], List, OnOk, nat_eq, option_copied};
+ghost use Rattle.std.specs.Prelude.{◌≡◌, ◌++◌, ◌∷◌, [], List, IfOk, None, OnOk, false, nat_eq, option_copied};
 ghost use Rattle.std.specs.HashMap as hash;
 ghost use Rattle.rubis_schema.specs.Keys.{same_id};
 ghost use Rattle.rubis_message.specs.Message as model;
+ghost use Rattle.rubis_message.specs.Message.{IsMessage};
+ghost use Rattle.rubis_audit.specs.Lookups.{clash_by_id};
 ghost use Rattle.rubis_audit.specs.Seen.{FirstById, FirstByRed, Sees, id_in, red_in};
 
 use rubis_message::Message;
@@ -20,13 +22,12 @@ pub struct Seen<'a> {
     pub(crate) hashes: Hashes,
 }
 
-// Files the message under its id, unless there is one under it already.
+// Files the message under its id, under which there is none.
 fn note_id<'a>(map: &mut HashMap<Id, &'a Message>, message: &'a Message) -> Result<(), AllocError>
+    requires { hash.get same_id map.old message.now.stamp.id ≡ None }
     ensures { OnOk result (FirstById (hash.get same_id map.old) message.now (hash.get same_id map.new)) }
 {
-    if map.get(&message.stamp().id).is_none() {
-        map.insert(message.stamp().id, message)?;
-    }
+    map.insert(message.stamp().id, message)?;
     Ok(())
 }
 
@@ -52,6 +53,21 @@ impl<'a> Seen<'a> {
         }
     }
 
+    /// No messages, with room for so many.
+    pub(crate) fn with_room(
+        alloc: Global,
+        hashes: Hashes,
+        many: usize,
+    ) -> Result<Seen<'a>, AllocError>
+        ensures { IfOk result (λ seen. Sees seen []) }
+    {
+        Ok(Seen {
+            by_id: HashMap::with_capacity(alloc, many)?,
+            by_red: HashMap::with_capacity(alloc, many)?,
+            hashes,
+        })
+    }
+
     // The first message with that id.
     pub(crate) fn with_id(&self, id: Id) -> Option<&'a Message>
         ensures { option_copied result ≡ id_in self.now id }
@@ -66,10 +82,20 @@ impl<'a> Seen<'a> {
         self.by_red.get(&red).copied()
     }
 
-    // Appends a message to those seen.
-    pub(crate) fn note(&mut self, message: &'a Message) -> Result<(), AllocError>
-        ensures { OnOk result ((all : List model.Message) → Sees self.old all → Sees self.new (all ++ message.now ∷ [])) }
+    // Appends a message to those seen, of which `known` has its id. It is the same message, so there is nothing to file.
+    pub(crate) fn note(
+        &mut self,
+        known: Option<&Message>,
+        message: &'a Message,
+    ) -> Result<(), AllocError>
+        requires conditions { IsMessage message.now }
+        requires known { option_copied known ≡ id_in self.old message.now.stamp.id }
+        ensures { OnOk result ((all : List model.Message) → Sees self.old all → clash_by_id all message.now ≡ false
+            → Sees self.new (all ++ message.now ∷ [])) }
     {
+        if known.is_some() {
+            return Ok(());
+        }
         note_id(&mut self.by_id, message)?;
         note_red(&mut self.by_red, message)
     }

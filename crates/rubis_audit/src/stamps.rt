@@ -1,22 +1,24 @@
 //! The checks of an entry by its stamp.
 
-ghost use Rattle.std.specs.Prelude.{◌≡◌, List, length, option_copied};
+ghost use Rattle.std.specs.Prelude.{◌≡◌, List, false, length, option_copied};
+ghost use Rattle.std.specs.Option.{option_map_or};
 ghost use Rattle.rubis_message.specs.Message as model;
 ghost use Rattle.rubis_message.specs.Message.{sites_of};
 ghost use Rattle.rubis_model.specs.Verdict.{comes_before};
-ghost use Rattle.rubis_audit.specs.Lookups.{clash_by_id, differs_by, early_by, exceeds, forgets_by_id, gap_by, order_by, taken_by_red};
-ghost use Rattle.rubis_audit.specs.Seen.{Sees};
+ghost use Rattle.rubis_audit.specs.Lookups.{by_message_id, clash_by_id, differs_by, early_by, exceeds, forgets_by_id, gap_by, order_by, taken_by_red};
+ghost use Rattle.rubis_audit.specs.Seen.{Sees, id_in};
 
 use crate::seen::Seen;
 use rubis_clock::Clock;
 use rubis_message::Message;
 use rubis_schema::Id;
 
-/// Whether another message has the id of `v`.
-pub fn clashes(seen: &Seen, v: &Message) -> bool
-    ensures { (all : List model.Message) → Sees seen.now all → result ≡ clash_by_id all v.now }
+/// Whether another message has the id of `v`, which `known` has.
+pub fn clashes(_seen: &Seen, known: Option<&Message>, v: &Message) -> bool
+    requires { option_copied known ≡ id_in _seen.now v.now.stamp.id }
+    ensures { (all : List model.Message) → Sees _seen.now all → result ≡ clash_by_id all v.now }
 {
-    match seen.with_id(v.stamp().id) {
+    match known {
         Some(u) => u != v,
         None => false,
     }
@@ -36,6 +38,19 @@ fn exceeds(v: &Message, u: &Message) -> bool
     false
 }
 
+// Whether the message with that id, if there is one, counts more of some site than `v` does. None has number 0.
+fn last_exceeds(seen: &Seen, last: Id, v: &Message) -> bool
+    ensures { (all : List model.Message) → Sees seen.now all → result ≡ option_map_or (exceeds v.now) (by_message_id last all) false }
+{
+    if last.seq == 0 {
+        return false;
+    }
+    match seen.with_id(last) {
+        Some(u) => exceeds(v, u),
+        None => false,
+    }
+}
+
 // Whether what `v` counts last of some site counts more than `v` does.
 fn forgets(seen: &Seen, v: &Message) -> bool
     ensures { (all : List model.Message) → Sees seen.now all → result ≡ forgets_by_id all v.now }
@@ -46,9 +61,7 @@ fn forgets(seen: &Seen, v: &Message) -> bool
             site: j as u8,
             seq: mine[j],
         };
-        if let Some(u) = seen.with_id(last)
-            && exceeds(v, u)
-        {
+        if last_exceeds(seen, last, v) {
             return true;
         }
     }

@@ -10,7 +10,7 @@ ghost use Rattle.rubis_model.specs.Log.{core};
 ghost use Rattle.rubis_model.specs.Verdict.{first_of};
 ghost use Rattle.rubis_shard.specs.Holdings.{HoldsLog, TakesOn, union};
 ghost use Rattle.rubis_audit.specs.Past.{checks_by};
-ghost use Rattle.rubis_audit.specs.Seen.{Sees};
+ghost use Rattle.rubis_audit.specs.Seen.{Sees, id_in};
 ghost use Rattle.rubis_audit.specs.Walks.{HaveMessagesAmong, IsWalked, Walked};
 
 use crate::contents::{nick_taken, stock_short, wrong_reference, wrong_winner};
@@ -24,6 +24,7 @@ use rubis_schema::Hashes;
 use rubis_shadow::Colour;
 use rubis_shard::{LogEntry, Tables};
 use std::alloc::{AllocError, Global};
+use std::ops::Deref;
 
 // What stands before an entry of a log: its clock, its last red message, its tables.
 #[derive(Drop)]
@@ -46,15 +47,16 @@ impl<'a> Past<'a> {
         })
     }
 
-    // The first fault of the next entry of a log of that site.
-    fn fault_of(&self, site: u8, seen: &Seen, v: &Message) -> Option<Kind>
-        requires { sites_of v.now ≡ length self.now.clock.counts }
+    // The first fault of the next entry of a log of that site, where `known` has its id.
+    fn fault_of(&self, site: u8, seen: &Seen, known: Option<&Message>, v: &Message) -> Option<Kind>
+        requires sites { sites_of v.now ≡ length self.now.clock.counts }
+        requires known { option_copied known ≡ id_in seen.now v.now.stamp.id }
         ensures conditions { IsMessage v.now }
         ensures fault { (all : List model.Message) → Sees seen.now all
             → result ≡ first_of (checks_by site self.now.clock (option_copied self.now.last_red) (union self.now.tables) all v.now) }
     {
         let shadow = v.shadow();
-        if clashes(seen, v) {
+        if clashes(seen, known, v) {
             Some(Kind::Clash)
         } else if out_of_order(site, seen, &self.clock, v) {
             Some(Kind::Order)
@@ -107,12 +109,14 @@ fn walk_entries<'a>(
 {
     let log = &logs[at];
     let mut past = Past::new(alloc, sites, seen.hashes)?;
-    for (n, v) in log.messages().iter().enumerate() {
-        if let Some(kind) = past.fault_of(log.site(), seen, v) {
+    for (n, shared) in log.messages().iter().enumerate() {
+        let v = shared.deref();
+        let known = seen.with_id(v.stamp().id);
+        if let Some(kind) = past.fault_of(log.site(), seen, known, v) {
             return Ok(Some((kind, n + 1)));
         }
         past.take((n + 1) as u32, v)?;
-        seen.note(v)?;
+        seen.note(known, v)?;
     }
     if wrong_rows(alloc, log, &past.tables)? {
         return Ok(Some((Kind::Rows, 0)));

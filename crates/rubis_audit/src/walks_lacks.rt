@@ -16,6 +16,7 @@ use crate::logs::Log;
 use rubis_clock::Clock;
 use rubis_message::Message;
 use std::alloc::{AllocError, Global};
+use std::ops::Deref;
 
 // Whether the message comes after those of its origin that the clock counts.
 fn is_new(clock: &Clock, message: &Message) -> bool
@@ -51,7 +52,8 @@ fn merge_log<'a>(
     ensures { OnOk result (IsMerged sites logs.now (at + 1) (map (λ m. m.now) merged.new.items) clock.new) }
 {
     let log = &logs[at];
-    for message in log.messages() {
+    for shared in log.messages() {
+        let message = shared.deref();
         if is_new(clock, message) {
             put_last(merged, message)?;
             clock.advance(message.stamp());

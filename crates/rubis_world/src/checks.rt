@@ -12,24 +12,13 @@ ghost use Rattle.rubis_world.specs.Worlds.{IsCheckFault, SomeBehind};
 
 use crate::faults::WorldFault;
 use crate::sites::Sites;
-use rubis_audit::{Log, audit_hashed};
-use rubis_message::{Happened, Message, Verdict};
+use rubis_audit::{Log, Pool, audit_hashed};
+use rubis_message::{Happened, Verdict};
 use rubis_schema::{Fields, Hashes, Items, Listing};
 use rubis_script::Fault;
 use std::alloc::{AllocError, Global};
 use std::sync::Wait;
 use std::thread::Threads;
-
-// A copy of the messages, in their order.
-fn copied(alloc: Global, messages: &[Message]) -> Result<Items<Message>, AllocError>
-    ensures { IfOk result (λ copy. copy ≡ messages.now) }
-{
-    let mut copy = Items::new(alloc);
-    for message in messages {
-        copy.push(message.copy()?)?;
-    }
-    Ok(copy)
-}
 
 // Whether some site has begun a batch that isn't whole.
 fn some_behind(sites: &Sites) -> bool
@@ -67,7 +56,7 @@ fn tables<R: Threads + Wait + Sync>(
 // The log of a site, with its tables.
 fn log<R: Threads + Wait + Sync>(
     rt: &R,
-    alloc: Global,
+    pool: &mut Pool,
     sites: &mut Sites,
     site: usize,
 ) -> Result<Log, WorldFault>
@@ -78,7 +67,7 @@ fn log<R: Threads + Wait + Sync>(
     ensures faults { IfErr result (IsCheckFault sites.new) }
 {
     let rows = tables(rt, sites, site)?;
-    let messages = copied(alloc, sites.history(site))?;
+    let messages = pool.share_all(sites.history(site))?;
     Ok(Log::new(site as u8, messages, Some(rows)))
 }
 
@@ -93,9 +82,10 @@ fn logs<R: Threads + Wait + Sync>(
     ensures logs { IfOk result (λ logs. logs.items ≡ logs_of sites.old.world) }
     ensures faults { IfErr result (IsCheckFault sites.new) }
 {
+    let mut pool = Pool::new(alloc);
     let mut logs = Vec::new(alloc);
     'places: for site in 0..sites.len() {
-        logs.push(log(rt, alloc, sites, site)?)?;
+        logs.push(log(rt, &mut pool, sites, site)?)?;
     }
     Ok(logs)
 }

@@ -6,6 +6,6 @@ use Rattle.rubis_audit.proofs.walks.walk_entries.Given as goal
 
 abbrev pub invariant-loop-n : goal.invariant-loop-n
 invariant-loop-n l = record {
-  items : l.v-items ≡ l.log.messages;
+  items : l.shared-items ≡ l.log.messages;
   walk : Walks l.sites l.seen l.past.clock (option_copied l.past.last_red) l.past.tables (messages_of_logs (take l.at l.logs)) l.log l.n;
 }

@@ -1,13 +1,14 @@
-use Rattle.std.proofs.Common.{◌≡◌, ◌+◌, ◌<◌, ◌∙◌, ap, arith, get_or, length, subst, sym}
+use Rattle.std.proofs.Common.{◌+◌, ◌<◌, ◌∙◌, ap, arith, length, subst, sym}
 use Rattle.std.specs.Prelude.{map}
 use Rattle.rubis_clock.specs.Clocks.{IsReady, advanced}
 use Rattle.rubis_audit.proofs.Merging.{Merges, counts_same, is_ready, merges_end, merges_skip, merges_start, merges_take, one_at, origin_within}
+use Rattle.rubis_audit.proofs.Walking.{entry_is}
 use Rattle.rubis_audit.proofs.walks_lacks.merge_log.Goals as goal
 use Rattle.rubis_audit.proofs.walks_lacks.merge_log.Goals.{then-is_new+in_ok-put_last, else-is_new}
 
-pub loop-message-init : goal.loop-message-init
-loop-message-init c log e = (
-  c.messages-message-items.ensures ∙ ap (λ l. l.messages) (one_at c.args.logs.now c.args.at c.index-logs-at.result log c.requires.place c.index-logs-at.is e),
+pub loop-shared-init : goal.loop-shared-init
+loop-shared-init c log e = (
+  c.messages-shared-items.ensures ∙ ap (λ l. l.messages) (one_at c.args.logs.now c.args.at c.index-logs-at.result log c.requires.place c.index-logs-at.is e),
   merges_start c.args.sites c.args.logs.now c.args.at log (map (λ m. m.now) c.args.merged.now.items) c.args.clock.now c.requires.place e c.requires.so_far,
 )
 
@@ -15,26 +16,26 @@ pub is_new-requires : goal.is_new-requires
 is_new-requires c =
     let log = c.index-logs-at.result in
     let e = c.index-logs-at.is in
-    let n = c.loop-message.message-index in
-    let v = c.message-item.result in
-    let messages = map (λ m. m.now) c.loop-message.merged.items in
-    let clock = c.loop-message.clock in
-    let inv = c.loop-message.invariant log e in
-    let k = subst (λ xs. n < length xs) inv.0 c.loop-message-test.true in
-    let i = subst (λ xs. v ≡ get_or xs n v) inv.0 c.message-item.is in
+    let n = c.loop-shared.shared-index in
+    let v = c.deref-message.result.now in
+    let messages = map (λ m. m.now) c.loop-shared.merged.items in
+    let clock = c.loop-shared.clock in
+    let inv = c.loop-shared.invariant log e in
+    let k = subst (λ xs. n < length xs) inv.0 c.loop-shared-test.true in
+    let i = entry_is _ log.messages n c.shared-item.result v inv.0 c.shared-item.is c.deref-message.ensures in
     counts_same c.args.sites c.args.logs.now c.args.at log n v messages clock c.requires.among c.requires.place e k i inv.1
 
 pub advance-requires-clause-origin : goal.advance-requires-clause-origin
 advance-requires-clause-origin c =
     let log = c.index-logs-at.result in
     let e = c.index-logs-at.is in
-    let n = c.loop-message.message-index in
-    let v = c.message-item.result in
-    let messages = map (λ m. m.now) c.loop-message.merged.items in
-    let clock = c.loop-message.clock in
-    let inv = c.loop-message.invariant log e in
-    let k = subst (λ xs. n < length xs) inv.0 c.loop-message-test.true in
-    let i = subst (λ xs. v ≡ get_or xs n v) inv.0 c.message-item.is in
+    let n = c.loop-shared.shared-index in
+    let v = c.deref-message.result.now in
+    let messages = map (λ m. m.now) c.loop-shared.merged.items in
+    let clock = c.loop-shared.clock in
+    let inv = c.loop-shared.invariant log e in
+    let k = subst (λ xs. n < length xs) inv.0 c.loop-shared-test.true in
+    let i = entry_is _ log.messages n c.shared-item.result v inv.0 c.shared-item.is c.deref-message.ensures in
     subst (λ s. s.id.site < length clock.counts) (sym c.stamp.ensures.value)
     (origin_within c.args.sites c.args.logs.now c.args.at log n v messages clock c.requires.faultless c.requires.among c.requires.place e k i c.is_new.ensures.conditions inv.1)
 
@@ -42,25 +43,25 @@ pub advance-requires-clause-ready : goal.advance-requires-clause-ready
 advance-requires-clause-ready c =
     let log = c.index-logs-at.result in
     let e = c.index-logs-at.is in
-    let n = c.loop-message.message-index in
-    let v = c.message-item.result in
-    let messages = map (λ m. m.now) c.loop-message.merged.items in
-    let clock = c.loop-message.clock in
-    let inv = c.loop-message.invariant log e in
-    let k = subst (λ xs. n < length xs) inv.0 c.loop-message-test.true in
-    let i = subst (λ xs. v ≡ get_or xs n v) inv.0 c.message-item.is in
+    let n = c.loop-shared.shared-index in
+    let v = c.deref-message.result.now in
+    let messages = map (λ m. m.now) c.loop-shared.merged.items in
+    let clock = c.loop-shared.clock in
+    let inv = c.loop-shared.invariant log e in
+    let k = subst (λ xs. n < length xs) inv.0 c.loop-shared-test.true in
+    let i = entry_is _ log.messages n c.shared-item.result v inv.0 c.shared-item.is c.deref-message.ensures in
     subst (IsReady clock) (sym c.stamp.ensures.value)
     (is_ready c.args.sites c.args.logs.now c.args.at log n v messages clock c.requires.faultless c.requires.among c.requires.place e k i c.is_new.ensures.conditions inv.1 (sym c.if-is_new.true ∙ c.is_new.ensures.new))
 
-pub loop-message-preserved : goal.loop-message-preserved
-loop-message-preserved c log e =
-    let n = c.loop-message.message-index in
-    let v = c.message-item.result in
-    let messages = map (λ m. m.now) c.loop-message.merged.items in
-    let clock = c.loop-message.clock in
-    let inv = c.loop-message.invariant log e in
-    let k = subst (λ xs. n < length xs) inv.0 c.loop-message-test.true in
-    let i = subst (λ xs. v ≡ get_or xs n v) inv.0 c.message-item.is in (
+pub loop-shared-preserved : goal.loop-shared-preserved
+loop-shared-preserved c log e =
+    let n = c.loop-shared.shared-index in
+    let v = c.deref-message.result.now in
+    let messages = map (λ m. m.now) c.loop-shared.merged.items in
+    let clock = c.loop-shared.clock in
+    let inv = c.loop-shared.invariant log e in
+    let k = subst (λ xs. n < length xs) inv.0 c.loop-shared-test.true in
+    let i = entry_is _ log.messages n c.shared-item.result v inv.0 c.shared-item.is c.deref-message.ensures in (
       inv.0,
       elim c.if-is_new.branch [
         | then-is_new+in_ok-put_last w ↦
@@ -78,7 +79,7 @@ loop-message-preserved c log e =
 pub returns : goal.returns
 returns c =
     let log = c.index-logs-at.result in
-    let n = c.loop-message.message-index in
-    let inv = c.loop-message.invariant log c.index-logs-at.is in
+    let n = c.loop-shared.shared-index in
+    let inv = c.loop-shared.invariant log c.index-logs-at.is in
     let whole = ap length inv.0 in
-    merges_end c.args.sites c.args.logs.now c.args.at log n (map (λ m. m.now) c.loop-message.merged.items) c.loop-message.clock (omega (arith, whole, c.loop-message-test.false)) inv.1
+    merges_end c.args.sites c.args.logs.now c.args.at log n (map (λ m. m.now) c.loop-shared.merged.items) c.loop-shared.clock (omega (arith, whole, c.loop-shared-test.false)) inv.1

@@ -1,4 +1,4 @@
-use Rattle.std.proofs.Common.{◌≡◌, subst, sym}
+use Rattle.std.proofs.Common.{◌≡◌, ◌∙◌, subst, sym}
 use Rattle.std.specs.List.{All}
 use Rattle.rubis_message.specs.Message.{Message, sites_of}
 use Rattle.rubis_model.specs.Logs.{Log}
@@ -7,4 +7,5 @@ use Rattle.rubis_growths.proofs.audits.verdict_on.Goals as goal
 
 pub audit-requires-clause-among : goal.audit-requires-clause-among
 audit-requires-clause-among c =
-    among_one c.new.result (subst (λ (l : Log). All (λ (m : Message). sites_of m ≡ 2) l.messages) (sym c.new.ensures) c.requires)
+    let all = subst (All (λ (m : Message). sites_of m ≡ 2)) (sym (c.in_ok-shared.ensures ∙ c.as_slice.ensures)) c.requires in
+    among_one c.new-log.result (subst (λ (l : Log). All (λ (m : Message). sites_of m ≡ 2) l.messages) (sym c.new-log.ensures) all)
