@@ -7,16 +7,17 @@ ghost use Rattle.rubis_message.specs.Message.{sites_of};
 ghost use Rattle.rubis_model.specs.Verdict.{comes_before};
 ghost use Rattle.rubis_audit.specs.Lookups.{by_message_id, clash_by_id, differs_by, early_by, exceeds, forgets_by_id, gap_by, order_by, taken_by_red};
 ghost use Rattle.rubis_audit.specs.Seen.{Sees, id_in};
+ghost use Rattle.rubis_audit.specs.declared.seen.Seen.{Seen};
 
 use crate::seen::Seen;
 use rubis_clock::Clock;
 use rubis_message::Message;
 use rubis_schema::Id;
 
-/// Whether another message has the id of `v`, which `known` has.
-pub fn clashes(_seen: &Seen, known: Option<&Message>, v: &Message) -> bool
-    requires { option_copied known ≡ id_in _seen.now v.now.stamp.id }
-    ensures { (all : List model.Message) → Sees _seen.now all → result ≡ clash_by_id all v.now }
+/// Whether another message has the id of `v`. `known` is what was seen with that id.
+pub fn clashes(known: Option<&Message>, v: &Message) -> bool
+    ensures { (seen : Seen) (all : List model.Message) → option_copied known.entry ≡ id_in seen v.now.stamp.id → Sees seen all
+        → result ≡ clash_by_id all v.now }
 {
     match known {
         Some(u) => u != v,

@@ -56,7 +56,7 @@ impl<'a> Past<'a> {
             → result ≡ first_of (checks_by site self.now.clock (option_copied self.now.last_red) (union self.now.tables) all v.now) }
     {
         let shadow = v.shadow();
-        if clashes(seen, known, v) {
+        if clashes(known, v) {
             Some(Kind::Clash)
         } else if out_of_order(site, seen, &self.clock, v) {
             Some(Kind::Order)
