@@ -5,7 +5,7 @@ use Rattle.rubis_reading.proofs.QuoteFacts.{ends-from}
 use Rattle.rubis_reading.proofs.cuts.last_line.Goals as goal
 
 pub returns-then-is_quoted-clause-last : goal.returns-then-is_quoted-clause-last
-returns-then-is_quoted-clause-last c = quoted-none (state_of c.args.at) c.args.run.now 0 c.if-is_quoted.ensures c.requires
+returns-then-is_quoted-clause-last c = quoted-none (state_of c.args.at) c.args.run.now _ c.if-is_quoted.ensures c.requires
 
 pub returns-in-Some-clause-ends : goal.returns-in-Some-clause-ends
 returns-in-Some-clause-ends c some = ends-from (state_of c.args.at) c.args.run.now c.in-Some.last c.if-is_quoted.ensures c.requires c.in-Some.ensures.0.high c.in-Some.ensures.1

@@ -22,6 +22,3 @@ pub returns-in_err-go_on_writing-clause-memory : goal.returns-in_err-go_on_writi
 returns-in_err-go_on_writing-clause-memory g c e first old input h =
     let memory = handed_on c.from_residual-in_err-go_on_writing.result c.in_err-go_on_writing.field-0.0 fault.Memory c.from_residual-in_err-go_on_writing.ensures e in
     stands-prefix _ _ _ first old _ _ _ _ (input_records input) h.later (c.in_err-go_on_writing.ensures.memory (rw memory refl)) h.stands
-
-pub returns-clause-left : goal.returns-clause-left
-returns-clause-left g c e = c.whole-many.ensures.none (omega (arith, c.if-many-gt1.false))
