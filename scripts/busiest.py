@@ -5,8 +5,9 @@ A site takes 300,000 messages of another one in order, or that many, with one wo
 16 shards. valgrind counts the instructions of each thread and simulates caches of fixed sizes: 32 KiB for instructions and for
 data, and 1 MiB behind them, which is what one processor has for itself. Work is instructions, plus 10 for each miss of the first
 caches and 200 for each of the second. It knows nothing of the kernel and of waiting, so it doesn't depend on what else the
-machine does. Threads of the same number that ran one after the other count as one: how shards are shared out varies a little from
-run to run. Each line has the work over that of the run with one worker: of the busiest thread, and of all of them; then the same
+machine does. valgrind runs one thread at a time, here each in its turn, as if each had a processor of its own. Threads of the
+same number that ran one after the other count as one: how shards are shared out varies a little from run to run. Each line has
+the work over that of the run with one worker: of the busiest thread, and of all of them; then the same
 of instructions alone. The answers have to be the same bytes. Takes some three minutes."""
 
 import pathlib
@@ -79,7 +80,7 @@ def counted(program: str, command: list[str], text: bytes) -> tuple[list[tuple[i
     with tempfile.TemporaryDirectory() as folder, tempfile.TemporaryFile() as records:
         records.write(text)
         records.seek(0)
-        counter = ["valgrind", "-q", "--tool=callgrind", "--separate-threads=yes", *CACHES, f"--callgrind-out-file={folder}/counts"]
+        counter = ["valgrind", "-q", "--tool=callgrind", "--fair-sched=yes", "--separate-threads=yes", *CACHES, f"--callgrind-out-file={folder}/counts"]
         run = subprocess.run([*counter, program, *command], stdin=records, capture_output=True, check=True)
         return threads_of(pathlib.Path(folder)), run.stdout
 
