@@ -23,6 +23,8 @@ import subprocess
 import sys
 import tempfile
 import threading
+from collections.abc import Callable
+from functools import partial
 
 # How a record may end.
 ENDS = ["\n", "\r", "\r\n"]
@@ -44,11 +46,13 @@ def version(shadow: str) -> int:
     return 2 if shadow.startswith(("restock,", "rename,")) else 1
 
 
-def shadow_or_ask(dice: random.Random, made: int, is_shadow: bool) -> tuple[str, bool]:
-    """A shadow or an ask over some rows of the first site, and whether it is red."""
-    def row() -> str:
-        return f"0.{dice.randint(1, max(1, made))}"
+def some_row(dice: random.Random, site: int, made: int) -> str:
+    """A row of one of the messages that a site has made."""
+    return f"{site}.{dice.randint(1, max(1, made))}"
 
+
+def shadow_or_ask(dice: random.Random, row: Callable[[], str], is_shadow: bool) -> tuple[str, bool]:
+    """A shadow or an ask over some rows, and whether it is red."""
     kind = dice.choice(["user", "user", "item", "bid", "bid", "buy", "close", "comment", "comment", "restock", "rename"])
     if kind == "user":
         return f"user,{dice.choice(NICKS)}", True
@@ -72,7 +76,7 @@ def packets(dice: random.Random, many: int) -> list[str]:
     red = 0
     sent = []
     for seq in range(1, many + 1):
-        shadow, is_red = shadow_or_ask(dice, seq, True)
+        shadow, is_red = shadow_or_ask(dice, partial(some_row, dice, 0, seq), True)
         red += is_red
         sent.append(f"msg,{version(shadow)},0,{seq},{red if is_red else 0},{seq - 1}:0,{shadow}")
     window = dice.choice([1, 4, 64])
@@ -92,7 +96,7 @@ def conversation(dice: random.Random) -> tuple[list[str], list[str]]:
         records = packets(dice, many)
     else:
         command = ["--site", "0", "--sites", "1", "--keep", str(dice.choice([20, 1000]))]
-        records = [shadow_or_ask(dice, made, False)[0] for made in range(1, many)]
+        records = [shadow_or_ask(dice, partial(some_row, dice, 0, made), False)[0] for made in range(1, many)]
     for _ in range(dice.randint(0, 6)):
         listing = dice.choice(LISTINGS).format(id=f"0.{dice.randint(1, many)}")
         records.insert(dice.randint(0, len(records)), f"list,{listing}")
@@ -105,25 +109,7 @@ def world_records(dice: random.Random, sites: int, many: int) -> list[str]:
 
     def row() -> str:
         site = dice.randrange(sites)
-        return f"{site}.{dice.randint(1, made[site] + 1)}"
-
-    def ask() -> str:
-        kind = dice.choice(["user", "user", "item", "bid", "bid", "buy", "close", "comment", "restock", "rename"])
-        if kind == "user":
-            return f"user,{dice.choice(NICKS)}"
-        if kind == "restock":
-            return f"restock,{row()},{row()},{dice.randint(1, 5)}"
-        if kind == "rename":
-            return f"rename,{row()},{dice.choice(NICKS)}"
-        if kind == "item":
-            return f"item,{row()},lamp,{dice.choice([7, 8])},{dice.randint(1, 9)},100,{dice.choice([0, 300])}"
-        if kind == "bid":
-            return f"bid,{row()},{row()},{dice.randint(90, 400)}"
-        if kind == "buy":
-            return f"buy,{row()},{row()},{dice.randint(1, 3)}"
-        if kind == "close":
-            return f"close,{row()},{row()}"
-        return f"comment,{row()},{row()},{row()},{dice.randint(-5, 5)},good"
+        return some_row(dice, site, made[site] + 1)
 
     records = []
     for _ in range(many):
@@ -131,7 +117,7 @@ def world_records(dice: random.Random, sites: int, many: int) -> list[str]:
         sent = sum(made) + 1
         deed = dice.choice(["ask", "ask", "pass", "deliver", "deliver", "deliver", "late", "list"])
         if deed == "ask":
-            records.append(f"at,{site},{ask()}")
+            records.append(f"at,{site},{shadow_or_ask(dice, row, False)[0]}")
             made[site] += 1
         elif deed == "pass":
             records += [f"at,{site},pass,{dice.randrange(sites)}", f"deliver,{dice.randrange(sites)},{sent}"]

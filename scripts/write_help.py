@@ -169,8 +169,8 @@ def man_page(line: CommandLine) -> str:
     ]
     for command in line.commands:
         words = [] if command.argument is None else [command.argument.shown]
-        number = {True: " \\fIn\\fR", False: ""}
-        words += [f"[\\fB\\-\\-{option.name}\\fR{number[option.takes_number]}]" for option in command.options]
+        given = {True: " \\fIn\\fR", False: ""}
+        words += [f"[\\fB\\-\\-{option.name}\\fR{given[option.takes_number]}]" for option in command.options]
         out += [f".B rubis {command.name}", " ".join(words), ".br"]
     out[-1:] = [
         ".SH DESCRIPTION",
@@ -330,6 +330,22 @@ WRITTEN = {
 }
 
 
+def write_or_check(texts: dict[str, str], check: bool, what: str, says: str) -> int:
+    """Writes files, or with `check` tells which of them have another text: the status of the command that does so."""
+    other = 0
+    for name, text in texts.items():
+        path = TOP / name
+        if not check:
+            path.parent.mkdir(exist_ok=True)
+            path.write_text(text)
+        elif not path.exists() or path.read_text() != text:
+            other += 1
+            print(f"{name}:1: isn't what {says}")
+    if check:
+        print(f"{what}: {len(texts) - other} passed, {other} failed")
+    return 1 if other else 0
+
+
 def main() -> int:
     words = sys.argv[1:]
     check = "--check" in words
@@ -338,18 +354,8 @@ def main() -> int:
         print(__doc__, file=sys.stderr)
         return 2
     line = command_line_of(str(pathlib.Path(words[0]).resolve()))
-    other = 0
-    for name, write in WRITTEN.items():
-        text, path = write(line), TOP / name
-        if not check:
-            path.parent.mkdir(exist_ok=True)
-            path.write_text(text)
-        elif not path.exists() or path.read_text() != text:
-            other += 1
-            print(f"{name}:1: isn't what the program's help says; scripts/write_help.py writes it")
-    if check:
-        print(f"help: {len(WRITTEN) - other} passed, {other} failed")
-    return 1 if other else 0
+    texts = {name: write(line) for name, write in WRITTEN.items()}
+    return write_or_check(texts, check, "help", "the program's help says; scripts/write_help.py writes it")
 
 
 if __name__ == "__main__":

@@ -16,6 +16,7 @@ sys.path.insert(0, str(TOP))
 os.environ.pop("SHOP", None)
 
 from shop_tool.cli import ABOUT, EXAMPLES, NOTES, CommandLine      # noqa: E402
+from write_help import write_or_check                              # noqa: E402
 
 WRITTEN_BY = "Written by scripts/write_shop_help.py; changes are lost."
 SITES = [str(site) for site in range(16)]
@@ -263,17 +264,8 @@ def main() -> int:
     if sys.argv[1:] not in ([], ["--check"]):
         print(__doc__, file=sys.stderr)
         return 2
-    other = 0
-    for name, write in WRITTEN.items():
-        text, path = write(), TOP / name
-        if not sys.argv[1:]:
-            path.write_text(text)
-        elif not path.exists() or path.read_text() != text:
-            other += 1
-            print(f"{name}:1: isn't what the command line of shop says; scripts/write_shop_help.py writes it")
-    if sys.argv[1:]:
-        print(f"help of shop: {len(WRITTEN) - other} passed, {other} failed")
-    return 1 if other else 0
+    texts = {name: write() for name, write in WRITTEN.items()}
+    return write_or_check(texts, bool(sys.argv[1:]), "help of shop", "the command line of shop says; scripts/write_shop_help.py writes it")
 
 
 if __name__ == "__main__":

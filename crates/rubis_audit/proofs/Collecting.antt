@@ -1,5 +1,5 @@
 -- How an auditor goes on with the records that it reads.
-use Rattle.std.proofs.Common.{ℕ, ◌≡◌, ◌∙◌, ◌+◌, ◌-◌, ◌≤◌, List, [], ◌∷◌, ◌++◌, length, Option, Some, None, refl, sym, ap, subst, ⊎_elim, arith}
+use Rattle.std.proofs.Common.{ℕ, ◌≡◌, ◌∙◌, ◌+◌, List, [], ◌∷◌, ◌++◌, Option, Some, None, refl, sym, ap, subst, ⊎_elim, arith}
 use Rattle.std.specs.Prelude.{OnErr, OnOk, Result, Ok, Err, option_and_then, reverse, suc}
 use Rattle.rubis_message.specs.Message.{Message, sites_of}
 use Rattle.rubis_model.specs.AuditRecords.{Line, audit_record, line_of, logs_after, with_line}

@@ -1,5 +1,5 @@
 -- The fields of a record by their places.
-use Rattle.std.proofs.Common.{◌≡◌, ◌∙◌, ◌+◌, ◌∷◌, [], ℕ, zero, suc, List, Option, Some, None, ap, cond, drop, if◌then◌else◌, refl}
+use Rattle.std.proofs.Common.{◌≡◌, ◌∙◌, ◌+◌, ◌∷◌, [], ℕ, zero, suc, List, Some, None, ap, cond, drop, if◌then◌else◌, refl}
 use Rattle.std.specs.Prelude.{slice_get}
 use Rattle.rubis_audit.specs.FieldRules.{fits}
 use Rattle.rubis_audit.specs.RecordFaults.{fault, has_line_end, line_end_from, misfit}

@@ -20,7 +20,7 @@ use Rattle.rubis_model.specs.Log.{core, cores}
 use Rattle.rubis_model.specs.Meaning.{count}
 use Rattle.rubis_model.specs.Order.{Released}
 use Rattle.rubis_model.specs.Settle.{Has, Ready, counted, reds}
-use Rattle.rubis_model.specs.Verdict.{checks, clash, first_of, is_early, is_not_next, last_red, comes_before, red_gap, wrong_reference}
+use Rattle.rubis_model.specs.Verdict.{checks, first_of, is_early, is_not_next, last_red, comes_before, wrong_reference}
 use Rattle.rubis_model.proofs.CoreLists.{cores_push}
 use Rattle.rubis_model.proofs.Lists.{has_reverse, has_right, push_cases}
 use Rattle.rubis_model.proofs.Settling.{counted_reverse, reds_reverse, reverse_push}

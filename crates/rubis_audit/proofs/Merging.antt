@@ -1,6 +1,7 @@
 -- How logs are merged, and what a log lacks: what is new is what its clock doesn't count.
 use Rattle.std.proofs.Common.{ℕ, ◌≡◌, ◌+◌, ◌<◌, ◌≤◌, zero, suc, List, [], ◌∷◌, ◌++◌, length, get_or, take, drop, Bool, true, false, cond, refl, sym, ap, ◌∙◌, subst, arith, inl, inr, ⊎_elim, drop-cons, add-one, append_assoc}
 use Rattle.std.specs.Prelude.{Some, None, filter, map, not, nat_lt, reverse, slice_index}
+use Rattle.std.specs.Borrow.{Bor}
 use Rattle.std.proofs.lemmas.Bool.{cond-true, cond-false, cases_lt, true≢false}
 use Rattle.std.proofs.lemmas.Bool.Decides.{nat_tests}
 use Rattle.std.proofs.lemmas.List.{append-nil, drop_all, take_all, take_more, take-append-drop}
@@ -39,14 +40,27 @@ one_at [] n x y l e f = absurd (omega arith)
 one_at (z ∷ xs) zero x y l e f = e ∙ sym f
 one_at (z ∷ xs) (suc n) x y l e f = one_at xs n x y (omega arith) e f
 
-pub map_length : {A B : Type 0} (f : A → B) (xs : List A) → length (map f xs) ≡ length xs
+map_length : {A B : Type 0} (f : A → B) (xs : List A) → length (map f xs) ≡ length xs
 map_length f [] = refl
 map_length f (x ∷ xs) = ap suc (map_length f xs)
 
-pub map_at : {A B : Type 0} (f : A → B) (xs : List A) (n : ℕ) (x : A) → n < length xs → x ≡ get_or xs n x → f x ≡ get_or (map f xs) n (f x)
+map_at : {A B : Type 0} (f : A → B) (xs : List A) (n : ℕ) (x : A) → n < length xs → x ≡ get_or xs n x → f x ≡ get_or (map f xs) n (f x)
 map_at f [] n x l e = absurd (omega arith)
 map_at f (y ∷ xs) zero x l e = ap f e
 map_at f (y ∷ xs) (suc n) x l e = map_at f xs n x (omega arith) e
+
+-- a message that is lent stands at its place among all of them
+pub lent_at : (messages : List (Bor Message)) (n : ℕ) (m : Bor Message) → n < length messages → m ≡ get_or messages n m
+    → (n < length (map (λ (x : Bor Message). x.now) messages)) × (m.now ≡ get_or (map (λ (x : Bor Message). x.now) messages) n m.now)
+lent_at messages n m l e = let size = map_length (λ (x : Bor Message). x.now) messages in (omega (arith, size, l), map_at (λ (x : Bor Message). x.now) messages n m l e)
+
+-- and is one of them
+pub lent : (messages : List (Bor Message)) (n : ℕ) (m : Bor Message) → n < length messages → m ≡ get_or messages n m → Has m.now (map (λ (x : Bor Message). x.now) messages)
+lent messages n m l e = let p = lent_at messages n m l e in contained (map (λ (x : Bor Message). x.now) messages) m.now (n, p.0, sym p.1)
+
+-- a place behind all that are lent is one behind all of them
+pub lent_all : (messages : List (Bor Message)) (n : ℕ) → length messages ≤ n → length (map (λ (x : Bor Message). x.now) messages) ≤ n
+lent_all messages n l = let size = map_length (λ (x : Bor Message). x.now) messages in omega (arith, size, l)
 
 -- a log at index `at` is merged up to its entry n
 pub record Merges (sites : ℕ) (logs : List Log) (at : ℕ) (log : Log) (n : ℕ) (messages : List Message) (clock : MessageCounts) : Type 0 where

@@ -1,5 +1,5 @@
 -- What a field of a record may be.
-use Rattle.std.specs.Prelude.{ℕ, Bool, true, false, ◌||◌, bytes_eq, codes, is_some, nat_le, nat_lt, List, Option, Some, None}
+use Rattle.std.specs.Prelude.{ℕ, Bool, false, ◌||◌, bytes_eq, codes, is_some, nat_le, nat_lt, List, Option, Some, None}
 use Rattle.rubis_schema.specs.FieldForms.{id_of}
 use Rattle.rubis_schema.specs.NumberForms.{number_of, rating_of}
 use Rattle.rubis_schema.specs.Texts.{is_name, is_nick, is_text}

@@ -1,5 +1,5 @@
 -- What is wrong with a record: the first field that isn't as its form says.
-use Rattle.std.specs.Prelude.{ℕ, ◌+◌, ◌-◌, ◌==◌, ◌&&◌, Bool, true, false, if◌then◌else◌, cond, bytes_eq, codes, drop, length, nat_le, nat_lt, slice_get, slice_index, unwrap_or, List, [], ◌∷◌, Option, Some, None, option_map}
+use Rattle.std.specs.Prelude.{ℕ, ◌+◌, ◌-◌, ◌==◌, ◌&&◌, Bool, false, if◌then◌else◌, cond, bytes_eq, codes, drop, length, nat_le, nat_lt, slice_get, slice_index, unwrap_or, List, [], ◌∷◌, Option, Some, None, option_map}
 use Rattle.std.specs.List.{list_any}
 use Rattle.std.specs.Option.{option_or}
 use Rattle.rubis_schema.specs.NumberForms.{number_of}
@@ -12,7 +12,7 @@ use Rattle.rubis_audit.specs.declared.record_faults.Fault.{Fault}
 use Rattle.rubis_audit.specs.declared.widener.LinePlace.{LinePlace}
 use Rattle.rubis_audit.specs.declared.widener.LinePlace.TheVariants.{BeforeLogs, InMessages, InRows}
 use Rattle.rubis_audit.specs.declared.record_faults.Reason.{Reason}
-use Rattle.rubis_audit.specs.declared.record_faults.Reason.TheVariants.{NoRecord, NoRequest, Answer, Count, Rule, NotNext, SameNick, NoLog, BehindRows, LineEnd, Other}
+use Rattle.rubis_audit.specs.declared.record_faults.Reason.TheVariants.{NoRecord, NoRequest, Answer, Count, Rule, NotNext, SameNick, NoLog, BehindRows, LineEnd}
 use Rattle.rubis_audit.specs.declared.shapes.Shape.{Shape}
 use Rattle.rubis_audit.specs.declared.shapes.Shape.TheVariants as shape
 

@@ -1,5 +1,5 @@
 -- An auditor that reads records.
-use Rattle.std.specs.Prelude.{◌≡◌, ℕ, ◌+◌, ◌≤◌, ◌==◌, ◌&&◌, suc, Bool, true, false, List, [], ◌∷◌, length, option_and_then, reverse, Option, Some, None, Result, Ok, Err}
+use Rattle.std.specs.Prelude.{◌≡◌, ℕ, ◌≤◌, ◌==◌, ◌&&◌, suc, Bool, true, false, List, [], ◌∷◌, length, option_and_then, reverse, Option, Some, None, Result}
 use Rattle.rubis_schema.specs.declared.limits.TheConstants.{COUNTED_MAX}
 use Rattle.rubis_message.specs.Message.{Message, sites_of}
 use Rattle.rubis_message.specs.declared.answers.Verdict.{Verdict}

@@ -6,13 +6,12 @@ ghost use Rattle.rubis_engine.specs.Text.{input_records};
 ghost use Rattle.rubis_audit.specs.Checking.{recent};
 
 use crate::reasons::Lines;
-use csv::{ByteRecord, Reader, ReaderBuilder};
-use rubis_engine::RunFault;
+use csv::{Reader, ReaderBuilder};
+use rubis_engine::{InputRecord, RunFault};
 use rubis_schema::Record;
 use std::alloc::Global;
 use std::io;
 use std::io::Read;
-use std::marker::Model;
 
 /// A reader that remembers the bytes that it gave last.
 #[derive(Drop)]
@@ -58,41 +57,12 @@ impl<R: Read> Read for Recent<R> {
     }
 }
 
-/// A record as it was read. Its fields are looked at where the reader of CSV put them.
-#[derive(Drop)]
-pub struct Row {
-    fields: ByteRecord,
-}
-
-impl Model for Row {
-    ghost use Rattle.std.specs.Prelude.{ℕ, List};
-    ghost use Rattle.csv.specs.Records.{fields_of};
-
-    ghost Value = { List (List ℕ) };
-
-    ghost view = { λ r. fields_of r.fields };
-}
-
-impl Record for Row {
-    ghost fields = { λ r. r };
-
-    #[inline(always)]
-    fn len(&self) -> usize {
-        self.fields.len()
-    }
-
-    #[inline(always)]
-    fn field(&self, place: usize) -> Option<&[u8]> {
-        self.fields.get(place)
-    }
-}
-
 /// The records of a reader, each with any number of fields, and no header row. A byte order mark at the start is removed.
 #[derive(Drop)]
 pub struct LineReader<R> {
     reader: Reader<Recent<R>>,
     // The one that was read last.
-    row: Row,
+    row: InputRecord,
     // The line in which the reader stood before it.
     before: u64,
 }
@@ -119,9 +89,7 @@ impl<R: Read> LineReader<R> {
             .from_reader(alloc, recent);
         LineReader {
             reader,
-            row: Row {
-                fields: ByteRecord::new(alloc),
-            },
+            row: InputRecord::new(alloc),
             before: 1,
         }
     }
@@ -136,15 +104,7 @@ impl<R: Read> LineReader<R> {
         ensures faults { IfErr result (λ e. (e ≡ RunFault.Read) ⊎ (e ≡ RunFault.Memory)) }
     {
         self.before = self.reader.position().line();
-        let found = match self.reader.read_byte_record(&mut self.row.fields) {
-            Ok(found) => found,
-            Err(e) => {
-                if e.is_io_error() {
-                    return Err(RunFault::Read);
-                }
-                return Err(RunFault::Memory);
-            }
-        };
+        let found = self.row.read_from(&mut self.reader)?;
         if self.reader.get_ref().is_refused {
             return Err(RunFault::Memory);
         }
@@ -152,7 +112,7 @@ impl<R: Read> LineReader<R> {
     }
 
     /// The record that was read last.
-    pub fn row(&self) -> &Row
+    pub fn row(&self) -> &InputRecord
         ensures { result.now ≡ self.now.row }
     {
         &self.row

@@ -1,14 +1,15 @@
 //! Messages that several logs have, each kept once.
 
-ghost use Rattle.std.specs.Prelude.{◌≡◌, IfOk, IfSome};
+ghost use Rattle.std.specs.Prelude.{◌≡◌, [], IfOk, IfSome};
 
 use rubis_message::Message;
 use rubis_schema::{Items, Shared};
 use std::alloc::{AllocError, Global};
+use std::marker::Model;
 use std::ops::Deref;
 
 /// The messages of some logs, each kept once for all of them: of each site those that came in the order of their numbers, from 1.
-/// Another one is kept again for each log that has it.
+/// Another one is kept again for each log that has it. Contracts see the messages of each site.
 #[derive(Drop)]
 pub struct Pool {
     // Of each site, in site order.
@@ -16,9 +17,20 @@ pub struct Pool {
     alloc: Global,
 }
 
+impl Model for Pool {
+    ghost use Rattle.std.specs.Prelude.{List, map};
+    ghost use Rattle.rubis_message.specs.Message.{Message};
+
+    ghost Value = { List (List Message) };
+
+    ghost view = { λ p. map (λ messages. messages.items) p.sites.items };
+}
+
 impl Pool {
     /// No messages. It takes no memory yet.
-    pub fn new(alloc: Global) -> Pool {
+    pub fn new(alloc: Global) -> Pool
+        ensures { result ≡ [] }
+    {
         Pool {
             sites: Vec::new(alloc),
             alloc,

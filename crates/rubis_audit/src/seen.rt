@@ -53,7 +53,7 @@ impl<'a> Seen<'a> {
         }
     }
 
-    /// No messages, with room for so many.
+    /// No messages, with room for this many.
     pub(crate) fn with_room(
         alloc: Global,
         hashes: Hashes,

@@ -1,59 +1,38 @@
 //! What the words of a record say that it is, and what its fields may be then.
 
 ghost use Rattle.std.specs.Prelude.{◌≡◌, ◌≤◌, bytes_eq};
-ghost use Rattle.rubis_audit.specs.Shapes.{audit_shape, effect_said, head_of, is_open, is_sent, listing_in, listing_said, message_in, name_of, request_said, request_shape, site_shape, tail_of, world_shape};
+ghost use Rattle.rubis_message.specs.Words.{said};
+ghost use Rattle.rubis_audit.specs.Shapes.{audit_shape, effect_said, head_of, is_open, is_sent, listing_in, listing_said, message_in, name_of, request_said, request_shape, site_shape, tail_of, word_of, world_shape};
 
 use crate::field_rules::FieldRule as Rule;
 use rubis_schema::{
     AMOUNT_MAX, CAT_MAX, COUNT_MAX, PASS_MAX, QUANTITY_MAX, RECORDS_MAX, Record, SEQ_MAX, TURN_MAX,
 };
 
-// What the fields of messages may be, up to the word for what they do: those of a red one and of a blue one, and those of restocks
-// and renames, which have another version.
-const RED_HEAD: [Rule; 6] = [
-    Rule::First,
-    Rule::Site,
-    Rule::Positive(SEQ_MAX as u64),
-    Rule::Red,
-    Rule::Counts,
-    Rule::Effect,
-];
+// What the fields of a message of that version and red number may be, up to the word for what it does.
+macro_rules! sent_head {
+    ($version:ident, $red:expr) => {
+        [
+            Rule::$version,
+            Rule::Site,
+            Rule::Positive(SEQ_MAX as u64),
+            $red,
+            Rule::Counts,
+            Rule::Effect,
+        ]
+    };
+}
 
-const BLUE_HEAD: [Rule; 6] = [
-    Rule::First,
-    Rule::Site,
-    Rule::Positive(SEQ_MAX as u64),
-    Rule::Blue,
-    Rule::Counts,
-    Rule::Effect,
-];
+// Those of a red message and of a blue one, those of restocks and renames, which have another version, and those of another.
+const RED_HEAD: [Rule; 6] = sent_head!(First, Rule::Red);
 
-const RESTOCK_HEAD: [Rule; 6] = [
-    Rule::Second,
-    Rule::Site,
-    Rule::Positive(SEQ_MAX as u64),
-    Rule::Blue,
-    Rule::Counts,
-    Rule::Effect,
-];
+const BLUE_HEAD: [Rule; 6] = sent_head!(First, Rule::Blue);
 
-const RENAME_HEAD: [Rule; 6] = [
-    Rule::Second,
-    Rule::Site,
-    Rule::Positive(SEQ_MAX as u64),
-    Rule::Red,
-    Rule::Counts,
-    Rule::Effect,
-];
+const RESTOCK_HEAD: [Rule; 6] = sent_head!(Second, Rule::Blue);
 
-const OTHER_HEAD: [Rule; 6] = [
-    Rule::Version,
-    Rule::Site,
-    Rule::Positive(SEQ_MAX as u64),
-    Rule::Number(COUNT_MAX),
-    Rule::Counts,
-    Rule::Effect,
-];
+const RENAME_HEAD: [Rule; 6] = sent_head!(Second, Rule::Red);
+
+const OTHER_HEAD: [Rule; 6] = sent_head!(Version, Rule::Number(COUNT_MAX));
 
 // What the fields of an item may be, of a comment, and of a token.
 const ITEM_TAIL: [Rule; 6] = [
@@ -118,6 +97,43 @@ pub enum Shape {
     Audit,
 }
 
+// The requests, the listings and the messages that a word names. Words are looked for in this order.
+const REQUESTS: [Shape; 10] = [
+    Shape::User,
+    Shape::Item,
+    Shape::Bid,
+    Shape::Buy,
+    Shape::Close,
+    Shape::Comment,
+    Shape::Pass,
+    Shape::ListOther,
+    Shape::Restock,
+    Shape::Rename,
+];
+
+const LISTINGS: [Shape; 9] = [
+    Shape::ListUsers,
+    Shape::ListItems,
+    Shape::ListBids,
+    Shape::ListPurchases,
+    Shape::ListComments,
+    Shape::ListCategories,
+    Shape::ListLog,
+    Shape::ListMisfits,
+    Shape::ListTables,
+];
+
+const EFFECTS: [Shape; 8] = [
+    Shape::SentUser,
+    Shape::SentItem,
+    Shape::SentBid,
+    Shape::SentBuy,
+    Shape::SentClose,
+    Shape::SentComment,
+    Shape::SentRestock,
+    Shape::SentRename,
+];
+
 /// Whether the field is this word.
 #[inline(always)]
 pub fn says(field: &[u8], word: &[u8]) -> bool
@@ -126,34 +142,22 @@ pub fn says(field: &[u8], word: &[u8]) -> bool
     field == word
 }
 
+// The first of these whose word is the field.
+fn said(field: &[u8], shapes: &[Shape]) -> Option<Shape>
+    ensures { result ≡ said word_of shapes.now field.now }
+{
+    shapes
+        .iter()
+        .copied()
+        .find(|shape| says(field, shape.word()))
+}
+
 // What a request is by its first word.
 #[tactic(auto, unfolding(crate::specs::Shapes::request_said))]
 fn request_said(word: &[u8]) -> Option<Shape>
     ensures { result ≡ request_said word.now }
 {
-    if says(word, b"user") {
-        Some(Shape::User)
-    } else if says(word, b"item") {
-        Some(Shape::Item)
-    } else if says(word, b"bid") {
-        Some(Shape::Bid)
-    } else if says(word, b"buy") {
-        Some(Shape::Buy)
-    } else if says(word, b"close") {
-        Some(Shape::Close)
-    } else if says(word, b"comment") {
-        Some(Shape::Comment)
-    } else if says(word, b"pass") {
-        Some(Shape::Pass)
-    } else if says(word, b"list") {
-        Some(Shape::ListOther)
-    } else if says(word, b"restock") {
-        Some(Shape::Restock)
-    } else if says(word, b"rename") {
-        Some(Shape::Rename)
-    } else {
-        None
-    }
+    said(word, &REQUESTS)
 }
 
 /// What a listing is by the word for what it shows.
@@ -161,27 +165,7 @@ fn request_said(word: &[u8]) -> Option<Shape>
 pub fn listing_said(word: &[u8]) -> Option<Shape>
     ensures { result ≡ listing_said word.now }
 {
-    if says(word, b"users") {
-        Some(Shape::ListUsers)
-    } else if says(word, b"items") {
-        Some(Shape::ListItems)
-    } else if says(word, b"bids") {
-        Some(Shape::ListBids)
-    } else if says(word, b"purchases") {
-        Some(Shape::ListPurchases)
-    } else if says(word, b"comments") {
-        Some(Shape::ListComments)
-    } else if says(word, b"categories") {
-        Some(Shape::ListCategories)
-    } else if says(word, b"log") {
-        Some(Shape::ListLog)
-    } else if says(word, b"misfits") {
-        Some(Shape::ListMisfits)
-    } else if says(word, b"tables") {
-        Some(Shape::ListTables)
-    } else {
-        None
-    }
+    said(word, &LISTINGS)
 }
 
 /// What a message is by the word for what it does.
@@ -189,25 +173,7 @@ pub fn listing_said(word: &[u8]) -> Option<Shape>
 pub fn effect_said(word: &[u8]) -> Option<Shape>
     ensures { result ≡ effect_said word.now }
 {
-    if says(word, b"user") {
-        Some(Shape::SentUser)
-    } else if says(word, b"item") {
-        Some(Shape::SentItem)
-    } else if says(word, b"bid") {
-        Some(Shape::SentBid)
-    } else if says(word, b"buy") {
-        Some(Shape::SentBuy)
-    } else if says(word, b"close") {
-        Some(Shape::SentClose)
-    } else if says(word, b"comment") {
-        Some(Shape::SentComment)
-    } else if says(word, b"restock") {
-        Some(Shape::SentRestock)
-    } else if says(word, b"rename") {
-        Some(Shape::SentRename)
-    } else {
-        None
-    }
+    said(word, &EFFECTS)
 }
 
 // What a listing shows by its second word.
@@ -287,6 +253,40 @@ pub fn world_shape<F: Record>(fields: &F) -> Option<Shape>
 }
 
 impl Shape {
+    /// The word for a request, for what a listing shows, or for what a message does.
+    fn word(self) -> &'static [u8]
+        ensures { result.now ≡ word_of self }
+    {
+        match self {
+            Shape::User | Shape::SentUser => b"user",
+            Shape::Item | Shape::SentItem => b"item",
+            Shape::Bid | Shape::SentBid => b"bid",
+            Shape::Buy | Shape::SentBuy => b"buy",
+            Shape::Close | Shape::SentClose => b"close",
+            Shape::Comment | Shape::SentComment => b"comment",
+            Shape::Restock | Shape::SentRestock => b"restock",
+            Shape::Rename | Shape::SentRename => b"rename",
+            Shape::Pass => b"pass",
+            Shape::ListUsers => b"users",
+            Shape::ListItems => b"items",
+            Shape::ListBids => b"bids",
+            Shape::ListPurchases => b"purchases",
+            Shape::ListComments => b"comments",
+            Shape::ListCategories => b"categories",
+            Shape::ListLog => b"log",
+            Shape::ListMisfits => b"misfits",
+            Shape::ListTables => b"tables",
+            Shape::ListOther => b"list",
+            Shape::SentOther => b"msg",
+            Shape::Token => b"token",
+            Shape::LogSite => b"site",
+            Shape::LogRow => b"row",
+            Shape::At => b"at",
+            Shape::Deliver => b"deliver",
+            Shape::Audit => b"audit",
+        }
+    }
+
     /// What the fields after the first word may be, up to the word for what a listing shows or a message does.
     pub fn head(self) -> &'static [Rule]
         ensures { result.now ≡ head_of self }

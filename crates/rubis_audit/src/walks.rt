@@ -93,37 +93,6 @@ impl<'a> Past<'a> {
     }
 }
 
-// Walks over the entries and rows of a log, as `walk` does.
-fn walk_entries<'a>(
-    alloc: Global,
-    seen: &mut Seen<'a>,
-    logs: &'a [Log],
-    at: usize,
-    sites: u8,
-) -> Result<Option<(Kind, usize)>, AllocError>
-    requires place { at < length logs.now }
-    requires few { sites ≤ COUNTED_MAX }
-    requires among { HaveMessagesAmong sites logs.now }
-    requires walked { Walked seen.old (take at logs.now) }
-    ensures { IfOk result (λ found. IsWalked seen.new logs.now at (option_map (λ p. (p.0, p.1)) found)) }
-{
-    let log = &logs[at];
-    let mut past = Past::new(alloc, sites, seen.hashes)?;
-    for (n, shared) in log.messages().iter().enumerate() {
-        let v = shared.deref();
-        let known = seen.with_id(v.stamp().id);
-        if let Some(kind) = past.fault_of(log.site(), seen, known, v) {
-            return Ok(Some((kind, n + 1)));
-        }
-        past.take((n + 1) as u32, v)?;
-        seen.note(known, v)?;
-    }
-    if wrong_rows(alloc, log, &past.tables)? {
-        return Ok(Some((Kind::Rows, 0)));
-    }
-    Ok(None)
-}
-
 /// Walks over the log at that place, where those before it were walked over: its first fault, if it has one, by kind and
 /// entry.
 ///
@@ -143,8 +112,22 @@ pub fn walk<'a>(
     requires walked { Walked seen.old (take at logs.now) }
     ensures { IfOk result (λ found. IsWalked seen.new logs.now at (option_map (λ p. (p.0, p.1)) found)) }
 {
-    if logs[at].is_nothing() {
+    let log = &logs[at];
+    if log.is_nothing() {
         return Ok(None);
     }
-    walk_entries(alloc, seen, logs, at, sites)
+    let mut past = Past::new(alloc, sites, seen.hashes)?;
+    for (n, shared) in log.messages().iter().enumerate() {
+        let v = shared.deref();
+        let known = seen.with_id(v.stamp().id);
+        if let Some(kind) = past.fault_of(log.site(), seen, known, v) {
+            return Ok(Some((kind, n + 1)));
+        }
+        past.take((n + 1) as u32, v)?;
+        seen.note(known, v)?;
+    }
+    if wrong_rows(alloc, log, &past.tables)? {
+        return Ok(Some((Kind::Rows, 0)));
+    }
+    Ok(None)
 }

@@ -1,5 +1,5 @@
 -- What the words of the command line give.
-use Rattle.std.proofs.Common.{◌≡◌, ℕ, ◌<◌, ◌^◌, ◌⊎◌, inl, inr, Bool, true, false, not, ◌&&◌, rules, sym, ap, subst, ◌∙◌, refl, [], ◌∷◌}
+use Rattle.std.proofs.Common.{◌≡◌, ℕ, ◌<◌, ◌^◌, ◌⊎◌, inl, inr, Bool, true, false, not, ◌&&◌, rules, sym, ap, subst, ◌∙◌, refl, []}
 use Rattle.std.specs.Prelude.{List, Option, Some, None, option_map, unwrap_or}
 use Rattle.std.specs.Str.Parse.{ExplainsUnsignedError, HasUnsignedDigitsIfOk, IsNumeral, ParsesUnsigned, digits_value, without_leading_plus}
 use Rattle.clap.specs.Words.{App, HasKind, HasMatchesOf, IsAmong, Kinds, ReadsOne, Row, Text, fault_of, is_simple, is_simple_and_free, kind_of, subcommand_of}

@@ -2,10 +2,9 @@
 
 ghost use Rattle.std.specs.Prelude.{◌≡◌, false, Some, IfOk, string_bytes};
 ghost use Rattle.clap.specs.Words.{app_of, first_of, found_of, one_of, rows_of, rule_of};
-ghost use Rattle.rubis_cli.specs.CommandLine.{AreKeepOptionsIn, IsFlag, IsGivenNumber, IsText, flag_option, folder_option, given_option, keep_command, with_flags, with_place};
+ghost use Rattle.rubis_cli.specs.CommandLine.{AreKeepOptionsIn, IsFlag, IsGivenNumber, IsText, flag_option, folder_option, keep_command, with_flags, with_place};
 
-use crate::options::{byte, with_work, word};
-use clap::builder::ValueParser;
+use crate::options::{byte, given, with_work, word};
 use clap::{Arg, ArgAction, ArgMatches, Command};
 use rubis_schema::{KEEP_MAX, SITES_MAX};
 use std::alloc::{AllocError, Global};
@@ -28,19 +27,6 @@ pub struct KeepOptions {
     pub shorten: bool,
     /// Answers in the text of another version are written anew.
     pub upgrade: bool,
-}
-
-// An option that takes a number of this range, if it is given.
-fn given<'a>(alloc: Global, name: &'a str, low: u64, high: u64, help: &'a str) -> Arg<'a>
-    ensures rule { rule_of result ≡ given_option name.entry.now low high }
-    ensures help { result.help ≡ Some help.entry }
-    ensures local { result.global ≡ false }
-{
-    Arg::new(alloc, name)
-        .long(name)
-        .value_name("n")
-        .value_parser(ValueParser::unsigned(low, high))
-        .help(help)
 }
 
 /// An option without a value.

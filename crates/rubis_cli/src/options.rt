@@ -3,7 +3,8 @@
 ghost use Rattle.std.specs.Prelude.{◌≡◌, false, [], Some, codes, map, string_bytes, IfErr, IfOk};
 ghost use Rattle.rubis_schema.specs.declared.limits.TheConstants.{SITES_MAX};
 ghost use Rattle.clap.specs.Words.{app_of, fault_of, first_of, found_of, one_of, rows_of, rule_of};
-ghost use Rattle.rubis_cli.specs.CommandLine.{AreAuditOptionsIn, AreCheckOptionsIn, AreCountsIn, AreLackOptionsIn, AreOptionsIn, IsAsked, IsFaultAmong, IsNumberOf, IsReading, IsSetupIn, audit_command, check_command, command_line, keep_option, lack_command, number_option, program_alone, reading_named, reading_option, site_command, site_option, widen_command, with_input, with_setup, with_work, world_command};
+ghost use Rattle.rubis_cli.specs.CommandLine.{AreAuditOptionsIn, AreCheckOptionsIn, AreCountsIn, AreLackOptionsIn, AreOptionsIn, IsAsked, IsFaultAmong, IsNumberOf, IsReading, IsSetupIn, audit_command, check_command, command_line, given_option, keep_option, lack_command, number_option, program_alone, reading_named, reading_option, site_command, site_option, widen_command, with_input, with_setup, with_work, world_command};
+ghost use Rattle.rubis_cli.specs.declared.options.OptionFault.TheVariants.{Memory};
 
 use crate::keep_options::{KeepOptions, flag, is_given, keep_command, read_keep};
 use clap::builder::ValueParser;
@@ -56,9 +57,6 @@ impl From<Error> for OptionFault {
 }
 
 impl From<AllocError> for OptionFault {
-    ghost use Rattle.std.specs.Prelude.{◌≡◌};
-    ghost use Rattle.rubis_cli.specs.declared.options.OptionFault.TheVariants.{Memory};
-
     ghost from_gives = { λ error fault. fault ≡ Memory };
 
     fn from(_: AllocError) -> OptionFault {
@@ -124,7 +122,20 @@ pub struct Options {
     pub setup: Setup,
 }
 
-// An option that takes a number of this range.
+/// An option that takes a number of this range, if it is given.
+pub(crate) fn given<'a>(alloc: Global, name: &'a str, low: u64, high: u64, help: &'a str) -> Arg<'a>
+    ensures rule { rule_of result ≡ given_option name.entry.now low high }
+    ensures help { result.help ≡ Some help.entry }
+    ensures local { result.global ≡ false }
+{
+    Arg::new(alloc, name)
+        .long(name)
+        .value_name("n")
+        .value_parser(ValueParser::unsigned(low, high))
+        .help(help)
+}
+
+// An option that takes a number of this range, and has a value where it isn't given.
 fn number<'a>(
     alloc: Global,
     name: &'a str,
@@ -137,12 +148,7 @@ fn number<'a>(
     ensures help { result.help ≡ Some help.entry }
     ensures local { result.global ≡ false }
 {
-    Arg::new(alloc, name)
-        .long(name)
-        .value_name("n")
-        .value_parser(ValueParser::unsigned(low, high))
-        .default_value(default)
-        .help(help)
+    given(alloc, name, low, high, help).default_value(default)
 }
 
 // The option that says how many sites there are.

@@ -7,7 +7,7 @@ ghost use Rattle.rubis_engine.specs.Text.{input_records};
 use crate::fault::RunFault;
 use crate::input_record::InputRecord;
 use crate::meter::Meter;
-use csv::{ByteRecord, Reader, ReaderBuilder};
+use csv::{Reader, ReaderBuilder};
 use std::alloc::Global;
 use std::io::Read;
 
@@ -30,9 +30,7 @@ impl<R: Read> Records<R> {
             .from_reader(alloc, Meter::new(reader));
         Records {
             reader,
-            current: InputRecord {
-                fields: ByteRecord::new(alloc),
-            },
+            current: InputRecord::new(alloc),
         }
     }
 
@@ -45,16 +43,7 @@ impl<R: Read> Records<R> {
         ensures takes { IfOk result (λ found. Advances R.remaining self.old self.new found) }
         ensures faults { IfErr result (λ e. (e ≡ RunFault.Read) ⊎ (e ≡ RunFault.Memory)) }
     {
-        let found = match self.reader.read_byte_record(&mut self.current.fields) {
-            Ok(found) => found,
-            Err(e) => {
-                if e.is_io_error() {
-                    return Err(RunFault::Read);
-                }
-                return Err(RunFault::Memory);
-            }
-        };
-        Ok(found)
+        self.current.read_from(&mut self.reader)
     }
 
     /// The record that was read last.

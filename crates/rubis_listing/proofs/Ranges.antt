@@ -1,5 +1,5 @@
 -- The rows that are made of a range, and of the ranges that it is cut into.
-use Rattle.std.proofs.Common.{◌≡◌, ℕ, zero, suc, ◌+◌, ◌*◌, ◌-◌, ◌≤◌, List, [], ◌∷◌, ◌++◌, drop, take, length, min, ap, subst, ◌∙◌, arith, map as each}
+use Rattle.std.proofs.Common.{◌≡◌, ℕ, zero, suc, ◌+◌, ◌*◌, ◌-◌, ◌≤◌, List, [], ◌∷◌, ◌++◌, drop, take, length, min, ap, refl, subst, sym, ◌∙◌, arith, map as each}
 use Rattle.std.specs.List.{AllZip, range_with_len}
 use Rattle.std.specs.Prelude.{slice_range}
 use Rattle.std.proofs.lemmas.Grind.{flat_map-append}
@@ -44,23 +44,39 @@ log_append n (x ∷ xs) ys =
     ap (λ rows. log_record n x ∷ rows) (log_append (n + 1) xs ys ∙ ap (λ k. log_from (n + 1) xs ++ log_from k ys) same)
 
 pub between_none : (s : Source) (a : ℕ) → between s a a ≡ []
-between_none (Rows l rows) a = ap (λ xs. records_of l.now (each shown xs)) (range_none rows.now a)
+between_none (Rows l rows) a = ap (λ xs. records_of l.now (each shown xs)) (range_none rows.items a)
 between_none (Log log) a = ap (log_from (a + 1)) (range_none log.now a) ∙ none (a + 1)
-between_none (Misfits ms) a = ap misfit_rows (range_none ms.now a)
+between_none (Misfits ms) a = ap misfit_rows (range_none ms.items a)
 
 pub between_more : (s : Source) (a b c : ℕ) → a ≤ b → b ≤ c → b ≤ size_of s → between s a c ≡ between s a b ++ between s b c
 between_more (Rows l rows) a b c first second within =
-    ap (λ xs. records_of l.now (each shown xs)) (range_split rows.now a b c first second within)
-    ∙ ap (records_of l.now) (map-append shown (slice_range rows.now a b) (slice_range rows.now b c))
-    ∙ records_append l.now (each shown (slice_range rows.now a b)) (each shown (slice_range rows.now b c))
+    ap (λ xs. records_of l.now (each shown xs)) (range_split rows.items a b c first second within)
+    ∙ ap (records_of l.now) (map-append shown (slice_range rows.items a b) (slice_range rows.items b c))
+    ∙ records_append l.now (each shown (slice_range rows.items a b)) (each shown (slice_range rows.items b c))
 between_more (Log log) a b c first second within =
     let next : a + 1 + length (slice_range log.now a b) ≡ b + 1 = omega (arith, range_length log.now a b within) in
     ap (log_from (a + 1)) (range_split log.now a b c first second within)
     ∙ log_append (a + 1) (slice_range log.now a b) (slice_range log.now b c)
     ∙ ap (λ k. log_from (a + 1) (slice_range log.now a b) ++ log_from k (slice_range log.now b c)) next
 between_more (Misfits ms) a b c first second within =
-    ap misfit_rows (range_split ms.now a b c first second within)
-    ∙ flat_map-append (λ (m : Misfit). misfit_record m ∷ []) (slice_range ms.now a b) (slice_range ms.now b c)
+    ap misfit_rows (range_split ms.items a b c first second within)
+    ∙ flat_map-append (λ (m : Misfit). misfit_record m ∷ []) (slice_range ms.items a b) (slice_range ms.items b c)
+
+-- ---- how many rows are made
+log_length : (n : ℕ) (ms : List Message) → length (log_from n ms) ≡ length ms
+unfolding log_from
+log_length n [] = refl
+log_length n (m ∷ ms) = ap suc (log_length (n + 1) ms)
+
+misfits_length : (ms : List Misfit) → length (misfit_rows ms) ≡ length ms
+misfits_length [] = refl
+misfits_length (m ∷ ms) = ap suc (misfits_length ms)
+
+pub log_count : (log : List Message) (from : ℕ) → from ≤ length log → length log - from ≡ length (log_from (from + 1) (slice_range log from (length log)))
+log_count log from within = sym (log_length (from + 1) (slice_range log from (length log)) ∙ range_length log from (length log) (omega arith))
+
+pub misfit_count : (ms : List Misfit) (from : ℕ) → from ≤ length ms → length ms - from ≡ length (misfit_rows (slice_range ms from (length ms)))
+misfit_count ms from within = sym (misfits_length (slice_range ms from (length ms)) ∙ range_length ms from (length ms) (omega arith))
 
 -- ---- parts
 -- parts that were made by their numbers, from k on, are those of the rows from their place on

@@ -1,14 +1,14 @@
 //! The rows of listings, as records in order.
 #![tactic(auto)]
 
+mod listing_rows;
 mod listings;
 mod logs;
 mod records;
 mod shared;
 mod sources;
 
-pub use listings::{
-    bids, categories, comments, items, list_tables, list_tables_shared, purchases, tables, users,
-};
-pub use logs::{list_log, list_log_shared, list_misfits, list_misfits_shared, log, misfit_rows};
+pub use listing_rows::ListingRows;
+pub use listings::{bids, categories, comments, items, purchases, tables, users};
+pub use logs::{log, misfit_rows};
 pub use shared::SHARED_MIN;

@@ -8,13 +8,10 @@ ghost use Rattle.rubis_shard.specs.Holdings.{union};
 ghost use Rattle.rubis_shard.specs.Written.{shown};
 ghost use Rattle.rubis_listing.specs.ByTable.{tables_of};
 
-use crate::records::put_record;
-use crate::shared::put_shared;
-use crate::sources::Source;
-use rubis_schema::{Fields, Id, Items, Listing, Row, RowKey, RowSink, SharedSink, Table};
+use crate::records::{has_record, put_record};
+use rubis_schema::{Fields, Id, Items, Listing, Row, RowKey, RowSink, Table};
 use rubis_shard::{Tables, selects};
 use std::alloc::{AllocError, Global};
-use std::thread::Threads;
 
 // Adds the row at a key, if it matches the listing and has a record.
 fn put_row<S: RowSink>(
@@ -64,6 +61,29 @@ pub fn put_rows_between<S: RowSink>(
     put_rows(alloc, sink, listing, &rows[from..upto])
 }
 
+// How many records the row at a key has in the listing: one or none.
+fn count_row(listing: &Listing, key: &RowKey, row: &Row) -> usize
+    ensures count { result ≡ length (records_of listing.now ((key.now, row.now) ∷ [])) }
+    ensures one { result ≤ 1 }
+{
+    if selects(listing, key, row) && has_record(key, row) {
+        1
+    } else {
+        0
+    }
+}
+
+// How many of some rows match the listing and have a record.
+pub fn count_rows(listing: &Listing, rows: &[(RowKey, &Row)]) -> usize
+    ensures { result ≡ length (records_of listing.now (each shown rows.now)) }
+{
+    let mut count = 0;
+    for (key, row) in rows {
+        count += count_row(listing, key, row);
+    }
+    count
+}
+
 // The tables whose rows a listing shows, in the order of their keys.
 fn tables_of(listing: &Listing) -> &'static [Table]
     ensures { result.now ≡ tables_of listing.now }
@@ -103,22 +123,6 @@ fn rows_in<'a>(
     }
 }
 
-/// Adds the rows of a listing of the tables, in key order. Those of the log and of misfits show no rows of tables.
-pub fn list_tables<S: RowSink>(
-    alloc: Global,
-    sink: &mut S,
-    listing: &Listing,
-    tables: &Tables,
-) -> Result<(), AllocError>
-    ensures { OnOk result (S.adds (table_rows listing.now (union tables.now)) sink.old sink.new) }
-{
-    for table in tables_of(listing) {
-        let rows = rows_in(alloc, *table, listing, tables)?;
-        put_rows(alloc, sink, listing, &rows)?;
-    }
-    Ok(())
-}
-
 // Some rows, and others after them.
 fn with_rows<'a>(
     rows: Vec<(RowKey, &'a Row)>,
@@ -135,7 +139,7 @@ fn with_rows<'a>(
 }
 
 // The rows of all tables that a listing shows, and maybe others that have no record there, in key order.
-fn rows_of_all<'a>(
+pub fn rows_of_all<'a>(
     alloc: Global,
     listing: &Listing,
     tables: &'a Tables,
@@ -150,27 +154,13 @@ fn rows_of_all<'a>(
     Ok(all)
 }
 
-/// Adds the rows of a listing of the tables as `list_tables` does. Where at least SHARED_MIN rows are listed, of whichever tables, as
-/// many threads as there are processors make them, in parts, and the caller's thread adds the parts.
-pub fn list_tables_shared<S: SharedSink, R: Threads + Sync>(
-    rt: &R,
-    alloc: Global,
-    sink: &mut S,
-    listing: &Listing,
-    tables: &Tables,
-) -> Result<(), AllocError>
-    ensures { OnOk result (S.adds (table_rows listing.now (union tables.now)) sink.old sink.new) }
-{
-    let rows = rows_of_all(alloc, listing, tables)?;
-    put_shared(rt, alloc, sink, &Source::Rows(listing, rows.as_slice()))
-}
-
 // The rows of a listing of the tables as a list.
 fn listed(alloc: Global, listing: Listing, tables: &Tables) -> Result<Items<Fields>, AllocError>
     ensures { IfOk result (λ rows. rows ≡ table_rows listing (union tables.now)) }
 {
+    let shown = rows_of_all(alloc, &listing, tables)?;
     let mut rows = Items::new(alloc);
-    list_tables(alloc, &mut rows, &listing, tables)?;
+    put_rows(alloc, &mut rows, &listing, &shown)?;
     Ok(rows)
 }
 

@@ -3,13 +3,10 @@
 ghost use Rattle.std.specs.Prelude.{◌≡◌, ◌+◌, ◌++◌, ◌≤◌, ◌∷◌, [], IfOk, OnOk, length, slice_range};
 ghost use Rattle.rubis_model.specs.Listings.{kind_name, log_from, log_record, log_rows, misfit_record, misfit_rows as rows_of_misfits};
 
-use crate::shared::put_shared;
-use crate::sources::Source;
 use rubis_message::{Message, append_message};
-use rubis_schema::{Fields, Items, RowSink, SharedSink, push_number};
+use rubis_schema::{Fields, Items, RowSink, push_number};
 use rubis_shadow::{Misfit, MisfitKind};
 use std::alloc::{AllocError, Global};
-use std::thread::Threads;
 
 // The record of a message that is that entry of the log.
 fn put_entry(fields: &mut Fields, entry: u64, message: &Message) -> Result<(), AllocError>
@@ -42,26 +39,6 @@ pub fn put_entries<S: RowSink>(
     Ok(())
 }
 
-/// Adds the rows of a log, in its order, with entries from 1.
-pub fn list_log<S: RowSink>(alloc: Global, sink: &mut S, log: &[Message]) -> Result<(), AllocError>
-    ensures { OnOk result (S.adds (log_rows log.now) sink.old sink.new) }
-{
-    put_entries(alloc, sink, log, 0, log.len())
-}
-
-/// Adds the rows of a log as `list_log` does. Of SHARED_MIN messages or more, as many threads as there are processors make them,
-/// in parts, and the caller's thread adds the parts.
-pub fn list_log_shared<S: SharedSink, R: Threads + Sync>(
-    rt: &R,
-    alloc: Global,
-    sink: &mut S,
-    log: &[Message],
-) -> Result<(), AllocError>
-    ensures { OnOk result (S.adds (log_rows log.now) sink.old sink.new) }
-{
-    put_shared(rt, alloc, sink, &Source::Log(log))
-}
-
 // The word for why a part didn't fit.
 fn name_of(kind: MisfitKind) -> &'static [u8]
     ensures { result.now ≡ kind_name kind }
@@ -88,8 +65,8 @@ fn put_misfit(fields: &mut Fields, misfit: &Misfit) -> Result<(), AllocError>
     fields.push(name_of(misfit.kind))
 }
 
-/// Adds the rows of misfits, in their order.
-pub fn list_misfits<S: RowSink>(
+// Adds the rows of misfits, in their order.
+fn list_misfits<S: RowSink>(
     alloc: Global,
     sink: &mut S,
     misfits: &[Misfit],
@@ -119,25 +96,12 @@ pub fn put_misfits<S: RowSink>(
     list_misfits(alloc, sink, &misfits[from..upto])
 }
 
-/// Adds the rows of misfits as `list_misfits` does. Of SHARED_MIN misfits or more, as many threads as there are processors make
-/// them, in parts, and the caller's thread adds the parts.
-pub fn list_misfits_shared<S: SharedSink, R: Threads + Sync>(
-    rt: &R,
-    alloc: Global,
-    sink: &mut S,
-    misfits: &[Misfit],
-) -> Result<(), AllocError>
-    ensures { OnOk result (S.adds (rows_of_misfits misfits.now) sink.old sink.new) }
-{
-    put_shared(rt, alloc, sink, &Source::Misfits(misfits))
-}
-
 /// The messages of a log, in its order, with entries from 1.
 pub fn log(alloc: Global, log: &[Message]) -> Result<Items<Fields>, AllocError>
     ensures { IfOk result (λ rows. rows ≡ log_rows log.now) }
 {
     let mut rows = Items::new(alloc);
-    list_log(alloc, &mut rows, log)?;
+    put_entries(alloc, &mut rows, log, 0, log.len())?;
     Ok(rows)
 }
 

@@ -1,7 +1,7 @@
 //! Rows of a listing that several threads make.
 
 ghost use Rattle.std.specs.Prelude.{◌≡◌, ◌+◌, ◌*◌, ◌≤◌, IfOk, OnOk};
-ghost use Rattle.rubis_listing.specs.Parts.{all_of, between, rows_of_part, size_of, AreParts};
+ghost use Rattle.rubis_listing.specs.Parts.{between, rows_of_part, size_of, AreParts};
 
 use crate::sources::Source;
 use rayon::current_num_threads;
@@ -15,9 +15,6 @@ pub const SHARED_MIN: usize = 2_048;
 
 // How many rows a thread makes at a time.
 const PART: usize = 512;
-
-// The rows of at most this many are in parts at once.
-const RANGE: usize = 65_536;
 
 // The rows of a part, in a sink of their own: part `at` of those from a place on, up to another.
 fn make_part<S: SharedSink>(
@@ -81,38 +78,26 @@ fn put_parts<S: SharedSink>(
     Ok(())
 }
 
-// Adds all rows, a range at a time.
-fn put_ranges<S: SharedSink, R: Threads + Sync>(
-    rt: &R,
-    alloc: Global,
-    sink: &mut S,
-    source: &Source<'_>,
-) -> Result<(), AllocError>
-    ensures { OnOk result (S.adds (all_of source.now) sink.old sink.new) }
-{
-    let end = source.len();
-    let mut at = 0;
-    while at < end {
-        let upto = at + RANGE.min(end - at);
-        let parts = make_parts(rt, alloc, source, at, upto)?;
-        put_parts(sink, source, at, upto, parts)?;
-        at = upto;
-    }
-    Ok(())
-}
-
-/// Adds all rows. Of SHARED_MIN or more, several threads make the rows, where there are several processors.
+/// Adds the rows that are made of those from a place on, up to another. Of SHARED_MIN or more, several threads make the rows, if they
+/// may and there are several processors, and the caller's thread adds them.
 pub fn put_shared<S: SharedSink, R: Threads + Sync>(
-    rt: &R,
+    threads: Option<&R>,
     alloc: Global,
     sink: &mut S,
     source: &Source<'_>,
+    from: usize,
+    upto: usize,
 ) -> Result<(), AllocError>
-    ensures { OnOk result (S.adds (all_of source.now) sink.old sink.new) }
+    requires from { from ≤ upto }
+    requires upto { upto ≤ size_of source.now }
+    ensures { OnOk result (S.adds (between source.now from upto) sink.old sink.new) }
 {
-    let end = source.len();
-    if end < SHARED_MIN || current_num_threads(rt) < 2 {
-        return source.put(alloc, sink, 0, end);
+    let Some(rt) = threads else {
+        return source.put(alloc, sink, from, upto);
+    };
+    if upto - from < SHARED_MIN || current_num_threads(rt) < 2 {
+        return source.put(alloc, sink, from, upto);
     }
-    put_ranges(rt, alloc, sink, source)
+    let parts = make_parts(rt, alloc, source, from, upto)?;
+    put_parts(sink, source, from, upto, parts)
 }

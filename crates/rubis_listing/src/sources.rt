@@ -1,9 +1,9 @@
 //! What the rows of a listing are made of.
 
-ghost use Rattle.std.specs.Prelude.{◌≡◌, ◌≤◌, OnOk};
-ghost use Rattle.rubis_listing.specs.Parts.{between, size_of};
+ghost use Rattle.std.specs.Prelude.{◌≡◌, ◌≤◌, OnOk, length};
+ghost use Rattle.rubis_listing.specs.Parts.{between, rows_from, size_of};
 
-use crate::listings::put_rows_between;
+use crate::listings::{count_rows, put_rows_between};
 use crate::logs::{put_entries, put_misfits};
 use rubis_message::Message;
 use rubis_schema::{Listing, Row, RowKey, RowSink};
@@ -11,13 +11,13 @@ use rubis_shadow::Misfit;
 use std::alloc::{AllocError, Global};
 
 /// What the rows of a listing are made of, in order.
-#[derive(Clone, Copy)]
+#[derive(Drop)]
 pub enum Source<'a> {
     /// Rows of tables, with their keys: those that match the listing, and have a record.
-    Rows(&'a Listing, &'a [(RowKey, &'a Row)]),
+    Rows(&'a Listing, Vec<(RowKey, &'a Row)>),
     /// The messages of a log, which are its entries from 1.
     Log(&'a [Message]),
-    Misfits(&'a [Misfit]),
+    Misfits(Vec<Misfit>),
 }
 
 impl<'a> Source<'a> {
@@ -29,6 +29,18 @@ impl<'a> Source<'a> {
             Source::Rows(_, rows) => rows.len(),
             Source::Log(log) => log.len(),
             Source::Misfits(misfits) => misfits.len(),
+        }
+    }
+
+    /// How many rows are made of those from a place on.
+    pub fn count(&self, from: usize) -> usize
+        requires { from ≤ size_of self.now }
+        ensures { result ≡ length (rows_from self.now from) }
+    {
+        match self {
+            Source::Rows(listing, rows) => count_rows(listing, &rows[from..rows.len()]),
+            Source::Log(log) => log.len() - from,
+            Source::Misfits(misfits) => misfits.len() - from,
         }
     }
 
@@ -44,7 +56,7 @@ impl<'a> Source<'a> {
         requires upto { upto ≤ size_of self.now }
         ensures { OnOk result (S.adds (between self.now from upto) sink.old sink.new) }
     {
-        match *self {
+        match self {
             Source::Rows(listing, rows) => {
                 put_rows_between(alloc, sink, listing, rows, from, upto)
             }

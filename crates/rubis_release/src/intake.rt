@@ -1,12 +1,13 @@
 //! What a site has taken in: its log, the messages that wait, and the token.
 
-ghost use Rattle.std.specs.Prelude.{◌≡◌, ◌<◌, ◌≤◌, ◌-◌, true, false, Ok, IfOk, IfErr, OnOk, OnErr, length, map};
+ghost use Rattle.std.specs.Prelude.{◌≡◌, ◌<◌, ◌≤◌, ◌-◌, true, false, Ok, Err, IfOk, IfErr, MatchBool, OnOk, OnErr, length, map};
 ghost use Rattle.rubis_schema.specs.declared.limits.TheConstants.{COUNTED_MAX, KEEP_MAX};
 ghost use Rattle.rubis_message.specs.Message.{sites_of};
+ghost use Rattle.rubis_message.specs.declared.answers.Arrival.TheVariants as Arrival;
 ghost use Rattle.rubis_shadow.specs.Limits.{InLimits};
 ghost use Rattle.rubis_shadow.specs.Shadows.{is_red};
-ghost use Rattle.rubis_model.specs.Site.{opening_at, made, after_made, after_came, arrived, standing_of, is_full, is_current, is_repeat, not_ours};
-ghost use Rattle.rubis_release.specs.declared.intake.IntakeFault.TheVariants.{Memory};
+ghost use Rattle.rubis_model.specs.Site.{opening_at, made, after_made, after_came, arrival_of, arrived, standing_of, is_full, is_current, is_repeat, not_ours};
+ghost use Rattle.rubis_release.specs.declared.intake.IntakeFault.TheVariants.{Memory, Refused};
 ghost use Rattle.rubis_release.specs.Intake as model;
 ghost use Rattle.rubis_release.specs.Intake.{IsIntake};
 ghost use Rattle.rubis_release.specs.Release.{IsAmong, clock_of};
@@ -34,6 +35,14 @@ pub enum IntakeFault {
     Memory,
 }
 
+impl From<Refusal> for IntakeFault {
+    ghost from_gives = { λ refusal fault. fault ≡ Refused refusal };
+
+    fn from(refusal: Refusal) -> IntakeFault {
+        IntakeFault::Refused(refusal)
+    }
+}
+
 impl From<AllocError> for IntakeFault {
     ghost from_gives = { λ _ fault. fault ≡ Memory };
 
@@ -47,6 +56,17 @@ impl From<AllocFailed<Message>> for IntakeFault {
 
     fn from(_failed: AllocFailed<Message>) -> IntakeFault {
         IntakeFault::Memory
+    }
+}
+
+// What a message is answered with that is new, where that many were released then.
+#[inline(always)]
+fn arrival_of(released: u32) -> Arrival
+    ensures { result ≡ arrival_of released }
+{
+    match released {
+        0 => Arrival::Held,
+        released => Arrival::Released(released),
     }
 }
 
@@ -201,19 +221,12 @@ impl Intake {
         ensures back { IfErr result (λ e. e.value ≡ message) }
         ensures memory { OnErr result (IsAdmitted self.old.place self.old.state message) }
     {
-        if self.is_not_ours(&message) {
-            return Ok(Err(Refusal::NotOurs));
-        }
-        if self.is_repeat(&message) {
-            return Ok(Ok(Arrival::Repeat));
-        }
-        if self.is_full() {
-            return Ok(Err(Refusal::Full));
-        }
-        match self.take_in(message)? {
-            0 => Ok(Ok(Arrival::Held)),
-            released => Ok(Ok(Arrival::Released(released))),
-        }
+        let answer = match self.is_new(&message) {
+            Ok(true) => Ok(arrival_of(self.take_in(message)?)),
+            Ok(false) => Ok(Arrival::Repeat),
+            Err(refusal) => Err(refusal),
+        };
+        Ok(answer)
     }
 
     /// Takes a message in that arrived. It waits until it is ready, and all that is ready then is released.
@@ -228,11 +241,7 @@ impl Intake {
         ensures err { OnErr result (self.new ≡ self.old) }
         ensures fault { IfErr result (IsFaultOf self.old.place self.old.state message) }
     {
-        match self.admit(message) {
-            Ok(Ok(arrival)) => Ok(arrival),
-            Ok(Err(refusal)) => Err(IntakeFault::Refused(refusal)),
-            Err(_) => Err(IntakeFault::Memory),
-        }
+        Ok(self.admit(message)??)
     }
 
     /// Makes the site's next message of a shadow and releases it, and all that is ready then. Without memory nothing
@@ -282,6 +291,27 @@ impl Intake {
     {
         let id = message.stamp().id;
         id.seq <= self.messages.clock().count(id.site) || self.messages.has_waiting(&id)
+    }
+
+    // Whether a message that arrived is new, or why it is refused.
+    #[inline(always)]
+    fn is_new(&self, message: &Message) -> Result<bool, Refusal>
+        requires { sites_of message.now ≡ self.now.place.sites }
+        ensures new { IfOk result (λ new. MatchBool new
+            (IsAmong self.now.place.sites message.now × IsAdmitted self.now.place self.now.state message.now)
+            (arrived self.now.place self.now.state message.now ≡ (self.now.state, Ok Arrival.Repeat))) }
+        ensures refused { IfErr result (λ refusal. arrived self.now.place self.now.state message.now ≡ (self.now.state, Err refusal)) }
+    {
+        if self.is_not_ours(message) {
+            return Err(Refusal::NotOurs);
+        }
+        if self.is_repeat(message) {
+            return Ok(false);
+        }
+        if self.is_full() {
+            return Err(Refusal::Full);
+        }
+        Ok(true)
     }
 
     // Puts a new message last among those that wait, and releases what is ready; how many were released.

@@ -1,5 +1,5 @@
 -- Tables that follow a log: a batch that is whole or has begun, and a log that grows.
-use Rattle.std.proofs.Common.{◌≡◌, ℕ, ◌+◌, ◌-◌, ◌<◌, ◌≤◌, List, [], ◌∷◌, ◌++◌, length, length-append, take, drop, refl, sym, ap, ◌∙◌, subst, arith, inl, inr}
+use Rattle.std.proofs.Common.{◌≡◌, ℕ, ◌<◌, ◌≤◌, List, ◌++◌, length, length-append, take, drop, refl, sym, ap, ◌∙◌, subst, arith, inl, inr}
 use Rattle.std.specs.Prelude.{◌⊎◌, All, OnErr, OnOk, Result, Ok, Err, Some, true, false, slice_index, slice_range}
 use Rattle.std.specs.List.{flat_map}
 use Rattle.std.specs.Result.{is_ok}
@@ -18,8 +18,8 @@ use Rattle.rubis_workers.specs.Logs.{AreWithin, StaysWithin, parts_between}
 use Rattle.rubis_workers.proofs.Applied.{cores_front, cores_slice}
 use Rattle.rubis_workers.proofs.Between.{between_inside, slice_inside}
 use Rattle.rubis_workers.proofs.NextMessage.{log_within}
-use Rattle.rubis_replica.specs.Follow.{ComesTo, Follower, FollowsAt, FollowsLog, GoesOnTo, HasStops}
-use Rattle.rubis_replica.specs.Progress.{BatchBegins, BatchGoesOn, IsProgress, Progress, keeping, resting_at}
+use Rattle.rubis_replica.specs.Follow.{ComesTo, Follower, FollowsAt, FollowsLog, GoesOnTo}
+use Rattle.rubis_replica.specs.Progress.{BatchBegins, IsProgress, Progress, keeping, resting_at}
 
 pub zero_or : (n : ℕ) → (n ≡ 0) ⊎ (0 < n)
 zero_or ℕ.zero = inl refl

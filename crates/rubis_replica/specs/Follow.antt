@@ -1,5 +1,5 @@
 -- Tables that follow a log.
-use Rattle.std.specs.Prelude.{◌≡◌, ℕ, ◌<◌, ◌≤◌, ◌⊎◌, List, OnOk, OnErr, Result, length, slice_range, take}
+use Rattle.std.specs.Prelude.{◌≡◌, ℕ, ◌<◌, ◌⊎◌, List, OnOk, OnErr, Result, length, slice_range, take}
 use Rattle.std.specs.declared.alloc.AllocError.{AllocError}
 use Rattle.rubis_message.specs.Message.{Message}
 use Rattle.rubis_model.specs.Log.{cores}

@@ -103,3 +103,8 @@ ListsTheLog old new (Err Memory) = new ≡ old
 abbrev pub Lists : {A : Type 0} → Listing → SiteState → SiteState → Result A Fault → Type 0
 Lists Log old new result = ListsTheLog old new result
 Lists l old new result = MatchResult result (λ rows. new ≡ with_all_applied old) (IsReadFault old new)
+
+-- the site can list: all of its log stands in its tables, unless the listing is of the log itself
+abbrev pub IsReadyFor : Listing → SiteState → Type 0
+IsReadyFor Log s = ⊤
+IsReadyFor l s = s.progress ≡ resting_at (length s.state.log)

@@ -14,12 +14,10 @@ ghost use Rattle.rubis_replica.specs.Progress.{HasBegun, IsAhead, IsBetween, IsP
 ghost use Rattle.rubis_replica.specs.Counts.{IsCount};
 
 use crate::arriving::{Arrived, take_all};
-use rubis_listing::{
-    list_log, list_log_shared, list_misfits, list_misfits_shared, list_tables, list_tables_shared,
-};
+use rubis_listing::ListingRows;
 use rubis_message::Message;
 use rubis_release::Intake;
-use rubis_schema::{Hashes, Listing, SharedSink};
+use rubis_schema::{Hashes, Listing};
 use rubis_shadow::Misfit;
 use rubis_workers::{
     Gate, LogBatch, Pace, Tables, Workers, apply_batch, count_behind, count_parts, follow_rest,
@@ -120,50 +118,30 @@ impl<G: Gate> Follower<G> {
         self.tables.link_rows(listing)
     }
 
-    /// Adds the rows of a listing of the tables as far as they are. Several threads make the rows of a long one, unless one
-    /// worker is configured.
-    pub fn list_into<S: SharedSink, R: Threads + Sync>(
-        &self,
-        rt: &R,
-        listing: &Listing,
-        sink: &mut S,
-    ) -> Result<(), AllocError>
-        ensures { OnOk result (S.adds (table_rows listing.now (union self.now.tables)) sink.old sink.new) }
-    {
-        if self.workers.most == 1 {
-            return list_tables(self.workers.alloc, sink, listing, &self.tables);
-        }
-        list_tables_shared(rt, self.workers.alloc, sink, listing, &self.tables)
+    // Whether several threads make the rows of a long listing: unless one worker is configured.
+    fn is_shared(&self) -> bool {
+        self.workers.most > 1
     }
 
-    /// Adds the rows of a log. Several threads make those of a long one, unless one worker is configured.
-    pub fn list_log_into<S: SharedSink, R: Threads + Sync>(
-        &self,
-        rt: &R,
-        log: &[Message],
-        sink: &mut S,
-    ) -> Result<(), AllocError>
-        ensures { OnOk result (S.adds (log_rows log.now) sink.old sink.new) }
+    /// The rows of a listing of the tables as far as they are.
+    pub fn rows<'a>(&'a self, listing: &'a Listing) -> Result<ListingRows<'a>, AllocError>
+        ensures { IfOk result (λ rows. rows ≡ table_rows listing.now (union self.now.tables)) }
     {
-        if self.workers.most == 1 {
-            return list_log(self.workers.alloc, sink, log);
-        }
-        list_log_shared(rt, self.workers.alloc, sink, log)
+        ListingRows::of_tables(self.workers.alloc, listing, &self.tables, self.is_shared())
     }
 
-    /// Adds the rows of misfits. Several threads make those of many, unless one worker is configured.
-    pub fn list_misfits_into<S: SharedSink, R: Threads + Sync>(
-        &self,
-        rt: &R,
-        misfits: &[Misfit],
-        sink: &mut S,
-    ) -> Result<(), AllocError>
-        ensures { OnOk result (S.adds (misfit_rows misfits.now) sink.old sink.new) }
+    /// The rows of a log.
+    pub fn log_rows<'a>(&self, log: &'a [Message]) -> ListingRows<'a>
+        ensures { result ≡ log_rows log.now }
     {
-        if self.workers.most == 1 {
-            return list_misfits(self.workers.alloc, sink, misfits);
-        }
-        list_misfits_shared(rt, self.workers.alloc, sink, misfits)
+        ListingRows::of_log(self.workers.alloc, log, self.is_shared())
+    }
+
+    /// The rows of misfits.
+    pub fn misfit_rows<'a>(&self, misfits: Vec<Misfit>) -> ListingRows<'a>
+        ensures { result ≡ misfit_rows misfits.items }
+    {
+        ListingRows::of_misfits(self.workers.alloc, misfits, self.is_shared())
     }
 
     /// Whether a batch has begun and isn't whole.

@@ -5,11 +5,13 @@ mod arriving;
 mod config;
 mod faults;
 mod follower;
+mod lengths;
 mod site;
 
 pub use arriving::Arrived;
 pub use config::Config;
 pub use faults::Fault;
 pub use follower::Follower;
+pub use rubis_listing::ListingRows;
 pub use rubis_workers::{Free, Gate};
 pub use site::Site;

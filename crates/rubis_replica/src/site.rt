@@ -1,6 +1,6 @@
 //! One site, and its calls.
 
-ghost use Rattle.std.specs.Prelude.{◌≡◌, ◌≤◌, ◌<◌, [], All, IfOk, IfErr, IfNone, IfSome, IsErrOf, Ok, OnOk, Some, length};
+ghost use Rattle.std.specs.Prelude.{◌≡◌, ◌≤◌, ◌<◌, ◌⊎◌, [], All, IfOk, IfErr, IfNone, IfSome, IsErrOf, Ok, OnOk, Some, length};
 ghost use Rattle.rubis_shadow.specs.Limits.{InLimits, IsAsk};
 ghost use Rattle.rubis_message.specs.Message.{sites_of};
 ghost use Rattle.rubis_model.specs.Log.{cores, fold_of};
@@ -10,13 +10,15 @@ ghost use Rattle.rubis_release.specs.Answers.{IsAdmitted};
 ghost use Rattle.rubis_replica.specs.Arrivals.{IsStop, TakesFirst};
 ghost use Rattle.rubis_replica.specs.Progress.{BatchGoesOn, IsAhead, IsBatched, IsProgress, is_behind, resting_at};
 ghost use Rattle.rubis_replica.specs.Setup.{setup_place};
-ghost use Rattle.rubis_replica.specs.State.{AddsRows, AnswersAsTheStep, IsDecision, IsCutFault, IsReadFault, Lists, NeedsNoTables, TakesIn, WaitsBehind, pending, with_all_applied};
+ghost use Rattle.rubis_replica.specs.State.{AddsRows, AnswersAsTheStep, IsDecision, IsCutFault, IsReadFault, IsReadyFor, Lists, NeedsNoTables, TakesIn, WaitsBehind, pending, with_all_applied};
 
 use crate::arriving::Arrived;
 use crate::config::Config;
 use crate::faults::Fault;
 use crate::follower::Follower;
+use crate::lengths::is_long;
 use rubis_generate::decide;
+use rubis_listing::ListingRows;
 use rubis_message::{Arrival, Message, Taken, Token};
 use rubis_release::Intake;
 use rubis_schema::{Fields, Items, Listing, SharedSink};
@@ -239,24 +241,47 @@ impl<G: Gate> Site<G> {
         Ok(self.intake.pass_token(to)?)
     }
 
-    // Adds the rows of a listing, of the log and of the tables as far as they are.
-    fn add_rows<S: SharedSink, R: Threads + Sync>(
-        &self,
+    /// Applies all that is pending and links the rows that came, if a listing reads the tables: one of the log doesn't. After that
+    /// `rows` gives its rows. A site that is behind is left as it is.
+    pub fn prepare<R: Threads + Wait + Sync>(
+        &mut self,
         rt: &R,
         listing: &Listing,
-        sink: &mut S,
-    ) -> Result<(), AllocError>
-        requires { self.now.progress ≡ resting_at (length self.now.state.log) }
-        ensures { OnOk result (S.adds (listing_rows self.now.state.log (fold_of (cores self.now.state.log)) listing.now) sink.old sink.new) }
+    ) -> Result<(), Fault>
+        ensures place { self.new.place ≡ self.old.place }
+        ensures batch { self.new.batch ≡ self.old.batch }
+        ensures state { self.new.state ≡ self.old.state }
+        ensures waits { WaitsBehind self.old self.new result }
+        ensures ready { OnOk result (IsReadyFor listing.now self.new) }
+        ensures faults { IfErr result (λ fault. (fault ≡ Fault.Behind) ⊎ (fault ≡ Fault.Memory)) }
+        ensures progress { Lists listing.now self.old self.new result }
+    {
+        if let Listing::Log = listing {
+            if self.follower.is_behind() {
+                return Err(Fault::Behind);
+            }
+            return Ok(());
+        }
+        self.refresh(rt)?;
+        Ok(self.follower.link_rows(listing)?)
+    }
+
+    /// The rows of a listing that the site is ready for, as `prepare` leaves it.
+    ///
+    /// # Errors
+    ///
+    /// `AllocError` if there is no memory to put them in order.
+    pub fn rows<'a>(&'a self, listing: &'a Listing) -> Result<ListingRows<'a>, AllocError>
+        requires { IsReadyFor listing.now self.now }
+        ensures { IfOk result (λ rows. rows ≡ listing_rows self.now.state.log (fold_of (cores self.now.state.log)) listing.now) }
     {
         match listing {
-            Listing::Log => self.follower.list_log_into(rt, self.intake.log(), sink),
+            Listing::Log => Ok(self.follower.log_rows(self.intake.log())),
             Listing::Misfits => {
                 let misfits = misfits(self.alloc, self.follower.tables())?;
-                self.follower
-                    .list_misfits_into(rt, misfits.as_slice(), sink)
+                Ok(self.follower.misfit_rows(misfits))
             }
-            _ => self.follower.list_into(rt, listing, sink),
+            _ => self.follower.rows(listing),
         }
     }
 
@@ -276,15 +301,15 @@ impl<G: Gate> Site<G> {
         ensures step { AddsRows (λ rows. S.adds rows sink.old sink.new) self.old self.new (listed self.old.state listing.now) result }
         ensures progress { Lists listing.now self.old self.new result }
     {
-        if let Listing::Log = listing {
-            if self.follower.is_behind() {
-                return Err(Fault::Behind);
-            }
-            return Ok(self.follower.list_log_into(rt, self.intake.log(), sink)?);
-        }
-        self.refresh(rt)?;
-        self.follower.link_rows(listing)?;
-        Ok(self.add_rows(rt, listing, sink)?)
+        self.prepare(rt, listing)?;
+        let mut rows = self.rows(listing)?;
+        Ok(rows.put_all(rt, sink)?)
+    }
+
+    /// Whether a listing has many rows, some thousands, as far as the tables are: what is pending isn't counted. It decides when
+    /// text is written, not what text.
+    pub fn is_long(&self, listing: &Listing) -> bool {
+        is_long(self.follower.tables(), self.intake.log(), listing)
     }
 
     /// The rows of a listing, as `list_into` adds them.

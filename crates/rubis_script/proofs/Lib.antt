@@ -6,3 +6,4 @@ pub mod ReplayFacts
 pub mod HeadlineExamples
 pub mod LeadFacts
 pub mod TurnFacts
+pub mod DrainFacts

@@ -96,6 +96,10 @@ pub at_ok : {T E P : Type 0} (r : Result T E) (v : T) → OnOk r P → r ≡ Ok 
 at_ok (Ok x) v h e = h
 at_ok (Err x) v h e = absurd cc
 
+pub at_if_ok : {T E : Type 0} (P : T → Type 0) (r : Result T E) (v : T) → IfOk r P → r ≡ Ok v → P v
+at_if_ok P (Ok x) v h e = subst (λ o. IfOk o P) e h
+at_if_ok P (Err x) v h e = absurd cc
+
 -- nothing was read or answered yet
 pub starts : {R : Type 0} (rem : R → Option (List ℕ)) (chunks : Chunks R) (s : SiteState) (b : Backlog) (old : Option (List ℕ)) (input : List ℕ)
     → b.ahead ≡ [] → b.window.items ≡ [] → b.reply.sink ≡ [] → b.answered ≡ 0 → HasPending rem chunks (input_records input) → HasReadAhead rem chunks s b s old old input
@@ -121,7 +125,7 @@ same-stands s b b2 first old now records later ahead window sink count h =
 
 -- ---- a step
 
-first_read : (sites : ℕ) (rows : List (List (List ℕ))) (p : Parsed) (left : List Parsed) → AreParsed sites rows (p ∷ left)
+pub first_read : (sites : ℕ) (rows : List (List (List ℕ))) (p : Parsed) (left : List Parsed) → AreParsed sites rows (p ∷ left)
     → (fields : List (List ℕ)) × (more : List (List (List ℕ))) × (rows ≡ fields ∷ more) × (input_of sites fields ≡ meant p)
 unfolding AreParsed
 first_read sites [] p left h = absurd h

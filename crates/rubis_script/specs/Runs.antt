@@ -1,14 +1,19 @@
 -- A run that reads ahead, at the desk of a site.
-use Rattle.std.specs.Prelude.{◌+◌, ◌++◌, ℕ, All, List, Option}
+use Rattle.std.specs.Prelude.{◌+◌, ◌++◌, ◌∷◌, [], ℕ, All, List, None, Option, Some}
+use Rattle.rubis_schema.specs.declared.listings.Listing.{Listing}
 use Rattle.rubis_message.specs.Message.{Message}
+use Rattle.rubis_message.specs.declared.requests.Request.TheVariants as request
 use Rattle.rubis_script.specs.Headline.{HasLed}
 use Rattle.rubis_script.specs.SiteRuns.{told_by}
 use Rattle.rubis_script.specs.Windows.{AreHeld, FitPlan, held_by}
+use Rattle.rubis_engine.specs.Accounts.Ending.{AtEnd}
+use Rattle.rubis_engine.specs.Progress.{WrotePrefix}
 use Rattle.rubis_engine.specs.Text.{input_records}
 use Rattle.rubis_reading.specs.Chunked.{HasPending}
 use Rattle.rubis_reading.specs.Parsed.{FitsIn}
 use Rattle.rubis_reading.specs.Runs.{FitWindow, flat}
 use Rattle.rubis_reading.specs.declared.parsed.Parsed.{Parsed}
+use Rattle.rubis_reading.specs.declared.parsed.Parsed.TheVariants.{Asked}
 use Rattle.rubis_reading.specs.declared.chunks.Chunks.{Chunks}
 use Rattle.rubis_replica.specs.State.{SiteState}
 use Rattle.rubis_reading.specs.Steps.{HasAhead}
@@ -59,3 +64,30 @@ abbrev pub OfEachAhead : {R : Type 0} → (R → Option (List ℕ)) → Chunks R
     → (SiteState → Option (List ℕ) → List ℕ → Type 0) → Type 0
 OfEachAhead rem chunks s b now holds = (first : SiteState) (old : Option (List ℕ)) (input : List ℕ) → HasReadAhead rem chunks s b first old now input
     → holds first old input
+
+-- ---- a listing that is written out while it is made, at which reading and answering at once stops
+
+-- the request for that listing, if one was taken off the front of what was read ahead, and isn't answered
+abbrev pub stopped_at : Option Listing → List Parsed
+stopped_at None = []
+stopped_at (Some l) = Asked (request.List l) ∷ []
+
+-- what is left of what was read ahead
+abbrev pub left_ahead : Option Listing → Backlog → List Parsed
+left_ahead l b = stopped_at l ++ flat b.ahead
+
+-- wherever the run stood, it has come to stand here, before that request, with nothing written
+abbrev pub StopsAt : Option Listing → SiteState → Backlog → SiteState → Backlog → Type 0
+StopsAt l s b s2 b2 = (first : SiteState) (old now : Option (List ℕ)) (records later : List (List (List ℕ)))
+    → StandsWith s b first old now records later → Stands s2 (left_ahead l b2) b2.window.items b2.reply.sink b2.answered first old now records later
+
+-- from before that request on it has come to stand here, and `after` to be written in place of `before`
+abbrev pub GoesOnOut : Option Listing → SiteState → Backlog → SiteState → Backlog → Option (List ℕ) → Option (List ℕ) → Type 0
+GoesOnOut l s b s2 b2 before after = (first : SiteState) (old : Option (List ℕ)) (records later : List (List (List ℕ)))
+    → Stands s (left_ahead l b) b.window.items b.reply.sink b.answered first old before records later → StandsWith s2 b2 first old after records later
+
+-- from before that request on, a prefix of the text was written
+abbrev pub LeavesPrefix : Option Listing → SiteState → Backlog → Option (List ℕ) → Option (List ℕ) → Type 0
+LeavesPrefix l s b before after = (first : SiteState) (old : Option (List ℕ)) (records later : List (List (List ℕ)))
+    → Stands s (left_ahead l b) b.window.items b.reply.sink b.answered first old before records later
+    → WrotePrefix ((told_by first 1).text AtEnd) old after records

@@ -1,7 +1,7 @@
 //! A site as a service: a record in, its answers out.
 
 ghost use Rattle.std.proofs.Common.{rules};
-ghost use Rattle.std.specs.Prelude.{◌≡◌, ◌≤◌, ◌<◌, ◌+◌, ◌++◌, ◌∷◌, ◌^◌, [], IfOk, IsTrue, List, None, OnOk, ℕ, length, refl};
+ghost use Rattle.std.specs.Prelude.{◌≡◌, ◌≤◌, ◌<◌, ◌+◌, ◌++◌, ◌∷◌, ◌^◌, ◌⊎◌, [], IfErr, IfOk, IfSome, IsErrOf, IsTrue, List, None, OnOk, ℕ, length, refl};
 ghost use Rattle.rubis_schema.specs.declared.limits.TheConstants.{COUNTED_MAX};
 ghost use Rattle.rubis_shadow.specs.Limits.{IsAsk};
 ghost use Rattle.rubis_message.specs.Grammar.{IsPacket, IsRequest};
@@ -17,6 +17,7 @@ ghost use Rattle.rubis_replica.specs.Arrivals.{after_all};
 ghost use Rattle.rubis_replica.specs.Setup.{setup_place};
 ghost use Rattle.rubis_reading.specs.Parsed.{FitsIn, meant};
 ghost use Rattle.rubis_engine.specs.Accounts.{AnswersRecord, Keeps};
+ghost use Rattle.rubis_script.specs.Drains.{WritesFront, WritesOff, listed_behind};
 ghost use Rattle.rubis_script.specs.Inputs.{IsAnswered, IsReadOf, answer_of};
 ghost use Rattle.rubis_script.specs.Headline.{Settles, StepsOn};
 ghost use Rattle.rubis_script.specs.SiteRuns.{told_by};
@@ -26,16 +27,19 @@ ghost use Rattle.rubis_engine.specs.declared.service.Course.TheVariants as Cours
 
 use crate::plan::Plan;
 use crate::replies::{
-    write_arrival, write_listed_text, write_passed, write_refusal, write_sent, write_taken,
+    write_arrival, write_count, write_listed_text, write_passed, write_refusal, write_sent,
+    write_taken,
 };
+use crate::rows_out::write_rows;
 use crate::windows::{hold, window_of, write_arrivals};
-use rubis_engine::{InputRecord, OutOfMemory, Reply, Service, Sink};
+use rubis_engine::{InputRecord, OutOfMemory, Reply, RunFault, Service, Sink};
 use rubis_message::{Message, Packet, ReadFault, Request, Token, read_packet, read_request};
 use rubis_reading::Parsed;
 use rubis_replica::{Config, Fault, Free, Gate, Site};
-use rubis_schema::{Counted, Listing, Refusal};
+use rubis_schema::{Counted, Listing, Record, Refusal};
 use rubis_shadow::Ask;
 use std::alloc::{AllocError, Global};
+use std::io::Write;
 use std::mem;
 use std::sync::Wait;
 use std::thread::Threads;
@@ -512,6 +516,61 @@ impl<G: Gate> Desk<G> {
             };
         }
         self.answer_parsed(rt, answered, parsed, window, reply)
+    }
+}
+
+// Whether a record begins as a request for a listing does.
+#[inline(always)]
+fn begins_listing(fields: &InputRecord) -> bool {
+    match fields.field(0) {
+        Some(word) => word == b"list".as_slice(),
+        None => false,
+    }
+}
+
+impl<G: Gate> Desk<G> {
+    /// The listing that a record asks for, if it asks for one and there is memory to tell.
+    #[tactic(auto, using(crate::proofs::OneReading::asked))]
+    pub fn listing_of(&self, fields: &InputRecord) -> Option<Listing>
+        ensures { IfSome result (λ listing. input_of self.now.site.place.sites fields.now ≡ Asked (Request.List listing)) }
+    {
+        if !begins_listing(fields) {
+            return None;
+        }
+        match read_request(self.alloc, fields, self.sites) {
+            Ok(Request::List(listing)) => Some(listing),
+            _ => None,
+        }
+    }
+
+    /// Answers a request for a listing. Its rows are written out while they are made: at the end the last of them wait in the reply.
+    ///
+    /// # Errors
+    ///
+    /// `Write` where the writer failed, and `Memory` if memory ran out or the site is behind: the first of the text was written then.
+    pub fn list_out<R: Threads + Wait + Sync, W: Write>(
+        &mut self,
+        rt: &R,
+        listing: &Listing,
+        reply: &mut Reply,
+        writer: &mut W,
+    ) -> Result<(), RunFault>
+        ensures place { self.new.site.place ≡ self.old.site.place }
+        ensures plan { self.new.plan ≡ self.old.plan }
+        ensures state { self.new.site.state ≡ self.old.site.state }
+        ensures answered { OnOk result (WritesOff (listed_behind reply.old.sink self.old.site reply.old.number listing.now) reply.new.sink
+            (W.contents writer.old) (W.contents writer.new)) }
+        ensures memory { IsErrOf result RunFault.Memory → WritesFront (listed_behind reply.old.sink self.old.site reply.old.number listing.now)
+            (W.contents writer.old) (W.contents writer.new) }
+        ensures faults { IfErr result (λ e. (e ≡ RunFault.Write) ⊎ (e ≡ RunFault.Memory)) }
+    {
+        if self.site.prepare(rt, listing).is_err() {
+            return Err(RunFault::Memory);
+        }
+        let mut rows = self.site.rows(listing)?;
+        let count = rows.count() as u64;
+        write_count(&mut reply.fields, &mut reply.sink, reply.number, count)?;
+        write_rows(rt, &mut rows, &mut reply.sink, writer)
     }
 }
 

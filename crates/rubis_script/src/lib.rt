@@ -9,6 +9,7 @@ mod laws;
 mod overlap;
 mod plan;
 mod replies;
+mod rows_out;
 mod run;
 mod site_run;
 mod turns;

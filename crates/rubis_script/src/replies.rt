@@ -173,8 +173,8 @@ fn write_rows<S: RowSink>(sink: &mut S, rows: &[Fields]) -> Result<(), AllocErro
     Ok(())
 }
 
-// How many rows a listing has.
-fn write_count<S: RowSink>(
+/// Says how many rows a listing has.
+pub(crate) fn write_count<S: RowSink>(
     fields: &mut Fields,
     sink: &mut S,
     number: u64,

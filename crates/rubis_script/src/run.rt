@@ -1,10 +1,10 @@
 //! A run of a site that reads ahead.
 
-ghost use Rattle.std.specs.Prelude.{◌≡◌, ◌≤◌, ◌<◌, ◌+◌, ◌^◌, ◌⊎◌, [], List, ℕ, Option, IfErr, IfNone, IfOk, IfSome, IsErrOf, MatchOption, OnOk, length, take};
+ghost use Rattle.std.specs.Prelude.{◌≡◌, ◌≤◌, ◌<◌, ◌+◌, ◌^◌, ◌⊎◌, [], List, ℕ, Option, IfErr, IfNone, IfOk, IfSome, IsErrOf, MatchOption, None, OnOk, length, take};
 ghost use Rattle.rubis_model.specs.Site.{opening_at};
 ghost use Rattle.rubis_replica.specs.State.{SiteState};
 ghost use Rattle.rubis_script.specs.Headline.{AnswersAll, AnswersFirst, AnswersJust, HasAnswered, OfRead, StandsAsProcess, WritesAsProcess};
-ghost use Rattle.rubis_script.specs.Runs.{GoesOnWriting, HasReadAhead, IsSound, OfEachAhead, StandsWith};
+ghost use Rattle.rubis_script.specs.Runs.{GoesOnWriting, HasReadAhead, IsSound, LeavesPrefix, OfEachAhead, StandsWith};
 ghost use Rattle.rubis_script.specs.SiteRuns.{told_by};
 ghost use Rattle.rubis_engine.specs.Accounts.Ending.{AtEnd};
 ghost use Rattle.rubis_engine.specs.Progress.{IsRun, WrotePrefix};
@@ -13,7 +13,7 @@ ghost use Rattle.rubis_reading.specs.Chunked.{HasPending, held_text};
 ghost use Rattle.rubis_reading.specs.Runs.{AreSingle, flat};
 ghost use Rattle.rubis_reading.specs.Streams.{IsWhole, NoWholeAfter};
 
-use crate::answering::{answer_all, answer_some};
+use crate::answering::{answer_ready, answer_some, finish};
 use crate::backlog::Backlog;
 use crate::desk::Desk;
 use crate::overlap::read_next;
@@ -108,10 +108,11 @@ fn catch_up<G: Gate, T: Threads + Wait + Sync, W: Write>(
     ensures empty { OnOk result (backlog.new.reply.sink ≡ []) }
     ensures count { OnOk result (backlog.new.answered ≡ backlog.old.answered + length (flat backlog.old.ahead)) }
     ensures goes { OnOk result (GoesOnWriting desk.old.site backlog.old desk.new.site backlog.new (W.contents writer.old) (W.contents writer.new)) }
-    ensures memory { IsErrOf result RunFault.Memory → W.contents writer.new ≡ W.contents writer.old }
+    ensures memory { IsErrOf result RunFault.Memory → LeavesPrefix None desk.old.site backlog.old (W.contents writer.old) (W.contents writer.new) }
     ensures faults { IfErr result (λ e. (e ≡ RunFault.Write) ⊎ (e ≡ RunFault.Memory)) }
 {
-    answer_all(rt, desk, backlog)?;
+    let stopped = answer_ready(rt, desk, backlog)?;
+    finish(rt, desk, backlog, stopped, writer)?;
     settle(rt, desk, backlog, writer)
 }
 
@@ -151,14 +152,15 @@ fn stop<G: Gate, T: Threads + Wait + Sync, W: Write>(
     settle(rt, desk, backlog, writer)
 }
 
-// Reads a chunk while all that was read ahead is answered.
-fn go_on<G: Gate, T: Threads + Wait + Sync, R: Read>(
+// Reads a chunk while what was read ahead is answered. Long listings are written out when the chunk is read.
+fn go_on<G: Gate, T: Threads + Wait + Sync, R: Read, W: Write>(
     rt: &T,
     source: &mut Source<R>,
     desk: &mut Desk<G>,
     backlog: &mut Backlog,
+    writer: &mut W,
     many: usize,
-) -> Result<(), OutOfMemory>
+) -> Result<(), RunFault>
     requires some { 0 < many }
     requires text { many ≤ length (held_text source.old.chunks) }
     requires whole { IsWhole (take many (held_text source.old.chunks)) }
@@ -167,13 +169,16 @@ fn go_on<G: Gate, T: Threads + Wait + Sync, R: Read>(
     ensures plan { OnOk result (desk.new.plan ≡ desk.old.plan) }
     ensures sound { OnOk result (IsSound desk.new.site desk.new.plan backlog.new) }
     ensures count { OnOk result (backlog.new.answered ≡ backlog.old.answered + length (flat backlog.old.ahead)) }
-    ensures goes { OnOk result ((now : Option (List ℕ)) → OfEachAhead R.remaining source.old.chunks desk.old.site backlog.old now (λ first old input.
-        HasReadAhead R.remaining source.new.chunks desk.new.site backlog.new first old now input)) }
+    ensures goes { OnOk result (OfEachAhead R.remaining source.old.chunks desk.old.site backlog.old (W.contents writer.old) (λ first old input.
+        HasReadAhead R.remaining source.new.chunks desk.new.site backlog.new first old (W.contents writer.new) input)) }
+    ensures memory { IsErrOf result RunFault.Memory → LeavesPrefix None desk.old.site backlog.old (W.contents writer.old) (W.contents writer.new) }
+    ensures faults { IfErr result (λ e. (e ≡ RunFault.Write) ⊎ (e ≡ RunFault.Memory)) }
 {
     let (piece, _) = source.chunks.held().split_at(many);
-    let list = read_next(rt, source.alloc, piece, desk, backlog)?;
+    let overlapped = read_next(rt, source.alloc, piece, desk, backlog)?;
+    finish(rt, desk, backlog, overlapped.stopped, writer)?;
     source.chunks.pass(many);
-    let ahead = Ahead::of(list)?;
+    let ahead = Ahead::of(overlapped.read)?;
     backlog.ahead = ahead;
     Ok(())
 }
@@ -217,7 +222,9 @@ fn end<G: Gate, T: Threads + Wait + Sync, R: Read, W: Write>(
     ensures too_long { IsErrOf result RunFault.TooLong → OfEachAhead R.remaining source.now.chunks desk.old.site backlog.old (W.contents writer.old)
         (λ first old input.
         AnswersFirst limit first desk.new.site old (W.contents writer.new) (input_records input)) }
-    ensures memory { IsErrOf result RunFault.Memory → W.contents writer.new ≡ W.contents writer.old }
+    ensures memory { IsErrOf result RunFault.Memory → OfEachAhead R.remaining source.now.chunks desk.old.site backlog.old (W.contents writer.old)
+        (λ first old input.
+        WrotePrefix ((told_by first 1).text AtEnd) old (W.contents writer.new) (input_records input)) }
     ensures faults { IfErr result (λ e. (e ≡ RunFault.Write) ⊎ (e ≡ RunFault.Memory) ⊎ (e ≡ RunFault.TooLong)) }
 {
     let sites = desk.sites();
@@ -303,10 +310,10 @@ fn go_on_writing<G: Gate, T: Threads + Wait + Sync, R: Read, W: Write>(
     ensures count { OnOk result (backlog.new.answered ≡ backlog.old.answered + length (flat backlog.old.ahead)) }
     ensures goes { OnOk result (OfEachAhead R.remaining source.old.chunks desk.old.site backlog.old (W.contents writer.old) (λ first old input.
         HasReadAhead R.remaining source.new.chunks desk.new.site backlog.new first old (W.contents writer.new) input)) }
-    ensures memory { IsErrOf result RunFault.Memory → W.contents writer.new ≡ W.contents writer.old }
+    ensures memory { IsErrOf result RunFault.Memory → LeavesPrefix None desk.old.site backlog.old (W.contents writer.old) (W.contents writer.new) }
     ensures faults { IfErr result (λ e. (e ≡ RunFault.Write) ⊎ (e ≡ RunFault.Memory)) }
 {
-    go_on(rt, source, desk, backlog, many)?;
+    go_on(rt, source, desk, backlog, writer, many)?;
     drain_full(source, desk, backlog, writer)
 }
 

@@ -1,10 +1,14 @@
 //! A run of a site that reads each record when those before it are answered.
 
 ghost use Rattle.std.specs.Prelude.{◌≡◌, ◌≤◌, ◌<◌, ◌+◌, ◌^◌, ◌⊎◌, [], List, Option, IfErr, IfNone, IfOk, IfSome, IsErrOf, OnOk, length, true};
+ghost use Rattle.rubis_message.specs.declared.requests.Request.TheVariants as Request;
+ghost use Rattle.rubis_model.specs.Runs.{input_of};
+ghost use Rattle.rubis_model.specs.Runs.Input.{Asked};
 ghost use Rattle.rubis_engine.specs.Accounts.Ending.{AtEnd};
 ghost use Rattle.rubis_engine.specs.Progress.{Drained, EndsInPrefix, FromStart, IsRun, WrotePrefix};
-ghost use Rattle.rubis_engine.specs.Reading.{Advances};
-ghost use Rattle.rubis_script.specs.Headline.{AnswersAll, AnswersFirst, AnswersJust, HasAnswered, HasMovedSite, OfEachSiteRun, OfRead, Settles, StandsAtSite};
+ghost use Rattle.rubis_engine.specs.Reading.{Advances, fields_now};
+ghost use Rattle.rubis_script.specs.Drains.{AnswersOut, WritesFrontFrom};
+ghost use Rattle.rubis_script.specs.Headline.{AnswersAll, AnswersFirst, AnswersJust, HasAnswered, HasMovedSite, OfEachSiteRun, OfRead, Settles, StandsAtSite, StepsOn};
 ghost use Rattle.rubis_script.specs.SiteRuns.{told_by};
 ghost use Rattle.rubis_engine.specs.Text.{input_records, rows_text};
 ghost use Rattle.rubis_script.specs.Windows.{AreHeld, FitPlan, held_by};
@@ -13,6 +17,7 @@ use crate::desk::Desk;
 use rubis_engine::{Count, Run, RunFault, write_out};
 use rubis_message::Message;
 use rubis_replica::Gate;
+use rubis_schema::Listing;
 use std::alloc::Global;
 use std::io::{Read, Write};
 use std::sync::Wait;
@@ -111,6 +116,78 @@ fn pass_on<G: Gate, T: Threads + Wait + Sync, R: Read, W: Write>(
     write_out(rt, &run.records, desk, &mut run.reply.sink, writer)
 }
 
+// Takes in the messages that are held, and answers the record that was read last, which asks for that listing. Its rows are written
+// out while they are made.
+fn list_next<G: Gate, T: Threads + Wait + Sync, R: Read, W: Write>(
+    rt: &T,
+    site_run: &mut SiteRun<R>,
+    desk: &mut Desk<G>,
+    writer: &mut W,
+    listing: &Listing,
+) -> Result<(), RunFault>
+    requires held { AreHeld desk.old.site.place site_run.old.window.items site_run.old.run.answered }
+    requires room { site_run.old.run.answered + 1 < 2 ^ 64 }
+    requires asks { input_of desk.old.site.place.sites (fields_now site_run.old.run.records) ≡ Asked (Request.List listing.now) }
+    ensures records { site_run.new.run.records ≡ site_run.old.run.records }
+    ensures empty { OnOk result (site_run.new.window.items ≡ []) }
+    ensures place { OnOk result (desk.new.site.place ≡ desk.old.site.place) }
+    ensures plan { OnOk result (desk.new.plan ≡ desk.old.plan) }
+    ensures counted { OnOk result (site_run.new.run.answered ≡ site_run.old.run.answered + 1) }
+    ensures goes { OnOk result (AnswersOut desk.old.site site_run.old.window.items desk.new.site site_run.new.window.items
+        (site_run.old.run.answered + 1) (fields_now site_run.old.run.records) site_run.old.run.reply.sink site_run.new.run.reply.sink
+        (W.contents writer.old) (W.contents writer.new)) }
+    ensures leads { OnOk result (StepsOn (site_run.old.run.answered + 1) (input_of desk.old.site.place.sites (fields_now site_run.old.run.records))
+        desk.old.site site_run.old.window.items desk.new.site site_run.new.window.items) }
+    ensures memory { IsErrOf result RunFault.Memory → WritesFrontFrom desk.old.site site_run.old.window.items (site_run.old.run.answered + 1)
+        (fields_now site_run.old.run.records) site_run.old.run.reply.sink (W.contents writer.old) (W.contents writer.new) }
+    ensures faults { IfErr result (λ e. (e ≡ RunFault.Write) ⊎ (e ≡ RunFault.Memory)) }
+{
+    let SiteRun { run, window } = site_run;
+    desk.flush(rt, run.answered, window, &mut run.reply)?;
+    run.reply.number = run.answered + 1;
+    desk.list_out(rt, listing, &mut run.reply, writer)?;
+    run.answered += 1;
+    Ok(())
+}
+
+// Answers the record that was read last, or holds it.
+fn answer_next<G: Gate, T: Threads + Wait + Sync, R: Read, W: Write>(
+    rt: &T,
+    site_run: &mut SiteRun<R>,
+    desk: &mut Desk<G>,
+    writer: &mut W,
+) -> Result<(), RunFault>
+    requires held { AreHeld desk.old.site.place site_run.old.window.items site_run.old.run.answered }
+    requires room { site_run.old.run.answered + 1 < 2 ^ 64 }
+    ensures records { site_run.new.run.records ≡ site_run.old.run.records }
+    ensures held { OnOk result (AreHeld desk.new.site.place site_run.new.window.items (site_run.old.run.answered + 1)) }
+    ensures few { OnOk result (FitPlan desk.new.plan site_run.new.window.items) }
+    ensures plan { OnOk result (desk.new.plan ≡ desk.old.plan) }
+    ensures counted { OnOk result (site_run.new.run.answered ≡ site_run.old.run.answered + 1) }
+    ensures goes { OnOk result (AnswersOut desk.old.site site_run.old.window.items desk.new.site site_run.new.window.items
+        (site_run.old.run.answered + 1) (fields_now site_run.old.run.records) site_run.old.run.reply.sink site_run.new.run.reply.sink
+        (W.contents writer.old) (W.contents writer.new)) }
+    ensures leads { OnOk result (StepsOn (site_run.old.run.answered + 1) (input_of desk.old.site.place.sites (fields_now site_run.old.run.records))
+        desk.old.site site_run.old.window.items desk.new.site site_run.new.window.items) }
+    ensures memory { IsErrOf result RunFault.Memory → WritesFrontFrom desk.old.site site_run.old.window.items (site_run.old.run.answered + 1)
+        (fields_now site_run.old.run.records) site_run.old.run.reply.sink (W.contents writer.old) (W.contents writer.new) }
+    ensures faults { IfErr result (λ e. (e ≡ RunFault.Write) ⊎ (e ≡ RunFault.Memory)) }
+{
+    if let Some(listing) = desk.listing_of(site_run.run.records.fields()) {
+        return list_next(rt, site_run, desk, writer, &listing);
+    }
+    let SiteRun { run, window } = site_run;
+    desk.take(
+        rt,
+        run.answered,
+        run.records.fields(),
+        window,
+        &mut run.reply,
+    )?;
+    run.answered += 1;
+    Ok(())
+}
+
 // Answers or holds the next record, if there is one. `None` if the run goes on, otherwise how many records were read.
 fn take_next<G: Gate, T: Threads + Wait + Sync, R: Read, W: Write>(
     rt: &T,
@@ -136,15 +213,7 @@ fn take_next<G: Gate, T: Threads + Wait + Sync, R: Read, W: Write>(
     if let Some(count) = next_or_end(rt, site_run, desk, writer)? {
         return Ok(Some(count));
     }
-    let SiteRun { run, window } = &mut *site_run;
-    desk.take(
-        rt,
-        run.answered,
-        run.records.fields(),
-        window,
-        &mut run.reply,
-    )?;
-    run.answered += 1;
+    answer_next(rt, site_run, desk, writer)?;
     pass_on(rt, site_run, desk, writer)?;
     Ok(None)
 }

@@ -1,4 +1,4 @@
-use Rattle.std.proofs.Common.{◌+◌, arith}
+use Rattle.std.proofs.Common.{arith}
 use Rattle.rubis_schema.proofs.NumberTexts.{at_most_twenty}
 use Rattle.rubis_audit.proofs.reasons.push_number.Goals as goal
 

@@ -1,5 +1,5 @@
-use Rattle.std.proofs.Common.{◌≡◌, ◌∙◌, ◌+◌, ◌<◌, ◌∷◌, Some, None, ap, arith, drop, if◌then◌else◌, length, rules, suc, sym, true, false}
-use Rattle.std.specs.Prelude.{slice_get, slice_index_or}
+use Rattle.std.proofs.Common.{◌≡◌, ◌∙◌, ◌+◌, ◌<◌, Some, ap, arith, drop, if◌then◌else◌, length, rules, suc, sym, true, false}
+use Rattle.std.specs.Prelude.{slice_index_or}
 use Rattle.std.proofs.Math.Seq.{drop-cons}
 use Rattle.rubis_audit.specs.FieldRules.{fits}
 use Rattle.rubis_audit.specs.RecordFaults.{fault, misfit}

@@ -1,6 +1,5 @@
-use Rattle.std.proofs.Common.{◌≡◌, false, subst, sym, ap}
+use Rattle.std.proofs.Common.{false, subst}
 use Rattle.rubis_engine.specs.Progress.{IsRun}
-use Rattle.rubis_engine.specs.Text.{input_records}
 use Rattle.rubis_audit.specs.Running.{AuditorState, account_from}
 use Rattle.rubis_schema.specs.declared.limits.TheConstants.{RECORDS_MAX}
 use Rattle.rubis_engine.proofs.RunFacts.{if_ok_so, run_done}

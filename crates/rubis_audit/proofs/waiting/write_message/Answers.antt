@@ -1,6 +1,5 @@
-use Rattle.std.proofs.Common.{◌≡◌, ◌<◌, ◌≤◌, ◌∙◌, ◌++◌, ap, arith, length}
+use Rattle.std.proofs.Common.{◌∙◌, ◌++◌, ap, arith, length}
 use Rattle.rubis_clock.specs.declared.stamps.Stamp.{Stamp}
-use Rattle.rubis_message.specs.Message.{sites_of}
 use Rattle.rubis_model.specs.LackRecords.{red_rows}
 use Rattle.rubis_engine.specs.Text.{rows_text}
 use Rattle.rubis_engine.proofs.RowFacts.{on_ok}

@@ -1,10 +1,10 @@
-use Rattle.std.proofs.Common.{◌+◌, ◌<◌, ◌∙◌, ap, arith, length, subst, sym}
+use Rattle.std.proofs.Common.{◌≡◌, ◌+◌, ◌<◌, ◌∙◌, ap, arith, get_or, length, subst, sym}
 use Rattle.std.specs.Prelude.{map}
 use Rattle.rubis_clock.specs.Clocks.{IsReady, advanced}
 use Rattle.rubis_audit.proofs.Merging.{Merges, counts_same, is_ready, merges_end, merges_skip, merges_start, merges_take, one_at, origin_within}
 use Rattle.rubis_audit.proofs.Walking.{entry_is}
 use Rattle.rubis_audit.proofs.walks_lacks.merge_log.Goals as goal
-use Rattle.rubis_audit.proofs.walks_lacks.merge_log.Goals.{then-is_new+in_ok-put_last, else-is_new}
+use Rattle.rubis_audit.proofs.walks_lacks.merge_log.Goals.{After-is_new, then-is_new+in_ok-put_last, else-is_new}
 
 pub loop-shared-init : goal.loop-shared-init
 loop-shared-init c log e = (
@@ -12,46 +12,38 @@ loop-shared-init c log e = (
   merges_start c.args.sites c.args.logs.now c.args.at log (map (λ m. m.now) c.args.merged.now.items) c.args.clock.now c.requires.place e c.requires.so_far,
 )
 
+-- how far the logs are merged, and that the message stands at its place in its log
+merges : (c : After-is_new) → Merges c.args.sites c.args.logs.now c.args.at c.index-logs-at.result c.loop-shared.shared-index (map (λ m. m.now) c.loop-shared.merged.items) c.loop-shared.clock
+merges c = (c.loop-shared.invariant c.index-logs-at.result c.index-logs-at.is).1
+
+within : (c : After-is_new) → c.loop-shared.shared-index < length c.index-logs-at.result.messages
+within c = subst (λ xs. c.loop-shared.shared-index < length xs) (c.loop-shared.invariant c.index-logs-at.result c.index-logs-at.is).0 c.loop-shared-test.true
+
+entry : (c : After-is_new) → c.deref-message.result.now ≡ get_or c.index-logs-at.result.messages c.loop-shared.shared-index c.deref-message.result.now
+entry c =
+    entry_is _ c.index-logs-at.result.messages c.loop-shared.shared-index c.shared-item.result c.deref-message.result.now (c.loop-shared.invariant c.index-logs-at.result c.index-logs-at.is).0 c.shared-item.is
+    c.deref-message.ensures
+
 pub is_new-requires : goal.is_new-requires
 is_new-requires c =
-    let log = c.index-logs-at.result in
-    let e = c.index-logs-at.is in
-    let n = c.loop-shared.shared-index in
-    let v = c.deref-message.result.now in
-    let messages = map (λ m. m.now) c.loop-shared.merged.items in
-    let clock = c.loop-shared.clock in
-    let inv = c.loop-shared.invariant log e in
-    let k = subst (λ xs. n < length xs) inv.0 c.loop-shared-test.true in
-    let i = entry_is _ log.messages n c.shared-item.result v inv.0 c.shared-item.is c.deref-message.ensures in
-    counts_same c.args.sites c.args.logs.now c.args.at log n v messages clock c.requires.among c.requires.place e k i inv.1
+    let inv = c.loop-shared.invariant c.index-logs-at.result c.index-logs-at.is in
+    counts_same c.args.sites c.args.logs.now c.args.at c.index-logs-at.result c.loop-shared.shared-index c.deref-message.result.now _ c.loop-shared.clock c.requires.among c.requires.place
+    c.index-logs-at.is (subst (λ xs. c.loop-shared.shared-index < length xs) inv.0 c.loop-shared-test.true)
+    (entry_is _ c.index-logs-at.result.messages c.loop-shared.shared-index c.shared-item.result c.deref-message.result.now inv.0 c.shared-item.is c.deref-message.ensures) inv.1
 
 pub advance-requires-clause-origin : goal.advance-requires-clause-origin
 advance-requires-clause-origin c =
-    let log = c.index-logs-at.result in
-    let e = c.index-logs-at.is in
-    let n = c.loop-shared.shared-index in
-    let v = c.deref-message.result.now in
-    let messages = map (λ m. m.now) c.loop-shared.merged.items in
-    let clock = c.loop-shared.clock in
-    let inv = c.loop-shared.invariant log e in
-    let k = subst (λ xs. n < length xs) inv.0 c.loop-shared-test.true in
-    let i = entry_is _ log.messages n c.shared-item.result v inv.0 c.shared-item.is c.deref-message.ensures in
-    subst (λ s. s.id.site < length clock.counts) (sym c.stamp.ensures.value)
-    (origin_within c.args.sites c.args.logs.now c.args.at log n v messages clock c.requires.faultless c.requires.among c.requires.place e k i c.is_new.ensures.conditions inv.1)
+    let p = (goal.at.advance-requires-clause-origin c).After-is_new in
+    subst (λ s. s.id.site < length c.loop-shared.clock.counts) (sym c.stamp.ensures.value)
+    (origin_within c.args.sites c.args.logs.now c.args.at c.index-logs-at.result c.loop-shared.shared-index c.deref-message.result.now _ c.loop-shared.clock c.requires.faultless c.requires.among
+    c.requires.place c.index-logs-at.is (within p) (entry p) c.is_new.ensures.conditions (merges p))
 
 pub advance-requires-clause-ready : goal.advance-requires-clause-ready
 advance-requires-clause-ready c =
-    let log = c.index-logs-at.result in
-    let e = c.index-logs-at.is in
-    let n = c.loop-shared.shared-index in
-    let v = c.deref-message.result.now in
-    let messages = map (λ m. m.now) c.loop-shared.merged.items in
-    let clock = c.loop-shared.clock in
-    let inv = c.loop-shared.invariant log e in
-    let k = subst (λ xs. n < length xs) inv.0 c.loop-shared-test.true in
-    let i = entry_is _ log.messages n c.shared-item.result v inv.0 c.shared-item.is c.deref-message.ensures in
-    subst (IsReady clock) (sym c.stamp.ensures.value)
-    (is_ready c.args.sites c.args.logs.now c.args.at log n v messages clock c.requires.faultless c.requires.among c.requires.place e k i c.is_new.ensures.conditions inv.1 (sym c.if-is_new.true ∙ c.is_new.ensures.new))
+    let p = (goal.at.advance-requires-clause-ready c).After-is_new in
+    subst (IsReady c.loop-shared.clock) (sym c.stamp.ensures.value)
+    (is_ready c.args.sites c.args.logs.now c.args.at c.index-logs-at.result c.loop-shared.shared-index c.deref-message.result.now _ c.loop-shared.clock c.requires.faultless c.requires.among
+    c.requires.place c.index-logs-at.is (within p) (entry p) c.is_new.ensures.conditions (merges p) (sym c.if-is_new.true ∙ c.is_new.ensures.new))
 
 pub loop-shared-preserved : goal.loop-shared-preserved
 loop-shared-preserved c log e =

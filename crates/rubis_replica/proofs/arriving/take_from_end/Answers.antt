@@ -1,7 +1,7 @@
-use Rattle.std.proofs.Common.{◌≡◌, ◌∷◌, [], ◌++◌, ap, ◌∙◌, sym, subst, arith}
-use Rattle.std.specs.Prelude.{List, Some, reverse}
+use Rattle.std.proofs.Common.{◌≡◌, ◌∙◌, sym, subst, arith}
+use Rattle.std.specs.Prelude.{Some, reverse}
 use Rattle.std.proofs.lemmas.List.Elements.{All-pop}
-use Rattle.rubis_message.specs.Message.{Message, sites_of}
+use Rattle.rubis_message.specs.Message.{sites_of}
 use Rattle.rubis_model.specs.Site.{Place, arrived}
 use Rattle.rubis_replica.specs.Arrivals.{TakesFirst}
 use Rattle.rubis_replica.proofs.Comings.{last_first, takes_next}

@@ -1,4 +1,4 @@
-use Rattle.std.proofs.Common.{◌++◌, ◌≡◌, ◌∙◌, ◌+◌, ◌∷◌, All, ap, arith, length, subst, suc, sym, zero}
+use Rattle.std.proofs.Common.{◌++◌, ◌≡◌, ◌∙◌, ◌∷◌, All, ap, arith, length, subst, suc, sym, zero}
 use Rattle.rubis_reading.specs.Parsed.{FitsIn}
 use Rattle.rubis_reading.specs.Runs.{FitWindow, flat, of_stretch}
 use Rattle.rubis_script.specs.Runs.{Stands}

@@ -21,4 +21,4 @@ returns-then-len-left-clause-too_long g c e first old input h =
 pub returns-in_err-go_on_writing-clause-memory : goal.returns-in_err-go_on_writing-clause-memory
 returns-in_err-go_on_writing-clause-memory g c e first old input h =
     let memory = handed_on c.from_residual-in_err-go_on_writing.result c.in_err-go_on_writing.field-0.0 fault.Memory c.from_residual-in_err-go_on_writing.ensures e in
-    stands-prefix _ _ _ first old _ _ _ _ (input_records input) h.later (c.in_err-go_on_writing.ensures.memory (rw memory refl)) h.stands
+    c.in_err-go_on_writing.ensures.memory (rw memory refl) first old (input_records input) h.later h.stands

@@ -10,7 +10,7 @@ use Rattle.rubis_script.proofs.run.wait.Goals as goal
 pub returns-in_err-catch_up-clause-memory : goal.returns-in_err-catch_up-clause-memory
 returns-in_err-catch_up-clause-memory g c e first old input h =
     let memory = handed_on c.from_residual.result c.in_err-catch_up.field-0.0 fault.Memory c.from_residual.ensures e in
-    stands-prefix _ _ _ first old _ _ _ _ (input_records input) h.later (c.in_err-catch_up.ensures.memory (rw memory refl)) h.stands
+    c.in_err-catch_up.ensures.memory (rw memory refl) first old (input_records input) h.later h.stands
 
 pub end-requires-clause-last : goal.end-requires-clause-last
 end-requires-clause-last g c κs within = let none : c.in-Ok-false.field-0 ≡ false = search rules in c.in-Ok-false.ensures.last none
@@ -34,7 +34,11 @@ returns-in_err-count-in-Ok-false-clause-too_long g c e first old input h =
 pub returns-in_err-count-in-Ok-false-clause-memory : goal.returns-in_err-count-in-Ok-false-clause-memory
 returns-in_err-count-in-Ok-false-clause-memory g c e first old input h =
     let same = handed_on c.from_residual-in_err-count-in-Ok-false.result c.in_err-count-in-Ok-false.field-0.0 fault.Memory c.from_residual-in_err-count-in-Ok-false.ensures e in
-    stands-prefix _ _ _ first old _ _ _ _ (input_records input) h.later (c.in_err-count-in-Ok-false.ensures.memory (rw same refl)) (c.in_ok-catch_up.ensures.goes first old (input_records input) h.later h.stands)
+    c.in_err-count-in-Ok-false.ensures.memory (rw same refl) first old input (record {
+      later = h.later;
+      stands = c.in_ok-catch_up.ensures.goes first old (input_records input) h.later h.stands;
+      pending = c.in-Ok-false.ensures.keeps h.later h.pending;
+    })
 
 pub returns-in_ok-count-in-Ok-false-clause-goes : goal.returns-in_ok-count-in-Ok-false-clause-goes
 returns-in_ok-count-in-Ok-false-clause-goes g c first old input h =

@@ -1,4 +1,4 @@
-use Rattle.std.proofs.Common.{◌∙◌, ap, inr, option_map}
+use Rattle.std.proofs.Common.{◌∙◌, inr}
 use Rattle.rubis_engine.proofs.ReadingFacts.{holds-start}
 use Rattle.rubis_audit.proofs.line_reader.LineReader.new.Goals as goal
 

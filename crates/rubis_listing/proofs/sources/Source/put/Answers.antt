@@ -1,5 +1,10 @@
-use Rattle.std.proofs.Common.{subst, sym}
-use Rattle.std.specs.Prelude.{OnOk}
+use Rattle.std.proofs.Common.{List, map as each, subst, sym, Bor}
+use Rattle.std.specs.Prelude.{OnOk, slice_range}
+use Rattle.rubis_schema.specs.declared.row_keys.RowKey.{RowKey}
+use Rattle.rubis_schema.specs.declared.rows.Row.{Row}
+use Rattle.rubis_shadow.specs.declared.numbered.Misfit.{Misfit}
+use Rattle.rubis_model.specs.Listings.{misfit_rows, records_of}
+use Rattle.rubis_shard.specs.Written.{shown}
 use Rattle.rubis_listing.specs.Parts.{between}
 use Rattle.rubis_listing.specs.declared.sources.Source.{Source}
 use Rattle.rubis_listing.proofs.sources.Source.put.Goals as goal
@@ -7,7 +12,10 @@ use Rattle.rubis_listing.proofs.sources.Source.put.Goals as goal
 pub returns-in-Rows : goal.returns-in-Rows
 returns-in-Rows g c =
     subst (λ (s : Source). OnOk c.put_rows_between.result (g.S.RowSink.adds (between s c.args.from c.args.upto) c.args.sink.now c.put_rows_between.new.sink))
-    (sym c.in-Rows.is) c.put_rows_between.ensures
+    (sym c.in-Rows.is)
+    (subst (λ (rows : List (RowKey × Bor Row)). OnOk c.put_rows_between.result
+    (g.S.RowSink.adds (records_of c.in-Rows.listing.now (each shown (slice_range rows c.args.from c.args.upto))) c.args.sink.now c.put_rows_between.new.sink))
+    c.deref.ensures.value c.put_rows_between.ensures)
 
 pub returns-in-Log : goal.returns-in-Log
 returns-in-Log g c =
@@ -17,4 +25,7 @@ returns-in-Log g c =
 pub returns-in-Misfits : goal.returns-in-Misfits
 returns-in-Misfits g c =
     subst (λ (s : Source). OnOk c.put_misfits.result (g.S.RowSink.adds (between s c.args.from c.args.upto) c.args.sink.now c.put_misfits.new.sink))
-    (sym c.in-Misfits.is) c.put_misfits.ensures
+    (sym c.in-Misfits.is)
+    (subst (λ (ms : List Misfit). OnOk c.put_misfits.result
+    (g.S.RowSink.adds (misfit_rows (slice_range ms c.args.from c.args.upto)) c.args.sink.now c.put_misfits.new.sink))
+    c.deref-in-Misfits.ensures.value c.put_misfits.ensures)

@@ -1,6 +1,5 @@
-use Rattle.std.proofs.Common.{rules, ◌≡◌, ◌∙◌, ◌<◌, length, refl, sym, ap, subst, arith}
-use Rattle.std.specs.Prelude.{Ok, Err}
-use Rattle.rubis_workers.specs.Logs.{AppliesTo, AppliesWhole}
+use Rattle.std.proofs.Common.{rules, ◌≡◌, refl, sym, subst}
+use Rattle.std.specs.Prelude.{Ok}
 use Rattle.rubis_replica.specs.Follow.{ComesTo, Follower, FollowsLog}
 use Rattle.rubis_replica.proofs.Standing.{comes_from, comes_whole, err_of, ok_of}
 use Rattle.rubis_replica.proofs.follower.Follower.follow_upto.Goals as goal

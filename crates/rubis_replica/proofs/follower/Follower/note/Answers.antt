@@ -1,4 +1,4 @@
-use Rattle.std.proofs.Common.{◌≡◌, ◌∙◌, ◌<◌, length, refl, sym, ap, subst, arith}
+use Rattle.std.proofs.Common.{◌≡◌, ◌∙◌, ◌<◌, length, refl, sym, subst, arith}
 use Rattle.std.specs.Prelude.{Ok, Err, slice_range}
 use Rattle.rubis_model.specs.Log.{cores}
 use Rattle.rubis_workers.specs.Pieces.{HoldsTo, StopWithin}

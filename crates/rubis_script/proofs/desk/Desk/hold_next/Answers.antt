@@ -1,7 +1,5 @@
-use Rattle.std.proofs.Common.{◌∙◌, ◌+◌, ◌∷◌, [], ap, arith, length, length-append, subst, sym}
+use Rattle.std.proofs.Common.{◌∙◌, ◌+◌, ◌∷◌, [], ap, arith, length, length-append, sym}
 use Rattle.std.proofs.lemmas.Result.{on_ok_weaker}
-use Rattle.rubis_message.specs.declared.tokens.Packet.TheVariants as Packet
-use Rattle.rubis_model.specs.Runs.Input.{Came}
 use Rattle.rubis_script.specs.Windows.{held_by}
 use Rattle.rubis_script.proofs.LeadFacts.{settled_steps}
 use Rattle.rubis_script.proofs.WindowFacts.{held_more, holds_more, kept_answers}

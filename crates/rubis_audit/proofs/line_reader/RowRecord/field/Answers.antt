@@ -1,9 +1,0 @@
-use Rattle.std.proofs.Common.{◌∙◌, ap, slice_get}
-use Rattle.csv.specs.Records.{fields_of}
-use Rattle.rubis_engine.proofs.ListFacts.{field_at-slice_get}
-use Rattle.rubis_audit.proofs.line_reader.RowRecord.field.Goals as goal
-
-pub returns : goal.returns
-returns c =
-    c.get.ensures.value ∙ field_at-slice_get (fields_of c.self.inside.fields) c.args.place
-    ∙ ap (λ fields. slice_get fields c.args.place) c.self.view_is

@@ -1,0 +1,46 @@
+//! The rows of a listing are written out while they are made.
+
+ghost use Rattle.std.specs.Prelude.{◌≡◌, ◌++◌, ◌⊎◌, IfErr, IsErrOf, OnOk};
+ghost use Rattle.rubis_engine.specs.Text.{rows_text};
+ghost use Rattle.rubis_script.specs.Drains.{WritesFront, WritesOff};
+
+use rubis_engine::{RunFault, Sink};
+use rubis_replica::ListingRows;
+use std::io::Write;
+use std::thread::Threads;
+
+// Writes out the text that waits, where there is much of it.
+fn drain_full<W: Write>(sink: &mut Sink, writer: &mut W) -> Result<(), RunFault>
+    ensures ok { OnOk result (WritesOff sink.old sink.new (W.contents writer.old) (W.contents writer.new)) }
+    ensures faults { IfErr result (λ e. e ≡ RunFault.Write) }
+{
+    if sink.is_full() {
+        return sink.drain(writer);
+    }
+    Ok(())
+}
+
+/// Adds the rows of a listing that are left, and writes out what comes to much: at the end the last of the text waits in the sink.
+///
+/// # Errors
+///
+/// `Write` where the writer failed, and `Memory` if memory ran out: the first of the text was written then.
+pub(crate) fn write_rows<T: Threads + Sync, W: Write>(
+    rt: &T,
+    rows: &mut ListingRows<'_>,
+    sink: &mut Sink,
+    writer: &mut W,
+) -> Result<(), RunFault>
+    ensures ok { OnOk result (WritesOff (sink.old ++ rows_text rows.old) sink.new (W.contents writer.old) (W.contents writer.new)) }
+    ensures memory { IsErrOf result RunFault.Memory → WritesFront (sink.old ++ rows_text rows.old) (W.contents writer.old) (W.contents writer.new) }
+    ensures faults { IfErr result (λ e. (e ≡ RunFault.Write) ⊎ (e ≡ RunFault.Memory)) }
+{
+    'parts: for _ in 0..u64::MAX {
+        let more = rows.put_next(rt, sink)?;
+        drain_full(sink, writer)?;
+        if !more {
+            return Ok(());
+        }
+    }
+    Err(RunFault::Memory)
+}
