@@ -1,11 +1,9 @@
 #!/usr/bin/env python3
 """Proves the crates that the program is made of and builds it, on all processors: this is what `./rubis` calls where a source is newer.
 
-`rt ci NAME` proves a crate on a copy, over what was proved before, and keeps what passed beside the toolchain. So each crate is given
-to one call of it as soon as those below are proved, the longest chain first and before all others, and the last call builds the program
-over all of them.
-What is kept is there for the next run, if this one is interrupted, and for the gate. Where nothing can be kept, one call proves all.
-The crates are copied without their wrong bodies, which are the gate's.
+One `rt ci` proves them on a copy, over what was proved before, each as soon as those below are proved, the longest chain first
+(scripts/rt_lanes.py). It keeps each crate that passed beside the toolchain: there it is for the next run, if this one is interrupted,
+and for the gate. The crates are copied without their wrong bodies, which are the gate's.
 
 Standard error tells how far it is, on a terminal in one line that is written over. The first crate that isn't proved ends the run,
 with its errors and no others', and status 1.
@@ -23,16 +21,10 @@ import time
 from collections.abc import Iterable
 from typing import Dict, List
 
+from rt_lanes import PARTS, weight
+
 TOP = os.path.dirname(os.path.dirname(os.path.abspath(__file__)))
 APP = "rubis_app"
-PARTS = ("src", "specs", "proofs")
-# What a crate costs beside its lines, in lines: its libraries are loaded, and it is compiled.
-FIXED = 1500
-# How much a crate beside the longest chain gives way to those on it (`nice`).
-BEHIND = 10
-# What a proof may take of memory, in bytes.
-MEMORY = 4 << 30
-KEPT = "and that is kept"
 
 # Crates, each with those that it stands on.
 Below = Dict[str, List[str]]
@@ -71,33 +63,17 @@ def copy_crates(crates: Iterable[str], to: str) -> None:
                 shutil.copyfile(f"{TOP}/{inside}", f"{to}/{inside}")
 
 
-def weight(name: str) -> int:
-    """Returns about how much work a crate is, in lines."""
-    walked = (f"{at}/{file}" for part in PARTS for at, _, files in os.walk(f"{TOP}/crates/{name}/{part}") for file in files)
-    lines = FIXED
-    for path in walked:
-        with open(path, "rb") as text:
-            lines += text.read().count(b"\n")
-    return lines
-
-
-def at_once() -> int:
-    """Returns how many proofs run at once: each may use two processors, though not all of the time, and some memory."""
-    room = os.sysconf("SC_PHYS_PAGES") * os.sysconf("SC_PAGE_SIZE") // MEMORY
-    return max(1, min(len(os.sched_getaffinity(0)) // 2 + 1, room))
-
-
 class Unproved(Exception):
     """A crate that isn't proved, or a program that isn't built, and what the toolchain says of it."""
 
 
 class Call:
-    """A call of `rt ci`, and its log."""
+    """The call of `rt ci`, and its log."""
 
-    def __init__(self, repository: str, log: str, names: Iterable[str] = (), waits: int = 0) -> None:
+    def __init__(self, repository: str, log: str) -> None:
         self.log = log
         words = {name: value for name, value in os.environ.items() if name != "CI"}
-        command = ["nice", "-n", str(waits), "rt", "ci", *names]
+        command = [sys.executable, f"{TOP}/scripts/rt_lanes.py"]
         with open(log, "wb") as out:
             self.run = subprocess.Popen(command, cwd=repository, env=words, stdin=subprocess.DEVNULL, stdout=out, stderr=out, start_new_session=True)
 
@@ -130,7 +106,7 @@ class Progress:
     def __init__(self, crates: Below) -> None:
         self.crates, self.shown, self.began = crates, -1, time.monotonic()
         self.proved: set[str] = set()
-        self.weights = {name: weight(name) for name in crates}
+        self.weights = {name: weight(f"{TOP}/crates/{name}") for name in crates}
         self.whole = self.left()
 
     def behind(self) -> dict[str, int]:
@@ -141,22 +117,11 @@ class Progress:
             behind[name] = self.weights[name] + max((behind[it] for it in above), default=0)
         return behind
 
-    def ready(self, running: set[str]) -> list[str]:
-        """Returns the crates that can be proved now, the longest chain first."""
-        behind = self.behind()
-        ready = [name for name, below in self.crates.items() if name not in self.proved | running and self.proved.issuperset(below)]
-        return sorted(ready, key=lambda name: -behind[name])
-
-    def is_longest(self, name: str) -> bool:
-        """Returns whether the longest chain of those that aren't proved begins with this crate."""
-        behind = self.behind()
-        return behind[name] == max(behind[it] for it in self.crates if it not in self.proved)
-
     def left(self) -> float:
         """Returns the work that no number of processors makes shorter, or that of all processors, whichever is more."""
         behind = self.behind()
         still = [name for name in self.crates if name not in self.proved]
-        shared = sum(self.weights[name] for name in still) / at_once()
+        shared = sum(self.weights[name] for name in still) / len(os.sched_getaffinity(0))
         return max([shared, *(behind[name] for name in still)])
 
     def show(self) -> None:
@@ -172,45 +137,25 @@ class Progress:
         self.shown = len(self.proved)
 
 
-def prove_each(repository: str, room: str, progress: Progress, calls: dict[str, Call]) -> bool:
-    """Proves all crates but the program's own, each by a call of its own, and returns whether what was proved is kept."""
-    while len(progress.proved) < len(progress.crates) - 1:
-        # The first crate stands below nearly all others, and shows whether anything is kept.
-        most = at_once() if progress.proved else 1
-        for name in progress.ready(set(calls))[: most - len(calls)]:
-            calls[name] = Call(repository, f"{room}/{name}.log", [name], 0 if progress.is_longest(name) else BEHIND)
-        for name in [name for name, call in calls.items() if call.is_over()]:
-            if KEPT not in calls.pop(name).said():
-                return False
-            progress.proved.add(name)
-        progress.show()
-        time.sleep(0.5)
-    return True
-
-
 def prove(room: str) -> None:
     """Proves and builds in that folder, and leaves the program where `./rubis` starts it."""
     crates, repository = crates_below(APP), f"{room}/rubis"
-    calls: dict[str, Call] = {}
     copy_crates(crates, repository)
-    progress = Progress(crates)
+    progress, call = Progress(crates), Call(repository, f"{room}/log")
     try:
-        prove_each(repository, room, progress, calls)
-        last, is_over = Call(repository, f"{room}/{APP}.log"), False
-        calls[APP] = last
-        while not is_over:
-            time.sleep(0.5)
-            is_over = last.is_over()
-            progress.proved.update(it for it in last.proved() if it in crates)
+        while not call.is_over():
+            progress.proved.update(it for it in call.proved() if it in crates)
             progress.show()
+            time.sleep(0.5)
+        progress.proved.update(crates)
+        progress.show()
     finally:
-        for call in calls.values():
-            call.stop()
+        call.stop()
         if sys.stderr.isatty():
             sys.stderr.write("\n")
     built, made = f"{repository}/crates/{APP}/out/{APP}", f"{TOP}/crates/{APP}/out"
     if not os.path.isfile(built):
-        raise Unproved(f"{last.said()[-4000:]}rubis: the program isn't built, so nothing is run\n")
+        raise Unproved(f"{call.said()[-4000:]}rubis: the program isn't built, so nothing is run\n")
     os.makedirs(made, exist_ok=True)
     shutil.copy(built, f"{made}/{APP}.new")
     os.replace(f"{made}/{APP}.new", f"{made}/{APP}")

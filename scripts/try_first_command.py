@@ -2,8 +2,8 @@
 """Tries `./rubis` where the program has still to be proved, over a stand-in for the toolchain: scripts/try_first_command.py
 
 The stand-in says what `rt ci` says, crate by crate, and looks at what it is given. Tried are a program that is proved, one with a
-crate that isn't, a toolchain that stops at once, one that keeps nothing, a run that is interrupted, and that a later run starts the
-program without proofs."""
+crate that isn't, a toolchain that stops at once, a run that is interrupted, and that a later run starts the program without proofs.
+Tried beside these is in what order, and with how many jobs each, scripts/rt_lanes.py has tasks done."""
 
 import os
 import pathlib
@@ -13,6 +13,9 @@ import subprocess
 import sys
 import tempfile
 import time
+from typing import Any, Dict, List, Tuple
+
+import rt_lanes
 
 TOP = pathlib.Path(__file__).resolve().parent.parent
 CRATES = {"rubis_numbers": "", "rubis_board": "rubis_numbers", "rubis_app": "rubis_board clap", "rubis_tests": "rubis_app"}
@@ -22,17 +25,13 @@ LOOKS = """#!/bin/sh
 [ "$1" = ci ] && [ -d .git ] && [ -f HANDLES ] && [ ! -e crates/rubis_tests ] && [ ! -e crates/rubis_board/must-fail ] || exit 2
 [ -f crates/rubis_board/src/lib.rt ] && [ -f crates/rubis_app/args ] && ! grep -q rubis_tests crates.txt || exit 2
 """
-NAMED = """[ -z "$2" ] || { printf '== %s\\nfn a: proved\\nrt: %s proved\\nrt: %s and the crates below passed, and that is kept.\\n' "$2" "$2" "$2"; exit; }
+FAILS = """printf '== rubis_numbers\\nrt: rubis_numbers is kept\\n== rubis_board\\nerror: src/lib.rt:1: not so\\nrt: rubis_board NOT PROVED\\n'
+printf '== rubis_app\\nerror: of another crate\\n'
+sleep 60
 """
-FAILS = """if [ "$2" = rubis_board ]; then
-    printf '== rubis_numbers\\nrt: rubis_numbers is kept\\n== rubis_board\\nerror: src/lib.rt:1: not so\\nrt: rubis_board NOT PROVED\\n'
-    printf '== rubis_app\\nerror: of another crate\\n'
-    sleep 60
-fi
-"""
-WAITS = """[ "$2" != rubis_board ] || { echo $$ > "$STAND_IN_PID"; sleep 60; }
-"""
-FORGETS = """[ -z "$2" ] || { printf '== %s\\nrt: %s proved\\nnote: nothing can be kept\\n' "$2" "$2"; [ "$2" = rubis_numbers ]; exit; }
+WAITS = """printf '== rubis_numbers\\nfn a: proved\\nrt: rubis_numbers proved\\n'
+echo $$ > "$STAND_IN_PID"
+sleep 60
 """
 BUILDS = """mkdir -p crates/rubis_app/out
 printf '#!/bin/sh\\necho ran "$@"\\ncat\\n' > crates/rubis_app/out/rubis_app
@@ -55,7 +54,8 @@ class Copy:
         self.temporary.mkdir()
         (self.top / "scripts").mkdir(parents=True)
         shutil.copy(TOP / "rubis", self.top)
-        shutil.copy(TOP / "scripts/prove_program.py", self.top / "scripts")
+        for script in ("prove_program.py", "rt_lanes.py"):
+            shutil.copy(TOP / "scripts" / script, self.top / "scripts")
         shutil.copy(TOP / "HANDLES", self.top)
         (self.top / "crates.txt").write_text("# crates\n" + "".join(f"{name}: {below}\n" for name, below in CRATES.items()))
         for name in CRATES:
@@ -79,7 +79,7 @@ class Copy:
 
 
 def try_proofs(copy: Copy) -> None:
-    copy.stand_in(FAILS, NAMED, BUILDS)
+    copy.stand_in(FAILS, BUILDS)
     began = time.monotonic()
     status, out, said = copy.run()
     expect(status == 3 and out == "", f"a crate that isn't proved gives status {status} and {out!r}")
@@ -90,9 +90,9 @@ def try_proofs(copy: Copy) -> None:
     expect(status == 3 and "the disk is full" in said and "isn't built" in said, f"a toolchain that stops gives status {status} and {said}")
 
 
-def try_program(copy: Copy, *parts: str) -> None:
+def try_program(copy: Copy) -> None:
     """The program is proved, built and run, and a later run starts it."""
-    copy.stand_in(*parts, BUILDS)
+    copy.stand_in(BUILDS)
     status, out, said = copy.run()
     expect(status == 0 and out == "ran site --site 0\nuser,ann\n", f"the program that is proved gives status {status}, {out!r} and {said}")
     expect("3 of 3 crates proved" in said, f"it doesn't say how far it is: {said}")
@@ -106,7 +106,7 @@ def try_program(copy: Copy, *parts: str) -> None:
 
 def try_interruption(copy: Copy) -> None:
     """Ctrl-C ends the toolchain too, and leaves nothing among the temporary files."""
-    copy.stand_in(WAITS, NAMED)
+    copy.stand_in(WAITS)
     run = copy.start()
     for _ in range(300):
         if copy.pid.exists() and copy.pid.read_text().strip():
@@ -118,14 +118,35 @@ def try_interruption(copy: Copy) -> None:
     expect(not pathlib.Path(f"/proc/{copy.pid.read_text().strip()}").exists(), "the toolchain goes on")
 
 
+def try_lanes() -> None:
+    """Each task comes after those that it waits for, the longest chain has most jobs, and what memory doesn't hold waits."""
+    done: List[Tuple[rt_lanes.Key, int]] = []
+    lines = {"low": 10, "long": 9000, "short": 20, "top": 30, "bare": 0}
+    waits = {"low": [], "long": ["low"], "short": ["low"], "top": ["long", "short"], "bare": ["low"]}
+
+    def task(name: str, memory: float) -> rt_lanes.Task:
+        def call(given: Dict[rt_lanes.Key, Any], jobs: int) -> str:
+            expect(all((below, "proof") in given for below in waits[name]), f"{name} is begun before what it waits for")
+            done.append(((name, "proof"), jobs))
+            return name
+
+        return [(below, "proof") for below in waits[name]], lines[name], memory, call
+
+    for memory, jobs in ((100.0, {"low": 4, "long": 4, "short": 2, "top": 4, "bare": 1}), (1.2, dict.fromkeys(lines, 1))):
+        done.clear()
+        given = rt_lanes.Lanes({(name, "proof"): task(name, 1.0) for name in lines}, lines, 4, memory).run()
+        expect(given == {(name, "proof"): name for name in lines}, f"the tasks give {given}")
+        expect({name: got for (name, _), got in done} == jobs, f"with memory for {memory} tasks the jobs are {done}")
+
+
 def main() -> int:
     # A command in the background is started with this signal ignored, and hands that on.
     signal.signal(signal.SIGINT, signal.default_int_handler)
+    try_lanes()
     with tempfile.TemporaryDirectory(prefix="rubis-first-") as room:
         copy = Copy(pathlib.Path(room))
         try_proofs(copy)
-        try_program(copy, NAMED)
-        try_program(copy, FORGETS)
+        try_program(copy)
         try_interruption(copy)
         left = list(copy.temporary.iterdir())
         expect(not left, f"it leaves {left}")

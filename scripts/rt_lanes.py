@@ -1,0 +1,151 @@
+#!/usr/bin/env python3
+"""Runs `rt ci` where it is called, with the order and the processors of its tasks chosen here: this is what scripts/prove_program.py calls.
+
+`rt ci` gives a proof that nothing else waits beside half of the processors, and two that are ready the same share. Here the crate that
+the longest chain begins with gets all that a proof can use, and those beside it give way to it (`nice`) and fill what it leaves free;
+else they would end long before the chain does. What is proved, and how, is the toolchain's own: only its function `in_lanes` is replaced, for this one
+call. Where the toolchain has no such function, its plain `rt ci` runs.
+"""
+from __future__ import annotations
+
+import importlib.machinery
+import importlib.util
+import os
+import queue
+import shutil
+import sys
+import threading
+import types
+from typing import Any, Callable, Dict, List, Optional, Tuple
+
+# The crate that a task is about, and what is done: "proof", "tests", or one of the words for wrong bodies.
+Key = Tuple[str, str]
+# What a task waits for, its lines of code or 0 where nothing is to be done, the memory that it takes, and its call, which gets what the others
+# gave and how many jobs it may have.
+Task = Tuple[List[Key], int, float, Callable[[Dict[Key, Any], int], Any]]
+# The folders of a crate that its proof reads.
+PARTS = ("src", "specs", "proofs")
+# What a crate costs beside its lines, in lines: its libraries are loaded, and it is compiled.
+FIXED = 1500
+# How many jobs a proof can use, and the memory that each but the first takes, as a part of the first one's.
+MOST, OF_FIRST = 4, 0.6
+# How much of the free memory is used.
+USED = 0.85
+# How much a proof beside the longest chain gives way to it, and how many jobs there are at once for each processor.
+BEHIND, CROWDED = 10, 1.5
+
+
+def weight(crate: str) -> int:
+    """Returns about how much work a crate in this folder is, in lines."""
+    walked = (f"{at}/{file}" for part in PARTS for at, _, files in os.walk(f"{crate}/{part}") for file in files)
+    lines = FIXED
+    for path in walked:
+        with open(path, "rb") as text:
+            lines += text.read().count(b"\n")
+    return lines
+
+
+def chains(tasks: Dict[Key, Task], weights: Dict[str, int]) -> Dict[Key, int]:
+    """Returns for each task how much work the longest chain is that begins with it. Each task comes after those that it waits for."""
+    behind = dict.fromkeys(tasks, 0)
+    for key in reversed([*tasks]):
+        waits, lines, _, _ = tasks[key]
+        behind[key] += weights[key[0]] if lines else 0
+        for below in waits:
+            behind[below] = max(behind[below], behind[key])
+    return behind
+
+
+class Lanes:
+    """The tasks that run, and what is free beside them."""
+
+    def __init__(self, tasks: Dict[Key, Task], weights: Dict[str, int], processors: int, memory: float) -> None:
+        self.tasks, self.processors, self.memory = tasks, processors, USED * memory
+        self.behind = chains(tasks, weights)
+        self.left = sorted(tasks, key=lambda key: -self.behind[key])
+        self.running: Dict[Key, int] = {}
+        self.given: Dict[Key, Any] = {}
+        self.ended: "queue.Queue[Tuple[Key, Any, Optional[BaseException]]]" = queue.Queue()
+
+    def is_longest(self, key: Key) -> bool:
+        """Returns whether the longest chain of what isn't done begins with the task."""
+        return self.behind[key] == max(self.behind[it] for it in [*self.left, *self.running])
+
+    def jobs_for(self, key: Key) -> int:
+        """Returns how many jobs the task gets now, or none if it has to wait."""
+        if not self.tasks[key][1]:
+            return 1
+        needs = self.tasks[key][2]
+        busy = [(self.tasks[it][2], jobs) for it, jobs in self.running.items() if self.tasks[it][1]]
+        room = self.memory - sum(need * (1 + OF_FIRST * (jobs - 1)) for need, jobs in busy)
+        if busy and (sum(jobs for _, jobs in busy) >= CROWDED * self.processors or needs > room):
+            return 0
+        wanted = min(MOST, self.processors) if self.is_longest(key) else max(1, self.processors // 2)
+        return max(1, min(wanted, 1 + int((room / needs - 1) / OF_FIRST)))
+
+    def do(self, key: Key, jobs: int, gives_way: bool) -> None:
+        """Does one task in a thread of its own, whose programs give way as it does."""
+        try:
+            if gives_way:
+                os.setpriority(os.PRIO_PROCESS, threading.get_native_id(), BEHIND)
+            self.ended.put((key, self.tasks[key][3](self.given, jobs), None))
+        except BaseException as fault:
+            self.ended.put((key, None, fault))
+
+    def start(self) -> None:
+        """Starts what can run, the longest chain first."""
+        for key in [it for it in self.left if all(below in self.given for below in self.tasks[it][0])]:
+            jobs = self.jobs_for(key)
+            if jobs:
+                gives_way = not self.is_longest(key)
+                self.left.remove(key)
+                self.running[key] = jobs
+                threading.Thread(target=self.do, args=(key, jobs, gives_way), daemon=True).start()
+
+    def run(self) -> Dict[Key, Any]:
+        """Runs all tasks, and returns what each gave."""
+        while self.left or self.running:
+            self.start()
+            key, given, fault = self.ended.get()
+            if fault:
+                raise fault
+            del self.running[key]
+            self.given[key] = given
+        return self.given
+
+
+def toolchain(file: str) -> Optional[types.ModuleType]:
+    """Returns the toolchain's `rt` as a module, if it has the function that is replaced here."""
+    with open(file, encoding="utf-8", errors="replace") as text:
+        if "\ndef in_lanes(tasks):" not in text.read():
+            return None
+    loader = importlib.machinery.SourceFileLoader("rt_of_the_toolchain", file)
+    spec = importlib.util.spec_from_loader(loader.name, loader)
+    if spec is None:
+        return None
+    made = importlib.util.module_from_spec(spec)
+    loader.exec_module(made)
+    return made
+
+
+def main() -> int:
+    sys.dont_write_bytecode = True
+    found = shutil.which("rt")
+    if found is None:
+        print("rubis: there is no rt here", file=sys.stderr)
+        return 2
+    kit = toolchain(os.path.realpath(found))
+    if kit is None or not all(hasattr(kit, name) for name in ("processors", "free", "ending", "main")):
+        os.execv(found, ["rt", "ci", *sys.argv[1:]])
+
+    def in_lanes(tasks: Dict[Key, Task]) -> Dict[Key, Any]:
+        weights = {name: weight(f"crates/{name}") for name, _ in tasks}
+        with kit.ending():
+            return Lanes(tasks, weights, kit.processors(), kit.free()).run()
+
+    setattr(kit, "in_lanes", in_lanes)
+    return int(kit.main(["ci", *sys.argv[1:]]))
+
+
+if __name__ == "__main__":
+    sys.exit(main())
