@@ -15,6 +15,7 @@ use Rattle.rubis_workers.specs.Shard.{HoldsLog, union}
 use Rattle.rubis_workers.proofs.Shard.{union_of_log}
 use Rattle.rubis_replica.specs.Follow.{Follower, FollowsAt}
 use Rattle.rubis_replica.specs.Progress.{IsProgress, Progress, resting_at}
+use Rattle.rubis_replica.specs.State.{SiteState}
 use Rattle.rubis_replica.proofs.Extending.{Extends, arrived_extends, follows_extended, settle_extends}
 
 -- ---- a message that the site makes
@@ -90,3 +91,11 @@ pub log_in_limits : (sites : ℕ) (log : List Message) (f : Follower) → Follow
     → AllInLimits sites (fold_of (cores log)).tables
 log_in_limits sites log f h e =
     subst (λ (xs : List Message). AllInLimits sites (fold_of (cores xs)).tables) (ap (λ (p : Progress). take p.upto log) e ∙ take-length log) h.limits
+
+-- the tables of a site that isn't behind are those of what is applied of its log
+pub tables_so_far : (s : SiteState) (place : Place) (state : Replica) (batch : ℕ) (f : Follower)
+    → record { place = place; state = state; progress = f.progress; batch = batch } ≡ s → FollowsAt place.sites state.log f → s.progress.left ≡ 0
+    → union f.tables ≡ (fold_of (cores (take s.progress.applied s.state.log))).tables
+tables_so_far s place state batch f same h left =
+    union_of_log (length f.tables) (cores (take f.progress.applied state.log)) f.tables h.follows.some (h.follows.rests (ap (λ (x : SiteState). x.progress.left) same ∙ left))
+    ∙ ap (λ (x : SiteState). (fold_of (cores (take x.progress.applied x.state.log))).tables) same

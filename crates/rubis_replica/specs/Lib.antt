@@ -5,3 +5,4 @@ pub mod Counts
 pub mod Faults
 pub mod Follow
 pub mod Progress
+pub mod Lengths

@@ -1,13 +1,14 @@
 //! One site, and its calls.
 
-ghost use Rattle.std.specs.Prelude.{◌≡◌, ◌≤◌, ◌<◌, ◌⊎◌, [], All, IfOk, IfErr, IfNone, IfSome, IsErrOf, Ok, OnOk, Some, length};
+ghost use Rattle.std.specs.Prelude.{◌≡◌, ◌≤◌, ◌<◌, ◌⊎◌, [], All, IfOk, IfErr, IfNone, IfSome, IsErrOf, Ok, OnOk, Some, length, take};
 ghost use Rattle.rubis_shadow.specs.Limits.{InLimits, IsAsk};
 ghost use Rattle.rubis_message.specs.Message.{sites_of};
 ghost use Rattle.rubis_model.specs.Log.{cores, fold_of};
 ghost use Rattle.rubis_model.specs.Runs.{listed, listing_rows};
-ghost use Rattle.rubis_model.specs.Site.{arrived, asked, opening_at, passed, took};
+ghost use Rattle.rubis_model.specs.Site.{arrived, asked, opening_at, passed, rows_at, took};
 ghost use Rattle.rubis_release.specs.Answers.{IsAdmitted};
 ghost use Rattle.rubis_replica.specs.Arrivals.{IsStop, TakesFirst};
+ghost use Rattle.rubis_replica.specs.Lengths.{looks_long};
 ghost use Rattle.rubis_replica.specs.Progress.{BatchGoesOn, IsAhead, IsBatched, IsProgress, is_behind, resting_at};
 ghost use Rattle.rubis_replica.specs.Setup.{setup_place};
 ghost use Rattle.rubis_replica.specs.State.{AddsRows, AnswersAsTheStep, IsDecision, IsCutFault, IsReadFault, IsReadyFor, Lists, NeedsNoTables, TakesIn, WaitsBehind, pending, with_all_applied};
@@ -306,9 +307,12 @@ impl<G: Gate> Site<G> {
         Ok(rows.put_all(rt, sink)?)
     }
 
-    /// Whether a listing has many rows, some thousands, as far as the tables are: what is pending isn't counted. It decides when
-    /// text is written, not what text.
-    pub fn is_long(&self, listing: &Listing) -> bool {
+    /// Whether a listing has many rows, some thousands, by what the rows count of the messages that are applied, and by how many
+    /// messages the log has. While a batch is behind, what is done of it counts too. It decides when text is written, not what text.
+    pub fn is_long(&self, listing: &Listing) -> bool
+        ensures { self.now.progress.left ≡ 0 → result ≡ looks_long
+            (rows_at (take self.now.progress.applied self.now.state.log)) (length self.now.state.log) listing.now }
+    {
         is_long(self.follower.tables(), self.intake.log(), listing)
     }
 
