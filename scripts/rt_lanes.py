@@ -8,6 +8,7 @@ call. Where the toolchain has no such function, its plain `rt ci` runs.
 """
 from __future__ import annotations
 
+import functools
 import importlib.machinery
 import importlib.util
 import os
@@ -128,6 +129,13 @@ def toolchain(file: str) -> Optional[types.ModuleType]:
     return made
 
 
+def run_tasks(kit: types.ModuleType, tasks: Dict[Key, Task]) -> Dict[Key, Any]:
+    """Runs the tasks of the toolchain's `rt ci`, and returns what each gave."""
+    weights = {name: weight(f"crates/{name}") for name, _ in tasks}
+    with kit.ending():
+        return Lanes(tasks, weights, kit.processors(), kit.free()).run()
+
+
 def main() -> int:
     sys.dont_write_bytecode = True
     found = shutil.which("rt")
@@ -137,13 +145,7 @@ def main() -> int:
     kit = toolchain(os.path.realpath(found))
     if kit is None or not all(hasattr(kit, name) for name in ("processors", "free", "ending", "main")):
         os.execv(found, ["rt", "ci", *sys.argv[1:]])
-
-    def in_lanes(tasks: Dict[Key, Task]) -> Dict[Key, Any]:
-        weights = {name: weight(f"crates/{name}") for name, _ in tasks}
-        with kit.ending():
-            return Lanes(tasks, weights, kit.processors(), kit.free()).run()
-
-    setattr(kit, "in_lanes", in_lanes)
+    setattr(kit, "in_lanes", functools.partial(run_tasks, kit))
     return int(kit.main(["ci", *sys.argv[1:]]))
 
 

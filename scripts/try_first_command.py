@@ -122,7 +122,7 @@ def try_lanes() -> None:
     """Each task comes after those that it waits for, the longest chain has most jobs, and what memory doesn't hold waits."""
     done: List[Tuple[rt_lanes.Key, int]] = []
     lines = {"low": 10, "long": 9000, "short": 20, "top": 30, "bare": 0}
-    waits = {"low": [], "long": ["low"], "short": ["low"], "top": ["long", "short"], "bare": ["low"]}
+    waits: Dict[str, List[str]] = {"low": [], "long": ["low"], "short": ["low"], "top": ["long", "short"], "bare": ["low"]}
 
     def task(name: str, memory: float) -> rt_lanes.Task:
         def call(given: Dict[rt_lanes.Key, Any], jobs: int) -> str:

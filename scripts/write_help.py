@@ -197,8 +197,8 @@ def man_page(line: CommandLine) -> str:
     ]
     out += records_and_refusals()
     out.append(".SH EXIT STATUS")
-    for status, words in STATUSES:
-        out += [".TP", f".B {status}", roff(words)]
+    for status, meaning in STATUSES:
+        out += [".TP", f".B {status}", roff(meaning)]
     out += [
         ".SH EXAMPLES",
         "One site, and two records to it:",
