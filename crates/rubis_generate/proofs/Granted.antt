@@ -9,12 +9,11 @@ use Rattle.rubis_schema.specs.declared.row_keys.RowKey.TheVariants as key
 use Rattle.rubis_schema.specs.declared.rows.UserRow.{UserRow}
 use Rattle.rubis_schema.specs.declared.refusals.Refusal.{Refusal}
 use Rattle.rubis_schema.specs.declared.refusals.Refusal.TheVariants.{Full, NoToken, RedBehind, NickTaken, NoUser}
-use Rattle.rubis_shadow.specs.Limits.{IsAsk, InLimits}
-use Rattle.rubis_shadow.specs.Shadows.{is_red}
-use Rattle.rubis_shadow.specs.declared.asks.Ask.{Ask}
-use Rattle.rubis_shadow.specs.declared.asks.Ask.TheVariants.{User, Item, Bid, Buy, Close, Comment, Restock, Rename}
-use Rattle.rubis_shadow.specs.declared.asks.AskedClose.{AskedClose}
-use Rattle.rubis_shadow.specs.declared.asks.AskedRename.{AskedRename}
+use Rattle.rubis_shadow.specs.Shadows.{IsAsk, InLimits, is_red}
+use Rattle.rubis_shadow.specs.declared.shadows.Ask.{Ask}
+use Rattle.rubis_shadow.specs.declared.shadows.Ask.TheVariants.{User, Bid, Buy, Close, Restock, Rename}
+use Rattle.rubis_shadow.specs.declared.shadows.AskedClose.{AskedClose}
+use Rattle.rubis_shadow.specs.declared.shadows.AskedRename.{AskedRename}
 use Rattle.rubis_shadow.specs.declared.shadows.Shadow.{Shadow}
 use Rattle.rubis_generate.specs.Decision.{closing, decision, is_due, order_of, refused_or, shadow_of}
 use Rattle.rubis_generate.specs.Lookup.{Rows, user_in}
@@ -40,13 +39,7 @@ unturned false e = absurd cc
 -- ---- by the ask's order of refusals
 room_by : (t : Rows) (s : Standing) (ask : Ask) → find (is_due t s ask) (order_of ask) ≡ None → s.full ≡ false
 room_by t s (User n) e = (past s.full Full _ e).0
-room_by t s (Item n) e = (past s.full Full _ e).0
-room_by t s (Bid b) e = (past s.full Full _ e).0
-room_by t s (Buy p) e = (past s.full Full _ e).0
-room_by t s (Close c) e = (past s.full Full _ e).0
-room_by t s (Comment c) e = (past s.full Full _ e).0
-room_by t s (Restock r) e = (past s.full Full _ e).0
-room_by t s (Rename r) e = (past s.full Full _ e).0
+room_by t s ask e = (past s.full Full _ e).0
 
 -- the first three refusals of a red ask
 first_three : (a b c : Bool) (o : Option Refusal) → cond a (Some Full) (cond (not b) (Some NoToken) (cond (not c) (Some RedBehind) o)) ≡ None
@@ -58,13 +51,11 @@ first_three a b c o e =
 right_by : (t : Rows) (s : Standing) (ask : Ask) → find (is_due t s ask) (order_of ask) ≡ None → is_red (shadow_of t ask) ≡ true
     → (s.holds ≡ true) × (s.current ≡ true)
 right_by t s (User n) e r = first_three s.full s.holds s.current _ e
-right_by t s (Item n) e r = absurd cc
 right_by t s (Bid b) e r = first_three s.full s.holds s.current _ e
 right_by t s (Buy p) e r = first_three s.full s.holds s.current _ e
 right_by t s (Close c) e r = first_three s.full s.holds s.current _ e
-right_by t s (Comment c) e r = absurd cc
-right_by t s (Restock c) e r = absurd cc
 right_by t s (Rename c) e r = first_three s.full s.holds s.current _ e
+right_by t s ask e r = absurd (true≢false (sym r))
 
 -- the site isn't full where a shadow was decided
 pub not_full : (t : Rows) (s : Standing) (ask : Ask) (x : Shadow) → decision t s ask ≡ Ok x → s.full ≡ false
@@ -96,11 +87,7 @@ renames t s r e =
 -- the shadow of an ask within the limits that isn't refused is within them, if that of a close is
 pub shadow_limits : (sites : ℕ) (t : Rows) (s : Standing) (ask : Ask) → find (is_due t s ask) (order_of ask) ≡ None → IsAsk sites ask
     → ((c : AskedClose) → ask ≡ Close c → IsAsk sites (Close c) → InLimits sites (closing t c.item)) → InLimits sites (shadow_of t ask)
-shadow_limits sites t s (User n) e g close = g
-shadow_limits sites t s (Item n) e g close = g
-shadow_limits sites t s (Bid b) e g close = g
-shadow_limits sites t s (Buy p) e g close = g
 shadow_limits sites t s (Close c) e g close = close c refl g
-shadow_limits sites t s (Comment c) e g close = g
 shadow_limits sites t s (Restock r) e g close = (g.0, g.2)
 shadow_limits sites t s (Rename r) e g close = (g, renames t s r e)
+shadow_limits sites t s ask e g close = g

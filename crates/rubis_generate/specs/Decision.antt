@@ -10,9 +10,9 @@ use Rattle.rubis_schema.specs.declared.rows.UserRow.{UserRow}
 use Rattle.rubis_schema.specs.declared.rows.Best.{Best}
 use Rattle.rubis_schema.specs.declared.refusals.Refusal.{Refusal}
 use Rattle.rubis_schema.specs.declared.refusals.Refusal.TheVariants.{BadRecord, Full, NoToken, RedBehind, NickTaken, NoUser, NoItem, Closed, LowBid, StockShort, NotSeller, OwnItem, NoBuyNow, SelfComment, BadTarget, LastTurn, NotOurs, NotForMe, BadEvent, NoSuchPacket}
-use Rattle.rubis_shadow.specs.declared.asks.Ask.{Ask}
-use Rattle.rubis_shadow.specs.declared.asks.AskedRename.{AskedRename}
-use Rattle.rubis_shadow.specs.declared.asks.Ask.TheVariants.{User, Item, Bid, Buy, Close, Comment, Restock, Rename}
+use Rattle.rubis_shadow.specs.declared.shadows.Ask.{Ask}
+use Rattle.rubis_shadow.specs.declared.shadows.AskedRename.{AskedRename}
+use Rattle.rubis_shadow.specs.declared.shadows.Ask.TheVariants.{User, Item, Bid, Buy, Close, Comment, Restock, Rename}
 use Rattle.rubis_shadow.specs.declared.shadows.Shadow.{Shadow}
 use Rattle.rubis_shadow.specs.declared.shadows.Shadow.TheVariants as shadow
 use Rattle.rubis_generate.specs.declared.standing.Standing.{Standing}
@@ -66,79 +66,40 @@ has_nick t user n = option_map_or (λ (u : UserRow). bytes_eq u.nick n) (user_in
 -- the nickname has a row, or is the user's own
 abbrev pub asks_taken_nick : Rows → Ask → Bool
 asks_taken_nick t (User n) = is_some (t (key.Nick n))
-asks_taken_nick t (Item n) = false
-asks_taken_nick t (Bid b) = false
-asks_taken_nick t (Buy p) = false
-asks_taken_nick t (Close c) = false
-asks_taken_nick t (Comment c) = false
-asks_taken_nick t (Restock r) = false
 asks_taken_nick t (Rename r) = is_some (t (key.Nick r.nick)) || has_nick t r.user r.nick
+asks_taken_nick t ask = false
 
 -- the amount is below the start price
 abbrev pub low_bid : Ask → ItemRow → Bool
-low_bid (User n) i = false
-low_bid (Item n) i = false
 low_bid (Bid b) i = nat_lt b.amount i.start
-low_bid (Buy p) i = false
-low_bid (Close c) i = false
-low_bid (Comment c) i = false
-low_bid (Restock r) i = false
-low_bid (Rename r) i = false
+low_bid ask i = false
 
 -- the quantity is above the stock
 abbrev pub asks_above_stock : Ask → ItemRow → Bool
-asks_above_stock (User n) i = false
-asks_above_stock (Item n) i = false
-asks_above_stock (Bid b) i = false
 asks_above_stock (Buy p) i = nat_lt i.stock p.quantity
-asks_above_stock (Close c) i = false
-asks_above_stock (Comment c) i = false
-asks_above_stock (Restock r) i = false
-asks_above_stock (Rename r) i = false
+asks_above_stock ask i = false
 
 -- the named user isn't the item's seller
 abbrev pub not_seller : Ask → ItemRow → Bool
-not_seller (User n) i = false
-not_seller (Item n) i = false
-not_seller (Bid b) i = false
-not_seller (Buy p) i = false
 not_seller (Close c) i = not (same_id c.seller i.seller)
-not_seller (Comment c) i = false
 not_seller (Restock r) i = not (same_id r.seller i.seller)
-not_seller (Rename r) i = false
+not_seller ask i = false
 
 -- the bidder or buyer is the seller
 abbrev pub own_item : Ask → ItemRow → Bool
-own_item (User n) i = false
-own_item (Item n) i = false
 own_item (Bid b) i = same_id b.bidder i.seller
 own_item (Buy p) i = same_id p.buyer i.seller
-own_item (Close c) i = false
-own_item (Comment c) i = false
-own_item (Restock r) i = false
-own_item (Rename r) i = false
+own_item ask i = false
 
 -- the item can't be bought at once
 abbrev pub no_buy_now : Ask → ItemRow → Bool
-no_buy_now (User n) i = false
-no_buy_now (Item n) i = false
-no_buy_now (Bid b) i = false
 no_buy_now (Buy p) i = nat_eq i.price 0
-no_buy_now (Close c) i = false
-no_buy_now (Comment c) i = false
-no_buy_now (Restock r) i = false
-no_buy_now (Rename r) i = false
+no_buy_now ask i = false
 
 -- a comment from its own addressee
 abbrev pub self_comment : Ask → Bool
-self_comment (User n) = false
-self_comment (Item n) = false
-self_comment (Bid b) = false
-self_comment (Buy p) = false
-self_comment (Close c) = false
 self_comment (Comment c) = same_id c.from c.to
-self_comment (Restock r) = false
-self_comment (Rename r) = false
+self_comment ask = false
 
 -- whether a refusal holds, of each by itself
 abbrev pub is_due : Rows → Standing → Ask → Refusal → Bool

@@ -1,5 +1,6 @@
 -- What fits where, and the order that all logs keep.
 pub mod Decisions
+pub mod NotRefused
 pub mod FitsByKind
 pub mod Fitting
 pub mod Referring

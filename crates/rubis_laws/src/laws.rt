@@ -13,8 +13,8 @@ ghost use Rattle.rubis_model.specs.WidenedRecords.{AuditStays};
 ghost use Rattle.rubis_model.specs.Laws.{LogsOnlyGrow, MeaningIsOne, FoldIsMeaning, CheckedLogsHold, DecidedShadowsFit, EqualSetsEqualTables, RunsAreInOrder, RunsKeepInvariants, RunsAgreeOnTables, RunsSendDeliverables, RefusalsChangeNothing, FaultlessLogsAreSound, RunsAreFaultless, AgreesWhereFaultless, AgreedLogsAreSound, RunsAgree};
 ghost use Rattle.rubis_model.specs.Nicknames.{NicknamesAreUnique, RedsAreInOneOrder};
 ghost use Rattle.rubis_model.specs.Processes.{ProcessesAgree, ProcessesAgreeOnTables, ProcessesAreARun, ProcessesAreInRun, ProcessesConverge, ProcessesKeepInvariants, ProcessesKnowTheirOwn};
-ghost use Rattle.rubis_model.specs.Rebuild.{InputsRebuild, SitesAreRebuilt};
-ghost use Rattle.rubis_model.specs.RebuildRecords.{AsksAreReadOff, RecordsRebuild};
+ghost use Rattle.rubis_model.specs.Rebuild.{InputsRebuild, SitesAreRebuilt, AsksAreReadOff};
+ghost use Rattle.rubis_model.specs.RebuildRecords.{RecordsRebuild};
 ghost use Rattle.rubis_model.specs.RecordedRuns.{AnswersAreARun, AuditsAgree, RecordsAreARun, RecordsKeepInvariants};
 ghost use Rattle.rubis_model.specs.Restarts.{AnswersStay, NewRecordsAreRead, NothingIsLeftOut, ReadingsAreMoments, RecordingsReplay, RestartedAgree, RestartedConverge, RestartsChangeNothing};
 

@@ -9,24 +9,21 @@ use Rattle.rubis_schema.specs.Texts.{IsName, IsNick, IsText}
 use Rattle.rubis_schema.specs.declared.limits.TheConstants.{AMOUNT_MAX, CATEGORIES, CAT_MAX, COUNTED_MAX, COUNT_MAX, PASS_MAX, QUANTITY_MAX, TURN_MAX}
 use Rattle.rubis_schema.specs.declared.listings.Listing.{Listing}
 use Rattle.rubis_schema.specs.declared.listings.Listing.TheVariants as listing
-use Rattle.rubis_shadow.specs.Shadows.{is_red}
-use Rattle.rubis_shadow.specs.Limits.{IsQuantity, IsAmount, IsNewItem, IsNewBid, IsPurchase, IsComment, InLimits}
-use Rattle.rubis_shadow.specs.declared.asks.Ask.TheVariants as ask
-use Rattle.rubis_shadow.specs.Shadows.{version_of}
+use Rattle.rubis_shadow.specs.Shadows.{is_red, IsQuantity, IsAmount, IsNewItem, IsNewBid, IsPurchase, IsComment, InLimits, version_of}
+use Rattle.rubis_shadow.specs.declared.shadows.Ask.TheVariants as ask
 use Rattle.rubis_shadow.specs.declared.shadows.Shadow.{Shadow}
 use Rattle.rubis_shadow.specs.declared.shadows.Shadow.TheVariants as shadow
 use Rattle.rubis_clock.specs.declared.stamps.Stamp.{Stamp}
 use Rattle.rubis_message.specs.Message.{Message, IsMessage}
 use Rattle.rubis_message.specs.Grammar.{token_version, HasShadowTexts, IsListing, IsMessageAmong, IsPacket, IsRequest, IsStamp, IsToken, asked_close_fields, asked_rename_fields, asked_restock_fields, bid_fields, close_fields, comment_fields, item_fields, listing_fields, message_fields, message_record, packet_record, purchase_fields, request_record, rename_fields, restock_fields, shadow_fields, stamp_fields, token_fields, token_record}
 use Rattle.rubis_message.specs.Forms.{followed_by, give, none, mapped, one, take_id, take_number, take_positive}
-use Rattle.rubis_message.specs.Readings.{agrees, listing_by, packet_of, request_by, request_of, shadow_by, take_asked_close, take_asked_rename, take_asked_restock, take_bid, take_close, take_comment, take_item, take_kind, take_listing, take_message, take_packet, take_purchase, take_rename, take_request, take_restock, take_shadow, take_shown, take_stamp, take_token}
-use Rattle.rubis_message.specs.Words.{all_shown, kind_of, kind_text, kinds, shown_of, shown_text}
+use Rattle.rubis_message.specs.Readings.{agrees, listing_by, packet_of, request_by, request_of, shadow_by, take_asked_close, take_asked_rename, take_asked_restock, take_bid, take_close, take_comment, take_item, take_kind, take_listing, take_message, take_packet, take_purchase, take_rename, take_request, take_restock, take_shadow, take_shown, take_stamp, take_token, all_shown, kind_of, kind_text, kinds, shown_of, shown_text}
 use Rattle.rubis_message.specs.declared.faults.ReadFault.{ReadFault}
 use Rattle.rubis_message.specs.declared.faults.ReadFault.TheVariants.{BadRecord}
 use Rattle.rubis_message.specs.declared.kinds.RecordKind.{RecordKind}
 use Rattle.rubis_message.specs.declared.kinds.RecordKind.TheVariants as kind
-use Rattle.rubis_message.specs.declared.kinds.Shown.{Shown}
-use Rattle.rubis_message.specs.declared.kinds.Shown.TheVariants as shown
+use Rattle.rubis_message.specs.declared.words.Shown.{Shown}
+use Rattle.rubis_message.specs.declared.words.Shown.TheVariants as shown
 use Rattle.rubis_message.specs.declared.requests.Request.{Request}
 use Rattle.rubis_message.specs.declared.requests.Request.TheVariants as request
 use Rattle.rubis_message.specs.declared.tokens.Token.{Token}

@@ -8,9 +8,9 @@ use Rattle.std.proofs.lemmas.List.Elements.{All-append, All-replicate}
 use Rattle.rubis_schema.specs.Ids.{IsId}
 use Rattle.rubis_schema.specs.declared.ids.Id.{Id}
 use Rattle.rubis_schema.specs.declared.limits.TheConstants.{COUNT_MAX, COUNTED_MAX}
-use Rattle.rubis_shadow.specs.Limits.{InLimits}
+use Rattle.rubis_shadow.specs.Shadows.{InLimits}
 use Rattle.rubis_shadow.specs.declared.shadows.Shadow.{Shadow}
-use Rattle.rubis_shadow.specs.declared.shadows.Shadow.TheVariants.{User, Item, Bid, Buy, Close, Comment, Restock, Rename}
+use Rattle.rubis_shadow.specs.declared.shadows.Shadow.TheVariants.{User, Item, Bid, Buy, Close, Comment}
 use Rattle.rubis_clock.specs.Widening as stamps
 use Rattle.rubis_clock.specs.declared.stamps.Stamp.{Stamp}
 use Rattle.rubis_message.specs.Message.{Message, IsMessage, dep, sites_of}
@@ -29,6 +29,7 @@ more_some : (few sites : ℕ) (i : Option Id) → few ≤ sites → IfSome i (Is
 more_some few sites None l h = h
 more_some few sites (Some i) l h = more few sites i l h
 
+-- by kind; the others have one id, and what doesn't hang on the sites
 more_limits : (few sites : ℕ) (x : Shadow) → few ≤ sites → InLimits few x → InLimits sites x
 more_limits few sites (User n) l h = h
 more_limits few sites (Item n) l h = record { seller = more few sites n.seller l h.seller; cat = h.cat; stock = h.stock; start = h.start; price = h.price }
@@ -36,8 +37,7 @@ more_limits few sites (Bid b) l h = record { item = more few sites b.item l h.it
 more_limits few sites (Buy p) l h = record { item = more few sites p.item l h.item; buyer = more few sites p.buyer l h.buyer; quantity = h.quantity }
 more_limits few sites (Close c) l h = (more few sites c.item l h.0, h.1, more_some few sites c.winner l h.2)
 more_limits few sites (Comment c) l h = record { item = more few sites c.item l h.item; from = more few sites c.from l h.from; to = more few sites c.to l h.to; rating = h.rating }
-more_limits few sites (Restock r) l h = (more few sites r.item l h.0, h.1)
-more_limits few sites (Rename r) l h = (more few sites r.user l h.0, h.1)
+more_limits few sites x l h = (more few sites _ l h.0, h.1)
 
 pub widened_is : (sites : ℕ) (m : Message) → IsMessage m → sites_of m ≤ sites → sites ≤ COUNTED_MAX → IsMessage (widened sites m)
 widened_is sites m h l few = record {

@@ -9,13 +9,12 @@ use Rattle.rubis_schema.specs.declared.listings.Listing.{Listing}
 use Rattle.rubis_schema.specs.declared.listings.Listing.TheVariants.{Users, Items, Bids, Purchases, Comments, Categories, Log, Misfits, Tables}
 use Rattle.rubis_schema.specs.declared.rows.PurchaseRow.{PurchaseRow}
 use Rattle.rubis_schema.specs.declared.rows.CommentRow.{CommentRow}
-use Rattle.rubis_shadow.specs.Limits.{IsAsk}
-use Rattle.rubis_shadow.specs.Shadows.{version_of}
-use Rattle.rubis_shadow.specs.declared.asks.Ask.{Ask}
-use Rattle.rubis_shadow.specs.declared.asks.Ask.TheVariants as ask
-use Rattle.rubis_shadow.specs.declared.asks.AskedClose.{AskedClose}
-use Rattle.rubis_shadow.specs.declared.asks.AskedRename.{AskedRename}
-use Rattle.rubis_shadow.specs.declared.asks.AskedRestock.{AskedRestock}
+use Rattle.rubis_shadow.specs.Shadows.{IsAsk, version_of}
+use Rattle.rubis_shadow.specs.declared.shadows.Ask.{Ask}
+use Rattle.rubis_shadow.specs.declared.shadows.Ask.TheVariants as ask
+use Rattle.rubis_shadow.specs.declared.shadows.AskedClose.{AskedClose}
+use Rattle.rubis_shadow.specs.declared.shadows.AskedRename.{AskedRename}
+use Rattle.rubis_shadow.specs.declared.shadows.AskedRestock.{AskedRestock}
 use Rattle.rubis_shadow.specs.declared.shadows.NewItem.{NewItem}
 use Rattle.rubis_shadow.specs.declared.shadows.NewBid.{NewBid}
 use Rattle.rubis_shadow.specs.declared.shadows.NewClose.{NewClose}

@@ -1,15 +1,15 @@
--- The request, and the packet, that the fields of a record are.
-use Rattle.std.specs.Prelude.{◌≡◌, ◌↔◌, ◌<◌, ◌≤◌, ◌^◌, ℕ, ◌+◌, ◌==◌, Bool, cond, not, nat_lt, bytes_eq, List, slice_index, Option, Some, codes}
+-- The request, and the packet, that the fields of a record are: the word for its kind, and what follows it.
+use Rattle.std.specs.Prelude.{◌≡◌, ◌↔◌, ◌<◌, ◌≤◌, ◌^◌, ℕ, ◌+◌, ◌==◌, Bool, cond, not, nat_lt, bytes_eq, List, [], ◌∷◌, find, slice_index, Option, Some, codes}
 use Rattle.rubis_schema.specs.declared.listings.Listing.{Listing}
 use Rattle.rubis_schema.specs.declared.listings.Listing.TheVariants as listing
 use Rattle.rubis_schema.specs.declared.limits.TheConstants.{AMOUNT_MAX, CAT_MAX, COUNTED_MAX, COUNT_MAX, PASS_MAX, QUANTITY_MAX, SEQ_MAX, TURN_MAX}
 use Rattle.rubis_schema.specs.declared.rows.PurchaseRow.{PurchaseRow}
 use Rattle.rubis_schema.specs.declared.rows.CommentRow.{CommentRow}
 use Rattle.rubis_shadow.specs.Shadows.{is_red, version_of}
-use Rattle.rubis_shadow.specs.declared.asks.Ask.TheVariants as ask
-use Rattle.rubis_shadow.specs.declared.asks.AskedClose.{AskedClose}
-use Rattle.rubis_shadow.specs.declared.asks.AskedRename.{AskedRename}
-use Rattle.rubis_shadow.specs.declared.asks.AskedRestock.{AskedRestock}
+use Rattle.rubis_shadow.specs.declared.shadows.Ask.TheVariants as ask
+use Rattle.rubis_shadow.specs.declared.shadows.AskedClose.{AskedClose}
+use Rattle.rubis_shadow.specs.declared.shadows.AskedRename.{AskedRename}
+use Rattle.rubis_shadow.specs.declared.shadows.AskedRestock.{AskedRestock}
 use Rattle.rubis_shadow.specs.declared.shadows.NewItem.{NewItem}
 use Rattle.rubis_shadow.specs.declared.shadows.NewBid.{NewBid}
 use Rattle.rubis_shadow.specs.declared.shadows.NewClose.{NewClose}
@@ -21,16 +21,62 @@ use Rattle.rubis_clock.specs.declared.stamps.Stamp.{Stamp}
 use Rattle.rubis_message.specs.Forms.{Form, ◌>>=◌, ◌>>◌, give, none, mapped, check, whole, one, take_deps, take_id, take_name, take_nick, take_number, take_positive, take_rating, take_site, take_text, take_winner}
 use Rattle.rubis_message.specs.Grammar.{IsPacket, IsRequest, packet_record, request_record, token_version}
 use Rattle.rubis_message.specs.Message.{Message}
-use Rattle.rubis_message.specs.Words.{kind_of, shown_of}
 use Rattle.rubis_message.specs.declared.kinds.RecordKind.{RecordKind}
 use Rattle.rubis_message.specs.declared.kinds.RecordKind.TheVariants as kind
-use Rattle.rubis_message.specs.declared.kinds.Shown.{Shown}
-use Rattle.rubis_message.specs.declared.kinds.Shown.TheVariants as shown
+use Rattle.rubis_message.specs.declared.words.Shown.{Shown}
+use Rattle.rubis_message.specs.declared.words.Shown.TheVariants as shown
 use Rattle.rubis_message.specs.declared.requests.Request.{Request}
 use Rattle.rubis_message.specs.declared.requests.Request.TheVariants as request
 use Rattle.rubis_message.specs.declared.tokens.Token.{Token}
 use Rattle.rubis_message.specs.declared.tokens.Packet.{Packet}
 use Rattle.rubis_message.specs.declared.tokens.Packet.TheVariants as packet
+
+-- ---- words
+
+-- the first of `all` whose word, its `text`, is the field
+abbrev pub said : {A : Type 0} → (A → List ℕ) → List A → List ℕ → Option A
+said text all field = find (λ x. bytes_eq field (text x)) all
+
+-- the word for a kind
+abbrev pub kind_text : RecordKind → List ℕ
+kind_text kind.User = codes "user"
+kind_text kind.Item = codes "item"
+kind_text kind.Bid = codes "bid"
+kind_text kind.Buy = codes "buy"
+kind_text kind.Close = codes "close"
+kind_text kind.Comment = codes "comment"
+kind_text kind.Pass = codes "pass"
+kind_text kind.List = codes "list"
+kind_text kind.Restock = codes "restock"
+kind_text kind.Rename = codes "rename"
+
+abbrev pub kinds : List RecordKind
+kinds = kind.User ∷ kind.Item ∷ kind.Bid ∷ kind.Buy ∷ kind.Close ∷ kind.Comment ∷ kind.Pass ∷ kind.List ∷ kind.Restock ∷ kind.Rename ∷ []
+
+-- the kind that a word says
+unfoldable pub kind_of : List ℕ → Option RecordKind
+kind_of = said kind_text kinds
+
+-- the word for what a listing shows
+abbrev pub shown_text : Shown → List ℕ
+shown_text shown.Users = codes "users"
+shown_text shown.Items = codes "items"
+shown_text shown.Bids = codes "bids"
+shown_text shown.Purchases = codes "purchases"
+shown_text shown.Comments = codes "comments"
+shown_text shown.Categories = codes "categories"
+shown_text shown.Log = codes "log"
+shown_text shown.Misfits = codes "misfits"
+shown_text shown.Tables = codes "tables"
+
+abbrev pub all_shown : List Shown
+all_shown =
+    shown.Users ∷ shown.Items ∷ shown.Bids ∷ shown.Purchases ∷ shown.Comments
+    ∷ shown.Categories ∷ shown.Log ∷ shown.Misfits ∷ shown.Tables ∷ []
+
+-- what a word says to show
+unfoldable pub shown_of : List ℕ → Option Shown
+shown_of = said shown_text all_shown
 
 -- ---- what follows the word for a kind
 

@@ -2,7 +2,6 @@
 #![tactic(auto)]
 
 mod answers;
-mod asks;
 mod faults;
 mod kinds;
 mod laws;
@@ -10,9 +9,9 @@ mod messages;
 mod packets;
 mod readers;
 mod requests;
-mod shadows;
 mod stamps;
 mod tokens;
+mod words;
 mod world_inputs;
 mod writers;
 

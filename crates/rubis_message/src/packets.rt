@@ -6,11 +6,11 @@ ghost use Rattle.rubis_message.specs.Grammar.{IsPacket, packet_record};
 ghost use Rattle.rubis_message.specs.Readings.{agrees, packet_of, take_message, take_packet, take_stamp, take_token};
 
 use crate::faults::ReadFault;
-use crate::kinds::says;
 use crate::messages::Message;
 use crate::readers::Reader;
 use crate::stamps::read_deps;
 use crate::tokens::{Packet, TOKEN_VERSION, Token};
+use crate::words::says;
 use rubis_clock::{Deps, Stamp};
 use rubis_schema::{COUNT_MAX, COUNTED_MAX, Id, Record, SEQ_MAX, TURN_MAX};
 use rubis_shadow::{Colour, Shadow};

@@ -5,7 +5,8 @@ ghost use Rattle.rubis_message.specs.Forms.{Takes, at_end, take_id, take_name, t
 ghost use Rattle.rubis_message.specs.Readings.{take_kind, take_shown};
 
 use crate::faults::ReadFault;
-use crate::kinds::{RecordKind, Shown, says};
+use crate::kinds::RecordKind;
+use crate::words::{Shown, says};
 use rubis_schema::{Id, Name, Nick, Record, Text, read_number, read_rating};
 use std::alloc::Global;
 use std::marker::Model;

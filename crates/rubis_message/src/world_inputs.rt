@@ -5,9 +5,9 @@ ghost use Rattle.rubis_message.specs.Forms.{Takes, whole};
 ghost use Rattle.rubis_message.specs.WorldReadings.{IsWorldInput, Reads, request_at, take_at, take_audit, take_delivery, take_word, world_input};
 
 use crate::faults::ReadFault;
-use crate::kinds::says;
 use crate::readers::Reader;
 use crate::requests::Request;
+use crate::words::says;
 use rubis_schema::{RECORDS_MAX, Record};
 use std::alloc::{AllocError, Global};
 

@@ -3,7 +3,7 @@ use Rattle.std.proofs.Common.{◌≡◌, Bool, true, false, cond, refl, sym, ap,
 use Rattle.std.specs.FinMap as map
 use Rattle.rubis_schema.specs.declared.row_keys.RowKey.{RowKey}
 use Rattle.rubis_schema.specs.declared.rows.Row.{Row}
-use Rattle.rubis_shadow.specs.declared.changes.Effect.{Effect}
+use Rattle.rubis_shadow.specs.declared.keyed_change.Effect.{Effect}
 use Rattle.rubis_schema.specs.Keys.{tied}
 use Rattle.rubis_schema.specs.Tables.{Tables}
 use Rattle.rubis_shadow.specs.Changes.{with_row, after_part, doing, misfit_of, change_row}

@@ -6,12 +6,10 @@ use Rattle.rubis_schema.specs.Keys.{same_id}
 use Rattle.rubis_schema.specs.declared.ids.Id.{Id}
 use Rattle.rubis_schema.specs.declared.row_keys.RowKey.{RowKey}
 use Rattle.rubis_schema.specs.declared.row_keys.RowKey.TheVariants as key
-use Rattle.rubis_shadow.specs.Parts.{refers_of}
-use Rattle.rubis_shadow.specs.Shadows.{is_red}
-use Rattle.rubis_shadow.specs.Limits.{InLimits}
+use Rattle.rubis_shadow.specs.Shadows.{refers_of, is_red, InLimits}
 use Rattle.rubis_shadow.specs.declared.shadows.NewItem.{NewItem}
 use Rattle.rubis_shadow.specs.declared.shadows.Shadow.{Shadow}
-use Rattle.rubis_shadow.specs.declared.shadows.Shadow.TheVariants.{User, Item, Bid, Buy, Close, Comment, Restock, Rename}
+use Rattle.rubis_shadow.specs.declared.shadows.Shadow.TheVariants.{User, Bid, Buy, Close, Rename}
 use Rattle.rubis_model.specs.Log.{Core}
 use Rattle.rubis_model.specs.Meaning.{as_bid, user_at, item_at, nick_at, is_same_nick, named, close_of, best_bid, total, sold_of, supply, count, at_id}
 
@@ -32,48 +30,27 @@ StandsIn before k = ⊥
 
 -- it is a close in another category than its item's
 abbrev pub wrong_category : List Core → Shadow → Bool
-wrong_category before (User n) = false
-wrong_category before (Item n) = false
-wrong_category before (Bid b) = false
-wrong_category before (Buy p) = false
 wrong_category before (Close c) = option_map_or (λ (n : NewItem). not (n.cat == c.cat)) (item_at c.item before) false
-wrong_category before (Comment c) = false
-wrong_category before (Restock r) = false
-wrong_category before (Rename r) = false
+wrong_category before x = false
 
 -- the new nickname has a user, or the old one isn't that of its user
 abbrev pub nick_taken : List Core → Shadow → Bool
 nick_taken before (User n) = is_some (named n before)
-nick_taken before (Item n) = false
-nick_taken before (Bid b) = false
-nick_taken before (Buy p) = false
-nick_taken before (Close c) = false
-nick_taken before (Comment c) = false
-nick_taken before (Restock r) = false
 nick_taken before (Rename r) = is_some (named r.to before) || not (is_same_nick r.from (nick_at r.user before))
+nick_taken before x = false
 
 -- more is bought than there is
 abbrev pub stock_short : List Core → Shadow → Bool
-stock_short before (User n) = false
-stock_short before (Item n) = false
-stock_short before (Bid b) = false
 stock_short before (Buy p) = option_map_or (λ n. nat_lt (supply before p.item n) (total (sold_of p.item) before + p.quantity)) (item_at p.item before) false
-stock_short before (Close c) = false
-stock_short before (Comment c) = false
-stock_short before (Restock r) = false
-stock_short before (Rename r) = false
+stock_short before x = false
 
 -- the item of a bid, a buy or a close is closed, or a close names another than the item's highest bid
 abbrev pub wrong_winner : List Core → Shadow → Bool
-wrong_winner before (User n) = false
-wrong_winner before (Item n) = false
 wrong_winner before (Bid b) = is_some (close_of b.item before)
 wrong_winner before (Buy p) = is_some (close_of p.item before)
 wrong_winner before (Close c) =
     is_some (close_of c.item before) || not (option_eq same_id c.winner (option_map (λ (m : Core). m.id) (best_bid c.item before)))
-wrong_winner before (Comment c) = false
-wrong_winner before (Restock r) = false
-wrong_winner before (Rename r) = false
+wrong_winner before x = false
 
 -- who and what the shadow names stands before it, and none of these tests holds
 pub record Fits (before : List Core) (x : Shadow) : Type 0 where

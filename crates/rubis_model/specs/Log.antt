@@ -5,8 +5,8 @@ use Rattle.rubis_schema.specs.Tables.{Tables}
 use Rattle.rubis_schema.specs.declared.ids.Id.{Id}
 use Rattle.rubis_shadow.specs.Tables.{opening}
 use Rattle.rubis_shadow.specs.Changes.{after_part, misfit_of}
-use Rattle.rubis_shadow.specs.Parts.{parts}
-use Rattle.rubis_shadow.specs.declared.changes.Effect.{Effect}
+use Rattle.rubis_shadow.specs.Shadows.{parts}
+use Rattle.rubis_shadow.specs.declared.keyed_change.Effect.{Effect}
 use Rattle.rubis_shadow.specs.declared.changes.MisfitKind.{MisfitKind}
 use Rattle.rubis_shadow.specs.declared.numbered.Numbered.{Numbered}
 use Rattle.rubis_shadow.specs.declared.numbered.Misfit.{Misfit}

@@ -1,15 +1,17 @@
 -- A site that lost its disk is made again from the messages and tokens that the sites sent.
-use Rattle.std.specs.Prelude.{◌≡◌, ◌↔◌, ℕ, ◌<◌, ◌≤◌, ◌==◌, Bool, ◌&&◌, not, nat_lt, nat_le, cond, is_some, filter, map, Option, Some, None, Result, List, [], ◌∷◌, ◌++◌, length, ◌⊎◌}
+use Rattle.std.specs.Prelude.{◌≡◌, ◌↔◌, ℕ, ◌<◌, ◌≤◌, ◌==◌, Bool, ◌&&◌, not, nat_lt, nat_le, bytes_eq, codes, cond, drop, is_some, filter, map, Option, Some, None, Result, List, [], ◌∷◌, ◌++◌, length, ◌⊎◌}
 use Rattle.std.specs.Option.{option_map_or}
+use Rattle.rubis_schema.specs.Ids.{id_text}
 use Rattle.rubis_schema.specs.declared.limits.TheConstants.{KEEP_MAX}
 use Rattle.rubis_schema.specs.declared.ids.Id.{Id}
 use Rattle.rubis_schema.specs.declared.refusals.Refusal.{Refusal}
 use Rattle.rubis_shadow.specs.Shadows.{is_red}
-use Rattle.rubis_shadow.specs.declared.asks.Ask.{Ask}
-use Rattle.rubis_shadow.specs.declared.asks.Ask.TheVariants as ask
+use Rattle.rubis_shadow.specs.declared.shadows.Ask.{Ask}
+use Rattle.rubis_shadow.specs.declared.shadows.Ask.TheVariants as ask
 use Rattle.rubis_shadow.specs.declared.shadows.NewItem.{NewItem}
 use Rattle.rubis_shadow.specs.declared.shadows.Shadow.{Shadow}
 use Rattle.rubis_shadow.specs.declared.shadows.Shadow.TheVariants as shadow
+use Rattle.rubis_message.specs.Grammar.{ask_record, message_record}
 use Rattle.rubis_message.specs.Message.{Message, dep}
 use Rattle.rubis_message.specs.declared.requests.Request.{Request}
 use Rattle.rubis_message.specs.declared.requests.Request.TheVariants as request
@@ -58,6 +60,21 @@ ask_of all (shadow.Close c) = ask.Close (record { item = c.item; seller = seller
 ask_of all (shadow.Comment c) = ask.Comment c
 ask_of all (shadow.Restock r) = ask.Restock (record { item = r.item; seller = seller_in all r.item; quantity = r.quantity })
 ask_of all (shadow.Rename r) = ask.Rename (record { user = r.user; nick = r.to })
+
+-- the fields of the ask of a shadow with these fields: a close and a restock name the seller too, and a rename doesn't say the
+-- nickname of before
+abbrev pub asked_fields : (List ℕ → List ℕ) → List (List ℕ) → List (List ℕ)
+asked_fields seller (word ∷ id ∷ rest) =
+    cond (bytes_eq word (codes "close")) (word ∷ id ∷ seller id ∷ [])
+    (cond (bytes_eq word (codes "restock")) (word ∷ id ∷ seller id ∷ rest)
+    (cond (bytes_eq word (codes "rename")) (word ∷ id ∷ drop 1 rest)
+    (word ∷ id ∷ rest)))
+asked_fields seller fields = fields
+
+-- so the record of an ask is read off that of its message, whose shadow stands behind six fields
+abbrev pub AsksAreReadOff : Type 0
+AsksAreReadOff = (all : List Message) (m : Message) (seller : List ℕ → List ℕ) → ((item : Id) → seller (id_text item) ≡ id_text (seller_in all item))
+    → ask_record (ask_of all m.shadow) ≡ asked_fields seller (drop 6 (message_record m))
 
 -- ---- what it is given before
 

@@ -1,9 +1,7 @@
 -- The records from which a lost site is made again, and what a fresh site makes of them.
-use Rattle.std.specs.Prelude.{◌≡◌, ℕ, ◌<◌, ◌≤◌, ⊤, Bool, false, cond, bytes_eq, codes, drop, filter, map, List, [], ◌∷◌}
-use Rattle.rubis_schema.specs.Ids.{id_text}
-use Rattle.rubis_schema.specs.declared.ids.Id.{Id}
+use Rattle.std.specs.Prelude.{◌≡◌, ℕ, ◌<◌, ◌≤◌, ⊤, Bool, false, bytes_eq, codes, filter, map, List, [], ◌∷◌}
 use Rattle.rubis_schema.specs.declared.limits.TheConstants.{COUNTED_MAX, KEEP_MAX}
-use Rattle.rubis_message.specs.Grammar.{IsRequest, ask_record, message_record, packet_record, request_record}
+use Rattle.rubis_message.specs.Grammar.{IsRequest, packet_record, request_record}
 use Rattle.rubis_message.specs.Message.{Message}
 use Rattle.rubis_message.specs.declared.tokens.Packet.{Packet}
 use Rattle.rubis_message.specs.declared.tokens.Packet.TheVariants as packet
@@ -11,7 +9,7 @@ use Rattle.rubis_message.specs.declared.tokens.Token.{Token}
 use Rattle.rubis_model.specs.Answers.{send_row}
 use Rattle.rubis_model.specs.Laws.{Sent}
 use Rattle.rubis_model.specs.Processes.{site_after}
-use Rattle.rubis_model.specs.Rebuild.{Concerns, ask_of, inputs_to_rebuild, rebuilt, seller_in, sent_by}
+use Rattle.rubis_model.specs.Rebuild.{Concerns, inputs_to_rebuild, rebuilt, sent_by}
 use Rattle.rubis_model.specs.Runs.{Input, input_of, output_of}
 use Rattle.rubis_model.specs.Runs.Input.{Asked, Came, Neither}
 use Rattle.rubis_model.specs.Settle.{Has}
@@ -30,21 +28,6 @@ input_record Neither = []
 -- what a fresh site is given for these packets of the lost one, in order
 abbrev pub records_to_rebuild : Place → List Token → List Message → List Packet → List (List (List ℕ))
 records_to_rebuild p tokens all packets = map input_record (inputs_to_rebuild p tokens all (opening_at p.site) packets)
-
--- the fields of the ask of a shadow with these fields: a close and a restock name the seller too, and a rename doesn't say the
--- nickname of before
-abbrev pub asked_fields : (List ℕ → List ℕ) → List (List ℕ) → List (List ℕ)
-asked_fields seller (word ∷ id ∷ rest) =
-    cond (bytes_eq word (codes "close")) (word ∷ id ∷ seller id ∷ [])
-    (cond (bytes_eq word (codes "restock")) (word ∷ id ∷ seller id ∷ rest)
-    (cond (bytes_eq word (codes "rename")) (word ∷ id ∷ drop 1 rest)
-    (word ∷ id ∷ rest)))
-asked_fields seller fields = fields
-
--- so the record of an ask is read off that of its message, whose shadow stands behind six fields
-abbrev pub AsksAreReadOff : Type 0
-AsksAreReadOff = (all : List Message) (m : Message) (seller : List ℕ → List ℕ) → ((item : Id) → seller (id_text item) ≡ id_text (seller_in all item))
-    → ask_record (ask_of all m.shadow) ≡ asked_fields seller (drop 6 (message_record m))
 
 -- ---- a run whose requests were records
 

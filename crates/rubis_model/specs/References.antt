@@ -3,7 +3,7 @@ use Rattle.std.specs.Prelude.{◌≡◌, true, IfSome, IsSome, ⊤}
 use Rattle.std.specs.List.{All}
 use Rattle.rubis_schema.specs.declared.row_keys.RowKey.{RowKey}
 use Rattle.rubis_schema.specs.declared.row_keys.RowKey.TheVariants as key
-use Rattle.rubis_shadow.specs.Parts.{refers_of}
+use Rattle.rubis_shadow.specs.Shadows.{refers_of}
 use Rattle.rubis_shadow.specs.declared.shadows.Shadow.{Shadow}
 use Rattle.rubis_shadow.specs.declared.shadows.Shadow.TheVariants.{Close}
 use Rattle.rubis_message.specs.Message.{Message}

@@ -6,7 +6,7 @@ use Rattle.rubis_schema.specs.Keys.{same_id}
 use Rattle.rubis_schema.specs.declared.refusals.Refusal.{Refusal}
 use Rattle.rubis_schema.specs.declared.refusals.Refusal.TheVariants.{Full, NoToken, BadTarget, LastTurn, NotOurs, NotForMe}
 use Rattle.rubis_shadow.specs.Shadows.{is_red}
-use Rattle.rubis_shadow.specs.declared.asks.Ask.{Ask}
+use Rattle.rubis_shadow.specs.declared.shadows.Ask.{Ask}
 use Rattle.rubis_shadow.specs.declared.shadows.Shadow.{Shadow}
 use Rattle.rubis_message.specs.Message.{Message}
 use Rattle.rubis_message.specs.declared.tokens.Token.{Token}

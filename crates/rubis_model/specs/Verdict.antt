@@ -6,8 +6,7 @@ use Rattle.std.specs.Option.{option_map_or, option_or}
 use Rattle.rubis_schema.specs.Keys.{same_id}
 use Rattle.rubis_schema.specs.declared.row_keys.RowKey.{RowKey}
 use Rattle.rubis_schema.specs.declared.row_keys.RowKey.TheVariants as key
-use Rattle.rubis_shadow.specs.Parts.{refers_of}
-use Rattle.rubis_shadow.specs.Shadows.{is_red}
+use Rattle.rubis_shadow.specs.Shadows.{refers_of, is_red}
 use Rattle.rubis_message.specs.Equal.{same_message}
 use Rattle.rubis_message.specs.Message.{Message, dep, sites_of}
 use Rattle.rubis_message.specs.declared.answers.Kind.{Kind}

@@ -9,7 +9,7 @@ use Rattle.rubis_schema.specs.declared.rows.Row.TheVariants as row
 use Rattle.rubis_schema.specs.declared.rows.Sale.TheVariants.{Open, Ended}
 use Rattle.rubis_schema.specs.declared.rows.UserRow.{UserRow}
 use Rattle.rubis_shadow.specs.Changes.{change_row, fits_as, int_up, misfits_as, removed}
-use Rattle.rubis_shadow.specs.Parts.{key_of, parts, refers_of}
+use Rattle.rubis_shadow.specs.Shadows.{key_of, parts, refers_of}
 use Rattle.rubis_shadow.specs.declared.changes.Change.TheVariants.{Insert, ItemListed, Rated, BidTaken, Sold, End, Restocked, NickFreed}
 use Rattle.rubis_shadow.specs.declared.changes.MisfitKind.TheVariants.{RowThere, NoRow, ClosedItem, StockShort, OtherUser}
 use Rattle.rubis_shadow.specs.declared.shadows.Shadow.TheVariants.{Buy, Close}

@@ -17,12 +17,12 @@ use Rattle.rubis_schema.specs.declared.rows.Sale.{Sale}
 use Rattle.rubis_schema.specs.declared.rows.Sale.TheVariants.{Open, Ended}
 use Rattle.rubis_schema.specs.declared.rows.ItemRow.{ItemRow}
 use Rattle.rubis_shadow.specs.Changes.{Done, change_row, after_part, with_row, better, if_open, misfits_as, removed}
-use Rattle.rubis_shadow.specs.Limits.{RowInLimits, AllInLimits, InLimits}
-use Rattle.rubis_shadow.specs.Parts.{parts}
+use Rattle.rubis_shadow.specs.Limits.{RowInLimits, AllInLimits}
+use Rattle.rubis_shadow.specs.Shadows.{InLimits, parts}
 use Rattle.rubis_shadow.specs.Tables.{categories_from, new_category, opening}
 use Rattle.rubis_shadow.specs.declared.changes.Change.{Change}
-use Rattle.rubis_shadow.specs.declared.changes.Change.TheVariants.{Insert, ItemListed, Bought, Rated, CatListed, CatEnded, BidTaken, Sold, End, Restocked, Renamed, NickFreed}
-use Rattle.rubis_shadow.specs.declared.changes.Effect.{Effect}
+use Rattle.rubis_shadow.specs.declared.changes.Change.TheVariants.{Insert, BidTaken, Sold, End, NickFreed}
+use Rattle.rubis_shadow.specs.declared.keyed_change.Effect.{Effect}
 use Rattle.rubis_shadow.specs.declared.changes.MisfitKind.{MisfitKind}
 use Rattle.rubis_shadow.specs.declared.shadows.Shadow.{Shadow}
 use Rattle.rubis_shadow.specs.declared.shadows.Shadow.TheVariants as shadow
@@ -53,22 +53,26 @@ module _ (sites : ℕ) where
   freed_kept true i = tt
   freed_kept false i = tt
 
+  -- of a row, whatever its change: only an item's row has limits
+  row_kept : (r : Row) (c : Change) → ChangeInLimits sites c → Kept (Some r) → Kept (change_row c (Some r)).row
+  unfolding change_row
+  row_kept (row.Item i) (BidTaken b) g h = open_kept i i.sale _ h (h.0, best_kept i.best b h.1 g)
+  row_kept (row.Item i) (Sold q) g h = open_kept i i.sale _ h (stock_kept i (nat_le q i.stock) _ h h)
+  row_kept (row.Item i) (End w) g h = open_kept i i.sale _ h h
+  row_kept (row.Item i) c g h = h
+  row_kept (row.Nick i) (NickFreed u) g h = freed_kept (same_id u i) i
+  row_kept (row.User u) (Insert r) g h = tt
+  row_kept (row.Cat k) (Insert r) g h = tt
+  row_kept (row.Bid b) (Insert r) g h = tt
+  row_kept (row.Purchase p) (Insert r) g h = tt
+  row_kept (row.Comment k) (Insert r) g h = tt
+  row_kept r c g h = tt
+
   change_kept : (c : Change) (o : Option Row) → ChangeInLimits sites c → Kept o → Kept (change_row c o).row
   unfolding change_row
   change_kept (Insert r) None g h = g
-  change_kept (Insert r) (Some old) g h = h
-  change_kept (BidTaken b) (Some (row.Item i)) g h = open_kept i i.sale _ h (h.0, best_kept i.best b h.1 g)
-  change_kept (Sold q) (Some (row.Item i)) g h = open_kept i i.sale _ h (stock_kept i (nat_le q i.stock) _ h h)
-  change_kept (End w) (Some (row.Item i)) g h = open_kept i i.sale _ h h
-  change_kept (Restocked q) (Some (row.Item i)) g h = h
-  change_kept (Renamed n) (Some (row.User u)) g h = tt
-  change_kept (NickFreed u) (Some (row.Nick i)) g h = freed_kept (same_id u i) i
-  change_kept ItemListed (Some (row.User u)) g h = tt
-  change_kept (Bought q) (Some (row.User u)) g h = tt
-  change_kept (Rated r) (Some (row.User u)) g h = tt
-  change_kept CatListed (Some (row.Cat u)) g h = tt
-  change_kept CatEnded (Some (row.Cat u)) g h = tt
-  change_kept c o g h = h
+  change_kept c None g h = tt
+  change_kept c (Some r) g h = row_kept r c g h
 
   at_key : (b : Bool) (o q : Option Row) → Kept o → Kept q → Kept (cond b o q)
   at_key true o q h g = h
@@ -82,20 +86,28 @@ module _ (sites : ℕ) where
   pub after_kept : (t : Tables) (e : Effect) → ChangeInLimits sites e.change → AllInLimits sites t → AllInLimits sites (after_part t e)
   after_kept t e g h = with_row_kept t e.key _ (change_kept e.change (map.get t e.key) g (h e.key)) h
 
--- the parts of a shadow within the limits are within them
+-- of the parts of a shadow only a new item and a bid have limits
+abbrev pub WithinThen : ℕ → Change → Type 0 → Type 0
+WithinThen sites (Insert (row.Item i)) rest = RowInLimits sites (row.Item i) × rest
+WithinThen sites (BidTaken b) rest = IsId sites b.bid × rest
+WithinThen sites c rest = rest
+
 abbrev pub PartsInLimits : ℕ → List Effect → Type 0
 PartsInLimits sites [] = ⊤
-PartsInLimits sites (e ∷ es) = ChangeInLimits sites e.change × PartsInLimits sites es
+PartsInLimits sites (e ∷ es) = WithinThen sites e.change (PartsInLimits sites es)
 
+-- the first part, and the others
+pub first_within : (sites : ℕ) (c : Change) (rest : Type 0) → WithinThen sites c rest → ChangeInLimits sites c × rest
+first_within sites (Insert (row.Item i)) rest h = h
+first_within sites (Insert r) rest h = (tt, h)
+first_within sites (BidTaken b) rest h = h
+first_within sites c rest h = (tt, h)
+
+-- the parts of a shadow within the limits are within them
 pub parts_in_limits : (sites : ℕ) (id : Id) (red : ℕ) (x : Shadow) → IsId sites id → InLimits sites x → PartsInLimits sites (parts id red x)
-parts_in_limits sites id red (shadow.User n) i h = (tt, (tt, tt))
-parts_in_limits sites id red (shadow.Item n) i h = ((h.cat, tt), (tt, (tt, tt)))
-parts_in_limits sites id red (shadow.Bid b) i h = (tt, (i, tt))
-parts_in_limits sites id red (shadow.Buy p) i h = (tt, (tt, (tt, tt)))
-parts_in_limits sites id red (shadow.Close c) i h = (tt, (tt, tt))
-parts_in_limits sites id red (shadow.Comment c) i h = (tt, (tt, tt))
-parts_in_limits sites id red (shadow.Restock r) i h = (tt, tt)
-parts_in_limits sites id red (shadow.Rename r) i h = (tt, (tt, (tt, tt)))
+parts_in_limits sites id red (shadow.Item n) i h = ((h.cat, tt), tt)
+parts_in_limits sites id red (shadow.Bid b) i h = (i, tt)
+parts_in_limits sites id red x i h = tt
 
 module _ (sites : ℕ) where
   empty_in_limits : AllInLimits sites map.empty

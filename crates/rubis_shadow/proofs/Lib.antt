@@ -1,4 +1,5 @@
 pub mod Lists
+pub mod Footprint
 pub mod Rows
 pub mod Categories
 pub mod InLimits

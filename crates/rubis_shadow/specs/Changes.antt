@@ -1,20 +1,23 @@
--- What one part does: to the row of its key, and so to the tables.
+-- What a change does to the row of its key, and so a part to the tables.
 use Rattle.std.specs.Prelude.{Bool, true, false, ℕ, ◌+◌, ◌-◌, ◌^◌, min, ℤ, pos, negsuc, ◌+ℤ◌, cond, nat_lt, nat_le, Option, Some, None}
 use Rattle.std.specs.FinMap as map
 use Rattle.rubis_schema.specs.Keys.{same_id}
 use Rattle.rubis_schema.specs.Tables.{Tables}
 use Rattle.rubis_schema.specs.declared.row_keys.RowKey.{RowKey}
 use Rattle.rubis_schema.specs.declared.rows.Row.{Row}
-use Rattle.rubis_schema.specs.declared.rows.Row.TheVariants.{User, Item, Nick, Cat}
+use Rattle.rubis_schema.specs.declared.rows.Row.TheVariants.{User, Item, Nick, Cat, Bid, Purchase, Comment}
 use Rattle.rubis_schema.specs.declared.rows.ItemRow.{ItemRow}
 use Rattle.rubis_schema.specs.declared.rows.Best.{Best}
 use Rattle.rubis_schema.specs.declared.rows.Sale.{Sale}
 use Rattle.rubis_schema.specs.declared.rows.Sale.TheVariants.{Open, Ended}
 use Rattle.rubis_shadow.specs.declared.changes.Change.{Change}
 use Rattle.rubis_shadow.specs.declared.changes.Change.TheVariants.{Insert, ItemListed, Bought, Rated, CatListed, CatEnded, BidTaken, Sold, End, Restocked, Renamed, NickFreed}
-use Rattle.rubis_shadow.specs.declared.changes.Effect.{Effect}
+use Rattle.rubis_shadow.specs.declared.keyed_change.Effect.{Effect}
 use Rattle.rubis_shadow.specs.declared.changes.MisfitKind.{MisfitKind}
 use Rattle.rubis_shadow.specs.declared.changes.MisfitKind.TheVariants.{RowThere, NoRow, ClosedItem, StockShort, OtherUser}
+use Rattle.rubis_shadow.specs.declared.parts.ChangeRef.{ChangeRef}
+use Rattle.rubis_shadow.specs.declared.parts.ChangeRef.TheVariants as lent
+use Rattle.rubis_shadow.specs.Shadows.{new_item, new_user}
 
 -- sums stop at the ends of their types
 abbrev pub count_up : ℕ → ℕ → ℕ
@@ -90,3 +93,23 @@ after_part t e = with_row t e.key (doing t e).row
 -- why the part doesn't fit the tables, if it doesn't
 abbrev pub misfit_of : Tables → Effect → Option MisfitKind
 misfit_of t e = (doing t e).misfit
+
+-- a change that borrows, as the change that it stands for
+abbrev pub change_of : ChangeRef → Change
+change_of (lent.NewUser n) = Insert (User (new_user n))
+change_of (lent.NewNick i) = Insert (Nick i)
+change_of (lent.NewItem n) = Insert (Item (new_item n.now))
+change_of (lent.NewBid b) = Insert (Bid b)
+change_of (lent.NewPurchase p) = Insert (Purchase p)
+change_of (lent.NewComment c) = Insert (Comment c.now)
+change_of lent.ItemListed = ItemListed
+change_of (lent.Bought q) = Bought q
+change_of (lent.Rated r) = Rated r
+change_of lent.CatListed = CatListed
+change_of lent.CatEnded = CatEnded
+change_of (lent.BidTaken b) = BidTaken b
+change_of (lent.Sold q) = Sold q
+change_of (lent.End w) = End w
+change_of (lent.Restocked q) = Restocked q
+change_of (lent.Renamed n) = Renamed n
+change_of (lent.NickFreed u) = NickFreed u

@@ -3,7 +3,5 @@ pub mod Shadows
 pub mod Tables
 pub mod Freed
 pub mod Changes
-pub mod Parts
 pub mod Limits
-pub mod Borrowed
 pub mod BoxedRows

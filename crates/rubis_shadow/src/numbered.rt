@@ -2,7 +2,8 @@
 
 ghost use Rattle.std.specs.Prelude.{◌≡◌, IfOk};
 
-use crate::changes::{Effect, MisfitKind};
+use crate::changes::MisfitKind;
+use crate::keyed_change::Effect;
 use rubis_schema::Id;
 use std::alloc::AllocError;
 

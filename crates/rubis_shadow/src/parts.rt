@@ -1,16 +1,17 @@
-//! The parts of a shadow, one for each key that it touches.
+//! The parts of a shadow, one for each key that it touches, and the keys that it refers to.
 
-ghost use Rattle.std.specs.Prelude.{◌≡◌, ◌≤◌, ℕ, length, slice_get, IfOk};
+ghost use Rattle.std.specs.Prelude.{◌≡◌, ◌≤◌, ◌∷◌, ℕ, length, option_map, slice_get, IfOk};
 ghost use Rattle.rubis_schema.specs.declared.ids.Id.{Id};
-ghost use Rattle.std.specs.Iterator.{item_count, YieldsFirst};
 ghost use Rattle.rubis_shadow.specs.declared.shadows.Shadow.TheVariants as Shadow;
-ghost use Rattle.rubis_shadow.specs.Parts.{new_item, new_user, parts};
-ghost use Rattle.rubis_shadow.specs.Borrowed.{change_of};
+ghost use Rattle.rubis_shadow.specs.Shadows.{key_of, new_item, new_user, parts, refers_of, winner_key};
+ghost use Rattle.rubis_shadow.specs.Changes.{change_of};
 ghost use Rattle.rubis_shadow.specs.Freed.{FreesOnlyNicks, FreesOnlyNicks-prop};
 ghost use Rattle.rubis_shadow.specs.BoxedRows.{HasBoxedRow, boxed_row_in};
 ghost use Rattle.rubis_schema.specs.declared.rows.Row.TheVariants as rows;
 
-use crate::changes::{Change, Effect};
+use crate::changes::Change;
+use crate::keyed_change::Effect;
+use crate::keys::{Keys, no_key, one_key, three_keys, two_keys};
 use crate::renames::NewRename;
 use crate::shadows::{NewBid, NewClose, NewItem, NewRestock, Shadow};
 use rubis_schema::{
@@ -54,9 +55,9 @@ pub struct EffectRef<'a> {
 }
 
 impl<'a> Model for EffectRef<'a> {
-    ghost use Rattle.rubis_shadow.specs.declared.changes.Effect.{Effect};
-    ghost use Rattle.rubis_shadow.specs.contracts.changes.Effect as effect;
-    ghost use Rattle.rubis_shadow.specs.Borrowed.{change_of};
+    ghost use Rattle.rubis_shadow.specs.declared.keyed_change.Effect.{Effect};
+    ghost use Rattle.rubis_shadow.specs.contracts.keyed_change.Effect as effect;
+    ghost use Rattle.rubis_shadow.specs.Changes.{change_of};
 
     ghost Value = { Effect };
 
@@ -65,46 +66,7 @@ impl<'a> Model for EffectRef<'a> {
     ghost view = { λ e. record { key = e.key; change = change_of e.change; frees = e.frees } };
 }
 
-/// The parts of a shadow, in order. Contracts see those that are left.
-#[derive(Drop)]
-pub struct Effects<'a> {
-    id: Id,
-    red: u32,
-    shadow: &'a Shadow,
-    // How many parts were given.
-    given: u8,
-}
-
-impl<'a> Model for Effects<'a> {
-    ghost use Rattle.std.specs.Prelude.{List, drop, ◌≤◌};
-    ghost use Rattle.std.specs.Coded.{coded_list};
-    ghost use Rattle.rubis_shadow.specs.declared.changes.Effect.{Effect};
-    ghost use Rattle.rubis_shadow.specs.contracts.changes.Effect as effect;
-    ghost use Rattle.rubis_shadow.specs.Parts.{parts};
-    ghost use Rattle.rubis_shadow.specs.declared.parts.TheConstants.{PARTS_MAX};
-
-    ghost Value = { List Effect };
-
-    ghost coded = { coded_list effect.the_row.coded };
-
-    ghost view = { λ e. drop e.given (parts e.id e.red e.shadow.now) };
-
-    ghost invariant = { λ e. e.given ≤ PARTS_MAX };
-}
-
 impl Shadow {
-    /// The parts of the shadow with that id and red number, in order: one to three.
-    pub fn effects(&self, id: Id, red: u32) -> Effects<'_>
-        ensures { result ≡ parts id red self.now }
-    {
-        Effects {
-            id,
-            red,
-            shadow: self,
-            given: 0,
-        }
-    }
-
     /// How many parts the shadow has.
     pub fn count_parts(&self) -> u8
         ensures count { (id : Id) (red : ℕ) → result ≡ length (parts id red self.now) }
@@ -136,6 +98,65 @@ impl Shadow {
         ensures { result ≡ slice_get (parts id red self.now) place }
     {
         part_at(id, red, self, place)
+    }
+
+    /// The key of the part at this place, from 0; `id` is the shadow's own.
+    pub fn key(&self, id: Id, place: u8) -> Option<RowKey>
+        ensures { (red : ℕ) → result ≡ option_map key_of (slice_get (parts id red self.now) place) }
+    {
+        match (self, place) {
+            (Shadow::User(_), 0) => Some(RowKey::User(id)),
+            (Shadow::User(nick), 1) => Some(RowKey::Nick(*nick)),
+            (Shadow::Item(_), 0) => Some(RowKey::Item(id)),
+            (Shadow::Item(item), 1) => Some(RowKey::User(item.seller)),
+            (Shadow::Item(item), 2) => Some(RowKey::Cat(item.cat)),
+            (Shadow::Bid(_), 0) => Some(RowKey::Bid(id)),
+            (Shadow::Bid(bid), 1) => Some(RowKey::Item(bid.item)),
+            (Shadow::Buy(_), 0) => Some(RowKey::Purchase(id)),
+            (Shadow::Buy(purchase), 1) => Some(RowKey::Item(purchase.item)),
+            (Shadow::Buy(purchase), 2) => Some(RowKey::User(purchase.buyer)),
+            (Shadow::Close(close), 0) => Some(RowKey::Item(close.item)),
+            (Shadow::Close(close), 1) => Some(RowKey::Cat(close.cat)),
+            (Shadow::Comment(_), 0) => Some(RowKey::Comment(id)),
+            (Shadow::Comment(comment), 1) => Some(RowKey::User(comment.to)),
+            (Shadow::Restock(restock), 0) => Some(RowKey::Item(restock.item)),
+            (Shadow::Rename(rename), 0) => Some(RowKey::User(rename.user())),
+            (Shadow::Rename(rename), 1) => Some(RowKey::Nick(rename.from())),
+            (Shadow::Rename(rename), 2) => Some(RowKey::Nick(rename.to())),
+            _ => None,
+        }
+    }
+
+    /// The keys of the rows that the shadow takes to be there.
+    pub fn refers(&self) -> Keys
+        ensures { result ≡ refers_of self.now }
+    {
+        match self {
+            Shadow::User(_) => no_key(),
+            Shadow::Item(item) => one_key(RowKey::User(item.seller)),
+            Shadow::Bid(bid) => two_keys(RowKey::Item(bid.item), RowKey::User(bid.bidder)),
+            Shadow::Buy(purchase) => {
+                two_keys(RowKey::Item(purchase.item), RowKey::User(purchase.buyer))
+            }
+            Shadow::Close(close) => close_keys(close),
+            Shadow::Comment(comment) => three_keys(
+                RowKey::Item(comment.item),
+                RowKey::User(comment.from),
+                RowKey::User(comment.to),
+            ),
+            Shadow::Restock(restock) => one_key(RowKey::Item(restock.item)),
+            Shadow::Rename(rename) => one_key(RowKey::User(rename.user())),
+        }
+    }
+}
+
+// The keys of an item and of its winning bid, if there is one.
+fn close_keys(close: &NewClose) -> Keys
+    ensures { result ≡ RowKey.Item close.now.item ∷ winner_key close.now.winner }
+{
+    match close.winner {
+        Some(bid) => two_keys(RowKey::Item(close.item), RowKey::Bid(bid)),
+        None => one_key(RowKey::Item(close.item)),
     }
 }
 
@@ -305,20 +326,6 @@ fn rename_part<'a>(rename: &NewRename, place: u8) -> Option<EffectRef<'a>>
             change: ChangeRef::NewNick(rename.user()),
         }),
         _ => None,
-    }
-}
-
-impl<'a> Iterator for Effects<'a> {
-    type Item = EffectRef<'a>;
-
-    ghost next_gives = { YieldsFirst (λ left. left) };
-
-    ghost remaining = { item_count (λ left. left) };
-
-    fn next(&mut self) -> Option<EffectRef<'a>> {
-        let part = part_at(self.id, self.red, self.shadow, self.given)?;
-        self.given += 1;
-        Some(part)
     }
 }
 

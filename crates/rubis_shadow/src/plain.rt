@@ -8,7 +8,8 @@ ghost use Rattle.rubis_schema.specs.Keys.{key_order};
 ghost use Rattle.rubis_shadow.specs.Tables.{opening, rows_of};
 ghost use Rattle.rubis_shadow.specs.Changes.{after_part, misfit_of};
 
-use crate::changes::{Change, Effect, MisfitKind};
+use crate::changes::{Change, MisfitKind};
+use crate::keyed_change::Effect;
 use crate::listing::rows_in_order;
 use indexmap::IndexMap;
 use indexmap::map::Entry;

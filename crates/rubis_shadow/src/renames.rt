@@ -2,7 +2,7 @@
 
 ghost use Rattle.std.specs.Prelude.{◌≡◌};
 
-use crate::asks::AskedRename;
+use crate::shadows::AskedRename;
 use rubis_schema::{Id, Nick, Shared};
 use std::alloc::AllocError;
 use std::marker::Model;

@@ -1,4 +1,4 @@
-//! Shadow operations: what every site applies.
+//! What users ask for, and the shadow operations that answer: what every site applies.
 
 ghost use Rattle.std.specs.Prelude.{◌≡◌, IfOk};
 ghost use Rattle.rubis_shadow.specs.Shadows.{colour_of, version_of};
@@ -25,6 +25,41 @@ pub struct NewBid {
     pub item: Id,
     pub bidder: Id,
     pub amount: u64,
+}
+
+/// A seller who ends an item's sale.
+#[derive(Clone, Copy)]
+pub struct AskedClose {
+    pub item: Id,
+    pub seller: Id,
+}
+
+/// A seller who has more pieces of an item.
+#[derive(Clone, Copy)]
+pub struct AskedRestock {
+    pub item: Id,
+    pub seller: Id,
+    pub quantity: u64,
+}
+
+/// A user who wants another nickname.
+#[derive(Clone, Copy)]
+pub struct AskedRename {
+    pub user: Id,
+    pub nick: Nick,
+}
+
+/// What a user asks of a site.
+#[derive(Drop)]
+pub enum Ask {
+    User(Nick),
+    Item(Shared<NewItem>),
+    Bid(NewBid),
+    Buy(PurchaseRow),
+    Close(AskedClose),
+    Comment(Shared<CommentRow>),
+    Restock(AskedRestock),
+    Rename(Shared<AskedRename>),
 }
 
 /// The end of an item's sale, with the item's category and the winning bid, if there is one.

@@ -6,8 +6,7 @@ use Rattle.std.proofs.lemmas.List.{reverse-append, reverse-reverse}
 use Rattle.std.proofs.lemmas.List.Elements.{All-weaker}
 use Rattle.rubis_schema.specs.declared.ids.Id.{Id}
 use Rattle.rubis_schema.specs.declared.row_keys.RowKey.TheVariants as key
-use Rattle.rubis_shadow.specs.Parts.{refers_of}
-use Rattle.rubis_shadow.specs.Shadows.{is_red}
+use Rattle.rubis_shadow.specs.Shadows.{refers_of, is_red}
 use Rattle.rubis_shadow.specs.declared.shadows.Shadow.{Shadow}
 use Rattle.rubis_shadow.specs.declared.shadows.Shadow.TheVariants.{Close}
 use Rattle.rubis_message.specs.Message.{Message, IsMessage, sites_of}

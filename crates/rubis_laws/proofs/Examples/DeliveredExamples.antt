@@ -6,15 +6,14 @@ use Rattle.std.proofs.lemmas.Bool.{cases_eq}
 use Rattle.std.proofs.lemmas.Option.{same_Some}
 use Rattle.rubis_numbers.specs.Numbers.{number_of}
 use Rattle.rubis_schema.specs.FieldForms.{nick_of}
-use Rattle.rubis_shadow.specs.declared.asks.Ask.TheVariants as ask
+use Rattle.rubis_shadow.specs.declared.shadows.Ask.TheVariants as ask
 use Rattle.rubis_shadow.specs.declared.shadows.Shadow.TheVariants as shadow
 use Rattle.rubis_generate.specs.Decision.{decision}
 use Rattle.rubis_generate.specs.Lookup.{Rows}
 use Rattle.rubis_message.specs.Counts.{deps_of}
 use Rattle.rubis_message.specs.Forms.{take_positive, take_site}
 use Rattle.rubis_message.specs.Message.{Message}
-use Rattle.rubis_message.specs.Readings.{packet_of, request_of, take_kind, take_message, take_packet, take_request, take_shadow, take_stamp}
-use Rattle.rubis_message.specs.Words.{kind_of}
+use Rattle.rubis_message.specs.Readings.{packet_of, request_of, take_kind, take_message, take_packet, take_request, take_shadow, take_stamp, kind_of}
 use Rattle.rubis_message.specs.declared.tokens.Packet.{Packet}
 use Rattle.rubis_message.specs.declared.tokens.Packet.TheVariants as packet
 use Rattle.rubis_model.specs.Answers.{asked_rows, send_row}

@@ -10,8 +10,8 @@ use Rattle.rubis_schema.specs.declared.row_keys.RowKey.TheVariants as key
 use Rattle.rubis_schema.specs.declared.rows.Row.TheVariants as row
 use Rattle.rubis_schema.specs.declared.row_keys.RowKey.{RowKey}
 use Rattle.rubis_schema.specs.declared.rows.Row.{Row}
-use Rattle.rubis_shadow.specs.Limits.{IsNewItem, IsNewBid, IsComment}
-use Rattle.rubis_shadow.specs.declared.asks.Ask.TheVariants as ask
+use Rattle.rubis_shadow.specs.Shadows.{IsNewItem, IsNewBid, IsComment}
+use Rattle.rubis_shadow.specs.declared.shadows.Ask.TheVariants as ask
 use Rattle.rubis_shadow.specs.declared.shadows.NewItem.{NewItem}
 use Rattle.rubis_shadow.specs.declared.shadows.Shadow.{Shadow}
 use Rattle.rubis_shadow.specs.declared.shadows.Shadow.TheVariants as shadow
@@ -19,9 +19,8 @@ use Rattle.rubis_shadow.specs.Changes.{better}
 use Rattle.rubis_numbers.specs.Numbers.{number_of}
 use Rattle.rubis_message.specs.Forms.{take_site}
 use Rattle.rubis_message.specs.Message.{Message}
-use Rattle.rubis_message.specs.Readings.{request_of, take_kind, take_request}
+use Rattle.rubis_message.specs.Readings.{request_of, take_kind, take_request, kind_of}
 use Rattle.rubis_message.specs.WorldReadings.{request_at, take_at, take_audit, take_delivery}
-use Rattle.rubis_message.specs.Words.{kind_of}
 use Rattle.std.specs.Fmt.{digits}
 use Rattle.rubis_message.specs.declared.answers.Happened.{Happened}
 use Rattle.rubis_message.specs.declared.answers.Happened.TheVariants as happened

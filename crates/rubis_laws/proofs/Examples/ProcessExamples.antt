@@ -6,14 +6,13 @@ use Rattle.std.proofs.lemmas.Bool.{cases_eq}
 use mathlib.Core.Bool.{true≢false}
 use Rattle.rubis_numbers.specs.Numbers.{number_of}
 use Rattle.rubis_schema.specs.FieldForms.{nick_of}
-use Rattle.rubis_shadow.specs.declared.asks.Ask.TheVariants as ask
+use Rattle.rubis_shadow.specs.declared.shadows.Ask.TheVariants as ask
 use Rattle.rubis_generate.specs.Decision.{decision}
 use Rattle.rubis_generate.specs.Lookup.{Rows}
 use Rattle.rubis_message.specs.Counts.{deps_of}
 use Rattle.rubis_message.specs.Forms.{take_positive, take_site}
-use Rattle.rubis_message.specs.Readings.{packet_of, request_of, take_kind, take_listing, take_message, take_packet, take_request, take_shadow, take_shown, take_stamp, take_token}
+use Rattle.rubis_message.specs.Readings.{packet_of, request_of, take_kind, take_listing, take_message, take_packet, take_request, take_shadow, take_shown, take_stamp, take_token, kind_of, shown_of}
 use Rattle.rubis_message.specs.Message.{Message}
-use Rattle.rubis_message.specs.Words.{kind_of, shown_of}
 use Rattle.rubis_model.specs.Answers.{asked_rows}
 use Rattle.rubis_model.specs.Listings.{log_from}
 use Rattle.rubis_model.specs.Meaning.{as_user, meaning_row}

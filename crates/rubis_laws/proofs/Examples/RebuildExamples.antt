@@ -5,8 +5,8 @@ use Rattle.std.specs.Fmt.{digits}
 use Rattle.std.proofs.lemmas.Bool.{and_parts, ltb-true, leb-true}
 use Rattle.rubis_schema.specs.Ids.{IsId}
 use Rattle.rubis_schema.specs.declared.ids.Id.{Id}
-use Rattle.rubis_shadow.specs.Limits.{IsNewItem, IsNewBid}
-use Rattle.rubis_shadow.specs.declared.asks.Ask.TheVariants as ask
+use Rattle.rubis_shadow.specs.Shadows.{IsNewItem, IsNewBid}
+use Rattle.rubis_shadow.specs.declared.shadows.Ask.TheVariants as ask
 use Rattle.rubis_shadow.specs.declared.shadows.NewItem.{NewItem}
 use Rattle.rubis_shadow.specs.declared.shadows.NewBid.{NewBid}
 use Rattle.rubis_shadow.specs.declared.shadows.Shadow.{Shadow}

@@ -5,9 +5,8 @@ use Rattle.std.proofs.lemmas.Bool.Decides.{nat_tests}
 use Rattle.std.proofs.lemmas.List.{reverse-reverse}
 use Rattle.rubis_schema.specs.Ids.{IsId}
 use Rattle.rubis_schema.specs.declared.ids.Id.{Id}
-use Rattle.rubis_shadow.specs.Limits.{IsAsk, InLimits}
-use Rattle.rubis_shadow.specs.Shadows.{is_red}
-use Rattle.rubis_shadow.specs.declared.asks.Ask.{Ask}
+use Rattle.rubis_shadow.specs.Shadows.{IsAsk, InLimits, is_red}
+use Rattle.rubis_shadow.specs.declared.shadows.Ask.{Ask}
 use Rattle.rubis_shadow.specs.declared.shadows.NewItem.{NewItem}
 use Rattle.rubis_shadow.specs.declared.shadows.Shadow.{Shadow}
 use Rattle.rubis_shadow.specs.declared.shadows.Shadow.TheVariants as shadow

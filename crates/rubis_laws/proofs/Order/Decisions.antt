@@ -1,6 +1,6 @@
 -- The shadow of an ask that isn't refused fits the log whose rows it was decided against.
-use Rattle.std.proofs.Common.{ℕ, ◌≡◌, ◌+◌, ◌-◌, ◌≤◌, List, [], ◌∷◌, Bool, true, false, cond, refl, sym, ap, ◌∙◌, subst, arith, Option, Some, None}
-use Rattle.std.specs.Prelude.{◌||◌, nat_lt, find, is_none, is_some, option_map, option_and_then, IsSome, IfSome, ⊤, Ok}
+use Rattle.std.proofs.Common.{ℕ, ◌≡◌, ◌+◌, ◌-◌, ◌≤◌, List, [], true, false, refl, sym, ap, ◌∙◌, subst, arith, Option, Some, None}
+use Rattle.std.specs.Prelude.{nat_lt, is_none, is_some, option_map, option_and_then, IsSome, IfSome, Ok}
 use Rattle.std.specs.Option.{option_map_or}
 use Rattle.std.proofs.lemmas.Bool.Decides.{nat_tests}
 use mathlib.Core.Bool.{true≢false}
@@ -14,41 +14,15 @@ use Rattle.rubis_shadow.specs.declared.shadows.NewItem.{NewItem}
 use Rattle.rubis_schema.specs.declared.rows.Best.{Best}
 use Rattle.rubis_model.specs.Log.{Core}
 use Rattle.rubis_shadow.specs.declared.shadows.Shadow.{Shadow}
-use Rattle.rubis_schema.specs.declared.refusals.Refusal.{Refusal}
 use Rattle.rubis_generate.specs.declared.standing.Standing.{Standing}
-use Rattle.rubis_shadow.specs.declared.asks.Ask.{Ask}
-use Rattle.rubis_shadow.specs.declared.asks.Ask.TheVariants.{User, Item, Bid, Buy, Close, Comment, Restock, Rename}
+use Rattle.rubis_shadow.specs.declared.shadows.Ask.{Ask}
 use Rattle.rubis_model.specs.Meaning.{user_at, nick_at, item_at, user_row, item_row, meaning_row, close_of, best_bid, best_of, sale_after, named, total, sold_of, supply}
 use Rattle.rubis_model.specs.Checks.{Fits}
-use Rattle.std.proofs.lemmas.Bool.{or_parts}
 use Rattle.rubis_laws.proofs.Rows.Nicks.{nick_user}
-use Rattle.rubis_laws.proofs.Order.FitsByKind.{FitsByKind, from_kind}
+use Rattle.rubis_laws.proofs.Order.FitsByKind.{Tells, decided_by_kind, from_kind}
 use Rattle.rubis_generate.specs.Lookup.{Rows, user_in, item_in, is_ended, as_item_row, as_user_row}
-use Rattle.rubis_generate.specs.Decision.{decision, is_due, order_of, shadow_of, refused_or, of_item}
+use Rattle.rubis_generate.specs.Decision.{decision, of_item}
 use Rattle.rubis_model.specs.Invariants.{Holds}
-
--- each of these refusals doesn't hold
-abbrev pub NoneHolds : (Refusal → Bool) → List Refusal → Type 0
-NoneHolds test [] = ⊤
-NoneHolds test (r ∷ rs) = (test r ≡ false) × NoneHolds test rs
-
-pub not_refused : (test : Refusal → Bool) (rs : List Refusal) (x y : Shadow) → refused_or (find test rs) x ≡ Ok y → NoneHolds test rs × (x ≡ y)
-not_refused test [] x y e = (tt, let p : x ≡ y = cc in p)
-not_refused test (r ∷ rs) x y e = at (test r) refl e (not_refused test rs x y)
-  where
-    at : (b : Bool) → test r ≡ b → refused_or (cond b (Some r) (find test rs)) x ≡ Ok y
-        → (refused_or (find test rs) x ≡ Ok y → NoneHolds test rs × (x ≡ y)) → ((test r ≡ false) × NoneHolds test rs) × (x ≡ y)
-    at true q e ih = absurd cc
-    at false q e ih = let w = ih e in ((q, w.0), w.1)
-
-only : (a : Bool) → (a || false) ≡ false → a ≡ false
-only true e = e
-only false e = refl
-
-neither : (a b : Bool) → (a || (b || false)) ≡ false → (a ≡ false) × (b ≡ false)
-neither true b e = absurd (true≢false e)
-neither false true e = absurd (true≢false e)
-neither false false e = (refl, refl)
 
 module _ (t : Rows) (a : List Core) (rows : (q : RowKey) → t q ≡ meaning_row a q) where
   get_item : (i : Id) → t (key.Item i) ≡ option_map (item_row a i) (item_at i a)
@@ -118,41 +92,17 @@ module _ (t : Rows) (a : List Core) (rows : (q : RowKey) → t q ≡ meaning_row
   winner_is None = refl
   winner_is (Some m) = refl
 
-  decided_by_kind : (s : Standing) (ask : Ask) (x : Shadow) → Holds a → decision t s ask ≡ Ok x → FitsByKind a x
-  decided_by_kind s (User n) x h e =
-      let w = not_refused (is_due t s (User n)) (order_of (User n)) (shadow_of t (User n)) x e in
-      subst (FitsByKind a) w.1 (nick_free n w.0.1.1.1.0)
-  decided_by_kind s (Item n) x h e =
-      let w = not_refused (is_due t s (Item n)) (order_of (Item n)) (shadow_of t (Item n)) x e in
-      subst (FitsByKind a) w.1 (user_there n.seller (only _ w.0.1.0))
-  decided_by_kind s (Bid b) x h e =
-      let w = not_refused (is_due t s (Bid b)) (order_of (Bid b)) (shadow_of t (Bid b)) x e in
-      let n = item_there b.item w.0.1.1.1.0 in
-      subst (FitsByKind a) w.1 (ap is_some n.1, user_there b.bidder (only _ w.0.1.1.1.1.0), shut b.item n.0 n.1 w.0.1.1.1.1.1.0)
-  decided_by_kind s (Buy p) x h e =
-      let w = not_refused (is_due t s (Buy p)) (order_of (Buy p)) (shadow_of t (Buy p)) x e in
-      let n = item_there p.item w.0.1.1.1.0 in
-      subst (FitsByKind a) w.1 (ap is_some n.1, user_there p.buyer (only _ w.0.1.1.1.1.0), shut p.item n.0 n.1 w.0.1.1.1.1.1.0, enough h p.item n.0 p.quantity n.1 w.0.1.1.1.1.1.1.1.1.0)
-  decided_by_kind s (Close c) x h e =
-      let w = not_refused (is_due t s (Close c)) (order_of (Close c)) (shadow_of t (Close c)) x e in
-      let n = item_there c.item w.0.1.1.1.0 in
-      subst (FitsByKind a) w.1 (
-        ap (option_map (λ (n : NewItem). n.cat)) n.1 ∙ ap Some (sym (ap (λ o. option_map_or (λ (r : ItemRow). r.cat) o 0) (item_is c.item n.0 n.1))),
-        shut c.item n.0 n.1 w.0.1.1.1.1.1.0,
-        ap (λ o. option_and_then (λ (r : ItemRow). option_map (λ (b : Best). b.bid) r.best) o) (item_is c.item n.0 n.1) ∙ winner_is (best_bid c.item a),
-      )
-  decided_by_kind s (Comment c) x h e =
-      let w = not_refused (is_due t s (Comment c)) (order_of (Comment c)) (shadow_of t (Comment c)) x e in
-      let n = item_there c.item w.0.1.0 in
-      let u = neither _ _ w.0.1.1.0 in
-      subst (FitsByKind a) w.1 (ap is_some n.1, user_there c.from u.0, user_there c.to u.1)
-  decided_by_kind s (Restock r) x h e =
-      let w = not_refused (is_due t s (Restock r)) (order_of (Restock r)) (shadow_of t (Restock r)) x e in
-      let n = item_there r.item w.0.1.0 in
-      subst (FitsByKind a) w.1 (ap is_some n.1)
-  decided_by_kind s (Rename r) x h e =
-      let w = not_refused (is_due t s (Rename r)) (order_of (Rename r)) (shadow_of t (Rename r)) x e in
-      subst (FitsByKind a) w.1 (nick_there r.user (only _ w.0.1.1.1.0), nick_free r.nick (or_parts (is_some (t (key.Nick r.nick))) _ w.0.1.1.1.1.0).0)
+  tells : Holds a → Tells t a
+  tells h = record {
+    user = user_there;
+    nick = nick_there;
+    free = nick_free;
+    item = item_there;
+    unended = shut;
+    enough = enough h;
+    cat = λ i n e. ap (option_map (λ (n : NewItem). n.cat)) e ∙ ap Some (sym (ap (λ o. option_map_or (λ (r : ItemRow). r.cat) o 0) (item_is i n e)));
+    winner = λ i n e. ap (λ o. option_and_then (λ (r : ItemRow). option_map (λ (b : Best). b.bid) r.best) o) (item_is i n e) ∙ winner_is (best_bid i a);
+  }
 
   pub decided_fits : (s : Standing) (ask : Ask) (x : Shadow) → Holds a → decision t s ask ≡ Ok x → Fits a x
-  decided_fits s ask x h e = from_kind a x (decided_by_kind s ask x h e)
+  decided_fits s ask x h e = from_kind a x (decided_by_kind t a (tells h) s ask x e)

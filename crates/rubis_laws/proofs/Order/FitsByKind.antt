@@ -1,22 +1,32 @@
--- What it means that a shadow fits, kind by kind.
-use Rattle.std.proofs.Common.{ℕ, ◌≡◌, ◌+◌, ◌≤◌, List, [], ◌∷◌, true, false, refl, sym, ap, ◌∙◌, subst, arith, Option, Some, None, inl, inr}
-use Rattle.std.specs.Prelude.{◌==◌, not, nat_lt, option_map, is_some, IfSome, IsSome}
+-- Kind by kind: what it means that a shadow fits, where it is decided and where it is released, and what it then says of rows.
+use Rattle.std.proofs.Common.{ℕ, ◌≡◌, ◌+◌, ◌≤◌, List, [], ◌∷◌, true, false, cond, refl, sym, ap, ◌∙◌, subst, arith, Option, Some, None, inl, inr}
+use Rattle.std.specs.Prelude.{pos, unsigned_abs, ◌==◌, not, nat_lt, option_map, option_and_then, is_none, is_some, IfSome, IsSome, Ok}
 use Rattle.std.specs.List.{All}
 use Rattle.std.specs.Option.{option_eq, option_map_or, option_or}
 use Rattle.std.proofs.lemmas.Bool.{true≢false, eq-eqb, eqb-true, le-ltb, ltb-false, not-false, not_from_true, or_from, or_parts}
 use Rattle.std.proofs.lemmas.List.Elements.{All-cons, All-nil}
+use Rattle.rubis_schema.specs.KeyLaws.{Decides-same_id}
 use Rattle.rubis_schema.specs.Keys.{same_id}
 use Rattle.rubis_schema.specs.declared.ids.Id.{Id}
 use Rattle.rubis_schema.specs.declared.row_keys.RowKey.{RowKey}
 use Rattle.rubis_schema.specs.declared.row_keys.RowKey.TheVariants as key
-use Rattle.rubis_shadow.specs.Parts.{refers_of, winner_key}
+use Rattle.rubis_schema.specs.declared.rows.Best.{Best}
+use Rattle.rubis_schema.specs.declared.rows.ItemRow.{ItemRow}
+use Rattle.rubis_schema.specs.declared.rows.UserRow.{UserRow}
+use Rattle.rubis_shadow.specs.Shadows.{is_red, refers_of, winner_key}
+use Rattle.rubis_shadow.specs.declared.shadows.Ask.{Ask}
+use Rattle.rubis_shadow.specs.declared.shadows.Ask.TheVariants as ask
 use Rattle.rubis_shadow.specs.declared.shadows.NewItem.{NewItem}
 use Rattle.rubis_shadow.specs.declared.shadows.Shadow.{Shadow}
 use Rattle.rubis_shadow.specs.declared.shadows.Shadow.TheVariants.{User, Item, Bid, Buy, Close, Comment, Restock, Rename}
+use Rattle.rubis_generate.specs.Decision.{decision, is_due, of_item, order_of, shadow_of}
+use Rattle.rubis_generate.specs.Lookup.{Rows, is_ended, item_in, user_in}
+use Rattle.rubis_generate.specs.declared.standing.Standing.{Standing}
 use Rattle.rubis_message.specs.Equal.{Decides-winner}
-use Rattle.rubis_model.specs.Checks.{Fits, StandsIn, nick_taken, stock_short, wrong_category, wrong_winner}
+use Rattle.rubis_model.specs.Checks.{Fits, IsLimited, StandsIn, nick_taken, stock_short, wrong_category, wrong_winner}
 use Rattle.rubis_model.specs.Log.{Core}
-use Rattle.rubis_model.specs.Meaning.{as_bid, at_id, best_bid, bids_on, close_of, higher, is_same_nick, item_at, named, nick_at, sold_of, supply, total, user_at, when}
+use Rattle.rubis_model.specs.Meaning.{as_bid, at_id, best_bid, bids_on, bought_by, close_of, closes, higher, is_same_nick, item_at, lists_item_of, named, nick_at, rates, rating_for, renames, restocked_of, sold_of, supply, total, user_at, when}
+use Rattle.rubis_laws.proofs.Order.NotRefused.{neither, not_refused, only}
 use Rattle.rubis_laws.proofs.Rows.Nicks.{is_nick_at, is_nick_of, some_nick}
 use Rattle.rubis_laws.proofs.Rows.Choices.{IsChoice, choose_is, higher_ranks}
 use Rattle.rubis_laws.proofs.Rows.Sets.{Member, itself}
@@ -37,8 +47,8 @@ none_is : {X : Type 0} (o : Option X) → is_some o ≡ false → o ≡ None
 none_is None e = refl
 none_is (Some x) e = absurd (true≢false e)
 
-is_none : {X : Type 0} (o : Option X) → o ≡ None → is_some o ≡ false
-is_none o e = ap is_some e
+none_told : {X : Type 0} (o : Option X) → o ≡ None → is_some o ≡ false
+none_told o e = ap is_some e
 
 -- ---- a row stands where a message makes it
 first_stands : {X : Type 0} (o p : Option X) → IsSome o → IsSome (option_or o p)
@@ -142,9 +152,9 @@ module _ (a : List Core) where
   right_category x f = refl
 
   nick_free : (x : Shadow) → FitsByKind a x → nick_taken a x ≡ false
-  nick_free (User n) f = is_none (named n a) f
+  nick_free (User n) f = none_told (named n a) f
   nick_free (Rename r) f =
-      or_from (is_some (named r.to a)) (not (is_same_nick r.from (nick_at r.user a))) (is_none (named r.to a) f.1)
+      or_from (is_some (named r.to a)) (not (is_same_nick r.from (nick_at r.user a))) (none_told (named r.to a) f.1)
       (not_from_true (is_same_nick r.from (nick_at r.user a)) (is_nick_at r.from (nick_at r.user a) f.0))
   nick_free x f = refl
 
@@ -153,11 +163,11 @@ module _ (a : List Core) where
   stock_enough x f = refl
 
   right_winner : (x : Shadow) → FitsByKind a x → wrong_winner a x ≡ false
-  right_winner (Bid b) f = is_none (close_of b.item a) f.2
-  right_winner (Buy p) f = is_none (close_of p.item a) f.2
+  right_winner (Bid b) f = none_told (close_of b.item a) f.2
+  right_winner (Buy p) f = none_told (close_of p.item a) f.2
   right_winner (Close c) f =
       let best = option_map (λ (m : Core). m.id) (best_bid c.item a) in
-      or_from (is_some (close_of c.item a)) (not (option_eq same_id c.winner best)) (is_none (close_of c.item a) f.1)
+      or_from (is_some (close_of c.item a)) (not (option_eq same_id c.winner best)) (none_told (close_of c.item a) f.1)
       (not_from_true (option_eq same_id c.winner best) ((Decides-winner c.winner best).1 f.2))
   right_winner x f = refl
 
@@ -169,3 +179,148 @@ module _ (a : List Core) where
     stock = stock_enough x f;
     winner = right_winner x f;
   }
+
+-- ---- where it is decided
+
+-- the rows tell what the log has
+pub record Tells (t : Rows) (a : List Core) : Type 0 where
+  pub user : (i : Id) → is_none (user_in t i) ≡ false → IsSome (user_at i a)
+  pub nick : (i : Id) → is_none (user_in t i) ≡ false → nick_at i a ≡ Some (option_map_or (λ (u : UserRow). u.nick) (user_in t i) [])
+  pub free : (n : List ℕ) → is_some (t (key.Nick n)) ≡ false → named n a ≡ None
+  pub item : (i : Id) → is_none (item_in t i) ≡ false → (n : NewItem) × (item_at i a ≡ Some n)
+  pub unended : (i : Id) (n : NewItem) → item_at i a ≡ Some n → of_item t i (λ r. is_ended r.sale) ≡ false → close_of i a ≡ None
+  pub enough : (i : Id) (n : NewItem) (q : ℕ) → item_at i a ≡ Some n → of_item t i (λ r. nat_lt r.stock q) ≡ false
+      → IfSome (item_at i a) (λ n. total (sold_of i) a + q ≤ supply a i n)
+  pub cat : (i : Id) (n : NewItem) → item_at i a ≡ Some n
+      → option_map (λ (n : NewItem). n.cat) (item_at i a) ≡ Some (option_map_or (λ (r : ItemRow). r.cat) (item_in t i) 0)
+  pub winner : (i : Id) (n : NewItem) → item_at i a ≡ Some n
+      → option_and_then (λ (r : ItemRow). option_map (λ (b : Best). b.bid) r.best) (item_in t i) ≡ option_map (λ (m : Core). m.id) (best_bid i a)
+
+pub decided_by_kind : (t : Rows) (a : List Core) → Tells t a → (s : Standing) (ask : Ask) (x : Shadow) → decision t s ask ≡ Ok x → FitsByKind a x
+decided_by_kind t a h s (ask.User n) x e =
+    let w = not_refused (is_due t s (ask.User n)) (order_of (ask.User n)) (shadow_of t (ask.User n)) x e in
+    subst (FitsByKind a) w.1 (h.free n w.0.1.1.1.0)
+decided_by_kind t a h s (ask.Item n) x e =
+    let w = not_refused (is_due t s (ask.Item n)) (order_of (ask.Item n)) (shadow_of t (ask.Item n)) x e in
+    subst (FitsByKind a) w.1 (h.user n.seller (only _ w.0.1.0))
+decided_by_kind t a h s (ask.Bid b) x e =
+    let w = not_refused (is_due t s (ask.Bid b)) (order_of (ask.Bid b)) (shadow_of t (ask.Bid b)) x e in
+    let n = h.item b.item w.0.1.1.1.0 in
+    subst (FitsByKind a) w.1 (ap is_some n.1, h.user b.bidder (only _ w.0.1.1.1.1.0), h.unended b.item n.0 n.1 w.0.1.1.1.1.1.0)
+decided_by_kind t a h s (ask.Buy p) x e =
+    let w = not_refused (is_due t s (ask.Buy p)) (order_of (ask.Buy p)) (shadow_of t (ask.Buy p)) x e in
+    let n = h.item p.item w.0.1.1.1.0 in
+    subst (FitsByKind a) w.1 (ap is_some n.1, h.user p.buyer (only _ w.0.1.1.1.1.0), h.unended p.item n.0 n.1 w.0.1.1.1.1.1.0, h.enough p.item n.0 p.quantity n.1 w.0.1.1.1.1.1.1.1.1.0)
+decided_by_kind t a h s (ask.Close c) x e =
+    let w = not_refused (is_due t s (ask.Close c)) (order_of (ask.Close c)) (shadow_of t (ask.Close c)) x e in
+    let n = h.item c.item w.0.1.1.1.0 in
+    subst (FitsByKind a) w.1 (
+      h.cat c.item n.0 n.1,
+      h.unended c.item n.0 n.1 w.0.1.1.1.1.1.0,
+      h.winner c.item n.0 n.1,
+    )
+decided_by_kind t a h s (ask.Comment c) x e =
+    let w = not_refused (is_due t s (ask.Comment c)) (order_of (ask.Comment c)) (shadow_of t (ask.Comment c)) x e in
+    let n = h.item c.item w.0.1.0 in
+    let u = neither _ _ w.0.1.1.0 in
+    subst (FitsByKind a) w.1 (ap is_some n.1, h.user c.from u.0, h.user c.to u.1)
+decided_by_kind t a h s (ask.Restock r) x e =
+    let w = not_refused (is_due t s (ask.Restock r)) (order_of (ask.Restock r)) (shadow_of t (ask.Restock r)) x e in
+    let n = h.item r.item w.0.1.0 in
+    subst (FitsByKind a) w.1 (ap is_some n.1)
+decided_by_kind t a h s (ask.Rename r) x e =
+    let w = not_refused (is_due t s (ask.Rename r)) (order_of (ask.Rename r)) (shadow_of t (ask.Rename r)) x e in
+    subst (FitsByKind a) w.1 (h.nick r.user (only _ w.0.1.1.1.0), h.free r.nick (or_parts (is_some (t (key.Nick r.nick))) _ w.0.1.1.1.1.0).0)
+
+-- ---- where it is released
+
+-- what a later log has of an earlier one
+pub record Keeps (a b : List Core) : Type 0 where
+  pub user : (i : Id) → IsSome (user_at i a) → IsSome (user_at i b)
+  pub item : (i : Id) → IsSome (item_at i a) → IsSome (item_at i b)
+  pub cat : (i : Id) (c : ℕ) → option_map (λ (n : NewItem). n.cat) (item_at i a) ≡ Some c → option_map (λ (n : NewItem). n.cat) (item_at i b) ≡ Some c
+
+-- and what it has if none of its red messages is another
+pub record KeepsReds (a b : List Core) : Type 0 where
+  pub close : (i : Id) → close_of i a ≡ close_of i b
+  pub best : (i : Id) → best_bid i a ≡ best_bid i b
+  pub nick : (u : Id) → nick_at u a ≡ nick_at u b
+  pub named : (n : List ℕ) → named n a ≡ named n b
+  pub stock : (i : Id) (q : ℕ) → IsSome (item_at i a) → IfSome (item_at i a) (λ n. total (sold_of i) a + q ≤ supply a i n)
+      → IfSome (item_at i b) (λ n. total (sold_of i) b + q ≤ supply b i n)
+
+pub kept_by_kind : (a b : List Core) → Keeps a b → (x : Shadow) → (is_red x ≡ true → KeepsReds a b) → FitsByKind a x → FitsByKind b x
+kept_by_kind a b k (User n) r f = sym ((r refl).named n) ∙ f
+kept_by_kind a b k (Item n) r f = k.user n.seller f
+kept_by_kind a b k (Bid x) r f = (k.item x.item f.0, k.user x.bidder f.1, sym ((r refl).close x.item) ∙ f.2)
+kept_by_kind a b k (Buy p) r f = (k.item p.item f.0, k.user p.buyer f.1, sym ((r refl).close p.item) ∙ f.2, (r refl).stock p.item p.quantity f.0 f.3)
+kept_by_kind a b k (Close c) r f = (k.cat c.item c.cat f.0, sym ((r refl).close c.item) ∙ f.1, f.2 ∙ ap (option_map (λ (m : Core). m.id)) ((r refl).best c.item))
+kept_by_kind a b k (Comment c) r f = (k.item c.item f.0, k.user c.from f.1, k.user c.to f.2)
+kept_by_kind a b k (Restock x) r f = k.item x.item f
+kept_by_kind a b k (Rename x) r f = (sym ((r refl).nick x.user) ∙ f.0, sym ((r refl).named x.to) ∙ f.1)
+
+-- ---- what it says of rows
+
+not_there : {X : Type 0} (o : Option X) → IsSome o → o ≡ None → ⊥
+not_there None s e = absurd (true≢false (sym s))
+not_there (Some x) s e = absurd cc
+
+-- a test of two ids fails where one names a row and the other has none
+other_user : (u v : Id) (a : List Core) → user_at u a ≡ None → IsSome (user_at v a) → same_id u v ≡ false
+other_user u v a e s =
+    elim (same_id u v) as (λ b. same_id u v ≡ b → b ≡ false) [ true ↦ λ h. absurd (not_there (user_at v a) s (subst (λ w. user_at w a ≡ None) ((Decides-same_id u v).0 h) e)) | false ↦ λ h. refl ] refl
+
+other_item : (u v : Id) (a : List Core) → item_at u a ≡ None → IsSome (item_at v a) → same_id u v ≡ false
+other_item u v a e s =
+    elim (same_id u v) as (λ b. same_id u v ≡ b → b ≡ false) [ true ↦ λ h. absurd (not_there (item_at v a) s (subst (λ w. item_at w a ≡ None) ((Decides-same_id u v).0 h) e)) | false ↦ λ h. refl ] refl
+
+mapped_some : {X Y : Type 0} (f : X → Y) (o : Option X) (y : Y) → option_map f o ≡ Some y → IsSome o
+mapped_some f None y e = absurd cc
+mapped_some f (Some x) y e = refl
+
+pub record SaysNothingOfUser (u : Id) (x : Shadow) : Type 0 where
+  pub items : lists_item_of u x ≡ false
+  pub bought : bought_by u x ≡ 0
+  pub rating : rating_for u x ≡ pos 0
+  pub comments : rates u x ≡ false
+  pub rename : renames u x ≡ false
+
+pub record SaysNothingOfItem (i : Id) (x : Shadow) : Type 0 where
+  pub sold : sold_of i x ≡ 0
+  pub restocked : restocked_of i x ≡ 0
+  pub bids : bids_on i x ≡ false
+  pub close : closes i x ≡ false
+
+pub nothing_of_user : (u : Id) (a : List Core) (x : Shadow) → FitsByKind a x → user_at u a ≡ None → SaysNothingOfUser u x
+nothing_of_user u a (Item n) f e = record { items = other_user u n.seller a e f; bought = refl; rating = refl; comments = refl; rename = refl }
+nothing_of_user u a (Buy p) f e =
+    record { items = refl; bought = ap (λ b. cond b p.quantity 0) (other_user u p.buyer a e f.1); rating = refl; comments = refl; rename = refl }
+nothing_of_user u a (Comment c) f e =
+    record { items = refl; bought = refl; rating = ap (λ b. cond b c.rating (pos 0)) (other_user u c.to a e f.2); comments = other_user u c.to a e f.2; rename = refl }
+nothing_of_user u a (Rename r) f e =
+    record { items = refl; bought = refl; rating = refl; comments = refl; rename = other_user u r.user a e (some_nick r.user a r.from f.0) }
+nothing_of_user u a x f e = record { items = refl; bought = refl; rating = refl; comments = refl; rename = refl }
+
+pub nothing_of_item : (i : Id) (a : List Core) (x : Shadow) → FitsByKind a x → item_at i a ≡ None → SaysNothingOfItem i x
+nothing_of_item i a (Bid b) f e = record { sold = refl; restocked = refl; bids = other_item i b.item a e f.0; close = refl }
+nothing_of_item i a (Buy p) f e = record { sold = ap (λ b. cond b p.quantity 0) (other_item i p.item a e f.0); restocked = refl; bids = refl; close = refl }
+nothing_of_item i a (Close c) f e = record { sold = refl; restocked = refl; bids = refl; close = other_item i c.item a e (mapped_some _ _ _ f.0) }
+nothing_of_item i a (Restock r) f e =
+    record { sold = refl; restocked = ap (λ b. cond b r.quantity 0) (other_item i r.item a e f); bids = refl; close = refl }
+nothing_of_item i a x f e = record { sold = refl; restocked = refl; bids = refl; close = refl }
+
+pub bought_in : (u : Id) (x : Shadow) → IsLimited x → bought_by u x ≤ 1000000
+bought_in u (Buy p) h = elim (same_id u p.buyer) as (λ b. cond b p.quantity 0 ≤ 1000000) [ true ↦ h.1.quantity.small | false ↦ omega arith ]
+bought_in u x h = omega arith
+
+pub sold_in : (i : Id) (x : Shadow) → IsLimited x → sold_of i x ≤ 1000000
+sold_in i (Buy p) h = elim (same_id i p.item) as (λ b. cond b p.quantity 0 ≤ 1000000) [ true ↦ h.1.quantity.small | false ↦ omega arith ]
+sold_in i x h = omega arith
+
+pub restocked_in : (i : Id) (x : Shadow) → IsLimited x → restocked_of i x ≤ 1000000
+restocked_in i (Restock r) h = elim (same_id i r.item) as (λ b. cond b r.quantity 0 ≤ 1000000) [ true ↦ h.1.1.small | false ↦ omega arith ]
+restocked_in i x h = omega arith
+
+pub rated_in : (u : Id) (x : Shadow) → IsLimited x → unsigned_abs (rating_for u x) ≤ 5
+rated_in u (Comment c) h = elim (same_id u c.to) as (λ b. unsigned_abs (cond b c.rating (pos 0)) ≤ 5) [ true ↦ h.1.rating | false ↦ omega arith ]
+rated_in u x h = omega arith

@@ -8,7 +8,7 @@ use mathlib.Core.Bool.{true≢false}
 use Rattle.rubis_schema.specs.declared.ids.Id.{Id}
 use Rattle.rubis_shadow.specs.declared.shadows.NewItem.{NewItem}
 use Rattle.rubis_shadow.specs.declared.shadows.Shadow.{Shadow}
-use Rattle.rubis_shadow.specs.declared.shadows.Shadow.TheVariants.{User, Item, Bid, Buy, Close, Comment, Restock, Rename}
+use Rattle.rubis_shadow.specs.declared.shadows.Shadow.TheVariants.{Buy}
 use Rattle.rubis_model.specs.Log.{Core}
 use Rattle.rubis_schema.specs.Keys.{same_id}
 use Rattle.rubis_model.specs.Meaning.{when, at_id, as_item, user_at, item_at, total, sold_of, restocked_of, choose, last_rename, nick_after, nick_at, renames, is_same_nick, as_user, supply, named, best_bid, close_of, bids_on, closes, earlier}
@@ -16,7 +16,7 @@ use Rattle.rubis_shadow.specs.Shadows.{is_red}
 use Rattle.rubis_model.specs.Checks.{Fits}
 use Rattle.rubis_schema.specs.KeyLaws.{Decides-same_id}
 use Rattle.rubis_laws.proofs.Rows.Nicks.{nick_user}
-use Rattle.rubis_laws.proofs.Order.FitsByKind.{FitsByKind, by_kind, from_kind}
+use Rattle.rubis_laws.proofs.Order.FitsByKind.{Keeps, KeepsReds, by_kind, from_kind, kept_by_kind}
 use Rattle.rubis_laws.proofs.Rows.Sets.{Member, OneEach, member_append, member_left, member_right, apart, at_member, split_at, same_total}
 use Rattle.rubis_laws.proofs.Rows.Choices.{Ranks, IsChoice, choose_is, earlier_ranks, later_ranks, higher_ranks, earlier_apart, later_apart, higher_apart}
 use Rattle.rubis_laws.proofs.Rows.EqualSets.{OneRed, bid_red, close_red, rename_red, user_red, some_is}
@@ -153,17 +153,11 @@ module _ (a b : List Core) (within : (m : Core) → Member a m → Member b m) (
       at None e k = absurd cc
       at (Some n) e k = ap (option_map (λ (n : NewItem). n.cat)) (still (λ m. as_item m.shadow) i n e) ∙ k
 
-  on_kind : (x : Shadow) → (is_red x ≡ true → (m : Core) → Member b m → is_red m.shadow ≡ true → Member a m) → FitsByKind a x → FitsByKind b x
-  on_kind (User n) r f = sym (same_named (r refl) n) ∙ f
-  on_kind (Item n) r f = still_some _ n.seller f
-  on_kind (Bid x) r f = (still_some _ x.item f.0, still_some _ x.bidder f.1, sym (same_close (r refl) x.item) ∙ f.2)
-  on_kind (Buy p) r f =
-      (still_some _ p.item f.0, still_some _ p.buyer f.1, sym (same_close (r refl) p.item) ∙ f.2, buy_still_fits (r refl) p.item p.quantity f.0 f.3)
-  on_kind (Close c) r f =
-      (same_cat c.item c.cat f.0, sym (same_close (r refl) c.item) ∙ f.1, f.2 ∙ ap (option_map (λ (m : Core). m.id)) (same_best (r refl) c.item))
-  on_kind (Comment c) r f = (still_some _ c.item f.0, still_some _ c.from f.1, still_some _ c.to f.2)
-  on_kind (Restock k) r f = still_some _ k.item f
-  on_kind (Rename k) r f = (sym (same_holder (r refl) k.user) ∙ f.0, sym (same_named (r refl) k.to) ∙ f.1)
+  keeps : Keeps a b
+  keeps = record { user = λ i h. still_some (λ m. as_user m.shadow) i h; item = λ i h. still_some (λ m. as_item m.shadow) i h; cat = same_cat }
+
+  keeps_reds : ((m : Core) → Member b m → is_red m.shadow ≡ true → Member a m) → KeepsReds a b
+  keeps_reds r = record { close = same_close r; best = same_best r; nick = same_holder r; named = same_named r; stock = buy_still_fits r }
 
   pub fits_on : (x : Shadow) → (is_red x ≡ true → (m : Core) → Member b m → is_red m.shadow ≡ true → Member a m) → Fits a x → Fits b x
-  fits_on x r f = from_kind b x (on_kind x r (by_kind a x f))
+  fits_on x r f = from_kind b x (kept_by_kind a b keeps x (λ e. keeps_reds (r e)) (by_kind a x f))

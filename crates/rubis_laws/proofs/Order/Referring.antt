@@ -6,7 +6,7 @@ use mathlib.Core.Bool.{true≢false}
 use Rattle.rubis_schema.specs.declared.ids.Id.{Id}
 use Rattle.rubis_schema.specs.declared.row_keys.RowKey.{RowKey}
 use Rattle.rubis_schema.specs.declared.row_keys.RowKey.TheVariants as key
-use Rattle.rubis_shadow.specs.Parts.{refers_of}
+use Rattle.rubis_shadow.specs.Shadows.{refers_of}
 use Rattle.rubis_shadow.specs.declared.shadows.Shadow.{Shadow}
 use Rattle.rubis_shadow.specs.declared.shadows.Shadow.TheVariants.{Close}
 use Rattle.rubis_message.specs.Message.{Message}

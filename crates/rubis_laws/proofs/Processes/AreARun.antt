@@ -21,8 +21,8 @@ use Rattle.rubis_schema.specs.declared.row_keys.RowKey.{RowKey}
 use Rattle.rubis_schema.specs.declared.row_keys.RowKey.TheVariants as key
 use Rattle.rubis_schema.specs.declared.rows.Row.{Row}
 use Rattle.rubis_schema.specs.declared.rows.Row.TheVariants as row
-use Rattle.rubis_shadow.specs.declared.asks.Ask.{Ask}
-use Rattle.rubis_shadow.specs.declared.asks.Ask.TheVariants as ask
+use Rattle.rubis_shadow.specs.declared.shadows.Ask.{Ask}
+use Rattle.rubis_shadow.specs.declared.shadows.Ask.TheVariants as ask
 use Rattle.rubis_shadow.specs.declared.numbered.Misfit.{Misfit}
 use Rattle.rubis_shadow.specs.declared.shadows.Shadow.{Shadow}
 use Rattle.rubis_generate.specs.Decision.{decision, refused_or}
@@ -254,13 +254,7 @@ first_due false o x e = absurd (true≢false (sym e))
 -- Full is the first of the refusals of any ask
 full_first : (t : Rows) (s : Standing) (a : Ask) → s.full ≡ true → decision t s a ≡ Err Full
 full_first t s (ask.User n) e = first_due s.full _ _ e
-full_first t s (ask.Item n) e = first_due s.full _ _ e
-full_first t s (ask.Bid b) e = first_due s.full _ _ e
-full_first t s (ask.Buy p) e = first_due s.full _ _ e
-full_first t s (ask.Close c) e = first_due s.full _ _ e
-full_first t s (ask.Comment c) e = first_due s.full _ _ e
-full_first t s (ask.Restock r) e = first_due s.full _ _ e
-full_first t s (ask.Rename r) e = first_due s.full _ _ e
+full_first t s a e = first_due s.full _ _ e
 
 -- a site that isn't full isn't where it keeps more
 not_full_more : (keep : ℕ) (s : Replica) → keep ≤ 1000000 → is_full keep s ≡ false → is_full 1000000 s ≡ false

@@ -6,7 +6,7 @@ use mathlib.Core.Bool.{true≢false}
 use Rattle.rubis_schema.specs.declared.limits.TheConstants.{COUNTED_MAX}
 use Rattle.rubis_schema.specs.declared.refusals.Refusal.{Refusal}
 use Rattle.rubis_schema.specs.declared.refusals.Refusal.TheVariants.{BadTarget, LastTurn}
-use Rattle.rubis_shadow.specs.declared.asks.Ask.TheVariants as ask
+use Rattle.rubis_shadow.specs.declared.shadows.Ask.TheVariants as ask
 use Rattle.rubis_shadow.specs.declared.shadows.Shadow.{Shadow}
 use Rattle.rubis_generate.specs.Decision.{decision}
 use Rattle.rubis_message.specs.Grammar.{request_record}
@@ -66,15 +66,7 @@ first_word (word ∷ rest) = word
 
 asked_otherwise : (q : Request) → bytes_eq (first_word (request_record q)) (codes "msg") ≡ false
 asked_otherwise (request.Ask (ask.User n)) = refl
-asked_otherwise (request.Ask (ask.Item n)) = refl
-asked_otherwise (request.Ask (ask.Bid b)) = refl
-asked_otherwise (request.Ask (ask.Buy p)) = refl
-asked_otherwise (request.Ask (ask.Close c)) = refl
-asked_otherwise (request.Ask (ask.Comment c)) = refl
-asked_otherwise (request.Ask (ask.Restock r)) = refl
-asked_otherwise (request.Ask (ask.Rename r)) = refl
-asked_otherwise (request.Pass to) = refl
-asked_otherwise (request.List l) = refl
+asked_otherwise q = refl
 
 module _ (sites : ℕ) (top : sites ≤ COUNTED_MAX) where
   not_both : (fields : List (List ℕ)) (m : Message) (q : Request) → packet_of sites fields ≡ Some (packet.Msg m) → request_of sites fields ≡ Some q → ⊥

@@ -1,31 +1,37 @@
 -- A shadow that was decided is decided again at the same rows, by the ask that is read off it.
-use Rattle.std.proofs.Common.{◌≡◌, ◌∙◌, List, [], ◌∷◌, Bool, true, false, cond, not, refl, sym, ap, inl, inr, Option, Some, None}
-use Rattle.std.specs.Prelude.{Ok, find, is_none, option_and_then, option_map}
+use Rattle.std.proofs.Common.{◌≡◌, ◌∙◌, ℕ, List, [], ◌∷◌, Bool, true, false, cond, decimal, not, refl, sym, ap, inl, inr, Option, Some, None}
+use Rattle.std.specs.Prelude.{◌||◌, Ok, codes, find, is_none, option_and_then, option_map}
+use Rattle.std.specs.List.{All, list_any}
 use Rattle.std.specs.Option.{option_map_or, option_or}
+use Rattle.std.proofs.lemmas.List.Elements.{All-head}
 use Rattle.std.proofs.lemmas.Option.{same_Some}
 use mathlib.Core.Bool.{true≢false}
+use Rattle.rubis_schema.specs.Ids.{IsId, id_text}
 use Rattle.rubis_schema.specs.Keys.{same_id}
 use Rattle.rubis_schema.specs.KeyLaws.{Decides-same_id}
 use Rattle.rubis_schema.specs.declared.ids.Id.{Id}
 use Rattle.rubis_schema.specs.declared.rows.ItemRow.{ItemRow}
 use Rattle.rubis_schema.specs.declared.refusals.Refusal.{Refusal}
 use Rattle.rubis_schema.specs.declared.refusals.Refusal.TheVariants.{BadRecord, Full, NoToken, RedBehind, NickTaken, NoUser, NoItem, Closed, LowBid, StockShort, NotSeller, OwnItem, NoBuyNow, SelfComment, BadTarget, LastTurn, NotOurs, NotForMe, BadEvent, NoSuchPacket}
-use Rattle.rubis_shadow.specs.Shadows.{is_red}
-use Rattle.rubis_shadow.specs.declared.asks.Ask.{Ask}
-use Rattle.rubis_shadow.specs.declared.asks.Ask.TheVariants as ask
+use Rattle.rubis_shadow.specs.Shadows.{InLimits, is_red, refers_of, winner_key}
+use Rattle.rubis_shadow.specs.declared.shadows.Ask.{Ask}
+use Rattle.rubis_shadow.specs.declared.shadows.Ask.TheVariants as ask
 use Rattle.rubis_shadow.specs.declared.shadows.Shadow.{Shadow}
+use Rattle.rubis_shadow.specs.declared.shadows.Shadow.TheVariants as shadow
 use Rattle.rubis_generate.specs.Decision.{decision, is_due, order_of, refused_or, shadow_of}
 use Rattle.rubis_generate.specs.Lookup.{Rows, as_item_row, item_in}
 use Rattle.rubis_generate.specs.declared.standing.Standing.{Standing}
 use Rattle.rubis_generate.proofs.Granted.{granted}
-use Rattle.rubis_model.specs.Rebuild.{ask_of, seller_in}
+use Rattle.rubis_model.specs.Rebuild.{AsksAreReadOff, ask_of, asked_fields, seller_in}
 use Rattle.rubis_model.specs.Log.{Core, core, cores}
 use Rattle.rubis_model.specs.Meaning.{as_item, item_at, item_row, meaning_row, when}
 use Rattle.rubis_model.specs.Settle.{Has}
 use Rattle.rubis_laws.proofs.Rows.Cores.{core_of, has_core}
 use Rattle.rubis_laws.proofs.Order.Fitting.{found_at}
 use Rattle.rubis_laws.proofs.Rows.Sets.{Member}
+use Rattle.rubis_message.specs.Grammar.{HasShadowTexts, IsRequest, ask_record, shadow_fields}
 use Rattle.rubis_message.specs.Message.{Message}
+use Rattle.rubis_message.specs.declared.requests.Request.TheVariants as request
 use Rattle.rubis_schema.specs.declared.row_keys.RowKey.{RowKey}
 use Rattle.rubis_schema.specs.declared.row_keys.RowKey.TheVariants as key
 use Rattle.rubis_shadow.specs.declared.shadows.NewItem.{NewItem}
@@ -44,45 +50,36 @@ find_none p [] h = refl
 find_none p (x ∷ xs) h = ap (λ b. cond b (Some x) (find p xs)) (h x (inl refl)) ∙ find_none p xs (λ r k. h r (inr k))
 
 -- only red asks can be refused for want of the token
+abbrev is_for_token : Refusal → Bool
+is_for_token NoToken = true
+is_for_token r = false
+
+abbrev is_for_behind : Refusal → Bool
+is_for_behind RedBehind = true
+is_for_behind r = false
+
+or_later : (a b : Bool) → b ≡ true → (a || b) ≡ true
+or_later true b e = refl
+or_later false b e = e
+
+any_of : (p : Refusal → Bool) (r : Refusal) (rs : List Refusal) → p r ≡ true → Has r rs → list_any p rs ≡ true
+any_of p r [] t h = absurd h
+any_of p r (x ∷ rs) t (inl e) = ap (λ b. b || list_any p rs) (ap p (sym e) ∙ t)
+any_of p r (x ∷ rs) t (inr h) = or_later (p x) (list_any p rs) (any_of p r rs t h)
+
+token_named : (t : Rows) (a : Ask) → list_any is_for_token (order_of a) ≡ is_red (shadow_of t a)
+token_named t (ask.User n) = refl
+token_named t a = refl
+
+behind_named : (t : Rows) (a : Ask) → list_any is_for_behind (order_of a) ≡ is_red (shadow_of t a)
+behind_named t (ask.User n) = refl
+behind_named t a = refl
+
 token_red : (t : Rows) (a : Ask) → Has NoToken (order_of a) → is_red (shadow_of t a) ≡ true
-token_red t (ask.User n) h = refl
-token_red t (ask.Item n) (inl e) = absurd (cc)
-token_red t (ask.Item n) (inr (inl e)) = absurd (cc)
-token_red t (ask.Item n) (inr (inr h)) = absurd h
-token_red t (ask.Bid b) h = refl
-token_red t (ask.Buy p) h = refl
-token_red t (ask.Close c) h = refl
-token_red t (ask.Comment c) (inl e) = absurd (cc)
-token_red t (ask.Comment c) (inr (inl e)) = absurd (cc)
-token_red t (ask.Comment c) (inr (inr (inl e))) = absurd (cc)
-token_red t (ask.Comment c) (inr (inr (inr (inl e)))) = absurd (cc)
-token_red t (ask.Comment c) (inr (inr (inr (inr h)))) = absurd h
-token_red t (ask.Restock r) (inl e) = absurd (cc)
-token_red t (ask.Restock r) (inr (inl e)) = absurd (cc)
-token_red t (ask.Restock r) (inr (inr (inl e))) = absurd (cc)
-token_red t (ask.Restock r) (inr (inr (inr (inl e)))) = absurd (cc)
-token_red t (ask.Restock r) (inr (inr (inr (inr h)))) = absurd h
-token_red t (ask.Rename r) h = refl
+token_red t a h = sym (token_named t a) ∙ any_of is_for_token NoToken (order_of a) refl h
 
 behind_red : (t : Rows) (a : Ask) → Has RedBehind (order_of a) → is_red (shadow_of t a) ≡ true
-behind_red t (ask.User n) h = refl
-behind_red t (ask.Item n) (inl e) = absurd (cc)
-behind_red t (ask.Item n) (inr (inl e)) = absurd (cc)
-behind_red t (ask.Item n) (inr (inr h)) = absurd h
-behind_red t (ask.Bid b) h = refl
-behind_red t (ask.Buy p) h = refl
-behind_red t (ask.Close c) h = refl
-behind_red t (ask.Comment c) (inl e) = absurd (cc)
-behind_red t (ask.Comment c) (inr (inl e)) = absurd (cc)
-behind_red t (ask.Comment c) (inr (inr (inl e))) = absurd (cc)
-behind_red t (ask.Comment c) (inr (inr (inr (inl e)))) = absurd (cc)
-behind_red t (ask.Comment c) (inr (inr (inr (inr h)))) = absurd h
-behind_red t (ask.Restock r) (inl e) = absurd (cc)
-behind_red t (ask.Restock r) (inr (inl e)) = absurd (cc)
-behind_red t (ask.Restock r) (inr (inr (inl e))) = absurd (cc)
-behind_red t (ask.Restock r) (inr (inr (inr (inl e)))) = absurd (cc)
-behind_red t (ask.Restock r) (inr (inr (inr (inr h)))) = absurd h
-behind_red t (ask.Rename r) h = refl
+behind_red t a h = sym (behind_named t a) ∙ any_of is_for_behind RedBehind (order_of a) refl h
 
 -- a refusal that wasn't due isn't due where the site stands as well
 due_again : (t : Rows) (s u : Standing) (a : Ask) → u.full ≡ false → (is_red (shadow_of t a) ≡ true → (u.holds ≡ true) × (u.current ≡ true))
@@ -128,22 +125,37 @@ asked_seller None u s e f k = absurd (true≢false e)
 asked_seller (Some i) u s e f k = k i refl ∙ seller_is (Some i) u s e f
 
 pub same_ask : (t : Rows) (s : Standing) (all : List Message) → TellSellers all t → (a : Ask) → find (is_due t s a) (order_of a) ≡ None → ask_of all (shadow_of t a) ≡ a
-same_ask t s all k (ask.User n) e = refl
-same_ask t s all k (ask.Item n) e = refl
-same_ask t s all k (ask.Bid b) e = refl
-same_ask t s all k (ask.Buy p) e = refl
 same_ask t s all k (ask.Close c) e =
     let seller = asked_seller (item_in t c.item) c.seller (seller_in all c.item)
     (none_found (is_due t s (ask.Close c)) (order_of (ask.Close c)) e NoItem (inr (inr (inr (inl refl)))))
     (none_found (is_due t s (ask.Close c)) (order_of (ask.Close c)) e NotSeller (inr (inr (inr (inr (inl refl)))))) (k c.item) in
     λ j. ask.Close (record { item = c.item; seller = seller j })
-same_ask t s all k (ask.Comment c) e = refl
 same_ask t s all k (ask.Restock r) e =
     let seller = asked_seller (item_in t r.item) r.seller (seller_in all r.item)
     (none_found (is_due t s (ask.Restock r)) (order_of (ask.Restock r)) e NoItem (inr (inl refl)))
     (none_found (is_due t s (ask.Restock r)) (order_of (ask.Restock r)) e NotSeller (inr (inr (inl refl)))) (k r.item) in
     λ j. ask.Restock (record { item = r.item; seller = seller j; quantity = r.quantity })
-same_ask t s all k (ask.Rename r) e = refl
+same_ask t s all k a e = refl
+
+-- ---- it is read off the message's record, and can be said
+
+pub asks_are_read_off : AsksAreReadOff
+asks_are_read_off all m seller same = by m.shadow
+  where
+    by : (x : Shadow) → ask_record (ask_of all x) ≡ asked_fields seller (shadow_fields x)
+    by (shadow.Close c) = ap (λ t. codes "close" ∷ id_text c.item ∷ t ∷ []) (sym (same c.item))
+    by (shadow.Restock r) = ap (λ t. codes "restock" ∷ id_text r.item ∷ t ∷ decimal r.quantity ∷ []) (sym (same r.item))
+    by x = refl
+
+-- where the sellers of the items that it refers to are within the limits
+pub ask_in_limits : (sites : ℕ) (all : List Message) (Known : RowKey → Type 0) → ((j : Id) → Known (key.Item j) → IsId sites (seller_in all j))
+    → (x : Shadow) → InLimits sites x → HasShadowTexts x → All Known (refers_of x) → IsRequest sites (request.Ask (ask_of all x))
+ask_in_limits sites all Known seller (shadow.Close c) h t r = ((h.0, seller c.item (All-head Known (key.Item c.item) (winner_key c.winner) r)), tt)
+ask_in_limits sites all Known seller (shadow.Restock q) h t r = ((h.0, seller q.item (All-head Known (key.Item q.item) [] r), h.1), tt)
+ask_in_limits sites all Known seller (shadow.Rename q) h t r = (h.0, t.1)
+ask_in_limits sites all Known seller x h t r = (h, t)
+
+-- ---- it is asked again
 
 pub asks_same : (t : Rows) (s : Standing) (all : List Message) → TellSellers all t → (a : Ask) (x : Shadow) → decision t s a ≡ Ok x → ask_of all x ≡ a
 asks_same t s all k a x e = let g = granted t s a x e in ap (ask_of all) (sym g.1) ∙ same_ask t s all k a g.0

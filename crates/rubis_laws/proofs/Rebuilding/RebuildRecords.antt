@@ -1,26 +1,22 @@
 -- The records that a fresh site is given are read as the inputs that rebuild it.
 use Rattle.std.proofs.Common.{◌≡◌, ◌∙◌, ℕ, ◌+◌, ◌≤◌, ◌<◌, Bool, true, false, cond, Option, Some, None, List, [], ◌∷◌, ◌++◌, length, refl, sym, ap, subst, inl, inr, ⊎_elim, arith}
-use Rattle.std.specs.Prelude.{⊤, ◌==◌, IsSome, is_some, ◌^◌, codes, decimal, filter, map, Result, Ok, Err}
-use Rattle.std.specs.List.{All}
+use Rattle.std.specs.Prelude.{⊤, ◌==◌, IsSome, is_some, ◌^◌, filter, map, Result, Ok, Err}
 use Rattle.std.specs.Option.{option_map_or, option_or}
 use Rattle.std.proofs.lemmas.Bool.{eqb-true, true≢false}
-use Rattle.std.proofs.lemmas.List.Elements.{All-head}
-use Rattle.rubis_schema.specs.Ids.{IsId, id_text}
+use Rattle.rubis_schema.specs.Ids.{IsId}
 use Rattle.rubis_schema.specs.Keys.{same_id}
 use Rattle.rubis_schema.specs.KeyLaws.{Decides-same_id}
 use Rattle.rubis_schema.specs.declared.ids.Id.{Id}
 use Rattle.rubis_schema.specs.declared.limits.TheConstants.{COUNTED_MAX}
 use Rattle.rubis_schema.specs.declared.refusals.Refusal.{Refusal}
 use Rattle.rubis_schema.specs.declared.row_keys.RowKey.TheVariants as key
-use Rattle.rubis_shadow.specs.Limits.{InLimits}
-use Rattle.rubis_shadow.specs.Parts.{refers_of, winner_key}
-use Rattle.rubis_shadow.specs.Shadows.{is_red}
-use Rattle.rubis_shadow.specs.declared.asks.Ask.{Ask}
+use Rattle.rubis_shadow.specs.Shadows.{InLimits, is_red}
+use Rattle.rubis_shadow.specs.declared.shadows.Ask.{Ask}
 use Rattle.rubis_shadow.specs.declared.shadows.NewItem.{NewItem}
 use Rattle.rubis_shadow.specs.declared.shadows.Shadow.{Shadow}
 use Rattle.rubis_shadow.specs.declared.shadows.Shadow.TheVariants as shadow
 use Rattle.rubis_generate.specs.Decision.{decision}
-use Rattle.rubis_message.specs.Grammar.{HasShadowTexts, IsPacket, IsRequest, ask_record, packet_record, request_record, shadow_fields}
+use Rattle.rubis_message.specs.Grammar.{IsPacket, IsRequest, packet_record, request_record}
 use Rattle.rubis_message.specs.Message.{Message}
 use Rattle.rubis_message.specs.Readings.{packet_of, request_of}
 use Rattle.rubis_message.specs.declared.answers.Arrival.{Arrival}
@@ -40,7 +36,7 @@ use Rattle.rubis_model.specs.Log.{Core, cores}
 use Rattle.rubis_model.specs.Meaning.{as_item, item_at, when}
 use Rattle.rubis_model.specs.Processes.{site_after}
 use Rattle.rubis_model.specs.Rebuild.{Concerns, after_inputs, ask_of, inputs_before, inputs_for, inputs_to_rebuild, is_lacking, lacking, next_token, seller_in, sent_again, sent_by, sent_here, sent_on, sent_on_inputs, token_as, token_before}
-use Rattle.rubis_model.specs.RebuildRecords.{AreWritten, AsksAreReadOff, RecordsRebuild, asked_fields, input_record, is_send}
+use Rattle.rubis_model.specs.RebuildRecords.{AreWritten, RecordsRebuild, input_record, is_send}
 use Rattle.rubis_model.specs.References.{IsMadeBy, Preceded}
 use Rattle.rubis_model.specs.Runs.{Input, answers, input_by, input_of, input_step}
 use Rattle.rubis_model.specs.Runs.Input.{Asked, Came, Neither}
@@ -55,6 +51,7 @@ use Rattle.rubis_laws.proofs.Rows.Cores.{core_of, has_core}
 use Rattle.rubis_laws.proofs.Runs.Delivering.{coming_sent}
 use Rattle.rubis_laws.proofs.Order.Fitting.{found_at}
 use Rattle.rubis_laws.proofs.Runs.SoundSteps.{at_one, event_keeps, event_sites, start_sites, start_sound}
+use Rattle.rubis_laws.proofs.Rebuilding.AskedAgain.{ask_in_limits}
 use Rattle.rubis_laws.proofs.Rebuilding.TwoWorlds.{at_inside, filter_has}
 use Rattle.rubis_laws.proofs.Rebuilding.RebuildInputs.{inputs_rebuild}
 use Rattle.rubis_laws.proofs.Rebuilding.Rebuilt.{next_is}
@@ -62,21 +59,6 @@ use Rattle.rubis_laws.proofs.Rebuilding.RebuiltSites.{sites_are_rebuilt}
 use Rattle.rubis_laws.proofs.Runs.EveryRun.{refers, sound_run}
 use Rattle.rubis_laws.proofs.Rows.Sets.{Member}
 use Rattle.rubis_laws.proofs.Runs.Written.{AllPackets, event_written, written_event}
-
--- ---- the ask is read off the message
-
-pub asks_are_read_off : AsksAreReadOff
-asks_are_read_off all m seller same = by m.shadow
-  where
-    by : (x : Shadow) → ask_record (ask_of all x) ≡ asked_fields seller (shadow_fields x)
-    by (shadow.User n) = refl
-    by (shadow.Item n) = refl
-    by (shadow.Bid b) = refl
-    by (shadow.Buy p) = refl
-    by (shadow.Close c) = ap (λ t. codes "close" ∷ id_text c.item ∷ t ∷ []) (sym (same c.item))
-    by (shadow.Comment c) = refl
-    by (shadow.Restock r) = ap (λ t. codes "restock" ∷ id_text r.item ∷ t ∷ decimal r.quantity ∷ []) (sym (same r.item))
-    by (shadow.Rename r) = refl
 
 -- ---- inputs that are read back, and no listings
 
@@ -312,17 +294,7 @@ module _ (n keep i : ℕ) (few : keep ≤ 1000000) (w : World) (s : Sound w) (pa
           item_seller n u.0.shadow k (ap (λ (c : Core). as_item c.shadow) u.2 ∙ f.3) (limits u.0 (within u.0 u.1))
 
   can_ask : (v : Message) → Sent w v → v.stamp.id.site ≡ i → IsRequest n (request.Ask (ask_of all v.shadow))
-  can_ask v b o = by v.shadow (limits v b) (packets (packet.Msg v) b).2 (refers w s v b).0
-    where
-      by : (x : Shadow) → InLimits n x → HasShadowTexts x → All (λ k. Preceded (Sent w) v (IsMadeBy k)) (refers_of x) → IsRequest n (request.Ask (ask_of all x))
-      by (shadow.User y) h t r = (tt, t)
-      by (shadow.Item y) h t r = (h, t)
-      by (shadow.Bid y) h t r = (h, tt)
-      by (shadow.Buy y) h t r = (h, tt)
-      by (shadow.Close c) h t r = ((h.0, seller_is v b o c.item (All-head (λ k. Preceded (Sent w) v (IsMadeBy k)) (key.Item c.item) (winner_key c.winner) r)), tt)
-      by (shadow.Comment c) h t r = (h, t)
-      by (shadow.Restock q) h t r = ((h.0, seller_is v b o q.item (All-head (λ k. Preceded (Sent w) v (IsMadeBy k)) (key.Item q.item) [] r), h.1), tt)
-      by (shadow.Rename q) h t r = (h.0, t.1)
+  can_ask v b o = ask_in_limits n all (λ k. Preceded (Sent w) v (IsMadeBy k)) (seller_is v b o) v.shadow (limits v b) (packets (packet.Msg v) b).2 (refers w s v b).0
 
   -- ---- and so each input
   module _ (top : n ≤ COUNTED_MAX) (tokens : List Token) (told : (t : Token) → Has t tokens → Has (packet.Token t) w.sent) where

@@ -8,9 +8,8 @@ use Rattle.std.proofs.lemmas.Bool.Decides.{nat_tests}
 use Rattle.std.proofs.lemmas.List.{length-set, get_or-set_other}
 use Rattle.rubis_schema.specs.declared.refusals.Refusal.{Refusal}
 use Rattle.rubis_schema.specs.declared.refusals.Refusal.TheVariants.{NotForMe}
-use Rattle.rubis_shadow.specs.Limits.{IsAsk}
-use Rattle.rubis_shadow.specs.Shadows.{is_red}
-use Rattle.rubis_shadow.specs.declared.asks.Ask.{Ask}
+use Rattle.rubis_shadow.specs.Shadows.{IsAsk, is_red}
+use Rattle.rubis_shadow.specs.declared.shadows.Ask.{Ask}
 use Rattle.rubis_shadow.specs.declared.shadows.Shadow.{Shadow}
 use Rattle.rubis_message.specs.Message.{Message, dep}
 use Rattle.rubis_message.specs.declared.answers.Happened.{Happened}

@@ -5,7 +5,7 @@ use Rattle.std.specs.Option.{option_or}
 use Rattle.std.proofs.lemmas.Int.{ints}
 use mathlib.Core.Bool.{true≢false}
 use Rattle.rubis_schema.specs.declared.ids.Id.{Id}
-use Rattle.rubis_laws.proofs.Order.FitsByKind.{FitsByKind, by_kind}
+use Rattle.rubis_laws.proofs.Order.FitsByKind.{FitsByKind, bought_in, by_kind, nothing_of_item, nothing_of_user, rated_in, restocked_in, sold_in}
 use Rattle.rubis_laws.proofs.Rows.Heads.{Head, head_of, msg}
 use Rattle.rubis_shadow.specs.declared.shadows.NewItem.{NewItem}
 use Rattle.rubis_shadow.specs.Renames.{NewRename}
@@ -63,68 +63,6 @@ user_before u a m e = or_gives_none _ _ (sym (at_id_push (λ n. as_user n.shadow
 item_before : (i : Id) (a : List Core) (m : Core) → item_at i (a ++ m ∷ []) ≡ None → item_at i a ≡ None
 item_before i a m e = or_gives_none _ _ (sym (at_id_push (λ n. as_item n.shadow) i a m) ∙ e)
 
-not_there : {X : Type 0} (o : Option X) → IsSome o → o ≡ None → ⊥
-not_there None s e = absurd (true≢false (sym s))
-not_there (Some x) s e = absurd cc
-
--- a test of two ids fails where one names a row and the other has none
-other_user : (u v : Id) (a : List Core) → user_at u a ≡ None → IsSome (user_at v a) → same_id u v ≡ false
-other_user u v a e s =
-    elim (same_id u v) as (λ b. same_id u v ≡ b → b ≡ false) [ true ↦ λ h. absurd (not_there (user_at v a) s (subst (λ w. user_at w a ≡ None) ((Decides-same_id u v).0 h) e)) | false ↦ λ h. refl ] refl
-
-other_item : (u v : Id) (a : List Core) → item_at u a ≡ None → IsSome (item_at v a) → same_id u v ≡ false
-other_item u v a e s =
-    elim (same_id u v) as (λ b. same_id u v ≡ b → b ≡ false) [ true ↦ λ h. absurd (not_there (item_at v a) s (subst (λ w. item_at w a ≡ None) ((Decides-same_id u v).0 h) e)) | false ↦ λ h. refl ] refl
-
-mapped_some : {X Y : Type 0} (f : X → Y) (o : Option X) (y : Y) → option_map f o ≡ Some y → IsSome o
-mapped_some f None y e = absurd cc
-mapped_some f (Some x) y e = refl
-
-record SaysNothingOfUser (u : Id) (x : Shadow) : Type 0 where
-  items : lists_item_of u x ≡ false
-  bought : bought_by u x ≡ 0
-  rating : rating_for u x ≡ pos 0
-  comments : rates u x ≡ false
-  rename : renames u x ≡ false
-
-record SaysNothingOfItem (i : Id) (x : Shadow) : Type 0 where
-  sold : sold_of i x ≡ 0
-  restocked : restocked_of i x ≡ 0
-  bids : bids_on i x ≡ false
-  close : closes i x ≡ false
-
-nothing_of_user : (u : Id) (a : List Core) (x : Shadow) → FitsByKind a x → user_at u a ≡ None → SaysNothingOfUser u x
-nothing_of_user u a (Item n) f e = record { items = other_user u n.seller a e f; bought = refl; rating = refl; comments = refl; rename = refl }
-nothing_of_user u a (Buy p) f e =
-    record { items = refl; bought = ap (λ b. cond b p.quantity 0) (other_user u p.buyer a e f.1); rating = refl; comments = refl; rename = refl }
-nothing_of_user u a (Comment c) f e =
-    record { items = refl; bought = refl; rating = ap (λ b. cond b c.rating (pos 0)) (other_user u c.to a e f.2); comments = other_user u c.to a e f.2; rename = refl }
-nothing_of_user u a (Rename r) f e =
-    record { items = refl; bought = refl; rating = refl; comments = refl; rename = other_user u r.user a e (some_nick r.user a r.from f.0) }
-nothing_of_user u a x f e = record { items = refl; bought = refl; rating = refl; comments = refl; rename = refl }
-
-nothing_of_item : (i : Id) (a : List Core) (x : Shadow) → FitsByKind a x → item_at i a ≡ None → SaysNothingOfItem i x
-nothing_of_item i a (Bid b) f e = record { sold = refl; restocked = refl; bids = other_item i b.item a e f.0; close = refl }
-nothing_of_item i a (Buy p) f e = record { sold = ap (λ b. cond b p.quantity 0) (other_item i p.item a e f.0); restocked = refl; bids = refl; close = refl }
-nothing_of_item i a (Close c) f e = record { sold = refl; restocked = refl; bids = refl; close = other_item i c.item a e (mapped_some _ _ _ f.0) }
-nothing_of_item i a (Restock r) f e =
-    record { sold = refl; restocked = ap (λ b. cond b r.quantity 0) (other_item i r.item a e f); bids = refl; close = refl }
-nothing_of_item i a x f e = record { sold = refl; restocked = refl; bids = refl; close = refl }
-
--- ---- bounds
-
-pub bought_in : (u : Id) (x : Shadow) → IsLimited x → bought_by u x ≤ 1000000
-bought_in u (Buy p) h = elim (same_id u p.buyer) as (λ b. cond b p.quantity 0 ≤ 1000000) [ true ↦ h.1.quantity.small | false ↦ omega arith ]
-bought_in u x h = omega arith
-
-pub sold_in : (i : Id) (x : Shadow) → IsLimited x → sold_of i x ≤ 1000000
-sold_in i (Buy p) h = elim (same_id i p.item) as (λ b. cond b p.quantity 0 ≤ 1000000) [ true ↦ h.1.quantity.small | false ↦ omega arith ]
-sold_in i x h = omega arith
-
-pub restocked_in : (i : Id) (x : Shadow) → IsLimited x → restocked_of i x ≤ 1000000
-restocked_in i (Restock r) h = elim (same_id i r.item) as (λ b. cond b r.quantity 0 ≤ 1000000) [ true ↦ h.1.1.small | false ↦ omega arith ]
-restocked_in i x h = omega arith
-
 -- ---- stock
 
 pub if_some_map : {X : Type 0} {P Q : X → Type 0} (o : Option X) → ((x : X) → P x → Q x) → IfSome o P → IfSome o Q
@@ -169,10 +107,6 @@ stock_push a s (Item n) g f l i =
     (listed_stocked i a s n (item_at i a) l.1.stock.small (λ e. (g.no_item i e).sold) (g.stock i) (same_id i s.id))
 stock_push a s x g f l i =
     same_items i a (msg s x) refl (if_some_map (item_at i a) (λ n h. stocked i a (msg s x) 0 refl n (none_sold i a n h) h) (g.stock i))
-
-pub rated_in : (u : Id) (x : Shadow) → IsLimited x → unsigned_abs (rating_for u x) ≤ 5
-rated_in u (Comment c) h = elim (same_id u c.to) as (λ b. unsigned_abs (cond b c.rating (pos 0)) ≤ 5) [ true ↦ h.1.rating | false ↦ omega arith ]
-rated_in u x h = omega arith
 
 pub abs_sum : (a b : ℤ) → unsigned_abs (a +ℤ b) ≤ unsigned_abs a + unsigned_abs b
 abs_sum a b = grind (arith, ints)

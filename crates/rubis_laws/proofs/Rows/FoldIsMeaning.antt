@@ -13,7 +13,7 @@ use Rattle.rubis_shadow.specs.declared.shadows.Shadow.{Shadow}
 use Rattle.rubis_shadow.specs.declared.shadows.Shadow.TheVariants as shadow
 use Rattle.rubis_model.specs.Log.{Core, Folded, parts_of, noted, number_parts, numbered_from, fold_of, fold_on, step}
 use Rattle.rubis_shadow.specs.declared.shadows.NewItem.{NewItem}
-use Rattle.rubis_shadow.specs.declared.changes.Effect.{Effect}
+use Rattle.rubis_shadow.specs.declared.keyed_change.Effect.{Effect}
 use Rattle.rubis_shadow.specs.declared.changes.Change.{Change}
 use Rattle.rubis_shadow.specs.declared.changes.Change.TheVariants.{Insert, ItemListed, Bought, Rated, CatListed, CatEnded, BidTaken, Sold, End, Restocked, Renamed}
 use Rattle.rubis_schema.specs.declared.rows.Best.{Best}
@@ -26,7 +26,7 @@ use Rattle.rubis_schema.specs.Keys.{key_order, tied, key_eq}
 use Rattle.rubis_schema.specs.Tables.{Tables}
 use Rattle.rubis_shadow.specs.declared.numbered.Misfit.{Misfit}
 use Rattle.rubis_shadow.specs.Changes.{change_row, after_part, doing, misfit_of, fits_as, misfits_as}
-use Rattle.rubis_shadow.specs.Parts.{parts}
+use Rattle.rubis_shadow.specs.Shadows.{parts}
 use Rattle.rubis_shadow.specs.Tables.{opening, categories_from, new_category}
 use Rattle.rubis_model.specs.Meaning.{when, at_id, user_at, item_at, nick_at, as_user, as_item, as_bid, as_purchase, as_comment, close_of, best_bid, sold_of, bids_on, supply, total, count, user_row, item_row, category_row, meaning_row, IsMeaning}
 use Rattle.rubis_model.specs.Checks.{Follows, has_id, CheckedFrom, Checked}

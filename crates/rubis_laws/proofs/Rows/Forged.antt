@@ -16,11 +16,11 @@ use Rattle.rubis_schema.specs.declared.rows.Sale.{Sale}
 use Rattle.rubis_schema.specs.declared.rows.Sale.TheVariants.{Open, Ended}
 use Rattle.rubis_schema.specs.Keys.{same_id}
 use Rattle.rubis_shadow.specs.Changes.{change_row, count_up, better, if_open, fits_as, misfits_as, removed}
-use Rattle.rubis_shadow.specs.Parts.{parts, new_item}
+use Rattle.rubis_shadow.specs.Shadows.{parts, new_item}
 use Rattle.rubis_shadow.specs.Tables.{opening}
 use Rattle.rubis_shadow.specs.declared.changes.Change.{Change}
 use Rattle.rubis_shadow.specs.declared.changes.Change.TheVariants.{Insert, BidTaken, Sold, End, Restocked, NickFreed}
-use Rattle.rubis_shadow.specs.declared.changes.Effect.{Effect}
+use Rattle.rubis_shadow.specs.declared.keyed_change.Effect.{Effect}
 use Rattle.rubis_shadow.specs.declared.changes.MisfitKind.TheVariants.{StockShort, OtherUser}
 use Rattle.rubis_shadow.specs.declared.shadows.NewItem.{NewItem}
 use Rattle.rubis_shadow.specs.Renames.{NewRename}
@@ -209,10 +209,8 @@ item_after i m (shadow.Item k) o r l h = insert_keeps i k (same_id i m.id) o r h
 item_after i m (shadow.Bid b) o r l h = same_item i (same_id i m.id) (shadow.Bid b) o _ refl refl (change_keeps (AsBid (record { bid = m.id; amount = b.amount })) (same_id i b.item) o r (before i (same_id i m.id) (shadow.Bid b) o l) h)
 item_after i m (shadow.Buy p) o r l h = same_item i (same_id i m.id) (shadow.Buy p) o _ refl refl (change_keeps (AsSale p.quantity) (same_id i p.item) o r (before i (same_id i m.id) (shadow.Buy p) o l) h)
 item_after i m (shadow.Close c) o r l h = same_item i (same_id i m.id) (shadow.Close c) o _ refl refl (change_keeps (AsEnd c.winner) (same_id i c.item) o r (before i (same_id i m.id) (shadow.Close c) o l) h)
-item_after i m (shadow.User k) o r l h = same_item i (same_id i m.id) (shadow.User k) o _ refl refl h
-item_after i m (shadow.Comment c) o r l h = same_item i (same_id i m.id) (shadow.Comment c) o _ refl refl h
-item_after i m (shadow.Rename k) o r l h = same_item i (same_id i m.id) (shadow.Rename k) o _ refl refl h
 item_after i m (shadow.Restock k) o r l h = restock_keeps i k (same_id i m.id) o r l h
+item_after i m x o r l h = same_item i (same_id i m.id) x o _ refl refl h
 
 no_item : (i : Id) → map.get opening (key.Item i) ≡ None
 unfolding meaning_row

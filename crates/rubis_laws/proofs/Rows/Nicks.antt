@@ -9,7 +9,7 @@ use Rattle.rubis_schema.specs.declared.ids.Id.{Id}
 use Rattle.rubis_laws.proofs.Rows.Heads.{Head, msg}
 use Rattle.rubis_shadow.specs.Renames.{NewRename}
 use Rattle.rubis_shadow.specs.declared.shadows.Shadow.{Shadow}
-use Rattle.rubis_shadow.specs.declared.shadows.Shadow.TheVariants.{User, Item, Bid, Buy, Close, Comment, Restock, Rename}
+use Rattle.rubis_shadow.specs.declared.shadows.Shadow.TheVariants.{User, Rename}
 use Rattle.rubis_model.specs.Log.{Core}
 use Rattle.rubis_schema.specs.declared.rows.Row.{Row}
 use Rattle.rubis_schema.specs.declared.rows.Row.TheVariants as row
@@ -47,13 +47,8 @@ last_push n u a m e l h = choose_push later (λ k. renames u k.shadow) a m ∙ l
 -- it gives a user a nickname
 abbrev pub gives_nick : Shadow → Bool
 gives_nick (User n) = true
-gives_nick (Item n) = false
-gives_nick (Bid b) = false
-gives_nick (Buy p) = false
-gives_nick (Close c) = false
-gives_nick (Comment c) = false
-gives_nick (Restock r) = false
 gives_nick (Rename r) = true
+gives_nick x = false
 
 no_user : (x : Shadow) → gives_nick x ≡ false → as_user x ≡ None
 no_user (User n) e = absurd (true≢false e)

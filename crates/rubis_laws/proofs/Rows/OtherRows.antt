@@ -19,7 +19,7 @@ use Rattle.rubis_shadow.specs.declared.changes.MisfitKind.TheVariants.{OtherUser
 use Rattle.rubis_shadow.specs.Renames.{NewRename}
 use Rattle.rubis_schema.specs.Keys.{same_id}
 use Rattle.rubis_shadow.specs.Changes.{change_row, misfits_as, removed}
-use Rattle.rubis_shadow.specs.Parts.{parts}
+use Rattle.rubis_shadow.specs.Shadows.{parts}
 use Rattle.rubis_model.specs.Meaning.{count, when, at_id, as_bid, as_purchase, as_comment, as_user, nick_at, is_same_nick, named, lists_in, closes_in, category_row, meaning_row}
 use Rattle.rubis_model.specs.Checks.{Follows, has_id}
 use Rattle.rubis_schema.specs.KeyLaws.{Decides-same_id}

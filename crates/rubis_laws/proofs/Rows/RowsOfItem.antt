@@ -19,10 +19,9 @@ use Rattle.rubis_schema.specs.declared.rows.Sale.TheVariants.{Open}
 use Rattle.rubis_shadow.specs.declared.changes.Change.TheVariants.{Insert, BidTaken, Sold, End, Restocked}
 use Rattle.rubis_schema.specs.Keys.{same_id}
 use Rattle.rubis_shadow.specs.Changes.{change_row, better, fits_as, misfits_as}
-use Rattle.rubis_shadow.specs.Parts.{parts, new_item}
+use Rattle.rubis_shadow.specs.Shadows.{parts, new_item, is_red}
 use Rattle.rubis_shadow.specs.declared.changes.MisfitKind.TheVariants.{StockShort}
 use Rattle.rubis_model.specs.Meaning.{count, total, choice, when, at_id, item_at, as_item, sold_of, restocked_of, bids_on, closes, best_bid, close_of, best_of, sale_after, supply, item_row, meaning_row, higher, earlier, amount_of}
-use Rattle.rubis_shadow.specs.Shadows.{is_red}
 use Rattle.rubis_model.specs.Checks.{Follows}
 use Rattle.rubis_schema.specs.KeyLaws.{Decides-same_id}
 use Rattle.rubis_laws.proofs.Rows.Pushes.{count_push, total_push, choose_push, choice_not, or_none, at_id_push_not, at_id_push, none_at}

@@ -9,7 +9,7 @@ use Rattle.rubis_laws.proofs.Rows.Heads.{Head, msg}
 use Rattle.rubis_shadow.specs.declared.shadows.Shadow.{Shadow}
 use Rattle.rubis_shadow.specs.declared.shadows.Shadow.TheVariants as shadow
 use Rattle.rubis_model.specs.Log.{Core}
-use Rattle.rubis_shadow.specs.declared.changes.Effect.{Effect}
+use Rattle.rubis_shadow.specs.declared.keyed_change.Effect.{Effect}
 use Rattle.rubis_schema.specs.declared.rows.Row.{Row}
 use Rattle.rubis_schema.specs.declared.rows.Row.TheVariants as row
 use Rattle.rubis_schema.specs.declared.row_keys.RowKey.{RowKey}
@@ -17,7 +17,7 @@ use Rattle.rubis_schema.specs.declared.row_keys.RowKey.TheVariants as key
 use Rattle.rubis_shadow.specs.declared.changes.Change.TheVariants.{Insert, ItemListed, Bought, Rated, Renamed}
 use Rattle.rubis_schema.specs.Keys.{same_id, key_eq}
 use Rattle.rubis_shadow.specs.Changes.{change_row, saturated}
-use Rattle.rubis_shadow.specs.Parts.{parts}
+use Rattle.rubis_shadow.specs.Shadows.{parts}
 use Rattle.rubis_model.specs.Meaning.{count, total, int_sum_by, at_id, user_at, as_user, nick_at, lists_item_of, bought_by, rates, rating_for, user_row, meaning_row}
 use Rattle.rubis_model.specs.Checks.{Follows}
 use Rattle.rubis_schema.specs.KeyLaws.{Decides-same_id}

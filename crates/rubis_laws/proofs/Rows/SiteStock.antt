@@ -1,19 +1,21 @@
 -- What there was to sell of an item in a log that a site can have is far below the end of its type.
-use Rattle.std.proofs.Common.{ℕ, ◌≡◌, ◌+◌, ◌*◌, ◌^◌, ◌<◌, ◌≤◌, List, [], ◌∷◌, ◌++◌, Bool, true, false, cond, length, length-append, refl, sym, ap, ◌∙◌, subst, arith, Option, Some, None}
+use Rattle.std.proofs.Common.{ℕ, ◌≡◌, ◌+◌, ◌*◌, ◌^◌, ◌<◌, ◌≤◌, List, [], ◌∷◌, ◌++◌, Bool, true, false, length, length-append, refl, sym, ap, ◌∙◌, subst, arith, Option, Some, None}
 use Rattle.std.specs.Prelude.{IfSome}
 use Rattle.std.proofs.lemmas.List.Sums.{fold_push}
 use Rattle.rubis_schema.specs.Keys.{same_id}
 use Rattle.rubis_schema.specs.declared.ids.Id.{Id}
 use Rattle.rubis_schema.specs.declared.limits.TheConstants.{QUANTITY_MAX}
-use Rattle.rubis_shadow.specs.Limits.{InLimits}
+use Rattle.rubis_shadow.specs.Shadows.{InLimits}
 use Rattle.rubis_shadow.specs.declared.shadows.Shadow.{Shadow}
-use Rattle.rubis_shadow.specs.declared.shadows.Shadow.TheVariants.{User, Item, Bid, Buy, Close, Comment, Restock, Rename}
+use Rattle.rubis_shadow.specs.declared.shadows.Shadow.TheVariants.{Item}
 use Rattle.rubis_message.specs.Message.{IsMessage, Message}
 use Rattle.rubis_model.specs.Forged.{SitesKeepStock, supplied, supply_at}
 use Rattle.rubis_model.specs.Log.{core, cores}
+use Rattle.rubis_model.specs.Meaning.{restocked_of}
 use Rattle.rubis_model.specs.Settle.{Has}
 use Rattle.rubis_model.proofs.CoreLists.{cores_push}
 use Rattle.rubis_model.proofs.Lists.{has_last, has_left}
+use Rattle.rubis_laws.proofs.Order.FitsByKind.{restocked_in}
 use Rattle.rubis_laws.proofs.Rows.Forged.{stock_is_kept}
 use Rattle.rubis_laws.proofs.Rows.Pushes.{by_pushes}
 
@@ -27,9 +29,6 @@ million = refl
 few_more : (n q s : ℕ) → s ≤ 1000000 * n → q ≤ QUANTITY_MAX → s + q ≤ 1000000 * (n + 1)
 few_more n q s l k = omega (arith, l, k, million)
 
-few_still : (n s : ℕ) → s ≤ 1000000 * n → s + 0 ≤ 1000000 * (n + 1)
-few_still n s l = omega (arith, l)
-
 few_first : (n q : ℕ) → q ≤ QUANTITY_MAX → q ≤ 1000000 * (n + 1)
 few_first n q k = omega (arith, k, million)
 
@@ -37,32 +36,8 @@ few_first n q k = omega (arith, k, million)
 few_next : (sites n : ℕ) (i : Id) (own : Bool) (o : Option ℕ) (x : Shadow) → InLimits sites x → Few n o → Few (n + 1) (supplied i own o x)
 few_next sites n i true None (Item k) l h = few_first n k.stock l.stock.small
 few_next sites n i false None (Item k) l h = tt
-few_next sites n i true None (User k) l h = tt
-few_next sites n i true None (Bid b) l h = tt
-few_next sites n i true None (Buy p) l h = tt
-few_next sites n i true None (Close c) l h = tt
-few_next sites n i true None (Comment c) l h = tt
-few_next sites n i true None (Restock r) l h = tt
-few_next sites n i true None (Rename r) l h = tt
-few_next sites n i false None (User k) l h = tt
-few_next sites n i false None (Bid b) l h = tt
-few_next sites n i false None (Buy p) l h = tt
-few_next sites n i false None (Close c) l h = tt
-few_next sites n i false None (Comment c) l h = tt
-few_next sites n i false None (Restock r) l h = tt
-few_next sites n i false None (Rename r) l h = tt
-few_next sites n i own (Some s) (Restock r) l h = at (same_id i r.item)
-  where
-    at : (b : Bool) → s + cond b r.quantity 0 ≤ 1000000 * (n + 1)
-    at true = few_more n r.quantity s h l.1.small
-    at false = few_still n s h
-few_next sites n i own (Some s) (User k) l h = few_still n s h
-few_next sites n i own (Some s) (Item k) l h = few_still n s h
-few_next sites n i own (Some s) (Bid b) l h = few_still n s h
-few_next sites n i own (Some s) (Buy p) l h = few_still n s h
-few_next sites n i own (Some s) (Close c) l h = few_still n s h
-few_next sites n i own (Some s) (Comment c) l h = few_still n s h
-few_next sites n i own (Some s) (Rename r) l h = few_still n s h
+few_next sites n i own None x l h = tt
+few_next sites n i own (Some s) x l h = few_more n (restocked_of i x) s h (restocked_in i x (sites, l))
 
 abbrev FewIn : Id → List Message → Type 0
 FewIn i log = ((m : Message) → Has m log → IsMessage m) → Few (length log) (supply_at i (cores log))

@@ -11,7 +11,7 @@ use Rattle.rubis_schema.specs.Keys.{same_id}
 use Rattle.rubis_schema.specs.declared.ids.Id.{Id}
 use Rattle.rubis_shadow.specs.Shadows.{is_red}
 use Rattle.rubis_shadow.specs.declared.shadows.Shadow.{Shadow}
-use Rattle.rubis_shadow.specs.declared.shadows.Shadow.TheVariants.{User, Item, Bid, Buy, Close, Comment, Restock, Rename}
+use Rattle.rubis_shadow.specs.declared.shadows.Shadow.TheVariants.{User, Rename}
 use Rattle.rubis_message.specs.Message.{Message}
 use Rattle.rubis_model.specs.Invariants.{Unique}
 use Rattle.rubis_model.specs.Laws.{Sent}
@@ -94,13 +94,8 @@ only_numbered (m ∷ past) r = at (nat_lt 0 m.stamp.red) refl (only_numbered pas
 
 blue_gives_none : (x : Shadow) → is_red x ≡ false → gives_nick x ≡ false
 blue_gives_none (User n) e = absurd (true≢false e)
-blue_gives_none (Item n) e = refl
-blue_gives_none (Bid b) e = refl
-blue_gives_none (Buy p) e = refl
-blue_gives_none (Close c) e = refl
-blue_gives_none (Comment c) e = refl
-blue_gives_none (Restock r) e = refl
 blue_gives_none (Rename r) e = absurd (true≢false e)
+blue_gives_none x e = refl
 
 no_user_in : (x : Shadow) → gives_nick x ≡ false → as_user x ≡ None
 no_user_in (User n) e = absurd (true≢false e)

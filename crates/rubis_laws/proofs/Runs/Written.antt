@@ -8,8 +8,8 @@ use Rattle.rubis_schema.specs.Texts.{IsNick}
 use Rattle.rubis_schema.specs.declared.ids.Id.{Id}
 use Rattle.rubis_schema.specs.declared.refusals.Refusal.{Refusal}
 use Rattle.rubis_schema.specs.declared.refusals.Refusal.TheVariants.{BadTarget, LastTurn}
-use Rattle.rubis_shadow.specs.declared.asks.Ask.{Ask}
-use Rattle.rubis_shadow.specs.declared.asks.Ask.TheVariants as ask
+use Rattle.rubis_shadow.specs.declared.shadows.Ask.{Ask}
+use Rattle.rubis_shadow.specs.declared.shadows.Ask.TheVariants as ask
 use Rattle.rubis_shadow.specs.declared.shadows.Shadow.{Shadow}
 use Rattle.rubis_shadow.specs.declared.shadows.Shadow.TheVariants as shadow
 use Rattle.rubis_generate.specs.Decision.{decision, renaming, shadow_of}
@@ -106,15 +106,9 @@ module _ (keep : ℕ) (few : keep ≤ 1000000) (w : World) (i : ℕ) (s : Sound 
       least k a b h e = grind (arith, nat_tests)
 
   ask_texts : (a : Ask) → HasTexts a → Fits (cores (site w i).log) (shadow_of (rows_at (site w i).log) a) → HasShadowTexts (shadow_of (rows_at (site w i).log) a)
-  ask_texts (ask.User n) h f = h
-  ask_texts (ask.Item n) h f = h
-  ask_texts (ask.Bid b) h f = tt
-  ask_texts (ask.Buy p) h f = tt
-  ask_texts (ask.Close c) h f = tt
-  ask_texts (ask.Comment c) h f = h
-  ask_texts (ask.Restock r) h f = tt
   ask_texts (ask.Rename r) h f =
       (nick_text (cores (site w i).log) logged_texts r.user _ (by_kind (cores (site w i).log) (renaming (rows_at (site w i).log) r) f).0, h)
+  ask_texts a h f = h
 
   made_texts : (a : Ask) (x : Shadow) → HasTexts a → decision (rows_at (site w i).log) (standing_of keep (site w i)) a ≡ Ok x → HasShadowTexts x
   made_texts a x h e =

@@ -11,8 +11,7 @@ use Rattle.rubis_schema.specs.Keys.{same_id}
 use Rattle.rubis_schema.specs.declared.listings.Listing.TheVariants as listing
 use Rattle.rubis_schema.specs.declared.row_keys.RowKey.{RowKey}
 use Rattle.rubis_schema.specs.declared.row_keys.RowKey.TheVariants as key
-use Rattle.rubis_shadow.specs.Parts.{refers_of}
-use Rattle.rubis_shadow.specs.Shadows.{is_red}
+use Rattle.rubis_shadow.specs.Shadows.{refers_of, is_red}
 use Rattle.rubis_message.specs.Equal.{same_message, Decides-same_message}
 use Rattle.rubis_message.specs.Message.{Message, IsMessage, dep, sites_of}
 use Rattle.rubis_message.specs.Widening.{widened}

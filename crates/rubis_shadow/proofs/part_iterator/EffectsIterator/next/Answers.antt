@@ -1,6 +1,6 @@
 use Rattle.std.proofs.Common.{sym, ◌∙◌}
 use Rattle.rubis_shadow.proofs.Lists.{drop_from, one_more}
-use Rattle.rubis_shadow.proofs.parts.EffectsIterator.next.Goals as goal
+use Rattle.rubis_shadow.proofs.part_iterator.EffectsIterator.next.Goals as goal
 
 pub returns-clause-steps : goal.returns-clause-steps
 returns-clause-steps c = sym c.self.view_is ∙ drop_from _ c.self.inside.given c.in_ok-part.part (sym c.in_ok-part.ensures)

@@ -1,5 +1,5 @@
 use Rattle.std.proofs.Common.{◌≡◌, ◌<◌, ℕ, get_or}
-use Rattle.rubis_message.proofs.kinds.says.Given as goal
+use Rattle.rubis_message.proofs.words.says.Given as goal
 
 abbrev pub invariant-loop-at : goal.invariant-loop-at
 invariant-loop-at l = (k : ℕ) → k < l.at → get_or l.field k 0 ≡ get_or l.word k 0

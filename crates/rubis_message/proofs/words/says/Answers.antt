@@ -1,7 +1,7 @@
 use Rattle.std.proofs.Common.{sym, arith}
 use Rattle.std.specs.Cmp.Lexicographic.{bytes_decides}
 use Rattle.std.proofs.lemmas.List.{ext_get_or}
-use Rattle.rubis_message.proofs.kinds.says.Goals as goal
+use Rattle.rubis_message.proofs.words.says.Goals as goal
 
 -- two texts of one length, with the same byte at each place
 pub returns : goal.returns
