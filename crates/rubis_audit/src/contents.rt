@@ -10,13 +10,15 @@ use rubis_message::Message;
 use rubis_schema::{Id, ItemRow, Nick, Row, RowKey, Sale, View};
 use rubis_shadow::Shadow;
 
-// Whether `v` counts the message with that id.
-fn is_counted(id: Id, v: &Message) -> bool
+/// Whether `v` counts the message with that id.
+pub fn is_counted(id: Id, v: &Message) -> bool
     ensures { result ≡ nat_le id.seq (dep v.now id.site) }
 {
-    match v.stamp().deps.as_slice().get(usize::from(id.site)) {
-        Some(count) => id.seq <= *count,
-        None => id.seq == 0,
+    let counts = v.deps();
+    if id.site < counts.sites() {
+        id.seq <= counts.count(id.site)
+    } else {
+        id.seq == 0
     }
 }
 

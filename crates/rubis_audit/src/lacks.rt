@@ -69,7 +69,7 @@ fn count_own(site: u8, messages: &[&Message]) -> usize
 {
     let mut many = 0;
     for message in messages {
-        if message.stamp().id.site == site {
+        if message.id().site == site {
             many += 1;
         }
     }

@@ -41,7 +41,7 @@ impl Pool {
     fn found(&self, message: &Message) -> Option<&Shared<Message>>
         ensures { IfSome result (λ shared. shared.now ≡ message.now) }
     {
-        let id = message.stamp().id;
+        let id = message.id();
         let place = (id.seq as usize).checked_sub(1)?;
         let shared = self.sites.get(usize::from(id.site))?.get(place)?;
         let kept = shared.deref();
@@ -50,7 +50,7 @@ impl Pool {
 
     // Has the message found from now on, if it is the next one of its site.
     fn note(&mut self, shared: &Shared<Message>) -> Result<(), AllocError> {
-        let id = shared.stamp().id;
+        let id = shared.id();
         let site = usize::from(id.site);
         for _ in self.sites.len()..site + 1 {
             self.sites.push(Vec::new(self.alloc))?;

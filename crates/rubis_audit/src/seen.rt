@@ -27,7 +27,7 @@ fn note_id<'a>(map: &mut HashMap<Id, &'a Message>, message: &'a Message) -> Resu
     requires { hash.get same_id map.old message.now.stamp.id ≡ None }
     ensures { OnOk result (FirstById (hash.get same_id map.old) message.now (hash.get same_id map.new)) }
 {
-    map.insert(message.stamp().id, message)?;
+    map.insert(message.id(), message)?;
     Ok(())
 }
 
@@ -35,8 +35,8 @@ fn note_id<'a>(map: &mut HashMap<Id, &'a Message>, message: &'a Message) -> Resu
 fn note_red<'a>(map: &mut HashMap<u32, &'a Message>, message: &'a Message) -> Result<(), AllocError>
     ensures { OnOk result (FirstByRed (hash.get nat_eq map.old) message.now (hash.get nat_eq map.new)) }
 {
-    if map.get(&message.stamp().red).is_none() {
-        map.insert(message.stamp().red, message)?;
+    if map.get(&message.red()).is_none() {
+        map.insert(message.red(), message)?;
     }
     Ok(())
 }

@@ -9,6 +9,7 @@ ghost use Rattle.rubis_audit.specs.Lookups.{by_message_id, clash_by_id, differs_
 ghost use Rattle.rubis_audit.specs.Seen.{Sees, id_in};
 ghost use Rattle.rubis_audit.specs.declared.seen.Seen.{Seen};
 
+use crate::contents::is_counted;
 use crate::seen::Seen;
 use rubis_clock::Clock;
 use rubis_message::Message;
@@ -29,10 +30,10 @@ pub fn clashes(known: Option<&Message>, v: &Message) -> bool
 fn exceeds(v: &Message, u: &Message) -> bool
     ensures { result ≡ exceeds v.now u.now }
 {
-    let mine = v.stamp().deps.as_slice();
-    let theirs = u.stamp().deps.as_slice();
-    for j in 0..mine.len() {
-        if j < theirs.len() && mine[j] < theirs[j] {
+    let mine = v.deps();
+    let theirs = u.deps();
+    for j in 0..mine.sites() {
+        if j < theirs.sites() && mine.count(j) < theirs.count(j) {
             return true;
         }
     }
@@ -56,11 +57,11 @@ fn last_exceeds(seen: &Seen, last: Id, v: &Message) -> bool
 fn forgets(seen: &Seen, v: &Message) -> bool
     ensures { (all : List model.Message) → Sees seen.now all → result ≡ forgets_by_id all v.now }
 {
-    let mine = v.stamp().deps.as_slice();
-    for j in 0..mine.len() {
+    let mine = v.deps();
+    for j in 0..mine.sites() {
         let last = Id {
-            site: j as u8,
-            seq: mine[j],
+            site: j,
+            seq: mine.count(j),
         };
         if last_exceeds(seen, last, v) {
             return true;
@@ -74,10 +75,10 @@ fn is_early(counts: &[u32], v: &Message) -> bool
     requires { sites_of v.now ≡ length counts.now }
     ensures { result ≡ early_by counts.now v.now }
 {
-    let stamp = v.stamp();
-    let mine = stamp.deps.as_slice();
-    for j in 0..mine.len() {
-        if j != usize::from(stamp.id.site) && counts[j] < mine[j] {
+    let origin = v.id().site;
+    let mine = v.deps();
+    for j in 0..mine.sites() {
+        if j != origin && counts[usize::from(j)] < mine.count(j) {
             return true;
         }
     }
@@ -89,9 +90,9 @@ fn differs(counts: &[u32], v: &Message) -> bool
     requires { sites_of v.now ≡ length counts.now }
     ensures { result ≡ differs_by counts.now v.now }
 {
-    let mine = v.stamp().deps.as_slice();
-    for j in 0..mine.len() {
-        if mine[j] != counts[j] {
+    let mine = v.deps();
+    for j in 0..mine.sites() {
+        if mine.count(j) != counts[usize::from(j)] {
             return true;
         }
     }
@@ -103,11 +104,11 @@ pub fn out_of_order(site: u8, seen: &Seen, clock: &Clock, v: &Message) -> bool
     requires { sites_of v.now ≡ length clock.now.counts }
     ensures { (all : List model.Message) → Sees seen.now all → result ≡ order_by site clock.now.counts all v.now }
 {
-    let stamp = v.stamp();
+    let id = v.id();
     let counts = clock.deps();
-    clock.count(stamp.id.site) != stamp.id.seq - 1
+    clock.count(id.site) != id.seq - 1
         || is_early(counts.as_slice(), v)
-        || (stamp.id.site == site && differs(counts.as_slice(), v))
+        || (id.site == site && differs(counts.as_slice(), v))
         || forgets(seen, v)
 }
 
@@ -115,15 +116,15 @@ pub fn out_of_order(site: u8, seen: &Seen, clock: &Clock, v: &Message) -> bool
 fn precedes(u: &Message, v: &Message) -> bool
     ensures { result ≡ comes_before u.now v.now }
 {
-    rubis_clock::precedes(u.stamp(), v.stamp())
+    is_counted(u.id(), v)
 }
 
 // Whether another message has the red number of `v`.
 fn is_taken(seen: &Seen, v: &Message) -> bool
     ensures { (all : List model.Message) → Sees seen.now all → result ≡ taken_by_red all v.now }
 {
-    match seen.with_red(v.stamp().red) {
-        Some(u) => u.stamp().id != v.stamp().id,
+    match seen.with_red(v.red()) {
+        Some(u) => u.id() != v.id(),
         None => false,
     }
 }
@@ -133,7 +134,7 @@ fn is_taken(seen: &Seen, v: &Message) -> bool
 pub fn leaves_gap(seen: &Seen, clock: &Clock, last: Option<&Message>, v: &Message) -> bool
     ensures { (all : List model.Message) → Sees seen.now all → result ≡ gap_by clock.now.red (option_copied last.entry) all v.now }
 {
-    let red = v.stamp().red;
+    let red = v.red();
     if red == 0 {
         return false;
     }

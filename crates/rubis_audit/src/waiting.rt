@@ -31,7 +31,7 @@ fn write_for(
     };
     fields.clear();
     fields.push_plain(b"waits")?;
-    message.stamp().id.push_to(fields)?;
+    message.id().push_to(fields)?;
     fields.push_plain(b"for")?;
     id.push_to(fields)?;
     sink.write_fields(fields)
@@ -51,7 +51,7 @@ fn write_red(
     };
     fields.clear();
     fields.push_plain(b"waits")?;
-    message.stamp().id.push_to(fields)?;
+    message.id().push_to(fields)?;
     fields.push_plain(b"red")?;
     push_number(fields, u64::from(number))?;
     sink.write_fields(fields)
@@ -68,8 +68,8 @@ fn write_message(
     ensures { OnOk result ((log : List model.Message) → clock.now ≡ clock_of (sites_of message.now) log
         → sink.new ≡ sink.old ++ rows_text (waits_rows log message.now)) }
 {
-    for site in 0..message.stamp().deps.len() {
-        write_for(fields, sink, message, awaited(clock, message, site as u8))?;
+    for site in 0..message.deps().sites() {
+        write_for(fields, sink, message, awaited(clock, message, site))?;
     }
     write_red(fields, sink, message, awaited_red(clock, message))
 }

@@ -17,7 +17,7 @@ pub fn awaited(clock: &Clock, message: &Message, site: u8) -> Option<Id>
     ensures { (log : List model.Message) → clock.now ≡ clock_of (sites_of message.now) log → result ≡ lack.awaited log message.now site }
 {
     let count = clock.count(site);
-    if count < message.stamp().deps.count(site) {
+    if count < message.deps().count(site) {
         return Some(Id {
             site,
             seq: count + 1,
@@ -31,7 +31,7 @@ pub fn awaited_red(clock: &Clock, message: &Message) -> Option<u32>
     ensures { (log : List model.Message) → clock.now ≡ clock_of (sites_of message.now) log → result ≡ lack.awaited_red log message.now }
 {
     let red = clock.red();
-    let number = message.stamp().red;
+    let number = message.red();
     if red < number && number - red > 1 {
         return Some(red + 1);
     }

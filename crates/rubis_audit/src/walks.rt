@@ -85,7 +85,7 @@ impl<'a> Past<'a> {
         ensures tables { OnOk result (TakesOn (core v.now) entry self.old.tables self.new.tables) }
     {
         self.tables.apply_message(&LogEntry::new(entry, v))?;
-        self.clock.advance(v.stamp());
+        v.count_in(&mut self.clock);
         if v.shadow().colour() == Colour::Red {
             self.last_red = Some(v);
         }
@@ -119,7 +119,7 @@ pub fn walk<'a>(
     let mut past = Past::new(alloc, sites, seen.hashes)?;
     for (n, shared) in log.messages().iter().enumerate() {
         let v = shared.deref();
-        let known = seen.with_id(v.stamp().id);
+        let known = seen.with_id(v.id());
         if let Some(kind) = past.fault_of(log.site(), seen, known, v) {
             return Ok(Some((kind, n + 1)));
         }

@@ -24,7 +24,7 @@ fn is_new(clock: &Clock, message: &Message) -> bool
     ensures conditions { IsMessage message.now }
     ensures new { result ≡ nat_lt (slice_index clock.now.counts message.now.stamp.id.site) message.now.stamp.id.seq }
 {
-    clock.count(message.stamp().id.site) < message.stamp().id.seq
+    clock.count(message.id().site) < message.id().seq
 }
 
 // Puts a message last.
@@ -56,7 +56,7 @@ fn merge_log<'a>(
         let message = shared.deref();
         if is_new(clock, message) {
             put_last(merged, message)?;
-            clock.advance(message.stamp());
+            message.count_in(clock);
         }
     }
     Ok(())
@@ -92,7 +92,7 @@ fn clock_of(sites: u8, log: &Log) -> Clock
 {
     let mut clock = Clock::new(sites);
     for message in log.messages() {
-        clock.advance(message.stamp());
+        message.count_in(&mut clock);
     }
     clock
 }

@@ -1,11 +1,12 @@
 //! A clock: how many messages of each site were released, and which stamps it is ready for.
 
-ghost use Rattle.std.specs.Prelude.{◌≡◌, ◌≢◌, ◌↔◌, ◌<◌, ◌≤◌, ℕ, IsTrue, length, slice_index};
+ghost use Rattle.std.specs.Prelude.{◌≡◌, ◌≢◌, ◌↔◌, ◌<◌, ◌≤◌, ◌+◌, ℕ, List, IsTrue, length, slice_index};
 ghost use Rattle.rubis_clock.specs.Clocks.{IsReady, StampPrecedes, advanced, opening_clock};
 
 use crate::counts::Deps;
+use crate::packed::PackedDeps;
 use crate::stamps::Stamp;
-use rubis_schema::COUNTED_MAX;
+use rubis_schema::{COUNTED_MAX, Id};
 use std::marker::Model;
 
 /// How many messages of each site a log has, and how many red ones.
@@ -33,6 +34,20 @@ fn others_released(deps: &[u32], counts: &[u32], origin: usize) -> bool
 {
     for (site, dep) in deps.iter().enumerate() {
         if site != origin && *dep > counts[site] {
+            return false;
+        }
+    }
+    true
+}
+
+// The same for counts that are packed.
+#[inline(always)]
+fn others_released_packed(deps: &PackedDeps, counts: &[u32], origin: u8) -> bool
+    requires { length deps.now ≡ length counts.now }
+    ensures { IsTrue result ↔ ((j : ℕ) → j < length deps.now → j ≢ origin → slice_index deps.now j ≤ slice_index counts.now j) }
+{
+    for site in 0..deps.sites() {
+        if site != origin && deps.count(site) > counts[usize::from(site)] {
             return false;
         }
     }
@@ -74,6 +89,17 @@ impl Clock {
         self.counts
     }
 
+    // Whether a message is the next one of its origin, and a red one has the next red number.
+    #[inline(always)]
+    fn is_next(&self, id: Id, red: u32) -> bool
+        requires { id.site < length self.now.counts }
+        ensures { IsTrue result ↔ ((id.seq ≡ slice_index self.now.counts id.site + 1) × (0 < red → red ≡ self.now.red + 1)) }
+    {
+        let next = u64::from(self.counts.count(id.site)) + 1;
+        let next_red = u64::from(self.red()) + 1;
+        u64::from(id.seq) == next && (red == 0 || u64::from(red) == next_red)
+    }
+
     /// Whether the message with that stamp can be released: it is the next one of its origin, all that the origin had
     /// released of other sites was counted, and a red one has the next red number.
     #[inline(always)]
@@ -82,19 +108,22 @@ impl Clock {
         requires origin { stamp.now.id.site < length self.now.counts }
         ensures { IsTrue result ↔ IsReady self.now stamp.now }
     {
-        let next = u64::from(self.counts.count(stamp.id.site)) + 1;
-        let next_red = u64::from(self.red()) + 1;
-        if u64::from(stamp.id.seq) != next {
-            return false;
-        }
-        if stamp.red != 0 && u64::from(stamp.red) != next_red {
-            return false;
-        }
-        others_released(
-            stamp.deps.as_slice(),
-            self.counts.as_slice(),
-            usize::from(stamp.id.site),
-        )
+        self.is_next(stamp.id, stamp.red)
+            && others_released(
+                stamp.deps.as_slice(),
+                self.counts.as_slice(),
+                usize::from(stamp.id.site),
+            )
+    }
+
+    /// The same for a message with that id, that red number and those counts, without a stamp made of them.
+    #[inline(always)]
+    pub fn ready_packed(&self, id: Id, red: u32, deps: &PackedDeps) -> bool
+        requires sites { length deps.now ≡ length self.now.counts }
+        requires origin { id.site < length self.now.counts }
+        ensures { IsTrue result ↔ IsReady self.now (record { id = id; red = red; deps = deps.now }) }
+    {
+        self.is_next(id, red) && others_released_packed(deps, self.counts.as_slice(), id.site)
     }
 
     /// Counts the message with that stamp.
@@ -104,9 +133,20 @@ impl Clock {
         requires ready { IsReady self.old stamp.now }
         ensures { self.new ≡ advanced self.old stamp.now }
     {
-        self.counts.set(stamp.id.site, stamp.id.seq);
-        if stamp.red != 0 {
-            self.red = stamp.red;
+        self.advance_by(stamp.id, stamp.red);
+    }
+
+    /// Counts the message with that id and that red number, whatever its stamp counts.
+    #[inline(always)]
+    pub fn advance_by(&mut self, id: Id, red: u32)
+        requires origin { id.site < length self.old.counts }
+        requires next { id.seq ≡ slice_index self.old.counts id.site + 1 }
+        requires number { 0 < red → red ≡ self.old.red + 1 }
+        ensures { (deps : List ℕ) → self.new ≡ advanced self.old (record { id = id; red = red; deps = deps }) }
+    {
+        self.counts.set(id.site, id.seq);
+        if red != 0 {
+            self.red = red;
         }
     }
 }

@@ -3,8 +3,10 @@
 
 mod clocks;
 mod counts;
+mod packed;
 mod stamps;
 
 pub use clocks::{Clock, precedes};
 pub use counts::Deps;
+pub use packed::PackedDeps;
 pub use stamps::Stamp;

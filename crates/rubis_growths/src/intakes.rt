@@ -80,7 +80,7 @@ fn make_user<R: Print>(rt: &R, site: &mut Intake, nick: Nick) -> Result<u32, Sto
         }
         let released = site.log().len();
         if let Ok(message) = site.generated(Shadow::User(nick)) {
-            return Ok(message.stamp().id.seq);
+            return Ok(message.id().seq);
         }
         tell_refused(rt, "Intake::generated", site.log().len() == released);
     }

@@ -106,7 +106,7 @@ impl Portion {
 fn user_part(alloc: Global, seq: u32) -> Result<Numbered, ReadFault> {
     let text = packet_text(alloc, seq)?;
     let message = message(alloc, &text, 2)?;
-    let id = message.stamp().id;
+    let id = message.id();
     let Some(part) = message.shadow().effect(id, seq, 0) else {
         return Err(ReadFault::BadRecord);
     };

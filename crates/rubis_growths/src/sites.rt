@@ -33,7 +33,7 @@ impl Single {
             };
             let released = self.site.history().len();
             match self.site.request(rt, ask) {
-                Ok(message) => return Ok(message.stamp().id.seq),
+                Ok(message) => return Ok(message.id().seq),
                 Err(Fault::Memory) => {
                     tell_refused(rt, "Site::request", self.site.history().len() == released);
                 }

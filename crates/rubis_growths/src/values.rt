@@ -108,7 +108,7 @@ fn apply_parts<R: Print>(
     tables: &mut PlainTables,
     message: &Message,
 ) -> Result<(), Stop> {
-    let stamp = *message.stamp();
+    let stamp = message.stamp();
     for place in 0..3 {
         let Some(part) = message.shadow().effect(stamp.id, stamp.red, place) else {
             continue;

@@ -13,7 +13,7 @@ fn count_of(messages: &[Message], site: u8) -> u64
 {
     let mut count: u64 = 0;
     for message in messages {
-        if message.stamp().id.site == site {
+        if message.id().site == site {
             count += 1;
         }
     }

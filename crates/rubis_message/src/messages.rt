@@ -1,11 +1,13 @@
 //! A message: a shadow with its stamp.
 
-ghost use Rattle.std.specs.Prelude.{◌≡◌, IfOk};
+ghost use Rattle.std.specs.Prelude.{◌≡◌, ◌↔◌, ◌<◌, IfOk, IsTrue, length};
+ghost use Rattle.rubis_clock.specs.Clocks.{IsReady, advanced};
 ghost use Rattle.rubis_message.specs.Message as model;
-ghost use Rattle.rubis_message.specs.Message.{IsMessage};
+ghost use Rattle.rubis_message.specs.Message.{IsMessage, sites_of};
 ghost use Rattle.rubis_message.specs.Widening.{widening};
 
-use rubis_clock::Stamp;
+use rubis_clock::{Clock, PackedDeps, Stamp};
+use rubis_schema::Id;
 use rubis_shadow::Shadow;
 use std::alloc::AllocError;
 use std::marker::Model;
@@ -15,7 +17,10 @@ use std::marker::Model;
 /// and numbers are within their limits.
 #[derive(Clone)]
 pub struct Message {
-    stamp: Stamp,
+    // The stamp in parts, so that logs stay small. The id's number is one more than the count of its site.
+    red: u32,
+    deps: PackedDeps,
+    site: u8,
     shadow: Shadow,
 }
 
@@ -23,7 +28,9 @@ impl Drop for Message {
     // Proved here, once: a derived drop is proved anew in each crate that lets a message go.
     fn drop(self) {
         let Message {
-            stamp: _,
+            red: _,
+            deps: _,
+            site: _,
             shadow: _,
         } = self;
     }
@@ -32,29 +39,90 @@ impl Drop for Message {
 impl Model for Message {
     ghost use Rattle.rubis_message.specs.Message as model;
     ghost use Rattle.rubis_message.specs.Message.{IsMessage};
+    ghost use Rattle.rubis_message.specs.Parts.{message_of};
 
     ghost Value = { model.Message };
 
-    ghost view = { λ m. record { stamp = m.stamp; shadow = m.shadow } };
+    ghost view = { λ m. message_of m.red m.deps m.site m.shadow };
 
-    ghost invariant = { λ m. IsMessage (record { stamp = m.stamp; shadow = m.shadow }) };
+    ghost invariant = { λ m. IsMessage (message_of m.red m.deps m.site m.shadow) };
 }
 
 impl Message {
     /// The shadow with that stamp.
+    #[inline(always)]
+    #[tactic(auto, using(crate::proofs::Parts::message_is, crate::proofs::Parts::parts_meet))]
     pub fn new(stamp: Stamp, shadow: Shadow) -> Message
         requires { IsMessage (record { stamp = stamp; shadow = shadow }) }
         ensures { result ≡ record { stamp = stamp; shadow = shadow } }
     {
-        Message { stamp, shadow }
+        Message {
+            red: stamp.red,
+            deps: PackedDeps::pack(&stamp.deps),
+            site: stamp.id.site,
+            shadow,
+        }
     }
 
     /// The id, the red number and the counts.
-    pub fn stamp(&self) -> &Stamp
-        ensures value { result.now ≡ self.now.stamp }
+    pub fn stamp(&self) -> Stamp
+        ensures value { result ≡ self.now.stamp }
         ensures conditions { IsMessage self.now }
     {
-        &self.stamp
+        Stamp {
+            id: self.id(),
+            red: self.red,
+            deps: self.deps.unpack(),
+        }
+    }
+
+    /// The id.
+    #[inline(always)]
+    pub fn id(&self) -> Id
+        ensures value { result ≡ self.now.stamp.id }
+        ensures conditions { IsMessage self.now }
+    {
+        Id {
+            site: self.site,
+            seq: self.deps.count(self.site) + 1,
+        }
+    }
+
+    /// The red number, 0 for a blue shadow.
+    #[inline(always)]
+    pub fn red(&self) -> u32
+        ensures value { result ≡ self.now.stamp.red }
+        ensures conditions { IsMessage self.now }
+    {
+        self.red
+    }
+
+    /// The counts.
+    #[inline(always)]
+    pub fn deps(&self) -> &PackedDeps
+        ensures value { result.now ≡ self.now.stamp.deps }
+        ensures conditions { IsMessage self.now }
+    {
+        &self.deps
+    }
+
+    /// Whether the clock is ready for the message.
+    #[inline(always)]
+    pub fn is_ready(&self, clock: &Clock) -> bool
+        requires { sites_of self.now ≡ length clock.now.counts }
+        ensures { IsTrue result ↔ IsReady clock.now self.now.stamp }
+    {
+        clock.ready_packed(self.id(), self.red, &self.deps)
+    }
+
+    /// Has the clock count the message.
+    #[inline(always)]
+    pub fn count_in(&self, clock: &mut Clock)
+        requires origin { self.now.stamp.id.site < length clock.old.counts }
+        requires ready { IsReady clock.old self.now.stamp }
+        ensures { clock.new ≡ advanced clock.old self.now.stamp }
+    {
+        clock.advance_by(self.id(), self.red());
     }
 
     /// What the message does.
@@ -73,10 +141,16 @@ impl Message {
     pub fn widen(self, sites: u8) -> Result<Message, Message>
         ensures { result ≡ widening sites self }
     {
-        let Message { stamp, shadow } = self;
+        let stamp = self.stamp();
+        let Message {
+            red: _,
+            deps: _,
+            site: _,
+            shadow,
+        } = self;
         match stamp.widen(sites) {
-            Ok(stamp) => Ok(Message { stamp, shadow }),
-            Err(stamp) => Err(Message { stamp, shadow }),
+            Ok(stamp) => Ok(Message::new(stamp, shadow)),
+            Err(stamp) => Err(Message::new(stamp, shadow)),
         }
     }
 
@@ -85,7 +159,9 @@ impl Message {
         ensures { IfOk result (λ message. message ≡ self.now) }
     {
         Ok(Message {
-            stamp: self.stamp,
+            red: self.red,
+            deps: self.deps.copy(),
+            site: self.site,
             shadow: self.shadow.copy()?,
         })
     }
@@ -100,7 +176,7 @@ impl PartialEq for Message {
     ghost laws = { partial_equiv_from_equiv same_message_equiv };
 
     fn eq(&self, other: &Message) -> bool {
-        self.stamp == other.stamp && self.shadow == other.shadow
+        self.stamp() == other.stamp() && self.shadow == other.shadow
     }
 }
 

@@ -5,7 +5,7 @@ ghost use Rattle.rubis_schema.specs.FieldList.{is_plain};
 ghost use Rattle.rubis_message.specs.Counts.{deps_of};
 ghost use Rattle.rubis_message.specs.Grammar.{deps_text};
 
-use rubis_clock::Deps;
+use rubis_clock::{Deps, PackedDeps};
 use rubis_schema::{
     COUNT_MAX, COUNTED_MAX, COUNTS_TEXT_MAX, Fields, ShortText, read_number, read_number_before,
 };
@@ -31,23 +31,23 @@ pub fn read_deps(text: &[u8], sites: u8) -> Option<Deps>
 }
 
 // The counts as they are written.
-fn text_of(deps: &Deps) -> ShortText<COUNTS_TEXT_MAX>
+fn text_of(deps: &PackedDeps) -> ShortText<COUNTS_TEXT_MAX>
     ensures value { result ≡ deps_text deps.now }
     ensures plain { is_plain result ≡ true }
 {
-    let counts = deps.as_slice();
+    let sites = deps.sites();
     let mut text = ShortText::new();
-    for site in (0..counts.len()).rev() {
-        if site + 1 < counts.len() {
+    for site in (0..sites).rev() {
+        if site + 1 < sites {
             text.put_byte(b':');
         }
-        text.put_number(counts[site]);
+        text.put_number(deps.count(site));
     }
     text
 }
 
 /// Adds the counts as one field.
-pub fn push_deps(fields: &mut Fields, deps: &Deps) -> Result<(), AllocError>
+pub fn push_deps(fields: &mut Fields, deps: &PackedDeps) -> Result<(), AllocError>
     ensures ok { OnOk result (fields.new ≡ fields.old ++ deps_text deps.now ∷ []) }
     ensures err { OnErr result (fields.new ≡ fields.old) }
 {

@@ -122,13 +122,13 @@ fn push_shadow(fields: &mut Fields, shadow: &Shadow) -> Result<(), AllocError>
 fn push_message(fields: &mut Fields, message: &Message) -> Result<(), AllocError>
     ensures { OnOk result (fields.new ≡ fields.old ++ message_record message.now) }
 {
-    let stamp = message.stamp();
+    let id = message.id();
     fields.push_plain(b"msg")?;
     fields.push_plain(message.shadow().version())?;
-    push_number(fields, u64::from(stamp.id.site))?;
-    push_number(fields, u64::from(stamp.id.seq))?;
-    push_number(fields, u64::from(stamp.red))?;
-    push_deps(fields, &stamp.deps)?;
+    push_number(fields, u64::from(id.site))?;
+    push_number(fields, u64::from(id.seq))?;
+    push_number(fields, u64::from(message.red()))?;
+    push_deps(fields, message.deps())?;
     push_shadow(fields, message.shadow())
 }
 

@@ -4,8 +4,8 @@ use Rattle.std.specs.Prelude.{nat_lt, nat_le}
 use Rattle.std.specs.List.{list_any}
 use Rattle.std.proofs.lemmas.Bool.{eq-eqb}
 use Rattle.rubis_schema.specs.Keys.{same_id}
+use Rattle.rubis_schema.specs.declared.ids.Id.{Id}
 use Rattle.rubis_clock.specs.Clocks.{MessageCounts}
-use Rattle.rubis_clock.specs.declared.stamps.Stamp.{Stamp}
 use Rattle.rubis_message.specs.Message.{Message, IsMessage, sites_of}
 use Rattle.rubis_model.specs.Settle.{counted, Settles}
 use Rattle.rubis_model.specs.Site.{Place, Replica, after_came, not_ours, is_repeat}
@@ -67,11 +67,11 @@ pub not_ours_is : (i : Intake) (n : ℕ) (k : MessageCounts) (m : Message) → I
 not_ours_is i n k m h is e = λ j. sym (eq-eqb m.stamp.id.site i.place.site e) j && nat_lt (count_is i n k h is i.place.site h.conditions.site j) m.stamp.id.seq
 
 -- its number is within the count, or its id waits
-pub is_repeat_by_count : (i : Intake) (n : ℕ) (k : MessageCounts) (m : Message) → IsUpToDate i n → k ≡ clock_of n i.state.log → IsAmong i.place.sites m → (s : Stamp) → s ≡ m.stamp → (count : ℕ) → count ≡ get_or k.counts s.id.site 0
-    → (nat_le s.id.seq count || list_any (λ (u : Message). same_id s.id u.stamp.id) i.state.waiting) ≡ is_repeat i.state m
+pub is_repeat_by_count : (i : Intake) (n : ℕ) (k : MessageCounts) (m : Message) → IsUpToDate i n → k ≡ clock_of n i.state.log → IsAmong i.place.sites m → (s : Id) → s ≡ m.stamp.id → (count : ℕ) → count ≡ get_or k.counts s.site 0
+    → (nat_le s.seq count || list_any (λ (u : Message). same_id s u.stamp.id) i.state.waiting) ≡ is_repeat i.state m
 is_repeat_by_count i n k m h is a s e count here =
-    ap (λ j. nat_le s.id.seq j || list_any (λ (u : Message). same_id s.id u.stamp.id) i.state.waiting) here
-    ∙ ap (λ (t : Stamp). nat_le t.id.seq (get_or k.counts t.id.site 0) || list_any (λ (u : Message). same_id t.id u.stamp.id) i.state.waiting) e
+    ap (λ j. nat_le s.seq j || list_any (λ (u : Message). same_id s u.stamp.id) i.state.waiting) here
+    ∙ ap (λ (t : Id). nat_le t.seq (get_or k.counts t.site 0) || list_any (λ (u : Message). same_id t u.stamp.id) i.state.waiting) e
     ∙ ap (λ b. b || list_any (λ (u : Message). same_id m.stamp.id u.stamp.id) i.state.waiting)
     (ap (nat_le m.stamp.id.seq) (count_is i n k h is m.stamp.id.site a.id.site) ∙ sym (is_released i.state.log m h.conditions.kept.released a.id.positive))
 

@@ -260,7 +260,7 @@ impl Intake {
         let message = Message::new(self.next_stamp(&shadow), shadow);
         let copy = message.copy()?;
         self.messages.release(message)?;
-        let red = copy.stamp().red;
+        let red = copy.red();
         self.held = if red == 0 { self.held } else { Some(red) };
         Ok(copy)
     }
@@ -278,7 +278,7 @@ impl Intake {
     fn is_not_ours(&self, message: &Message) -> bool
         ensures { result ≡ not_ours self.now.place self.now.state message.now }
     {
-        let id = message.stamp().id;
+        let id = message.id();
         id.site == self.site && id.seq > self.messages.clock().count(self.site)
     }
 
@@ -289,7 +289,7 @@ impl Intake {
         ensures value { result ≡ is_repeat self.now.state message.now }
         ensures site { IsAmong self.now.place.sites message.now }
     {
-        let id = message.stamp().id;
+        let id = message.id();
         id.seq <= self.messages.clock().count(id.site) || self.messages.has_waiting(&id)
     }
 

@@ -142,7 +142,7 @@ impl Messages {
         let Ok(_) = self.log.reserve(self.waiting.len() + 1) else {
             return Err(AllocFailed { value: message });
         };
-        self.clock.advance(message.stamp());
+        message.count_in(&mut self.clock);
         self.log.push_reserved(message);
         self.settle();
         Ok(())
@@ -156,7 +156,7 @@ impl Messages {
         ensures settled { HaveSettled self.new }
     {
         while let Some(message) = self.waiting.take_ready(&self.clock) {
-            self.clock.advance(message.stamp());
+            message.count_in(&mut self.clock);
             self.log.push_reserved(message);
         }
     }
@@ -168,6 +168,6 @@ impl Messages {
         ensures ready { result ≡ true → IsReady (clock_of self.now.sites self.now.log) message.now.stamp }
         ensures waits { result ≡ false → IsReady (clock_of self.now.sites self.now.log) message.now.stamp → ⊥ }
     {
-        self.clock.ready(message.stamp())
+        message.is_ready(&self.clock)
     }
 }

@@ -80,7 +80,7 @@ impl Waiting {
         ensures err { OnErr result (self.new ≡ self.old) }
         ensures back { IfErr result (λ e. e.value ≡ message) }
     {
-        let id = message.stamp().id;
+        let id = message.id();
         self.gone = make_place(&mut self.slots, self.gone, &id);
         if self.slots.reserve(1).is_err() {
             return Err(AllocFailed { value: message });
@@ -232,7 +232,7 @@ fn ready_of(
     let Some(message) = slot else {
         return None;
     };
-    if !clock.ready(message.stamp()) {
+    if !message.is_ready(clock) {
         return None;
     }
     Some(at)

@@ -50,7 +50,7 @@ fn write_accepted<S: RowSink>(
     ensures { OnOk result (S.adds (reply number (codes "ok" ∷ id_text message.now.stamp.id ∷ []) ∷ []) sink.old sink.new) }
 {
     begin(fields, number, b"ok")?;
-    message.stamp().id.push_to(fields)?;
+    message.id().push_to(fields)?;
     sink.put(fields)
 }
 

@@ -29,11 +29,10 @@ impl<'a> LogEntry<'a> {
         ensures core { core_of result ≡ core message.now }
         ensures conditions { IsMessage message.now }
     {
-        let stamp = message.stamp();
         LogEntry {
             number,
-            id: stamp.id,
-            red: stamp.red,
+            id: message.id(),
+            red: message.red(),
             shadow: message.shadow(),
         }
     }

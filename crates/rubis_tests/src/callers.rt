@@ -69,7 +69,7 @@ fn a_first_user_is_registered(rt: HostRuntime) -> Result<(), Fail> {
     let ann = Nick::read(b"ann").ok_or("a nickname")?;
     let config = Config::new(0, 2, 4, 2, 64, 1000).ok_or("a configuration")?;
     let message = first_user(&rt, rt.alloc(), &config, ann)?;
-    assert_eq!(rt; message.stamp().id.seq, 1);
+    assert_eq!(rt; message.id().seq, 1);
     Ok(())
 }
 

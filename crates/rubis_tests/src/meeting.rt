@@ -157,7 +157,7 @@ fn two_workers_meet_in_a_request(rt: HostRuntime) -> Result<(), Fail> {
     let mut site = site_that_meets(rt.alloc(), 64, &meeting)?;
     arrive_three(&rt, &mut site, rt.alloc())?;
     let comment = ask(rt.alloc(), "comment,0.3,0.2,0.1,5,x")?;
-    let made = site.request(&rt, comment)?.stamp().id;
+    let made = site.request(&rt, comment)?.id();
     assert_eq!(rt; (made.site, made.seq), (1, 1));
     assert!(rt; meeting.met());
     Ok(())

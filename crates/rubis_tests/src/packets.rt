@@ -138,7 +138,7 @@ fn a_batch_is_applied_at_a_request_that_releases_three(rt: HostRuntime) -> Resul
     let mut site = site_with_batches_of_three(rt.alloc(), 0)?;
     hold_two(&rt, &mut site, rt.alloc())?;
     let nick = Nick::read(b"ann").ok_or("a nickname")?;
-    assert_eq!(rt; site.request(&rt, Ask::User(nick))?.stamp().id.seq, 1);
+    assert_eq!(rt; site.request(&rt, Ask::User(nick))?.id().seq, 1);
     assert_eq!(rt; site.history().len(), 3);
     assert_eq!(rt; site.cut(&rt)?, 0);
     Ok(())

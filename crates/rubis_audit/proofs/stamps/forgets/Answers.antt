@@ -1,4 +1,5 @@
-use Rattle.std.proofs.Common.{◌∙◌, ◌<◌, arith, ap, length, get_or, subst, sym, false}
+use Rattle.std.proofs.Common.{◌∙◌, ◌<◌, arith, ap, length, sym, false}
+use Rattle.std.specs.Prelude.{slice_index}
 use Rattle.std.specs.Option.{option_map_or}
 use Rattle.rubis_audit.specs.Lookups.{by_message_id, exceeds, last_of}
 use Rattle.rubis_audit.proofs.SiteTests.{no_site, some_site}
@@ -8,12 +9,13 @@ pub returns-then-last_exceeds : goal.returns-then-last_exceeds
 returns-then-last_exceeds c all h =
     let v = c.args.v.now in
     let j = c.loop-j.j in
-    let mine = c.as_slice-mine.ensures.value ∙ ap (λ s. s.deps) c.stamp.ensures.value in
-    sym (some_site v (λ k. option_map_or (exceeds v) (by_message_id (last_of v k) all) false) j (subst (λ xs. j < length xs) mine c.loop-j-test.true)
-    (ap (λ xs. option_map_or (exceeds v) (by_message_id (record { site = j; seq = get_or xs j 0 }) all) false) (sym mine) ∙ sym (c.last_exceeds.ensures all h) ∙ c.if-last_exceeds.true))
+    let many = ap length c.deps-mine.ensures.value in
+    let mine = c.count.ensures ∙ ap (λ xs. slice_index xs j) c.deps-mine.ensures.value in
+    sym (some_site v (λ k. option_map_or (exceeds v) (by_message_id (last_of v k) all) false) j (omega (arith, many, c.sites-j-end.ensures.value, c.loop-j-test.true))
+    (ap (λ n. option_map_or (exceeds v) (by_message_id (record { site = j; seq = n }) all) false) (sym mine) ∙ sym (c.last_exceeds.ensures all h) ∙ c.if-last_exceeds.true))
 
 pub returns : goal.returns
 returns c all h =
     let v = c.args.v.now in
-    let mine = ap length (c.as_slice-mine.ensures.value ∙ ap (λ s. s.deps) c.stamp.ensures.value) in
-    sym (no_site v (λ k. option_map_or (exceeds v) (by_message_id (last_of v k) all) false) (λ j l. c.loop-j.invariant all h j (omega (arith, mine, l))))
+    let many = ap length c.deps-mine.ensures.value in
+    sym (no_site v (λ k. option_map_or (exceeds v) (by_message_id (last_of v k) all) false) (λ j l. c.loop-j.invariant all h j (omega (arith, many, c.sites-j-end.ensures.value, l))))

@@ -1,19 +1,22 @@
 use Rattle.std.proofs.Common.{◌≡◌, ◌∙◌, ◌<◌, arith, ap, length, get_or, subst, sym}
 use Rattle.std.specs.Prelude.{◌==◌, ◌&&◌, nat_lt, not, slice_index}
+use Rattle.rubis_schema.specs.declared.ids.Id.{Id}
 use Rattle.rubis_message.specs.Message.{dep}
 use Rattle.rubis_audit.proofs.SiteTests.{early_at, no_site, some_site}
 use Rattle.rubis_audit.proofs.stamps.is_early.Goals as goal
 
-pub returns-then-counts-j : goal.returns-then-counts-j
-returns-then-counts-j c =
+pub returns-then-counts-from : goal.returns-then-counts-from
+returns-then-counts-from c =
     let v = c.args.v.now in
-    let mine = c.as_slice-mine.ensures.value ∙ ap (λ s. s.deps) c.stamp-stamp.ensures.value in
-    let site = c.from.ensures ∙ ap (λ s. s.id.site) c.stamp-stamp.ensures.value in
-    sym (some_site v (λ j. not (j == v.stamp.id.site) && nat_lt (slice_index c.args.counts.now j) (dep v j)) c.loop-j.j (subst (λ xs. c.loop-j.j < length xs) mine c.loop-j-test.true)
-    (early_at _ _ _ _ (subst (λ s. ¬ (c.loop-j.j ≡ s)) site c.if-j-from.true) (subst (λ xs. get_or c.args.counts.now c.loop-j.j 0 < get_or xs c.loop-j.j 0) mine c.if-counts-j.true)))
+    let j = c.loop-j.j in
+    let many = ap length c.deps-mine.ensures.value in
+    let mine = c.count.ensures ∙ ap (λ xs. slice_index xs j) c.deps-mine.ensures.value in
+    let site = ap (λ (i : Id). i.site) c.id.ensures.value in
+    sym (some_site v (λ k. not (k == v.stamp.id.site) && nat_lt (slice_index c.args.counts.now k) (dep v k)) j (omega (arith, many, c.sites-j-end.ensures.value, c.loop-j-test.true))
+    (early_at _ _ _ _ (subst (λ s. ¬ (j ≡ s)) site c.if-j-origin.true) (subst (λ n. get_or c.args.counts.now j 0 < n) mine c.if-counts-from.true)))
 
 pub returns : goal.returns
 returns c =
     let v = c.args.v.now in
-    let mine = ap length (c.as_slice-mine.ensures.value ∙ ap (λ s. s.deps) c.stamp-stamp.ensures.value) in
-    sym (no_site v (λ j. not (j == v.stamp.id.site) && nat_lt (slice_index c.args.counts.now j) (dep v j)) (λ j l. c.loop-j.invariant j (omega (arith, mine, l))))
+    let many = ap length c.deps-mine.ensures.value in
+    sym (no_site v (λ j. not (j == v.stamp.id.site) && nat_lt (slice_index c.args.counts.now j) (dep v j)) (λ j l. c.loop-j.invariant j (omega (arith, many, c.sites-j-end.ensures.value, l))))

@@ -1,6 +1,5 @@
 use Rattle.std.proofs.Common.{◌≡◌, ◌+◌, ◌<◌, ◌∙◌, ap, arith, get_or, length, subst, sym}
 use Rattle.std.specs.Prelude.{map}
-use Rattle.rubis_clock.specs.Clocks.{IsReady, advanced}
 use Rattle.rubis_audit.proofs.Merging.{Merges, counts_same, is_ready, merges_end, merges_skip, merges_start, merges_take, one_at, origin_within}
 use Rattle.rubis_audit.proofs.Walking.{entry_is}
 use Rattle.rubis_audit.proofs.walks_lacks.merge_log.Goals as goal
@@ -31,19 +30,17 @@ is_new-requires c =
     c.index-logs-at.is (subst (λ xs. c.loop-shared.shared-index < length xs) inv.0 c.loop-shared-test.true)
     (entry_is _ c.index-logs-at.result.messages c.loop-shared.shared-index c.shared-item.result c.deref-message.result.now inv.0 c.shared-item.is c.deref-message.ensures) inv.1
 
-pub advance-requires-clause-origin : goal.advance-requires-clause-origin
-advance-requires-clause-origin c =
-    let p = (goal.at.advance-requires-clause-origin c).After-is_new in
-    subst (λ s. s.id.site < length c.loop-shared.clock.counts) (sym c.stamp.ensures.value)
-    (origin_within c.args.sites c.args.logs.now c.args.at c.index-logs-at.result c.loop-shared.shared-index c.deref-message.result.now _ c.loop-shared.clock c.requires.faultless c.requires.among
-    c.requires.place c.index-logs-at.is (within p) (entry p) c.is_new.ensures.conditions (merges p))
+pub count_in-requires-clause-origin : goal.count_in-requires-clause-origin
+count_in-requires-clause-origin c =
+    let p = (goal.at.count_in-requires-clause-origin c).After-is_new in
+    origin_within c.args.sites c.args.logs.now c.args.at c.index-logs-at.result c.loop-shared.shared-index c.deref-message.result.now _ c.loop-shared.clock c.requires.faultless c.requires.among
+    c.requires.place c.index-logs-at.is (within p) (entry p) c.is_new.ensures.conditions (merges p)
 
-pub advance-requires-clause-ready : goal.advance-requires-clause-ready
-advance-requires-clause-ready c =
-    let p = (goal.at.advance-requires-clause-ready c).After-is_new in
-    subst (IsReady c.loop-shared.clock) (sym c.stamp.ensures.value)
-    (is_ready c.args.sites c.args.logs.now c.args.at c.index-logs-at.result c.loop-shared.shared-index c.deref-message.result.now _ c.loop-shared.clock c.requires.faultless c.requires.among
-    c.requires.place c.index-logs-at.is (within p) (entry p) c.is_new.ensures.conditions (merges p) (sym c.if-is_new.true ∙ c.is_new.ensures.new))
+pub count_in-requires-clause-ready : goal.count_in-requires-clause-ready
+count_in-requires-clause-ready c =
+    let p = (goal.at.count_in-requires-clause-ready c).After-is_new in
+    is_ready c.args.sites c.args.logs.now c.args.at c.index-logs-at.result c.loop-shared.shared-index c.deref-message.result.now _ c.loop-shared.clock c.requires.faultless c.requires.among
+    c.requires.place c.index-logs-at.is (within p) (entry p) c.is_new.ensures.conditions (merges p) (sym c.if-is_new.true ∙ c.is_new.ensures.new)
 
 pub loop-shared-preserved : goal.loop-shared-preserved
 loop-shared-preserved c log e =
@@ -60,7 +57,7 @@ loop-shared-preserved c log e =
             subst (λ q. Merges c.args.sites c.args.logs.now c.args.at log (n + 1) (map (λ m. m.now) q.items) c.if-is_new.clock) (sym w.merged-is)
             (subst (λ q. Merges c.args.sites c.args.logs.now c.args.at log (n + 1) q c.if-is_new.clock) (sym w.in_ok-put_last.ensures)
             (merges_take c.args.sites c.args.logs.now c.args.at log n v messages clock c.requires.faultless c.requires.among c.requires.place e k i c.is_new.ensures.conditions inv.1 (sym w.if-is_new.true ∙ c.is_new.ensures.new) c.if-is_new.clock
-            (w.clock-is ∙ w.advance.ensures ∙ ap (advanced clock) w.stamp.ensures.value)))
+            (w.clock-is ∙ w.count_in.ensures)))
         | else-is_new w ↦
             subst (λ q. Merges c.args.sites c.args.logs.now c.args.at log (n + 1) (map (λ m. m.now) q.items) c.if-is_new.clock) (sym w.merged-is)
             (subst (λ q. Merges c.args.sites c.args.logs.now c.args.at log (n + 1) messages q) (sym w.clock-is)

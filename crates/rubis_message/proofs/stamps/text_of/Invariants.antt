@@ -4,4 +4,4 @@ use Rattle.rubis_message.specs.Grammar.{deps_text}
 use Rattle.rubis_message.proofs.stamps.text_of.Given as goal
 
 abbrev pub invariant-loop-site : goal.invariant-loop-site
-invariant-loop-site l = (l.text ≡ deps_text (drop l.site l.counts)) × (length l.text + 11 * l.site ≤ 11 * length l.counts) × (is_plain l.text ≡ true)
+invariant-loop-site l = (l.text ≡ deps_text (drop l.site l.deps)) × (length l.text + 11 * l.site ≤ 11 * length l.deps) × (is_plain l.text ≡ true)

@@ -1,12 +1,10 @@
-use Rattle.std.proofs.Common.{length, subst, sym, ap, ◌∙◌, arith}
+use Rattle.std.proofs.Common.{subst, sym, ap, ◌∙◌, arith}
 use Rattle.std.specs.Prelude.{Some}
 use mathlib.Core.Bool.{true≢false}
 use Rattle.rubis_schema.specs.Keys.{same_id}
 use Rattle.rubis_schema.specs.declared.ids.Id.{Id}
 use Rattle.rubis_clock.specs.Clocks.{IsReady}
-use Rattle.rubis_clock.specs.declared.stamps.Stamp.{Stamp}
 use Rattle.rubis_message.specs.Message.{Message}
-use Rattle.rubis_release.specs.Release.{IsAmong}
 use Rattle.rubis_release.proofs.Gaps.{un_some}
 use Rattle.rubis_release.proofs.Slots.{missing_none, found_none, found_first, key_passes, slot_has}
 use Rattle.rubis_release.proofs.waiting.ready_of.Goals as goal
@@ -26,21 +24,13 @@ returns-in_default-slot c =
     (key_passes (same_id id) c.args.slots.now.entries c.in-Some._key.now c.in-Some.ensures.key)
     (λ m is ready. c.in_default-slot.not-Some m is)
 
-among : (c : goal.After-stamp) → IsAmong (length c.args.clock.now.counts) c.in-Some-slot.message
-among c = c.requires.among c.in-Some-slot.message
-    (slot_has c.args.slots.now.entries c.in-Some.at c.in-Some._key.now c.in-Some-slot.message (c.in-Some.ensures.entry ∙ ap (λ x. Some (c.in-Some._key.now, x)) c.in-Some-slot.is))
+pub is_ready-requires : goal.is_ready-requires
+is_ready-requires c =
+    (c.requires.among c.in-Some-slot.message
+    (slot_has c.args.slots.now.entries c.in-Some.at c.in-Some._key.now c.in-Some-slot.message (c.in-Some.ensures.entry ∙ ap (λ x. Some (c.in-Some._key.now, x)) c.in-Some-slot.is))).counts
 
-pub ready-requires-clause-sites : goal.ready-requires-clause-sites
-ready-requires-clause-sites c = ap (λ (s : Stamp). length s.deps) c.stamp.ensures.value ∙ (among c).counts
-
-pub ready-requires-clause-origin : goal.ready-requires-clause-origin
-ready-requires-clause-origin c =
-    let e = ap (λ (s : Stamp). s.id.site) c.stamp.ensures.value in
-    let l = (among c).id.site in
-    omega (arith, e, l)
-
-pub returns-then-not-ready : goal.returns-then-not-ready
-returns-then-not-ready c =
+pub returns-then-not-is_ready : goal.returns-then-not-is_ready
+returns-then-not-is_ready c =
     let id : Id = record { site = c.args.site; seq = c.saturating_add.result } in
     found_none c.args.clock.now c.args.slots.now.entries id c.requires.own
     (λ m h. (c.requires.among m h).id.small) (λ l. omega (arith, l, c.saturating_add.ensures, c.count.ensures))
@@ -48,9 +38,8 @@ returns-then-not-ready c =
     (key_passes (same_id id) c.args.slots.now.entries c.in-Some._key.now c.in-Some.ensures.key)
     (λ m is ready.
     let same = un_some c.in-Some-slot.message m (sym c.in-Some-slot.is ∙ is) in
-    let here : IsReady c.args.clock.now c.stamp.result.now =
-    subst (IsReady c.args.clock.now) (sym (c.stamp.ensures.value ∙ ap (λ (x : Message). x.stamp) same)) ready in
-    true≢false (sym (c.ready.ensures.1 here) ∙ c.if-not-ready.true))
+    let here : IsReady c.args.clock.now c.in-Some-slot.message.stamp = subst (λ (x : Message). IsReady c.args.clock.now x.stamp) (sym same) ready in
+    true≢false (sym (c.is_ready.ensures.1 here) ∙ c.if-not-is_ready.true))
 
 pub returns : goal.returns
 returns c =
@@ -60,4 +49,4 @@ returns c =
     c.in-Some.at c.in-Some._key.now c.in-Some.slot.now c.requires.apart c.in-Some.ensures.entry
     (key_passes (same_id id) c.args.slots.now.entries c.in-Some._key.now c.in-Some.ensures.key)
     c.in-Some-slot.message c.in-Some-slot.is
-    (subst (IsReady c.args.clock.now) c.stamp.ensures.value (c.ready.ensures.0 c.if-not-ready.false))
+    (c.is_ready.ensures.0 c.if-not-is_ready.false)

@@ -24,13 +24,13 @@ invariant_of-self-2 c =
     c.in_ok-release.ensures.settles)
     c.release.ensures.sites c.release.ensures.settled
 
-red : (c : goal.After-self-2-1) → c.stamp.result.now.red ≡ (made c.args.self.now.place c.args.self.now.state c.args.shadow).stamp.red
-red c = ap (λ (s : Stamp). s.red) (c.stamp.ensures.value ∙ ap (λ (m : Message). m.stamp) (c.in_ok-copy.ensures ∙ c.new-message.ensures) ∙ c.next_stamp.ensures)
+red : (c : goal.After-self-2-1) → c.red-red.result ≡ (made c.args.self.now.place c.args.self.now.state c.args.shadow).stamp.red
+red c = c.red-red.ensures.value ∙ ap (λ (m : Message). m.stamp.red) (c.in_ok-copy.ensures ∙ c.new-message.ensures) ∙ ap (λ (s : Stamp). s.red) c.next_stamp.ensures
 
 held : (c : goal.After-self-2-1) → c.if-red-eq0.self ≡ issued_after c.args.shadow c.args.self.now.state.held
 held c = elim c.if-red-eq0.branch [
-  | then-red-eq0 w ↦ w.self-is ∙ ap (λ (i : Intake). i.state.held) c.self.view_is ∙ held_for_blue c.args.self.now.state c.args.shadow c.stamp.result.now.red c.requires.right (red c) w.if-red-eq0.true
-  | else-red-eq0 w ↦ w.self-is ∙ held_for_red c.args.self.now.state c.args.shadow c.stamp.result.now.red c.requires.right (red c) w.if-red-eq0.false
+  | then-red-eq0 w ↦ w.self-is ∙ ap (λ (i : Intake). i.state.held) c.self.view_is ∙ held_for_blue c.args.self.now.state c.args.shadow c.red-red.result c.requires.right (red c) w.if-red-eq0.true
+  | else-red-eq0 w ↦ w.self-is ∙ held_for_red c.args.self.now.state c.args.shadow c.red-red.result c.requires.right (red c) w.if-red-eq0.false
 ]
 
 pub returns-clause-state : goal.returns-clause-state

@@ -1,6 +1,6 @@
 use Rattle.std.proofs.Common.{ap, ◌∙◌, sym, arith}
 use Rattle.std.specs.Prelude.{nat_lt}
-use Rattle.rubis_clock.specs.declared.stamps.Stamp.{Stamp}
+use Rattle.rubis_schema.specs.declared.ids.Id.{Id}
 use Rattle.rubis_model.specs.Site.{not_ours}
 use Rattle.rubis_release.specs.Intake.{Intake}
 use Rattle.rubis_release.proofs.Intakes.{sites_of_clock, not_ours_is}
@@ -11,6 +11,6 @@ count-requires c = let e = sites_of_clock _ _ _ c.self.invariant c.clock.ensures
 
 pub returns-then-id-self : goal.returns-then-id-self
 returns-then-id-self c =
-    (λ j. nat_lt (c.count.ensures j) (c.stamp.ensures.value j).id.seq)
-    ∙ not_ours_is _ _ _ c.args.message.now c.self.invariant c.clock.ensures (ap (λ (s : Stamp). s.id.site) (sym c.stamp.ensures.value) ∙ c.if-id-self.true)
+    (λ j. nat_lt (c.count.ensures j) (c.id-id.ensures.value j).seq)
+    ∙ not_ours_is _ _ _ c.args.message.now c.self.invariant c.clock.ensures (ap (λ (i : Id). i.site) (sym c.id-id.ensures.value) ∙ c.if-id-self.true)
     ∙ ap (λ (i : Intake). not_ours i.place i.state c.args.message.now) c.self.view_is

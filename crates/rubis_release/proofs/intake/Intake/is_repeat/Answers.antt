@@ -2,7 +2,7 @@ use Rattle.std.proofs.Common.{◌||◌, ap, ◌∙◌, sym, subst, arith}
 use Rattle.std.specs.List.{list_any}
 use Rattle.std.proofs.lemmas.Bool.{le-leb, lt-leb}
 use Rattle.rubis_schema.specs.Keys.{same_id}
-use Rattle.rubis_clock.specs.declared.stamps.Stamp.{Stamp}
+use Rattle.rubis_schema.specs.declared.ids.Id.{Id}
 use Rattle.rubis_message.specs.Message.{Message}
 use Rattle.rubis_model.specs.Site.{is_repeat}
 use Rattle.rubis_release.specs.Intake.{Intake}
@@ -14,24 +14,24 @@ pub count-requires : goal.count-requires
 count-requires c =
     let e = sites_of_clock _ _ _ c.self.invariant c.clock.ensures in
     let p = ap (λ (i : Intake). i.place.sites) c.self.view_is in
-    let s = ap (λ (s : Stamp). s.id.site) c.stamp.ensures.value in
-    let l = (among_is _ c.args.message.now c.stamp.ensures.conditions c.requires).id.site in
+    let s = ap (λ (i : Id). i.site) c.id-id.ensures.value in
+    let l = (among_is _ c.args.message.now c.id-id.ensures.conditions c.requires).id.site in
     omega (arith, e, p, s, l)
 
 pub returns-then-id-count-clause-value : goal.returns-then-id-count-clause-value
 returns-then-id-count-clause-value c =
-    let e = le-leb c.stamp.result.now.id.seq c.count.result c.if-id-count.true in
-    e ∙ ap (λ b. b || list_any (λ (u : Message). same_id c.stamp.result.now.id u.stamp.id) c.self.inside.messages.waiting) (sym e)
+    let e = le-leb c.id-id.result.seq c.count.result c.if-id-count.true in
+    e ∙ ap (λ b. b || list_any (λ (u : Message). same_id c.id-id.result u.stamp.id) c.self.inside.messages.waiting) (sym e)
     ∙ is_repeat_by_count _ _ _ c.args.message.now c.self.invariant c.clock.ensures
-    (subst (λ (i : Intake). IsAmong i.place.sites c.args.message.now) (sym c.self.view_is) (among_is _ c.args.message.now c.stamp.ensures.conditions c.requires))
-    c.stamp.result.now c.stamp.ensures.value c.count.result c.count.ensures
+    (subst (λ (i : Intake). IsAmong i.place.sites c.args.message.now) (sym c.self.view_is) (among_is _ c.args.message.now c.id-id.ensures.conditions c.requires))
+    c.id-id.result c.id-id.ensures.value c.count.result c.count.ensures
     ∙ ap (λ (i : Intake). is_repeat i.state c.args.message.now) c.self.view_is
 
 pub returns-else-id-count-clause-value : goal.returns-else-id-count-clause-value
 returns-else-id-count-clause-value c =
-    let e = lt-leb c.stamp.result.now.id.seq c.count.result c.if-id-count.false in
-    c.has_waiting.ensures ∙ ap (λ b. b || list_any (λ (u : Message). same_id c.stamp.result.now.id u.stamp.id) c.self.inside.messages.waiting) (sym e)
+    let e = lt-leb c.id-id.result.seq c.count.result c.if-id-count.false in
+    c.has_waiting.ensures ∙ ap (λ b. b || list_any (λ (u : Message). same_id c.id-id.result u.stamp.id) c.self.inside.messages.waiting) (sym e)
     ∙ is_repeat_by_count _ _ _ c.args.message.now c.self.invariant c.clock.ensures
-    (subst (λ (i : Intake). IsAmong i.place.sites c.args.message.now) (sym c.self.view_is) (among_is _ c.args.message.now c.stamp.ensures.conditions c.requires))
-    c.stamp.result.now c.stamp.ensures.value c.count.result c.count.ensures
+    (subst (λ (i : Intake). IsAmong i.place.sites c.args.message.now) (sym c.self.view_is) (among_is _ c.args.message.now c.id-id.ensures.conditions c.requires))
+    c.id-id.result c.id-id.ensures.value c.count.result c.count.ensures
     ∙ ap (λ (i : Intake). is_repeat i.state c.args.message.now) c.self.view_is

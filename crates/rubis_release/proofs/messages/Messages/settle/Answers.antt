@@ -1,6 +1,4 @@
-use Rattle.std.proofs.Common.{◌<◌, List, length, ◌∙◌, sym, subst, arith}
-use Rattle.rubis_clock.specs.Clocks.{IsReady}
-use Rattle.rubis_clock.specs.declared.stamps.Stamp.{Stamp}
+use Rattle.std.proofs.Common.{List, length, refl, ◌∙◌, sym, subst, arith}
 use Rattle.rubis_message.specs.Message.{Message}
 use Rattle.rubis_model.specs.Settle.{Settles}
 use Rattle.rubis_release.specs.Release.{NoneReady}
@@ -8,11 +6,11 @@ use Rattle.rubis_release.proofs.Counting.{sites_stay, counted_on}
 use Rattle.rubis_release.proofs.Releasing.{turn, at_rest}
 use Rattle.rubis_release.proofs.messages.Messages.settle.Goals as goal
 
-pub advance-requires-clause-origin : goal.advance-requires-clause-origin
-advance-requires-clause-origin c = subst (λ (s : Stamp). s.id.site < length c.loop-message.self-inside.clock.counts) (sym c.stamp.ensures.value) (turn _ _ _ _ _ c.loop-message.invariant.counted c.in-Some.ensures).among.id.site
+pub count_in-requires-clause-origin : goal.count_in-requires-clause-origin
+count_in-requires-clause-origin c = (turn _ _ _ _ _ c.loop-message.invariant.counted c.in-Some.ensures).among.id.site
 
-pub advance-requires-clause-ready : goal.advance-requires-clause-ready
-advance-requires-clause-ready c = subst (λ (s : Stamp). IsReady c.loop-message.self-inside.clock s) (sym c.stamp.ensures.value) (turn _ _ _ _ _ c.loop-message.invariant.counted c.in-Some.ensures).ready
+pub count_in-requires-clause-ready : goal.count_in-requires-clause-ready
+count_in-requires-clause-ready c = (turn _ _ _ _ _ c.loop-message.invariant.counted c.in-Some.ensures).ready
 
 pub loop-message-smaller : goal.loop-message-smaller
 loop-message-smaller c = let l = (turn _ _ _ _ _ c.loop-message.invariant.counted c.in-Some.ensures).shorter in omega (arith, l)
@@ -22,9 +20,9 @@ loop-message-preserved c =
     let inv = c.loop-message.invariant in
     let t = turn _ _ _ _ _ c.loop-message.invariant.counted c.in-Some.ensures in
     record {
-      sites = sites_stay c.loop-message.self-inside.clock c.advance.new.self c.stamp.result.now c.advance.ensures ∙ inv.sites;
-      counted = counted_on c.loop-message.self-inside.log.items c.push_reserved.new.self c.take_ready.new.self c.loop-message.self-inside.clock c.advance.new.self c.in-Some.message c.stamp.result.now
-          inv.counted.counts t.sites t.among c.stamp.ensures.value c.advance.ensures c.push_reserved.ensures.items
+      sites = sites_stay c.loop-message.self-inside.clock c.count_in.new.clock c.in-Some.message.stamp c.count_in.ensures ∙ inv.sites;
+      counted = counted_on c.loop-message.self-inside.log.items c.push_reserved.new.self c.take_ready.new.self c.loop-message.self-inside.clock c.count_in.new.clock c.in-Some.message c.in-Some.message.stamp
+          inv.counted.counts t.sites t.among refl c.count_in.ensures c.push_reserved.ensures.items
           (omega (arith, t.shorter, inv.counted.room, c.push_reserved.ensures.len, c.push_reserved.ensures.capacity));
       settles = λ a b s. inv.settles a b (t.settles a b (subst (λ (x : List Message). Settles x c.take_ready.new.self a b) c.push_reserved.ensures.items s));
     }

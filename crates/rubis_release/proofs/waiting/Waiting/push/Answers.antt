@@ -4,7 +4,6 @@ use Rattle.std.specs.List.{list_any}
 use Rattle.indexmap.specs.IndexMap.{insert_entry}
 use Rattle.rubis_schema.specs.Keys.{same_id}
 use Rattle.rubis_schema.specs.declared.ids.Id.{Id}
-use Rattle.rubis_clock.specs.declared.stamps.Stamp.{Stamp}
 use Rattle.rubis_message.specs.Message.{Message}
 use Rattle.rubis_release.specs.Waiting.{AreApart, AreSlots, somes}
 use Rattle.rubis_release.proofs.Gaps.{new_last, slots_more, somes_append}
@@ -12,20 +11,20 @@ use Rattle.rubis_release.proofs.waiting.Waiting.push.Goals as goal
 
 pub make_place-self-inside-requires-clause-none : goal.make_place-self-inside-requires-clause-none
 make_place-self-inside-requires-clause-none c =
-    ap (λ (i : Id). list_any (λ (m : Message). same_id i m.stamp.id) (somes c.self.inside.slots.entries)) (ap (λ (s : Stamp). s.id) c.stamp.ensures.value)
+    ap (λ (i : Id). list_any (λ (m : Message). same_id i m.stamp.id) (somes c.self.inside.slots.entries)) c.id-id.ensures.value
     ∙ ap (list_any (λ (m : Message). same_id c.args.message.stamp.id m.stamp.id)) c.self.view_is ∙ c.requires
 
 pub invariant_of-self-2 : goal.invariant_of-self-2
 invariant_of-self-2 c =
-    let k = c.stamp.result.now.id in
+    let k = c.id-id.result in
     let es = c.make_place-self-inside.new.slots.entries in
     subst (λ fs. AreSlots fs c.make_place-self-inside.result) (sym (c.in-Ok.ensures.entries ∙ ap (λ fs. insert_entry same_id fs k (Some c.args.message)) c.reserve.ensures.entries ∙ new_last k (Some c.args.message) es c.make_place-self-inside.ensures.absent))
-    (slots_more es c.make_place-self-inside.result k c.args.message c.make_place-self-inside.ensures.slots (sym (ap (λ (s : Stamp). s.id) c.stamp.ensures.value))
+    (slots_more es c.make_place-self-inside.result k c.args.message c.make_place-self-inside.ensures.slots (sym c.id-id.ensures.value)
     (subst AreApart (c.in-Ok.ensures.entries ∙ ap (λ fs. insert_entry same_id fs k (Some c.args.message)) c.reserve.ensures.entries ∙ new_last k (Some c.args.message) es c.make_place-self-inside.ensures.absent) c.insert.ensures.unique))
 
 pub returns-clause-ok : goal.returns-clause-ok
 returns-clause-ok c =
-    let k = c.stamp.result.now.id in
+    let k = c.id-id.result in
     let es = c.make_place-self-inside.new.slots.entries in
     ap somes (c.in-Ok.ensures.entries ∙ ap (λ fs. insert_entry same_id fs k (Some c.args.message)) c.reserve.ensures.entries ∙ new_last k (Some c.args.message) es c.make_place-self-inside.ensures.absent)
     ∙ somes_append es ((k, Some c.args.message) ∷ [])

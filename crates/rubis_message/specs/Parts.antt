@@ -1,0 +1,11 @@
+-- A message in the parts that are kept of it.
+use Rattle.std.specs.Prelude.{ℕ, ◌+◌, List, slice_index}
+use Rattle.rubis_shadow.specs.declared.shadows.Shadow.{Shadow}
+use Rattle.rubis_message.specs.Message.{Message}
+
+-- its number is one more than the count of its site
+abbrev pub message_of : ℕ → List ℕ → ℕ → Shadow → Message
+message_of red deps site shadow = record {
+  stamp = record { id = record { site = site; seq = slice_index deps site + 1 }; red = red; deps = deps };
+  shadow = shadow;
+}
