@@ -18,7 +18,7 @@ use Rattle.rubis_shadow.specs.Freed.{FreesOnlyNicks, IsNick}
 use Rattle.rubis_shadow.specs.declared.changes.Change.{Change}
 use Rattle.rubis_shadow.specs.declared.changes.Change.TheVariants as change
 use Rattle.rubis_shadow.specs.declared.changes.Change.TheVariants.{Insert}
-use Rattle.rubis_shadow.specs.declared.changes.Effect.{Effect}
+use Rattle.rubis_shadow.specs.declared.keyed_change.Effect.{Effect}
 use Rattle.rubis_shadow.specs.declared.changes.Fate.{Fate}
 use Rattle.rubis_shadow.specs.declared.changes.MisfitKind.TheVariants.{StockShort}
 use Rattle.rubis_shadow.proofs.Rows.{after_alter, misfit_alter, after_none, misfit_none, remove_none, not_insert, none_of, row_stays}
@@ -80,20 +80,21 @@ if_open_stays : (i : ItemRow) (sale : Sale) (d : Done) → IsSome d.row → IsSo
 if_open_stays i sale.Open d e = e
 if_open_stays i (sale.Ended w) d e = refl
 
-pub row_stays_at : (k : RowKey) (c : Change) (r : Row) → ¬ IsNick k → FreesOnlyNicks k c → IsSome (change_row c (Some r)).row
+row_kept : (k : RowKey) → ¬ IsNick k → (r : Row) (c : Change) → FreesOnlyNicks k c → IsSome (change_row c (Some r)).row
 unfolding change_row
-row_stays_at k change.ItemListed (row.User u) other frees = refl
-row_stays_at k (change.Bought q) (row.User u) other frees = refl
-row_stays_at k (change.Rated x) (row.User u) other frees = refl
-row_stays_at k change.CatListed (row.Cat n) other frees = refl
-row_stays_at k change.CatEnded (row.Cat n) other frees = refl
-row_stays_at k (change.BidTaken b) (row.Item i) other frees = if_open_stays i i.sale _ refl
-row_stays_at k (change.Sold q) (row.Item i) other frees = if_open_stays i i.sale _ (elim (nat_le q i.stock) as (λ b. IsSome (cond b (fits_as (row.Item (record i { stock = i.stock - q; sold = count_up i.sold q }))) (misfits_as StockShort (Some (row.Item i)))).row) [ true ↦ refl | false ↦ refl ])
-row_stays_at k (change.End w) (row.Item i) other frees = if_open_stays i i.sale _ refl
-row_stays_at k (change.Restocked q) (row.Item i) other frees = refl
-row_stays_at k (change.Renamed n) (row.User u) other frees = refl
-row_stays_at k (change.NickFreed u) r other frees = absurd (other frees)
-row_stays_at k c r other frees = refl
+row_kept k other (row.Item i) (change.BidTaken b) frees = if_open_stays i i.sale _ refl
+row_kept k other (row.Item i) (change.Sold q) frees = if_open_stays i i.sale _ (elim (nat_le q i.stock) as (λ b. IsSome (cond b (fits_as (row.Item (record i { stock = i.stock - q; sold = count_up i.sold q }))) (misfits_as StockShort (Some (row.Item i)))).row) [ true ↦ refl | false ↦ refl ])
+row_kept k other (row.Item i) (change.End w) frees = if_open_stays i i.sale _ refl
+row_kept k other (row.Nick i) (change.NickFreed u) frees = absurd (other frees)
+row_kept k other (row.User u) (change.Insert x) frees = refl
+row_kept k other (row.Cat n) (change.Insert x) frees = refl
+row_kept k other (row.Bid b) (change.Insert x) frees = refl
+row_kept k other (row.Purchase p) (change.Insert x) frees = refl
+row_kept k other (row.Comment m) (change.Insert x) frees = refl
+row_kept k other r c frees = refl
+
+pub row_stays_at : (k : RowKey) (c : Change) (r : Row) → ¬ IsNick k → FreesOnlyNicks k c → IsSome (change_row c (Some r)).row
+row_stays_at k c r other frees = row_kept k other r c frees
 
 stays_if_some : (b : Bool) (row : Row) (o : Option Row) → IsSome o → o ≡ cond b (Some row) None → b ≡ true
 stays_if_some true row o some is = refl

@@ -165,25 +165,22 @@ unfolding chain_or
 if_open_kept i sale.Open d e = e
 if_open_kept i (sale.Ended w) d e = refl
 
-stays : (c : Change) (r : Row) → chain_or (change_row c (Some r)).row ≡ chain_of_row r
+stays : (r : Row) (c : Change) → chain_or (change_row c (Some r)).row ≡ chain_of_row r
 unfolding change_row chain_or
-stays (change.Insert x) r = refl
-stays change.ItemListed (row.User u) = refl
-stays (change.Bought q) (row.User u) = refl
-stays (change.Rated x) (row.User u) = refl
-stays change.CatListed (row.Cat k) = refl
-stays change.CatEnded (row.Cat k) = refl
-stays (change.BidTaken b) (row.Item i) = if_open_kept i i.sale _ refl
-stays (change.Sold q) (row.Item i) = if_open_kept i i.sale _ (elim (nat_le q i.stock) as (λ b. chain_or (cond b (fits_as (row.Item (record i { stock = i.stock - q; sold = count_up i.sold q }))) (misfits_as StockShort (Some (row.Item i)))).row ≡ chain_of_row (row.Item i)) [ true ↦ refl | false ↦ refl ])
-stays (change.End w) (row.Item i) = if_open_kept i i.sale _ refl
-stays (change.Restocked q) (row.Item i) = refl
-stays (change.Renamed n) (row.User u) = refl
-stays (change.NickFreed u) (row.Nick i) = elim (same_id u i) as (λ b. chain_or (cond b removed (misfits_as OtherUser (Some (row.Nick i)))).row ≡ None) [ true ↦ refl | false ↦ refl ]
-stays c r = refl
+stays (row.Item i) (change.BidTaken b) = if_open_kept i i.sale _ refl
+stays (row.Item i) (change.Sold q) = if_open_kept i i.sale _ (elim (nat_le q i.stock) as (λ b. chain_or (cond b (fits_as (row.Item (record i { stock = i.stock - q; sold = count_up i.sold q }))) (misfits_as StockShort (Some (row.Item i)))).row ≡ chain_of_row (row.Item i)) [ true ↦ refl | false ↦ refl ])
+stays (row.Item i) (change.End w) = if_open_kept i i.sale _ refl
+stays (row.Nick i) (change.NickFreed u) = elim (same_id u i) as (λ b. chain_or (cond b removed (misfits_as OtherUser (Some (row.Nick i)))).row ≡ None) [ true ↦ refl | false ↦ refl ]
+stays (row.User u) (change.Insert x) = refl
+stays (row.Cat k) (change.Insert x) = refl
+stays (row.Bid b) (change.Insert x) = refl
+stays (row.Purchase p) (change.Insert x) = refl
+stays (row.Comment m) (change.Insert x) = refl
+stays r c = refl
 
 row_stays : (c : Change) (old new : Row) → (change_row c (Some old)).row ≡ Some new → chain_of_row new ≡ chain_of_row old
 unfolding chain_or
-row_stays c old new e = ap chain_or (sym e) ∙ stays c old
+row_stays c old new e = ap chain_or (sym e) ∙ stays old c
 
 pub chain_stays : (c : Change) (k : RowKey) (old new : Row) → (change_row c (Some old)).row ≡ Some new → chain_of k new ≡ chain_of k old
 chain_stays c (key.User id) old new e = refl

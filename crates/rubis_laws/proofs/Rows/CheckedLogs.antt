@@ -1,16 +1,15 @@
 -- What every checked log keeps: sums within the types, nothing said of a row that isn't there, red numbers that rise.
 use Rattle.std.proofs.Common.{ℕ, ◌≡◌, ◌+◌, ◌*◌, ◌≤◌, ◌<◌, List, [], ◌∷◌, ◌++◌, length, Bool, true, false, cond, refl, sym, ap, ◌∙◌, subst, arith, Option, Some, None, length-append}
-use Rattle.std.specs.Prelude.{ℤ, pos, ◌+ℤ◌, ◌&&◌, IfSome, IsSome, unsigned_abs, option_map}
+use Rattle.std.specs.Prelude.{ℤ, pos, ◌+ℤ◌, ◌&&◌, IfSome, unsigned_abs}
 use Rattle.std.specs.Option.{option_or}
 use Rattle.std.proofs.lemmas.Int.{ints}
-use mathlib.Core.Bool.{true≢false}
 use Rattle.rubis_schema.specs.declared.ids.Id.{Id}
 use Rattle.rubis_laws.proofs.Order.FitsByKind.{FitsByKind, bought_in, by_kind, nothing_of_item, nothing_of_user, rated_in, restocked_in, sold_in}
 use Rattle.rubis_laws.proofs.Rows.Heads.{Head, head_of, msg}
 use Rattle.rubis_shadow.specs.declared.shadows.NewItem.{NewItem}
 use Rattle.rubis_shadow.specs.Renames.{NewRename}
 use Rattle.rubis_shadow.specs.declared.shadows.Shadow.{Shadow}
-use Rattle.rubis_shadow.specs.declared.shadows.Shadow.TheVariants.{User, Item, Bid, Buy, Close, Comment, Restock, Rename}
+use Rattle.rubis_shadow.specs.declared.shadows.Shadow.TheVariants.{User, Item, Buy, Rename}
 use Rattle.rubis_model.specs.Log.{Core}
 use Rattle.rubis_schema.specs.Keys.{same_id}
 use Rattle.rubis_model.specs.Meaning.{count, total, int_sum_by, choose, choice, user_at, item_at, as_user, as_item, lists_item_of, bought_by, rates, rating_for, sold_of, restocked_of, bids_on, closes, when, supply, best_bid, close_of, higher, earlier, later, last_rename, nick_at, renames}

@@ -3,7 +3,7 @@ use Rattle.std.specs.FinMap as map
 use Rattle.std.specs.Prelude.{bytes_eq, nat_eq}
 use Rattle.rubis_schema.specs.IdKeys.{row_key, same_id_key}
 use Rattle.rubis_shadow.specs.Freed.{IsNick}
-use Rattle.rubis_shadow.specs.declared.changes.Effect.{Effect}
+use Rattle.rubis_shadow.specs.declared.keyed_change.Effect.{Effect}
 use Rattle.rubis_shard.specs.Chains.{IsLinkedSoFar}
 use Rattle.rubis_shard.proofs.Changed.{altered, altered_chains, changed_tables, changed_misfit, row_stays_at}
 use Rattle.rubis_shard.proofs.InMaps.{found_at, found_there, kept_is_no_nick, kept_with, nick_with, cat_with, same_entries, three, Three}
