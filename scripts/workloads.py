@@ -227,41 +227,30 @@ def audit_of(output: bytes) -> Work:
 # ---- what somebody may send to slow rubis down
 
 
-def rotated(word: int, by: int) -> int:
-    return (word << by | word >> (64 - by)) & (2**64 - 1)
+# The numbers by which nicknames are hashed where the system gives no random ones.
+FIRST, SECOND, LAST = 0x243F6A8885A308D3, 0x13198A2E03707344, 0xA4093822299F31D0
 
 
-def sip_hash(text: bytes) -> int:
-    """SipHash-1-3 with both keys 0: how nicknames are hashed where the system gives no random keys."""
-    a, b, c, d = 0x736F6D6570736575, 0x646F72616E646F6D, 0x6C7967656E657261, 0x7465646279746573
-    words = [int.from_bytes(text[at : at + 8], "little") for at in range(0, len(text) // 8 * 8, 8)]
-    words.append(int.from_bytes(text[len(text) // 8 * 8 :], "little") | len(text) << 56)
-    for word in [*words, None, None, None]:
-        if word is None:
-            c ^= 0xFF if words else 0
-            words = []
-        else:
-            d ^= word
-        a = (a + b) & (2**64 - 1)
-        c = (c + d) & (2**64 - 1)
-        b, d = rotated(b, 13) ^ a, rotated(d, 16) ^ c
-        a = rotated(a, 32)
-        c = (c + b) & (2**64 - 1)
-        a = (a + d) & (2**64 - 1)
-        b, d = rotated(b, 17) ^ c, rotated(d, 21) ^ a
-        c = rotated(c, 32)
-        a ^= word or 0
-    return a ^ b ^ c ^ d
+def joined_product(a: int, b: int) -> int:
+    """The two halves of a product of two words, joined."""
+    return (a * b) % 2**64 ^ (a * b) >> 64
+
+
+def nick_hash(nick: bytes) -> int:
+    """How a nickname is hashed by these numbers."""
+    first, second, third = (int.from_bytes(nick[at : at + 8], "little") for at in (0, 8, 16))
+    product = joined_product((first + FIRST) % 2**64, (second + SECOND) % 2**64)
+    return joined_product((third + product) % 2**64, LAST)
 
 
 def nicknames(many: int, chosen: bool) -> Iterator[str]:
-    """Nicknames; chosen ones are looked for in the first tenth of a table, under the hash without keys."""
+    """Nicknames; chosen ones are looked for in the first tenth of a table, under the numbers that are no secret."""
     place = 0
     for _ in range(many):
         while True:
             place += 1
             nick = f"u{place:x}".replace("0", "g")
-            hashed = sip_hash(nick.encode()) if chosen else 0
+            hashed = nick_hash(nick.encode()) if chosen else 0
             if (hashed ^ hashed >> 32) % 4096 < 410:
                 break
         yield nick

@@ -1,7 +1,7 @@
 -- How the pieces of a buffer follow its ends.
-use Rattle.std.proofs.Common.{◌≡◌, ◌≤◌, ◌<◌, ◌-◌, ◌+◌, ◌∙◌, ℕ, zero, suc, Some, get_or, List, [], ◌∷◌, ◌++◌, take, drop, length, refl, ap, sym, arith, length-append}
+use Rattle.std.proofs.Common.{◌≡◌, ◌≤◌, ◌<◌, ◌-◌, ◌+◌, ◌∙◌, ℕ, zero, suc, Some, get_or, List, [], ◌∷◌, ◌++◌, take, drop, length, refl, ap, sym, subst, arith, length-append}
 use Rattle.std.proofs.lemmas.Grind.{flat_map-append}
-use Rattle.std.proofs.lemmas.List.{append-nil, drop-append-le, length-drop, take-append-le, take_all}
+use Rattle.std.proofs.lemmas.List.{append-nil, drop-append-le, length-drop, length-take-le, take-append-le, take_all}
 use Rattle.std.proofs.Math.Seq.{drop-append-add}
 use Rattle.std.specs.List.{slice_get}
 use Rattle.rubis_schema.specs.FieldList.{Fills, IsLaidOut, comma, joined, pieces}
@@ -63,4 +63,31 @@ laid-push ends bytes field more laid size =
         commas = rw parts (ap (λ t. t ++ comma ∷ field) laid.commas ∙ sym (joined-push (pieces 0 ends bytes) field));
       },
       parts,
+    )
+
+-- a buffer has its pieces at one list of ends alone
+ends-fixed : (before : ℕ) (ends others bytes : List ℕ) → Fills before ends (length bytes) → Fills before others (length bytes)
+    → pieces before ends bytes ≡ pieces before others bytes → ends ≡ others
+ends-fixed before [] [] bytes h g e = refl
+ends-fixed before [] (other ∷ others) bytes h g e = absurd cc
+ends-fixed before (end ∷ ends) [] bytes h g e = absurd cc
+ends-fixed before (end ∷ ends) (other ∷ others) bytes h g e =
+    let first : take (end - (before + 1)) (drop (before + 1) bytes) ≡ take (other - (before + 1)) (drop (before + 1) bytes) = cc in
+    let rest : pieces end ends bytes ≡ pieces other others bytes = cc in
+    let all = length-drop (before + 1) bytes in
+    let up = fills-start end ends (length bytes) h.1 in
+    let up_other = fills-start other others (length bytes) g.1 in
+    let size = length-take-le (end - (before + 1)) (drop (before + 1) bytes) (omega (arith, all, up)) in
+    let size_other = length-take-le (other - (before + 1)) (drop (before + 1) bytes) (omega (arith, all, up_other)) in
+    let same : end ≡ other = omega (arith, ap length first, size, size_other, h.0, g.0) in
+    let behind : ends ≡ others = ends-fixed end ends others bytes h.1 (rw same g.1) (rest ∙ ap (λ at. pieces at others bytes) (sym same)) in
+    λ i. same i ∷ behind i
+
+-- laid out buffers with the same fields are the same
+pub laid-fixed : (ends bytes others text : List ℕ) → IsLaidOut ends bytes → IsLaidOut others text → pieces 0 ends bytes ≡ pieces 0 others text
+    → (ends ≡ others) × (bytes ≡ text)
+laid-fixed ends bytes others text laid other e =
+    let same : bytes ≡ text = laid.commas ∙ ap joined e ∙ sym other.commas in (
+      ends-fixed 0 ends others bytes laid.fills (subst (λ t. Fills 0 others (length t)) (sym same) other.fills) (e ∙ ap (pieces 0 others) (sym same)),
+      same,
     )

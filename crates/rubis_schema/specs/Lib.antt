@@ -10,6 +10,7 @@ pub mod Lending
 pub mod IdKeys
 pub mod IdKeyLaws
 pub mod KeyHashes
+pub mod NickKeys
 pub mod Categories
 pub mod Adding
 pub mod Members

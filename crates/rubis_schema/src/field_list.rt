@@ -1,6 +1,6 @@
 //! One record: a list of fields, each of any bytes.
 
-ghost use Rattle.std.specs.Prelude.{◌≡◌, ◌==◌, ◌<◌, ◌≤◌, ◌+◌, ◌++◌, ◌∷◌, [], IfOk, IfSome, OnErr, OnOk, decimal, get_or, length, option_map, slice_get, true};
+ghost use Rattle.std.specs.Prelude.{◌≡◌, ◌==◌, ◌↔◌, ◌<◌, ◌≤◌, ◌+◌, ◌++◌, ◌∷◌, [], IfOk, IfSome, IsTrue, OnErr, OnOk, decimal, get_or, length, option_map, slice_get, true};
 ghost use Rattle.std.specs.Vec.{vec_capacity, vec_len};
 ghost use Rattle.rubis_schema.specs.FieldList.{IsLaidOut, all_plain, joined, pieces};
 ghost use Rattle.rubis_schema.specs.FieldList as model;
@@ -154,6 +154,17 @@ impl Fields {
         }
     }
 
+    /// A record with no fields, which has room for so many fields of so many bytes in all.
+    pub fn with_room(alloc: Global, bytes: usize, fields: usize) -> Result<Fields, AllocError>
+        ensures { IfOk result (λ made. made ≡ []) }
+    {
+        Ok(Fields {
+            text: Vec::with_capacity(alloc, bytes.saturating_add(fields))?,
+            ends: Vec::with_capacity(alloc, fields)?,
+            plain: true,
+        })
+    }
+
     /// Adds a field at the end. Without memory for it the record stays as it was.
     #[inline(always)]
     pub fn push(&mut self, field: &[u8]) -> Result<(), AllocError>
@@ -243,6 +254,14 @@ impl Fields {
         }
         let (start, end) = span(self.ends.as_slice(), place);
         Some(&self.text.as_slice()[start..end])
+    }
+
+    /// Whether both records have the same fields.
+    pub fn is_same(&self, other: &Fields) -> bool
+        ensures { IsTrue result ↔ (self.now ≡ other.now) }
+    {
+        self.text.as_slice() == other.text.as_slice()
+            && self.ends.as_slice() == other.ends.as_slice()
     }
 
     /// Takes all fields away, and keeps the room that they had.

@@ -33,7 +33,7 @@ pub use field_list::{Fields, is_plain};
 pub use homes::shard_of;
 pub use id_keys::{IdKey, IdTable};
 pub use ids::Id;
-pub use key_hashes::{Hashes, KeyHasher, KeyHashes, NickHashes};
+pub use key_hashes::{Hashes, KeyHasher, KeyHashes, NickHasher, NickHashes};
 pub use laws::fields_have_one_reading;
 pub use limits::{
     AMOUNT_MAX, BATCH_MAX, CAT_MAX, CATEGORIES, COUNT_MAX, COUNTED_MAX, COUNTS_TEXT_MAX, KEEP_MAX,

@@ -113,13 +113,16 @@ impl Hash for Nick {
     ghost use Rattle.std.specs.Prelude.{[], ◌∷◌};
     ghost use Rattle.std.specs.Hash.{same_Alike};
     ghost use Rattle.std.specs.Cmp.Lexicographic.{bytes_decides};
+    ghost use Rattle.rubis_schema.specs.Texts.{padded};
 
-    ghost hash_input = { λ n. n ∷ [] };
+    ghost hash_input = { λ n. padded n ∷ [] };
 
-    ghost respects_eq = { (same_Alike (λ n. n ∷ []) bytes_decides).fed };
+    ghost respects_eq = { (same_Alike (λ n. padded n ∷ []) bytes_decides).fed };
 
+    // With the zeros, so that it is as many bytes for each nickname.
+    #[inline(always)]
     fn hash<H: Hasher>(&self, state: &mut H) {
-        state.write(self.as_bytes());
+        state.write(&self.bytes);
     }
 }
 
