@@ -154,7 +154,7 @@ impl Fields {
         }
     }
 
-    /// A record with no fields, which has room for so many fields of so many bytes in all.
+    /// A record with no fields, and room for this many fields with this many bytes in all.
     pub fn with_room(alloc: Global, bytes: usize, fields: usize) -> Result<Fields, AllocError>
         ensures { IfOk result (λ made. made ≡ []) }
     {
