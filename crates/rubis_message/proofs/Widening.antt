@@ -1,7 +1,7 @@
 -- A message that counts more sites meets the conditions of a message.
-use Rattle.std.proofs.Common.{ℕ, ◌≡◌, ◌+◌, ◌-◌, ◌≤◌, ◌<◌, List, ◌++◌, length, Option, Some, None, refl, sym, ap, ◌∙◌, subst, arith}
+use Rattle.std.proofs.Common.{ℕ, ◌≡◌, ◌+◌, ◌-◌, ◌≤◌, Option, Some, None, refl, sym, ap, ◌∙◌, subst, arith}
 use Rattle.std.proofs.Common.{Bool, true, false, cond, Result, Ok, Err}
-use Rattle.std.specs.Prelude.{All, IfSome, nat_le, replicate}
+use Rattle.std.specs.Prelude.{IfSome, nat_le, replicate}
 use Rattle.std.proofs.lemmas.Bool.{and_parts, leb-true}
 use Rattle.std.proofs.lemmas.List.{get_or_append_left, length-append, length-replicate}
 use Rattle.std.proofs.lemmas.List.Elements.{All-append, All-replicate}
@@ -13,7 +13,7 @@ use Rattle.rubis_shadow.specs.declared.shadows.Shadow.{Shadow}
 use Rattle.rubis_shadow.specs.declared.shadows.Shadow.TheVariants.{User, Item, Bid, Buy, Close, Comment}
 use Rattle.rubis_clock.specs.Widening as stamps
 use Rattle.rubis_clock.specs.declared.stamps.Stamp.{Stamp}
-use Rattle.rubis_message.specs.Message.{Message, IsMessage, dep, sites_of}
+use Rattle.rubis_message.specs.Message.{Message, IsMessage, sites_of}
 use Rattle.rubis_message.specs.Widening.{widened}
 
 pub sites_widened : (sites : ℕ) (m : Message) → sites_of m ≤ sites → sites_of (widened sites m) ≡ sites

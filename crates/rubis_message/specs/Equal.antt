@@ -5,7 +5,7 @@ use mathlib.Core.Bool.{true≢false}
 use Rattle.std.specs.Cmp.{IsEquivalence}
 use Rattle.std.specs.Cmp.Lexicographic.{bytes_decides}
 use Rattle.std.proofs.Common.{refl, sym, ap}
-use Rattle.std.proofs.lemmas.Bool.Decides.{Decides-and, Decides-eqb, Decides-int_eq, Decides-like, same_from_decides}
+use Rattle.std.proofs.lemmas.Bool.Decides.{Decides-and, Decides-eqb, Decides-int_eq, Decides-like}
 use Rattle.rubis_schema.specs.KeyLaws.{Decides-same_id}
 use Rattle.rubis_schema.specs.Keys.{same_id}
 use Rattle.rubis_schema.specs.declared.ids.Id.{Id}

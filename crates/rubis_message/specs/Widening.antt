@@ -1,5 +1,5 @@
 -- A message that counts more sites.
-use Rattle.std.specs.Prelude.{ℕ, ◌+◌, ◌-◌, ◌≤◌, length, replicate, cond, Result, Ok, Err}
+use Rattle.std.specs.Prelude.{ℕ, cond, Result, Ok, Err}
 use Rattle.rubis_clock.specs.Widening as stamps
 use Rattle.rubis_message.specs.Message.{Message}
 

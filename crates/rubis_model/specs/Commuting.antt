@@ -2,7 +2,7 @@
 use Rattle.std.specs.Prelude.{◌≡◌, ◌+◌, ◌^◌, ◌≤◌, false, List, [], ◌∷◌, ◌++◌, length}
 use Rattle.rubis_shadow.specs.Shadows.{is_red}
 use Rattle.rubis_model.specs.Checks.{Checked, Follows}
-use Rattle.rubis_model.specs.Log.{Core, cores, fold_of}
+use Rattle.rubis_model.specs.Log.{Core, fold_of}
 
 -- both orders of the two messages pass the checks after the log, and come to the same tables
 pub record Commute (log : List Core) (u v : Core) : Type 0 where

@@ -7,7 +7,7 @@ use Rattle.std.proofs.lemmas.List.Sums.{sum_by-cons}
 use Rattle.std.proofs.lemmas.Option.{slice_get-get_or, get_or_from_slice_get}
 use Rattle.rubis_schema.specs.Keys.{home}
 use Rattle.rubis_schema.specs.declared.ids.Id.{Id}
-use Rattle.rubis_shadow.specs.declared.changes.Effect.{Effect}
+use Rattle.rubis_shadow.specs.declared.keyed_change.Effect.{Effect}
 use Rattle.rubis_shadow.specs.declared.numbered.Numbered.{Numbered}
 use Rattle.rubis_model.specs.Log.{Core, number_parts, numbered_from, parts_of, share}
 use Rattle.rubis_model.proofs.InPlace.{home_within}

@@ -5,7 +5,7 @@ use Rattle.std.proofs.lemmas.Bool.{cases_eq}
 use Rattle.std.proofs.lemmas.Bool.Decides.{nat_tests}
 use Rattle.std.proofs.lemmas.List.{get_or-set_other, get_or-set_same, length-set, set-get_or}
 use Rattle.rubis_schema.specs.Keys.{home}
-use Rattle.rubis_shadow.specs.declared.changes.Effect.{Effect}
+use Rattle.rubis_shadow.specs.declared.keyed_change.Effect.{Effect}
 use Rattle.rubis_message.specs.Message.{Message}
 use Rattle.rubis_model.specs.Log.{Core, core, cores, parts_of}
 use Rattle.rubis_shard.specs.States.{ShardState, with_parts}

@@ -11,9 +11,9 @@ use Rattle.rubis_schema.specs.Keys.{home}
 use Rattle.rubis_schema.specs.Tables.{Tables}
 use Rattle.rubis_schema.specs.declared.ids.Id.{Id}
 use Rattle.rubis_shadow.specs.Changes.{after_part}
-use Rattle.rubis_shadow.specs.Parts.{parts}
+use Rattle.rubis_shadow.specs.Shadows.{parts}
 use Rattle.rubis_shadow.specs.Tables.{opening}
-use Rattle.rubis_shadow.specs.declared.changes.Effect.{Effect}
+use Rattle.rubis_shadow.specs.declared.keyed_change.Effect.{Effect}
 use Rattle.rubis_shadow.specs.declared.changes.MisfitKind.{MisfitKind}
 use Rattle.rubis_shadow.specs.declared.changes.MisfitKind.TheVariants.{RowThere, NoRow, ClosedItem, StockShort, OtherUser}
 use Rattle.rubis_shadow.specs.declared.numbered.Misfit.{Misfit}

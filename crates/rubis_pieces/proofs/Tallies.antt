@@ -2,7 +2,7 @@
 use Rattle.std.proofs.Common.{◌≡◌, ℕ, ◌+◌, ◌<◌, ◌≤◌, List, [], ◌∷◌, ◌++◌, length, take, get_or, Bool, true, false, cond, refl, sym, ap, ◌∙◌, arith}
 use Rattle.std.specs.Prelude.{Option, None, Some, slice_get, filter}
 use Rattle.std.proofs.lemmas.List.{length-map, length-take-le, take_more}
-use Rattle.rubis_shadow.specs.declared.changes.Effect.{Effect}
+use Rattle.rubis_shadow.specs.declared.keyed_change.Effect.{Effect}
 use Rattle.rubis_shadow.specs.declared.parts.TheConstants.{PARTS_MAX}
 use Rattle.rubis_shadow.proofs.Lists.{few_parts}
 use Rattle.rubis_message.specs.Message.{Message}

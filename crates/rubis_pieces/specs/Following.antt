@@ -1,7 +1,7 @@
 -- Shards that follow a log, each as far as memory went.
 use Rattle.std.specs.Prelude.{◌≡◌, ℕ, ◌+◌, ◌<◌, ◌≤◌, Bool, cond, List, [], ◌∷◌, Option, None, Some, nat_lt, slice_get, slice_index, filter, length, set, take}
 use Rattle.rubis_schema.specs.Keys.{home}
-use Rattle.rubis_shadow.specs.declared.changes.Effect.{Effect}
+use Rattle.rubis_shadow.specs.declared.keyed_change.Effect.{Effect}
 use Rattle.rubis_model.specs.Log.{Core, parts_of, share}
 use Rattle.rubis_shard.specs.States.{ShardState, with_parts}
 use Rattle.rubis_shard.specs.Holdings.{shard_of_log}

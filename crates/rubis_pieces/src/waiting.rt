@@ -2,7 +2,7 @@
 
 ghost use Rattle.std.specs.Prelude.{◌≡◌, ◌+◌, ◌<◌, ◌≤◌, Option, length, slice_get, filter};
 ghost use Rattle.rubis_schema.specs.declared.limits.TheConstants.{KEEP_MAX};
-ghost use Rattle.rubis_shadow.specs.declared.changes.Effect.{Effect};
+ghost use Rattle.rubis_shadow.specs.declared.keyed_change.Effect.{Effect};
 ghost use Rattle.rubis_model.specs.Log.{Core, cores, parts_of};
 ghost use Rattle.rubis_shard.specs.Holdings.{home_or};
 ghost use Rattle.rubis_shard.specs.PartHomes.{AreHomesOf};
