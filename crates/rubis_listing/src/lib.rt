@@ -9,6 +9,6 @@ mod shared;
 mod sources;
 
 pub use listing_rows::ListingRows;
-pub use listings::{bids, categories, comments, items, purchases, tables, users};
+pub use listings::{bids, categories, comments, items, list_tables, purchases, tables, users};
 pub use logs::{log, misfit_rows};
 pub use shared::SHARED_MIN;

@@ -154,13 +154,25 @@ pub fn rows_of_all<'a>(
     Ok(all)
 }
 
+// Adds the rows of a listing of the tables.
+fn put_listed<S: RowSink>(
+    alloc: Global,
+    sink: &mut S,
+    listing: &Listing,
+    tables: &Tables,
+) -> Result<(), AllocError>
+    ensures { OnOk result (S.adds (table_rows listing.now (union tables.now)) sink.old sink.new) }
+{
+    let shown = rows_of_all(alloc, listing, tables)?;
+    put_rows(alloc, sink, listing, &shown)
+}
+
 // The rows of a listing of the tables as a list.
 fn listed(alloc: Global, listing: Listing, tables: &Tables) -> Result<Items<Fields>, AllocError>
     ensures { IfOk result (λ rows. rows ≡ table_rows listing (union tables.now)) }
 {
-    let shown = rows_of_all(alloc, &listing, tables)?;
     let mut rows = Items::new(alloc);
-    put_rows(alloc, &mut rows, &listing, &shown)?;
+    put_listed(alloc, &mut rows, &listing, tables)?;
     Ok(rows)
 }
 
@@ -211,4 +223,19 @@ pub fn tables(alloc: Global, tables: &Tables) -> Result<Items<Fields>, AllocErro
     ensures { IfOk result (λ rows. rows ≡ table_rows Shown.Tables (union tables.now)) }
 {
     listed(alloc, Listing::Tables, tables)
+}
+
+/// Adds the rows that `tables` lists, one after the other.
+///
+/// # Errors
+///
+/// `AllocError` if memory runs out: some of them may have been added.
+pub fn list_tables<S: RowSink>(
+    alloc: Global,
+    sink: &mut S,
+    tables: &Tables,
+) -> Result<(), AllocError>
+    ensures { OnOk result (S.adds (table_rows Shown.Tables (union tables.now)) sink.old sink.new) }
+{
+    put_listed(alloc, sink, &Listing::Tables, tables)
 }
