@@ -8,6 +8,7 @@ pub mod Parts
 pub mod Homes
 pub mod Listing
 pub mod Picked
+pub mod Counting
 pub mod Linking
 pub mod Walking
 pub mod Distinct

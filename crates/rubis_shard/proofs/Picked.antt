@@ -35,7 +35,7 @@ abbrev pub Entries : Type 0
 Entries = List (RowKey × Row)
 
 -- ---- what is found among the entries that pass a test
-missing : (q : RowKey) (es : Entries) → AllByRecursion (λ y. key_eq q y ≡ false) (keys_of es) → lookup (key_eq q) es ≡ None
+pub missing : (q : RowKey) (es : Entries) → AllByRecursion (λ y. key_eq q y ≡ false) (keys_of es) → lookup (key_eq q) es ≡ None
 missing q [] h = refl
 missing q (e ∷ es) h = ap (λ b. cond b (Some e.1) (lookup (key_eq q) es)) h.0 ∙ missing q es h.1
 
@@ -101,7 +101,7 @@ module _ (p : RowKey × Row → Bool) where
       ]
 
   -- the tables of the entries that pass
-  entries_passing : (es : Entries) → IsDistinct key_eq (keys_of es)
+  pub entries_passing : (es : Entries) → IsDistinct key_eq (keys_of es)
       → map.entries (tables_of (filter p es)) ≡ filter p (map.entries (tables_of es))
   entries_passing es d =
       let m = tables_of es in

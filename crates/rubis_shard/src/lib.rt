@@ -2,6 +2,7 @@
 #![tactic(auto)]
 
 mod chains;
+mod counts;
 mod direct_parts;
 mod entries;
 mod groups;
@@ -26,7 +27,7 @@ pub use groups::Group;
 pub use laws::shards_hold_logs;
 pub use part_homes::PartHomes;
 pub use rubis_shadow::{Misfit, Numbered};
-pub use selections::selects;
+pub use selections::{has_record, selects};
 pub use shards::{Applied, Shard};
 pub use shares::Share;
 pub use tables::Tables;

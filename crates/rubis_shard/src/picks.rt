@@ -1,6 +1,6 @@
 //! The rows of a shard that match a listing.
 
-ghost use Rattle.std.specs.Prelude.{◌≡◌, ◌&&◌, Some, IfOk, map as each};
+ghost use Rattle.std.specs.Prelude.{◌≡◌, ◌&&◌, [], Some, IfOk, map as each};
 ghost use Rattle.std.specs.List.Sorted.{IsPermutation};
 ghost use Rattle.rubis_schema.specs.Keys.{holds};
 ghost use Rattle.rubis_schema.specs.declared.row_keys.RowKey.TheVariants as key;
@@ -27,6 +27,23 @@ fn picks(listing: &Listing, table: Table, key: &RowKey, row: &Row) -> bool
     selects(listing, key, row) && table.holds(key)
 }
 
+// For how many of so many rows to make room at once: a listing of all tables shows most of them, and any other finds few.
+pub fn room_of(listing: &Listing, rows: usize) -> usize {
+    match listing {
+        Listing::Tables => rows,
+        _ => 0,
+    }
+}
+
+// No rows, with room for so many.
+pub fn with_room<'a>(alloc: Global, rows: usize) -> Result<Vec<(RowKey, &'a Row)>, AllocError>
+    ensures { IfOk result (λ made. made.items ≡ []) }
+{
+    let mut made = Vec::new(alloc);
+    made.reserve(rows)?;
+    Ok(made)
+}
+
 // The rows of one table that match the listing, looked for among all rows of a map.
 fn picked_among<'a, K: MapKey, S: BuildHasher>(
     alloc: Global,
@@ -36,7 +53,7 @@ fn picked_among<'a, K: MapKey, S: BuildHasher>(
 ) -> Result<Vec<(RowKey, &'a Row)>, AllocError>
     ensures { IfOk result (λ rows. each shown rows.items ≡ listed_among listing.now table (written K.row_key all.now.entries)) }
 {
-    let mut rows = Vec::new(alloc);
+    let mut rows = with_room(alloc, room_of(listing, all.len()))?;
     for (key, row) in all.iter() {
         let key = key.row_key();
         if picks(listing, table, &key, row) {

@@ -1,7 +1,9 @@
-//! Which rows match a listing.
+//! Which rows match a listing, and which have a record.
 
-ghost use Rattle.std.specs.Prelude.{◌≡◌};
-ghost use Rattle.rubis_model.specs.Listings.{is_of};
+ghost use Rattle.std.specs.Bool.{MatchBool};
+ghost use Rattle.std.specs.Prelude.{◌≡◌, [], length};
+ghost use Rattle.rubis_model.specs.Listings.{is_of, row_record};
+ghost use Rattle.rubis_shard.specs.Counted.{has_record};
 
 use rubis_schema::{Listing, Row, RowKey};
 
@@ -19,6 +21,22 @@ pub fn selects(listing: &Listing, key: &RowKey, row: &Row) -> bool
         (Listing::Comments(user), RowKey::Comment(_), Row::Comment(comment)) => comment.to == *user,
         (Listing::Categories, RowKey::Cat(_), _) => true,
         (Listing::Tables, _, _) => true,
+        _ => false,
+    }
+}
+
+/// Whether the row at a key has a record.
+pub fn has_record(key: &RowKey, row: &Row) -> bool
+    ensures is { result ≡ has_record key.now row.now }
+    ensures record { MatchBool result (length (row_record key.now row.now) ≡ 1) (row_record key.now row.now ≡ []) }
+{
+    match (key, row) {
+        (RowKey::User(_), Row::User(_)) => true,
+        (RowKey::Item(_), Row::Item(_)) => true,
+        (RowKey::Bid(_), Row::Bid(_)) => true,
+        (RowKey::Purchase(_), Row::Purchase(_)) => true,
+        (RowKey::Comment(_), Row::Comment(_)) => true,
+        (RowKey::Cat(_), Row::Cat(row)) => !row.shows_nothing(),
         _ => false,
     }
 }

@@ -1,6 +1,6 @@
 //! A shard: the rows of the keys that are at home on it.
 
-ghost use Rattle.std.specs.Prelude.{◌≡◌, ◌<◌, ◌≤◌, ◌∷◌, [], length, slice_get, slice_range, map as each, IfOk, IfSome, OnOk, OnErr, option_copied};
+ghost use Rattle.std.specs.Prelude.{◌≡◌, ◌+◌, ◌<◌, ◌≤◌, ◌∷◌, [], length, slice_get, slice_range, map as each, IfOk, IfSome, OnOk, OnErr, option_copied};
 ghost use Rattle.std.specs.List.{All};
 ghost use Rattle.std.specs.FinMap as map;
 ghost use Rattle.std.specs.Map.{keys_of};
@@ -8,6 +8,7 @@ ghost use Rattle.rubis_schema.specs.Keys.{key_order};
 ghost use Rattle.rubis_shadow.specs.Tables.{opening, rows_of};
 ghost use Rattle.rubis_model.specs.Shares.{part_of};
 ghost use Rattle.rubis_model.specs.Log.{fold_on, parts_of, step};
+ghost use Rattle.rubis_shard.specs.Counted.{recorded_of};
 ghost use Rattle.rubis_shard.specs.Listed.{categories_of, listed_of};
 ghost use Rattle.rubis_shard.specs.States.{opening_shard, with_parts, IsHomeOf, HoldsOwnRows};
 ghost use Rattle.rubis_shard.specs.Entries.{core_of, numbered_of};
@@ -19,6 +20,7 @@ ghost use Rattle.rubis_shard.specs.Rows.{tables_in};
 ghost use Rattle.rubis_shard.specs.Stores.{held_by, HasRoom};
 ghost use Rattle.rubis_shard.specs.Written.{shown};
 
+use crate::counts::{count_recorded, most_recorded};
 use crate::entries::LogEntry;
 use crate::message_parts::MessageParts;
 use crate::part_homes::PartHomes;
@@ -187,6 +189,35 @@ impl Shard {
         match &self.store {
             Some(store) => categories_in_order(alloc, &store.rows),
             None => Ok(Vec::new(alloc)),
+        }
+    }
+
+    // How many rows there are in the map that has the rows of a table.
+    pub(crate) fn len_of(&self, table: Table) -> usize {
+        match &self.store {
+            Some(store) => store.rows.len_of(table),
+            None => 0,
+        }
+    }
+
+    // Counts on with the rows that have a record, of the tables from that number on.
+    pub(crate) fn count_recorded(&self, first: u8, counted: usize) -> usize
+        requires { counted + recorded_of first self.now ≤ 18446744073709551615 }
+        ensures { result ≡ counted + recorded_of first self.now }
+    {
+        match &self.store {
+            Some(store) => count_recorded(&store.rows, first, counted),
+            None => counted,
+        }
+    }
+
+    // A number that isn't less than these and those rows that have a record, if there is one.
+    pub(crate) fn most_recorded(&self, most: usize) -> Option<usize>
+        ensures { IfSome result (λ all. most + recorded_of 0 self.now ≤ all) }
+    {
+        match &self.store {
+            Some(store) => most_recorded(&store.rows, most),
+            None => Some(most),
         }
     }
 

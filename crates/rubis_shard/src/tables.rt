@@ -1,22 +1,26 @@
 //! The tables: the shards of a site, together.
 
-ghost use Rattle.std.specs.Prelude.{◌≡◌, ◌<◌, ◌≤◌, [], map as each, length, slice_range, nat_eq, true, false, IfOk, IfErr, OnOk, OnErr};
+ghost use Rattle.std.specs.Prelude.{◌≡◌, ◌+◌, ◌<◌, ◌≤◌, [], map as each, length, slice_range, nat_eq, true, false, IfOk, IfErr, IfSome, OnOk, OnErr};
+ghost use Rattle.std.specs.FinMap as map;
 ghost use Rattle.std.specs.List.{All};
 ghost use Rattle.rubis_schema.specs.Keys.{home};
 ghost use Rattle.rubis_shadow.specs.Tables.{rows_of};
 ghost use Rattle.rubis_shard.specs.Holdings.{AreInOrder, FoldsAtHome, FoldsOn, HoldsLog, IsSet, TakesOn, parts_at, union};
 ghost use Rattle.rubis_shard.specs.Entries.{core_of, numbered_of};
 ghost use Rattle.rubis_shard.specs.Groups.{group_of};
+ghost use Rattle.rubis_shard.specs.Counted.{number_of, recorded_from};
 ghost use Rattle.rubis_shard.specs.Listed.{categories_of, listed_of};
 ghost use Rattle.rubis_shard.specs.Written.{shown};
 
 use crate::chains::chain_with;
+use crate::counts::number_of;
 use crate::entries::LogEntry;
 use crate::groups::Group;
 use crate::message_parts::MessageParts;
 use crate::messages::fold_from;
 use crate::orders::put_in_order;
 use crate::part_homes::PartHomes;
+use crate::picks::{room_of, with_room};
 use crate::shards::{Applied, Shard};
 use crate::shares::Share;
 use rubis_schema::{Hashes, Items, Listing, Row, RowKey, Table, View, shard_of};
@@ -177,6 +181,15 @@ impl Tables {
         Ok(all)
     }
 
+    // How many rows there are in the maps that have the rows of a table.
+    fn len_of(&self, table: Table) -> usize {
+        let mut rows: usize = 0;
+        for shard in &self.shards {
+            rows = rows.saturating_add(shard.len_of(table));
+        }
+        rows
+    }
+
     /// The rows of one table of all shards that match a listing, with their keys, in key order.
     pub fn listed(
         &self,
@@ -186,7 +199,7 @@ impl Tables {
     ) -> Result<Vec<(RowKey, &Row)>, AllocError>
         ensures { IfOk result (λ rows. each shown rows.items ≡ listed_of listing.now table (union self.now)) }
     {
-        let mut picked = Vec::new(alloc);
+        let mut picked = with_room(alloc, room_of(listing, self.len_of(table)))?;
         for shard in &self.shards {
             let mut rows = shard.listed(alloc, table, listing)?;
             picked.append(&mut rows)?;
@@ -206,6 +219,33 @@ impl Tables {
         }
         put_in_order(alloc, &mut picked)?;
         Ok(picked)
+    }
+
+    /// Counts on with the rows that have a record, of one table and those after it in the order of keys.
+    pub fn count_recorded(&self, first: Table, counted: usize) -> usize
+        requires { counted + length (recorded_from (number_of first) (map.entries (union self.now))) ≤ 18446744073709551615 }
+        ensures { result ≡ counted + length (recorded_from (number_of first) (map.entries (union self.now))) }
+    {
+        let first = number_of(first);
+        let mut count = counted;
+        for shard in &self.shards {
+            count = shard.count_recorded(first, count);
+        }
+        count
+    }
+
+    /// A number that isn't less than how many rows have a record, if there is one.
+    pub fn most_recorded(&self) -> Option<usize>
+        ensures { IfSome result (λ most. length (recorded_from 0 (map.entries (union self.now))) ≤ most) }
+    {
+        let mut most: usize = 0;
+        for shard in &self.shards {
+            let Some(all) = shard.most_recorded(most) else {
+                return None;
+            };
+            most = all;
+        }
+        Some(most)
     }
 
     /// The keys of the rows of a group, in key order.

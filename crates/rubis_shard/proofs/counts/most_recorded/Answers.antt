@@ -1,0 +1,20 @@
+use Rattle.std.proofs.Common.{ℕ, ◌≡◌, ◌+◌, ◌≤◌, length, arith}
+use Rattle.std.specs.FinMap as map
+use Rattle.rubis_schema.specs.IdKeys.{row_key}
+use Rattle.rubis_schema.specs.declared.row_keys.RowKey.TheVariants as key
+use Rattle.rubis_shard.specs.Counted.{recorded_from}
+use Rattle.rubis_shard.specs.Rows.{tables_in}
+use Rattle.rubis_shard.proofs.Counting.{few_recorded, if_some, recorded_in, some_is}
+use Rattle.rubis_shard.proofs.counts.most_recorded.Goals as goal
+
+pub returns : goal.returns
+returns c =
+    let r = c.args.rows.now in
+    let n : ℕ = 0 in
+    let all = recorded_in n r c.lens-lens.ensures in
+    let kept = few_recorded row_key n r.kept.entries in
+    let cats = few_recorded key.Cat n r.cats.entries in
+    let first = some_is c.sum_of.result (λ sum. sum ≡ c.args.most + c.len.result) c.in-Some.kept c.in-Some.is c.sum_of.ensures in
+    if_some c.sum_of-2.result (λ sum. sum ≡ c.in-Some.kept + c.len-2.result)
+    (λ most. c.args.most + length (recorded_from n (map.entries (tables_in r))) ≤ most) c.sum_of-2.ensures
+    (λ v is. omega (arith, all, kept, cats, first, is, c.len.ensures.len, c.len-2.ensures.len))

@@ -1,0 +1,32 @@
+use Rattle.std.proofs.Common.{◌≡◌, ◌+◌, ◌≤◌, sym, ap, ◌∙◌, length, arith}
+use Rattle.std.specs.Prelude.{Option}
+use Rattle.std.specs.FinMap as map
+use Rattle.rubis_schema.specs.Tables.{Tables}
+use Rattle.rubis_model.specs.Shares.{part_of}
+use Rattle.rubis_shard.specs.Counted.{recorded_from, recorded_of}
+use Rattle.rubis_shard.specs.Rows.{tables_in}
+use Rattle.rubis_shard.specs.States.{ShardState}
+use Rattle.rubis_shard.specs.Stores.{held_by, held_in}
+use Rattle.rubis_shard.specs.declared.shard_store.Store.{Store}
+use Rattle.rubis_shard.proofs.Counting.{if_some, none_recorded}
+use Rattle.rubis_shard.proofs.shards.Shard.most_recorded.Goals as goal
+
+pub returns-in-Some : goal.returns-in-Some
+unfolding recorded_of
+returns-in-Some c =
+    let here : length (recorded_from 0 (map.entries (tables_in c.deref.result.now.rows))) ≡ recorded_of 0 c.args.self.now =
+    ap (λ (s : Store). length (recorded_from 0 (map.entries (held_by s).tables))) c.deref.ensures
+    ∙ ap (λ (o : Option Store). length (recorded_from 0 (map.entries (held_in o).tables))) (sym c.in-Some.is)
+    ∙ ap (λ (t : Tables). length (recorded_from 0 (map.entries t))) (sym c.self.invariant)
+    ∙ ap (λ (s : ShardState). length (recorded_from 0 (map.entries (part_of s.shards s.number s.folded.tables)))) c.self.view_is in
+    if_some c.most_recorded.result _ _ c.most_recorded.ensures (λ v few. omega (arith, here, few))
+
+pub returns-in-None : goal.returns-in-None
+unfolding recorded_of
+returns-in-None c =
+    let none : 0 ≡ recorded_of 0 c.args.self.now =
+    sym (none_recorded 0)
+    ∙ ap (λ (o : Option Store). length (recorded_from 0 (map.entries (held_in o).tables))) (sym c.in-None.is)
+    ∙ ap (λ (t : Tables). length (recorded_from 0 (map.entries t))) (sym c.self.invariant)
+    ∙ ap (λ (s : ShardState). length (recorded_from 0 (map.entries (part_of s.shards s.number s.folded.tables)))) c.self.view_is in
+    omega (arith, none)

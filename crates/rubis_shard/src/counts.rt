@@ -1,0 +1,101 @@
+//! How many rows have a record.
+
+ghost use Rattle.std.specs.Prelude.{◌≡◌, ◌+◌, ◌≤◌, ◌&&◌, IfSome, length, nat_le};
+ghost use Rattle.std.specs.FinMap as map;
+ghost use Rattle.rubis_schema.specs.Keys.{table_of};
+ghost use Rattle.rubis_shard.specs.Counted.{has_record, is_recorded, number_of, recorded_from};
+ghost use Rattle.rubis_shard.specs.Rows.{tables_in};
+ghost use Rattle.rubis_shard.specs.Written.{written};
+
+use crate::map_keys::MapKey;
+use crate::row_map::Rows;
+use crate::selections::has_record;
+use indexmap::IndexMap;
+use rubis_schema::{Row, RowKey, Table};
+use std::hash::BuildHasher;
+
+// The place of a key's table in the order of keys.
+#[inline(always)]
+fn number_of_key(key: &RowKey) -> u8
+    ensures { result ≡ table_of key.now }
+{
+    match key {
+        RowKey::User(_) => 0,
+        RowKey::Item(_) => 1,
+        RowKey::Bid(_) => 2,
+        RowKey::Purchase(_) => 3,
+        RowKey::Comment(_) => 4,
+        RowKey::Nick(_) => 5,
+        RowKey::Cat(_) => 6,
+    }
+}
+
+// The place of a table in the order of keys.
+pub fn number_of(table: Table) -> u8
+    ensures { result ≡ number_of table }
+{
+    match table {
+        Table::Users => 0,
+        Table::Items => 1,
+        Table::Bids => 2,
+        Table::Purchases => 3,
+        Table::Comments => 4,
+        Table::Nicks => 5,
+        Table::Cats => 6,
+    }
+}
+
+// Whether the row has a record, and its table is that of this number or comes later.
+#[inline(always)]
+fn is_counted(first: u8, key: &RowKey, row: &Row) -> bool
+    ensures { result ≡ is_recorded first (key.now, row.now) }
+{
+    first <= number_of_key(key) && has_record(key, row)
+}
+
+// Counts on with those rows of a map that have a record, of the tables from that number on.
+fn count_among<K: MapKey, S: BuildHasher>(
+    all: &IndexMap<K, Row, S>,
+    first: u8,
+    counted: usize,
+) -> usize
+    requires { counted + length (recorded_from first (written K.row_key all.now.entries)) ≤ 18446744073709551615 }
+    ensures { result ≡ counted + length (recorded_from first (written K.row_key all.now.entries)) }
+{
+    let mut count = counted;
+    for (key, row) in all.iter() {
+        let key = key.row_key();
+        if is_counted(first, &key, row) {
+            count += 1;
+        }
+    }
+    count
+}
+
+/// Counts on with the rows that have a record, of the tables from that number on.
+pub fn count_recorded(rows: &Rows, first: u8, counted: usize) -> usize
+    requires { counted + length (recorded_from first (map.entries (tables_in rows.now))) ≤ 18446744073709551615 }
+    ensures { result ≡ counted + length (recorded_from first (map.entries (tables_in rows.now))) }
+{
+    let _lens = rows.lens();
+    let kept = count_among(&rows.kept, first, counted);
+    count_among(&rows.cats, first, kept)
+}
+
+// The sum of two numbers, if it is one.
+fn sum_of(a: usize, b: usize) -> Option<usize>
+    ensures { IfSome result (λ sum. sum ≡ a + b) }
+{
+    a.checked_add(b)
+}
+
+/// A number that isn't less than these and those rows that have a record, if there is one.
+pub fn most_recorded(rows: &Rows, most: usize) -> Option<usize>
+    ensures { IfSome result (λ all. most + length (recorded_from 0 (map.entries (tables_in rows.now))) ≤ all) }
+{
+    let _lens = rows.lens();
+    let Some(kept) = sum_of(most, rows.kept.len()) else {
+        return None;
+    };
+    sum_of(kept, rows.cats.len())
+}
