@@ -15,7 +15,7 @@ use Rattle.rubis_schema.specs.declared.row_keys.RowKey.TheVariants as key
 use Rattle.rubis_schema.specs.declared.rows.Best.{Best}
 use Rattle.rubis_schema.specs.declared.rows.ItemRow.{ItemRow}
 use Rattle.rubis_schema.specs.declared.rows.UserRow.{UserRow}
-use Rattle.rubis_shadow.specs.Parts.{refers_of}
+use Rattle.rubis_shadow.specs.Shadows.{refers_of}
 use Rattle.rubis_shadow.specs.declared.shadows.NewItem.{NewItem}
 use Rattle.rubis_shadow.specs.declared.shadows.Shadow.{Shadow}
 use Rattle.rubis_shadow.specs.declared.shadows.Shadow.TheVariants.{User, Item, Bid, Buy, Close, Comment, Restock, Rename}

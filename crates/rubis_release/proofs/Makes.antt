@@ -7,8 +7,7 @@ use Rattle.std.proofs.lemmas.List.{get_or_past}
 use Rattle.std.proofs.lemmas.List.Elements.{All-from_get_or}
 use mathlib.Core.Bool.{true≢false}
 use Rattle.rubis_schema.specs.Ids.{IsId}
-use Rattle.rubis_shadow.specs.Limits.{InLimits}
-use Rattle.rubis_shadow.specs.Shadows.{is_red, colour_of}
+use Rattle.rubis_shadow.specs.Shadows.{InLimits, is_red, colour_of}
 use Rattle.rubis_shadow.specs.declared.shadows.Shadow.{Shadow}
 use Rattle.rubis_shadow.specs.declared.shadows.Colour.TheVariants.{Red, Blue}
 use Rattle.rubis_clock.specs.declared.stamps.Stamp.{Stamp}

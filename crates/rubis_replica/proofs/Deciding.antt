@@ -11,8 +11,9 @@ use Rattle.rubis_schema.specs.declared.rows.Best.{Best}
 use Rattle.rubis_schema.specs.declared.rows.ItemRow.{ItemRow}
 use Rattle.rubis_schema.specs.declared.rows.Row.{Row}
 use Rattle.rubis_schema.specs.declared.rows.Row.TheVariants as row
-use Rattle.rubis_shadow.specs.Limits.{AllInLimits, InLimits, IsAsk, RowInLimits}
-use Rattle.rubis_shadow.specs.declared.asks.Ask.{Ask}
+use Rattle.rubis_shadow.specs.Limits.{AllInLimits, RowInLimits}
+use Rattle.rubis_shadow.specs.Shadows.{InLimits, IsAsk}
+use Rattle.rubis_shadow.specs.declared.shadows.Ask.{Ask}
 use Rattle.rubis_shadow.specs.declared.shadows.Shadow.{Shadow}
 use Rattle.rubis_generate.specs.Lookup.{as_item_row, item_in, row_by_key}
 use Rattle.rubis_generate.specs.Decision.{decision}

@@ -3,7 +3,7 @@ use Rattle.std.specs.Prelude.{◌≡◌, ◌-◌, ◌<◌, ◌⊎◌, ℕ, List,
 use Rattle.rubis_schema.specs.declared.listings.Listing.{Listing}
 use Rattle.rubis_schema.specs.declared.listings.Listing.TheVariants.{Log}
 use Rattle.rubis_schema.specs.declared.refusals.Refusal.{Refusal}
-use Rattle.rubis_shadow.specs.declared.asks.Ask.{Ask}
+use Rattle.rubis_shadow.specs.declared.shadows.Ask.{Ask}
 use Rattle.rubis_shadow.specs.declared.shadows.Shadow.{Shadow}
 use Rattle.rubis_generate.specs.Decision.{decision}
 use Rattle.rubis_message.specs.declared.answers.Arrival.{Arrival}

@@ -3,7 +3,7 @@
 ghost use Rattle.std.proofs.Common.{rules};
 ghost use Rattle.std.specs.Prelude.{◌≡◌, ◌≤◌, ◌<◌, ◌+◌, ◌++◌, ◌∷◌, ◌^◌, ◌⊎◌, [], IfErr, IfOk, IfSome, IsErrOf, IsTrue, List, None, OnOk, ℕ, length, refl};
 ghost use Rattle.rubis_schema.specs.declared.limits.TheConstants.{COUNTED_MAX};
-ghost use Rattle.rubis_shadow.specs.Limits.{IsAsk};
+ghost use Rattle.rubis_shadow.specs.Shadows.{IsAsk};
 ghost use Rattle.rubis_message.specs.Grammar.{IsPacket, IsRequest};
 ghost use Rattle.rubis_message.specs.Message.{sites_of};
 ghost use Rattle.rubis_message.specs.declared.requests.Request.TheVariants as Request;

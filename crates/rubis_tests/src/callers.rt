@@ -6,8 +6,8 @@ ghost use Rattle.rubis_model.specs.Audit.{AreSound};
 ghost use Rattle.rubis_model.specs.Laws.{InRun};
 ghost use Rattle.rubis_model.specs.Site.{asked, opening_at};
 ghost use Rattle.rubis_world.specs.Script.{setup_place};
-ghost use Rattle.rubis_shadow.specs.Limits.{IsAsk};
-ghost use Rattle.rubis_shadow.specs.declared.asks.Ask.TheVariants as Ask;
+ghost use Rattle.rubis_shadow.specs.Shadows.{IsAsk};
+ghost use Rattle.rubis_shadow.specs.declared.shadows.Ask.TheVariants as Ask;
 
 use crate::worlds::two_sites;
 use rubis_audit::{Log, Verdict, audit};

@@ -1,7 +1,7 @@
 //! Workers that really work at once, in each call that applies a batch.
 
 ghost use Rattle.std.specs.Prelude.{◌≡◌, ◌<◌, ◌≤◌, IfOk};
-ghost use Rattle.rubis_shadow.specs.Limits.{IsAsk};
+ghost use Rattle.rubis_shadow.specs.Shadows.{IsAsk};
 
 use crate::arrivals::{arrive_three, two_comments};
 use crate::gates::{Halves, Holding, HoldsTwo, Meeting, Numbers, Waiting};

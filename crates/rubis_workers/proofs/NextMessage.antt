@@ -4,8 +4,8 @@ use Rattle.std.specs.Prelude.{All, slice_range}
 use Rattle.std.proofs.lemmas.List.{length-take-le}
 use Rattle.std.proofs.lemmas.List.Elements.{All-get_or}
 use Rattle.rubis_shadow.specs.Limits.{AllInLimits}
-use Rattle.rubis_shadow.specs.declared.changes.Effect.{Effect}
-use Rattle.rubis_shadow.proofs.InLimits.{PartsInLimits, after_kept, parts_in_limits}
+use Rattle.rubis_shadow.specs.declared.keyed_change.Effect.{Effect}
+use Rattle.rubis_shadow.proofs.InLimits.{PartsInLimits, after_kept, first_within, parts_in_limits}
 use Rattle.rubis_schema.specs.declared.ids.Id.{Id}
 use Rattle.rubis_message.specs.Message.{Message, IsMessage, sites_of}
 use Rattle.rubis_model.specs.Log.{Core, Folded, core, cores, fold_of, fold_on, before_any, number_parts, numbered_from, parts_of, step}
@@ -32,7 +32,8 @@ parts_kept : (sites : ℕ) (entry part : ℕ) (id : Id) (es : List Effect) (f : 
     → AllInLimits sites (fold_on f (number_parts entry part id es)).tables
 parts_kept sites entry part id [] f p h = h
 parts_kept sites entry part id (e ∷ es) f p h =
-    parts_kept sites entry (part + 1) id es (step f (record { entry = entry; part = part; id = id; effect = e })) p.1 (after_kept sites f.tables e p.0 h)
+    let w = first_within sites e.change (PartsInLimits sites es) p in
+    parts_kept sites entry (part + 1) id es (step f (record { entry = entry; part = part; id = id; effect = e })) w.1 (after_kept sites f.tables e w.0 h)
 
 -- the tables of a log with one message more
 one_more : (log : List Core) (m : Core) → fold_of (log ++ m ∷ []) ≡ fold_on (fold_of log) (number_parts (1 + length log) 1 m.id (parts_of m))

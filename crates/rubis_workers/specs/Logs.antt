@@ -2,7 +2,7 @@
 use Rattle.std.specs.Prelude.{◌≡◌, ℕ, List, All, length, slice_range, take}
 use Rattle.std.specs.List.{flat_map}
 use Rattle.rubis_shadow.specs.Limits.{AllInLimits}
-use Rattle.rubis_shadow.specs.declared.changes.Effect.{Effect}
+use Rattle.rubis_shadow.specs.declared.keyed_change.Effect.{Effect}
 use Rattle.rubis_message.specs.Message.{Message, sites_of}
 use Rattle.rubis_model.specs.Log.{cores, fold_of, parts_of}
 use Rattle.rubis_shard.specs.Holdings.{HoldsLog}
