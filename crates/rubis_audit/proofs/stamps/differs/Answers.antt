@@ -1,17 +1,17 @@
-use Rattle.std.proofs.Common.{◌≡◌, ◌∙◌, arith, ap, length, sym}
+use Rattle.std.proofs.Common.{◌≡◌, ◌∙◌, arith, ap, get_or, length, sym}
 use Rattle.std.specs.Prelude.{◌==◌, not, slice_index}
 use Rattle.rubis_message.specs.Message.{dep}
 use Rattle.rubis_audit.proofs.SiteTests.{no_site, other_at, some_site}
 use Rattle.rubis_audit.proofs.stamps.differs.Goals as goal
 
-pub returns-then-count : goal.returns-then-count
-returns-then-count c =
+pub returns-then-count-counts : goal.returns-then-count-counts
+returns-then-count-counts c =
     let v = c.args.v.now in
     let j = c.loop-j.j in
     let many = ap length c.deps-mine.ensures.value in
     let mine = c.count.ensures ∙ ap (λ xs. slice_index xs j) c.deps-mine.ensures.value in
     sym (some_site v (λ k. not (dep v k == slice_index c.args.counts.now k)) j (omega (arith, many, c.sites-j-end.ensures.value, c.loop-j-test.true))
-    (other_at _ _ (λ e. c.if-count.true (mine ∙ e))))
+    (other_at (dep v j) (get_or c.args.counts.now j 0) (λ (e : dep v j ≡ get_or c.args.counts.now j 0). c.if-count-counts.true (mine ∙ e ∙ ap (λ k. get_or c.args.counts.now k 0) (sym c.from.ensures)))))
 
 pub returns : goal.returns
 returns c =

@@ -13,7 +13,7 @@ returns-then-count c =
     let mine = ap (λ xs. slice_index xs j) c.deps-mine.ensures.value in
     let theirs = ap (λ xs. slice_index xs j) c.deps-theirs.ensures.value in
     sym (some_site v (λ k. nat_lt (dep v k) (dep u k)) j (omega (arith, many, c.sites-j-end.ensures.value, c.loop-j-test.true))
-    (less_at _ _ (omega (arith, mine, theirs, c.count.ensures, c.count-2.ensures, c.if-count.true))))
+    (less_at _ _ (omega (arith, mine, theirs, c.count.ensures, c.count-then-j-sites.ensures, c.if-count.true))))
 
 pub returns : goal.returns
 returns c =
