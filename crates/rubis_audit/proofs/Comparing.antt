@@ -1,24 +1,14 @@
--- Lists that are equal place by place.
-use Rattle.std.proofs.Common.{ℕ, ◌≡◌, ◌+◌, ◌-◌, ◌<◌, ◌≤◌, suc, List, [], ◌∷◌, length, Some, refl, sym, ap, ◌∙◌, arith}
-use Rattle.std.specs.Prelude.{◌↔◌, Bool, Decides, IsTrue, Option, bytes_eq, false, not, slice_get}
+-- Rows that are compared with claimed ones.
+use Rattle.std.proofs.Common.{ℕ, ◌≡◌, ◌==◌, List, [], ◌∷◌, Some, length, refl, sym, ap, ◌∙◌}
+use Rattle.std.specs.Prelude.{◌↔◌, Bool, Decides, IsTrue, None, Option, bytes_eq, cond, false, not, true}
 use Rattle.std.specs.Option.{option_map_or}
 use Rattle.std.specs.Cmp.Lexicographic.{bytes_decides, pointwise}
 use mathlib.Core.Bool.{true≢false}
-use Rattle.std.proofs.lemmas.Bool.Decides.{Decides-and, Decides-like, same_from_decides}
+use Rattle.std.proofs.lemmas.Bool.Decides.{Decides-and, Decides-eqb, Decides-like, same_from_decides}
+use Rattle.std.proofs.lemmas.List.{nil_from_length}
+use Rattle.std.proofs.lemmas.Option.{same_Some}
 use Rattle.rubis_model.specs.Verdict.{same_rows}
-
-pub same_list : {X : Type 0} (a b : List X) (n : ℕ) → length a ≡ length b → length a ≤ n → ((k : ℕ) → k < n → slice_get a k ≡ slice_get b k) → a ≡ b
-same_list [] [] n e l h = refl
-same_list [] (y ∷ b) n e l h = absurd (omega (arith, e))
-same_list (x ∷ a) [] n e l h = absurd (omega (arith, e))
-same_list {X} (x ∷ a) (y ∷ b) n e l h =
-    let first : Some x ≡ Some y = h 0 (omega (arith, l)) in
-    let same : x ≡ y = cc in
-    let rest : a ≡ b = same_list a b (n - 1) (omega (arith, e)) (omega (arith, l)) (λ k m. at k (omega (arith, m, l))) in
-    λ i. same i ∷ rest i
-  where
-    at : (k : ℕ) → k + 1 < n → slice_get a k ≡ slice_get b k
-    at k m = h (suc k) (omega (arith, m))
+use Rattle.rubis_audit.specs.Claimed.{Rows, behind_row, behind_rows}
 
 Decides-record : (a b : List (List ℕ)) → Decides (pointwise bytes_eq a b) (a ≡ b)
 Decides-record [] [] = (λ e. refl, λ e. refl)
@@ -40,3 +30,51 @@ pub rows_by : (claimed shown want : List (List (List ℕ))) (rows : Option (List
 rows_by claimed shown want rows same d s r =
     ap not (same_from_decides same (same_rows claimed shown) d (Decides-rows claimed shown))
     ∙ ap (λ w. not (same_rows claimed w)) s ∙ ap (λ o. option_map_or (λ rs. not (same_rows rs want)) o false) r
+
+-- ---- rows that come one by one
+
+-- what is left behind a row that was compared with the first
+pub behind_first : (row first : List (List ℕ)) (rest claimed : Rows) (same : Bool) → IsTrue same ↔ (first ≡ row) → claimed ≡ first ∷ rest
+    → cond same (Some rest) None ≡ behind_row row claimed
+behind_first row first rest claimed same d is =
+    ap (λ b. cond b (Some rest) None) (same_from_decides same (pointwise bytes_eq first row) d (Decides-record first row)) ∙ ap (behind_row row) (sym is)
+
+none_left : (rows : Rows) → behind_rows rows None ≡ None
+none_left [] = refl
+none_left (row ∷ rows) = none_left rows
+
+all_left : (rows : Rows) → behind_rows rows (Some rows) ≡ Some []
+all_left [] = refl
+all_left (row ∷ rows) = ap (λ b. behind_rows rows (cond b (Some rows) None)) ((Decides-record row row).1 refl) ∙ all_left rows
+
+all_were : (rows claimed : Rows) → behind_rows rows (Some claimed) ≡ Some [] → claimed ≡ rows
+all_were [] claimed e = let same : claimed ≡ [] = cc in same
+all_were (row ∷ rows) [] e = let none : ◌≡◌ {A = Option Rows} None (Some []) = sym (none_left rows) ∙ e in absurd cc
+all_were (row ∷ rows) (first ∷ rest) e = at (pointwise bytes_eq first row) refl e (all_were rows rest)
+  where
+    at : (b : Bool) → pointwise bytes_eq first row ≡ b → behind_rows rows (cond (pointwise bytes_eq first row) (Some rest) None) ≡ Some []
+        → (behind_rows rows (Some rest) ≡ Some [] → rest ≡ rows) → first ∷ rest ≡ row ∷ rows
+    at true is e more =
+        let same : first ≡ row = (Decides-record first row).0 is in
+        let others : rest ≡ rows = more (ap (λ b. behind_rows rows (cond b (Some rest) None)) (sym is) ∙ e) in
+        λ i. same i ∷ others i
+    at false is e more =
+        let none : ◌≡◌ {A = Option Rows} None (Some []) = sym (none_left rows) ∙ ap (λ b. behind_rows rows (cond b (Some rest) None)) (sym is) ∙ e in
+        absurd cc
+
+-- all claimed rows have come and no others, where they are the rows
+pub all_came : (rows claimed : Rows) (left : Option Rows) → left ≡ behind_rows rows (Some claimed) → (left ≡ Some []) ↔ (claimed ≡ rows)
+all_came rows claimed left is = (
+  λ e. all_were rows claimed (sym is ∙ e),
+  λ e. is ∙ ap (λ c. behind_rows rows (Some c)) e ∙ all_left rows,
+)
+
+-- whether none is left to come
+pub none_more : (rest : Rows) (left : Option Rows) (empty : Bool) → left ≡ Some rest → empty ≡ (length rest == 0) → IsTrue empty ↔ (left ≡ Some [])
+none_more rest left empty is e = (
+  λ yes. is ∙ ap Some (nil_from_length rest ((Decides-eqb (length rest) 0).0 (sym e ∙ yes))),
+  λ done. let none : rest ≡ [] = same_Some _ _ (sym is ∙ done) in e ∙ ap (λ (r : Rows). length r == 0) none,
+)
+
+pub never_done : (left : Option Rows) → left ≡ None → IsTrue false ↔ (left ≡ Some [])
+never_done left is = (λ yes. absurd (true≢false (sym yes)), λ done. let none : ◌≡◌ {A = Option Rows} None (Some []) = sym is ∙ done in absurd cc)

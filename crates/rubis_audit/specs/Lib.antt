@@ -1,4 +1,5 @@
 pub mod Checking
+pub mod Claimed
 pub mod Contents
 pub mod FieldRules
 pub mod Lacks

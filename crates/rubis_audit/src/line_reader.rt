@@ -1,6 +1,6 @@
 //! The records of an input, and the lines in which they stand.
 
-ghost use Rattle.std.specs.Prelude.{◌≡◌, ◌⊎◌, IfErr, IfOk, IfSome, option_map};
+ghost use Rattle.std.specs.Prelude.{◌≡◌, ◌⊎◌, ◌≤◌, IfErr, IfOk, IfSome, option_map};
 ghost use Rattle.rubis_engine.specs.Reading.{HasToGive, ReadsNext};
 ghost use Rattle.rubis_engine.specs.Text.{input_records};
 ghost use Rattle.rubis_audit.specs.Checking.{recent};
@@ -142,7 +142,9 @@ impl<R: Read> LineReader<R> {
     }
 
     // The line in which the record that was read last begins.
-    fn first_line(&self, is_left_open: bool) -> u64 {
+    fn first_line(&self, is_left_open: bool) -> u64
+        ensures { self.now.before ≤ result }
+    {
         let end = self.reader.position();
         let is_ended = !is_left_open
             && self.reader.get_ref().byte_before(end.byte()) == Some(b'\n');
@@ -154,19 +156,23 @@ impl<R: Read> LineReader<R> {
 
     /// The line in which the record that was read last begins, and those in which the field with that number does and ends. A
     /// line is what ends in a line feed.
-    pub fn lines(&self, field: usize) -> Lines {
+    pub fn lines(&self, field: usize) -> Lines
+        ensures before { self.now.before ≤ result.first }
+        ensures opened { result.first ≤ result.opened }
+        ensures closed { result.opened ≤ result.closed }
+    {
         let is_left_open = self.is_left_open();
         let first = self.first_line(is_left_open);
         let place = field.saturating_sub(1);
         let opened = first.saturating_add(self.feeds_in(0, place));
         let is_cut = is_left_open && field == self.row.len();
-        let closed = opened
-            .saturating_add(self.feeds_in(place, field))
+        let feeds = self
+            .feeds_in(place, field)
             .saturating_sub(u64::from(is_cut));
         Lines {
             first,
             opened,
-            closed,
+            closed: opened.saturating_add(feeds),
         }
     }
 }

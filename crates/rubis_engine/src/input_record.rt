@@ -30,7 +30,7 @@ impl Model for InputRecord {
 fn copy_fields(alloc: Global, read: &ByteRecord) -> Result<Fields, AllocError>
     ensures { IfOk result (λ fields. fields ≡ fields_of read.now) }
 {
-    let mut fields = Fields::new(alloc);
+    let mut fields = Fields::with_room(alloc, read.as_slice().len(), read.len())?;
     for place in 0..read.len() {
         if let Some(field) = read.get(place) {
             fields.push_read(field)?;

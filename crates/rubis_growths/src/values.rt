@@ -37,7 +37,11 @@ fn push_three<R: Print>(rt: &R, alloc: Global, fields: &mut Fields) -> Result<()
 
 /// Fields of a record, each of which takes memory.
 pub fn fields<R: Print + AllocGlobal>(rt: &R) -> Result<(), Stop> {
-    let mut fields = Fields::new(rt.alloc());
+    let mut fields = again!(
+        rt,
+        "Fields::with_room",
+        Fields::with_room(rt.alloc(), 20, 3)
+    );
     push_three(rt, rt.alloc(), &mut fields)?;
     let copy = again!(rt, "Fields::copy", fields.copy());
     tell_row(rt, &copy);

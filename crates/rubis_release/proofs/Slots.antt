@@ -1,9 +1,11 @@
 -- What is found in slots, and where.
-use Rattle.std.proofs.Common.{◌≡◌, ℕ, zero, suc, ◌+◌, ◌<◌, ◌≤◌, Bool, true, false, cond, [], ◌∷◌, refl, sym, ap, ◌∙◌, subst, inl, inr, ⊎_elim, arith}
-use Rattle.std.specs.Prelude.{Option, None, Some, slice_get, slice_index, min, ◌⊎◌}
+use Rattle.std.proofs.Common.{◌≡◌, ℕ, zero, suc, ◌+◌, ◌<◌, ◌≤◌, Bool, true, false, cond, [], ◌∷◌, length, refl, sym, ap, ◌∙◌, subst, inl, inr, ⊎_elim, arith}
+use Rattle.std.specs.Prelude.{Option, None, Some, slice_get, slice_index, min, ◌⊎◌, ◌↔◌, IsTrue}
+use Rattle.std.specs.Bool.{MatchBool}
 use Rattle.std.specs.List.{AllByRecursion, IsDistinct}
 use Rattle.std.specs.Map.{keys_of, lookup, lookup_key}
 use Rattle.std.proofs.lemmas.Bool.{cases_lt}
+use Rattle.std.proofs.lemmas.Option.{slice_get_past}
 use mathlib.Core.Bool.{true≢false}
 use Rattle.rubis_schema.specs.Keys.{same_id}
 use Rattle.rubis_schema.specs.KeyLaws.{Decides-same_id}
@@ -12,7 +14,7 @@ use Rattle.rubis_schema.specs.declared.limits.TheConstants.{SEQ_MAX}
 use Rattle.rubis_clock.specs.Clocks.{MessageCounts, IsReady}
 use Rattle.rubis_message.specs.Message.{Message}
 use Rattle.rubis_model.specs.Settle.{Has}
-use Rattle.rubis_release.specs.Waiting.{Slots, somes, put_some, IsItsSlot, HaveTheirIds, IsReadySlot, IsFirstOf, NoSlotOf, first_of}
+use Rattle.rubis_release.specs.Waiting.{Slots, somes, put_some, IsItsSlot, HaveTheirIds, IsReadySlot, IsFirstOf, HasNoReady, NoSlotOf, first_of}
 
 itself : (k : Id) → same_id k k ≡ true
 itself k = (Decides-same_id k k).1 refl
@@ -143,3 +145,30 @@ module _ (clock : MessageCounts) (es : Slots) (id : Id) (own : HaveTheirIds es) 
 pub first_wider : (clock : MessageCounts) (es : Slots) (n site : ℕ) → n ≤ site → (o : Option ℕ) → IsFirstOf clock es (λ j. j < site) o → IsFirstOf clock es (λ j. j < n) o
 first_wider clock es n site l None h = λ i k m there ready pass. h i k m there ready (omega (arith, pass, l))
 first_wider clock es n site l (Some at) h = (h.0, λ i k m there ready pass. h.1 i k m there ready (omega (arith, pass, l)))
+
+-- ---- slots that are looked at one by one
+pub by_test : {P : Type 0} (Yes No : Type 0) (b : Bool) → IsTrue b ↔ P → (P → Yes) → ((P → ⊥) → No) → MatchBool b Yes No
+by_test Yes No true d f g = f (d.0 refl)
+by_test Yes No false d f g = g (λ p. absurd (true≢false (sym (d.1 p))))
+
+pub test_is : (Yes No : Type 0) (b : Bool) → b ≡ true → MatchBool b Yes No → Yes
+test_is Yes No true is h = h
+test_is Yes No false is h = absurd (true≢false (sym is))
+
+pub test_is_not : (Yes No : Type 0) (b : Bool) → b ≡ false → MatchBool b Yes No → No
+test_is_not Yes No true is h = absurd (true≢false is)
+test_is_not Yes No false is h = h
+
+module _ (clock : MessageCounts) (es : Slots) (at : ℕ) where
+  pub one_more : ((i : ℕ) → i < at → HasNoReady clock es i) → HasNoReady clock es at → (i : ℕ) → i < at + 1 → HasNoReady clock es i
+  one_more before here i l = ⊎_elim (λ b. before i b) (λ e. subst (HasNoReady clock es) (sym e) here) (below_or i at l)
+
+  module _ (Passes : ℕ → Type 0) (before : (i : ℕ) → i < at → HasNoReady clock es i) where
+    pub first_is : IsReadySlot clock es at → IsFirstOf clock es Passes (Some at)
+    first_is here = (here, λ i k m there ready pass. ⊎_elim (λ l. absurd (before i l k m there ready)) (λ l. l) (cases_lt i at))
+
+    pub none_is_ready : length es ≤ at → IsFirstOf clock es Passes None
+    none_is_ready all = λ i k m there ready pass. ⊎_elim
+        (λ l. before i l k m there ready)
+        (λ l. let none : Some (k, Some m) ≡ None = sym there ∙ slice_get_past es i (omega (arith, l, all)) in absurd cc)
+        (cases_lt i at)

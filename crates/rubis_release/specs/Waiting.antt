@@ -45,6 +45,10 @@ pub record IsReadySlot (clock : MessageCounts) (es : Slots) (at : ℕ) : Type 0 
   pub there : slice_get es at ≡ Some (key, Some message)
   pub ready : IsReady clock message.stamp
 
+-- the slot has no message that is ready
+abbrev pub HasNoReady : MessageCounts → Slots → ℕ → Type 0
+HasNoReady clock es at = (k : Id) (m : Message) → slice_get es at ≡ Some (k, Some m) → IsReady clock m.stamp → ⊥
+
 -- each that is ready, of the sites that pass, is in that slot or after it
 abbrev pub NoSlotBefore : MessageCounts → Slots → (ℕ → Type 0) → ℕ → Type 0
 NoSlotBefore clock es Passes at = (i : ℕ) (k : Id) (m : Message) → slice_get es i ≡ Some (k, Some m) → IsReady clock m.stamp → Passes m.stamp.id.site → at ≤ i

@@ -2,10 +2,11 @@
 
 ghost use Rattle.std.specs.Prelude.{◌≡◌, ◌<◌, ◌++◌, [], ◌∷◌, false, true, length, is_some, map, None, IfErr, IfOk, MatchOption, OnOk, OnErr};
 ghost use Rattle.rubis_message.specs.Message as model;
+ghost use Rattle.std.specs.Bool.{MatchBool};
 ghost use Rattle.std.specs.List.{list_any};
 ghost use Rattle.rubis_schema.specs.Keys.{same_id};
 ghost use Rattle.rubis_release.specs.Release.{AllAmong};
-ghost use Rattle.rubis_release.specs.Waiting.{NoneTaken, TakesFirst, IsFirstOf, HaveTheirIds, AreApart, AreSlots, first_of, is_there, somes};
+ghost use Rattle.rubis_release.specs.Waiting.{NoneTaken, TakesFirst, IsFirstOf, IsReadySlot, HasNoReady, HaveTheirIds, AreApart, AreSlots, first_of, is_there, somes};
 ghost use Rattle.indexmap.specs.IndexMap.{get};
 
 use indexmap::IndexMap;
@@ -14,6 +15,9 @@ use rubis_message::Message;
 use rubis_schema::{Hashes, Id, KeyHashes};
 use std::alloc::{AllocError, AllocFailed, Global};
 use std::marker::Model;
+
+// So few slots are looked at one by one, which takes less than a look-up for each site.
+const FEW: usize = 16;
 
 // The messages that wait to be released, by id, in arrival order; none where one was taken out.
 #[derive(Drop)]
@@ -250,8 +254,36 @@ fn earlier(a: Option<usize>, b: Option<usize>) -> Option<usize>
     }
 }
 
-// The slot of the earliest message that is ready, if one is.
-fn first_ready(slots: &IndexMap<Id, Option<Message>, KeyHashes>, clock: &Clock) -> Option<usize>
+// Whether the slot at that place has a message that is ready.
+#[inline(always)]
+fn is_ready_at(slots: &IndexMap<Id, Option<Message>, KeyHashes>, clock: &Clock, at: usize) -> bool
+    requires { AllAmong (length clock.now.counts) (somes slots.now.entries) }
+    ensures { MatchBool result (IsReadySlot clock.now slots.now.entries at) (HasNoReady clock.now slots.now.entries at) }
+{
+    let Some((_key, slot)) = slots.get_index(at) else {
+        return false;
+    };
+    let Some(message) = slot else {
+        return false;
+    };
+    clock.ready(message.stamp())
+}
+
+// The first slot with a message that is ready, if one is: each slot is looked at.
+fn first_among(slots: &IndexMap<Id, Option<Message>, KeyHashes>, clock: &Clock) -> Option<usize>
+    requires { AllAmong (length clock.now.counts) (somes slots.now.entries) }
+    ensures { IsFirstOf clock.now slots.now.entries (λ j. j < length clock.now.counts) result }
+{
+    for at in 0..slots.len() {
+        if is_ready_at(slots, clock, at) {
+            return Some(at);
+        }
+    }
+    None
+}
+
+// The same where the next message of each site is looked up.
+fn first_of_sites(slots: &IndexMap<Id, Option<Message>, KeyHashes>, clock: &Clock) -> Option<usize>
     requires among { AllAmong (length clock.now.counts) (somes slots.now.entries) }
     requires own { HaveTheirIds slots.now.entries }
     requires apart { AreApart slots.now.entries }
@@ -262,4 +294,17 @@ fn first_ready(slots: &IndexMap<Id, Option<Message>, KeyHashes>, clock: &Clock) 
         first = earlier(first, ready_of(slots, clock, site as u8));
     }
     first
+}
+
+// The slot of the earliest message that is ready, if one is.
+fn first_ready(slots: &IndexMap<Id, Option<Message>, KeyHashes>, clock: &Clock) -> Option<usize>
+    requires among { AllAmong (length clock.now.counts) (somes slots.now.entries) }
+    requires own { HaveTheirIds slots.now.entries }
+    requires apart { AreApart slots.now.entries }
+    ensures { IsFirstOf clock.now slots.now.entries (λ j. j < length clock.now.counts) result }
+{
+    if slots.len() <= FEW {
+        return first_among(slots, clock);
+    }
+    first_of_sites(slots, clock)
 }

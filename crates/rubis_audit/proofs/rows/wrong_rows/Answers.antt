@@ -1,7 +1,16 @@
-use Rattle.std.proofs.Common.{◌∙◌, ap, sym}
+use Rattle.std.proofs.Common.{◌∙◌, Some, ap, refl, sym}
 use Rattle.std.specs.Prelude.{option_map}
-use Rattle.rubis_audit.proofs.Comparing.{rows_by}
+use Rattle.rubis_schema.specs.declared.listings.Listing.TheVariants as Shown
+use Rattle.rubis_model.specs.Listings.{table_rows}
+use Rattle.rubis_shard.specs.Holdings.{union}
+use Rattle.rubis_audit.specs.Claimed.{rest_of}
+use Rattle.rubis_audit.proofs.Comparing.{all_came, rows_by}
 use Rattle.rubis_audit.proofs.rows.wrong_rows.Goals as goal
 
-pub returns-in_ok-tables-in-Some : goal.returns-in_ok-tables-in-Some
-returns-in_ok-tables-in-Some c = rows_by c.in-Some.claimed.now c.as_slice-in-Some.result.now _ c.args.log.now.rows c.same_rows.result c.same_rows.ensures (c.as_slice-in-Some.ensures ∙ c.in_ok-tables-in-Some.ensures) (sym (ap (option_map (λ r. r.now)) c.in-Some.is) ∙ c.rows.ensures)
+pub returns : goal.returns
+returns c =
+    let shown = table_rows Shown.Tables (union c.args.shards.now) in
+    let came = all_came shown c.in-Some.claimed.now (rest_of c.list_tables.new.sink) c.in_ok-list_tables.ensures in
+    rows_by c.in-Some.claimed.now shown shown c.args.log.now.rows c.is_done.result
+    (λ yes. came.0 (c.is_done.ensures.0 yes), λ e. c.is_done.ensures.1 (came.1 e)) refl
+    (sym (ap (option_map (λ r. r.now)) c.in-Some.is) ∙ c.rows.ensures)
