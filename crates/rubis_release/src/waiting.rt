@@ -16,7 +16,7 @@ use rubis_schema::{Hashes, Id, KeyHashes};
 use std::alloc::{AllocError, AllocFailed, Global};
 use std::marker::Model;
 
-// So few slots are looked at one by one, which takes less than a look-up for each site.
+// Up to this many slots are looked at one by one, which takes less than a look-up for each site.
 const FEW: usize = 16;
 
 // The messages that wait to be released, by id, in arrival order; none where one was taken out.
@@ -266,7 +266,7 @@ fn is_ready_at(slots: &IndexMap<Id, Option<Message>, KeyHashes>, clock: &Clock, 
     let Some(message) = slot else {
         return false;
     };
-    clock.ready(message.stamp())
+    message.is_ready(clock)
 }
 
 // The first slot with a message that is ready, if one is: each slot is looked at.
