@@ -1,6 +1,6 @@
 -- Entries in key order stand table by table.
-use Rattle.std.proofs.Common.{◌≡◌, ℕ, ◌+◌, ◌<◌, ◌≤◌, inl, inr, Bool, true, false, cond, T, List, [], ◌∷◌, ◌++◌, ◌&&◌, refl, sym, ap, ◌∙◌, arith}
-use Rattle.std.specs.Prelude.{⊤, filter, flat_map, nat_eq, nat_le, nat_lt, ◌==◌}
+use Rattle.std.proofs.Common.{◌≡◌, ℕ, ◌+◌, ◌<◌, ◌≤◌, inl, inr, Bool, true, false, cond, T, List, [], ◌∷◌, ◌++◌, ◌&&◌, length, length-append, refl, sym, ap, ◌∙◌, arith}
+use Rattle.std.specs.Prelude.{⊤, filter, flat_map, nat_eq, nat_le, nat_lt, not, ◌==◌}
 use Rattle.std.specs.Cmp.Lexicographic.{slice_cmp}
 use Rattle.std.specs.Ordering.{nat_cmp, is_lt, ordering_then}
 use Rattle.std.specs.declared.cmp.Ordering.{Ordering}
@@ -10,6 +10,7 @@ use Rattle.std.specs.FinMap.Entries.{below_all, is_sorted}
 use Rattle.std.proofs.lemmas.Bool.{cases_order, eqb-true, ltb-true}
 use Rattle.std.proofs.lemmas.Bool.Decides.{nat_tests}
 use Rattle.std.proofs.lemmas.List.{append-nil}
+use Rattle.rubis_schema.specs.Categories.{shows_nothing}
 use Rattle.rubis_schema.specs.Keys.{holds, key_code, key_order, table_of}
 use Rattle.rubis_schema.specs.Tables.{Tables}
 use Rattle.rubis_schema.specs.declared.listings.Listing.{Listing}
@@ -18,10 +19,14 @@ use Rattle.rubis_schema.specs.declared.row_keys.RowKey.{RowKey}
 use Rattle.rubis_schema.specs.declared.row_keys.RowKey.TheVariants as key
 use Rattle.rubis_schema.specs.declared.row_keys.Table.{Table}
 use Rattle.rubis_schema.specs.declared.row_keys.Table.TheVariants as table
+use Rattle.rubis_schema.specs.declared.rows.CatRow.{CatRow}
 use Rattle.rubis_schema.specs.declared.rows.Row.{Row}
+use Rattle.rubis_schema.specs.declared.rows.Row.TheVariants as row
 use Rattle.rubis_shadow.specs.Tables.{rows_of}
-use Rattle.rubis_model.specs.Listings.{records_of, table_rows}
+use Rattle.rubis_model.specs.Listings.{category_record, records_of, row_record, table_rows}
+use Rattle.rubis_shard.specs.Counted.{has_record, number_of, recorded_from}
 use Rattle.rubis_listing.specs.ByTable.{tables_of}
+use Rattle.rubis_listing.specs.LaterTables.{after, rows_after, rows_from_table}
 use Rattle.rubis_listing.proofs.Selecting.{Entries, IsWithin, bids_within, categories_within, comments_within, items_within, one_table, purchases_within, records_append, shows_none, users_within}
 
 -- ---- keys in order have tables in order
@@ -174,15 +179,6 @@ no_nicknames ((k, r) ∷ es) = elim k as (λ k. shown (at 5 ((k, r) ∷ es)) ≡
 next_table : (n : ℕ) (es : Entries) → Rise es → shown (from n es) ≡ shown (at n es) ++ shown (from (n + 1) es)
 next_table n es h = ap shown (split_at n es h) ∙ records_append listing.Tables (at n es) (from (n + 1) es)
 
-abbrev number_of : Table → ℕ
-number_of table.Users = 0
-number_of table.Items = 1
-number_of table.Bids = 2
-number_of table.Purchases = 3
-number_of table.Comments = 4
-number_of table.Nicks = 5
-number_of table.Cats = 6
-
 held : (t : Table) (k : RowKey) → holds t k ≡ nat_eq (table_of k) (number_of t)
 held table.Users (key.User x) = refl
 held table.Users (key.Item x) = refl
@@ -278,3 +274,62 @@ all_by_table listing.Tables m =
     ∙ table_by_table m
 all_by_table listing.Log m = sym (shows_none listing.Log m (inl refl))
 all_by_table listing.Misfits m = sym (shows_none listing.Misfits m (inr refl))
+
+-- ---- the rows that are left, table by table
+
+pub all_left : (m : Tables) → rows_from_table 0 m ≡ table_rows listing.Tables m
+all_left m = ap shown (all_from (map.entries m))
+
+next_left : (t : Table) (m : Tables) → rows_from_table (number_of t) m ≡ table_shown t m ++ rows_from_table (number_of t + 1) m
+next_left t m =
+    let es = map.entries m in
+    next_table (number_of t) es (rise_sorted es (map.entries_sorted m)) ∙ ap (λ (fs : Entries). shown fs ++ rows_from_table (number_of t + 1) m) (rows_at t m)
+
+-- nicknames show nothing
+past_nicknames : (m : Tables) → rows_from_table 5 m ≡ rows_from_table 6 m
+past_nicknames m =
+    let es = map.entries m in
+    next_table 5 es (rise_sorted es (map.entries_sorted m)) ∙ ap (λ rows. rows ++ rows_from_table 6 m) (no_nicknames es)
+
+pub left_after : (t : Table) (m : Tables) → rows_from_table (number_of t) m ≡ records_of listing.Tables (rows_of t m) ++ rows_after (after t) m
+left_after table.Users m = next_left table.Users m
+left_after table.Items m = next_left table.Items m
+left_after table.Bids m = next_left table.Bids m
+left_after table.Purchases m = next_left table.Purchases m
+left_after table.Comments m = next_left table.Comments m ∙ ap (λ rows. table_shown table.Comments m ++ rows) (past_nicknames m)
+left_after table.Nicks m = next_left table.Nicks m
+left_after table.Cats m = next_left table.Cats m ∙ ap (λ (es : Entries). table_shown table.Cats m ++ shown es) (none_from (map.entries m))
+
+-- ---- how many are left
+
+category_length : (b : Bool) (k : ℕ) (c : CatRow) → length (cond b [] (category_record k c ∷ [])) ≡ cond (not b) 1 0
+category_length true k c = refl
+category_length false k c = refl
+
+one_record : (k : RowKey) (r : Row) → length (row_record k r) ≡ cond (has_record k r) 1 0
+one_record (key.User id) (row.User u) = refl
+one_record (key.Item id) (row.Item i) = refl
+one_record (key.Bid id) (row.Bid b) = refl
+one_record (key.Purchase id) (row.Purchase p) = refl
+one_record (key.Comment id) (row.Comment c) = refl
+one_record (key.Cat k) (row.Cat c) = category_length (shows_nothing c) k c
+one_record k r = refl
+
+one_left : (b h : Bool) (e : RowKey × Row) (fs gs : Entries) → length (row_record e.0 e.1) ≡ cond h 1 0 → length (shown fs) ≡ length gs
+    → length (shown (cond b (e ∷ fs) fs)) ≡ length (cond (b && h) (e ∷ gs) gs)
+one_left true true e fs gs one rest =
+    let more : length (shown (e ∷ fs)) ≡ length (row_record e.0 e.1) + length (shown fs) = length-append (row_record e.0 e.1) (shown fs) in
+    let has : length (row_record e.0 e.1) ≡ 1 = one in
+    omega (arith, more, has, rest)
+one_left true false e fs gs one rest =
+    let more : length (shown (e ∷ fs)) ≡ length (row_record e.0 e.1) + length (shown fs) = length-append (row_record e.0 e.1) (shown fs) in
+    let none : length (row_record e.0 e.1) ≡ 0 = one in
+    omega (arith, more, none, rest)
+one_left false h e fs gs one rest = rest
+
+many_left : (n : ℕ) (es : Entries) → length (shown (from n es)) ≡ length (recorded_from n es)
+many_left n [] = refl
+many_left n (e ∷ es) = one_left (nat_le n (table_of e.0)) (has_record e.0 e.1) e (from n es) (recorded_from n es) (one_record e.0 e.1) (many_left n es)
+
+pub left_length : (n : ℕ) (m : Tables) → length (rows_from_table n m) ≡ length (recorded_from n (map.entries m))
+left_length n m = many_left n (map.entries m)

@@ -1,2 +1,3 @@
 pub mod ByTable
+pub mod LaterTables
 pub mod Parts

@@ -1,6 +1,7 @@
 //! The rows of listings, as records in order.
 #![tactic(auto)]
 
+mod later;
 mod listing_rows;
 mod listings;
 mod logs;

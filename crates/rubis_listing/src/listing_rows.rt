@@ -1,23 +1,26 @@
 //! The rows of a listing, some at a time.
 
 ghost use Rattle.std.specs.Prelude.{◌≡◌, [], IfOk, OnOk, false, length};
+ghost use Rattle.rubis_schema.specs.declared.listings.Listing.TheVariants as Shown;
 ghost use Rattle.rubis_model.specs.Listings.{log_rows, misfit_rows, table_rows};
 ghost use Rattle.rubis_shard.specs.Holdings.{union};
 ghost use Rattle.rubis_listing.specs.Parts.{AddsFirst, rows_from};
 
+use crate::later::Later;
 use crate::listings::rows_of_all;
 use crate::shared::put_shared;
 use crate::sources::Source;
 use rubis_message::Message;
-use rubis_schema::{Listing, SharedSink};
+use rubis_schema::{Listing, SharedSink, Table};
 use rubis_shadow::Misfit;
 use rubis_shard::Tables;
 use std::alloc::{AllocError, Global};
 use std::marker::Model;
 use std::thread::Threads;
 
-// The rows of at most this many are made at a time.
-const RANGE: usize = 16_384;
+// The rows of at most this many are made at a time by several threads, and by one: the text of more takes memory, and saves no time.
+const SHARED_RANGE: usize = 16_384;
+const RANGE: usize = 2_048;
 
 /// The rows of a listing that are left to be made, in order. Contracts see these rows.
 #[derive(Drop)]
@@ -25,20 +28,23 @@ pub struct ListingRows<'a> {
     source: Source<'a>,
     // The place of the first that is left.
     at: usize,
+    // The tables whose rows come after these, in a listing of all tables.
+    later: Option<Later<'a>>,
     // Whether several threads make them.
     is_shared: bool,
     alloc: Global,
 }
 
 impl<'a> Model for ListingRows<'a> {
-    ghost use Rattle.std.specs.Prelude.{◌≤◌, ℕ, List};
+    ghost use Rattle.std.specs.Prelude.{◌≤◌, ◌++◌, ℕ, List};
+    ghost use Rattle.rubis_listing.specs.LaterTables.{later_rows, AreCountable};
     ghost use Rattle.rubis_listing.specs.Parts.{rows_from, size_of};
 
     ghost Value = { List (List (List ℕ)) };
 
-    ghost view = { λ r. rows_from r.source r.at };
+    ghost view = { λ r. rows_from r.source r.at ++ later_rows r.later };
 
-    ghost invariant = { λ r. r.at ≤ size_of r.source };
+    ghost invariant = { λ r. (r.at ≤ size_of r.source) × AreCountable (rows_from r.source r.at) r.later };
 }
 
 impl<'a> ListingRows<'a> {
@@ -49,9 +55,33 @@ impl<'a> ListingRows<'a> {
         ListingRows {
             source,
             at: 0,
+            later: None,
             is_shared,
             alloc,
         }
+    }
+
+    // Those of all tables. Where they can't be counted, there isn't memory for them either.
+    fn of_all(
+        alloc: Global,
+        tables: &'a Tables,
+        is_shared: bool,
+    ) -> Result<ListingRows<'a>, AllocError>
+        ensures { IfOk result (λ rows. rows ≡ table_rows Shown.Tables (union tables.now)) }
+    {
+        let Some(_most) = tables.most_recorded() else {
+            return Err(AllocError);
+        };
+        Ok(ListingRows {
+            source: Source::Log(&[]),
+            at: 0,
+            later: Some(Later {
+                tables,
+                first: Table::Users,
+            }),
+            is_shared,
+            alloc,
+        })
     }
 
     /// Those of a listing of the tables, in key order. A listing of the log or of misfits shows no rows of tables. If they are to be
@@ -64,6 +94,9 @@ impl<'a> ListingRows<'a> {
     ) -> Result<ListingRows<'a>, AllocError>
         ensures { IfOk result (λ rows. rows ≡ table_rows listing.now (union tables.now)) }
     {
+        if let Listing::Tables = listing {
+            return ListingRows::of_all(alloc, tables, is_shared);
+        }
         let rows = rows_of_all(alloc, listing, tables)?;
         Ok(ListingRows::of(alloc, Source::Rows(listing, rows), is_shared))
     }
@@ -86,7 +119,11 @@ impl<'a> ListingRows<'a> {
     pub fn count(&self) -> usize
         ensures { result ≡ length self.now }
     {
-        self.source.count(self.at)
+        let count = self.source.count(self.at);
+        match &self.later {
+            Some(later) => later.count(count),
+            None => count,
+        }
     }
 
     /// Adds the next of them, some thousands at most, and says whether there may be more.
@@ -103,11 +140,26 @@ impl<'a> ListingRows<'a> {
         ensures last { IfOk result (λ more. more ≡ false → self.new ≡ []) }
     {
         let end = self.source.len();
-        let upto = self.at + RANGE.min(end - self.at);
-        let threads = if self.is_shared { Some(rt) } else { None };
+        let (threads, range) = if self.is_shared {
+            (Some(rt), SHARED_RANGE)
+        } else {
+            (None, RANGE)
+        };
+        let upto = self.at + range.min(end - self.at);
         put_shared(threads, self.alloc, sink, &self.source, self.at, upto)?;
         self.at = upto;
-        Ok(upto < end)
+        if upto < end {
+            return Ok(true);
+        }
+        let Some(later) = self.later else {
+            return Ok(false);
+        };
+        // The list of a table is let go before the next is made.
+        self.source = Source::Log(&[]);
+        self.at = 0;
+        self.source = later.source(self.alloc)?;
+        self.later = later.next();
+        Ok(true)
     }
 
     /// Adds all of them.

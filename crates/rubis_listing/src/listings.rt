@@ -8,9 +8,9 @@ ghost use Rattle.rubis_shard.specs.Holdings.{union};
 ghost use Rattle.rubis_shard.specs.Written.{shown};
 ghost use Rattle.rubis_listing.specs.ByTable.{tables_of};
 
-use crate::records::{has_record, put_record};
+use crate::records::put_record;
 use rubis_schema::{Fields, Id, Items, Listing, Row, RowKey, RowSink, Table};
-use rubis_shard::{Tables, selects};
+use rubis_shard::{Tables, has_record, selects};
 use std::alloc::{AllocError, Global};
 
 // Adds the row at a key, if it matches the listing and has a record.
@@ -109,7 +109,7 @@ fn tables_of(listing: &Listing) -> &'static [Table]
 
 // The rows of one table that a listing shows, and maybe others that have no record there, in key order. Of the categories only
 // those are looked up that have a record, so that the others need not be put in order.
-fn rows_in<'a>(
+pub fn rows_in<'a>(
     alloc: Global,
     table: Table,
     listing: &Listing,

@@ -1,7 +1,7 @@
 //! The records of rows.
 
 ghost use Rattle.std.specs.Bool.{MatchBool};
-ghost use Rattle.std.specs.Prelude.{◌≡◌, ◌++◌, ◌∷◌, [], IfOk, OnOk, codes, decimal, length, true};
+ghost use Rattle.std.specs.Prelude.{◌≡◌, ◌++◌, ◌∷◌, [], IfOk, OnOk, codes, decimal, true};
 ghost use Rattle.rubis_schema.specs.FieldList.{is_plain};
 ghost use Rattle.rubis_message.specs.Grammar.{comment_fields, purchase_fields, winner_text};
 ghost use Rattle.rubis_model.specs.Listings.{best_fields, bid_row_fields, by_id, category_record, item_row_fields, row_record, sale_fields, user_fields};
@@ -149,19 +149,4 @@ pub fn put_record(fields: &mut Fields, key: &RowKey, row: &Row) -> Result<bool, 
         _ => return Ok(false),
     }
     Ok(true)
-}
-
-// Whether the row at a key has a record.
-pub fn has_record(key: &RowKey, row: &Row) -> bool
-    ensures { MatchBool result (length (row_record key.now row.now) ≡ 1) (row_record key.now row.now ≡ []) }
-{
-    match (key, row) {
-        (RowKey::User(_), Row::User(_)) => true,
-        (RowKey::Item(_), Row::Item(_)) => true,
-        (RowKey::Bid(_), Row::Bid(_)) => true,
-        (RowKey::Purchase(_), Row::Purchase(_)) => true,
-        (RowKey::Comment(_), Row::Comment(_)) => true,
-        (RowKey::Cat(_), Row::Cat(row)) => !row.shows_nothing(),
-        _ => false,
-    }
 }

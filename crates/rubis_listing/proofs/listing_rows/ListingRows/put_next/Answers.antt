@@ -1,24 +1,46 @@
-use Rattle.std.proofs.Common.{arith, ◌≡◌, ◌≤◌, ◌∙◌, ◌+◌, ap, sym}
+use Rattle.std.proofs.Common.{rules, arith, ◌≡◌, ◌≤◌, ◌∙◌, ◌+◌, ◌++◌, [], ap, sym}
+use Rattle.std.specs.Prelude.{Option, None}
 use Rattle.std.proofs.lemmas.Bool.{ltb-false}
-use Rattle.rubis_listing.specs.Parts.{between, size_of}
-use Rattle.rubis_listing.proofs.Ranges.{between_more, between_none}
+use Rattle.rubis_listing.specs.LaterTables.{later_rows}
+use Rattle.rubis_listing.specs.Parts.{between, rows_from, size_of}
+use Rattle.rubis_listing.specs.declared.later.Later.{Later}
+use Rattle.rubis_listing.proofs.LaterRows.{countable_none, countable_rest, next_rows}
+use Rattle.rubis_listing.proofs.Ranges.{between_none}
 use Rattle.rubis_listing.proofs.listing_rows.ListingRows.put_next.Goals as goal
 
-pub returns-clause-next : goal.returns-clause-next
-returns-clause-next g c =
+pub invariant_of-self : goal.invariant_of-self
+invariant_of-self c =
     let source = c.self.inside.source in
     let at = c.self.inside.at in
     let upto = at + c.min.result in
-    let within : upto ≤ size_of source = omega (arith, c.min.ensures, c.len-end.ensures, c.self.invariant) in (
+    let inv = c.self.invariant.0 in
+    let within : upto ≤ size_of source = omega (arith, c.min.ensures, c.len-end.ensures, inv) in
+    (within, countable_rest source at upto c.self.inside.later (omega arith) within c.self.invariant.1)
+
+pub invariant_of-self-in_err-self-inside : goal.invariant_of-self-in_err-self-inside
+invariant_of-self-in_err-self-inside c =
+    (omega arith, countable_none (rows_from c.self.inside.source c.self.inside.at) c.self.inside.later c.self.invariant.1)
+
+pub returns-then-upto-end-clause-next : goal.returns-then-upto-end-clause-next
+returns-then-upto-end-clause-next g c =
+    let source = c.self.inside.source in
+    let at = c.self.inside.at in
+    let upto = at + c.min.result in
+    let inv = c.self.invariant.0 in
+    let within : upto ≤ size_of source = omega (arith, c.min.ensures, c.len-end.ensures, inv) in (
       between source at upto,
-      sym c.self.view_is ∙ between_more source at upto (size_of source) (omega arith) within within,
+      sym c.self.view_is ∙ next_rows source at upto (later_rows c.self.inside.later) (omega arith) within,
       c.in_ok-put_shared.ensures,
     )
 
-pub returns-clause-last : goal.returns-clause-last
-returns-clause-last g c ended =
+pub returns-in_default-clause-next : goal.returns-in_default-clause-next
+returns-in_default-clause-next g c =
     let source = c.self.inside.source in
-    let upto = c.self.inside.at + c.min.result in
-    let behind = ltb-false upto c.len-end.result ended in
-    let last : upto ≡ size_of source = omega (arith, behind, c.min.ensures, c.len-end.ensures, c.self.invariant) in
-    ap (λ n. between source n (size_of source)) last ∙ between_none source (size_of source)
+    let at = c.self.inside.at in
+    let upto = at + c.min.result in
+    let inv = c.self.invariant.0 in
+    let within : upto ≤ size_of source = omega (arith, c.min.ensures, c.len-end.ensures, inv) in (
+      between source at upto,
+      sym c.self.view_is ∙ next_rows source at upto (later_rows c.self.inside.later) (omega arith) within,
+      c.in_ok-put_shared.ensures,
+    )

@@ -1,0 +1,21 @@
+use Rattle.std.proofs.Common.{ℕ, ◌≡◌, ◌+◌, ◌≤◌, ◌++◌, [], ap, length, refl, ◌∙◌, arith}
+use Rattle.std.specs.FinMap as map
+use Rattle.rubis_model.specs.Listings.{log_from}
+use Rattle.rubis_shard.specs.Counted.{recorded_from}
+use Rattle.rubis_shard.specs.Holdings.{union}
+use Rattle.rubis_listing.specs.LaterTables.{rows_from_table}
+use Rattle.rubis_listing.proofs.ByTable.{all_left, left_length}
+use Rattle.rubis_listing.proofs.Entering.{none}
+use Rattle.rubis_listing.proofs.listing_rows.ListingRows.of_all.Goals as goal
+
+pub invariant_of-result : goal.invariant_of-result
+invariant_of-result c =
+    let m = union c.args.tables.now in
+    let nought : length (log_from 1 []) ≡ 0 = ap length (none 1) in
+    let many : length (rows_from_table 0 m) ≡ length (recorded_from 0 (map.entries m)) = left_length 0 m in
+    let few : length (recorded_from 0 (map.entries m)) ≤ c.in-Some._most = search rules in
+    (omega arith, omega (arith, nought, many, few))
+
+pub returns : goal.returns
+returns c =
+    ap (λ rows. rows ++ rows_from_table 0 (union c.args.tables.now)) (none 1) ∙ all_left (union c.args.tables.now)
