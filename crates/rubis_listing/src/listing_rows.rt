@@ -20,6 +20,7 @@ use std::thread::Threads;
 
 // The rows of at most this many are made at a time by several threads, and by one: the text of more takes memory, and saves no time.
 const SHARED_RANGE: usize = 16_384;
+
 const RANGE: usize = 2_048;
 
 /// The rows of a listing that are left to be made, in order. Contracts see these rows.
