@@ -36,6 +36,11 @@ USED = 0.85
 BEHIND, CROWDED = 10, 1.5
 
 
+def fills(key: Key) -> bool:
+    """Returns whether the task is about wrong bodies, for which nothing waits."""
+    return key[1] not in ("proof", "tests")
+
+
 def weight(crate: str) -> int:
     """Returns about how much work a crate in this folder is, in lines."""
     walked = (f"{at}/{file}" for part in PARTS for at, _, files in os.walk(f"{crate}/{part}") for file in files)
@@ -63,14 +68,15 @@ class Lanes:
     def __init__(self, tasks: Dict[Key, Task], weights: Dict[str, int], processors: int, memory: float) -> None:
         self.tasks, self.processors, self.memory = tasks, processors, USED * memory
         self.behind = chains(tasks, weights)
-        self.left = sorted(tasks, key=lambda key: -self.behind[key])
+        # Wrong bodies fill what the proofs leave free.
+        self.left = sorted(tasks, key=lambda key: (fills(key), -self.behind[key]))
         self.running: Dict[Key, int] = {}
         self.given: Dict[Key, Any] = {}
         self.ended: "queue.Queue[Tuple[Key, Any, Optional[BaseException]]]" = queue.Queue()
 
     def is_longest(self, key: Key) -> bool:
-        """Returns whether the longest chain of what isn't done begins with the task."""
-        return self.behind[key] == max(self.behind[it] for it in [*self.left, *self.running])
+        """Returns whether the longest chain of proofs that aren't done begins with the task."""
+        return not fills(key) and self.behind[key] == max(self.behind[it] for it in [*self.left, *self.running] if not fills(it))
 
     def jobs_for(self, key: Key) -> int:
         """Returns how many jobs the task gets now, or none if it has to wait."""
@@ -81,6 +87,8 @@ class Lanes:
         room = self.memory - sum(need * (1 + OF_FIRST * (jobs - 1)) for need, jobs in busy)
         if busy and (sum(jobs for _, jobs in busy) >= CROWDED * self.processors or needs > room):
             return 0
+        if fills(key):
+            return 1
         wanted = min(MOST, self.processors) if self.is_longest(key) else max(1, self.processors // 2)
         return max(1, min(wanted, 1 + int((room / needs - 1) / OF_FIRST)))
 
