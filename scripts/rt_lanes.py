@@ -19,8 +19,8 @@ import threading
 import types
 from typing import Any, Callable, Dict, List, Optional, Tuple
 
-# The crate that a task is about, and what is done: "proof", "tests", or one of the words for wrong bodies.
-Key = Tuple[str, str]
+# The crate that a task is about, and what is done: "proof", "tests", or a word for wrong bodies and which of them.
+Key = Tuple[Any, ...]
 # What a task waits for, its lines of code or 0 where nothing is to be done, the memory that it takes, and its call, which gets what the others
 # gave and how many jobs it may have.
 Task = Tuple[List[Key], int, float, Callable[[Dict[Key, Any], int], Any]]
@@ -139,7 +139,7 @@ def toolchain(file: str) -> Optional[types.ModuleType]:
 
 def run_tasks(kit: types.ModuleType, tasks: Dict[Key, Task]) -> Dict[Key, Any]:
     """Runs the tasks of the toolchain's `rt ci`, and returns what each gave."""
-    weights = {name: weight(f"crates/{name}") for name, _ in tasks}
+    weights = {name: weight(f"crates/{name}") for name in {key[0] for key in tasks}}
     with kit.ending():
         return Lanes(tasks, weights, kit.processors(), kit.free()).run()
 
