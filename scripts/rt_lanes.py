@@ -74,16 +74,20 @@ class Lanes:
         self.given: Dict[Key, Any] = {}
         self.ended: "queue.Queue[Tuple[Key, Any, Optional[BaseException]]]" = queue.Queue()
 
+    def is_nothing(self, key: Key) -> bool:
+        """Returns whether nothing is to be done: a crate without tests has a task for them too."""
+        return not fills(key) and not self.tasks[key][1]
+
     def is_longest(self, key: Key) -> bool:
         """Returns whether the longest chain of proofs that aren't done begins with the task."""
         return not fills(key) and self.behind[key] == max(self.behind[it] for it in [*self.left, *self.running] if not fills(it))
 
     def jobs_for(self, key: Key) -> int:
         """Returns how many jobs the task gets now, or none if it has to wait."""
-        if not self.tasks[key][1]:
+        if self.is_nothing(key):
             return 1
         needs = self.tasks[key][2]
-        busy = [(self.tasks[it][2], jobs) for it, jobs in self.running.items() if self.tasks[it][1]]
+        busy = [(self.tasks[it][2], jobs) for it, jobs in self.running.items() if not self.is_nothing(it)]
         room = self.memory - sum(need * (1 + OF_FIRST * (jobs - 1)) for need, jobs in busy)
         if busy and (sum(jobs for _, jobs in busy) >= CROWDED * self.processors or needs > room):
             return 0
