@@ -8,8 +8,8 @@ ghost use Rattle.rubis_message.specs.Readings.{request_of, take_asked_close, tak
 use crate::faults::ReadFault;
 use crate::kinds::{RecordKind, Shown};
 use crate::readers::Reader;
-use rubis_schema::{CAT_MAX, Listing, PASS_MAX, QUANTITY_MAX, Record, Shared};
-use rubis_shadow::{Ask, AskedClose, AskedRename, AskedRestock};
+use rubis_schema::{CAT_MAX, Listing, PASS_MAX, QUANTITY_MAX, Record};
+use rubis_shadow::{Ask, AskedClose, AskedRename, AskedRestock, RenameAsk};
 use std::alloc::Global;
 
 /// What a user asks of a site.
@@ -49,12 +49,12 @@ impl<'a, F: Record> Reader<'a, F> {
 
     /// The nickname that a user asks for.
     #[tactic(auto, unfolding(crate::specs::Readings::take_asked_rename))]
-    fn asked_rename(&mut self, alloc: Global, sites: u8) -> Result<Shared<AskedRename>, ReadFault>
+    fn asked_rename(&mut self, alloc: Global, sites: u8) -> Result<RenameAsk, ReadFault>
         ensures { Takes (take_asked_rename sites) self.old self.new result }
     {
         let user = self.id(sites)?;
         let nick = self.nick()?;
-        Ok(Shared::new(alloc, AskedRename { user, nick })?)
+        Ok(RenameAsk::new(alloc, AskedRename { user, nick })?)
     }
 
     /// A listing.

@@ -6,8 +6,8 @@ ghost use Rattle.rubis_message.specs.Readings.{take_close, take_rename, take_res
 use crate::faults::ReadFault;
 use crate::kinds::RecordKind;
 use crate::readers::Reader;
-use rubis_schema::{CAT_MAX, QUANTITY_MAX, Record, Shared};
-use rubis_shadow::{AskedRename, NewClose, NewRename, NewRestock, Shadow};
+use rubis_schema::{CAT_MAX, QUANTITY_MAX, Record};
+use rubis_shadow::{NewClose, NewRename, NewRestock, Shadow};
 use std::alloc::Global;
 
 impl<'a, F: Record> Reader<'a, F> {
@@ -47,8 +47,7 @@ impl<'a, F: Record> Reader<'a, F> {
         if from == to {
             return Err(ReadFault::BadRecord);
         }
-        let asked = Shared::new(alloc, AskedRename { user, nick: to })?;
-        Ok(NewRename::new(asked, from))
+        Ok(NewRename::new(alloc, user, from, to)?)
     }
 
     /// A shadow.

@@ -1,5 +1,6 @@
 //! What a user asks for.
 
+use crate::renames::RenameAsk;
 use crate::shadows::{NewBid, NewItem};
 use rubis_schema::{CommentRow, Id, Nick, PurchaseRow, Shared};
 
@@ -35,5 +36,5 @@ pub enum Ask {
     Close(AskedClose),
     Comment(Shared<CommentRow>),
     Restock(AskedRestock),
-    Rename(Shared<AskedRename>),
+    Rename(RenameAsk),
 }

@@ -19,5 +19,5 @@ pub use listing::{put_in_order, rows_in_order};
 pub use numbered::{Misfit, Numbered};
 pub use parts::{EffectRef, Effects, PARTS_MAX};
 pub use plain::PlainTables;
-pub use renames::NewRename;
+pub use renames::{NewRename, RenameAsk};
 pub use shadows::{Colour, NewBid, NewClose, NewItem, NewRestock, Shadow};

@@ -42,8 +42,8 @@ pub struct NewRestock {
     pub quantity: u64,
 }
 
-/// What an accepted ask does, at every site. The larger ones are shared by their copies, so
-/// that logs stay small.
+/// What an accepted ask does, at every site. The larger ones are in memory of their own, which the copies of an item and
+/// of a comment share, so that logs stay small.
 #[derive(Drop, Clone, PartialEq, Eq)]
 pub enum Shadow {
     User(Nick),
