@@ -27,7 +27,7 @@ fn picks(listing: &Listing, table: Table, key: &RowKey, row: &Row) -> bool
     selects(listing, key, row) && table.holds(key)
 }
 
-// For how many of so many rows to make room at once: a listing of all tables shows most of them, and any other finds few.
+// For how many rows of a map to make room at once: a listing of all tables shows most of them, and any other finds few.
 pub fn room_of(listing: &Listing, rows: usize) -> usize {
     match listing {
         Listing::Tables => rows,
@@ -35,7 +35,7 @@ pub fn room_of(listing: &Listing, rows: usize) -> usize {
     }
 }
 
-// No rows, with room for so many.
+// No rows, with room for this many.
 pub fn with_room<'a>(alloc: Global, rows: usize) -> Result<Vec<(RowKey, &'a Row)>, AllocError>
     ensures { IfOk result (λ made. made.items ≡ []) }
 {
