@@ -114,3 +114,32 @@ impl PackedDeps {
         u32::from(self.low[place]) + 65536 * u32::from(upper)
     }
 }
+
+impl PartialEq for PackedDeps {
+    ghost use Rattle.std.specs.Prelude.{nat_eq};
+    ghost use Rattle.std.specs.Cmp.Lexicographic.{pointwise, nat_list_eq_equiv};
+    ghost use Rattle.std.specs.Cmp.{partial_equiv_from_equiv};
+
+    ghost eq = { pointwise nat_eq };
+
+    ghost laws = { partial_equiv_from_equiv nat_list_eq_equiv };
+
+    #[inline(always)]
+    fn eq(&self, other: &PackedDeps) -> bool {
+        if self.sites() != other.sites() {
+            return false;
+        }
+        for site in 0..self.sites() {
+            if self.count(site) != other.count(site) {
+                return false;
+            }
+        }
+        true
+    }
+}
+
+impl Eq for PackedDeps {
+    ghost use Rattle.std.specs.Cmp.Lexicographic.{nat_list_eq_equiv};
+
+    ghost laws = { nat_list_eq_equiv };
+}

@@ -12,7 +12,7 @@ use rubis_schema::{
     CommentRow, Id, ItemRow, Nick, PurchaseRow, Refusal, Row, RowKey, Sale, Shared, UserRow, View,
 };
 use rubis_shadow::{
-    Ask, AskedClose, AskedRename, AskedRestock, NewBid, NewClose, NewItem, NewRename, NewRestock,
+    Ask, AskedClose, AskedRestock, NewBid, NewClose, NewItem, NewRename, NewRestock, RenameAsk,
     Shadow,
 };
 
@@ -234,20 +234,20 @@ fn decide_restock<V: View>(
 }
 
 fn decide_rename<V: View>(
-    rename: Shared<AskedRename>,
+    rename: RenameAsk,
     view: &V,
     standing: &Standing,
 ) -> Result<Shadow, Refusal>
     ensures { result ≡ decision (row_by_key (V.tables view.now)) standing.now (Ask.Rename rename) }
 {
     check_red(standing)?;
-    let Some(user) = user_row(view, rename.user) else {
+    let Some(user) = user_row(view, rename.user()) else {
         return Err(Refusal::NoUser);
     };
-    if view.row(&RowKey::Nick(rename.nick)).is_some() || user.nick == rename.nick {
+    if view.row(&RowKey::Nick(rename.nick())).is_some() || user.nick == rename.nick() {
         return Err(Refusal::NickTaken);
     }
-    Ok(Shadow::Rename(NewRename::new(rename, user.nick)))
+    Ok(Shadow::Rename(NewRename::of(rename, user.nick)))
 }
 
 /// The shadow of the ask, or the first refusal that holds, in the order of the ask's tests. A close carries the item's

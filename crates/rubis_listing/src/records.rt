@@ -137,7 +137,7 @@ pub fn put_record(fields: &mut Fields, key: &RowKey, row: &Row) -> Result<bool, 
     match (key, row) {
         (RowKey::User(id), Row::User(user)) => put_user(fields, id, user)?,
         (RowKey::Item(id), Row::Item(item)) => put_item(fields, id, item)?,
-        (RowKey::Bid(id), Row::Bid(bid)) => put_bid(fields, id, bid)?,
+        (RowKey::Bid(id), Row::Bid(bid)) => put_bid(fields, id, &bid.row())?,
         (RowKey::Purchase(id), Row::Purchase(purchase)) => put_purchase(fields, id, purchase)?,
         (RowKey::Comment(id), Row::Comment(comment)) => put_comment(fields, id, comment)?,
         (RowKey::Cat(cat), Row::Cat(row)) => {

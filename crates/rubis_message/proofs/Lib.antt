@@ -3,6 +3,6 @@ pub mod Counts
 pub mod Fields
 pub mod Forms
 pub mod Records
-pub mod Parts
+pub mod Packed
 pub mod Versions
 pub mod Widening

@@ -1,5 +1,5 @@
 pub mod Message
-pub mod Parts
+pub mod Packed
 pub mod Equal
 pub mod Kinds
 pub mod Grammar

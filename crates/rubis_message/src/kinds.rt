@@ -13,7 +13,7 @@ use rubis_schema::{
 };
 use rubis_shadow::{
     Ask, AskedClose, AskedRename, AskedRestock, NewBid, NewClose, NewItem, NewRename, NewRestock,
-    Shadow,
+    RenameAsk, Shadow,
 };
 use std::alloc::Global;
 
@@ -164,12 +164,12 @@ impl<'a, F: Record> Reader<'a, F> {
 
     /// The nickname that a user asks for.
     #[tactic(auto, unfolding(crate::specs::Readings::take_asked_rename))]
-    fn asked_rename(&mut self, alloc: Global, sites: u8) -> Result<Shared<AskedRename>, ReadFault>
+    fn asked_rename(&mut self, alloc: Global, sites: u8) -> Result<RenameAsk, ReadFault>
         ensures { Takes (take_asked_rename sites) self.old self.new result }
     {
         let user = self.id(sites)?;
         let nick = self.nick()?;
-        Ok(Shared::new(alloc, AskedRename { user, nick })?)
+        Ok(RenameAsk::new(alloc, AskedRename { user, nick })?)
     }
 
     /// The end of a sale.
@@ -208,8 +208,7 @@ impl<'a, F: Record> Reader<'a, F> {
         if from == to {
             return Err(ReadFault::BadRecord);
         }
-        let asked = Shared::new(alloc, AskedRename { user, nick: to })?;
-        Ok(NewRename::new(asked, from))
+        Ok(NewRename::new(alloc, user, from, to)?)
     }
 
     /// A shadow.

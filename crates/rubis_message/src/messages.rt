@@ -17,7 +17,7 @@ use std::marker::Model;
 /// and numbers are within their limits.
 #[derive(Clone)]
 pub struct Message {
-    // The stamp in parts, so that logs stay small. The id's number is one more than the count of its site.
+    // What the stamp is made of, so that logs stay small. The id's number is one more than the count of its site.
     red: u32,
     deps: PackedDeps,
     site: u8,
@@ -39,7 +39,7 @@ impl Drop for Message {
 impl Model for Message {
     ghost use Rattle.rubis_message.specs.Message as model;
     ghost use Rattle.rubis_message.specs.Message.{IsMessage};
-    ghost use Rattle.rubis_message.specs.Parts.{message_of};
+    ghost use Rattle.rubis_message.specs.Packed.{message_of};
 
     ghost Value = { model.Message };
 
@@ -51,7 +51,7 @@ impl Model for Message {
 impl Message {
     /// The shadow with that stamp.
     #[inline(always)]
-    #[tactic(auto, using(crate::proofs::Parts::message_is, crate::proofs::Parts::parts_meet))]
+    #[tactic(auto, using(crate::proofs::Packed::message_is, crate::proofs::Packed::parts_meet))]
     pub fn new(stamp: Stamp, shadow: Shadow) -> Message
         requires { IsMessage (record { stamp = stamp; shadow = shadow }) }
         ensures { result ≡ record { stamp = stamp; shadow = shadow } }
@@ -176,7 +176,10 @@ impl PartialEq for Message {
     ghost laws = { partial_equiv_from_equiv same_message_equiv };
 
     fn eq(&self, other: &Message) -> bool {
-        self.stamp() == other.stamp() && self.shadow == other.shadow
+        self.id() == other.id()
+            && self.red == other.red
+            && self.deps == other.deps
+            && self.shadow == other.shadow
     }
 }
 

@@ -49,7 +49,9 @@ pub use records::Record;
 pub use refusals::Refusal;
 pub use row_keys::{RowKey, Table, key_cmp};
 pub use row_sinks::{RowSink, SharedSink};
-pub use rows::{Best, BidRow, CatRow, CommentRow, ItemRow, PurchaseRow, Row, Sale, UserRow};
+pub use rows::{
+    Best, BidRow, CatRow, CommentRow, ItemRow, PackedBid, PurchaseRow, Row, Sale, UserRow,
+};
 pub use rubis_numbers::{RATING_MAX, read_number, read_rating};
 pub use shared::Shared;
 pub use short_texts::ShortText;

@@ -9,6 +9,7 @@ use crate::nicks::Nick;
 use crate::shared::Shared;
 use crate::texts::{Name, Text};
 use std::alloc::AllocError;
+use std::marker::Model;
 
 /// A user: the nickname, how many items the user listed, how many pieces the user bought, and the sum and the count
 /// of the comments to the user.
@@ -61,6 +62,70 @@ pub struct BidRow {
     pub red: u32,
 }
 
+/// The row of a bid in less memory: 24 bytes, so that each row of a table takes 32. Contracts see the bid's row.
+#[derive(Clone, Copy)]
+pub struct PackedBid {
+    amount: u64,
+    item_seq: u32,
+    bidder_seq: u32,
+    red: u32,
+    item_site: u8,
+    bidder_site: u8,
+}
+
+impl Model for PackedBid {
+    ghost use Rattle.rubis_schema.specs.declared.rows.BidRow.{BidRow};
+
+    ghost Value = { BidRow };
+
+    ghost view = { λ b. record { item = record { site = b.item_site; seq = b.item_seq }; bidder = record { site = b.bidder_site; seq = b.bidder_seq }; amount = b.amount; red = b.red } };
+
+    ghost inverse = { λ b. record { amount = b.amount; item_seq = b.item.seq; bidder_seq = b.bidder.seq; red = b.red; item_site = b.item.site; bidder_site = b.bidder.site } };
+}
+
+impl PackedBid {
+    /// That row.
+    #[inline(always)]
+    pub fn new(row: BidRow) -> PackedBid
+        ensures { result ≡ row }
+    {
+        PackedBid {
+            amount: row.amount,
+            item_seq: row.item.seq,
+            bidder_seq: row.bidder.seq,
+            red: row.red,
+            item_site: row.item.site,
+            bidder_site: row.bidder.site,
+        }
+    }
+
+    /// The item that is bid for.
+    #[inline(always)]
+    pub fn item(&self) -> Id
+        ensures { result ≡ self.now.item }
+    {
+        Id {
+            site: self.item_site,
+            seq: self.item_seq,
+        }
+    }
+
+    /// The whole row.
+    pub fn row(&self) -> BidRow
+        ensures { result ≡ self.now }
+    {
+        BidRow {
+            item: self.item(),
+            bidder: Id {
+                site: self.bidder_site,
+                seq: self.bidder_seq,
+            },
+            amount: self.amount,
+            red: self.red,
+        }
+    }
+}
+
 /// A buy-now purchase.
 #[derive(Clone, Copy, PartialEq, Eq)]
 pub struct PurchaseRow {
@@ -101,7 +166,7 @@ impl CatRow {
 pub enum Row {
     User(Boxed<UserRow>),
     Item(Boxed<ItemRow>),
-    Bid(BidRow),
+    Bid(PackedBid),
     Purchase(PurchaseRow),
     Comment(Shared<CommentRow>),
     Nick(Id),

@@ -20,7 +20,7 @@ pub use numbered::{Misfit, Numbered};
 pub use part_iterator::Effects;
 pub use parts::{EffectRef, PARTS_MAX};
 pub use plain::PlainTables;
-pub use renames::NewRename;
+pub use renames::{NewRename, RenameAsk};
 pub use shadows::{
     Ask, AskedClose, AskedRename, AskedRestock, Colour, NewBid, NewClose, NewItem, NewRestock,
     Shadow,

@@ -15,8 +15,8 @@ use crate::keys::{Keys, no_key, one_key, three_keys, two_keys};
 use crate::renames::NewRename;
 use crate::shadows::{NewBid, NewClose, NewItem, NewRestock, Shadow};
 use rubis_schema::{
-    Best, BidRow, Boxed, CommentRow, Id, ItemRow, Nick, PurchaseRow, Row, RowKey, Sale, Shared,
-    UserRow,
+    Best, BidRow, Boxed, CommentRow, Id, ItemRow, Nick, PackedBid, PurchaseRow, Row, RowKey, Sale,
+    Shared, UserRow,
 };
 use std::alloc::{AllocError, Global};
 use std::marker::Model;
@@ -392,7 +392,7 @@ fn change_with(change: &ChangeRef<'_>, row: Option<Row>) -> Change
     }
     match change {
         ChangeRef::NewNick(id) => Change::Insert(Row::Nick(*id)),
-        ChangeRef::NewBid(bid) => Change::Insert(Row::Bid(*bid)),
+        ChangeRef::NewBid(bid) => Change::Insert(Row::Bid(PackedBid::new(*bid))),
         ChangeRef::NewPurchase(purchase) => Change::Insert(Row::Purchase(*purchase)),
         ChangeRef::NewUser(_) | ChangeRef::NewItem(_) | ChangeRef::NewComment(_) => unreachable!(),
         ChangeRef::ItemListed => Change::ItemListed,

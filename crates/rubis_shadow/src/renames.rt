@@ -1,17 +1,71 @@
 //! What a rename frees and takes.
 
-ghost use Rattle.std.specs.Prelude.{◌≡◌};
+ghost use Rattle.std.specs.Prelude.{◌≡◌, IfOk};
 
 use crate::shadows::AskedRename;
-use rubis_schema::{Id, Nick, Shared};
-use std::alloc::AllocError;
+use rubis_schema::{Boxed, Id, Nick};
+use std::alloc::{AllocError, Global};
 use std::marker::Model;
 
-/// Another nickname of a user, in place of the one that it has. What was asked for is shared by the copies.
+// A user with two nicknames.
+#[derive(Clone, Copy)]
+struct Nicknames {
+    user: Id,
+    from: Nick,
+    to: Nick,
+}
+
+/// What a user asks for who wants another nickname, with room for the one that the user has. Contracts see what is asked.
+#[derive(Drop)]
+pub struct RenameAsk {
+    // Both are the one that is asked for.
+    nicknames: Boxed<Nicknames>,
+}
+
+impl Model for RenameAsk {
+    ghost use Rattle.rubis_shadow.specs.declared.shadows.AskedRename.{AskedRename};
+
+    ghost Value = { AskedRename };
+
+    ghost view = { λ a. record { user = a.nicknames.user; nick = a.nicknames.to } };
+}
+
+impl RenameAsk {
+    /// What is asked, in memory of its own.
+    pub fn new(alloc: Global, asked: AskedRename) -> Result<RenameAsk, AllocError>
+        ensures { IfOk result (λ ask. ask ≡ asked) }
+    {
+        let nicknames = Nicknames {
+            user: asked.user,
+            from: asked.nick,
+            to: asked.nick,
+        };
+        Ok(RenameAsk {
+            nicknames: Boxed::new(alloc, nicknames)?,
+        })
+    }
+
+    /// The user who asks.
+    #[inline(always)]
+    pub fn user(&self) -> Id
+        ensures { result ≡ self.now.user }
+    {
+        self.nicknames.user
+    }
+
+    /// The nickname that is asked for.
+    #[inline(always)]
+    pub fn nick(&self) -> Nick
+        ensures { result ≡ self.now.nick }
+    {
+        self.nicknames.to
+    }
+}
+
+/// Another nickname of a user, in place of the one that it has. It is in memory of its own, so that shadows stay small.
 #[derive(Drop)]
 pub struct NewRename {
-    asked: Shared<AskedRename>,
-    from: Nick,
+    nicknames: Boxed<Nicknames>,
 }
 
 impl Model for NewRename {
@@ -19,15 +73,26 @@ impl Model for NewRename {
 
     ghost Value = { renames.NewRename };
 
-    ghost view = { λ r. record { user = r.asked.user; from = r.from; to = r.asked.nick } };
+    ghost view = { λ r. record { user = r.nicknames.user; from = r.nicknames.from; to = r.nicknames.to } };
 }
 
 impl NewRename {
-    /// What a user asks for, where the user's nickname is `from`.
-    pub fn new(asked: Shared<AskedRename>, from: Nick) -> NewRename
+    /// A user who has the nickname `from` and gets the nickname `to`.
+    pub fn new(alloc: Global, user: Id, from: Nick, to: Nick) -> Result<NewRename, AllocError>
+        ensures { IfOk result (λ rename. rename ≡ record { user = user; from = from; to = to }) }
+    {
+        Ok(NewRename {
+            nicknames: Boxed::new(alloc, Nicknames { user, from, to })?,
+        })
+    }
+
+    /// What a user asks for, where the user's nickname is `from`. It takes no memory.
+    pub fn of(asked: RenameAsk, from: Nick) -> NewRename
         ensures { result ≡ record { user = asked.user; from = from; to = asked.nick } }
     {
-        NewRename { asked, from }
+        let RenameAsk { mut nicknames } = asked;
+        nicknames.get_mut().from = from;
+        NewRename { nicknames }
     }
 
     /// The user who is renamed.
@@ -35,7 +100,7 @@ impl NewRename {
     pub fn user(&self) -> Id
         ensures { result ≡ self.now.user }
     {
-        self.asked.user
+        self.nicknames.user
     }
 
     /// The nickname that the user has.
@@ -43,7 +108,7 @@ impl NewRename {
     pub fn from(&self) -> Nick
         ensures { result ≡ self.now.from }
     {
-        self.from
+        self.nicknames.from
     }
 
     /// The nickname that the user gets.
@@ -51,7 +116,7 @@ impl NewRename {
     pub fn to(&self) -> Nick
         ensures { result ≡ self.now.to }
     {
-        self.asked.nick
+        self.nicknames.to
     }
 }
 
@@ -59,11 +124,8 @@ impl Clone for NewRename {
     ghost is_clone = { λ r copy. copy ≡ r };
 
     fn clone(&self) -> Result<NewRename, AllocError> {
-        let asked = self.asked.clone()?;
-        Ok(NewRename {
-            asked,
-            from: self.from,
-        })
+        let nicknames = self.nicknames.clone()?;
+        Ok(NewRename { nicknames })
     }
 }
 
@@ -76,7 +138,7 @@ impl PartialEq for NewRename {
     ghost laws = { partial_equiv_from_equiv same_rename_equiv };
 
     fn eq(&self, other: &NewRename) -> bool {
-        self.user() == other.user() && self.from == other.from && self.to() == other.to()
+        self.user() == other.user() && self.from() == other.from() && self.to() == other.to()
     }
 }
 

@@ -3,7 +3,7 @@
 ghost use Rattle.std.specs.Prelude.{◌≡◌, IfOk};
 ghost use Rattle.rubis_shadow.specs.Shadows.{colour_of, version_of};
 
-use crate::renames::NewRename;
+use crate::renames::{NewRename, RenameAsk};
 use rubis_schema::{CommentRow, Id, Name, Nick, PurchaseRow, Shared};
 use std::alloc::AllocError;
 
@@ -59,7 +59,7 @@ pub enum Ask {
     Close(AskedClose),
     Comment(Shared<CommentRow>),
     Restock(AskedRestock),
-    Rename(Shared<AskedRename>),
+    Rename(RenameAsk),
 }
 
 /// The end of an item's sale, with the item's category and the winning bid, if there is one.
@@ -77,8 +77,8 @@ pub struct NewRestock {
     pub quantity: u64,
 }
 
-/// What an accepted ask does, at every site. The larger ones are shared by their copies, so
-/// that logs stay small.
+/// What an accepted ask does, at every site. The larger ones are in memory of their own, which the copies of an item and
+/// of a comment share, so that logs stay small.
 #[derive(Drop, Clone, PartialEq, Eq)]
 pub enum Shadow {
     User(Nick),

@@ -44,7 +44,7 @@ fn chain_of_row(row: &Row) -> Option<IdKey>
 {
     match row {
         Row::Item(item) => Some(chain_of_items(item.cat)),
-        Row::Bid(bid) => Some(IdKey::new(IdTable::Bid, bid.item)),
+        Row::Bid(bid) => Some(IdKey::new(IdTable::Bid, bid.item())),
         Row::Purchase(purchase) => Some(IdKey::new(IdTable::Purchase, purchase.item)),
         Row::Comment(comment) => Some(IdKey::new(IdTable::Comment, comment.to)),
         Row::User(_) | Row::Nick(_) | Row::Cat(_) => None,

@@ -10,7 +10,7 @@ ghost use Rattle.rubis_shard.specs.Stores.{held_by, HasRoom};
 use crate::entries::LogEntry;
 use crate::message_parts::MessageParts;
 use crate::shard_store::Store;
-use rubis_schema::{Best, BidRow, PurchaseRow, Row, RowKey};
+use rubis_schema::{Best, BidRow, PackedBid, PurchaseRow, Row, RowKey};
 use rubis_shadow::{Change, Effect, NewBid, Numbered};
 
 // Folds part number `part` of an entry on, from 1, for which there is room.
@@ -40,12 +40,12 @@ impl<'a> MessageParts<'a> {
     {
         let entry = &self.entry;
         if self.first == at {
-            let row = Row::Bid(BidRow {
+            let row = Row::Bid(PackedBid::new(BidRow {
                 item: bid.item,
                 bidder: bid.bidder,
                 amount: bid.amount,
                 red: entry.red,
-            });
+            }));
             let effect = Effect {
                 key: RowKey::Bid(entry.id),
                 change: Change::Insert(row),

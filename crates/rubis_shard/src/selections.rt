@@ -14,7 +14,7 @@ pub fn selects(listing: &Listing, key: &RowKey, row: &Row) -> bool
     match (listing, key, row) {
         (Listing::Users, RowKey::User(_), _) => true,
         (Listing::Items(cat), RowKey::Item(_), Row::Item(item)) => item.cat == *cat,
-        (Listing::Bids(item), RowKey::Bid(_), Row::Bid(bid)) => bid.item == *item,
+        (Listing::Bids(item), RowKey::Bid(_), Row::Bid(bid)) => bid.item() == *item,
         (Listing::Purchases(item), RowKey::Purchase(_), Row::Purchase(purchase)) => {
             purchase.item == *item
         }

@@ -1,4 +1,4 @@
--- A message in the parts that are kept of it.
+-- A message by what is kept of it.
 use Rattle.std.specs.Prelude.{ℕ, ◌+◌, List, slice_index}
 use Rattle.rubis_shadow.specs.declared.shadows.Shadow.{Shadow}
 use Rattle.rubis_message.specs.Message.{Message}
