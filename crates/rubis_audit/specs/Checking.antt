@@ -97,7 +97,8 @@ pub record HasChecked {R : Type 0} (rem : R → Option (List ℕ)) (grammar : Gr
   pub out : List ℕ
   pub appended : Appends old now out
   pub told : (lines : List Lines) → (before : List Lines)
-      × (rows_text (rows_from grammar sites BeforeLogs none_so_far before all) ≡ out ++ (check.sink ++ rows_text (rows_from grammar sites check.checker.place check.checker.tally lines rest)))
+      × (rows_text (rows_from grammar sites BeforeLogs none_so_far before all)
+      ≡ out ++ (check.sink ++ rows_text (rows_from grammar sites check.checker.place check.checker.tally lines rest)))
   pub counted : tally_from grammar sites BeforeLogs none_so_far all ≡ tally_from grammar sites check.checker.place check.checker.tally rest
 
 -- and no record is left
@@ -109,7 +110,8 @@ pub record HasCheckedAll (grammar : Grammar) (sites : ℕ) (tally : Tally) (sink
   pub counted : tally_from grammar sites BeforeLogs none_so_far all ≡ tally
 
 -- of every check that stands there this holds, of all its records and what stood in its writer
-abbrev pub OfEachCheck : {R : Type 0} → (R → Option (List ℕ)) → Check R → Option (List ℕ) → (Grammar → ℕ → Option (List ℕ) → List (List (List ℕ)) → Type 0) → Type 0
+abbrev pub OfEachCheck : {R : Type 0} → (R → Option (List ℕ)) → Check R → Option (List ℕ) →
+    (Grammar → ℕ → Option (List ℕ) → List (List (List ℕ)) → Type 0) → Type 0
 OfEachCheck rem check now holds = (grammar : Grammar) (sites : ℕ) (old : Option (List ℕ)) (all : List (List (List ℕ)))
     → HasChecked rem grammar sites check old now all → holds grammar sites old all
 

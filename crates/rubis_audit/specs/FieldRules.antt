@@ -7,7 +7,8 @@ use Rattle.rubis_schema.specs.declared.limits.TheConstants.{COUNT_MAX}
 use Rattle.rubis_message.specs.Counts.{deps_of}
 use Rattle.rubis_audit.specs.Shapes.{effect_said, listing_said}
 use Rattle.rubis_audit.specs.declared.field_rules.FieldRule.{FieldRule}
-use Rattle.rubis_audit.specs.declared.field_rules.FieldRule.TheVariants.{Nick, Name, Text, Rating, Id, Winner, Site, Counts, Number, Positive, Red, Blue, First, Second, Version, Effect, Shown}
+use Rattle.rubis_audit.specs.declared.field_rules.FieldRule.TheVariants.{Nick, Name, Text, Rating, Id, Winner, Site, Counts, Number}
+use Rattle.rubis_audit.specs.declared.field_rules.FieldRule.TheVariants.{Positive, Red, Blue, First, Second, Version, Effect, Shown}
 
 -- there is a number, and the test holds of it
 abbrev pub holds_of : (ℕ → Bool) → Option ℕ → Bool

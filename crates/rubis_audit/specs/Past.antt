@@ -53,7 +53,8 @@ pub record IsFaultless (others own : List Message) : Type 0 where
 
 -- they are found by look-ups; the clock counts those of this log, the last red one of them is that, and the shards hold
 -- them
-pub record Remembers (sites : ℕ) (seen : Seen) (clock : MessageCounts) (last : Option Message) (shards : List ShardState) (others own : List Message) : Type 0 where
+pub record Remembers (sites : ℕ) (seen : Seen) (clock : MessageCounts) (last : Option Message)
+    (shards : List ShardState) (others own : List Message) : Type 0 where
   pub known : IsFaultless others own
   pub sees : Sees seen (others ++ own)
   pub clock_is : clock ≡ clock_of sites own

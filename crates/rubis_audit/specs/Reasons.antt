@@ -1,16 +1,19 @@
 -- Why a record is outside the grammar, in words.
-use Rattle.std.specs.Prelude.{ℕ, ◌+◌, ◌==◌, ◌&&◌, Bool, not, if◌then◌else◌, bytes_eq, codes, decimal, filter, length, min, nat_lt, slice_index, take, List, [], ◌++◌}
+use Rattle.std.specs.Prelude.{ℕ, ◌+◌, ◌==◌, ◌&&◌, Bool, not, if◌then◌else◌, bytes_eq, codes, decimal, filter, length, min, nat_lt}
+use Rattle.std.specs.Prelude.{slice_index, take, List, [], ◌++◌}
 use Rattle.std.specs.List.{list_all}
 use Rattle.rubis_schema.specs.Texts.{is_digit}
 use Rattle.rubis_schema.specs.declared.limits.TheConstants.{COUNT_MAX}
 use Rattle.rubis_audit.specs.RecordFaults.{field_at}
 use Rattle.rubis_audit.specs.Shapes.{is_open, name_of}
 use Rattle.rubis_audit.specs.declared.field_rules.FieldRule.{FieldRule}
-use Rattle.rubis_audit.specs.declared.field_rules.FieldRule.TheVariants.{Nick, Name, Text, Rating, Id, Winner, Site, Counts, Number, Positive, Red, Blue, First, Second, Version, Effect, Shown}
+use Rattle.rubis_audit.specs.declared.field_rules.FieldRule.TheVariants.{Nick, Name, Text, Rating, Id, Winner, Site, Counts, Number}
+use Rattle.rubis_audit.specs.declared.field_rules.FieldRule.TheVariants.{Positive, Red, Blue, First, Second, Version, Effect, Shown}
 use Rattle.rubis_audit.specs.declared.reasons.Lines.{Lines}
 use Rattle.rubis_audit.specs.declared.record_faults.Fault.{Fault}
 use Rattle.rubis_audit.specs.declared.record_faults.Reason.{Reason}
-use Rattle.rubis_audit.specs.declared.record_faults.Reason.TheVariants.{NoRecord, NoRequest, Answer, Count, Rule, NotNext, SameNick, NoLog, BehindRows, LineEnd, Other}
+use Rattle.rubis_audit.specs.declared.record_faults.Reason.TheVariants.{NoRecord, NoRequest, Answer, Count, Rule, NotNext, SameNick, NoLog}
+use Rattle.rubis_audit.specs.declared.record_faults.Reason.TheVariants.{BehindRows, LineEnd, Other}
 use Rattle.rubis_audit.specs.declared.shapes.Shape.{Shape}
 
 abbrev pub limited_text : List ℕ → ℕ → List ℕ

@@ -1,5 +1,6 @@
 -- What is wrong with a record: the first field that isn't as its form says.
-use Rattle.std.specs.Prelude.{ℕ, ◌+◌, ◌-◌, ◌==◌, ◌&&◌, Bool, false, if◌then◌else◌, cond, bytes_eq, codes, drop, length, nat_le, nat_lt, slice_get, slice_index, unwrap_or, List, [], ◌∷◌, Option, Some, None, option_map}
+use Rattle.std.specs.Prelude.{ℕ, ◌+◌, ◌-◌, ◌==◌, ◌&&◌, Bool, false, if◌then◌else◌, cond, bytes_eq, codes, drop, length, nat_le, nat_lt}
+use Rattle.std.specs.Prelude.{slice_get, slice_index, unwrap_or, List, [], ◌∷◌, Option, Some, None, option_map}
 use Rattle.std.specs.List.{list_any}
 use Rattle.std.specs.Option.{option_or}
 use Rattle.rubis_schema.specs.NumberForms.{number_of}
@@ -69,7 +70,9 @@ discord sites shape fields =
 abbrev pub fault_in : ℕ → ℕ → Shape → List (List ℕ) → Option Fault
 fault_in sites from shape fields =
     let wanted = from + 1 + length (head_of shape) + length (tail_of shape) in
-    if has_room shape wanted (length fields) then option_or (shape_misfit sites from shape fields) (discord sites shape fields) else Some (fault 0 (Count shape wanted))
+    if has_room shape wanted (length fields)
+    then option_or (shape_misfit sites from shape fields) (discord sites shape fields)
+    else Some (fault 0 (Count shape wanted))
 
 -- a request at a site of a world
 abbrev pub request_fault : ℕ → List (List ℕ) → Option Shape → Option Fault

@@ -1,11 +1,16 @@
 -- What the words of a record say that it is, and what its fields may be then: the grammar of the manual, a line for each form.
-use Rattle.std.specs.Prelude.{ℕ, ◌+◌, Bool, true, false, if◌then◌else◌, List, [], ◌∷◌, ◌++◌, bytes_eq, codes, slice_get, option_and_then, option_map, unwrap_or, Option, Some, None}
+use Rattle.std.specs.Prelude.{ℕ, ◌+◌, Bool, true, false, if◌then◌else◌, List, [], ◌∷◌, ◌++◌, bytes_eq, codes, slice_get, option_and_then}
+use Rattle.std.specs.Prelude.{option_map, unwrap_or, Option, Some, None}
 use Rattle.rubis_schema.specs.declared.limits.TheConstants.{AMOUNT_MAX, CAT_MAX, COUNT_MAX, PASS_MAX, QUANTITY_MAX, RECORDS_MAX, SEQ_MAX, TURN_MAX}
 use Rattle.rubis_message.specs.Readings.{said}
 use Rattle.rubis_audit.specs.declared.field_rules.FieldRule.{FieldRule}
 use Rattle.rubis_audit.specs.declared.field_rules.FieldRule.TheVariants as rule
 use Rattle.rubis_audit.specs.declared.shapes.Shape.{Shape}
-use Rattle.rubis_audit.specs.declared.shapes.Shape.TheVariants.{User, Item, Bid, Buy, Close, Comment, Pass, Restock, Rename, ListUsers, ListItems, ListBids, ListPurchases, ListComments, ListCategories, ListLog, ListMisfits, ListTables, ListOther, SentUser, SentItem, SentBid, SentBuy, SentClose, SentComment, SentRestock, SentRename, SentOther, Token, LogSite, LogRow, At, Deliver, Audit}
+use Rattle.rubis_audit.specs.declared.shapes.Shape.TheVariants.{User, Item, Bid, Buy, Close, Comment, Pass, Restock, Rename, ListUsers}
+use Rattle.rubis_audit.specs.declared.shapes.Shape.TheVariants.{ListItems, ListBids, ListPurchases, ListComments, ListCategories, ListLog}
+use Rattle.rubis_audit.specs.declared.shapes.Shape.TheVariants.{ListMisfits, ListTables, ListOther, SentUser, SentItem, SentBid, SentBuy}
+use Rattle.rubis_audit.specs.declared.shapes.Shape.TheVariants.{SentClose, SentComment, SentRestock, SentRename, SentOther, Token, LogSite}
+use Rattle.rubis_audit.specs.declared.shapes.Shape.TheVariants.{LogRow, At, Deliver, Audit}
 
 -- ---- words
 

@@ -5,7 +5,8 @@ ghost use Rattle.std.specs.Bool.{MatchBool};
 ghost use Rattle.rubis_schema.specs.declared.limits.TheConstants.{COUNTED_MAX, RECORDS_MAX};
 ghost use Rattle.rubis_engine.specs.Reading.{ReadsNext};
 ghost use Rattle.rubis_engine.specs.Text.{input_records, rows_text};
-ghost use Rattle.rubis_audit.specs.Checking.{HasChecked, HasCheckedAll, HasRowOf, IsChecked, OfEachCheck, bad_row, checked_row, checker_after, fault_for, none_so_far, recent};
+ghost use Rattle.rubis_audit.specs.Checking.{HasChecked, HasCheckedAll, HasRowOf, IsChecked, OfEachCheck, bad_row, checked_row};
+ghost use Rattle.rubis_audit.specs.Checking.{checker_after, fault_for, none_so_far, recent};
 ghost use Rattle.rubis_audit.specs.RecordFaults.{fault};
 ghost use Rattle.rubis_audit.specs.declared.record_faults.Reason.TheVariants.{Other};
 

@@ -3,7 +3,8 @@
 ghost use Rattle.std.specs.Prelude.{◌≡◌, ◌≤◌, ◌++◌, IfOk, OnOk, decimal, length};
 ghost use Rattle.std.specs.List.{list_all};
 ghost use Rattle.rubis_schema.specs.Texts.{is_digit};
-ghost use Rattle.rubis_audit.specs.Reasons.{count_text, counts_text, has_digits, has_leading_zero, limited_text, id_text, marks, named_text, number_text, quote_text, reason_text, rule_text, site_text, words_of};
+ghost use Rattle.rubis_audit.specs.Reasons.{count_text, counts_text, has_digits, has_leading_zero, limited_text, id_text, marks};
+ghost use Rattle.rubis_audit.specs.Reasons.{named_text, number_text, quote_text, reason_text, rule_text, site_text, words_of};
 
 use crate::field_rules::FieldRule;
 use crate::record_faults::{Fault, Reason, field_at};

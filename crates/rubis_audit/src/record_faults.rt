@@ -3,7 +3,9 @@
 ghost use Rattle.std.specs.Prelude.{◌≡◌, ◌≤◌, ◌+◌, drop};
 ghost use Rattle.std.specs.List.{list_any};
 ghost use Rattle.rubis_schema.specs.declared.limits.TheConstants.{COUNTED_MAX};
-ghost use Rattle.rubis_audit.specs.RecordFaults.{at_fault, audit_fault, changes_nothing, discord, fault_in, field_at, has_line_end, has_room, in_quotes, is_next, line_end_at, line_end_from, misfit, misplaced, place_after, shape_misfit, site_fault, unknown, world_fault};
+ghost use Rattle.rubis_audit.specs.RecordFaults.{at_fault, audit_fault, changes_nothing, discord, fault_in, field_at, has_line_end};
+ghost use Rattle.rubis_audit.specs.RecordFaults.{has_room, in_quotes, is_next, line_end_at, line_end_from, misfit, misplaced, place_after};
+ghost use Rattle.rubis_audit.specs.RecordFaults.{shape_misfit, site_fault, unknown, world_fault};
 
 use crate::counts::read_counts;
 use crate::field_rules::FieldRule;

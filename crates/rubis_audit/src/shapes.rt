@@ -2,7 +2,8 @@
 
 ghost use Rattle.std.specs.Prelude.{◌≡◌, ◌≤◌, bytes_eq};
 ghost use Rattle.rubis_message.specs.Readings.{said};
-ghost use Rattle.rubis_audit.specs.Shapes.{audit_shape, effect_said, head_of, is_open, is_sent, listing_in, listing_said, message_in, name_of, request_said, request_shape, site_shape, tail_of, word_of, world_shape};
+ghost use Rattle.rubis_audit.specs.Shapes.{audit_shape, effect_said, head_of, is_open, is_sent, listing_in, listing_said, message_in};
+ghost use Rattle.rubis_audit.specs.Shapes.{name_of, request_said, request_shape, site_shape, tail_of, word_of, world_shape};
 
 use crate::field_rules::FieldRule as Rule;
 use rubis_schema::{

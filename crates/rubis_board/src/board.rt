@@ -38,7 +38,8 @@ impl Model for Poster {
 
     ghost view = { λ p. record { capacity = ruled_capacity p.queue; posted = (known p.seat).posted } };
 
-    ghost invariant = { λ p. IsPassOf p.queue p.seat × (known p.seat ≡ posting (known p.seat).posted) × (p.count ≡ length (known p.seat).posted) × (p.count ≤ ruled_capacity p.queue) };
+    ghost invariant = { λ p. IsPassOf p.queue p.seat × (known p.seat ≡ posting (known p.seat).posted)
+        × (p.count ≡ length (known p.seat).posted) × (p.count ≤ ruled_capacity p.queue) };
 }
 
 impl Poster {

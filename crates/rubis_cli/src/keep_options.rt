@@ -2,7 +2,8 @@
 
 ghost use Rattle.std.specs.Prelude.{◌≡◌, false, Some, IfOk, string_bytes};
 ghost use Rattle.clap.specs.Words.{app_of, first_of, found_of, one_of, rows_of, rule_of};
-ghost use Rattle.rubis_cli.specs.CommandLine.{AreKeepOptionsIn, IsFlag, IsGivenNumber, IsText, flag_option, folder_option, keep_command, with_flags, with_place};
+ghost use Rattle.rubis_cli.specs.CommandLine.{AreKeepOptionsIn, IsFlag, IsGivenNumber, IsText, flag_option, folder_option, keep_command};
+ghost use Rattle.rubis_cli.specs.CommandLine.{with_flags, with_place};
 
 use crate::options::{byte, given, with_work, word};
 use clap::{Arg, ArgAction, ArgMatches, Command};

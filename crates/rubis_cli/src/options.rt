@@ -3,7 +3,11 @@
 ghost use Rattle.std.specs.Prelude.{◌≡◌, false, [], Some, codes, map, string_bytes, IfErr, IfOk};
 ghost use Rattle.rubis_schema.specs.declared.limits.TheConstants.{SITES_MAX};
 ghost use Rattle.clap.specs.Words.{app_of, fault_of, first_of, found_of, one_of, rows_of, rule_of};
-ghost use Rattle.rubis_cli.specs.CommandLine.{AreAuditOptionsIn, AreCheckOptionsIn, AreCountsIn, AreLackOptionsIn, AreOptionsIn, IsAsked, IsFaultAmong, IsNumberOf, IsReading, IsSetupIn, audit_command, check_command, command_line, given_option, keep_option, lack_command, number_option, program_alone, reading_named, reading_option, site_command, site_option, widen_command, with_input, with_setup, with_work, world_command};
+ghost use Rattle.rubis_cli.specs.CommandLine.{AreAuditOptionsIn, AreCheckOptionsIn, AreCountsIn, AreLackOptionsIn, AreOptionsIn, IsAsked};
+ghost use Rattle.rubis_cli.specs.CommandLine.{IsFaultAmong, IsNumberOf, IsReading, IsSetupIn, audit_command, check_command, command_line};
+ghost use Rattle.rubis_cli.specs.CommandLine.{given_option, keep_option, lack_command, number_option, program_alone, reading_named};
+ghost use Rattle.rubis_cli.specs.CommandLine.{reading_option, site_command, site_option, widen_command, with_input, with_setup, with_work};
+ghost use Rattle.rubis_cli.specs.CommandLine.{world_command};
 ghost use Rattle.rubis_cli.specs.declared.options.OptionFault.TheVariants.{Memory};
 
 use crate::keep_options::{KeepOptions, flag, is_given, keep_command, read_keep};

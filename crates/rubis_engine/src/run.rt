@@ -4,7 +4,8 @@ ghost use Rattle.std.specs.Prelude.{◌≡◌, ◌<◌, ◌+◌, ◌++◌, ◌^�
 ghost use Rattle.std.specs.Io.KnownBytes.{Appends};
 ghost use Rattle.rubis_engine.specs.Accounts.{Account};
 ghost use Rattle.rubis_engine.specs.Accounts.Ending.{AtEnd, Cut};
-ghost use Rattle.rubis_engine.specs.Progress.{Drained, EndsCut, EndsInPrefix, FromStart, HasComeSoFar, HasMoved, InEachRun, IsCut, IsDone, IsRun, IsTooLong, WrotePrefix};
+ghost use Rattle.rubis_engine.specs.Progress.{Drained, EndsCut, EndsInPrefix, FromStart, HasComeSoFar, HasMoved, InEachRun, IsCut, IsDone};
+ghost use Rattle.rubis_engine.specs.Progress.{IsRun, IsTooLong, WrotePrefix};
 ghost use Rattle.rubis_engine.specs.Reading.{Advances, Gives};
 ghost use Rattle.rubis_engine.specs.Text.{input_records};
 

@@ -1,5 +1,6 @@
 -- The answer to an ask: the first of its refusals that holds, in their order, or its shadow.
-use Rattle.std.specs.Prelude.{Bool, false, ◌||◌, not, ℕ, bytes_eq, nat_eq, nat_lt, List, [], ◌∷◌, Option, Some, None, Result, Ok, Err, is_some, is_none, option_map, option_and_then, find}
+use Rattle.std.specs.Prelude.{Bool, false, ◌||◌, not, ℕ, bytes_eq, nat_eq, nat_lt, List, [], ◌∷◌, Option, Some, None, Result, Ok, Err}
+use Rattle.std.specs.Prelude.{is_some, is_none, option_map, option_and_then, find}
 use Rattle.std.specs.Option.{option_map_or}
 use Rattle.std.specs.List.{list_any}
 use Rattle.rubis_schema.specs.Keys.{same_id}
@@ -9,7 +10,9 @@ use Rattle.rubis_schema.specs.declared.rows.ItemRow.{ItemRow}
 use Rattle.rubis_schema.specs.declared.rows.UserRow.{UserRow}
 use Rattle.rubis_schema.specs.declared.rows.Best.{Best}
 use Rattle.rubis_schema.specs.declared.refusals.Refusal.{Refusal}
-use Rattle.rubis_schema.specs.declared.refusals.Refusal.TheVariants.{BadRecord, Full, NoToken, RedBehind, NickTaken, NoUser, NoItem, Closed, LowBid, StockShort, NotSeller, OwnItem, NoBuyNow, SelfComment, BadTarget, LastTurn, NotOurs, NotForMe, BadEvent, NoSuchPacket}
+use Rattle.rubis_schema.specs.declared.refusals.Refusal.TheVariants.{BadRecord, Full, NoToken, RedBehind, NickTaken, NoUser, NoItem, Closed}
+use Rattle.rubis_schema.specs.declared.refusals.Refusal.TheVariants.{LowBid, StockShort, NotSeller, OwnItem, NoBuyNow, SelfComment}
+use Rattle.rubis_schema.specs.declared.refusals.Refusal.TheVariants.{BadTarget, LastTurn, NotOurs, NotForMe, BadEvent, NoSuchPacket}
 use Rattle.rubis_shadow.specs.declared.shadows.Ask.{Ask}
 use Rattle.rubis_shadow.specs.declared.shadows.AskedRename.{AskedRename}
 use Rattle.rubis_shadow.specs.declared.shadows.Ask.TheVariants.{User, Item, Bid, Buy, Close, Comment, Restock, Rename}

@@ -1,6 +1,7 @@
 //! The records that the scenarios read.
 
 ghost use Rattle.std.specs.Prelude.{◌≡◌, ◌≤◌, All, IfOk};
+ghost use Rattle.rubis_schema.specs.declared.limits.TheConstants.{COUNTED_MAX};
 ghost use Rattle.rubis_message.specs.Grammar.{IsRequest};
 ghost use Rattle.rubis_message.specs.Message.{sites_of};
 
@@ -35,7 +36,7 @@ fn record(alloc: Global, text: &str) -> Result<Fields, AllocError> {
 
 /// The message that is written so, to one of `sites` sites. Anything else than a message is a bad record.
 pub fn message(alloc: Global, text: &str, sites: u8) -> Result<Message, ReadFault>
-    requires { sites ≤ 16 }
+    requires { sites ≤ COUNTED_MAX }
     ensures { IfOk result (λ message. sites_of message ≡ sites) }
 {
     match read_packet(alloc, &record(alloc, text)?, sites)? {

@@ -59,13 +59,15 @@ fn finish<G: Gate, T: Threads + Wait + Sync, O: Read, W: Write>(
     requires held { AreHeld clerk.old.desk.site.place clerk.old.window.items clerk.old.answered }
     ensures ok { OnOk result (Finished (held_by clerk.old.desk.site clerk.old.window.items (clerk.old.answered + 1))
         (told_by clerk.new.desk.site
-        (clerk.old.answered + 1)) clerk.old.reply.sink (O.remaining answers.old.before) (O.remaining answers.new.before) (W.contents answers.old.out) (W.contents answers.new.out)) }
+        (clerk.old.answered + 1)) clerk.old.reply.sink (O.remaining answers.old.before) (O.remaining answers.new.before)
+        (W.contents answers.old.out) (W.contents answers.new.out)) }
     ensures same { clerk.new.answered ≡ clerk.old.answered }
     ensures empty { OnOk result (clerk.new.reply.sink ≡ []) }
     ensures window { OnOk result (clerk.new.window.items ≡ []) }
     ensures err { OnErr result (FinishedFront (held_by clerk.old.desk.site clerk.old.window.items (clerk.old.answered + 1))
         (told_by clerk.new.desk.site
-        (clerk.old.answered + 1)) clerk.old.reply.sink (O.remaining answers.old.before) (O.remaining answers.new.before) (W.contents answers.old.out) (W.contents answers.new.out)) }
+        (clerk.old.answered + 1)) clerk.old.reply.sink (O.remaining answers.old.before) (O.remaining answers.new.before)
+        (W.contents answers.old.out) (W.contents answers.new.out)) }
 {
     let Clerk {
         desk,
@@ -89,7 +91,8 @@ fn stop<G: Gate, T: Threads + Wait + Sync, R: Read, O: Read, W: Write>(
     ensures ok { OnOk result (Advances R.remaining records.old records.new false × (clerk.new ≡ clerk.old) × (answers.new ≡ answers.old)) }
     ensures err { OnErr result (FinishedFront (held_by clerk.old.desk.site clerk.old.window.items (clerk.old.answered + 1))
         (told_by clerk.new.desk.site
-        (clerk.old.answered + 1)) clerk.old.reply.sink (O.remaining answers.old.before) (O.remaining answers.new.before) (W.contents answers.old.out) (W.contents answers.new.out)) }
+        (clerk.old.answered + 1)) clerk.old.reply.sink (O.remaining answers.old.before) (O.remaining answers.new.before)
+        (W.contents answers.old.out) (W.contents answers.new.out)) }
 {
     if records.advance()? {
         finish(rt, clerk, answers)?;

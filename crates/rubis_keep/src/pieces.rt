@@ -30,7 +30,8 @@ fn next_piece<G: Gate, T: Threads + Wait + Sync, R: Read, K: Write, O: Read, W: 
     ensures ok { IfOk result (λ more. InEachStand (told_by clerk.old.desk.site (clerk.old.answered + 1)) (R.remaining live.old) (K.contents log.old)
         (O.remaining answers.old.before) (W.contents answers.old.out) lines.old.cutter (clerk.old.answered + 1) lines.old.kept
         (λ all told old base line input0 log0 out0 len0. Stands all (told_by clerk.new.desk.site (clerk.new.answered + 1)) told old base line input0
-        (R.remaining live.new) log0 (K.contents log.new) (O.remaining answers.new.before) out0 (W.contents answers.new.out) lines.new.cutter (clerk.new.answered + 1) len0 lines.new.kept)) }
+        (R.remaining live.new) log0 (K.contents log.new) (O.remaining answers.new.before) out0
+        (W.contents answers.new.out) lines.new.cutter (clerk.new.answered + 1) len0 lines.new.kept)) }
     ensures end { IfOk result (λ more. more ≡ false → IsAtEnd (R.remaining live.new)) }
     ensures window { OnOk result (clerk.new.window.items ≡ []) }
     ensures empty { OnOk result (clerk.new.reply.sink ≡ []) }
@@ -77,7 +78,8 @@ pub(crate) fn answer_pieces<
     ensures ok { OnOk result (InEachStand (told_by clerk.old.desk.site (clerk.old.answered + 1)) (R.remaining live.old) (K.contents log.old)
         (O.remaining answers.old.before) (W.contents answers.old.out) lines.old.cutter (clerk.old.answered + 1) lines.old.kept
         (λ all told old base line input0 log0 out0 len0. Stands all (told_by clerk.new.desk.site (clerk.new.answered + 1)) told old base line input0
-        (R.remaining live.new) log0 (K.contents log.new) (O.remaining answers.new.before) out0 (W.contents answers.new.out) lines.new.cutter (clerk.new.answered + 1) len0 lines.new.kept)) }
+        (R.remaining live.new) log0 (K.contents log.new) (O.remaining answers.new.before) out0
+        (W.contents answers.new.out) lines.new.cutter (clerk.new.answered + 1) len0 lines.new.kept)) }
     ensures end { OnOk result (IsAtEnd (R.remaining live.new)) }
     ensures window { OnOk result (clerk.new.window.items ≡ []) }
     ensures empty { OnOk result (clerk.new.reply.sink ≡ []) }

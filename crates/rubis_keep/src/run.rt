@@ -138,10 +138,12 @@ pub fn run_kept<
     requires answered { clerk.old.answered ≡ 0 }
     ensures ok { OnOk result ((kept old : List ℕ) → Opens kept old (C.remaining recording.old.first) (P.remaining recording.old.past)
         (L.contents recording.old.log) (O.remaining answers.old.before) (W.contents answers.old.out)
-        → Lived (told_by clerk.old.desk.site 1) kept old (R.remaining live.old) (R.remaining live.new) (L.contents recording.new.log) (W.contents answers.new.out)) }
+        → Lived (told_by clerk.old.desk.site 1) kept old (R.remaining live.old) (R.remaining live.new)
+        (L.contents recording.new.log) (W.contents answers.new.out)) }
     ensures err { OnErr result ((kept old : List ℕ) → Opens kept old (C.remaining recording.old.first) (P.remaining recording.old.past)
         (L.contents recording.old.log) (O.remaining answers.old.before) (W.contents answers.old.out)
-        → Ended (told_by clerk.old.desk.site 1) kept old (R.remaining live.old) (R.remaining live.new) (L.contents recording.new.log) (W.contents answers.new.out)) }
+        → Ended (told_by clerk.old.desk.site 1) kept old (R.remaining live.old) (R.remaining live.new)
+        (L.contents recording.new.log) (W.contents answers.new.out)) }
 {
     let mut lines = KeptLines::new(clerk.alloc)?;
     check_kept(clerk.alloc, &mut recording.first)?;

@@ -2,7 +2,9 @@
 
 ghost use Rattle.std.specs.Prelude.{◌≡◌};
 ghost use Rattle.rubis_numbers.specs.declared.numbers.TheConstants.{RATING_MAX};
-ghost use Rattle.rubis_schema.specs.declared.limits.TheConstants.{SITES_MAX, COUNTED_MAX, SHARDS_MAX, WORKERS_MAX, BATCH_MAX, KEEP_MAX, RECORDS_MAX, SEQ_MAX, COUNT_MAX, TURN_MAX, PASS_MAX, QUANTITY_MAX, AMOUNT_MAX, CATEGORIES, CAT_MAX, NICK_MAX, NAME_MAX, TEXT_MAX};
+ghost use Rattle.rubis_schema.specs.declared.limits.TheConstants.{SITES_MAX, COUNTED_MAX, SHARDS_MAX, WORKERS_MAX, BATCH_MAX, KEEP_MAX};
+ghost use Rattle.rubis_schema.specs.declared.limits.TheConstants.{RECORDS_MAX, SEQ_MAX, COUNT_MAX, TURN_MAX, PASS_MAX, QUANTITY_MAX};
+ghost use Rattle.rubis_schema.specs.declared.limits.TheConstants.{AMOUNT_MAX, CATEGORIES, CAT_MAX, NICK_MAX, NAME_MAX, TEXT_MAX};
 
 /// The limits of the records, of the tables and of a run are these numbers. Amounts are those of bids, start prices and prices
 /// at once; counts those of messages, red numbers and the number that a token has issued; texts are in bytes.

@@ -18,7 +18,8 @@ use Rattle.rubis_shadow.specs.declared.shadows.NewRestock.{NewRestock}
 use Rattle.rubis_shadow.specs.declared.shadows.Shadow.{Shadow}
 use Rattle.rubis_shadow.specs.declared.shadows.Shadow.TheVariants as shadow
 use Rattle.rubis_clock.specs.declared.stamps.Stamp.{Stamp}
-use Rattle.rubis_message.specs.Forms.{Form, ◌>>=◌, ◌>>◌, give, none, mapped, check, whole, one, take_deps, take_id, take_name, take_nick, take_number, take_positive, take_rating, take_site, take_text, take_winner}
+use Rattle.rubis_message.specs.Forms.{Form, ◌>>=◌, ◌>>◌, give, none, mapped, check, whole, one, take_deps, take_id, take_name, take_nick}
+use Rattle.rubis_message.specs.Forms.{take_number, take_positive, take_rating, take_site, take_text, take_winner}
 use Rattle.rubis_message.specs.Grammar.{IsPacket, IsRequest, packet_record, request_record, token_version}
 use Rattle.rubis_message.specs.Message.{Message}
 use Rattle.rubis_message.specs.declared.kinds.RecordKind.{RecordKind}

@@ -2,7 +2,9 @@
 
 ghost use Rattle.std.specs.Prelude.{◌≡◌};
 ghost use Rattle.rubis_message.specs.Forms.{Takes};
-ghost use Rattle.rubis_message.specs.Readings.{kind_of, take_asked_close, take_asked_rename, take_asked_restock, take_bid, take_close, take_comment, take_item, take_purchase, take_rename, take_request, take_restock, take_shadow};
+ghost use Rattle.rubis_message.specs.Readings.{kind_of, take_asked_close, take_asked_rename, take_asked_restock, take_bid, take_close};
+ghost use Rattle.rubis_message.specs.Readings.{take_comment, take_item, take_purchase, take_rename, take_request, take_restock};
+ghost use Rattle.rubis_message.specs.Readings.{take_shadow};
 
 use crate::faults::ReadFault;
 use crate::readers::Reader;

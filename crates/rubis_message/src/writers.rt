@@ -1,7 +1,8 @@
 //! Records of what is sent.
 
 ghost use Rattle.std.specs.Prelude.{◌≡◌, ◌++◌, ◌∷◌, [], IfOk, OnErr, OnOk};
-ghost use Rattle.rubis_message.specs.Grammar.{bid_fields, close_fields, comment_fields, item_fields, message_record, purchase_fields, rename_fields, restock_fields, shadow_fields, token_record, winner_text};
+ghost use Rattle.rubis_message.specs.Grammar.{bid_fields, close_fields, comment_fields, item_fields, message_record, purchase_fields};
+ghost use Rattle.rubis_message.specs.Grammar.{rename_fields, restock_fields, shadow_fields, token_record, winner_text};
 
 use crate::messages::Message;
 use crate::stamps::push_deps;

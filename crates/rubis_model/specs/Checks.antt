@@ -1,5 +1,6 @@
 -- What each message of a log must meet, given those before it.
-use Rattle.std.specs.Prelude.{ℕ, ◌≡◌, ◌+◌, ◌==◌, List, [], ◌∷◌, ◌++◌, Bool, false, ◌||◌, not, cond, nat_lt, Option, Some, None, is_some, option_map, IsSome, ⊤, Contains, ◌↔◌}
+use Rattle.std.specs.Prelude.{ℕ, ◌≡◌, ◌+◌, ◌==◌, List, [], ◌∷◌, ◌++◌, Bool, false, ◌||◌, not, cond, nat_lt, Option, Some, None, is_some}
+use Rattle.std.specs.Prelude.{option_map, IsSome, ⊤, Contains, ◌↔◌}
 use Rattle.std.specs.List.{All}
 use Rattle.std.specs.Option.{option_eq, option_map_or}
 use Rattle.rubis_schema.specs.Keys.{same_id}

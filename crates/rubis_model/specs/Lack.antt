@@ -1,5 +1,6 @@
 -- What a log lacks of others, what becomes of a site to which that is sent, and what a message waits for.
-use Rattle.std.specs.Prelude.{◌≡◌, ◌≢◌, ◌↔◌, ◌⊎◌, ℕ, ◌+◌, ◌<◌, ◌≤◌, Bool, not, cond, nat_lt, Option, Some, None, Result, Ok, Err, List, [], ◌∷◌, ◌++◌, length, map, filter, ⊤}
+use Rattle.std.specs.Prelude.{◌≡◌, ◌≢◌, ◌↔◌, ◌⊎◌, ℕ, ◌+◌, ◌<◌, ◌≤◌, Bool, not, cond, nat_lt, Option, Some, None, Result, Ok, Err, List, []}
+use Rattle.std.specs.Prelude.{◌∷◌, ◌++◌, length, map, filter, ⊤}
 use Rattle.std.specs.List.{list_any, flat_map}
 use Rattle.rubis_schema.specs.declared.limits.TheConstants.{KEEP_MAX}
 use Rattle.rubis_schema.specs.Keys.{same_id}

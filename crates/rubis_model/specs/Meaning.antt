@@ -1,5 +1,6 @@
 -- What a set of messages means, row by row. The set is given as a list of its members, whose order doesn't matter.
-use Rattle.std.specs.Prelude.{ℕ, ◌≡◌, ◌+◌, ◌-◌, ℤ, pos, ◌+ℤ◌, ◌-ℤ◌, List, [], ◌∷◌, Bool, false, cond, ◌&&◌, ◌||◌, nat_eq, nat_lt, bytes_eq, fold, sum_by, count_by, Option, Some, None, option_map}
+use Rattle.std.specs.Prelude.{ℕ, ◌≡◌, ◌+◌, ◌-◌, ℤ, pos, ◌+ℤ◌, ◌-ℤ◌, List, [], ◌∷◌, Bool, false, cond, ◌&&◌, ◌||◌, nat_eq, nat_lt, bytes_eq}
+use Rattle.std.specs.Prelude.{fold, sum_by, count_by, Option, Some, None, option_map}
 use Rattle.std.specs.Option.{option_or}
 use Rattle.std.specs.FinMap as map
 use Rattle.rubis_schema.specs.Keys.{same_id}

@@ -1,5 +1,6 @@
 -- A site that lost its disk is made again from the messages and tokens that the sites sent.
-use Rattle.std.specs.Prelude.{◌≡◌, ◌↔◌, ℕ, ◌<◌, ◌≤◌, ◌==◌, Bool, ◌&&◌, not, nat_lt, nat_le, bytes_eq, codes, cond, drop, is_some, filter, map, Option, Some, None, Result, List, [], ◌∷◌, ◌++◌, length, ◌⊎◌}
+use Rattle.std.specs.Prelude.{◌≡◌, ◌↔◌, ℕ, ◌<◌, ◌≤◌, ◌==◌, Bool, ◌&&◌, not, nat_lt, nat_le, bytes_eq, codes, cond, drop, is_some, filter}
+use Rattle.std.specs.Prelude.{map, Option, Some, None, Result, List, [], ◌∷◌, ◌++◌, length, ◌⊎◌}
 use Rattle.std.specs.Option.{option_map_or}
 use Rattle.rubis_schema.specs.Ids.{id_text}
 use Rattle.rubis_schema.specs.declared.limits.TheConstants.{KEEP_MAX}

@@ -1,5 +1,6 @@
 -- When a message can be released, and what a log and its waiting messages come to.
-use Rattle.std.specs.Prelude.{◌≡◌, ◌≢◌, ℕ, ◌+◌, ◌<◌, ◌≤◌, ◌==◌, Bool, ◌&&◌, ◌||◌, cond, nat_lt, nat_le, zero, suc, Option, Some, None, List, [], ◌∷◌, ◌++◌, length}
+use Rattle.std.specs.Prelude.{◌≡◌, ◌≢◌, ℕ, ◌+◌, ◌<◌, ◌≤◌, ◌==◌, Bool, ◌&&◌, ◌||◌, cond, nat_lt, nat_le, zero, suc, Option, Some, None, List}
+use Rattle.std.specs.Prelude.{[], ◌∷◌, ◌++◌, length}
 use Rattle.std.specs.List.{list_all, range_with_len}
 use Rattle.rubis_message.specs.Message.{Message, dep}
 pub use Rattle.rubis_schema.specs.Members.{Has}

@@ -1,5 +1,6 @@
 -- One site: its state, and what it answers to each kind of input.
-use Rattle.std.specs.Prelude.{ℕ, ◌+◌, ◌-◌, ◌==◌, Bool, false, ◌&&◌, ◌||◌, not, cond, nat_lt, nat_le, Option, Some, None, is_some, unwrap_or, option_map, Result, Ok, Err, List, [], ◌∷◌, ◌++◌, length, map}
+use Rattle.std.specs.Prelude.{ℕ, ◌+◌, ◌-◌, ◌==◌, Bool, false, ◌&&◌, ◌||◌, not, cond, nat_lt, nat_le, Option, Some, None, is_some, unwrap_or}
+use Rattle.std.specs.Prelude.{option_map, Result, Ok, Err, List, [], ◌∷◌, ◌++◌, length, map}
 use Rattle.std.specs.List.{list_any, range_with_len}
 use Rattle.std.specs.Option.{option_map_or}
 use Rattle.rubis_schema.specs.Keys.{same_id}

@@ -1,5 +1,6 @@
 -- Any number of sites, all packets that they ever sent, and what happens there.
-use Rattle.std.specs.Prelude.{ℕ, ◌+◌, zero, suc, nat_lt, cond, Option, Some, None, Result, Ok, Err, List, [], ◌∷◌, ◌++◌, length, map, slice_get, slice_set, slice_index_or, ⊤}
+use Rattle.std.specs.Prelude.{ℕ, ◌+◌, zero, suc, nat_lt, cond, Option, Some, None, Result, Ok, Err, List, [], ◌∷◌, ◌++◌, length, map}
+use Rattle.std.specs.Prelude.{slice_get, slice_set, slice_index_or, ⊤}
 use Rattle.std.specs.List.{range_with_len}
 use Rattle.rubis_schema.specs.declared.listings.Listing.{Listing}
 use Rattle.rubis_schema.specs.declared.refusals.Refusal.{Refusal}

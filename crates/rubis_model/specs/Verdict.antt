@@ -1,5 +1,6 @@
 -- The checks of an auditor, each as a test, and the first fault that they find.
-use Rattle.std.specs.Prelude.{ℕ, ◌+◌, ◌==◌, List, [], ◌∷◌, ◌++◌, length, reverse, find, Bool, false, ◌&&◌, ◌||◌, not, cond, nat_lt, nat_le, bytes_eq, Option, Some, None, is_some, option_map}
+use Rattle.std.specs.Prelude.{ℕ, ◌+◌, ◌==◌, List, [], ◌∷◌, ◌++◌, length, reverse, find, Bool, false, ◌&&◌, ◌||◌, not, cond, nat_lt, nat_le}
+use Rattle.std.specs.Prelude.{bytes_eq, Option, Some, None, is_some, option_map}
 use Rattle.std.specs.Cmp.Lexicographic.{pointwise}
 use Rattle.std.specs.List.{list_any, range_with_len}
 use Rattle.std.specs.Option.{option_map_or, option_or}

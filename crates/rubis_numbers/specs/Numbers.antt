@@ -1,5 +1,6 @@
 -- What a number is read from: its one text.
-use Rattle.std.specs.Prelude.{◌≡◌, ℕ, ◌-◌, ◌==◌, ◌&&◌, Bool, cond, nat_lt, nat_le, ℤ, pos, negsuc, List, drop, slice_index, Option, Some, None, option_map, option_and_then, bytes_eq, decimal}
+use Rattle.std.specs.Prelude.{◌≡◌, ℕ, ◌-◌, ◌==◌, ◌&&◌, Bool, cond, nat_lt, nat_le, ℤ, pos, negsuc, List, drop, slice_index, Option, Some}
+use Rattle.std.specs.Prelude.{None, option_map, option_and_then, bytes_eq, decimal}
 use Rattle.std.specs.Str.Parse.{digits_value}
 use Rattle.rubis_numbers.specs.declared.numbers.TheConstants.{RATING_MAX}
 

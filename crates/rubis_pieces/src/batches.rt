@@ -1,6 +1,7 @@
 //! A batch's shares folded on their shards by one thread.
 
 ghost use Rattle.std.specs.Prelude.{◌≡◌, ◌+◌, ◌<◌, ◌≤◌, [], length, IfOk, OnErr};
+ghost use Rattle.rubis_schema.specs.declared.limits.TheConstants.{KEEP_MAX};
 ghost use Rattle.std.specs.Vec.{vec_len, vec_capacity};
 ghost use Rattle.rubis_model.specs.Log.{cores};
 ghost use Rattle.rubis_shard.specs.Holdings.{AreInOrder};
@@ -71,7 +72,7 @@ pub fn apply_batch(
     first: u32,
 ) -> Result<Items<Left>, AllocError>
     requires some { 0 < length tables.old }
-    requires entries { first + length batch.now ≤ 1000001 }
+    requires entries { first + length batch.now ≤ KEEP_MAX + 1 }
     ensures begun { IfOk result (IsBegun first (cores batch.now) tables.old tables.new) }
     ensures unfinished { IfOk result (AreUnfinished 0 (length tables.old)) }
     ensures log { IfOk result (TakesBatch first (cores batch.now) tables.old tables.new) }

@@ -35,7 +35,7 @@ pub fn homes_of(
 /// the log, from 1.
 pub fn follow(shard: &mut Shard, batch: &[Message], homes: &[PartHomes], first: u32) -> usize
     requires number { shard.old.number < shard.old.shards }
-    requires entries { first + length batch.now ≤ 1000001 }
+    requires entries { first + length batch.now ≤ KEEP_MAX + 1 }
     requires homes { AreHomes shard.old.shards (cores batch.now) homes.now }
     ensures { IsFollowed first (cores batch.now) shard.old result shard.new }
 {

@@ -1,6 +1,7 @@
 //! A batch of messages cut into a share for each shard.
 
 ghost use Rattle.std.specs.Prelude.{◌≡◌, ℕ, ◌+◌, ◌*◌, ◌<◌, ◌≤◌, List, ◌∷◌, [], ◌++◌, length, IfOk, OnOk};
+ghost use Rattle.rubis_schema.specs.declared.limits.TheConstants.{KEEP_MAX};
 ghost use Rattle.rubis_shadow.specs.declared.numbered.Numbered.{Numbered};
 ghost use Rattle.rubis_model.specs.Log.{cores};
 ghost use Rattle.rubis_shard.specs.Entries.{numbered_of};
@@ -87,7 +88,7 @@ pub fn split_alone(
     shards: usize,
 ) -> Result<Vec<Share>, AllocError>
     requires shards { 0 < shards }
-    requires entries { first + length batch.now ≤ 1000001 }
+    requires entries { first + length batch.now ≤ KEEP_MAX + 1 }
     ensures { IfOk result (λ shares. AreShares shards first (cores batch.now) shares.items) }
 {
     let mut list = no_shares(alloc, shards, batch.len() / shards * PARTS_ROOM)?;
@@ -108,7 +109,7 @@ fn split_part(
     at: usize,
 ) -> Result<Vec<Share>, AllocError>
     requires shards { 0 < shards }
-    requires entries { first + length batch.now ≤ 1000001 }
+    requires entries { first + length batch.now ≤ KEEP_MAX + 1 }
     requires place { at * 1024 ≤ length batch.now }
     ensures { IfOk result (λ shares. AreShares shards (first + at * 1024) (part_of (at * 1024) (cores batch.now)) shares.items) }
 {
@@ -131,7 +132,7 @@ fn split_parts<R: Threads + Sync>(
     shards: usize,
 ) -> Result<Vec<Vec<Share>>, AllocError>
     requires shards { 0 < shards }
-    requires entries { first + length batch.now ≤ 1000001 }
+    requires entries { first + length batch.now ≤ KEEP_MAX + 1 }
     ensures { IfOk result (λ parts. AreOfParts shards first (cores batch.now) parts.items) }
 {
     let parts: Result<Vec<Vec<Share>>, AllocError> = (0..batch.len() / PART + 1)
@@ -139,7 +140,7 @@ fn split_parts<R: Threads + Sync>(
         .with_min_len(1)
         .map(
             |at: usize| -> Result<Vec<Share>, AllocError>
-                requires { (0 < shards) × (first + length batch.now ≤ 1000001) × (at * 1024 ≤ length batch.now) }
+                requires { (0 < shards) × (first + length batch.now ≤ KEEP_MAX + 1) × (at * 1024 ≤ length batch.now) }
                 ensures { IfOk result (λ shares. AreShares shards (first + at * 1024) (part_of (at * 1024) (cores batch.entry.now)) shares.items) }
             { split_part(alloc, batch, first, shards, at) },
         )
@@ -204,7 +205,7 @@ pub fn split<R: Threads + Sync>(
     shards: usize,
 ) -> Result<Vec<Share>, AllocError>
     requires shards { 0 < shards }
-    requires entries { first + length batch.now ≤ 1000001 }
+    requires entries { first + length batch.now ≤ KEEP_MAX + 1 }
     ensures { IfOk result (λ shares. AreShares shards first (cores batch.now) shares.items) }
 {
     if batch.len() < SPLIT_MIN {

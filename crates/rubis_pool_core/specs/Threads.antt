@@ -1,6 +1,7 @@
 -- What threads do with a board, one thing after the other: their steps on it, and each worker's own work in between. The
 -- machine does the same.
-use Rattle.std.specs.Prelude.{◌≡◌, ℕ, suc, ◌<◌, ⊤, true, List, [], ◌∷◌, ◌++◌, length, map, take, replicate, fold, Option, Some, None, is_some, slice_get, slice_set}
+use Rattle.std.specs.Prelude.{◌≡◌, ℕ, suc, ◌<◌, ⊤, true, List, [], ◌∷◌, ◌++◌, length, map, take, replicate, fold, Option, Some, None}
+use Rattle.std.specs.Prelude.{is_some, slice_get, slice_set}
 use Rattle.rubis_pieces.specs.Posted.{Move, MovesAll}
 use Rattle.rubis_pieces.specs.Posted.Move.{Posted, Taken}
 use Rattle.rubis_pieces.specs.declared.pieces.Piece.{Piece}

@@ -35,7 +35,11 @@ impl Model for Pool {
 
     ghost coded = { pool_code };
 
-    ghost view = { λ p. record { capacity = p.capacity; count = p.count; state = record { posted = p.posted.items; held = p.held.items; returned = p.returned.items } } };
+    ghost view = { λ p. record {
+      capacity = p.capacity;
+      count = p.count;
+      state = record { posted = p.posted.items; held = p.held.items; returned = p.returned.items };
+    } };
 
     ghost invariant = { λ p. All IsPiece p.posted.items × (length p.posted.items ≤ p.count) × (p.count ≤ p.capacity) × (p.capacity ≤ deque_capacity p.posted) };
 }

@@ -101,9 +101,16 @@ impl Model for Intake {
 
     ghost Value = { model.Intake };
 
-    ghost view = { λ s. record { place = record { site = s.site; sites = s.sites; keep = s.keep }; state = record { log = s.messages.log; waiting = s.messages.waiting; held = s.held; last = s.last } } };
+    ghost view = { λ s. record {
+      place = record { site = s.site; sites = s.sites; keep = s.keep };
+      state = record { log = s.messages.log; waiting = s.messages.waiting; held = s.held; last = s.last };
+    } };
 
-    ghost invariant = { λ s. IsUpToDate (record { place = record { site = s.site; sites = s.sites; keep = s.keep }; state = record { log = s.messages.log; waiting = s.messages.waiting; held = s.held; last = s.last } }) s.messages.sites };
+    ghost invariant = { λ s. IsUpToDate (record {
+      place = record { site = s.site; sites = s.sites; keep = s.keep };
+      state = record { log = s.messages.log; waiting = s.messages.waiting; held = s.held; last = s.last };
+    })
+        s.messages.sites };
 }
 
 impl Intake {

@@ -6,7 +6,8 @@ ghost use Rattle.std.specs.Bool.{MatchBool};
 ghost use Rattle.std.specs.List.{list_any};
 ghost use Rattle.rubis_schema.specs.Keys.{same_id};
 ghost use Rattle.rubis_release.specs.Release.{AllAmong};
-ghost use Rattle.rubis_release.specs.Waiting.{NoneTaken, TakesFirst, IsFirstOf, IsReadySlot, HasNoReady, HaveTheirIds, AreApart, AreSlots, first_of, is_there, somes};
+ghost use Rattle.rubis_release.specs.Waiting.{NoneTaken, TakesFirst, IsFirstOf, IsReadySlot, HasNoReady, HaveTheirIds, AreApart, AreSlots};
+ghost use Rattle.rubis_release.specs.Waiting.{first_of, is_there, somes};
 ghost use Rattle.indexmap.specs.IndexMap.{get};
 
 use indexmap::IndexMap;

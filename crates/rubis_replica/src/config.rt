@@ -51,7 +51,8 @@ impl Config {
         batch: u32,
         keep: u32,
     ) -> Option<Config>
-        ensures { let setup : Setup = record { site = site; sites = sites; shards = shards; workers = workers; batch = batch; keep = keep } in SomeIff result (IsSetup setup) setup }
+        ensures { let setup : Setup = record { site = site; sites = sites; shards = shards; workers = workers; batch = batch; keep = keep } in
+            SomeIff result (IsSetup setup) setup }
     {
         let fits = is_count(u32::from(sites), u32::from(SITES_MAX))
             && is_count(u32::from(shards), u32::from(SHARDS_MAX))

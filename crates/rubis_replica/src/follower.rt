@@ -73,7 +73,11 @@ impl<G: Gate> Model for Follower<G> {
 
     ghost coded = { Prim.hlevel (codes, shards.the_row.coded) };
 
-    ghost view = { λ f. record { progress = record { applied = f.applied; kept = f.kept; upto = f.upto; left = f.left }; stops = f.stops.items; tables = f.tables } };
+    ghost view = { λ f. record {
+      progress = record { applied = f.applied; kept = f.kept; upto = f.upto; left = f.left };
+      stops = f.stops.items;
+      tables = f.tables;
+    } };
 
     ghost invariant = { λ f. IsReady f.workers.most WORKERS_MAX (length f.tables) (vec_capacity f.stops) };
 }

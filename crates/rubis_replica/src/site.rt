@@ -11,7 +11,8 @@ ghost use Rattle.rubis_replica.specs.Arrivals.{IsStop, TakesFirst};
 ghost use Rattle.rubis_replica.specs.Lengths.{looks_long};
 ghost use Rattle.rubis_replica.specs.Progress.{BatchGoesOn, IsAhead, IsBatched, IsProgress, is_behind, resting_at};
 ghost use Rattle.rubis_replica.specs.Setup.{setup_place};
-ghost use Rattle.rubis_replica.specs.State.{AddsRows, AnswersAsTheStep, IsDecision, IsCutFault, IsReadFault, IsReadyFor, Lists, NeedsNoTables, TakesIn, WaitsBehind, pending, with_all_applied};
+ghost use Rattle.rubis_replica.specs.State.{AddsRows, AnswersAsTheStep, IsDecision, IsCutFault, IsReadFault, IsReadyFor, Lists};
+ghost use Rattle.rubis_replica.specs.State.{NeedsNoTables, TakesIn, WaitsBehind, pending, with_all_applied};
 
 use crate::arriving::Arrived;
 use crate::config::Config;

@@ -1,7 +1,9 @@
 -- The refusals: the number and the name that an answer shows.
 use Rattle.std.specs.Prelude.{ℕ, List, codes}
 use Rattle.rubis_schema.specs.declared.refusals.Refusal.{Refusal}
-use Rattle.rubis_schema.specs.declared.refusals.Refusal.TheVariants.{BadRecord, Full, NoToken, RedBehind, NickTaken, NoUser, NoItem, Closed, LowBid, StockShort, NotSeller, OwnItem, NoBuyNow, SelfComment, BadTarget, LastTurn, NotOurs, NotForMe, BadEvent, NoSuchPacket}
+use Rattle.rubis_schema.specs.declared.refusals.Refusal.TheVariants.{BadRecord, Full, NoToken, RedBehind, NickTaken, NoUser, NoItem, Closed}
+use Rattle.rubis_schema.specs.declared.refusals.Refusal.TheVariants.{LowBid, StockShort, NotSeller, OwnItem, NoBuyNow, SelfComment}
+use Rattle.rubis_schema.specs.declared.refusals.Refusal.TheVariants.{BadTarget, LastTurn, NotOurs, NotForMe, BadEvent, NoSuchPacket}
 
 abbrev pub code_of : Refusal → ℕ
 code_of BadRecord = 1

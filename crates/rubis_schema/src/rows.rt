@@ -78,9 +78,21 @@ impl Model for PackedBid {
 
     ghost Value = { BidRow };
 
-    ghost view = { λ b. record { item = record { site = b.item_site; seq = b.item_seq }; bidder = record { site = b.bidder_site; seq = b.bidder_seq }; amount = b.amount; red = b.red } };
+    ghost view = { λ b. record {
+      item = record { site = b.item_site; seq = b.item_seq };
+      bidder = record { site = b.bidder_site; seq = b.bidder_seq };
+      amount = b.amount;
+      red = b.red;
+    } };
 
-    ghost inverse = { λ b. record { amount = b.amount; item_seq = b.item.seq; bidder_seq = b.bidder.seq; red = b.red; item_site = b.item.site; bidder_site = b.bidder.site } };
+    ghost inverse = { λ b. record {
+      amount = b.amount;
+      item_seq = b.item.seq;
+      bidder_seq = b.bidder.seq;
+      red = b.red;
+      item_site = b.item.site;
+      bidder_site = b.bidder.site;
+    } };
 }
 
 impl PackedBid {

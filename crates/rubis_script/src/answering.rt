@@ -200,7 +200,8 @@ fn list_one<G: Gate, T: Threads + Wait + Sync, W: Write>(
     ensures plan { OnOk result (desk.new.plan ≡ desk.old.plan) }
     ensures ahead { backlog.new.ahead ≡ backlog.old.ahead }
     ensures count { OnOk result (backlog.new.answered ≡ backlog.old.answered + 1) }
-    ensures goes { OnOk result (AnswersAnyOut (asked_for (Request.List listing.now)) desk.old.site backlog.old.window.items desk.new.site backlog.new.window.items
+    ensures goes { OnOk result (AnswersAnyOut (asked_for (Request.List listing.now)) desk.old.site backlog.old.window.items
+        desk.new.site backlog.new.window.items
         (backlog.old.answered + 1) backlog.old.reply.sink backlog.new.reply.sink (W.contents writer.old) (W.contents writer.new)) }
     ensures leads { OnOk result (StepsOn (backlog.old.answered + 1) (asked_for (Request.List listing.now)) desk.old.site backlog.old.window.items
         desk.new.site backlog.new.window.items) }

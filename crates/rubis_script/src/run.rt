@@ -1,6 +1,7 @@
 //! A run of a site that reads ahead.
 
-ghost use Rattle.std.specs.Prelude.{◌≡◌, ◌≤◌, ◌<◌, ◌+◌, ◌^◌, ◌⊎◌, [], List, ℕ, Option, IfErr, IfNone, IfOk, IfSome, IsErrOf, MatchOption, None, OnOk, length, take};
+ghost use Rattle.std.specs.Prelude.{◌≡◌, ◌≤◌, ◌<◌, ◌+◌, ◌^◌, ◌⊎◌, [], List, ℕ, Option, IfErr, IfNone, IfOk, IfSome, IsErrOf, MatchOption};
+ghost use Rattle.std.specs.Prelude.{None, OnOk, length, take};
 ghost use Rattle.rubis_model.specs.Site.{opening_at};
 ghost use Rattle.rubis_replica.specs.State.{SiteState};
 ghost use Rattle.rubis_script.specs.Headline.{AnswersAll, AnswersFirst, AnswersJust, HasAnswered, OfRead, StandsAsProcess, WritesAsProcess};

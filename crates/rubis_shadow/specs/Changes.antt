@@ -11,7 +11,8 @@ use Rattle.rubis_schema.specs.declared.rows.Best.{Best}
 use Rattle.rubis_schema.specs.declared.rows.Sale.{Sale}
 use Rattle.rubis_schema.specs.declared.rows.Sale.TheVariants.{Open, Ended}
 use Rattle.rubis_shadow.specs.declared.changes.Change.{Change}
-use Rattle.rubis_shadow.specs.declared.changes.Change.TheVariants.{Insert, ItemListed, Bought, Rated, CatListed, CatEnded, BidTaken, Sold, End, Restocked, Renamed, NickFreed}
+use Rattle.rubis_shadow.specs.declared.changes.Change.TheVariants.{Insert, ItemListed, Bought, Rated, CatListed, CatEnded, BidTaken, Sold}
+use Rattle.rubis_shadow.specs.declared.changes.Change.TheVariants.{End, Restocked, Renamed, NickFreed}
 use Rattle.rubis_shadow.specs.declared.keyed_change.Effect.{Effect}
 use Rattle.rubis_shadow.specs.declared.changes.MisfitKind.{MisfitKind}
 use Rattle.rubis_shadow.specs.declared.changes.MisfitKind.TheVariants.{RowThere, NoRow, ClosedItem, StockShort, OtherUser}

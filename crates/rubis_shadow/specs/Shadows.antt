@@ -14,7 +14,8 @@ use Rattle.rubis_schema.specs.declared.rows.Sale.TheVariants.{Open}
 use Rattle.rubis_schema.specs.declared.rows.UserRow.{UserRow}
 use Rattle.rubis_shadow.specs.Freed.{FreesOnlyNicks}
 use Rattle.rubis_shadow.specs.declared.changes.Change.{Change}
-use Rattle.rubis_shadow.specs.declared.changes.Change.TheVariants.{Insert, ItemListed, Bought, Rated, CatListed, CatEnded, BidTaken, Sold, End, Restocked, Renamed, NickFreed}
+use Rattle.rubis_shadow.specs.declared.changes.Change.TheVariants.{Insert, ItemListed, Bought, Rated, CatListed, CatEnded, BidTaken, Sold}
+use Rattle.rubis_shadow.specs.declared.changes.Change.TheVariants.{End, Restocked, Renamed, NickFreed}
 use Rattle.rubis_shadow.specs.declared.keyed_change.Effect.{Effect}
 use Rattle.rubis_shadow.specs.declared.shadows.Ask.{Ask}
 use Rattle.rubis_shadow.specs.declared.shadows.Ask.TheVariants as ask
@@ -62,7 +63,8 @@ new_user n = record { nick = n; items = 0; bought = 0; rating = pos 0; comments 
 
 -- a new item has sold nothing, has no bids and can be bid for
 abbrev pub new_item : NewItem → ItemRow
-new_item n = record { seller = n.seller; name = n.name; cat = n.cat; stock = n.stock; sold = 0; start = n.start; price = n.price; bids = 0; best = None; sale = Open }
+new_item n =
+    record { seller = n.seller; name = n.name; cat = n.cat; stock = n.stock; sold = 0; start = n.start; price = n.price; bids = 0; best = None; sale = Open }
 
 -- the parts of the shadow with that id and red number
 abbrev pub parts : Id → ℕ → Shadow → List Effect

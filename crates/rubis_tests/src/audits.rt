@@ -65,7 +65,8 @@ fn counts_the_records_that_it_reads(rt: HostRuntime) {
 
 // A log of a sale whose close names no winner, though there is a bid.
 const SALE: &[u8] =
-    b"site,0\nmsg,1,0,1,1,0:0,user,ann\nmsg,1,0,2,2,1:0,user,bob\nmsg,1,0,3,0,2:0,item,0.1,cup,9,3,50,80\nmsg,1,0,4,3,3:0,bid,0.3,0.2,60\nmsg,1,0,5,4,4:0,close,0.3,9,none\n";
+    b"site,0\nmsg,1,0,1,1,0:0,user,ann\nmsg,1,0,2,2,1:0,user,bob\nmsg,1,0,3,0,2:0,item,0.1,cup,9,3,50,80\n\
+msg,1,0,4,3,3:0,bid,0.3,0.2,60\nmsg,1,0,5,4,4:0,close,0.3,9,none\n";
 
 const SALE_AUDITED: &[u8] = b"audit,Winner,1,5\n";
 

@@ -1,6 +1,7 @@
 //! A caller of each of the three: a site, several sites, and an audit. The page for callers shows these functions.
 
 ghost use Rattle.std.specs.Prelude.{◌≡◌, ◌≤◌, IfOk, Ok, length, true};
+ghost use Rattle.rubis_schema.specs.declared.limits.TheConstants.{COUNTED_MAX};
 ghost use Rattle.rubis_audit.specs.Walks.{HaveMessagesAmong};
 ghost use Rattle.rubis_model.specs.Audit.{AreSound};
 ghost use Rattle.rubis_model.specs.Laws.{InRun};
@@ -54,7 +55,7 @@ pub fn ask_and_deliver<R: Threads + Wait + Sync>(
 /// Whether the auditor finds no fault in these logs of `sites` sites. If so, they causally serialize one RedBlue order, and the
 /// invariants hold over all of them.
 pub fn are_in_order(alloc: Global, logs: &[Log], sites: u8) -> Result<bool, AllocError>
-    requires few { sites ≤ 16 }
+    requires few { sites ≤ COUNTED_MAX }
     requires among { HaveMessagesAmong sites logs.now }
     ensures { IfOk result (λ agrees. agrees ≡ true → AreSound logs.now) }
 {

@@ -1,6 +1,7 @@
 //! Workers that really work at once, in each call that applies a batch.
 
 ghost use Rattle.std.specs.Prelude.{◌≡◌, ◌<◌, ◌≤◌, IfOk};
+ghost use Rattle.rubis_schema.specs.declared.limits.TheConstants.{WORKERS_MAX};
 ghost use Rattle.rubis_shadow.specs.Shadows.{IsAsk};
 
 use crate::arrivals::{arrive_three, two_comments};
@@ -28,7 +29,7 @@ fn apply_none_beside<G: Gate, R: Threads + Wait + Sync, A: Drop, F: FnOnce() -> 
     beside: F,
 ) -> Result<(Worked, A), Fail>
     requires shards { 0 < shards }
-    requires workers { (0 < workers) × (workers ≤ 16) }
+    requires workers { (0 < workers) × (workers ≤ WORKERS_MAX) }
     requires beside { F.pre beside }
 {
     let tables = Tables::new(alloc, shards)?;
@@ -57,7 +58,7 @@ fn apply_none<G: Gate, R: Threads + Wait + Sync>(
     gate: &G,
 ) -> Result<Worked, Fail>
     requires shards { 0 < shards }
-    requires workers { (0 < workers) × (workers ≤ 16) }
+    requires workers { (0 < workers) × (workers ≤ WORKERS_MAX) }
 {
     let (worked, ()) = apply_none_beside(rt, alloc, shards, workers, gate, || ())?;
     Ok(worked)

@@ -1,6 +1,7 @@
 //! Requests and packets, as they are written.
 
 ghost use Rattle.std.specs.Prelude.{◌≡◌, ◌≤◌, IfOk};
+ghost use Rattle.rubis_schema.specs.declared.limits.TheConstants.{COUNTED_MAX};
 ghost use Rattle.rubis_message.specs.Grammar.{IsRequest};
 ghost use Rattle.rubis_message.specs.Message.{sites_of};
 
@@ -20,7 +21,7 @@ fn record(alloc: Global, text: &str) -> Result<Fields, AllocError> {
 
 /// The message written as `text`, to one of `sites` sites.
 pub fn message(alloc: Global, text: &str, sites: u8) -> Result<Message, Fail>
-    requires { sites ≤ 16 }
+    requires { sites ≤ COUNTED_MAX }
     ensures { IfOk result (λ message. sites_of message ≡ sites) }
 {
     match read_packet(alloc, &record(alloc, text)?, sites)? {

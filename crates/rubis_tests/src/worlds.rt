@@ -131,11 +131,38 @@ fn a_run_of_two_sites(rt: HostRuntime) -> Result<(), Fail> {
 }
 
 // A bid at the second site, first before it has all red messages, and then after the sale is closed.
-const LATE_BID: &[u8] =
-    b"at,0,user,ann\nat,0,user,bob\nat,0,item,0.1,lamp,7,1,100,0\nat,0,close,0.3,0.1\nat,0,pass,1\ndeliver,1,1\ndeliver,1,2\ndeliver,1,3\ndeliver,1,5\nat,1,bid,0.3,0.2,500\ndeliver,1,4\nat,1,bid,0.3,0.2,500\n";
+const LATE_BID: &[u8] = b"\
+at,0,user,ann\n\
+at,0,user,bob\n\
+at,0,item,0.1,lamp,7,1,100,0\n\
+at,0,close,0.3,0.1\n\
+at,0,pass,1\n\
+deliver,1,1\n\
+deliver,1,2\n\
+deliver,1,3\n\
+deliver,1,5\n\
+at,1,bid,0.3,0.2,500\n\
+deliver,1,4\n\
+at,1,bid,0.3,0.2,500\n";
 
-const LATE_BID_ANSWERED: &[u8] =
-    b"at,0,reply,1,ok,0.1\nat,0,send,msg,1,0,1,1,0:0,user,ann\nat,0,reply,2,ok,0.2\nat,0,send,msg,1,0,2,2,1:0,user,bob\nat,0,reply,3,ok,0.3\nat,0,send,msg,1,0,3,0,2:0,item,0.1,lamp,7,1,100,0\nat,0,reply,4,ok,0.4\nat,0,send,msg,1,0,4,3,3:0,close,0.3,7,none\nat,0,reply,5,passed\nat,0,send,token,1,1,1,3\nat,1,reply,6,released,1\nat,1,reply,7,released,1\nat,1,reply,8,released,1\nat,1,reply,9,holding\nat,1,reply,10,refused,4,RedBehind\nat,1,reply,11,released,1\nat,1,reply,12,refused,8,Closed\n";
+const LATE_BID_ANSWERED: &[u8] = b"\
+at,0,reply,1,ok,0.1\n\
+at,0,send,msg,1,0,1,1,0:0,user,ann\n\
+at,0,reply,2,ok,0.2\n\
+at,0,send,msg,1,0,2,2,1:0,user,bob\n\
+at,0,reply,3,ok,0.3\n\
+at,0,send,msg,1,0,3,0,2:0,item,0.1,lamp,7,1,100,0\n\
+at,0,reply,4,ok,0.4\n\
+at,0,send,msg,1,0,4,3,3:0,close,0.3,7,none\n\
+at,0,reply,5,passed\n\
+at,0,send,token,1,1,1,3\n\
+at,1,reply,6,released,1\n\
+at,1,reply,7,released,1\n\
+at,1,reply,8,released,1\n\
+at,1,reply,9,holding\n\
+at,1,reply,10,refused,4,RedBehind\n\
+at,1,reply,11,released,1\n\
+at,1,reply,12,refused,8,Closed\n";
 
 // More calls than the writer here gets.
 const CALLS_MAX: usize = 1000;

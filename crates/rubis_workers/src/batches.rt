@@ -14,7 +14,7 @@ use crate::task::FoldShares;
 use crate::team::{Job, Teamwork, fan_out};
 use crate::workers::TeamSetup;
 use rubis_board::Poster;
-use rubis_pieces::{Left, Piece, gather};
+use rubis_pieces::{Gathered, Left, Piece, gather};
 use rubis_schema::Items;
 use rubis_shard::{Shard, Share};
 use std::alloc::Global;
@@ -26,6 +26,17 @@ use std::thread::Threads;
 pub struct Worked {
     pub shards: Items<Shard>,
     pub left: Items<Left>,
+}
+
+impl From<Gathered> for Worked {
+    ghost from_gives = { λ gathered worked. (worked.shards ≡ gathered.shards) × (worked.left ≡ gathered.left) };
+
+    fn from(gathered: Gathered) -> Worked {
+        Worked {
+            shards: gathered.shards,
+            left: gathered.left,
+        }
+    }
 }
 
 /// What a team made of a batch, and who took the shards. The latter depends on the schedule, and nothing else does.
@@ -102,13 +113,7 @@ pub fn apply_by_team<G: Gate, R: Threads + Wait + Sync, A, F: FnOnce() -> A>(
         };
         return (Err(unstarted), beside());
     };
-    let Rooms {
-        poster,
-        places,
-        mine,
-        others,
-    } = rooms;
-    let poster = post_all(rt, poster, shards, shares);
+    let poster = post_all(rt, rooms.poster, shards, shares);
     let (board, pass) = poster.open();
     let Teamwork {
         pass,
@@ -117,25 +122,17 @@ pub fn apply_by_team<G: Gate, R: Threads + Wait + Sync, A, F: FnOnce() -> A>(
         answer,
     } = fan_out(
         rt,
-        &Job {
-            board: &board,
-            task: &FoldShares,
-            gate: setup.gate,
-        },
+        &Job::new(&board, &FoldShares, setup.gate),
         pass,
-        mine,
-        others,
+        rooms.mine,
+        rooms.others,
         beside,
     );
     board.close(pass);
-    match gather(list, places) {
+    match gather(list, rooms.places) {
         Ok(gathered) => {
-            let worked = Worked {
-                shards: gathered.shards,
-                left: gathered.left,
-            };
             let result = TeamResult {
-                worked,
+                worked: gathered.into(),
                 team,
                 others,
             };

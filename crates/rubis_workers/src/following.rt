@@ -7,7 +7,7 @@ ghost use Rattle.rubis_shard.specs.Holdings.{AreInOrder};
 ghost use Rattle.rubis_shard.specs.PartHomes.{AreHomes};
 ghost use Rattle.rubis_pieces.specs.Following.{AreFollowed};
 ghost use Rattle.std.specs.Vec.{vec_capacity};
-ghost use Rattle.rubis_schema.specs.declared.limits.TheConstants.{WORKERS_MAX};
+ghost use Rattle.rubis_schema.specs.declared.limits.TheConstants.{KEEP_MAX, WORKERS_MAX};
 ghost use Rattle.rubis_workers.specs.Following.{AreRooms, bare};
 
 use crate::gate::Gate;
@@ -84,7 +84,7 @@ pub fn follow_by_team<G: Gate, R: Threads + Wait + Sync>(
 ) -> Result<Followed, Items<Shard>>
     requires some { 0 < length shards.items }
     requires order { AreInOrder shards.items }
-    requires entries { task.now.first + length task.now.batch.now ≤ 1000001 }
+    requires entries { task.now.first + length task.now.batch.now ≤ KEEP_MAX + 1 }
     requires homes { AreHomes (length shards.items) (cores task.now.batch.now) task.now.homes.now }
     requires workers { (0 < setup.now.most) × (setup.now.most ≤ WORKERS_MAX) }
     ensures followed { IfOk result (λ r. AreFollowed task.now.first (cores task.now.batch.now) shards.items r.shards r.dones) }
@@ -99,13 +99,7 @@ pub fn follow_by_team<G: Gate, R: Threads + Wait + Sync>(
     let Ok((rooms, dones)) = rooms_for(setup.alloc, pieces, team) else {
         return Err(shards.into());
     };
-    let Rooms {
-        poster,
-        places,
-        mine,
-        others,
-    } = rooms;
-    let poster = post_bare(rt, setup.alloc, poster, shards);
+    let poster = post_bare(rt, setup.alloc, rooms.poster, shards);
     let (board, pass) = poster.open();
     let Teamwork {
         pass,
@@ -114,18 +108,14 @@ pub fn follow_by_team<G: Gate, R: Threads + Wait + Sync>(
         answer: (),
     } = fan_out(
         rt,
-        &Job {
-            board: &board,
-            task,
-            gate: setup.gate,
-        },
+        &Job::new(&board, task, setup.gate),
         pass,
-        mine,
-        others,
+        rooms.mine,
+        rooms.others,
         || (),
     );
     board.close(pass);
-    match gather_counted(list, places, dones) {
+    match gather_counted(list, rooms.places, dones) {
         Ok(counted) => Ok(Followed {
             shards: counted.shards,
             dones: counted.dones,

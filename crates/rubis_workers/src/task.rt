@@ -1,6 +1,7 @@
 //! What the workers do with the pieces that they take.
 
-ghost use Rattle.std.specs.Prelude.{◌≡◌};
+ghost use Rattle.std.specs.Prelude.{◌+◌, ◌≡◌};
+ghost use Rattle.rubis_schema.specs.declared.limits.TheConstants.{KEEP_MAX};
 
 use crate::gate::Taken;
 use rubis_message::Message;
@@ -53,7 +54,8 @@ impl<'a> Task for FollowBatch<'a> {
     ghost use Rattle.rubis_shard.specs.PartHomes.{AreHomes};
     ghost use Rattle.rubis_pieces.specs.Following.{IsFollowed};
 
-    ghost Fits = { λ f piece. (piece.shard.number < piece.shard.shards) × AreHomes piece.shard.shards (cores f.batch.now) f.homes.now × (f.first + length f.batch.now ≤ 1000001) };
+    ghost Fits = { λ f piece. (piece.shard.number < piece.shard.shards)
+        × AreHomes piece.shard.shards (cores f.batch.now) f.homes.now × (f.first + length f.batch.now ≤ KEEP_MAX + 1) };
 
     ghost Worked = { λ f piece done. IsFollowed f.first (cores f.batch.now) piece.shard done.done done.shard };
 
