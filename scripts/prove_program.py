@@ -1,9 +1,10 @@
 #!/usr/bin/env python3
 """Proves the crates that the program is made of and builds it, on all processors: this is what `./rubis` calls where a source is newer.
 
-One `rt ci` proves them on a copy, over what was proved before, each as soon as those below are proved, the longest chain first
-(scripts/rt_lanes.py). It keeps each crate that passed beside the toolchain: there it is for the next run, if this one is interrupted,
-and for the gate. The crates are copied without their wrong bodies, which are the gate's.
+Each crate is proved as soon as those below it are, the longest chain first (scripts/rt_lanes.py). If the toolchain's `rt ci` keeps each
+crate that passed beside the toolchain, one `rt ci` proves them on a copy, without the wrong bodies, which are the gate's: what it keeps is
+there for the next run, if this one is interrupted, and for the gate. With another toolchain they are proved where they stand, and what is
+kept stands in each crate's folder `out` (scripts/rt_libraries.py).
 
 Standard error tells how far it is, on a terminal in one line that is written over. The first crate that isn't proved ends the run,
 with its errors and no others', and status 1.
@@ -21,7 +22,7 @@ import time
 from collections.abc import Iterable
 from typing import Dict, List
 
-from rt_lanes import PARTS, weight
+from rt_lanes import PARTS, keeps_nothing, weight
 
 TOP = os.path.dirname(os.path.dirname(os.path.abspath(__file__)))
 APP = "rubis_app"
@@ -68,14 +69,15 @@ class Unproved(Exception):
 
 
 class Call:
-    """The call of `rt ci`, and its log."""
+    """The call that proves the crates, and its log."""
 
-    def __init__(self, repository: str, log: str) -> None:
-        self.log = log
+    def __init__(self, repository: str, command: List[str], log: str) -> None:
+        self.repository, self.log = repository, log
         words = {name: value for name, value in os.environ.items() if name != "CI"}
-        command = [sys.executable, f"{TOP}/scripts/rt_lanes.py"]
         with open(log, "wb") as out:
-            self.run = subprocess.Popen(command, cwd=repository, env=words, stdin=subprocess.DEVNULL, stdout=out, stderr=out, start_new_session=True)
+            self.run = subprocess.Popen(
+                [sys.executable, *command], cwd=repository, env=words, stdin=subprocess.DEVNULL, stdout=out, stderr=out, start_new_session=True
+            )
 
     def said(self) -> str:
         with open(self.log, encoding="utf-8", errors="replace") as text:
@@ -138,27 +140,39 @@ class Progress:
 
 
 def prove(room: str) -> None:
-    """Proves and builds in that folder, and leaves the program where `./rubis` starts it."""
-    crates, repository = crates_below(APP), f"{room}/rubis"
-    copy_crates(crates, repository)
-    progress, call = Progress(crates), Call(repository, f"{room}/log")
+    """Proves and builds the program, and leaves it where `./rubis` starts it. What is needed meanwhile is in that folder."""
+    crates = crates_below(APP)
+    if keeps_nothing(os.path.realpath(shutil.which("rt") or "rt")):
+        call = Call(TOP, [f"{TOP}/scripts/rt_libraries.py", APP], f"{room}/log")
+    else:
+        copy_crates(crates, f"{room}/rubis")
+        call = Call(f"{room}/rubis", [f"{TOP}/scripts/rt_lanes.py"], f"{room}/log")
+    wait_for(call, Progress(crates))
+    built, made = f"{call.repository}/crates/{APP}/out/{APP}", f"{TOP}/crates/{APP}/out"
+    if not os.path.isfile(built):
+        raise Unproved(f"{call.said()[-4000:]}rubis: the program isn't built, so nothing is run\n")
+    if call.repository == TOP:
+        # It is newer than its sources now, also if nothing in them had changed.
+        os.utime(built)
+        return
+    os.makedirs(made, exist_ok=True)
+    shutil.copy(built, f"{made}/{APP}.new")
+    os.replace(f"{made}/{APP}.new", f"{made}/{APP}")
+
+
+def wait_for(call: Call, progress: Progress) -> None:
+    """Waits until all crates are proved, and says how far that is."""
     try:
         while not call.is_over():
-            progress.proved.update(it for it in call.proved() if it in crates)
+            progress.proved.update(it for it in call.proved() if it in progress.crates)
             progress.show()
             time.sleep(0.5)
-        progress.proved.update(crates)
+        progress.proved.update(progress.crates)
         progress.show()
     finally:
         call.stop()
         if sys.stderr.isatty():
             sys.stderr.write("\n")
-    built, made = f"{repository}/crates/{APP}/out/{APP}", f"{TOP}/crates/{APP}/out"
-    if not os.path.isfile(built):
-        raise Unproved(f"{call.said()[-4000:]}rubis: the program isn't built, so nothing is run\n")
-    os.makedirs(made, exist_ok=True)
-    shutil.copy(built, f"{made}/{APP}.new")
-    os.replace(f"{made}/{APP}.new", f"{made}/{APP}")
 
 
 def main() -> int:

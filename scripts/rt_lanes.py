@@ -32,6 +32,8 @@ FIXED = 1500
 # How many jobs a proof can use, and the memory that each but the first takes, as a part of what the toolchain reckons for the task.
 # A job more is a fork that shares what was loaded: proofs of four jobs were seen to take 58 to 72 percent of that in all.
 MOST, OF_TASK = 4, 0.1
+# The toolchain's function that is replaced.
+ORDER = "\ndef in_lanes(tasks):"
 # How much of the free memory is used.
 USED = 0.85
 # How much a proof beside the longest chain gives way to it, and how many jobs there are at once for each processor.
@@ -132,7 +134,7 @@ class Lanes:
 def toolchain(file: str) -> Optional[types.ModuleType]:
     """Returns the toolchain's `rt` as a module, if it has the function that is replaced here."""
     with open(file, encoding="utf-8", errors="replace") as text:
-        if "\ndef in_lanes(tasks):" not in text.read():
+        if ORDER not in text.read():
             return None
     loader = importlib.machinery.SourceFileLoader("rt_of_the_toolchain", file)
     spec = importlib.util.spec_from_loader(loader.name, loader)
@@ -141,6 +143,13 @@ def toolchain(file: str) -> Optional[types.ModuleType]:
     made = importlib.util.module_from_spec(spec)
     loader.exec_module(made)
     return made
+
+
+def keeps_nothing(file: str) -> bool:
+    """Returns whether this is a toolchain whose order can be replaced, and whose `rt ci` doesn't keep what it proved: else it says so of crates."""
+    with open(file, encoding="utf-8", errors="replace") as text:
+        said = text.read()
+    return ORDER in said and "is kept" not in said
 
 
 def run_tasks(kit: types.ModuleType, tasks: Dict[Key, Task]) -> Dict[Key, Any]:

@@ -2,7 +2,8 @@
 """Tries `./rubis` where the program has still to be proved, over a stand-in for the toolchain: scripts/try_first_command.py
 
 The stand-in says what `rt ci` says, crate by crate, and looks at what it is given. Tried are a program that is proved, one with a
-crate that isn't, a toolchain that stops at once, a run that is interrupted, and that a later run starts the program without proofs.
+crate that isn't, a toolchain that stops at once, one that keeps nothing, a run that is interrupted, and that a later run starts the program
+without proofs.
 Tried beside these is in what order, and with how many jobs each, scripts/rt_lanes.py has tasks done, and with which toolchains."""
 
 import os
@@ -59,6 +60,42 @@ def ending():
     print("ended")
 """
 
+# A toolchain whose `rt ci` keeps nothing, so that each crate is proved in its own folder. Where the file `broken` names a crate, that isn't proved.
+BARE = """#!/usr/bin/env python3
+import os, types
+def in_lanes(tasks): raise SystemExit("rt ci is called")
+def processors(): return 2
+def free(): return 8e9
+def need(crate): return 1e9
+class Crate:
+    def __init__(self, name, deps):
+        self.name, self.deps, self.folder, self.is_program = name, deps, os.path.abspath(f"crates/{name}"), name == "rubis_app"
+    def below(self): return self.deps
+    def stamp(self): return self.name
+    def count(self, pattern): return 10
+    def is_built(self): return os.path.exists(f"{self.folder}/out/built")
+    def build_rlib(self, flags, anew):
+        if self.is_built():
+            return 0
+        with open("made", "a") as made:
+            made.write(f"{self.name} ")
+        if os.path.exists("broken") and open("broken").read() == self.name:
+            print("error: src/lib.rt:1: not so", file=self.out)
+            return 1
+        open(f"{self.folder}/out/built", "w").close()
+        return 0
+    def build_and_run(self, flags, arguments, tests):
+        with open(f"{self.folder}/out/rubis_app", "w") as program:
+            program.write('#!/bin/sh\\necho ran "$@"\\ncat\\n')
+        os.chmod(f"{self.folder}/out/rubis_app", 0o755)
+        return 0
+numbers = Crate("rubis_numbers", [])
+board = Crate("rubis_board", [numbers])
+app = Crate("rubis_app", [numbers, board])
+tests = Crate("rubis_tests", [numbers, board, app])
+rtlib = types.SimpleNamespace(Crate=Crate, guarded=lambda: None, lock=lambda crates: [], crates_below=lambda top: [tests, app, board, numbers])
+"""
+
 
 def expect(claim: bool, what: str) -> None:
     if not claim:
@@ -74,7 +111,7 @@ class Copy:
         self.temporary.mkdir()
         (self.top / "scripts").mkdir(parents=True)
         shutil.copy(TOP / "rubis", self.top)
-        for script in ("prove_program.py", "rt_lanes.py"):
+        for script in ("prove_program.py", "rt_lanes.py", "rt_libraries.py"):
             shutil.copy(TOP / "scripts" / script, self.top / "scripts")
         shutil.copy(TOP / "HANDLES", self.top)
         (self.top / "crates.txt").write_text("# crates\n" + "".join(f"{name}: {below}\n" for name, below in CRATES.items()))
@@ -122,6 +159,20 @@ def try_program(copy: Copy) -> None:
     time.sleep(1.1)
     (copy.top / "crates/rubis_board/src/lib.rt").write_text("//! A crate that changed.\n")
     expect(copy.run()[0] == 3, "a source that is newer isn't proved")
+
+
+def try_crates_where_they_stand(copy: Copy) -> None:
+    """With a toolchain that keeps nothing, a run goes on where the one before ended, and says only the errors of the crate that isn't proved."""
+    (copy.bin / "rt").write_text(BARE)
+    (copy.bin / "rt").chmod(0o755)
+    (copy.top / "broken").write_text("rubis_board")
+    status, out, said = copy.run()
+    expect(status == 3 and out == "" and "error: src/lib.rt:1: not so" in said, f"a crate that isn't proved gives status {status} and {said}")
+    (copy.top / "broken").unlink()
+    status, out, said = copy.run()
+    expect(status == 0 and out == "ran site --site 0\nuser,ann\n" and "3 of 3 crates proved" in said, f"then status {status}, {out!r} and {said}")
+    made = (copy.top / "made").read_text()
+    expect(made == "rubis_numbers rubis_board rubis_board ", f"what was proved is proved again: {made}")
 
 
 def try_interruption(copy: Copy) -> None:
@@ -179,6 +230,8 @@ def main() -> int:
     try_lanes()
     with tempfile.TemporaryDirectory(prefix="rubis-orders-") as room:
         try_orders(pathlib.Path(room))
+    with tempfile.TemporaryDirectory(prefix="rubis-bare-") as room:
+        try_crates_where_they_stand(Copy(pathlib.Path(room)))
     with tempfile.TemporaryDirectory(prefix="rubis-first-") as room:
         copy = Copy(pathlib.Path(room))
         try_proofs(copy)
@@ -186,7 +239,7 @@ def main() -> int:
         try_interruption(copy)
         left = list(copy.temporary.iterdir())
         expect(not left, f"it leaves {left}")
-    print("the first command: 6 passed, 0 failed")
+    print("the first command: 7 passed, 0 failed")
     return 0
 
 
