@@ -29,7 +29,7 @@ pub struct Worked {
 }
 
 impl From<Gathered> for Worked {
-    ghost from_gives = { λ gathered worked. (worked.shards ≡ gathered.shards) × (worked.left ≡ gathered.left) };
+    ghost from_gives = { λ gathered worked. worked ≡ record { shards = gathered.shards; left = gathered.left } };
 
     fn from(gathered: Gathered) -> Worked {
         Worked {
@@ -54,6 +54,19 @@ pub struct TeamResult {
 pub struct Unstarted {
     pub shards: Items<Shard>,
     pub shares: Items<Share>,
+}
+
+impl Unstarted {
+    // These lists, as they came.
+    fn new(shards: Vec<Shard>, shares: Vec<Share>) -> Unstarted
+        ensures shards { result.shards ≡ shards.items }
+        ensures shares { result.shares ≡ shares.items }
+    {
+        Unstarted {
+            shards: shards.into(),
+            shares: shares.into(),
+        }
+    }
 }
 
 // Posts each shard with its share.
@@ -107,11 +120,7 @@ pub fn apply_by_team<G: Gate, R: Threads + Wait + Sync, A, F: FnOnce() -> A>(
     let pieces = shards.len();
     let team = setup.most.min(pieces);
     let Ok(rooms) = Rooms::new(setup.alloc, pieces, team) else {
-        let unstarted = Unstarted {
-            shards: shards.into(),
-            shares: shares.into(),
-        };
-        return (Err(unstarted), beside());
+        return (Err(Unstarted::new(shards, shares)), beside());
     };
     let poster = post_all(rt, rooms.poster, shards, shares);
     let (board, pass) = poster.open();
@@ -122,7 +131,11 @@ pub fn apply_by_team<G: Gate, R: Threads + Wait + Sync, A, F: FnOnce() -> A>(
         answer,
     } = fan_out(
         rt,
-        &Job::new(&board, &FoldShares, setup.gate),
+        &Job {
+            board: &board,
+            task: &FoldShares,
+            gate: setup.gate,
+        },
         pass,
         rooms.mine,
         rooms.others,

@@ -108,7 +108,11 @@ pub fn follow_by_team<G: Gate, R: Threads + Wait + Sync>(
         answer: (),
     } = fan_out(
         rt,
-        &Job::new(&board, task, setup.gate),
+        &Job {
+            board: &board,
+            task,
+            gate: setup.gate,
+        },
         pass,
         rooms.mine,
         rooms.others,

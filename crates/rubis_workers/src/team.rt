@@ -22,16 +22,6 @@ pub struct Job<'a, T, G> {
     pub gate: &'a G,
 }
 
-impl<'a, T, G> Job<'a, T, G> {
-    /// What a team does on that board.
-    pub fn new(board: &'a Board, task: &'a T, gate: &'a G) -> Job<'a, T, G>
-        ensures board { result.board.now ≡ board.now }
-        ensures task { result.task.now ≡ task.now }
-    {
-        Job { board, task, gate }
-    }
-}
-
 impl<'a, T, G> Drop for Job<'a, T, G> {
     fn drop(self) {
         let Job {
@@ -153,7 +143,7 @@ pub fn fan_out<T: Task, G: Gate, R: Threads + Wait + Sync, A, F: FnOnce() -> A>(
             requires room { (new.taken ≡ []) × (theirs.items ≡ []) × (length new.posted ≤ vec_capacity theirs) }
             ensures pass { result.0 ≡ having new result.0.taken true }
             ensures done { AllZip (T.Worked task.entry.now) result.0.taken result.1.items }
-        { work(rt, &Job::new(board, task, gate), new, theirs) },
+        { work(rt, &Job { board, task, gate }, new, theirs) },
         move || -> Teamwork<A>
             requires sync { IsSync R.row }
             requires board { mine.board ≡ board.now }
@@ -167,7 +157,7 @@ pub fn fan_out<T: Task, G: Gate, R: Threads + Wait + Sync, A, F: FnOnce() -> A>(
             ensures room { length mine.posted ≤ vec_capacity result.list }
             ensures others { result.others ≤ vec_len result.list }
             ensures answer { F.post first result.answer }
-        { fan_out(rt, &Job::new(board, task, gate), mine, room, rooms, first) },
+        { fan_out(rt, &Job { board, task, gate }, mine, room, rooms, first) },
     );
     joined(board, ours, new, theirs)
 }

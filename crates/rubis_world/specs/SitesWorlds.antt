@@ -1,10 +1,14 @@
 -- Several sites with their packets, and what their calls answer.
-use Rattle.std.specs.Prelude.{◌≡◌, ℕ, ◌<◌, List, length, map, Result, Ok, Err, IfSome, slice_get, slice_index_or}
+use Rattle.std.specs.Prelude.{◌≡◌, ℕ, ◌<◌, ◌≤◌, List, None, Some, length, map, Result, Ok, Err, IfSome, slice_get, slice_index_or}
 use Rattle.std.specs.List.{range_with_len}
 use Rattle.rubis_schema.specs.declared.refusals.Refusal.{Refusal}
 use Rattle.rubis_schema.specs.declared.refusals.Refusal.TheVariants as refusal
 use Rattle.rubis_message.specs.declared.answers.Happened.{Happened}
-use Rattle.rubis_model.specs.System.{World, start}
+use Rattle.rubis_message.specs.declared.requests.Request.{Request}
+use Rattle.rubis_message.specs.declared.requests.Request.TheVariants.{Pass}
+use Rattle.rubis_message.specs.declared.tokens.Packet.{Packet}
+use Rattle.rubis_model.specs.System.{World, happens, packet_at, start}
+use Rattle.rubis_model.specs.System.Event.{At, Deliver}
 use Rattle.rubis_script.specs.Replica.{SiteState}
 use Rattle.rubis_script.specs.Replica.fault_variants as fault
 use Rattle.rubis_world.specs.declared.faults.WorldFault.{WorldFault}
@@ -49,3 +53,19 @@ pub record Asks (i : ℕ) (old new : WorldState) (result : Result Happened World
   pub others : (j : ℕ) → (j ≡ i → ⊥) → left_at new j ≡ left_at old j
   pub waits : 0 < left_at old i → (result ≡ Err (Site fault.Behind)) × (new ≡ old)
   pub says : result ≡ Err (Site fault.Behind) → 0 < left_at new i
+
+-- a request at a site is answered as the step says, by that site alone; without such a site nothing is
+pub record AnswersRequest (site : ℕ) (request : Request) (old new : WorldState) (result : Result Happened WorldFault) : Type 0 where
+  pub step : Steps old new (happens old.keep old.world (At site request)) result
+  pub tables : site < length old.world.sites → Asks site old new result
+  pub absent : length old.world.sites ≤ site → (result ≡ Err BadEvent) × (new ≡ old)
+  -- handing the token on applies nothing, so it finds a site behind only where that was so before
+  pub pass : (to : ℕ) → request ≡ Pass to → result ≡ Err (Site fault.Behind) → 0 < left_at old site
+
+-- a delivery of packet `which` to a site is answered as the step says, by that site alone; without such a site or packet nothing is
+pub record AnswersDelivery (site which : ℕ) (old new : WorldState) (result : Result Happened WorldFault) : Type 0 where
+  pub step : Steps old new (happens old.keep old.world (Deliver site which)) result
+  pub tables : site < length old.world.sites → (p : Packet) → packet_at old.world.sent which ≡ Some p → Asks site old new result
+  pub absent : length old.world.sites ≤ site → (result ≡ Err BadEvent) × (new ≡ old)
+  pub unsent : site < length old.world.sites → packet_at old.world.sent which ≡ None → (result ≡ Err NoSuchPacket) × (new ≡ old)
+  pub behind : result ≡ Err (Site fault.Behind) → 0 < left_at old site

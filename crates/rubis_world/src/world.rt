@@ -1,18 +1,16 @@
 //! Several sites in one run, with all packets that they send, and what each record did.
 
-ghost use Rattle.std.specs.Prelude.{◌≡◌, ◌<◌, ◌≤◌, Err, IfErr, IfOk, None, Some, ℕ, length};
-ghost use Rattle.rubis_message.specs.declared.requests.Request.TheVariants as Request;
-ghost use Rattle.rubis_message.specs.declared.tokens.Packet.{Packet as Sent};
+ghost use Rattle.std.specs.Prelude.{◌≡◌, ◌<◌, ◌≤◌, Err, IfErr, IfOk, ℕ, length};
 ghost use Rattle.rubis_model.specs.Laws.{InRun};
-ghost use Rattle.rubis_model.specs.System.{IsEvent, happens, packet_at};
-ghost use Rattle.rubis_model.specs.System.Event.{At, Deliver};
+ghost use Rattle.rubis_model.specs.System.{IsEvent};
+ghost use Rattle.rubis_model.specs.System.Event.{At};
 ghost use Rattle.rubis_schema.specs.declared.limits.TheConstants.{KEEP_MAX, SITES_MAX};
 ghost use Rattle.rubis_message.specs.declared.answers.Verdict.TheVariants.{Agree};
 ghost use Rattle.rubis_model.specs.Verdict.{verdict};
 ghost use Rattle.rubis_model.specs.WorldRecords.{logs_of};
 ghost use Rattle.rubis_script.specs.Replica.{IsCount};
 ghost use Rattle.rubis_script.specs.Replica.fault_variants as Fault;
-ghost use Rattle.rubis_world.specs.SitesWorlds.{Asks, ComesTo, Steps, left_at, opening_world};
+ghost use Rattle.rubis_world.specs.SitesWorlds.{AnswersDelivery, AnswersRequest, ComesTo, left_at, opening_world};
 ghost use Rattle.rubis_world.specs.declared.faults.WorldFault.TheVariants as WorldFault;
 ghost use Rattle.rubis_world.specs.Worlds.{IsCheckFault};
 
@@ -78,10 +76,7 @@ impl World {
         request: Request,
     ) -> Result<Happened, WorldFault>
         requires { IsEvent (length self.old.world.sites) (At site request) }
-        ensures step { Steps self.old self.new (happens self.old.keep self.old.world (At site request)) result }
-        ensures tables { site < length self.old.world.sites → Asks site self.old self.new result }
-        ensures absent { length self.old.world.sites ≤ site → (result ≡ Err WorldFault.BadEvent) × (self.new ≡ self.old) }
-        ensures pass { (to : ℕ) → request ≡ Request.Pass to → result ≡ Err (WorldFault.Site Fault.Behind) → 0 < left_at self.old site }
+        ensures answers { AnswersRequest site request self.old self.new result }
         ensures run { InRun self.new.world }
     {
         self.sites.at(rt, site, request)
@@ -95,12 +90,7 @@ impl World {
         site: u8,
         number: u64,
     ) -> Result<Happened, WorldFault>
-        ensures step { Steps self.old self.new (happens self.old.keep self.old.world (Deliver site number)) result }
-        ensures tables { site < length self.old.world.sites → (p : Sent) → packet_at self.old.world.sent number ≡ Some p → Asks site self.old self.new result }
-        ensures absent { length self.old.world.sites ≤ site → (result ≡ Err WorldFault.BadEvent) × (self.new ≡ self.old) }
-        ensures unsent { site < length self.old.world.sites → packet_at self.old.world.sent number ≡ None → (result ≡ Err WorldFault.NoSuchPacket)
-            × (self.new ≡ self.old) }
-        ensures behind { result ≡ Err (WorldFault.Site Fault.Behind) → 0 < left_at self.old site }
+        ensures answers { AnswersDelivery site number self.old self.new result }
         ensures run { InRun self.new.world }
     {
         self.sites.deliver(rt, site, number)

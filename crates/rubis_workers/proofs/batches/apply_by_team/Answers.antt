@@ -5,6 +5,7 @@ use Rattle.rubis_pieces.specs.Faults.{IsFault, numbers_of}
 use Rattle.rubis_pieces.specs.Gathered.{IsGathered}
 use Rattle.rubis_board.specs.Passes.{PassState}
 use Rattle.rubis_pieces.specs.Work.{IsPiece, IsWorked, pieces_of}
+use Rattle.rubis_workers.specs.Work.{AreWorked}
 use Rattle.rubis_workers.proofs.Lists.{belong_length, all_pieces, zip_length}
 use Rattle.rubis_workers.proofs.Folded.{all_taken, no_fault, gathered, applies}
 use Rattle.rubis_workers.proofs.batches.apply_by_team.Goals as goal
@@ -46,15 +47,15 @@ returns-clause-folded g c =
     (ap (λ (p : PassState). p.posted) c.open-board.ensures) (ap (λ (p : PassState). p.posted) c.fan_out-pass.ensures.pass)
     c.close.ensures in
     let many : c.in-Ok.rooms.places ≡ length ss = search rules in
-    gathered ss hs c.fan_out-pass.result.pass.taken c.fan_out-pass.result.list.items c.requires.order c.requires.belong moved
+    subst (AreWorked ss hs) (sym c.into.ensures)
+    (gathered ss hs c.fan_out-pass.result.pass.taken c.fan_out-pass.result.list.items c.requires.order c.requires.belong moved
     c.fan_out-pass.ensures.done
     c.in-Ok-gather.gathered (subst (λ n. IsGathered n c.fan_out-pass.result.list.items c.in-Ok-gather.gathered) many
-    c.in-Ok-gather.ensures.gathered)
+    c.in-Ok-gather.ensures.gathered))
 
 pub returns-clause-batch : goal.returns-clause-batch
 returns-clause-batch g c =
-    applies c.args.shards.items c.args.shares.items
-    (record { shards = c.in-Ok-gather.gathered.shards; left = c.in-Ok-gather.gathered.left }) c.requires.some (returns-clause-folded g c)
+    applies c.args.shards.items c.args.shares.items c.into.result c.requires.some (returns-clause-folded g c)
 
 pub returns-clause-others : goal.returns-clause-others
 returns-clause-others g c =
