@@ -11,7 +11,7 @@ use crate::tries::{Stop, TRIES, again};
 use rubis_listing as listings;
 use rubis_message::{Message, ReadFault};
 use rubis_pieces::{Left, apply_batch, misfits, split};
-use rubis_schema::{Fields, Id, Items, Listing, Table, shard_of};
+use rubis_schema::{Fields, Id, IdTable, Items, Listing, Table, shard_of};
 use rubis_shadow::Numbered;
 use rubis_shard::{Group, Shard, Share, Tables};
 use rubis_workers::apply_upto;
@@ -92,7 +92,7 @@ impl Portion {
     fn counts(&self, alloc: Global) -> Result<(usize, usize, usize), AllocError> {
         let keys = self.shard.keys(alloc, Table::Users)?.len();
         let rows = self.shard.rows(alloc, Table::Users)?.len();
-        let listed = self.shard.listed(alloc, Table::Users, &Listing::Users)?;
+        let listed = self.shard.listed(alloc, IdTable::User, &Listing::Users)?;
         Ok((keys, rows, listed.len()))
     }
 
@@ -208,7 +208,7 @@ fn count_users(alloc: Global, tables: &Tables) -> Result<usize, AllocError> {
 fn count_items(alloc: Global, tables: &Tables) -> Result<usize, AllocError> {
     Ok(
         tables
-            .listed(alloc, Table::Items, &Listing::Items(9))?
+            .listed(alloc, IdTable::Item, &Listing::Items(9))?
             .len(),
     )
 }

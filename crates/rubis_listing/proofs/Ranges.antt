@@ -1,14 +1,13 @@
 -- The rows that are made of a range, and of the ranges that it is cut into.
-use Rattle.std.proofs.Common.{◌≡◌, ℕ, zero, suc, ◌+◌, ◌*◌, ◌-◌, ◌≤◌, List, [], ◌∷◌, ◌++◌, drop, take, length, min, ap, refl, subst, sym, ◌∙◌, arith, map as each}
+use Rattle.std.proofs.Common.{◌≡◌, ℕ, zero, suc, ◌+◌, ◌*◌, ◌-◌, ◌≤◌, List, [], ◌∷◌, ◌++◌, drop, take, length, min, ap, refl, subst, sym, ◌∙◌, arith}
 use Rattle.std.specs.List.{AllZip, range_with_len}
 use Rattle.std.specs.Prelude.{slice_range}
 use Rattle.std.proofs.lemmas.Grind.{flat_map-append}
-use Rattle.std.proofs.lemmas.List.{length-drop, length-take-le, map-append, take_all}
+use Rattle.std.proofs.lemmas.List.{length-drop, length-take-le, take_all}
 use Rattle.std.proofs.lemmas.List.Folds.{drop_split}
 use Rattle.rubis_message.specs.Message.{Message}
 use Rattle.rubis_shadow.specs.declared.numbered.Misfit.{Misfit}
 use Rattle.rubis_model.specs.Listings.{log_from, log_record, misfit_record, misfit_rows, records_of}
-use Rattle.rubis_shard.specs.Written.{shown}
 use Rattle.rubis_listing.specs.Parts.{behind, between, rows_of_part, size_of, AreParts}
 use Rattle.rubis_listing.specs.declared.sources.Source.{Source}
 use Rattle.rubis_listing.specs.declared.sources.Source.TheVariants.{Rows, Log, Misfits}
@@ -44,15 +43,14 @@ log_append n (x ∷ xs) ys =
     ap (λ rows. log_record n x ∷ rows) (log_append (n + 1) xs ys ∙ ap (λ k. log_from (n + 1) xs ++ log_from k ys) same)
 
 pub between_none : (s : Source) (a : ℕ) → between s a a ≡ []
-between_none (Rows l rows) a = ap (λ xs. records_of l.now (each shown xs)) (range_none rows.items a)
+between_none (Rows l rows) a = ap (records_of l.now) (range_none rows.items a)
 between_none (Log log) a = ap (log_from (a + 1)) (range_none log.now a) ∙ none (a + 1)
 between_none (Misfits ms) a = ap misfit_rows (range_none ms.items a)
 
 pub between_more : (s : Source) (a b c : ℕ) → a ≤ b → b ≤ c → b ≤ size_of s → between s a c ≡ between s a b ++ between s b c
 between_more (Rows l rows) a b c first second within =
-    ap (λ xs. records_of l.now (each shown xs)) (range_split rows.items a b c first second within)
-    ∙ ap (records_of l.now) (map-append shown (slice_range rows.items a b) (slice_range rows.items b c))
-    ∙ records_append l.now (each shown (slice_range rows.items a b)) (each shown (slice_range rows.items b c))
+    ap (records_of l.now) (range_split rows.items a b c first second within)
+    ∙ records_append l.now (slice_range rows.items a b) (slice_range rows.items b c)
 between_more (Log log) a b c first second within =
     let next : a + 1 + length (slice_range log.now a b) ≡ b + 1 = omega (arith, range_length log.now a b within) in
     ap (log_from (a + 1)) (range_split log.now a b c first second within)

@@ -115,6 +115,10 @@ pub listed_records : (l : Listing) (t : Table) (m : Tables) → records_of l (li
 listed_records l t m = ap (flat_map (λ (e : RowKey × Row). row_record e.0 e.1))
     (again (λ e. holds t e.0) (λ e. is_of l e.0 e.1) (map.entries m))
 
+-- rows that are those that match a listing, of the table u
+pub listed_as : (l : Listing) (t u : Table) (m : Tables) (rows : Entries) → rows ≡ listed_of l t m → t ≡ u → records_of l rows ≡ records_of l (rows_of u m)
+listed_as l t u m rows is same = ap (records_of l) is ∙ listed_records l t m ∙ ap (λ (x : Table). records_of l (rows_of x m)) same
+
 -- ---- rows without a record
 
 no_record : (l : Listing) (e : RowKey × Row) → row_record e.0 e.1 ≡ [] → records_of l (e ∷ []) ≡ []
@@ -122,6 +126,23 @@ no_record l e none = elim (is_of l e.0 e.1) as (λ b. flat_map (λ (x : RowKey �
   | true ↦ ap (λ (rows : List (List (List ℕ))). rows ++ []) none
   | false ↦ refl
 ]
+
+-- nicknames have none
+of_nicks : (l : Listing) (es : Entries) → records_of l (filter (λ (e : RowKey × Row). holds table.Nicks e.0) es) ≡ []
+of_nicks l [] = refl
+of_nicks l ((k, r) ∷ es) = elim k as (λ k. records_of l (filter (λ (e : RowKey × Row). holds table.Nicks e.0) ((k, r) ∷ es)) ≡ []) [
+  | key.User i ↦ of_nicks l es
+  | key.Item i ↦ of_nicks l es
+  | key.Bid i ↦ of_nicks l es
+  | key.Purchase i ↦ of_nicks l es
+  | key.Comment i ↦ of_nicks l es
+  | key.Nick n ↦ records_append l ((key.Nick n, r) ∷ []) (filter (λ (e : RowKey × Row). holds table.Nicks e.0) es)
+      ∙ (λ i. no_record l (key.Nick n, r) refl i ++ of_nicks l es i)
+  | key.Cat c ↦ of_nicks l es
+]
+
+pub nick_records : (l : Listing) (m : Tables) → records_of l (rows_of table.Nicks m) ≡ []
+nick_records l m = of_nicks l (map.entries m)
 
 of_category : (k : RowKey) (c : CatRow) → shows_nothing c ≡ true → row_record k (row.Cat c) ≡ []
 of_category (key.Cat n) c nothing = ap (λ b. cond b [] (category_record n c ∷ [])) nothing

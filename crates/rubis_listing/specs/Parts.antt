@@ -1,7 +1,6 @@
 -- The rows of a listing, in parts.
-use Rattle.std.specs.Prelude.{ℕ, ◌+◌, ◌*◌, ◌-◌, ◌≡◌, List, [], ◌∷◌, ◌++◌, length, map as each, min, slice_range}
+use Rattle.std.specs.Prelude.{ℕ, ◌+◌, ◌*◌, ◌-◌, ◌≡◌, List, [], ◌∷◌, ◌++◌, length, min, slice_range}
 use Rattle.rubis_model.specs.Listings.{log_from, misfit_rows, records_of}
-use Rattle.rubis_shard.specs.Written.{shown}
 use Rattle.rubis_listing.specs.declared.sources.Source.{Source}
 use Rattle.rubis_listing.specs.declared.sources.Source.TheVariants.{Rows, Log, Misfits}
 
@@ -13,7 +12,7 @@ size_of (Misfits ms) = length ms.items
 
 -- the rows that are made of those from a place on, up to another
 abbrev pub between : Source → ℕ → ℕ → List (List (List ℕ))
-between (Rows l rows) from upto = records_of l.now (each shown (slice_range rows.items from upto))
+between (Rows l rows) from upto = records_of l.now (slice_range rows.items from upto)
 between (Log log) from upto = log_from (from + 1) (slice_range log.now from upto)
 between (Misfits ms) from upto = misfit_rows (slice_range ms.items from upto)
 

@@ -1,16 +1,15 @@
 //! The listings of the tables.
 
-ghost use Rattle.std.specs.Prelude.{◌≡◌, ◌≤◌, ◌∷◌, ◌++◌, [], IfOk, OnOk, length, map as each, slice_range};
+ghost use Rattle.std.specs.Prelude.{◌≡◌, ◌≤◌, ◌∷◌, ◌++◌, [], IfOk, OnOk, length, slice_range};
 ghost use Rattle.rubis_schema.specs.declared.listings.Listing.TheVariants as Shown;
 ghost use Rattle.rubis_shadow.specs.Tables.{rows_of};
 ghost use Rattle.rubis_model.specs.Listings.{records_of, table_rows};
 ghost use Rattle.rubis_shard.specs.Holdings.{union};
-ghost use Rattle.rubis_shard.specs.Written.{shown};
 ghost use Rattle.rubis_listing.specs.ByTable.{tables_of};
 
 use crate::records::put_record;
-use rubis_schema::{Fields, Id, Items, Listing, Row, RowKey, RowSink, Table};
-use rubis_shard::{Tables, has_record, selects};
+use rubis_schema::{Fields, Id, IdTable, Items, Listing, Row, RowKey, RowSink, Table};
+use rubis_shard::{ListedRow, Tables, has_record, selects};
 use std::alloc::{AllocError, Global};
 
 // Adds the row at a key, if it matches the listing and has a record.
@@ -34,13 +33,13 @@ pub fn put_rows<S: RowSink>(
     alloc: Global,
     sink: &mut S,
     listing: &Listing,
-    rows: &[(RowKey, &Row)],
+    rows: &[ListedRow<'_>],
 ) -> Result<(), AllocError>
-    ensures { OnOk result (S.adds (records_of listing.now (each shown rows.now)) sink.old sink.new) }
+    ensures { OnOk result (S.adds (records_of listing.now rows.now) sink.old sink.new) }
 {
     let mut record = Fields::new(alloc);
-    for (key, row) in rows {
-        put_row(sink, &mut record, listing, key, row)?;
+    for row in rows {
+        put_row(sink, &mut record, listing, &row.key(), row.row())?;
     }
     Ok(())
 }
@@ -50,13 +49,13 @@ pub fn put_rows_between<S: RowSink>(
     alloc: Global,
     sink: &mut S,
     listing: &Listing,
-    rows: &[(RowKey, &Row)],
+    rows: &[ListedRow<'_>],
     from: usize,
     upto: usize,
 ) -> Result<(), AllocError>
     requires from { from ≤ upto }
     requires upto { upto ≤ length rows.now }
-    ensures { OnOk result (S.adds (records_of listing.now (each shown (slice_range rows.now from upto))) sink.old sink.new) }
+    ensures { OnOk result (S.adds (records_of listing.now (slice_range rows.now from upto)) sink.old sink.new) }
 {
     put_rows(alloc, sink, listing, &rows[from..upto])
 }
@@ -74,12 +73,12 @@ fn count_row(listing: &Listing, key: &RowKey, row: &Row) -> usize
 }
 
 // How many of some rows match the listing and have a record.
-pub fn count_rows(listing: &Listing, rows: &[(RowKey, &Row)]) -> usize
-    ensures { result ≡ length (records_of listing.now (each shown rows.now)) }
+pub fn count_rows(listing: &Listing, rows: &[ListedRow<'_>]) -> usize
+    ensures { result ≡ length (records_of listing.now rows.now) }
 {
     let mut count = 0;
-    for (key, row) in rows {
-        count += count_row(listing, key, row);
+    for row in rows {
+        count += count_row(listing, &row.key(), row.row());
     }
     count
 }
@@ -114,20 +113,25 @@ pub fn rows_in<'a>(
     table: Table,
     listing: &Listing,
     tables: &'a Tables,
-) -> Result<Vec<(RowKey, &'a Row)>, AllocError>
-    ensures { IfOk result (λ rows. records_of listing.now (each shown rows.items) ≡ records_of listing.now (rows_of table (union tables.now))) }
+) -> Result<Vec<ListedRow<'a>>, AllocError>
+    ensures { IfOk result (λ rows. records_of listing.now rows.items ≡ records_of listing.now (rows_of table (union tables.now))) }
 {
     match table {
+        Table::Users => tables.listed(alloc, IdTable::User, listing),
+        Table::Items => tables.listed(alloc, IdTable::Item, listing),
+        Table::Bids => tables.listed(alloc, IdTable::Bid, listing),
+        Table::Purchases => tables.listed(alloc, IdTable::Purchase, listing),
+        Table::Comments => tables.listed(alloc, IdTable::Comment, listing),
+        Table::Nicks => Ok(Vec::new(alloc)),
         Table::Cats => tables.categories(alloc),
-        _ => tables.listed(alloc, table, listing),
     }
 }
 
 // Some rows, and others after them.
 fn with_rows<'a>(
-    rows: Vec<(RowKey, &'a Row)>,
-    others: Vec<(RowKey, &'a Row)>,
-) -> Result<Vec<(RowKey, &'a Row)>, AllocError>
+    rows: Vec<ListedRow<'a>>,
+    others: Vec<ListedRow<'a>>,
+) -> Result<Vec<ListedRow<'a>>, AllocError>
     ensures { IfOk result (λ all. all.items ≡ rows.entry.items ++ others.entry.items) }
 {
     if rows.is_empty() {
@@ -143,8 +147,8 @@ pub fn rows_of_all<'a>(
     alloc: Global,
     listing: &Listing,
     tables: &'a Tables,
-) -> Result<Vec<(RowKey, &'a Row)>, AllocError>
-    ensures { IfOk result (λ rows. records_of listing.now (each shown rows.items) ≡ table_rows listing.now (union tables.now)) }
+) -> Result<Vec<ListedRow<'a>>, AllocError>
+    ensures { IfOk result (λ rows. records_of listing.now rows.items ≡ table_rows listing.now (union tables.now)) }
 {
     let mut all = Vec::new(alloc);
     for table in tables_of(listing) {

@@ -6,15 +6,16 @@ ghost use Rattle.rubis_listing.specs.Parts.{between, rows_from, size_of};
 use crate::listings::{count_rows, put_rows_between};
 use crate::logs::{put_entries, put_misfits};
 use rubis_message::Message;
-use rubis_schema::{Listing, Row, RowKey, RowSink};
+use rubis_schema::{Listing, RowSink};
 use rubis_shadow::Misfit;
+use rubis_shard::ListedRow;
 use std::alloc::{AllocError, Global};
 
 /// What the rows of a listing are made of, in order.
 #[derive(Drop)]
 pub enum Source<'a> {
     /// Rows of tables, with their keys: those that match the listing, and have a record.
-    Rows(&'a Listing, Vec<(RowKey, &'a Row)>),
+    Rows(&'a Listing, Vec<ListedRow<'a>>),
     /// The messages of a log, which are its entries from 1.
     Log(&'a [Message]),
     Misfits(Vec<Misfit>),

@@ -15,5 +15,7 @@ pub mod Distinct
 pub mod Categories
 pub mod OneTable
 pub mod Shown
+pub mod Shuffled
+pub mod ListedKeys
 pub mod Changed
 pub mod Grouped

@@ -1,22 +1,22 @@
 -- The rows that match a listing, among those of three maps.
-use Rattle.std.proofs.Common.{◌≡◌, ℕ, Bool, true, false, cond, ◌&&◌, ◌<◌, List, [], ◌∷◌, ◌++◌, take, length, refl, sym, ap, ◌∙◌, append_assoc, arith}
+use Rattle.std.proofs.Common.{◌≡◌, ℕ, Bool, true, false, cond, ◌&&◌, ◌+◌, ◌<◌, List, [], ◌∷◌, ◌++◌, drop, take, length, refl, sym, ap, ◌∙◌, append_assoc, arith}
 use Rattle.std.specs.Prelude.{Some, filter, option_map, slice_get, zero, suc}
-use Rattle.std.proofs.lemmas.List.{append-nil}
+use Rattle.std.proofs.lemmas.List.{append-nil, take-append-drop}
 use Rattle.std.proofs.lemmas.List.Elements.{filter-append}
 use Rattle.rubis_schema.specs.IdKeys.{row_key}
 use Rattle.rubis_schema.specs.Keys.{holds}
 use Rattle.rubis_schema.specs.declared.id_keys.IdKey.{IdKey}
+use Rattle.rubis_schema.specs.declared.id_keys.IdTable.{IdTable}
 use Rattle.rubis_schema.specs.declared.id_keys.IdTable.TheVariants as table
 use Rattle.rubis_schema.specs.declared.listings.Listing.{Listing}
-use Rattle.rubis_schema.specs.declared.listings.Listing.TheVariants as listing
 use Rattle.rubis_schema.specs.declared.row_keys.RowKey.{RowKey}
 use Rattle.rubis_schema.specs.declared.row_keys.RowKey.TheVariants as key
 use Rattle.rubis_schema.specs.declared.row_keys.Table.{Table}
 use Rattle.rubis_schema.specs.declared.row_keys.Table.TheVariants as tables
 use Rattle.rubis_schema.specs.declared.rows.Row.{Row}
 use Rattle.rubis_model.specs.Listings.{is_of}
-use Rattle.rubis_shard.specs.Chains.{chain_with}
 use Rattle.rubis_shard.specs.Listed.{listed_among}
+use Rattle.rubis_shard.specs.ListedRows.{table_with}
 use Rattle.rubis_shard.specs.Rows.{entries_of, kept_of}
 use Rattle.rubis_shard.specs.Written.{written}
 use Rattle.rubis_shard.specs.declared.row_map.Rows.{Rows}
@@ -44,7 +44,7 @@ module _ (l : Listing) (t : Table) where
           ap (λ b. filter (λ (x : RowKey × Row). holds t x.0) (cond b (e ∷ filter (λ (x : RowKey × Row). is_of l x.0 x.1) es) (filter (λ (x : RowKey × Row). is_of l x.0 x.1) es))) is
           ∙ ap (λ b. cond (b && holds t e.0) (e ∷ []) [] ++ listed_among l t es) (sym is)
 
-  listed_append : (es fs : Entries) → listed_among l t (es ++ fs) ≡ listed_among l t es ++ listed_among l t fs
+  pub listed_append : (es fs : Entries) → listed_among l t (es ++ fs) ≡ listed_among l t es ++ listed_among l t fs
   listed_append es fs =
       ap (filter (λ (x : RowKey × Row). holds t x.0)) (filter-append (λ (x : RowKey × Row). is_of l x.0 x.1) es fs)
       ∙ filter-append (λ (x : RowKey × Row). holds t x.0) (filter (λ (x : RowKey × Row). is_of l x.0 x.1) es) (filter (λ (x : RowKey × Row). is_of l x.0 x.1) fs)
@@ -123,15 +123,36 @@ kept_listed l tables.Bids r n c = only_kept l tables.Bids r (λ n v. no_more _) 
 kept_listed l tables.Purchases r n c = only_kept l tables.Purchases r (λ n v. no_more _) (λ n v. no_more _)
 kept_listed l tables.Comments r n c = only_kept l tables.Comments r (λ n v. no_more _) (λ n v. no_more _)
 
--- a listing with a chain is of rows with ids
-pub chain_listed : (l : Listing) (chain : IdKey) → chain_with l ≡ Some chain → (t : Table) (r : Rows) → listed_among l t (kept_of r) ≡ listed_among l t (entries_of r)
+pub ids_listed : (l : Listing) (t : IdTable) (r : Rows) → listed_among l (table_with t) (kept_of r) ≡ listed_among l (table_with t) (entries_of r)
+ids_listed l table.User r = kept_listed l tables.Users r (λ e. absurd cc) (λ e. absurd cc)
+ids_listed l table.Item r = kept_listed l tables.Items r (λ e. absurd cc) (λ e. absurd cc)
+ids_listed l table.Bid r = kept_listed l tables.Bids r (λ e. absurd cc) (λ e. absurd cc)
+ids_listed l table.Purchase r = kept_listed l tables.Purchases r (λ e. absurd cc) (λ e. absurd cc)
+ids_listed l table.Comment r = kept_listed l tables.Comments r (λ e. absurd cc) (λ e. absurd cc)
+
+-- ---- going over rows by their places
+pub listed_one : (l : Listing) (t : Table) (k : RowKey) (v : Row) (b : Bool) → b ≡ (is_of l k v && holds t k)
+    → listed_among l t ((k, v) ∷ []) ≡ cond b ((k, v) ∷ []) []
 unfolding picked
-chain_listed listing.Users chain w t r = only_kept listing.Users t r (λ n v. refl) (λ n v. refl)
-chain_listed (listing.Items cat) chain w t r = only_kept (listing.Items cat) t r (λ n v. refl) (λ n v. refl)
-chain_listed (listing.Bids item) chain w t r = only_kept (listing.Bids item) t r (λ n v. refl) (λ n v. refl)
-chain_listed (listing.Purchases item) chain w t r = only_kept (listing.Purchases item) t r (λ n v. refl) (λ n v. refl)
-chain_listed (listing.Comments user) chain w t r = only_kept (listing.Comments user) t r (λ n v. refl) (λ n v. refl)
-chain_listed l chain w t r = absurd cc
+listed_one l t k v b test = listed_cons l t (k, v) [] ∙ append-nil (cond (is_of l k v && holds t k) ((k, v) ∷ []) []) ∙ ap (λ c. cond c ((k, v) ∷ []) []) (sym test)
+
+drop_here : (es : Entries) (n : ℕ) (e : RowKey × Row) → slice_get es n ≡ Some e → drop n es ≡ e ∷ drop (suc n) es
+drop_here [] n e h = absurd cc
+drop_here (x ∷ es) zero e h = ap (λ y. y ∷ es) (let same : x ≡ e = cc in same)
+drop_here (x ∷ es) (suc n) e h = drop_here es n e h
+
+pub pick_step : (l : Listing) (t : Table) (done more es : Entries) (n : ℕ) (e : RowKey × Row) → slice_get es n ≡ Some e
+    → more ≡ done ++ listed_among l t (e ∷ []) → more ++ listed_among l t (drop (n + 1) es) ≡ done ++ listed_among l t (drop n es)
+pick_step l t done more es n e here pushed =
+    let next : n + 1 ≡ suc n = omega arith in
+    let rest = drop (suc n) es in
+    ap (λ m. more ++ listed_among l t (drop m es)) next
+    ∙ ap (λ xs. xs ++ listed_among l t rest) pushed
+    ∙ append_assoc done (listed_among l t (e ∷ [])) (listed_among l t rest)
+    ∙ ap (λ xs. done ++ xs) (sym (listed_append l t (e ∷ []) rest) ∙ ap (listed_among l t) (sym (drop_here es n e here)))
+
+pub pick_split : (l : Listing) (t : Table) (n : ℕ) (es : Entries) → listed_among l t es ≡ listed_among l t (take n es) ++ listed_among l t (drop n es)
+pick_split l t n es = ap (listed_among l t) (sym (take-append-drop n es)) ∙ listed_append l t (take n es) (drop n es)
 
 -- ---- going over the rows of a map
 pub walk_step : {K : Type 0} (f : K → RowKey) (l : Listing) (t : Table) (done : Entries) (q : RowKey) (k : K) (v : Row) (rest es : List (K × Row)) (b : Bool)

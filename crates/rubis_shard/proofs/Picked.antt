@@ -1,16 +1,20 @@
 -- The rows that match a listing, put in key order.
-use Rattle.std.proofs.Common.{◌≡◌, Bool, true, false, cond, T, ◌&&◌, refl, sym, ap, ◌∙◌, subst, List, [], ◌∷◌, ◌++◌, length}
-use Rattle.std.specs.Prelude.{None, Some, Option, filter, flat_map}
+use Rattle.std.proofs.Common.{◌≡◌, Bool, true, false, cond, T, ◌&&◌, refl, sym, ap, ◌∙◌, subst, List, [], ◌∷◌, ◌++◌, length, ℕ, ◌+◌, ◌<◌, take}
+use Rattle.std.specs.Prelude.{None, Some, Option, filter, flat_map, slice_index_or}
 use Rattle.std.specs.List.{AllByRecursion, IsDistinct}
 use Rattle.std.specs.List.Sorted.{IsPermutation, IsSortedByKey}
 use Rattle.std.specs.Map.{keys_of, lookup}
 use Rattle.std.specs.Ordering.{is_lt}
 use Rattle.std.specs.FinMap as map
 use Rattle.std.specs.FinMap.Entries.{below_all, is_sorted}
+use Rattle.std.proofs.lemmas.Grind.{flat_map-append}
+use Rattle.std.proofs.lemmas.List.{append-nil, take_more}
 use Rattle.std.proofs.lemmas.List.Elements.{filter-append}
+use Rattle.std.proofs.lemmas.List.Sorted.{IsPermutation-append_left, IsPermutation-append_right, IsPermutation-sym, IsPermutation-trans}
 use Rattle.std.proofs.lemmas.Map.Made.{IsDistinct-keys_filter}
 use Rattle.rubis_schema.specs.Keys.{holds, key_eq, key_order}
 use Rattle.rubis_schema.specs.KeyLaws.{Decides-key_eq}
+use Rattle.rubis_schema.specs.declared.id_keys.IdTable.{IdTable}
 use Rattle.rubis_schema.specs.Tables.{Tables}
 use Rattle.rubis_schema.specs.declared.listings.Listing.{Listing}
 use Rattle.rubis_schema.specs.declared.listings.Listing.TheVariants as listing
@@ -26,9 +30,14 @@ use Rattle.rubis_model.specs.Listings.{is_of}
 use Rattle.rubis_model.specs.Shares.{part_of}
 use Rattle.rubis_model.proofs.Commute.{same_tables}
 use Rattle.rubis_shard.specs.Holdings.{AreInOrder, union}
-use Rattle.rubis_shard.specs.Listed.{categories_of, listed_of, picked_by, shows}
-use Rattle.rubis_shard.specs.States.{ShardState}
+use Rattle.rubis_shard.specs.Listed.{categories_among, categories_of, listed_among, listed_of, picked_by, shows}
+use Rattle.rubis_shard.specs.ListedRows.{table_with}
+use Rattle.rubis_shard.specs.Rows.{entries_of as entries_in, kept_of, tables_in}
+use Rattle.rubis_shard.specs.declared.row_map.Rows.{Rows}
+use Rattle.rubis_shard.proofs.OneTable.{ids_listed}
+use Rattle.rubis_shard.specs.States.{ShardState, HoldsOwnRows}
 use Rattle.rubis_shard.proofs.Listing.{all_distinct, both, sorted_distinct}
+use Rattle.rubis_shard.proofs.Shuffled.{shuffled}
 use Rattle.rubis_shard.proofs.Unions.{entries_of, from_first}
 
 abbrev pub Entries : Type 0
@@ -130,6 +139,49 @@ pub picked_listed : (l : Listing) (t : Table) (es gs : Entries) → IsDistinct k
     → IsSortedByKey first_of key_order gs → gs ≡ listed_of l t (tables_of es)
 picked_listed l t es gs distinct moved sorted = passing_listed (λ (e : RowKey × Row). is_of l e.0 e.1) t es gs distinct moved sorted
 
+-- ---- a map has the entries that it was made of, in some order
+made_shuffled : (es : Entries) → IsDistinct key_eq (keys_of es) → IsPermutation es (map.entries (tables_of es))
+made_shuffled es distinct =
+    let rows = map.entries (tables_of es) in
+    shuffled es rows distinct (sorted_distinct rows (map.entries_sorted (tables_of es)))
+    (λ q. sym (get_tables_of es q) ∙ map.get-entries (tables_of es) q ∙ lookup_find rows q)
+
+pub passing_shuffled : (p : RowKey × Row → Bool) (t : Table) (es : Entries) → IsDistinct key_eq (keys_of es)
+    → IsPermutation (filter (λ e. holds t e.0) (filter p es)) (filter (λ e. holds t e.0) (filter p (map.entries (tables_of es))))
+passing_shuffled p t es distinct =
+    let h = λ (e : RowKey × Row). holds t e.0 in
+    let passed = IsDistinct-keys_filter key_eq p es distinct in
+    subst (IsPermutation (filter h (filter p es)))
+    (entries_passing h (filter p es) passed ∙ ap (filter h) (entries_passing p es distinct))
+    (made_shuffled (filter h (filter p es)) (IsDistinct-keys_filter key_eq h (filter p es) passed))
+
+-- those of a listing are behind others, in any order
+pub listed_behind : (l : Listing) (t : IdTable) (r : Rows) (before after : Entries) → IsDistinct key_eq (keys_of (entries_in r))
+    → IsPermutation (before ++ listed_among l (table_with t) (kept_of r)) after
+    → IsPermutation (before ++ listed_of l (table_with t) (tables_in r)) after
+listed_behind l t r before after distinct moved =
+    let found = listed_among l (table_with t) (entries_in r) in
+    IsPermutation-trans _ (before ++ found) _
+    (IsPermutation-append_right before _ found (IsPermutation-sym found _ (passing_shuffled (λ (e : RowKey × Row). is_of l e.0 e.1) (table_with t) (entries_in r) distinct)))
+    (subst (λ es. IsPermutation (before ++ es) after) (ids_listed l t r) moved)
+
+pub categories_behind : (r : Rows) (before : Entries) → IsDistinct key_eq (keys_of (entries_in r))
+    → IsPermutation (before ++ categories_of (tables_in r)) (before ++ categories_among (entries_in r))
+categories_behind r before distinct =
+    let found = categories_among (entries_in r) in
+    IsPermutation-append_right before _ found (IsPermutation-sym found _ (passing_shuffled (λ (e : RowKey × Row). shows e.1) table.Cats (entries_in r) distinct))
+
+-- the entries of a map make it
+remade : (m : Tables) → tables_of (map.entries m) ≡ m
+remade m = same_tables _ _ (λ q. get_tables_of (map.entries m) q ∙ sym (lookup_find (map.entries m) q) ∙ sym (map.get-entries m q))
+
+-- the rows of a listing, put in order once more
+pub listed_again : (l : Listing) (t : Table) (m : Tables) (gs : Entries) → IsPermutation (listed_of l t m) gs
+    → IsSortedByKey first_of key_order gs → gs ≡ listed_of l t m
+listed_again l t m gs moved sorted =
+    picked_listed l t (map.entries m) gs (sorted_distinct (map.entries m) (map.entries_sorted m)) moved sorted
+    ∙ ap (listed_of l t) (remade m)
+
 -- the listing of all rows shows each of them
 picked_all : (es : Entries) → picked_by listing.Tables es ≡ es
 picked_all [] = refl
@@ -173,3 +225,26 @@ pub union_categories : (ts : List ShardState) (gs : Entries) → AreInOrder ts
     → IsPermutation (categories_by_shard ts) gs
     → IsSortedByKey first_of key_order gs → gs ≡ categories_of (union ts)
 union_categories ts gs order moved sorted = union_passing (λ (e : RowKey × Row). shows e.1) table.Cats ts gs order moved sorted
+
+-- ---- one shard more
+pub listed_one_more : (l : Listing) (t : Table) (ts : List ShardState) (i : ℕ) (s : ShardState) → i < length ts → s ≡ slice_index_or ts i s
+    → HoldsOwnRows s → listed_by_shard l t (take (i + 1) ts) ≡ listed_by_shard l t (take i ts) ++ listed_of l t s.folded.tables
+listed_one_more l t ts i s within is own =
+    let f = λ (x : ShardState). listed_of l t (part_of x.shards x.number x.folded.tables) in
+    ap (flat_map f) (take_more ts i s within ∙ ap (λ (x : ShardState). take i ts ++ x ∷ []) (sym is))
+    ∙ flat_map-append f (take i ts) (s ∷ [])
+    ∙ ap (λ es. flat_map f (take i ts) ++ es) (append-nil (f s) ∙ ap (listed_of l t) own)
+
+pub categories_one_more : (ts : List ShardState) (i : ℕ) (s : ShardState) → i < length ts → s ≡ slice_index_or ts i s
+    → HoldsOwnRows s → categories_by_shard (take (i + 1) ts) ≡ categories_by_shard (take i ts) ++ categories_of s.folded.tables
+categories_one_more ts i s within is own =
+    let f = λ (x : ShardState). categories_of (part_of x.shards x.number x.folded.tables) in
+    ap (flat_map f) (take_more ts i s within ∙ ap (λ (x : ShardState). take i ts ++ x ∷ []) (sym is))
+    ∙ flat_map-append f (take i ts) (s ∷ [])
+    ∙ ap (λ es. flat_map f (take i ts) ++ es) (append-nil (f s) ∙ ap categories_of own)
+
+-- what the shards so far have, and one more adds
+pub shuffled_more : (before found after more new : Entries) → IsPermutation before found → more ≡ before ++ after
+    → IsPermutation (found ++ after) new → IsPermutation more new
+shuffled_more before found after more new moved is added =
+    subst (λ es. IsPermutation es new) (sym is) (IsPermutation-trans _ (found ++ after) _ (IsPermutation-append_left after before found moved) added)

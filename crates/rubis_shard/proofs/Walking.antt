@@ -1,6 +1,6 @@
 -- The rows that match a listing are found along their chain, the last one first.
 use Rattle.std.proofs.Common.{◌≡◌, ℕ, zero, suc, ◌+◌, ◌-◌, ◌<◌, ◌≤◌, Bool, true, false, cond, ◌&&◌, List, [], ◌∷◌, ◌++◌, length, take, get_or, refl, sym, ap, subst, ◌∙◌, arith, reverse, append_assoc}
-use Rattle.std.specs.Prelude.{IfOk, Result, Ok, Err, None, Some, filter, slice_get}
+use Rattle.std.specs.Prelude.{OnOk, Result, Ok, Err, None, Some, filter, slice_get}
 use Rattle.std.proofs.lemmas.Bool.{false≢true}
 use Rattle.std.proofs.lemmas.Bool.Decides.{Decides-eqb}
 use Rattle.std.proofs.lemmas.List.{append-nil, take_all, take-map, get_or-map, length-map, length-take-le, reverse-append}
@@ -79,18 +79,6 @@ one_picked false c e h is = refl
 one_turned : (b : Bool) (e : Entry) → reverse (cond b (e ∷ []) []) ≡ cond b (e ∷ []) []
 one_turned true e = refl
 one_turned false e = refl
-
--- one row more of all
-pub listed_more : (l : Listing) (t : Table) (es : List Entry) (n : ℕ) (e : Entry) (b : Bool) → n < length es → e ≡ get_or es n e
-    → b ≡ (is_of l e.0 e.1 && holds t e.0)
-    → listed_among l t (take (n + 1) es) ≡ listed_among l t (take n es) ++ cond b (e ∷ []) []
-listed_more l t es n e b within read test =
-    let p = λ (x : Entry). is_of l x.0 x.1 in
-    let h = λ (x : Entry). holds t x.0 in
-    ap (filter h) (filter_more p es n e within ∙ ap (λ x. filter p (take n es) ++ cond (p x) (x ∷ []) []) (sym read))
-    ∙ filter-append h (filter p (take n es)) (cond (p e) (e ∷ []) [])
-    ∙ ap (λ xs. listed_among l t (take n es) ++ xs) (one_picked (p e) (h e) e h refl)
-    ∙ ap (λ c. listed_among l t (take n es) ++ cond c (e ∷ []) []) (sym test)
 
 module _ (l : Listing) (t : Table) (chain : IdKey) (with_chain : chain_with l ≡ Some chain) (es : List Entry) where
   is_picked : Entry → Bool
@@ -186,7 +174,7 @@ module _ (l : Listing) (t : Table) (chain : IdKey) (with_chain : chain_with l �
   unfolding here
   own_last n last is some = in_chain _ chain (ap (λ k. here (k - 1)) is ∙ last_own n (omega (arith, is)))
 
--- a fact of what was made, from another one
-pub if_made : {A E : Type 0} (P Q : A → Type 0) → ((x : A) → P x → Q x) → (r : Result A E) → IfOk r P → IfOk r Q
-if_made P Q f (Ok x) h = f x h
-if_made P Q f (Err e) h = h
+-- a fact of a call that succeeds, from another one
+pub if_done : {A E : Type 0} (P Q : Type 0) → (P → Q) → (r : Result A E) → OnOk r P → OnOk r Q
+if_done P Q f (Ok x) h = f h
+if_done P Q f (Err e) h = h

@@ -9,6 +9,7 @@ pub mod Holdings
 pub mod Laws
 pub mod Messages
 pub mod Listed
+pub mod ListedRows
 pub mod Counted
 pub mod Entries
 pub mod Groups

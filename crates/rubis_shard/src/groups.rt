@@ -2,8 +2,9 @@
 
 ghost use Rattle.std.specs.Prelude.{◌≡◌};
 ghost use Rattle.rubis_shard.specs.Groups.{listing_of, table_of};
+ghost use Rattle.rubis_shard.specs.ListedRows.{table_with};
 
-use rubis_schema::{Id, Listing, Table};
+use rubis_schema::{Id, IdTable, Listing};
 
 /// Rows that belong together.
 #[derive(Clone, Copy)]
@@ -32,14 +33,14 @@ impl Group {
     }
 
     /// The table of its rows.
-    pub fn table(&self) -> Table
-        ensures { result ≡ table_of self.now }
+    pub fn table(&self) -> IdTable
+        ensures { table_with result ≡ table_of self.now }
     {
         match self {
-            Group::Items(_) => Table::Items,
-            Group::Bids(_) => Table::Bids,
-            Group::Purchases(_) => Table::Purchases,
-            Group::Comments(_) => Table::Comments,
+            Group::Items(_) => IdTable::Item,
+            Group::Bids(_) => IdTable::Bid,
+            Group::Purchases(_) => IdTable::Purchase,
+            Group::Comments(_) => IdTable::Comment,
         }
     }
 }

@@ -1,16 +1,35 @@
-//! The rows of several shards in one order.
+//! Rows put into key order.
 
 ghost use Rattle.std.specs.Prelude.{◌≡◌, OnOk, length, map as each};
 ghost use Rattle.std.specs.List.Sorted.{IsPermutation, IsSortedByKey};
 ghost use Rattle.rubis_schema.specs.Keys.{key_order};
 ghost use Rattle.rubis_shard.specs.Written.{shown};
 
+use crate::listed_rows::ListedRow;
 use rubis_schema::{Row, RowKey, key_cmp};
 use std::alloc::{AllocError, Global};
 use std::cmp::Ordering;
 
-/// Puts rows into key order. Rows that come as a few runs in order, such as those of shards, are merged.
-pub fn put_in_order<'a>(alloc: Global, rows: &mut [(RowKey, &'a Row)]) -> Result<(), AllocError>
+/// Puts the rows of a listing into key order. Rows that come as a few runs in order, such as those of shards, are merged.
+pub fn put_in_order(alloc: Global, rows: &mut [ListedRow<'_>]) -> Result<(), AllocError>
+    ensures permutation { IsPermutation rows.old rows.new }
+    ensures sorted { OnOk result (IsSortedByKey (λ e. e.0) key_order rows.new) }
+    ensures len { length rows.new ≡ length rows.old }
+{
+    rows.sort_by(
+        alloc,
+        |a: &ListedRow<'_>, b: &ListedRow<'_>| -> Ordering
+            ensures { result ≡ key_order a.now.0 b.now.0 }
+        { a.order(b) },
+    )?;
+    Ok(())
+}
+
+/// The same for rows with keys of any table.
+pub fn put_rows_in_order<'a>(
+    alloc: Global,
+    rows: &mut [(RowKey, &'a Row)],
+) -> Result<(), AllocError>
     ensures permutation { IsPermutation (each shown rows.old) (each shown rows.new) }
     ensures sorted { OnOk result (IsSortedByKey (λ e. e.0) key_order (each shown rows.new)) }
     ensures len { length rows.new ≡ length rows.old }

@@ -21,7 +21,7 @@ use crate::map_keys::{MapPlace, place_of};
 use crate::row_map::Rows;
 use indexmap::IndexMap;
 use indexmap::map::Entry;
-use rubis_schema::{Hashes, IdKey, KeyHashes, Row, RowKey, Table};
+use rubis_schema::{Hashes, IdKey, KeyHashes, Row, RowKey};
 use rubis_shadow::{Change, Effect, Fate, MisfitKind};
 use std::alloc::{AllocError, Global};
 use std::hash::{BuildHasher, Hash};
@@ -149,15 +149,6 @@ impl Rows {
         ensures { IsDistinct key_eq (keys_of (entries_of self.now)) }
     {
         (self.kept.len(), self.nicks.len(), self.cats.len())
-    }
-
-    /// How many rows there are in the map that has the rows of a table.
-    pub fn len_of(&self, table: Table) -> usize {
-        match table {
-            Table::Nicks => self.nicks.len(),
-            Table::Cats => self.cats.len(),
-            _ => self.kept.len(),
-        }
     }
 
     /// The row at the key, if there is one.

@@ -1,7 +1,8 @@
 //! A shard: the rows of the keys that are at home on it.
 
-ghost use Rattle.std.specs.Prelude.{◌≡◌, ◌+◌, ◌<◌, ◌≤◌, ◌∷◌, [], length, slice_get, slice_range, map as each, IfOk, IfSome, OnOk, OnErr, option_copied};
+ghost use Rattle.std.specs.Prelude.{◌≡◌, ◌+◌, ◌++◌, ◌<◌, ◌≤◌, ◌∷◌, [], length, slice_get, slice_range, map as each, IfOk, IfSome, OnOk, OnErr, option_copied};
 ghost use Rattle.std.specs.List.{All};
+ghost use Rattle.std.specs.List.Sorted.{IsPermutation};
 ghost use Rattle.std.specs.FinMap as map;
 ghost use Rattle.std.specs.Map.{keys_of};
 ghost use Rattle.rubis_schema.specs.Keys.{key_order};
@@ -10,6 +11,7 @@ ghost use Rattle.rubis_model.specs.Shares.{part_of};
 ghost use Rattle.rubis_model.specs.Log.{fold_on, parts_of, step};
 ghost use Rattle.rubis_shard.specs.Counted.{recorded_of};
 ghost use Rattle.rubis_shard.specs.Listed.{categories_of, listed_of};
+ghost use Rattle.rubis_shard.specs.ListedRows.{table_with};
 ghost use Rattle.rubis_shard.specs.States.{opening_shard, with_parts, IsHomeOf, HoldsOwnRows};
 ghost use Rattle.rubis_shard.specs.Entries.{core_of, numbered_of};
 ghost use Rattle.rubis_shard.specs.Messages.{emptied};
@@ -22,13 +24,18 @@ ghost use Rattle.rubis_shard.specs.Written.{shown};
 
 use crate::counts::{count_recorded, most_recorded};
 use crate::entries::LogEntry;
+use crate::listed_rows::ListedRow;
 use crate::message_parts::MessageParts;
+use crate::orders::put_in_order;
 use crate::part_homes::PartHomes;
-use crate::picks::{categories_in_order, picked_in_order};
+use crate::picks::{pick_categories, pick_rows, with_room};
 use crate::row_map::Rows;
 use crate::shard_store::Store;
 use crate::shares::Share;
-use rubis_schema::{Boxed, CATEGORIES, CatRow, Hashes, Listing, Row, RowKey, Table, shard_of};
+use crate::table_rows::rows_in_order;
+use rubis_schema::{
+    Boxed, CATEGORIES, CatRow, Hashes, IdTable, Listing, Row, RowKey, Table, shard_of,
+};
 use rubis_shadow::Misfit;
 use std::alloc::{AllocError, Global};
 use std::marker::Model;
@@ -160,8 +167,24 @@ impl Shard {
         ensures own { HoldsOwnRows self.now }
     {
         match &self.store {
-            Some(store) => picked_in_order(alloc, &store.rows, table, &Listing::Tables),
+            Some(store) => rows_in_order(alloc, &store.rows, table),
             None => Ok(Vec::new(alloc)),
+        }
+    }
+
+    // Adds the rows of one table that match a listing, in any order.
+    pub(crate) fn pick<'a>(
+        &'a self,
+        picked: &mut Vec<ListedRow<'a>>,
+        table: IdTable,
+        listing: &Listing,
+    ) -> Result<(), AllocError>
+        ensures rows { OnOk result (IsPermutation (picked.old.items ++ listed_of listing.now (table_with table) self.now.folded.tables) picked.new.items) }
+        ensures own { HoldsOwnRows self.now }
+    {
+        match &self.store {
+            Some(store) => pick_rows(picked, &store.rows, table, listing),
+            None => Ok(()),
         }
     }
 
@@ -169,33 +192,38 @@ impl Shard {
     pub fn listed(
         &self,
         alloc: Global,
-        table: Table,
+        table: IdTable,
         listing: &Listing,
-    ) -> Result<Vec<(RowKey, &Row)>, AllocError>
-        ensures rows { IfOk result (λ rows. each shown rows.items ≡ listed_of listing.now table self.now.folded.tables) }
+    ) -> Result<Vec<ListedRow<'_>>, AllocError>
+        ensures rows { IfOk result (λ rows. rows.items ≡ listed_of listing.now (table_with table) self.now.folded.tables) }
+        ensures own { HoldsOwnRows self.now }
+    {
+        let mut picked = with_room(alloc, listing, self.len_with_ids())?;
+        self.pick(&mut picked, table, listing)?;
+        put_in_order(alloc, &mut picked)?;
+        Ok(picked)
+    }
+
+    // Adds the categories that listings show, in any order.
+    pub(crate) fn pick_categories<'a>(
+        &'a self,
+        picked: &mut Vec<ListedRow<'a>>,
+    ) -> Result<(), AllocError>
+        ensures rows { OnOk result (IsPermutation (picked.old.items ++ categories_of self.now.folded.tables) picked.new.items) }
         ensures own { HoldsOwnRows self.now }
     {
         match &self.store {
-            Some(store) => picked_in_order(alloc, &store.rows, table, listing),
-            None => Ok(Vec::new(alloc)),
+            Some(store) => pick_categories(picked, &store.rows),
+            None => Ok(()),
         }
     }
 
-    // The categories that listings show, with their keys, in key order.
-    pub(crate) fn categories(&self, alloc: Global) -> Result<Vec<(RowKey, &Row)>, AllocError>
-        ensures rows { IfOk result (λ rows. each shown rows.items ≡ categories_of self.now.folded.tables) }
-        ensures own { HoldsOwnRows self.now }
+    // How many rows have ids.
+    pub(crate) fn len_with_ids(&self) -> usize
+        ensures { HoldsOwnRows self.now }
     {
         match &self.store {
-            Some(store) => categories_in_order(alloc, &store.rows),
-            None => Ok(Vec::new(alloc)),
-        }
-    }
-
-    // How many rows there are in the map that has the rows of a table.
-    pub(crate) fn len_of(&self, table: Table) -> usize {
-        match &self.store {
-            Some(store) => store.rows.len_of(table),
+            Some(store) => store.rows.kept.len(),
             None => 0,
         }
     }

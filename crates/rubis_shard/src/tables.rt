@@ -10,20 +10,22 @@ ghost use Rattle.rubis_shard.specs.Entries.{core_of, numbered_of};
 ghost use Rattle.rubis_shard.specs.Groups.{group_of};
 ghost use Rattle.rubis_shard.specs.Counted.{number_of, recorded_from};
 ghost use Rattle.rubis_shard.specs.Listed.{categories_of, listed_of};
+ghost use Rattle.rubis_shard.specs.ListedRows.{table_with};
 ghost use Rattle.rubis_shard.specs.Written.{shown};
 
 use crate::chains::chain_with;
 use crate::counts::number_of;
 use crate::entries::LogEntry;
 use crate::groups::Group;
+use crate::listed_rows::ListedRow;
 use crate::message_parts::MessageParts;
 use crate::messages::fold_from;
-use crate::orders::put_in_order;
+use crate::orders::{put_in_order, put_rows_in_order};
 use crate::part_homes::PartHomes;
-use crate::picks::{room_of, with_room};
+use crate::picks::with_room;
 use crate::shards::{Applied, Shard};
 use crate::shares::Share;
-use rubis_schema::{Hashes, Items, Listing, Row, RowKey, Table, View, shard_of};
+use rubis_schema::{Hashes, IdTable, Items, Listing, Row, RowKey, Table, View, shard_of};
 use std::alloc::{AllocError, Global};
 use std::marker::Model;
 use std::mem;
@@ -177,15 +179,15 @@ impl Tables {
             let mut rows = shard.rows(alloc, table)?;
             all.append(&mut rows)?;
         }
-        put_in_order(alloc, &mut all)?;
+        put_rows_in_order(alloc, &mut all)?;
         Ok(all)
     }
 
-    // How many rows there are in the maps that have the rows of a table.
-    fn len_of(&self, table: Table) -> usize {
+    // How many rows have ids.
+    fn len_with_ids(&self) -> usize {
         let mut rows: usize = 0;
         for shard in &self.shards {
-            rows = rows.saturating_add(shard.len_of(table));
+            rows = rows.saturating_add(shard.len_with_ids());
         }
         rows
     }
@@ -194,28 +196,26 @@ impl Tables {
     pub fn listed(
         &self,
         alloc: Global,
-        table: Table,
+        table: IdTable,
         listing: &Listing,
-    ) -> Result<Vec<(RowKey, &Row)>, AllocError>
-        ensures { IfOk result (λ rows. each shown rows.items ≡ listed_of listing.now table (union self.now)) }
+    ) -> Result<Vec<ListedRow<'_>>, AllocError>
+        ensures { IfOk result (λ rows. rows.items ≡ listed_of listing.now (table_with table) (union self.now)) }
     {
-        let mut picked = with_room(alloc, room_of(listing, self.len_of(table)))?;
+        let mut picked = with_room(alloc, listing, self.len_with_ids())?;
         for shard in &self.shards {
-            let mut rows = shard.listed(alloc, table, listing)?;
-            picked.append(&mut rows)?;
+            shard.pick(&mut picked, table, listing)?;
         }
         put_in_order(alloc, &mut picked)?;
         Ok(picked)
     }
 
     /// The categories of all shards that listings show, with their keys, in key order: those that have items, or live ones.
-    pub fn categories(&self, alloc: Global) -> Result<Vec<(RowKey, &Row)>, AllocError>
-        ensures { IfOk result (λ rows. each shown rows.items ≡ categories_of (union self.now)) }
+    pub fn categories(&self, alloc: Global) -> Result<Vec<ListedRow<'_>>, AllocError>
+        ensures { IfOk result (λ rows. rows.items ≡ categories_of (union self.now)) }
     {
         let mut picked = Vec::new(alloc);
         for shard in &self.shards {
-            let mut rows = shard.categories(alloc)?;
-            picked.append(&mut rows)?;
+            shard.pick_categories(&mut picked)?;
         }
         put_in_order(alloc, &mut picked)?;
         Ok(picked)
@@ -255,7 +255,7 @@ impl Tables {
         let rows = self.listed(alloc, group.table(), &group.listing())?;
         let mut keys = Vec::new(alloc);
         for row in &rows {
-            keys.push(row.0)?;
+            keys.push(row.key())?;
         }
         Ok(Items::from(keys))
     }

@@ -1,4 +1,4 @@
-use Rattle.std.proofs.Common.{rules, ◌≡◌, ◌++◌, ◌<◌, ◌≤◌, List, length, ap, ◌∙◌, map as each, Bor}
+use Rattle.std.proofs.Common.{rules, ◌≡◌, ◌++◌, ◌<◌, ◌≤◌, List, length, ap, ◌∙◌}
 use Rattle.std.specs.Prelude.{slice_index_or}
 use Rattle.rubis_schema.specs.declared.row_keys.RowKey.{RowKey}
 use Rattle.rubis_schema.specs.declared.row_keys.Table.TheVariants as table
@@ -6,7 +6,6 @@ use Rattle.rubis_schema.specs.declared.rows.Row.{Row}
 use Rattle.rubis_shadow.specs.Tables.{rows_of}
 use Rattle.rubis_model.specs.Listings.{records_of}
 use Rattle.rubis_shard.specs.Holdings.{union}
-use Rattle.rubis_shard.specs.Written.{shown}
 use Rattle.rubis_listing.specs.ByTable.{tables_of}
 use Rattle.rubis_listing.proofs.ByTable.{all_by_table, rows_by_table}
 use Rattle.rubis_listing.proofs.Making.{collected_all, collected_more}
@@ -15,7 +14,7 @@ use Rattle.rubis_listing.proofs.listings.rows_of_all.Goals as goal
 pub loop-table-init : goal.loop-table-init
 loop-table-init c =
     let l = c.args.listing.now in
-    ap (λ (rows : List (RowKey × Bor Row)). records_of l (each shown rows) ++ rows_by_table l (union c.args.tables.now) (tables_of l)) c.new-all.ensures.items
+    ap (λ (rows : List (RowKey × Row)). records_of l rows ++ rows_by_table l (union c.args.tables.now) (tables_of l)) c.new-all.ensures.items
 
 pub loop-table-preserved : goal.loop-table-preserved
 loop-table-preserved c =
@@ -24,7 +23,7 @@ loop-table-preserved c =
     let ts = tables_of l in
     let at = c.loop-table.table-index in
     let inside : at < length ts = search rules in
-    let same : records_of l (each shown c.in_ok-rows.rows.items) ≡ records_of l (rows_of (slice_index_or ts at table.Users) m) = search rules in
+    let same : records_of l c.in_ok-rows.rows.items ≡ records_of l (rows_of (slice_index_or ts at table.Users) m) = search rules in
     collected_more l m ts at table.Users c.loop-table.all.items c.in_ok-rows.rows.items _ inside c.in_ok-all.ensures same c.loop-table.invariant
 
 pub returns : goal.returns

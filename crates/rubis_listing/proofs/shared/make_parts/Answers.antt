@@ -34,7 +34,9 @@ returns g c =
     let whole : many - 0 ≡ many = omega arith in
     let of_part : ℕ → g.row.S.Denot → Type 0 = λ k part. holds (rows_of_part s from upto k) part in
     if_made c.in_ok-parts.parts _ _ _ h.2 (λ v made.
-    let chain = rw (c.map.ensures.base, c.map.ensures.f, c.with_min_len.ensures.base) at h.1 in
+    let mapped = rw c.map.ensures.base at h.1 in
+    let made_by = rw c.map.ensures.f at mapped in
+    let chain = rw c.with_min_len.ensures.base at made_by in
     let numbers = chain.1 ∙ (λ i. nat_range (ends.0 i) (ends.1 i)) ∙ ap (range_with_len 0) whole in
     let results = subst (λ rs. AllZip (λ k r. IfOk r (of_part k)) chain.0 rs) made.1 chain.2 in
     let each_part = subst (λ ks. AllZip of_part ks made.0) numbers (each_made of_part chain.0 made.0 results) in

@@ -1,17 +1,14 @@
 use Rattle.std.proofs.Common.{rules}
 use Rattle.std.specs.Ordering.{is_lt}
-use Rattle.std.proofs.lemmas.List.Sorted.{IsPermutation-map, answers_always, ranks_by}
+use Rattle.std.proofs.lemmas.List.Sorted.{answers_always, ranks_by}
 use Rattle.rubis_schema.specs.Keys.{key_order}
 use Rattle.rubis_schema.specs.KeyLaws.{key_total}
-use Rattle.rubis_shard.specs.Written.{shown}
-use Rattle.rubis_shard.proofs.Shown.{Lent, shown_in_order}
+use Rattle.rubis_schema.specs.declared.row_keys.RowKey.{RowKey}
+use Rattle.rubis_schema.specs.declared.rows.Row.{Row}
 use Rattle.rubis_shard.proofs.orders.put_in_order.Goals as goal
 
-pub returns-clause-permutation : goal.returns-clause-permutation
-returns-clause-permutation c = IsPermutation-map shown _ _ c.sort_by.ensures.permutation
-
 pub returns-clause-sorted : goal.returns-clause-sorted
-returns-clause-sorted c = shown_in_order _ (c.in_ok-sort_by.ensures.sorted
-    (λ (x y : Lent). is_lt (key_order x.0 y.0))
-    (ranks_by key_total (λ (x : Lent). x.0))
-    (answers_always _ _ _ (λ f a r g called. search rules)))
+returns-clause-sorted c = c.in_ok-sort_by.ensures.sorted
+    (λ (x y : RowKey × Row). is_lt (key_order x.0 y.0))
+    (ranks_by key_total (λ (x : RowKey × Row). x.0))
+    (answers_always _ _ _ (λ f a r g called. search rules))

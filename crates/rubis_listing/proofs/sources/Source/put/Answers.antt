@@ -1,10 +1,9 @@
-use Rattle.std.proofs.Common.{List, map as each, subst, sym, Bor}
+use Rattle.std.proofs.Common.{List, subst, sym}
 use Rattle.std.specs.Prelude.{OnOk, slice_range}
 use Rattle.rubis_schema.specs.declared.row_keys.RowKey.{RowKey}
 use Rattle.rubis_schema.specs.declared.rows.Row.{Row}
 use Rattle.rubis_shadow.specs.declared.numbered.Misfit.{Misfit}
 use Rattle.rubis_model.specs.Listings.{misfit_rows, records_of}
-use Rattle.rubis_shard.specs.Written.{shown}
 use Rattle.rubis_listing.specs.Parts.{between}
 use Rattle.rubis_listing.specs.declared.sources.Source.{Source}
 use Rattle.rubis_listing.proofs.sources.Source.put.Goals as goal
@@ -13,8 +12,8 @@ pub returns-in-Rows : goal.returns-in-Rows
 returns-in-Rows g c =
     subst (λ (s : Source). OnOk c.put_rows_between.result (g.S.RowSink.adds (between s c.args.from c.args.upto) c.args.sink.now c.put_rows_between.new.sink))
     (sym c.in-Rows.is)
-    (subst (λ (rows : List (RowKey × Bor Row)). OnOk c.put_rows_between.result
-    (g.S.RowSink.adds (records_of c.in-Rows.listing.now (each shown (slice_range rows c.args.from c.args.upto))) c.args.sink.now c.put_rows_between.new.sink))
+    (subst (λ (rows : List (RowKey × Row)). OnOk c.put_rows_between.result
+    (g.S.RowSink.adds (records_of c.in-Rows.listing.now (slice_range rows c.args.from c.args.upto)) c.args.sink.now c.put_rows_between.new.sink))
     c.deref.ensures.value c.put_rows_between.ensures)
 
 pub returns-in-Log : goal.returns-in-Log

@@ -1,15 +1,23 @@
-use Rattle.std.proofs.Common.{sym, ap, ◌∙◌, map as each}
-use Rattle.std.specs.Prelude.{Option}
-use Rattle.rubis_shard.specs.Written.{shown}
+use Rattle.std.proofs.Common.{◌++◌, List, sym, subst, ◌∙◌}
+use Rattle.std.specs.List.Sorted.{IsPermutation}
+use Rattle.std.proofs.lemmas.List.{take_at}
+use Rattle.std.proofs.lemmas.List.Sorted.{IsPermutation-trans}
+use Rattle.rubis_schema.specs.declared.row_keys.RowKey.{RowKey}
+use Rattle.rubis_schema.specs.declared.rows.Row.{Row}
 use Rattle.rubis_shard.specs.Listed.{listed_of}
-use Rattle.rubis_shard.specs.States.{ShardState}
-use Rattle.rubis_shard.specs.Stores.{held_in}
-use Rattle.rubis_shard.specs.declared.shard_store.Store.{Store}
-use Rattle.rubis_shard.proofs.Openings.{none_listed}
+use Rattle.rubis_shard.specs.ListedRows.{table_with}
+use Rattle.rubis_shard.proofs.Picked.{listed_again}
 use Rattle.rubis_shard.proofs.shards.Shard.listed.Goals as goal
 
-pub returns-in-None-clause-rows : goal.returns-in-None-clause-rows
-returns-in-None-clause-rows c =
-    ap (each shown) c.new.ensures.items ∙ sym (none_listed c.args.listing.now c.args.table)
-    ∙ ap (λ (o : Option Store). listed_of c.args.listing.now c.args.table (held_in o).tables) (sym c.in-None.is)
-    ∙ ap (λ (s : ShardState). listed_of c.args.listing.now c.args.table s.folded.tables) c.self.view_is
+pub returns-clause-rows : goal.returns-clause-rows
+returns-clause-rows c =
+    let l = c.args.listing.now in
+    let t = table_with c.args.table in
+    let m = c.args.self.now.folded.tables in
+    let gs : List (RowKey × Row) = c.put_in_order.new.rows in
+    let found : IsPermutation (listed_of l t m) c.deref_mut.result.now =
+    subst (IsPermutation (listed_of l t m)) (sym c.deref_mut.ensures.value)
+    (subst (λ (xs : List (RowKey × Row)). IsPermutation (xs ++ listed_of l t m) c.pick.new.picked.items) c.in_ok-picked.ensures c.in_ok-pick.ensures.rows) in
+    let moved = IsPermutation-trans _ c.deref_mut.result.now gs found c.put_in_order.ensures.permutation in
+    let whole = take_at c.put_in_order.new.rows _ c.pick.new.picked.len (c.put_in_order.ensures.len ∙ c.deref_mut.ensures.len) in
+    whole ∙ listed_again l t m gs moved c.in_ok-put_in_order.ensures.sorted

@@ -1,11 +1,10 @@
-use Rattle.std.proofs.Common.{◌≡◌, sym, ap, ◌∙◌, subst, map as each}
-use Rattle.std.specs.Prelude.{Option, IfOk}
+use Rattle.std.proofs.Common.{sym, ap, ◌∙◌, map as each}
+use Rattle.std.specs.Prelude.{Option}
 use Rattle.rubis_shard.specs.Written.{shown}
 use Rattle.rubis_shadow.specs.Tables.{rows_of}
 use Rattle.rubis_shard.specs.States.{ShardState}
-use Rattle.rubis_shard.specs.Stores.{held_by, held_in}
+use Rattle.rubis_shard.specs.Stores.{held_in}
 use Rattle.rubis_shard.specs.declared.shard_store.Store.{Store}
-use Rattle.rubis_shard.proofs.Picked.{all_listed, Entries}
 use Rattle.rubis_shard.proofs.Openings.{no_rows}
 use Rattle.rubis_shard.proofs.shards.Shard.rows.Goals as goal
 
@@ -14,12 +13,3 @@ returns-in-None-clause-rows c =
     ap (each shown) c.new.ensures.items ∙ sym (no_rows c.args.table)
     ∙ ap (λ (o : Option Store). rows_of c.args.table (held_in o).tables) (sym c.in-None.is)
     ∙ ap (λ (s : ShardState). rows_of c.args.table s.folded.tables) c.self.view_is
-
-pub returns-in-Some-clause-rows : goal.returns-in-Some-clause-rows
-returns-in-Some-clause-rows c =
-    subst (λ (xs : Entries). IfOk c.picked_in_order.result (λ rows. each shown rows.items ≡ xs))
-    (all_listed c.args.table (held_by c.deref.result.now).tables
-    ∙ ap (λ (s : Store). rows_of c.args.table (held_by s).tables) c.deref.ensures
-    ∙ ap (λ (o : Option Store). rows_of c.args.table (held_in o).tables) (sym c.in-Some.is)
-    ∙ ap (λ (s : ShardState). rows_of c.args.table s.folded.tables) c.self.view_is)
-    c.picked_in_order.ensures

@@ -1,23 +1,38 @@
-use Rattle.std.proofs.Common.{◌≡◌, List, ap, subst, ◌∙◌, map as each, arith}
+use Rattle.std.proofs.Common.{rules, ◌≡◌, ◌<◌, [], List, length, sym, ap, subst, ◌∙◌, arith}
+use Rattle.std.specs.Prelude.{slice_index_or}
 use Rattle.std.specs.List.Sorted.{IsPermutation}
 use Rattle.std.proofs.lemmas.List.{take_all, take_at}
+use Rattle.std.proofs.lemmas.List.Sorted.{IsPermutation-refl, IsPermutation-trans}
+use Rattle.rubis_schema.specs.declared.row_keys.RowKey.{RowKey}
+use Rattle.rubis_schema.specs.declared.rows.Row.{Row}
+use Rattle.rubis_shard.specs.States.{ShardState}
 use Rattle.rubis_shard.specs.Holdings.{union}
 use Rattle.rubis_shard.specs.Listed.{categories_of}
-use Rattle.rubis_shard.specs.States.{ShardState}
-use Rattle.rubis_shard.specs.Written.{shown}
-use Rattle.rubis_shard.proofs.Picked.{categories_by_shard, union_categories}
+use Rattle.rubis_shard.proofs.Picked.{categories_by_shard, categories_one_more, shuffled_more, union_categories}
 use Rattle.rubis_shard.proofs.tables.Tables.categories.Goals as goal
+
+pub loop-shard-init : goal.loop-shard-init
+loop-shard-init c = subst (λ (xs : List (RowKey × Row)). IsPermutation [] xs) (sym c.new-picked.ensures.items) (IsPermutation-refl [])
+
+pub loop-shard-preserved : goal.loop-shard-preserved
+loop-shard-preserved c =
+    let ts : List ShardState = c.deref-shard-items.result.now in
+    let i = c.loop-shard.shard-index in
+    let s : ShardState = c.shard-item.result in
+    let within : i < length ts = search rules in
+    let is : s ≡ slice_index_or ts i s = search rules in
+    shuffled_more _ c.loop-shard.picked.items (categories_of s.folded.tables) _ _ c.loop-shard.invariant
+    (categories_one_more ts i s within is c.in_ok-pick_categories.ensures.own) c.in_ok-pick_categories.ensures.rows
 
 pub returns : goal.returns
 returns c =
     let ts : List ShardState = c.self.inside.shards.items in
-    let gs = each shown c.put_in_order.new.rows in
-    let picked : each shown c.deref_mut.result.now ≡ categories_by_shard ts =
-    ap (each shown) c.deref_mut.ensures.value ∙ c.loop-shard.invariant
-    ∙ ap categories_by_shard (take_all _ _ (omega arith) ∙ c.deref-shard-items.ensures.value) in
-    let moved : IsPermutation (categories_by_shard ts) gs = subst (λ fs. IsPermutation fs gs) picked
-    c.put_in_order.ensures.permutation in
+    let gs : List (RowKey × Row) = c.put_in_order.new.rows in
+    let found : IsPermutation (categories_by_shard ts) c.deref_mut.result.now =
+    subst (λ xs. IsPermutation xs c.deref_mut.result.now) (ap (categories_by_shard) (take_all _ _ (omega arith) ∙ c.deref-shard-items.ensures.value))
+    (subst (IsPermutation _) (sym c.deref_mut.ensures.value) c.loop-shard.invariant) in
+    let moved = IsPermutation-trans _ c.deref_mut.result.now gs found c.put_in_order.ensures.permutation in
     let whole = take_at c.put_in_order.new.rows _ c.loop-shard.picked.len (c.put_in_order.ensures.len ∙ c.deref_mut.ensures.len) in
-    ap (each shown) whole
+    whole
     ∙ union_categories ts gs c.self.invariant moved c.in_ok-put_in_order.ensures.sorted
     ∙ ap (λ (us : List ShardState). categories_of (union us)) c.self.view_is

@@ -1,7 +1,8 @@
-use Rattle.std.proofs.Common.{◌≡◌, take, map as each}
-use Rattle.rubis_shard.specs.Written.{shown}
+use Rattle.std.proofs.Common.{take}
+use Rattle.std.specs.List.Sorted.{IsPermutation}
+use Rattle.rubis_shard.specs.ListedRows.{table_with}
 use Rattle.rubis_shard.proofs.Picked.{listed_by_shard}
 use Rattle.rubis_shard.proofs.tables.Tables.listed.Given as goal
 
 abbrev pub invariant-loop-shard : goal.invariant-loop-shard
-invariant-loop-shard l = each shown l.picked.items ≡ listed_by_shard l.listing l.table (take l.shard-index l.shard-items)
+invariant-loop-shard l = IsPermutation (listed_by_shard l.listing (table_with l.table) (take l.shard-index l.shard-items)) l.picked.items

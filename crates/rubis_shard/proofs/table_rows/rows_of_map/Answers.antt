@@ -2,33 +2,34 @@ use Rattle.std.proofs.Common.{◌≡◌, sym, ap, subst, ◌∙◌, map as each}
 use Rattle.std.specs.Prelude.{IfOk}
 use Rattle.rubis_schema.specs.declared.row_keys.Table.{Table}
 use Rattle.rubis_schema.specs.declared.row_keys.RowKey.TheVariants as key
+use Rattle.rubis_schema.specs.declared.listings.Listing.TheVariants as listing
 use Rattle.rubis_shard.specs.Listed.{listed_among}
 use Rattle.rubis_shard.specs.Rows.{entries_of}
 use Rattle.rubis_shard.specs.Written.{shown, written}
 use Rattle.rubis_shard.proofs.InMaps.{Entries}
 use Rattle.rubis_shard.proofs.OneTable.{nicks_listed, cats_listed, kept_listed}
-use Rattle.rubis_shard.proofs.picks.picked_of_all.Goals as goal
+use Rattle.rubis_shard.proofs.table_rows.rows_of_map.Goals as goal
 
 pub returns-in-Nicks : goal.returns-in-Nicks
 returns-in-Nicks c =
-    let l = c.args.listing.now in
+    let l = listing.Tables in
     let r = c.args.rows.now in
-    subst (λ (es : Entries). IfOk c.picked_among.result (λ rows. each shown rows.items ≡ es))
+    subst (λ (es : Entries). IfOk c.rows_among.result (λ rows. each shown rows.items ≡ es))
     (ap (λ (t : Table). listed_among l t (written key.Nick r.nicks.entries)) c.in-Nicks.is ∙ nicks_listed l r ∙ ap (λ (t : Table). listed_among l t (entries_of r)) (sym c.in-Nicks.is))
-    c.picked_among.ensures
+    c.rows_among.ensures
 
 pub returns-in-Cats : goal.returns-in-Cats
 returns-in-Cats c =
-    let l = c.args.listing.now in
+    let l = listing.Tables in
     let r = c.args.rows.now in
-    subst (λ (es : Entries). IfOk c.picked_among-in-Cats.result (λ rows. each shown rows.items ≡ es))
+    subst (λ (es : Entries). IfOk c.rows_among-in-Cats.result (λ rows. each shown rows.items ≡ es))
     (ap (λ (t : Table). listed_among l t (written key.Cat r.cats.entries)) c.in-Cats.is ∙ cats_listed l r ∙ ap (λ (t : Table). listed_among l t (entries_of r)) (sym c.in-Cats.is))
-    c.picked_among-in-Cats.ensures
+    c.rows_among-in-Cats.ensures
 
 pub returns-in_default : goal.returns-in_default
 returns-in_default c =
-    let l = c.args.listing.now in
+    let l = listing.Tables in
     let r = c.args.rows.now in
-    subst (λ (es : Entries). IfOk c.picked_among-in_default.result (λ rows. each shown rows.items ≡ es))
+    subst (λ (es : Entries). IfOk c.rows_among-in_default.result (λ rows. each shown rows.items ≡ es))
     (kept_listed l c.args.table r c.in_default.not-Nicks c.in_default.not-Cats)
-    c.picked_among-in_default.ensures
+    c.rows_among-in_default.ensures

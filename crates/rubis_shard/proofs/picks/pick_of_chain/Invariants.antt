@@ -1,19 +1,20 @@
-use Rattle.std.proofs.Common.{◌≡◌, ◌++◌, ◌<◌, ◌≤◌, ◌-◌, length, take, map as each}
+use Rattle.std.proofs.Common.{◌≡◌, ◌++◌, ◌<◌, ◌≤◌, ◌-◌, List, length, take}
 use Rattle.std.proofs.Common.{reverse}
 use Rattle.std.specs.Prelude.{get_or, None, Some}
-use Rattle.rubis_shard.specs.Written.{shown}
+use Rattle.rubis_schema.specs.declared.row_keys.RowKey.{RowKey}
+use Rattle.rubis_schema.specs.declared.rows.Row.{Row}
 use Rattle.rubis_shard.specs.Chains.{chains_of}
 use Rattle.rubis_shard.specs.Listed.{listed_among}
 use Rattle.rubis_shard.specs.Rows.{kept_of, linked_of}
-use Rattle.rubis_shard.proofs.picks.picked_of_chain.Given as goal
+use Rattle.rubis_shard.proofs.picks.pick_of_chain.Given as goal
 
 abbrev pub invariant-loop-place : goal.invariant-loop-place
 invariant-loop-place l = record {
   within : l.place ≤ length (linked_of l.rows);
   inside : l.place ≤ length (kept_of l.rows);
   own : 0 < l.place → get_or (chains_of (linked_of l.rows)) (l.place - 1) None ≡ Some l.chain;
-  walked : listed_among l.listing l.table (take l.place (linked_of l.rows)) ++ reverse (each shown l.picked.items)
-      ≡ listed_among l.listing l.table (linked_of l.rows);
+  walked : (added : List (RowKey × Row)) × (l.picked.items ≡ l.fn.picked.items ++ added)
+      × (listed_among l.listing l.table (take l.place (linked_of l.rows)) ++ reverse added ≡ listed_among l.listing l.table (linked_of l.rows));
 }
 
 abbrev pub decreases-loop-place : goal.decreases-loop-place

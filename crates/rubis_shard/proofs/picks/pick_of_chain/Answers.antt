@@ -1,21 +1,21 @@
-use Rattle.std.proofs.Common.{◌≡◌, ◌+◌, ◌-◌, ◌<◌, ◌≤◌, ◌∷◌, [], ◌++◌, List, cond, length, take, reverse, sym, ap, subst, ◌∙◌, arith, map as each, Bor}
+use Rattle.std.proofs.Common.{◌≡◌, ◌+◌, ◌-◌, ◌<◌, ◌≤◌, ◌∷◌, [], ◌++◌, List, cond, length, take, reverse, refl, sym, ap, subst, ◌∙◌, arith, append_assoc, ◌&&◌}
 use Rattle.std.specs.Prelude.{Some, option_map, slice_get}
 use Rattle.std.specs.Map.Iter.{deref_pair}
 use Rattle.std.specs.List.Sorted.{IsPermutation}
-use Rattle.rubis_shard.specs.Written.{shown}
-use Rattle.std.proofs.lemmas.List.{append-nil, length-map, map-append}
-use Rattle.std.proofs.lemmas.List.Sorted.{IsPermutation-reverse, IsPermutation-sym}
+use Rattle.std.proofs.lemmas.List.{append-nil, length-map}
+use Rattle.std.proofs.lemmas.List.Sorted.{IsPermutation-append_right, IsPermutation-reverse, IsPermutation-sym}
 use Rattle.rubis_schema.specs.IdKeys.{row_key}
+use Rattle.rubis_schema.specs.Keys.{holds}
 use Rattle.rubis_schema.specs.declared.row_keys.RowKey.{RowKey}
 use Rattle.rubis_schema.specs.declared.rows.Row.{Row}
+use Rattle.rubis_model.specs.Listings.{is_of}
 use Rattle.rubis_shard.specs.Chains.{chain_of, chains_of, last_among, last_before}
 use Rattle.rubis_shard.specs.Listed.{listed_among}
 use Rattle.rubis_shard.specs.Rows.{kept_of, linked_of}
 use Rattle.rubis_shard.proofs.Linking.{last_small}
-use Rattle.rubis_shard.proofs.OneTable.{taken_at, written_at}
+use Rattle.rubis_shard.proofs.OneTable.{listed_one, taken_at, written_at}
 use Rattle.rubis_shard.proofs.Walking.{linked_chains, linked_few, linked_length, own_last, walk_from, walk_on}
-use Rattle.rubis_shard.proofs.picks.picked_of_chain.Goals.{then-picks+in_ok-reserve, else-picks}
-use Rattle.rubis_shard.proofs.picks.picked_of_chain.Goals as goal
+use Rattle.rubis_shard.proofs.picks.pick_of_chain.Goals as goal
 
 pub loop-place-init : goal.loop-place-init
 loop-place-init c =
@@ -29,8 +29,7 @@ loop-place-init c =
       within = within;
       inside = omega (arith, within, linked_length c.args.rows.now, linked_few c.args.rows.now);
       own = own_last l c.args.table c.args.chain.now c.requires es (length cs) c.last-place.result is;
-      walked = ap (λ xs. listed_among l c.args.table (take c.last-place.result es) ++ reverse (each shown xs)) c.new-picked.ensures.items
-          ∙ walk_from l c.args.table c.args.chain.now c.requires es c.last-place.result is;
+      walked = ([], sym (append-nil c.args.picked.now.items), walk_from l c.args.table c.args.chain.now c.requires es c.last-place.result is);
     }
 
 pub before-place-requires : goal.before-place-requires
@@ -60,33 +59,37 @@ loop-place-preserved c =
     let is : c.before-place.result ≡ last_among c.args.chain.now cs at =
     c.before-place.ensures ∙ (linked_chains c.args.rows.now).before at (omega (arith, size, inside))
     ∙ ap (λ o. last_before o cs at) (c.loop-place.invariant.own (omega arith)) in
-    let e : RowKey × Row = (c.row_key-key.result, c.in-Some.row.now) in
+    let k = row_key c.in-Some.key.now in
+    let row = c.in-Some.row.now in
+    let e : RowKey × Row = (k, row) in
     let here : slice_get es at ≡ Some e = taken_at (kept_of c.args.rows.now) (length c.args.rows.now.chains.before.items) at (omega (arith, inside, linked_length c.args.rows.now)) ∙
-    written_at row_key c.args.rows.now.kept.entries at c.in-Some.key.now c.in-Some.row.now (sym c.get_index.ensures.entry ∙ ap (option_map deref_pair) c.in-Some.is)
-    ∙ ap (λ (k : RowKey). Some (k, c.in-Some.row.now)) (sym c.row_key-key.ensures) in
-    let old : List (RowKey × Row) = each shown c.loop-place.picked.items in
-    let pushed : each shown c.if-picks.picked.items ≡ old ++ cond c.picks.result (e ∷ []) [] = elim c.if-picks.branch [
-      | then-picks+in_ok-reserve w ↦
-          ap (λ v. each shown v.items) w.picked-is ∙ ap (each shown) (w.push_reserved.ensures.items ∙ ap (λ (xs : List (RowKey × Bor Row)). xs ++ (c.row_key-key.result, c.in-Some.row) ∷ []) w.in_ok-reserve.ensures.items)
-          ∙ map-append shown c.loop-place.picked.items ((c.row_key-key.result, c.in-Some.row) ∷ [])
-          ∙ ap (λ b. old ++ cond b (e ∷ []) []) (sym w.if-picks.true)
-      | else-picks w ↦
-          ap (λ v. each shown v.items) w.picked-is ∙ sym (append-nil old)
-          ∙ ap (λ b. old ++ cond b (e ∷ []) []) (sym w.if-picks.false)
-    ] in
+    written_at row_key c.args.rows.now.kept.entries at c.in-Some.key.now row (sym c.get_index.ensures.entry ∙ ap (option_map deref_pair) c.in-Some.is) in
+    let b = is_of l k row && holds t k in
+    let one : List (RowKey × Row) = cond b (e ∷ []) [] in
+    let old = c.loop-place.invariant.walked.0 in
+    let first : List (RowKey × Row) = c.args.picked.now.items in
+    let added : c.pick.new.picked.items ≡ first ++ (old ++ one) =
+    c.in_ok-pick.ensures ∙ (λ i. c.loop-place.invariant.walked.1 i ++ listed_one l t k row b refl i) ∙ append_assoc first old one in
     record {
       within = omega (arith, is, last_small c.args.chain.now cs at, inside);
       inside = omega (arith, is, last_small c.args.chain.now cs at, inside, c.loop-place.invariant.inside);
       own = own_last l t c.args.chain.now c.requires es at c.before-place.result is;
-      walked = walk_on l t c.args.chain.now c.requires es at c.before-place.result e c.picks.result old _ inside here c.picks.ensures is pushed
-          (ap (λ n. listed_among l t (take n es) ++ reverse old) next ∙ c.loop-place.invariant.walked);
+      walked = (
+        old ++ one,
+        added,
+        walk_on l t c.args.chain.now c.requires es at c.before-place.result e b old (old ++ one) inside here refl is refl
+            (ap (λ n. listed_among l t (take n es) ++ reverse old) next ∙ c.loop-place.invariant.walked.2),
+      );
     }
 
 pub returns : goal.returns
 returns c =
     let es = linked_of c.args.rows.now in
-    let picked : List (RowKey × Row) = each shown c.loop-place.picked.items in
+    let found = listed_among c.args.listing.now c.args.table es in
+    let first : List (RowKey × Row) = c.args.picked.now.items in
+    let added = c.loop-place.invariant.walked.0 in
     let none : 0 ≡ c.loop-place.place = omega arith in
-    let all : reverse picked ≡ listed_among c.args.listing.now c.args.table es =
-    ap (λ n. listed_among c.args.listing.now c.args.table (take n es) ++ reverse picked) none ∙ c.loop-place.invariant.walked in
-    IsPermutation-sym picked _ (subst (IsPermutation picked) all (IsPermutation-reverse picked))
+    let all : reverse added ≡ found =
+    ap (λ n. listed_among c.args.listing.now c.args.table (take n es) ++ reverse added) none ∙ c.loop-place.invariant.walked.2 in
+    let moved : IsPermutation found added = IsPermutation-sym added _ (subst (IsPermutation added) all (IsPermutation-reverse added)) in
+    subst (IsPermutation (first ++ found)) (sym c.loop-place.invariant.walked.1) (IsPermutation-append_right first found added moved)

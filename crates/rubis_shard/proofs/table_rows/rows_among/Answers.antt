@@ -2,16 +2,17 @@ use Rattle.std.proofs.Common.{◌≡◌, true, false, ◌∷◌, [], ◌++◌, L
 use Rattle.std.proofs.lemmas.List.{append-nil, map-append}
 use Rattle.rubis_schema.specs.declared.row_keys.RowKey.{RowKey}
 use Rattle.rubis_schema.specs.declared.rows.Row.{Row}
+use Rattle.rubis_schema.specs.declared.listings.Listing.TheVariants as listing
 use Rattle.rubis_shard.specs.Listed.{listed_among}
 use Rattle.rubis_shard.specs.Written.{shown, written}
 use Rattle.rubis_shard.proofs.InMaps.{Entries}
 use Rattle.rubis_shard.proofs.OneTable.{walk_step}
-use Rattle.rubis_shard.proofs.picks.picked_among.Goals as goal
+use Rattle.rubis_shard.proofs.table_rows.rows_among.Goals as goal
 
-pub loop-key-preserved-then-picks : goal.loop-key-preserved-then-picks
-loop-key-preserved-then-picks g c =
+pub loop-key-preserved-then-holds : goal.loop-key-preserved-then-holds
+loop-key-preserved-then-holds g c =
     let f = g.K.MapKey.row_key in
-    let l = c.args.listing.now in
+    let l = listing.Tables in
     let t = c.args.table in
     let old : Entries = each shown c.loop-key.rows.items in
     let one : RowKey × Bor Row = (c.row_key-key.result, c.in-Some.row) in
@@ -20,24 +21,24 @@ loop-key-preserved-then-picks g c =
     ap (λ (xs : List (RowKey × Bor Row)). each shown xs ++ listed_among l t (written f c.next.new.self)) pushed
     ∙ ap (λ (xs : Entries). xs ++ listed_among l t (written f c.next.new.self)) (map-append shown c.loop-key.rows.items (one ∷ []))
     ∙ walk_step f l t old c.row_key-key.result c.in-Some.key.now c.in-Some.row.now c.next.new.self c.loop-key.key-iterator true
-    c.row_key-key.ensures c.in-Some.ensures.steps (sym c.if-picks.true ∙ c.picks.ensures)
+    c.row_key-key.ensures c.in-Some.ensures.steps (sym c.if-holds.true ∙ c.holds.ensures)
     ∙ c.loop-key.invariant
 
 pub loop-key-preserved : goal.loop-key-preserved
 loop-key-preserved g c =
     let f = g.K.MapKey.row_key in
-    let l = c.args.listing.now in
+    let l = listing.Tables in
     let t = c.args.table in
     let old : Entries = each shown c.loop-key.rows.items in
     ap (λ xs. xs ++ listed_among l t (written f c.next.new.self)) (sym (append-nil old))
     ∙ walk_step f l t old c.row_key-key.result c.in-Some.key.now c.in-Some.row.now c.next.new.self c.loop-key.key-iterator false
-    c.row_key-key.ensures c.in-Some.ensures.steps (sym c.if-picks.false ∙ c.picks.ensures)
+    c.row_key-key.ensures c.in-Some.ensures.steps (sym c.if-holds.false ∙ c.holds.ensures)
     ∙ c.loop-key.invariant
 
 pub returns : goal.returns
 returns g c =
     let f = g.K.MapKey.row_key in
-    let l = c.args.listing.now in
+    let l = listing.Tables in
     let t = c.args.table in
     sym (append-nil (each shown c.loop-key.rows.items))
     ∙ ap (λ rest. each shown c.loop-key.rows.items ++ listed_among l t (written f rest)) (sym c.in-None.ensures.steps.0)

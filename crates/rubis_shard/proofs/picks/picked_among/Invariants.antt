@@ -1,9 +1,0 @@
-use Rattle.std.proofs.Common.{◌≡◌, ◌++◌, map as each}
-use Rattle.rubis_shard.specs.Listed.{listed_among}
-use Rattle.rubis_shard.specs.Written.{shown, written}
-use Rattle.rubis_shard.proofs.picks.picked_among.Given as goal
-
-abbrev pub invariant-loop-key : goal.invariant-loop-key
-invariant-loop-key g l =
-    each shown l.rows.items ++ listed_among l.listing l.table (written g.K.MapKey.row_key l.key-iterator)
-    ≡ listed_among l.listing l.table (written g.K.MapKey.row_key l.initial.key-iterator)

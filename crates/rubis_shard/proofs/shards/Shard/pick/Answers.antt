@@ -1,0 +1,25 @@
+use Rattle.std.proofs.Common.{◌≡◌, ◌++◌, [], List, sym, ap, subst, ◌∙◌}
+use Rattle.std.specs.Prelude.{Option}
+use Rattle.std.specs.List.Sorted.{IsPermutation}
+use Rattle.std.proofs.lemmas.List.{append-nil}
+use Rattle.std.proofs.lemmas.List.Sorted.{IsPermutation-refl}
+use Rattle.rubis_schema.specs.declared.row_keys.RowKey.{RowKey}
+use Rattle.rubis_schema.specs.declared.rows.Row.{Row}
+use Rattle.rubis_shard.specs.Listed.{listed_of}
+use Rattle.rubis_shard.specs.ListedRows.{table_with}
+use Rattle.rubis_shard.specs.States.{ShardState}
+use Rattle.rubis_shard.specs.Stores.{held_in}
+use Rattle.rubis_shard.specs.declared.shard_store.Store.{Store}
+use Rattle.rubis_shard.proofs.Openings.{none_listed}
+use Rattle.rubis_shard.proofs.shards.Shard.pick.Goals as goal
+
+pub returns-in-None-clause-rows : goal.returns-in-None-clause-rows
+returns-in-None-clause-rows c =
+    let l = c.args.listing.now in
+    let t = table_with c.args.table in
+    let before : List (RowKey × Row) = c.args.picked.now.items in
+    let none : listed_of l t c.args.self.now.folded.tables ≡ [] =
+    sym (sym (none_listed l t)
+    ∙ ap (λ (o : Option Store). listed_of l t (held_in o).tables) (sym c.in-None.is)
+    ∙ ap (λ (s : ShardState). listed_of l t s.folded.tables) c.self.view_is) in
+    subst (λ (xs : List (RowKey × Row)). IsPermutation xs before) (sym (ap (λ (xs : List (RowKey × Row)). before ++ xs) none ∙ append-nil before)) (IsPermutation-refl before)
