@@ -6,8 +6,8 @@ use crate::records::packet;
 use crate::telling::tell_refused;
 use crate::tries::{Stop, TRIES, again};
 use rubis_message::Message;
-use rubis_release::{Arrival, Intake};
-use rubis_schema::{Nick, Refusal};
+use rubis_release::{Arrival, Intake, IntakeFault};
+use rubis_schema::Nick;
 use rubis_shadow::Shadow;
 use std::io::Print;
 
@@ -19,38 +19,22 @@ struct Peer {
 }
 
 impl Peer {
-    // Takes a message in, and takes it in again if it comes back.
-    fn admit<R: Print>(
-        &mut self,
-        rt: &R,
-        message: Message,
-    ) -> Result<Result<Arrival, Refusal>, Stop> {
+    // Has a message arrive, and once more if it comes back.
+    fn arrive<R: Print>(&mut self, rt: &R, message: Message) -> Result<Arrival, Stop> {
         if message.stamp().deps.len() != 2 {
             return Err(Stop::GaveUp);
         }
         let waiting = self.intake.waiting();
-        let back = match self.intake.admit(message) {
-            Ok(answer) => return Ok(answer),
-            Err(failed) => failed.value,
+        let back = match self.intake.arrive(message) {
+            Ok(arrival) => return Ok(arrival),
+            Err(IntakeFault::Memory(message)) => message,
+            Err(IntakeFault::Refused(_)) => return Err(Stop::GaveUp),
         };
-        tell_refused(rt, "Intake::admit", self.intake.waiting() == waiting);
-        match self.intake.admit(back) {
-            Ok(answer) => Ok(answer),
+        tell_refused(rt, "Intake::arrive", self.intake.waiting() == waiting);
+        match self.intake.arrive(back) {
+            Ok(arrival) => Ok(arrival),
             Err(_) => Err(Stop::GaveUp),
         }
-    }
-
-    // Has the message at a place arrive.
-    fn arrive<R: Print + AllocGlobal>(&mut self, rt: &R, place: u32) -> Result<Arrival, Stop> {
-        for _ in 0..TRIES {
-            let message = again!(rt, "read_packet", packet(rt.alloc(), place));
-            let waiting = self.intake.waiting();
-            if let Ok(arrival) = self.intake.arrive(message) {
-                return Ok(arrival);
-            }
-            tell_refused(rt, "Intake::arrive", self.intake.waiting() == waiting);
-        }
-        Err(Stop::GaveUp)
     }
 }
 
@@ -59,14 +43,9 @@ pub fn intake<R: Print + AllocGlobal>(rt: &R) -> Result<(), Stop> {
     let intake = again!(rt, "Intake::new", Intake::new(rt.alloc(), 1, 2, 100));
     let mut peer = Peer { intake };
     for place in 0..20 {
-        if place % 4 < 2 {
-            let arrival = peer.arrive(rt, place)?;
-            let _ = println!(rt; "{arrival:?}");
-        } else {
-            let message = again!(rt, "read_packet", packet(rt.alloc(), place));
-            let arrival = peer.admit(rt, message)?;
-            let _ = println!(rt; "{arrival:?}");
-        }
+        let message = again!(rt, "read_packet", packet(rt.alloc(), place));
+        let arrival = peer.arrive(rt, message)?;
+        let _ = println!(rt; "{arrival:?}");
     }
     Ok(())
 }

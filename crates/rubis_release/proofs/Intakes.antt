@@ -1,14 +1,18 @@
 -- What an intake keeps, and what its answers rest on.
-use Rattle.std.proofs.Common.{◌≡◌, ℕ, ◌<◌, ◌≤◌, ◌&&◌, ◌||◌, Option, List, [], ◌∷◌, ◌++◌, length, get_or, refl, sym, ap, ◌∙◌, subst, arith}
-use Rattle.std.specs.Prelude.{nat_lt, nat_le}
+use Rattle.std.proofs.Common.{◌≡◌, ℕ, ◌<◌, ◌≤◌, ◌&&◌, ◌||◌, Option, List, [], ◌∷◌, ◌++◌, length, get_or, inl, inr, refl, sym, ap, ◌∙◌, subst, arith}
+use Rattle.std.specs.Prelude.{◌-◌, cond, nat_lt, nat_le, Ok, Err}
 use Rattle.std.specs.List.{list_any}
 use Rattle.std.proofs.lemmas.Bool.{eq-eqb}
+use Rattle.std.proofs.lemmas.Bool.Decides.{eqb_tells}
 use Rattle.rubis_schema.specs.Keys.{same_id}
 use Rattle.rubis_schema.specs.declared.ids.Id.{Id}
+use Rattle.rubis_schema.specs.declared.refusals.Refusal.TheVariants.{Full, NotOurs}
 use Rattle.rubis_clock.specs.Clocks.{MessageCounts}
 use Rattle.rubis_message.specs.Message.{Message, IsMessage, sites_of}
 use Rattle.rubis_model.specs.Settle.{counted, Settles}
-use Rattle.rubis_model.specs.Site.{Place, Replica, after_came, not_ours, is_repeat}
+use Rattle.rubis_message.specs.declared.answers.Arrival.{Arrival}
+use Rattle.rubis_message.specs.declared.answers.Arrival.TheVariants as arrival
+use Rattle.rubis_model.specs.Site.{Place, Replica, after_came, arrival_of, arrived, not_ours, is_repeat}
 use Rattle.rubis_model.proofs.OneOutcome.{settles_one}
 use Rattle.rubis_release.specs.Release.{IsAmong, AreKept, clock_of}
 use Rattle.rubis_release.specs.Messages.{Messages, HaveSettled}
@@ -74,6 +78,33 @@ is_repeat_by_count i n k m h is a s e count here =
     ∙ ap (λ (t : Id). nat_le t.seq (get_or k.counts t.site 0) || list_any (λ (u : Message). same_id t u.stamp.id) i.state.waiting) e
     ∙ ap (λ b. b || list_any (λ (u : Message). same_id m.stamp.id u.stamp.id) i.state.waiting)
     (ap (nat_le m.stamp.id.seq) (count_is i n k h is m.stamp.id.site a.id.site) ∙ sym (is_released i.state.log m h.conditions.kept.released a.id.positive))
+
+-- what a site comes to by a message that it takes in, and what it answers
+pub admitted_is : (p : Place) (s : Replica) (m : Message) → IsAdmitted p s m
+    → arrived p s m ≡ (after_came s m, Ok (arrival_of (length (after_came s m).log - length s.log)))
+admitted_is p s m h =
+    λ j. cond (h.not_ours j) (s, Err NotOurs)
+    (cond (h.new j) (s, Ok arrival.Repeat)
+    (cond (h.room j) (s, Err Full)
+    (after_came s m, Ok (arrival_of (length (after_came s m).log - length s.log)))))
+
+-- what a site answers to a message that it takes in, by how many were released
+pub answer_is : (p : Place) (s : Replica) (m : Message) (new : Replica) (n : ℕ) (a : Arrival) → IsAdmitted p s m → new ≡ after_came s m
+    → n ≡ length new.log - length s.log → a ≡ arrival_of n → (new, Ok a) ≡ arrived p s m
+answer_is p s m new n a h state many answer =
+    (λ j. (new, Ok (answer j)))
+    ∙ (λ j. (new, Ok (arrival_of (many j))))
+    ∙ (λ j. (state j, Ok (arrival_of (length (state j).log - length s.log))))
+    ∙ sym (admitted_is p s m h)
+
+pub none_released : (n : ℕ) → n ≡ 0 → arrival.Held ≡ arrival_of n
+none_released n e = ap arrival_of (sym e)
+
+pub some_released : (n : ℕ) → (n ≡ 0 → ⊥) → arrival.Released n ≡ arrival_of n
+some_released n more = elim (eqb_tells n 0) [
+  | inl e ↦ absurd (more e.1)
+  | inr e ↦ ap (λ b. cond b arrival.Held (arrival.Released n)) (sym e.0)
+]
 
 pub came_kept : (i : Intake) (n : ℕ) (m : Message) (log waiting : List Message) → IsUpToDate i n → IsAmong i.place.sites m → IsAdmitted i.place i.state m → Settles i.state.log (i.state.waiting ++ m ∷ []) log waiting → AreKept i.place log waiting
 came_kept i n m log waiting h a t s = settling_keeps i.place i.state.log (i.state.waiting ++ m ∷ []) log waiting (coming_keeps i.place i.state m h.conditions.kept a t) s

@@ -12,10 +12,10 @@ pub record IsAdmitted (p : Place) (s : Replica) (m : Message) : Type 0 where
   pub new : is_repeat s m ≡ false
   pub room : is_full p.keep s ≡ false
 
--- the message is refused so, or there was no memory to put it among the waiting ones
+-- the message is refused so, or there was no memory to put it among the waiting ones, and it comes back
 abbrev pub IsFaultOf : Place → Replica → Message → IntakeFault → Type 0
 IsFaultOf p s m (Refused r) = arrived p s m ≡ (s, Err r)
-IsFaultOf p s m Memory = IsAdmitted p s m
+IsFaultOf p s m (Memory back) = IsAdmitted p s m × (back ≡ m)
 
 -- the token, if the site holds it
 abbrev pub token_held : Replica → Option Held

@@ -25,47 +25,20 @@ use std::marker::Model;
 use std::mem;
 pub use tokens::Held;
 
-/// Why an intake answers no more than that.
-#[derive(Clone, Copy)]
+/// Why an intake doesn't take a message in.
+#[derive(Drop)]
 pub enum IntakeFault {
     /// The message is refused.
     Refused(Refusal),
-    /// There is no memory for it.
-    Memory,
-}
-
-impl From<Refusal> for IntakeFault {
-    ghost from_gives = { λ refusal fault. fault ≡ Refused refusal };
-
-    fn from(refusal: Refusal) -> IntakeFault {
-        IntakeFault::Refused(refusal)
-    }
-}
-
-impl From<AllocError> for IntakeFault {
-    ghost from_gives = { λ _ fault. fault ≡ Memory };
-
-    fn from(_error: AllocError) -> IntakeFault {
-        IntakeFault::Memory
-    }
+    /// There is no memory for the message, which comes back.
+    Memory(Message),
 }
 
 impl From<AllocFailed<Message>> for IntakeFault {
-    ghost from_gives = { λ _ fault. fault ≡ Memory };
+    ghost from_gives = { λ failed fault. fault ≡ Memory failed.value };
 
-    fn from(_failed: AllocFailed<Message>) -> IntakeFault {
-        IntakeFault::Memory
-    }
-}
-
-// What a message is answered with that is new, where that many were released then.
-#[inline(always)]
-fn arrival_of(released: u32) -> Arrival
-    ensures { result ≡ arrival_of released }
-{
-    match released {
-        0 => Arrival::Held,
-        released => Arrival::Released(released),
+    fn from(failed: AllocFailed<Message>) -> IntakeFault {
+        IntakeFault::Memory(failed.value)
     }
 }
 
@@ -213,28 +186,6 @@ impl Intake {
         mem::replace(self, fresh)
     }
 
-    /// Takes a message in that arrived, as `arrive`, and hands it back where there is no memory for it.
-    #[inline(always)]
-    pub fn admit(
-        &mut self,
-        message: Message,
-    ) -> Result<Result<Arrival, Refusal>, AllocFailed<Message>>
-        requires { sites_of message ≡ self.old.place.sites }
-        ensures place { self.new.place ≡ self.old.place }
-        ensures step { IfOk result (λ answer. (self.new.state, answer) ≡ arrived self.old.place self.old.state message) }
-        ensures refused { IfOk result (λ answer. OnErr answer (self.new ≡ self.old)) }
-        ensures err { OnErr result (self.new ≡ self.old) }
-        ensures back { IfErr result (λ e. e.value ≡ message) }
-        ensures memory { OnErr result (IsAdmitted self.old.place self.old.state message) }
-    {
-        let answer = match self.is_new(&message) {
-            Ok(true) => Ok(arrival_of(self.take_in(message)?)),
-            Ok(false) => Ok(Arrival::Repeat),
-            Err(refusal) => Err(refusal),
-        };
-        Ok(answer)
-    }
-
     /// Takes a message in that arrived. It waits until it is ready, and all that is ready then is released.
     ///
     /// A message that says that this site made it, and it didn't, is refused, and one that comes where the site is
@@ -247,13 +198,28 @@ impl Intake {
         ensures err { OnErr result (self.new ≡ self.old) }
         ensures fault { IfErr result (IsFaultOf self.old.place self.old.state message) }
     {
-        Ok(self.admit(message)??)
+        if self.is_not_ours(&message) {
+            return Err(IntakeFault::Refused(Refusal::NotOurs));
+        }
+        if self.is_repeat(&message) {
+            return Ok(Arrival::Repeat);
+        }
+        if self.is_full() {
+            return Err(IntakeFault::Refused(Refusal::Full));
+        }
+        let before = self.messages.log().len();
+        self.messages.take_in(message)?;
+        let released = (self.messages.log().len() - before) as u32;
+        if released == 0 {
+            return Ok(Arrival::Held);
+        }
+        Ok(Arrival::Released(released))
     }
 
     /// Makes the site's next message of a shadow and releases it, and all that is ready then. Without memory nothing
     /// has changed.
     #[inline(always)]
-    pub fn generated(&mut self, shadow: Shadow) -> Result<Message, IntakeFault>
+    pub fn generated(&mut self, shadow: Shadow) -> Result<Message, AllocError>
         requires room { is_full self.old.place.keep self.old.state ≡ false }
         requires right { is_red shadow ≡ true → is_current self.old.state ≡ true }
         requires limits { InLimits self.old.place.sites shadow }
@@ -261,7 +227,6 @@ impl Intake {
         ensures made { IfOk result (λ m. m ≡ made self.old.place self.old.state shadow) }
         ensures state { IfOk result (λ m. self.new.state ≡ after_made self.old.place self.old.state shadow) }
         ensures err { OnErr result (self.new ≡ self.old) }
-        ensures fault { IfErr result (λ e. e ≡ IntakeFault.Memory) }
     {
         let message = Message::new(self.next_stamp(&shadow), shadow);
         let copy = message.copy()?;
@@ -297,42 +262,6 @@ impl Intake {
     {
         let id = message.id();
         id.seq <= self.messages.clock().count(id.site) || self.messages.has_waiting(&id)
-    }
-
-    // Whether a message that arrived is new, or why it is refused.
-    #[inline(always)]
-    fn is_new(&self, message: &Message) -> Result<bool, Refusal>
-        requires { sites_of message.now ≡ self.now.place.sites }
-        ensures new { IfOk result (λ new. MatchBool new
-            (IsAmong self.now.place.sites message.now × IsAdmitted self.now.place self.now.state message.now)
-            (arrived self.now.place self.now.state message.now ≡ (self.now.state, Ok Arrival.Repeat))) }
-        ensures refused { IfErr result (λ refusal. arrived self.now.place self.now.state message.now ≡ (self.now.state, Err refusal)) }
-    {
-        if self.is_not_ours(message) {
-            return Err(Refusal::NotOurs);
-        }
-        if self.is_repeat(message) {
-            return Ok(false);
-        }
-        if self.is_full() {
-            return Err(Refusal::Full);
-        }
-        Ok(true)
-    }
-
-    // Puts a new message last among those that wait, and releases what is ready; how many were released.
-    #[inline(always)]
-    fn take_in(&mut self, message: Message) -> Result<u32, AllocFailed<Message>>
-        requires site { IsAmong self.old.place.sites message }
-        requires new { IsAdmitted self.old.place self.old.state message }
-        ensures ok { OnOk result (self.new ≡ record { place = self.old.place; state = after_came self.old.state message }) }
-        ensures released { IfOk result (λ n. n ≡ length (after_came self.old.state message).log - length self.old.state.log) }
-        ensures err { OnErr result (self.new ≡ self.old) }
-        ensures back { IfErr result (λ e. e.value ≡ message) }
-    {
-        let before = self.messages.log().len();
-        self.messages.take_in(message)?;
-        Ok((self.messages.log().len() - before) as u32)
     }
 
     // The stamp of the message that the site makes of the shadow.

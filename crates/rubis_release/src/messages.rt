@@ -117,7 +117,7 @@ impl Messages {
         ensures err { OnErr result (self.new ≡ self.old) }
         ensures back { IfErr result (λ e. e.value ≡ message) }
     {
-        if self.is_ready(&message) {
+        if message.is_ready(&self.clock) {
             return self.release(message);
         }
         let Ok(_) = self.log.reserve(self.waiting.len() + 1) else {
@@ -159,15 +159,5 @@ impl Messages {
             message.count_in(&mut self.clock);
             self.log.push_reserved(message);
         }
-    }
-
-    // Whether the message is ready.
-    #[inline(always)]
-    fn is_ready(&self, message: &Message) -> bool
-        requires site { IsAmong self.now.sites message.now }
-        ensures ready { result ≡ true → IsReady (clock_of self.now.sites self.now.log) message.now.stamp }
-        ensures waits { result ≡ false → IsReady (clock_of self.now.sites self.now.log) message.now.stamp → ⊥ }
-    {
-        message.is_ready(&self.clock)
     }
 }

@@ -1,11 +1,14 @@
 -- Messages that arrive one after the other.
-use Rattle.std.proofs.Common.{◌≡◌, ◌≤◌, List, [], ◌∷◌, ◌++◌, length, length-append, refl, sym, ap, ◌∙◌, append_assoc, arith}
-use Rattle.std.specs.Prelude.{Result, reverse}
+use Rattle.std.proofs.Common.{◌≡◌, ◌≤◌, List, [], ◌∷◌, ◌++◌, length, length-append, refl, sym, ap, ◌∙◌, append_assoc, arith, subst}
+use Rattle.std.specs.Prelude.{Err, Result, reverse}
 use Rattle.std.proofs.lemmas.List.{append-nil, reverse-append}
 use Rattle.rubis_schema.specs.declared.refusals.Refusal.{Refusal}
 use Rattle.rubis_message.specs.Message.{Message}
 use Rattle.rubis_message.specs.declared.answers.Arrival.{Arrival}
 use Rattle.rubis_model.specs.Site.{Place, Replica, arrived}
+use Rattle.rubis_release.specs.Answers.{IsFaultOf}
+use Rattle.rubis_release.specs.declared.intake.IntakeFault.{IntakeFault}
+use Rattle.rubis_release.specs.declared.intake.IntakeFault.TheVariants.{Refused}
 use Rattle.rubis_replica.specs.Arrivals.{TakesFirst, after_all, answers_to}
 use Rattle.rubis_replica.specs.Follow.{Follower, FollowsAt}
 use Rattle.rubis_replica.proofs.Extending.{Extends, arrived_extends, follows_extended}
@@ -35,6 +38,11 @@ takes_next p old now new messages rest answers m a h e = record {
   told = (λ i. h.told i ++ ap (λ r. r.1) e i ∷ []) ∙ ap (λ s. answers_to p old h.taken ++ (arrived p s m).1 ∷ []) h.state
       ∙ sym (answers_more p old h.taken m);
 }
+
+-- a message that is refused leaves all as it was
+pub refused_step : (p : Place) (old new : Replica) (m : Message) (fault : IntakeFault) (r : Refusal) → fault ≡ Refused r → IsFaultOf p old m fault → new ≡ old
+    → (new, Err r) ≡ arrived p old m
+refused_step p old new m fault r is why same = (λ j. (same j, Err r)) ∙ sym (subst (IsFaultOf p old m) is why)
 
 -- the last of a list is the first of it reversed
 pub last_first : (xs ys : List Message) (m : Message) → xs ≡ ys ++ m ∷ [] → reverse xs ≡ m ∷ reverse ys

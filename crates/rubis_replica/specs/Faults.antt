@@ -7,4 +7,4 @@ use Rattle.rubis_replica.specs.declared.faults.Fault.TheVariants.{Refused, Memor
 -- what an intake refuses, the site refuses; where the intake is out of memory, so is the site
 abbrev pub fault_of : IntakeFault → Fault
 fault_of (intake.Refused r) = Refused r
-fault_of intake.Memory = Memory
+fault_of (intake.Memory m) = Memory

@@ -8,7 +8,7 @@ ghost use Rattle.rubis_replica.specs.declared.faults.Fault.TheVariants as Fault;
 
 use crate::faults::Fault;
 use rubis_message::{Arrival, Message};
-use rubis_release::Intake;
+use rubis_release::{Intake, IntakeFault};
 use rubis_schema::{Items, Refusal};
 use std::alloc::{AllocError, Global};
 
@@ -38,13 +38,15 @@ fn take_from_end(
     ensures err { OnErr result (0 < vec_len rest.new) }
 {
     while let Some(message) = rest.pop() {
-        match intake.admit(message) {
-            Ok(answer) => answers.push_reserved(answer),
-            Err(failed) => {
-                rest.push_reserved(failed.value);
+        let answer = match intake.arrive(message) {
+            Ok(arrival) => Ok(arrival),
+            Err(IntakeFault::Refused(refusal)) => Err(refusal),
+            Err(IntakeFault::Memory(message)) => {
+                rest.push_reserved(message);
                 return Err(AllocError);
             }
-        }
+        };
+        answers.push_reserved(answer);
     }
     Ok(())
 }

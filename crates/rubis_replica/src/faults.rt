@@ -45,7 +45,7 @@ impl From<IntakeFault> for Fault {
     fn from(fault: IntakeFault) -> Fault {
         match fault {
             IntakeFault::Refused(refusal) => Fault::Refused(refusal),
-            IntakeFault::Memory => Fault::Memory,
+            IntakeFault::Memory(_) => Fault::Memory,
         }
     }
 }

@@ -1,5 +1,7 @@
 use Rattle.std.proofs.Common.{◌∷◌, [], ◌++◌, length, ap, ◌∙◌, sym, subst, subst₂, arith}
+use mathlib.Core.Bool.{true≢false}
 use Rattle.std.proofs.lemmas.List.{length_push}
+use Rattle.rubis_clock.specs.Clocks.{IsReady, MessageCounts}
 use Rattle.rubis_model.specs.Settle.{Settles}
 use Rattle.rubis_release.specs.Release.{IsAmong, AllAmong, NoneReady, clock_of}
 use Rattle.rubis_release.specs.Messages.{Messages}
@@ -11,7 +13,8 @@ pub returns-then-is_ready-clause-settles : goal.returns-then-is_ready-clause-set
 returns-then-is_ready-clause-settles c =
     comes_first_ok c.release.result c.args.self.now.sites c.args.self.now.log c.args.self.now.waiting c.release.new.self.log c.release.new.self.waiting c.args.message
     (subst (λ (m : Messages). AllAmong m.sites m.waiting) c.self.view_is c.self.invariant.sites) c.requires.site c.requires.settled
-    (c.is_ready.ensures.ready c.if-is_ready.true) c.release.ensures.settles
+    (subst (λ (k : MessageCounts). IsReady k c.args.message.stamp) (c.self.invariant.counts ∙ ap (λ (m : Messages). clock_of m.sites m.log) c.self.view_is)
+    (c.is_ready.ensures.0 c.if-is_ready.true)) c.release.ensures.settles
 
 pub invariant_of-self-in_err-push : goal.invariant_of-self-in_err-push
 invariant_of-self-in_err-push c =
@@ -40,7 +43,9 @@ returns-clause-settles c =
     (sym (c.reserve.ensures.items ∙ ap (λ (m : Messages). m.log) c.self.view_is))
     (sym (c.in_ok-push.ensures.ok ∙ ap (λ (m : Messages). m.waiting ++ c.args.message ∷ []) c.self.view_is))
     (waits_on c.args.self.now.sites c.args.self.now.log c.args.self.now.waiting c.args.message
-    (subst (λ (m : Messages). AllAmong m.sites m.waiting) c.self.view_is c.self.invariant.sites) c.requires.site c.requires.settled (c.is_ready.ensures.waits c.if-is_ready.false)).1
+    (subst (λ (m : Messages). AllAmong m.sites m.waiting) c.self.view_is c.self.invariant.sites) c.requires.site c.requires.settled (λ ready. true≢false (sym (c.is_ready.ensures.1
+    (subst (λ (k : MessageCounts). IsReady k c.args.message.stamp) (sym (c.self.invariant.counts ∙ ap (λ (m : Messages). clock_of m.sites m.log) c.self.view_is)) ready))
+    ∙ c.if-is_ready.false))).1
 
 pub returns-clause-settled : goal.returns-clause-settled
 returns-clause-settled c =
@@ -48,4 +53,6 @@ returns-clause-settled c =
     (sym (ap (clock_of (length c.self.inside.clock.counts)) c.reserve.ensures.items ∙ ap (λ (m : Messages). clock_of m.sites m.log) c.self.view_is))
     (sym (c.in_ok-push.ensures.ok ∙ ap (λ (m : Messages). m.waiting ++ c.args.message ∷ []) c.self.view_is))
     (waits_on c.args.self.now.sites c.args.self.now.log c.args.self.now.waiting c.args.message
-    (subst (λ (m : Messages). AllAmong m.sites m.waiting) c.self.view_is c.self.invariant.sites) c.requires.site c.requires.settled (c.is_ready.ensures.waits c.if-is_ready.false)).0
+    (subst (λ (m : Messages). AllAmong m.sites m.waiting) c.self.view_is c.self.invariant.sites) c.requires.site c.requires.settled (λ ready. true≢false (sym (c.is_ready.ensures.1
+    (subst (λ (k : MessageCounts). IsReady k c.args.message.stamp) (sym (c.self.invariant.counts ∙ ap (λ (m : Messages). clock_of m.sites m.log) c.self.view_is)) ready))
+    ∙ c.if-is_ready.false))).0
