@@ -8,6 +8,7 @@ call. Where the toolchain has no such function, its plain `rt ci` runs.
 """
 from __future__ import annotations
 
+import contextlib
 import functools
 import importlib.machinery
 import importlib.util
@@ -28,8 +29,9 @@ Task = Tuple[List[Key], int, float, Callable[[Dict[Key, Any], int], Any]]
 PARTS = ("src", "specs", "proofs")
 # What a crate costs beside its lines, in lines: its libraries are loaded, and it is compiled.
 FIXED = 1500
-# How many jobs a proof can use, and the memory that each but the first takes, as a part of the first one's.
-MOST, OF_FIRST = 4, 0.6
+# How many jobs a proof can use, and the memory that each but the first takes, as a part of what the toolchain reckons for the task.
+# A job more is a fork that shares what was loaded: proofs of four jobs were seen to take 58 to 72 percent of that in all.
+MOST, OF_TASK = 4, 0.1
 # How much of the free memory is used.
 USED = 0.85
 # How much a proof beside the longest chain gives way to it, and how many jobs there are at once for each processor.
@@ -88,13 +90,13 @@ class Lanes:
             return 1
         needs = self.tasks[key][2]
         busy = [(self.tasks[it][2], jobs) for it, jobs in self.running.items() if not self.is_nothing(it)]
-        room = self.memory - sum(need * (1 + OF_FIRST * (jobs - 1)) for need, jobs in busy)
+        room = self.memory - sum(need * (1 + OF_TASK * (jobs - 1)) for need, jobs in busy)
         if busy and (sum(jobs for _, jobs in busy) >= CROWDED * self.processors or needs > room):
             return 0
         if fills(key):
             return 1
         wanted = min(MOST, self.processors) if self.is_longest(key) else max(1, self.processors // 2)
-        return max(1, min(wanted, 1 + int((room / needs - 1) / OF_FIRST)))
+        return max(1, min(wanted, 1 + int((room / needs - 1) / OF_TASK)))
 
     def do(self, key: Key, jobs: int, gives_way: bool) -> None:
         """Does one task in a thread of its own, whose programs give way as it does."""
@@ -144,7 +146,8 @@ def toolchain(file: str) -> Optional[types.ModuleType]:
 def run_tasks(kit: types.ModuleType, tasks: Dict[Key, Task]) -> Dict[Key, Any]:
     """Runs the tasks of the toolchain's `rt ci`, and returns what each gave."""
     weights = {name: weight(f"crates/{name}") for name in {key[0] for key in tasks}}
-    with kit.ending():
+    ending = getattr(kit, "ending", contextlib.nullcontext)
+    with ending():
         return Lanes(tasks, weights, kit.processors(), kit.free()).run()
 
 
@@ -155,7 +158,7 @@ def main() -> int:
         print("rubis: there is no rt here", file=sys.stderr)
         return 2
     kit = toolchain(os.path.realpath(found))
-    if kit is None or not all(hasattr(kit, name) for name in ("processors", "free", "ending", "main")):
+    if kit is None or not all(hasattr(kit, name) for name in ("processors", "free", "main")):
         os.execv(found, ["rt", "ci", *sys.argv[1:]])
     setattr(kit, "in_lanes", functools.partial(run_tasks, kit))
     return int(kit.main(["ci", *sys.argv[1:]]))

@@ -3,7 +3,7 @@
 
 The stand-in says what `rt ci` says, crate by crate, and looks at what it is given. Tried are a program that is proved, one with a
 crate that isn't, a toolchain that stops at once, a run that is interrupted, and that a later run starts the program without proofs.
-Tried beside these is in what order, and with how many jobs each, scripts/rt_lanes.py has tasks done."""
+Tried beside these is in what order, and with how many jobs each, scripts/rt_lanes.py has tasks done, and with which toolchains."""
 
 import os
 import pathlib
@@ -12,6 +12,7 @@ import signal
 import subprocess
 import sys
 import tempfile
+import threading
 import time
 from typing import Any, Dict, List, Tuple
 
@@ -37,6 +38,25 @@ BUILDS = """mkdir -p crates/rubis_app/out
 printf '#!/bin/sh\\necho ran "$@"\\ncat\\n' > crates/rubis_app/out/rubis_app
 chmod +x crates/rubis_app/out/rubis_app
 printf 'rt: rubis_numbers is kept\\nrt: rubis_board is kept\\n== rubis_app\\nrt: rubis_app proved\\nrt: ok\\n3 passed, 0 failed\\n'
+"""
+
+# Toolchains in Python, with an order of their own that isn't to be taken: one with a function for the end of its tasks, one without.
+ORDERED = """#!/usr/bin/env python3
+import contextlib, sys
+def processors(): return 2
+def free(): return 8e9
+def in_lanes(tasks): sys.exit("its own order")
+def main(words):
+    task = lambda name, *waits: (waits, 10, 1e9, lambda given, jobs: f"{name} {jobs}")
+    print(*words, *in_lanes({("low", "proof"): task("low"), ("top", "proof"): task("top", ("low", "proof"))}).values())
+    return 0
+"""
+ENDS = """
+@contextlib.contextmanager
+def ending():
+    print("begun")
+    yield
+    print("ended")
 """
 
 
@@ -128,21 +148,37 @@ def try_lanes() -> None:
         def call(given: Dict[rt_lanes.Key, Any], jobs: int) -> str:
             expect(all((below, "proof") in given for below in waits[name]), f"{name} is begun before what it waits for")
             done.append(((name, "proof"), jobs))
+            begun[name].set()
+            expect(name != "long" or jobs < 4 or begun["short"].wait(10), "a proof with four jobs keeps every other waiting")
             return name
 
         return [(below, "proof") for below in waits[name]], lines[name], memory, call
 
-    for memory, jobs in ((100.0, {"low": 4, "long": 4, "short": 2, "top": 4, "bare": 1}), (1.2, dict.fromkeys(lines, 1))):
+    wide = {"low": 4, "long": 4, "short": 2, "top": 4, "bare": 1}
+    for memory, jobs in ((100.0, wide), (3.0, wide), (1.2, dict.fromkeys(lines, 1))):
         done.clear()
+        begun = {name: threading.Event() for name in lines}
         given = rt_lanes.Lanes({(name, "proof"): task(name, 1.0) for name in lines}, lines, 4, memory).run()
         expect(given == {(name, "proof"): name for name in lines}, f"the tasks give {given}")
         expect({name: got for (name, _), got in done} == jobs, f"with memory for {memory} tasks the jobs are {done}")
+
+
+def try_orders(room: pathlib.Path) -> None:
+    """The order chosen here is taken with each toolchain that lets its own be replaced, and with another its own."""
+    for text, said in ((ORDERED, "ci low 2 top 2\n"), (ORDERED + ENDS, "begun\nended\nci low 2 top 2\n"), ("#!/bin/sh\necho plain $1\n", "plain ci\n")):
+        (room / "rt").write_text(text)
+        (room / "rt").chmod(0o755)
+        words = {**os.environ, "PATH": f"{room}:{os.environ['PATH']}"}
+        run = subprocess.run([sys.executable, TOP / "scripts/rt_lanes.py"], cwd=room, env=words, capture_output=True, text=True)
+        expect(run.returncode == 0 and run.stdout == said, f"a toolchain gives {run.stdout!r} and {run.stderr!r}, and not {said!r}")
 
 
 def main() -> int:
     # A command in the background is started with this signal ignored, and hands that on.
     signal.signal(signal.SIGINT, signal.default_int_handler)
     try_lanes()
+    with tempfile.TemporaryDirectory(prefix="rubis-orders-") as room:
+        try_orders(pathlib.Path(room))
     with tempfile.TemporaryDirectory(prefix="rubis-first-") as room:
         copy = Copy(pathlib.Path(room))
         try_proofs(copy)
@@ -150,7 +186,7 @@ def main() -> int:
         try_interruption(copy)
         left = list(copy.temporary.iterdir())
         expect(not left, f"it leaves {left}")
-    print("the first command: 5 passed, 0 failed")
+    print("the first command: 6 passed, 0 failed")
     return 0
 
 
