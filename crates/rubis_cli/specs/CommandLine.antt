@@ -99,8 +99,11 @@ abbrev pub keep_command : App
 keep_command = with_flags (with_work (with_place (new_app (codes "keep"))))
 
 -- the program has a version, and wants a command
+abbrev pub described : App → App
+described a = record a { top = record a.top { has_version = true; subcommand_required = true } }
+
 abbrev pub program_alone : App
-program_alone = let a = new_app (codes "rubis") in record a { top = record a.top { has_version = true; subcommand_required = true } }
+program_alone = described (new_app (codes "rubis"))
 
 abbrev pub command_line : App
 command_line =

@@ -2,8 +2,8 @@
 
 ghost use Rattle.std.specs.Prelude.{◌≡◌, false, [], Some, codes, map, string_bytes, IfErr, IfOk};
 ghost use Rattle.rubis_schema.specs.declared.limits.TheConstants.{SITES_MAX};
-ghost use Rattle.clap.specs.Words.{app_of, fault_of, first_of, found_of, one_of, rows_of, rule_of};
-ghost use Rattle.rubis_cli.specs.CommandLine.{AreAuditOptionsIn, AreCheckOptionsIn, AreCountsIn, AreLackOptionsIn, AreOptionsIn, IsAsked, IsFaultAmong, IsNumberOf, IsReading, IsSetupIn, audit_command, check_command, command_line, given_option, keep_option, lack_command, number_option, program_alone, reading_named, reading_option, site_command, site_option, widen_command, with_input, with_setup, with_work, world_command};
+ghost use Rattle.clap.specs.Words.{app_of, fault_of, first_of, found_of, new_app, one_of, rows_of, rule_of};
+ghost use Rattle.rubis_cli.specs.CommandLine.{AreAuditOptionsIn, AreCheckOptionsIn, AreCountsIn, AreLackOptionsIn, AreOptionsIn, IsAsked, IsFaultAmong, IsNumberOf, IsReading, IsSetupIn, audit_command, check_command, command_line, described, given_option, keep_option, lack_command, number_option, program_alone, reading_named, reading_option, site_command, site_option, widen_command, with_input, with_setup, with_work, world_command};
 ghost use Rattle.rubis_cli.specs.declared.options.OptionFault.TheVariants.{Memory};
 
 use crate::keep_options::{KeepOptions, flag, is_given, keep_command, read_keep};
@@ -348,17 +348,29 @@ fn check<'a>(alloc: Global) -> Result<Command<'a>, AllocError>
         .arg(sites(alloc))
 }
 
+// The program's name.
+fn named<'a>(alloc: Global) -> Result<Command<'a>, AllocError>
+    ensures { IfOk result (λ made. app_of made ≡ new_app (codes "rubis")) }
+{
+    Command::new(alloc, "rubis").bin_name("rubis")
+}
+
+// What is said of the program.
+fn described<'a>(program: Command<'a>) -> Command<'a>
+    ensures { app_of result ≡ described (app_of program.entry) }
+{
+    program
+        .version("0.1.0")
+        .about("A replicated auction store under RedBlue consistency, with proved contracts")
+        .subcommand_required(true)
+}
+
 // The program, before it has its commands.
 fn program_alone<'a>(alloc: Global) -> Result<Command<'a>, AllocError>
     ensures { IfOk result (λ made. app_of made ≡ program_alone) }
 {
-    let program = Command::new(alloc, "rubis").bin_name("rubis")?;
-    Ok(
-        program
-            .version("0.1.0")
-            .about("A replicated auction store under RedBlue consistency, with proved contracts")
-            .subcommand_required(true),
-    )
+    let program = named(alloc)?;
+    Ok(described(program))
 }
 
 // The program's command line. Each command is made where it is added: no other is held across that `?`, which would
