@@ -3,7 +3,7 @@
 ghost use Rattle.std.specs.Prelude.{◌≡◌, false, [], Some, codes, map, string_bytes, IfErr, IfOk};
 ghost use Rattle.rubis_schema.specs.declared.limits.TheConstants.{SITES_MAX};
 ghost use Rattle.clap.specs.Words.{app_of, fault_of, first_of, found_of, new_app, one_of, rows_of, rule_of};
-ghost use Rattle.rubis_cli.specs.CommandLine.{AreAuditOptionsIn, AreCheckOptionsIn, AreCountsIn, AreLackOptionsIn, AreOptionsIn, IsAsked, IsFaultAmong, IsNumberOf, IsReading, IsSetupIn, audit_command, check_command, command_line, described, given_option, keep_option, lack_command, number_option, program_alone, reading_named, reading_option, site_command, site_option, widen_command, with_input, with_setup, with_work, world_command};
+ghost use Rattle.rubis_cli.specs.CommandLine.{AreAuditOptionsIn, AreCheckOptionsIn, AreCountsIn, AreLackOptionsIn, AreOptionsIn, IsAsked, IsFaultAmong, IsNumberOf, IsReading, IsSetupIn, audit_command, check_command, command_line, described, given_option, keep_option, lack_command, number_option, option_named, program_alone, reading_named, reading_option, site_command, site_option, widen_command, with_input, with_setup, with_work, world_command};
 ghost use Rattle.rubis_cli.specs.declared.options.OptionFault.TheVariants.{Memory};
 
 use crate::keep_options::{KeepOptions, flag, is_given, keep_command, read_keep};
@@ -122,14 +122,21 @@ pub struct Options {
     pub setup: Setup,
 }
 
+/// An option of this name.
+pub(crate) fn option<'a>(alloc: Global, name: &'a str) -> Arg<'a>
+    ensures rule { rule_of result ≡ option_named name.entry.now }
+    ensures local { result.global ≡ false }
+{
+    Arg::new(alloc, name).long(name)
+}
+
 /// An option that takes a number of this range, if it is given.
 pub(crate) fn given<'a>(alloc: Global, name: &'a str, low: u64, high: u64, help: &'a str) -> Arg<'a>
     ensures rule { rule_of result ≡ given_option name.entry.now low high }
     ensures help { result.help ≡ Some help.entry }
     ensures local { result.global ≡ false }
 {
-    Arg::new(alloc, name)
-        .long(name)
+    option(alloc, name)
         .value_name("n")
         .value_parser(ValueParser::unsigned(low, high))
         .help(help)
