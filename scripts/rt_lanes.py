@@ -27,11 +27,12 @@ Key = Tuple[Any, ...]
 Task = Tuple[List[Key], int, float, Callable[[Dict[Key, Any], int], Any]]
 # The folders of a crate that its proof reads.
 PARTS = ("src", "specs", "proofs")
-# What a crate costs beside its lines, in lines: its libraries are loaded, and it is compiled.
-FIXED = 1500
-# How many jobs a proof can use, and the memory that each but the first takes, as a part of what the toolchain reckons for the task.
-# A job more is a fork that shares what was loaded: proofs of four jobs were seen to take 58 to 72 percent of that in all.
-MOST, OF_TASK = 4, 0.1
+# What a crate costs beside its lines, in lines of code: its libraries are loaded, and it is compiled. And how many lines of its specs
+# and proofs cost as much as one of code.
+FIXED, OF_PROOFS = 100, 50
+# How many jobs a proof can use. And how much of the memory that the toolchain reckons for it, which is the most that was ever seen, a proof
+# takes with one job, and with each job more, a fork that shares what is loaded: here 29 to 55 percent were seen with one, and 57 to 72 with four.
+MOST, OF_ONE, OF_MORE = 4, 0.5, 0.1
 # The toolchain's function that is replaced.
 ORDER = "\ndef in_lanes(tasks):"
 # How much of the free memory is used.
@@ -45,14 +46,19 @@ def fills(key: Key) -> bool:
     return key[1] not in ("proof", "tests")
 
 
+def taken(needs: float, jobs: int) -> float:
+    """Returns about how much memory a task takes with these jobs, if the toolchain reckons `needs` for it."""
+    return needs * (OF_ONE + OF_MORE * (jobs - 1))
+
+
 def weight(crate: str) -> int:
-    """Returns about how much work a crate in this folder is, in lines."""
-    walked = (f"{at}/{file}" for part in PARTS for at, _, files in os.walk(f"{crate}/{part}") for file in files)
-    lines = FIXED
-    for path in walked:
-        with open(path, "rb") as text:
-            lines += text.read().count(b"\n")
-    return lines
+    """Returns about how much work a crate in this folder is, in lines of code."""
+    lines = {part: 0 for part in PARTS}
+    for part in PARTS:
+        for path in (f"{at}/{file}" for at, _, files in os.walk(f"{crate}/{part}") for file in files):
+            with open(path, "rb") as text:
+                lines[part] += text.read().count(b"\n")
+    return FIXED + lines["src"] + (lines["specs"] + lines["proofs"]) // OF_PROOFS
 
 
 def chains(tasks: Dict[Key, Task], weights: Dict[str, int]) -> Dict[Key, int]:
@@ -92,13 +98,13 @@ class Lanes:
             return 1
         needs = self.tasks[key][2]
         busy = [(self.tasks[it][2], jobs) for it, jobs in self.running.items() if not self.is_nothing(it)]
-        room = self.memory - sum(need * (1 + OF_TASK * (jobs - 1)) for need, jobs in busy)
-        if busy and (sum(jobs for _, jobs in busy) >= CROWDED * self.processors or needs > room):
+        room = self.memory - sum(taken(*it) for it in busy)
+        if busy and (sum(jobs for _, jobs in busy) >= CROWDED * self.processors or taken(needs, 1) > room):
             return 0
         if fills(key):
             return 1
         wanted = min(MOST, self.processors) if self.is_longest(key) else max(1, self.processors // 2)
-        return max(1, min(wanted, 1 + int((room / needs - 1) / OF_TASK)))
+        return max([1, *(jobs for jobs in range(1, wanted + 1) if taken(needs, jobs) <= room)])
 
     def do(self, key: Key, jobs: int, gives_way: bool) -> None:
         """Does one task in a thread of its own, whose programs give way as it does."""

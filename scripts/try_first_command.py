@@ -206,7 +206,7 @@ def try_lanes() -> None:
         return [(below, "proof") for below in waits[name]], lines[name], memory, call
 
     wide = {"low": 4, "long": 4, "short": 2, "top": 4, "bare": 1}
-    for memory, jobs in ((100.0, wide), (3.0, wide), (1.2, dict.fromkeys(lines, 1))):
+    for memory, jobs in ((100.0, wide), (2.5, wide), (0.6, dict.fromkeys(lines, 1))):
         done.clear()
         begun = {name: threading.Event() for name in lines}
         given = rt_lanes.Lanes({(name, "proof"): task(name, 1.0) for name in lines}, lines, 4, memory).run()

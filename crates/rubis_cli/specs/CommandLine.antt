@@ -24,6 +24,10 @@ use Rattle.rubis_cli.specs.declared.options.Invocation.TheVariants.{Audit, Check
 use Rattle.rubis_cli.specs.declared.options.Setup.{Setup}
 use Rattle.rubis_cli.specs.declared.options.Widening.{Widening}
 
+-- an option of this name
+abbrev pub option_named : Text → Rule
+option_named name = record (new_rule name) { long = Some name }
+
 -- an option that takes a number from `low` to `high`, and that has the value `default` where it isn't given
 abbrev pub number_option : Text → ℕ → ℕ → Text → Rule
 number_option name low high default = record (new_rule name) { long = Some name; value_names = 1; parser = Some (Unsigned low high); defaults = default ∷ [] }
@@ -99,8 +103,11 @@ abbrev pub keep_command : App
 keep_command = with_flags (with_work (with_place (new_app (codes "keep"))))
 
 -- the program has a version, and wants a command
+abbrev pub described : App → App
+described a = record a { top = record a.top { has_version = true; subcommand_required = true } }
+
 abbrev pub program_alone : App
-program_alone = let a = new_app (codes "rubis") in record a { top = record a.top { has_version = true; subcommand_required = true } }
+program_alone = described (new_app (codes "rubis"))
 
 abbrev pub command_line : App
 command_line =

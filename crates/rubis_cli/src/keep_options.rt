@@ -5,7 +5,7 @@ ghost use Rattle.clap.specs.Words.{app_of, first_of, found_of, one_of, rows_of, 
 ghost use Rattle.rubis_cli.specs.CommandLine.{AreKeepOptionsIn, IsFlag, IsGivenNumber, IsText, flag_option, folder_option, keep_command};
 ghost use Rattle.rubis_cli.specs.CommandLine.{with_flags, with_place};
 
-use crate::options::{byte, given, with_work, word};
+use crate::options::{byte, given, option, with_work, word};
 use clap::{Arg, ArgAction, ArgMatches, Command};
 use rubis_schema::{KEEP_MAX, SITES_MAX};
 use std::alloc::{AllocError, Global};
@@ -36,10 +36,7 @@ pub(crate) fn flag<'a>(alloc: Global, name: &'a str, help: &'a str) -> Arg<'a>
     ensures help { result.help ≡ Some help.entry }
     ensures local { result.global ≡ false }
 {
-    Arg::new(alloc, name)
-        .long(name)
-        .action(ArgAction::SetTrue)
-        .help(help)
+    option(alloc, name).action(ArgAction::SetTrue).help(help)
 }
 
 // The folder of a site.

@@ -2,12 +2,12 @@
 
 ghost use Rattle.std.specs.Prelude.{◌≡◌, false, [], Some, codes, map, string_bytes, IfErr, IfOk};
 ghost use Rattle.rubis_schema.specs.declared.limits.TheConstants.{SITES_MAX};
-ghost use Rattle.clap.specs.Words.{app_of, fault_of, first_of, found_of, one_of, rows_of, rule_of};
+ghost use Rattle.clap.specs.Words.{app_of, fault_of, first_of, found_of, new_app, one_of, rows_of, rule_of};
 ghost use Rattle.rubis_cli.specs.CommandLine.{AreAuditOptionsIn, AreCheckOptionsIn, AreCountsIn, AreLackOptionsIn, AreOptionsIn, IsAsked};
 ghost use Rattle.rubis_cli.specs.CommandLine.{IsFaultAmong, IsNumberOf, IsReading, IsSetupIn, audit_command, check_command, command_line};
-ghost use Rattle.rubis_cli.specs.CommandLine.{given_option, keep_option, lack_command, number_option, program_alone, reading_named};
-ghost use Rattle.rubis_cli.specs.CommandLine.{reading_option, site_command, site_option, widen_command, with_input, with_setup, with_work};
-ghost use Rattle.rubis_cli.specs.CommandLine.{world_command};
+ghost use Rattle.rubis_cli.specs.CommandLine.{described, given_option, keep_option, lack_command, number_option, option_named};
+ghost use Rattle.rubis_cli.specs.CommandLine.{program_alone, reading_named, reading_option, site_command, site_option, widen_command};
+ghost use Rattle.rubis_cli.specs.CommandLine.{with_input, with_setup, with_work, world_command};
 ghost use Rattle.rubis_cli.specs.declared.options.OptionFault.TheVariants.{Memory};
 
 use crate::keep_options::{KeepOptions, flag, is_given, keep_command, read_keep};
@@ -126,14 +126,21 @@ pub struct Options {
     pub setup: Setup,
 }
 
+/// An option of this name.
+pub(crate) fn option<'a>(alloc: Global, name: &'a str) -> Arg<'a>
+    ensures rule { rule_of result ≡ option_named name.entry.now }
+    ensures local { result.global ≡ false }
+{
+    Arg::new(alloc, name).long(name)
+}
+
 /// An option that takes a number of this range, if it is given.
 pub(crate) fn given<'a>(alloc: Global, name: &'a str, low: u64, high: u64, help: &'a str) -> Arg<'a>
     ensures rule { rule_of result ≡ given_option name.entry.now low high }
     ensures help { result.help ≡ Some help.entry }
     ensures local { result.global ≡ false }
 {
-    Arg::new(alloc, name)
-        .long(name)
+    option(alloc, name)
         .value_name("n")
         .value_parser(ValueParser::unsigned(low, high))
         .help(help)
@@ -352,17 +359,29 @@ fn check<'a>(alloc: Global) -> Result<Command<'a>, AllocError>
         .arg(sites(alloc))
 }
 
+// The program's name.
+fn named<'a>(alloc: Global) -> Result<Command<'a>, AllocError>
+    ensures { IfOk result (λ made. app_of made ≡ new_app (codes "rubis")) }
+{
+    Command::new(alloc, "rubis").bin_name("rubis")
+}
+
+// What is said of the program.
+fn described<'a>(program: Command<'a>) -> Command<'a>
+    ensures { app_of result ≡ described (app_of program.entry) }
+{
+    program
+        .version("0.1.0")
+        .about("A replicated auction store under RedBlue consistency, with proved contracts")
+        .subcommand_required(true)
+}
+
 // The program, before it has its commands.
 fn program_alone<'a>(alloc: Global) -> Result<Command<'a>, AllocError>
     ensures { IfOk result (λ made. app_of made ≡ program_alone) }
 {
-    let program = Command::new(alloc, "rubis").bin_name("rubis")?;
-    Ok(
-        program
-            .version("0.1.0")
-            .about("A replicated auction store under RedBlue consistency, with proved contracts")
-            .subcommand_required(true),
-    )
+    let program = named(alloc)?;
+    Ok(described(program))
 }
 
 // The program's command line. Each command is made where it is added: no other is held across that `?`, which would
