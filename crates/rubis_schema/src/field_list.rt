@@ -106,6 +106,33 @@ fn add(text: &mut Vec<u8>, ends: &mut Vec<usize>, field: &[u8]) -> Result<(), Al
     Ok(())
 }
 
+// Appends a few bytes to a text that has room for them. That is less than a call of what copies any number of them.
+#[inline(always)]
+fn push_bytes(text: &mut Vec<u8>, bytes: &[u8])
+    requires room { vec_len text.old + length bytes.now ≤ vec_capacity text.old }
+    ensures text { text.new.items ≡ text.old.items ++ bytes.now }
+{
+    for byte in bytes {
+        text.push_reserved(*byte);
+    }
+}
+
+// Adds a field of a few bytes at the end. Without memory for it nothing changes.
+#[inline(always)]
+fn add_short(text: &mut Vec<u8>, ends: &mut Vec<usize>, field: &[u8]) -> Result<(), AllocError>
+    requires { IsLaidOut ends.old.items text.old.items }
+    ensures laid { OnOk result (IsLaidOut ends.new.items text.new.items) }
+    ensures ok { OnOk result (pieces 0 ends.new.items text.new.items ≡ pieces 0 ends.old.items text.old.items ++ field.now ∷ []) }
+    ensures err { OnErr result ((ends.new.items ≡ ends.old.items) × (text.new.items ≡ text.old.items)) }
+{
+    make_room(ends, 1)?;
+    make_room(text, field.len() + 1)?;
+    text.push_reserved(b',');
+    push_bytes(text, field);
+    ends.push_reserved(text.len());
+    Ok(())
+}
+
 // Adds a number as a field at the end. Without memory for it nothing changes.
 #[inline(always)]
 fn add_number(text: &mut Vec<u8>, ends: &mut Vec<usize>, number: u64) -> Result<(), AllocError>
@@ -178,14 +205,14 @@ impl Fields {
         Ok(())
     }
 
-    /// Adds a field that calls for no quotes at the end. Without memory for it the record stays as it was.
+    /// Adds a field that calls for no quotes, most often a word, at the end. Without memory for it the record stays as it was.
     #[inline(always)]
     pub fn push_plain(&mut self, field: &[u8]) -> Result<(), AllocError>
         requires { model.is_plain field.now ≡ true }
         ensures ok { OnOk result (self.new ≡ self.old ++ field.now ∷ []) }
         ensures err { OnErr result (self.new ≡ self.old) }
     {
-        add(&mut self.text, &mut self.ends, field)
+        add_short(&mut self.text, &mut self.ends, field)
     }
 
     /// Adds a number as a field at the end. Without memory for it the record stays as it was.

@@ -63,6 +63,22 @@ fn push_middle(text: &mut Vec<u8>, number: u64)
     }
 }
 
+// Appends the digits of a number from 10,000 to 99,999,999 to the text.
+#[inline(always)]
+fn push_eight(text: &mut Vec<u8>, number: u64)
+    requires long { 10000 ≤ number }
+    requires eight { number < 100000000 }
+    requires room { vec_len text.old + length (decimal number) ≤ vec_capacity text.old }
+    ensures text { text.new.items ≡ text.old.items ++ decimal number }
+    ensures len { vec_len text.new ≡ vec_len text.old + length (decimal number) }
+    ensures room { vec_capacity text.new ≡ vec_capacity text.old }
+{
+    let rest = number / 100;
+    push_middle(text, rest / 100);
+    push_pair(text, rest % 100);
+    push_pair(text, number % 100);
+}
+
 // Appends the digits of a number from 10,000 on to the text, four at a time.
 fn push_long(text: &mut Vec<u8>, number: u64)
     requires long { 10000 ≤ number }
@@ -92,6 +108,8 @@ fn push_more(text: &mut Vec<u8>, number: u64)
 {
     if number < 10000 {
         push_middle(text, number);
+    } else if number < 100_000_000 {
+        push_eight(text, number);
     } else {
         push_long(text, number);
     }
