@@ -9,7 +9,7 @@ ghost use Rattle.rubis_engine.specs.Text.{plain_writer};
 
 use crate::fault::RunFault;
 use crate::quoted_rows::QuotedRows;
-use rubis_schema::{Fields, RowSink, SharedSink, is_plain};
+use rubis_schema::{Fields, RowSink, SharedSink, is_plain, make_room, push_bytes};
 use std::alloc::{AllocError, Global};
 use std::io::Write;
 use std::marker::Model;
@@ -75,8 +75,9 @@ fn push_first(text: &mut Vec<u8>, first: &[&[u8]]) -> Result<(), AllocError>
     ensures { OnOk result (text.new.items ≡ text.old.items ++ prefix_text (map (λ f. f.now) first.now)) }
 {
     for field in first {
-        text.extend_from_slice(field)?;
-        text.push(b',')?;
+        make_room(text, field.len() + 1)?;
+        push_bytes(text, field);
+        text.push_reserved(b',');
     }
     Ok(())
 }
@@ -104,6 +105,7 @@ fn push_line(text: &mut Vec<u8>, plain: &[u8]) -> Result<(), AllocError>
 }
 
 // Adds a row in which some field calls for quotes, by what is kept for such rows.
+#[cold]
 fn push_quoted(
     text: &mut Vec<u8>,
     kept: &mut Option<QuotedRows>,

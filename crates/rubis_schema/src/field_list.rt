@@ -8,6 +8,7 @@ ghost use Rattle.rubis_schema.specs.FieldList as model;
 
 use crate::limits::{NUMBER_TEXT_MAX, NUMBERS_TEXT_MAX};
 use crate::number_texts::{push_digits, push_numbers};
+use crate::spare_room::{make_room, push_bytes};
 use std::alloc::{AllocError, Global};
 use std::marker::Model;
 
@@ -76,18 +77,6 @@ pub fn is_plain(field: &[u8]) -> bool
     true
 }
 
-// Makes room for `more` further elements; usually the capacity is already there.
-#[inline(always)]
-fn make_room<T>(list: &mut Vec<T>, more: usize) -> Result<(), AllocError>
-    ensures items { list.new.items ≡ list.old.items }
-    ensures room { OnOk result (vec_len list.new + more ≤ vec_capacity list.new) }
-{
-    if list.capacity() - list.len() >= more {
-        return Ok(());
-    }
-    list.reserve(more)
-}
-
 // Adds a field at the end. Without memory for it nothing changes.
 #[inline(always)]
 fn add(text: &mut Vec<u8>, ends: &mut Vec<usize>, field: &[u8]) -> Result<(), AllocError>
@@ -104,17 +93,6 @@ fn add(text: &mut Vec<u8>, ends: &mut Vec<usize>, field: &[u8]) -> Result<(), Al
     };
     ends.push_reserved(text.len());
     Ok(())
-}
-
-// Appends a few bytes to a text that has room for them. That is less than a call of what copies any number of them.
-#[inline(always)]
-fn push_bytes(text: &mut Vec<u8>, bytes: &[u8])
-    requires room { vec_len text.old + length bytes.now ≤ vec_capacity text.old }
-    ensures text { text.new.items ≡ text.old.items ++ bytes.now }
-{
-    for byte in bytes {
-        text.push_reserved(*byte);
-    }
 }
 
 // Adds a field of a few bytes at the end. Without memory for it nothing changes.

@@ -23,6 +23,7 @@ mod row_sinks;
 mod rows;
 mod shared;
 mod short_texts;
+mod spare_room;
 mod splits;
 mod texts;
 mod views;
@@ -55,6 +56,7 @@ pub use rows::{
 pub use rubis_numbers::{RATING_MAX, read_number, read_rating};
 pub use shared::Shared;
 pub use short_texts::ShortText;
+pub use spare_room::{make_room, push_bytes};
 pub use splits::{read_number_before, split_once};
 pub use texts::{Name, Text};
 pub use views::View;

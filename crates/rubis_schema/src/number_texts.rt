@@ -98,7 +98,7 @@ fn push_long(text: &mut Vec<u8>, number: u64)
     push_pair(text, number % 100);
 }
 
-// Appends the digits of a number, most often of one from 100 on, to the text.
+// Appends the digits of a number, most often of one from 10 on, to the text.
 #[inline(never)]
 fn push_more(text: &mut Vec<u8>, number: u64)
     requires room { vec_len text.old + length (decimal number) ≤ vec_capacity text.old }
@@ -123,8 +123,8 @@ pub fn push_digits(text: &mut Vec<u8>, number: u64)
     ensures len { vec_len text.new ≡ vec_len text.old + length (decimal number) }
     ensures room { vec_capacity text.new ≡ vec_capacity text.old }
 {
-    if number < 100 {
-        push_short(text, number);
+    if number < 10 {
+        push_digit(text, number);
     } else {
         push_more(text, number);
     }
