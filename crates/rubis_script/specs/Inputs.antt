@@ -1,6 +1,5 @@
 -- What a record is to a site, and what the site answers to it.
 use Rattle.std.specs.Prelude.{◌≡◌, ◌++◌, ℕ, List, None, Result, Some, Ok, Err}
-use Rattle.rubis_schema.specs.declared.refusals.Refusal.{Refusal}
 use Rattle.rubis_message.specs.Grammar.{IsPacket, packet_record}
 use Rattle.rubis_message.specs.Readings.{packet_of}
 use Rattle.rubis_message.specs.declared.faults.ReadFault.{ReadFault}
@@ -8,21 +7,12 @@ use Rattle.rubis_message.specs.declared.faults.ReadFault.TheVariants.{BadRecord}
 use Rattle.rubis_message.specs.declared.tokens.Packet.{Packet}
 use Rattle.rubis_model.specs.Runs.{Input as Meant, input_step}
 use Rattle.rubis_replica.specs.State.{SiteState}
-use Rattle.rubis_replica.specs.declared.faults.Fault.{Fault}
-use Rattle.rubis_replica.specs.declared.faults.Fault.TheVariants.{Refused}
 use Rattle.rubis_engine.specs.Text.{rows_text}
-use Rattle.rubis_engine.specs.declared.fault.OutOfMemory.{OutOfMemory}
 
 -- the site has come to what record n makes of it, and the text of its answers follows what stood before
 abbrev pub IsAnswered : ℕ → Meant → SiteState → SiteState → List ℕ → List ℕ → Type 0
 IsAnswered n input old new before after =
     (new.state ≡ (input_step old.place old.state n input).0) × (after ≡ before ++ rows_text (input_step old.place old.state n input).1)
-
--- an answer of a site, or a refusal; a site that is behind or has no memory gives none
-abbrev pub answer_of : {A : Type 0} → Result A Fault → Result (Result A Refusal) OutOfMemory
-answer_of (Ok a) = Ok (Ok a)
-answer_of (Err (Refused r)) = Ok (Err r)
-answer_of (Err fault) = Err (record {})
 
 -- what a record was read as: the packet that it is, or that it is none
 abbrev pub IsReadOf : ℕ → List (List ℕ) → Result Packet ReadFault → Type 0

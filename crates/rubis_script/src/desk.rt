@@ -18,7 +18,7 @@ ghost use Rattle.rubis_replica.specs.Setup.{setup_place};
 ghost use Rattle.rubis_reading.specs.Parsed.{FitsIn, meant};
 ghost use Rattle.rubis_engine.specs.Accounts.{AnswersRecord, Keeps};
 ghost use Rattle.rubis_script.specs.Drains.{WritesFront, WritesOff, listed_behind};
-ghost use Rattle.rubis_script.specs.Inputs.{IsAnswered, IsReadOf, answer_of};
+ghost use Rattle.rubis_script.specs.Inputs.{IsAnswered, IsReadOf};
 ghost use Rattle.rubis_script.specs.Headline.{Settles, StepsOn};
 ghost use Rattle.rubis_script.specs.SiteRuns.{told_by};
 ghost use Rattle.rubis_engine.specs.Text.{rows_text};
@@ -43,19 +43,6 @@ use std::io::Write;
 use std::mem;
 use std::sync::Wait;
 use std::thread::Threads;
-
-// The answer of a site's call, or its refusal. A site that has no memory for an answer gives none, nor does one that is
-// behind, which had none for a batch.
-#[inline(always)]
-fn answered<A>(answer: Result<A, Fault>) -> Result<Result<A, Refusal>, OutOfMemory>
-    ensures { result ≡ answer_of answer }
-{
-    match answer {
-        Ok(answer) => Ok(Ok(answer)),
-        Err(Fault::Refused(refusal)) => Ok(Err(refusal)),
-        Err(Fault::Behind) | Err(Fault::Memory) => Err(OutOfMemory),
-    }
-}
 
 // Refuses a record.
 #[inline(always)]
@@ -91,8 +78,11 @@ fn answer_pass<G: Gate>(site: &mut Site<G>, reply: &mut Reply, to: u8) -> Result
     ensures place { site.new.place ≡ site.old.place }
     ensures answered { OnOk result (IsAnswered reply.old.number (Asked (Request.Pass to)) site.old site.new reply.old.sink reply.new.sink) }
 {
-    let answer = answered(site.pass(to))?;
-    write_passed(&mut reply.fields, &mut reply.sink, reply.number, &answer)?;
+    match site.pass(to) {
+        Ok(token) => write_passed(&mut reply.fields, &mut reply.sink, reply.number, &token)?,
+        Err(Fault::Refused(refusal)) => refuse(reply, refusal)?,
+        Err(Fault::Behind) | Err(Fault::Memory) => return Err(OutOfMemory),
+    }
     Ok(())
 }
 
@@ -108,9 +98,10 @@ fn answer_list<G: Gate, R: Threads + Wait + Sync>(
     ensures answered { OnOk result (IsAnswered reply.old.number (Asked (Request.List listing.now)) site.old site.new reply.old.sink reply.new.sink) }
 {
     let mut rows = Counted::new(reply.sink.another());
-    match answered(site.list_into(rt, listing, &mut rows))? {
+    match site.list_into(rt, listing, &mut rows) {
         Ok(()) => write_listed_text(&mut reply.fields, &mut reply.sink, reply.number, rows)?,
-        Err(refusal) => refuse(reply, refusal)?,
+        Err(Fault::Refused(refusal)) => refuse(reply, refusal)?,
+        Err(Fault::Behind) | Err(Fault::Memory) => return Err(OutOfMemory),
     }
     Ok(())
 }
@@ -146,8 +137,11 @@ fn answer_message<G: Gate, R: Threads + Wait + Sync>(
     ensures place { site.new.place ≡ site.old.place }
     ensures answered { OnOk result (IsAnswered reply.old.number (Came (Packet.Msg message)) site.old site.new reply.old.sink reply.new.sink) }
 {
-    let answer = answered(site.arrive(rt, message))?;
-    write_arrival(&mut reply.fields, &mut reply.sink, reply.number, &answer)?;
+    match site.arrive(rt, message) {
+        Ok(arrival) => write_arrival(&mut reply.fields, &mut reply.sink, reply.number, arrival)?,
+        Err(Fault::Refused(refusal)) => refuse(reply, refusal)?,
+        Err(Fault::Behind) | Err(Fault::Memory) => return Err(OutOfMemory),
+    }
     Ok(())
 }
 
@@ -160,8 +154,11 @@ fn answer_token<G: Gate>(
     ensures place { site.new.place ≡ site.old.place }
     ensures answered { OnOk result (IsAnswered reply.old.number (Came (Packet.Token token)) site.old site.new reply.old.sink reply.new.sink) }
 {
-    let answer = answered(site.token(token))?;
-    write_taken(&mut reply.fields, &mut reply.sink, reply.number, &answer)?;
+    match site.token(token) {
+        Ok(taken) => write_taken(&mut reply.fields, &mut reply.sink, reply.number, taken)?,
+        Err(Fault::Refused(refusal)) => refuse(reply, refusal)?,
+        Err(Fault::Behind) | Err(Fault::Memory) => return Err(OutOfMemory),
+    }
     Ok(())
 }
 

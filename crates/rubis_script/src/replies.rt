@@ -71,7 +71,7 @@ pub fn write_sent<S: RowSink>(
 }
 
 /// Says that the token is handed on, and sends it.
-pub fn write_handed_on<S: RowSink>(
+pub fn write_passed<S: RowSink>(
     fields: &mut Fields,
     sink: &mut S,
     number: u64,
@@ -85,21 +85,6 @@ pub fn write_handed_on<S: RowSink>(
     fields.push_plain(b"send")?;
     append_token(fields, token)?;
     sink.put(fields)
-}
-
-/// Says that the token is handed on, and sends it; or why it isn't.
-pub fn write_passed<S: RowSink>(
-    fields: &mut Fields,
-    sink: &mut S,
-    number: u64,
-    answer: &Result<Token, Refusal>,
-) -> Result<(), AllocError>
-    ensures { OnOk result (S.adds (passed_rows number answer.now) sink.old sink.new) }
-{
-    match answer {
-        Ok(token) => write_handed_on(fields, sink, number, token),
-        Err(refusal) => write_refusal(fields, sink, number, *refusal),
-    }
 }
 
 // Says how many messages were released.
@@ -130,36 +115,34 @@ fn write_word<S: RowSink>(
     sink.put(fields)
 }
 
-/// Says what became of a message that arrived, or why it is refused.
+/// Says what became of a message that arrived.
 pub fn write_arrival<S: RowSink>(
     fields: &mut Fields,
     sink: &mut S,
     number: u64,
-    answer: &Result<Arrival, Refusal>,
+    arrival: Arrival,
 ) -> Result<(), AllocError>
-    ensures { OnOk result (S.adds (arrived_rows number answer.now) sink.old sink.new) }
+    ensures { OnOk result (S.adds (arrived_rows number (Ok arrival)) sink.old sink.new) }
 {
-    match answer {
-        Ok(Arrival::Released(count)) => write_released(fields, sink, number, *count),
-        Ok(Arrival::Held) => write_word(fields, sink, number, b"held"),
-        Ok(Arrival::Repeat) => write_word(fields, sink, number, b"repeat"),
-        Err(refusal) => write_refusal(fields, sink, number, *refusal),
+    match arrival {
+        Arrival::Released(count) => write_released(fields, sink, number, count),
+        Arrival::Held => write_word(fields, sink, number, b"held"),
+        Arrival::Repeat => write_word(fields, sink, number, b"repeat"),
     }
 }
 
-/// Says what became of a token that arrived, or why it is refused.
+/// Says what became of a token that arrived.
 pub fn write_taken<S: RowSink>(
     fields: &mut Fields,
     sink: &mut S,
     number: u64,
-    answer: &Result<Taken, Refusal>,
+    taken: Taken,
 ) -> Result<(), AllocError>
-    ensures { OnOk result (S.adds (took_rows number answer.now) sink.old sink.new) }
+    ensures { OnOk result (S.adds (took_rows number (Ok taken)) sink.old sink.new) }
 {
-    match answer {
-        Ok(Taken::Holding) => write_word(fields, sink, number, b"holding"),
-        Ok(Taken::Repeat) => write_word(fields, sink, number, b"repeat"),
-        Err(refusal) => write_refusal(fields, sink, number, *refusal),
+    match taken {
+        Taken::Holding => write_word(fields, sink, number, b"holding"),
+        Taken::Repeat => write_word(fields, sink, number, b"repeat"),
     }
 }
 
@@ -187,8 +170,8 @@ pub(crate) fn write_count<S: RowSink>(
     sink.put(fields)
 }
 
-// How many rows a listing has, and the rows.
-fn write_listing<S: RowSink>(
+/// Says how many rows a listing has, and gives them.
+pub fn write_listed<S: RowSink>(
     fields: &mut Fields,
     sink: &mut S,
     number: u64,
@@ -198,21 +181,6 @@ fn write_listing<S: RowSink>(
 {
     write_count(fields, sink, number, rows.len() as u64)?;
     write_rows(sink, rows.as_slice())
-}
-
-/// Says how many rows a listing has, and gives them; or says why it is refused.
-pub fn write_listed<S: RowSink>(
-    fields: &mut Fields,
-    sink: &mut S,
-    number: u64,
-    answer: &Result<Items<Fields>, Refusal>,
-) -> Result<(), AllocError>
-    ensures { OnOk result (S.adds (listed_rows number answer.now) sink.old sink.new) }
-{
-    match answer {
-        Ok(rows) => write_listing(fields, sink, number, rows),
-        Err(refusal) => write_refusal(fields, sink, number, *refusal),
-    }
 }
 
 /// Says how many rows a listing has, and gives their text.

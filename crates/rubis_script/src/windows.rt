@@ -4,7 +4,7 @@ ghost use Rattle.std.specs.Prelude.{◌≡◌, ◌≤◌, ◌+◌, ◌++◌, ◌
 ghost use Rattle.rubis_engine.specs.Text.{rows_text};
 ghost use Rattle.rubis_script.specs.Windows.{arrivals_rows};
 
-use crate::replies::write_arrival;
+use crate::replies::{write_arrival, write_refusal};
 use rubis_engine::{OutOfMemory, Sink};
 use rubis_message::{Arrival, Message};
 use rubis_replica::Config;
@@ -41,7 +41,11 @@ pub(crate) fn write_arrivals(
     ensures { OnOk result (sink.new ≡ sink.old ++ rows_text (arrivals_rows first answers.now)) }
 {
     for (at, answer) in answers.iter().enumerate() {
-        write_arrival(fields, sink, first + at as u64, answer)?;
+        let number = first + at as u64;
+        match answer {
+            Ok(arrival) => write_arrival(fields, sink, number, *arrival)?,
+            Err(refusal) => write_refusal(fields, sink, number, *refusal)?,
+        }
     }
     Ok(())
 }

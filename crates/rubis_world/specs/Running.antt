@@ -1,26 +1,28 @@
 -- What several sites make of their records.
-use Rattle.std.specs.Prelude.{◌≡◌, ◌++◌, ℕ, List, length, Result, Ok, Err}
+use Rattle.std.specs.Prelude.{◌≡◌, ◌++◌, ◌∷◌, [], ℕ, List, MatchOption, None, Option, Some, length}
 use Rattle.rubis_schema.specs.declared.refusals.Refusal.{Refusal}
 use Rattle.rubis_schema.specs.declared.refusals.Refusal.TheVariants as refusal
 use Rattle.rubis_model.specs.System.{World, start}
-use Rattle.rubis_model.specs.WorldRecords.{world_answers}
+use Rattle.rubis_model.specs.WorldRecords.{refusal_row, world_answers}
 use Rattle.rubis_script.specs.Replica.fault_variants as fault
 use Rattle.rubis_engine.specs.Accounts.{Account}
 use Rattle.rubis_engine.specs.Text.{rows_text}
-use Rattle.rubis_engine.specs.declared.fault.OutOfMemory.{OutOfMemory}
 use Rattle.rubis_world.specs.SitesWorlds.{ComesTo, WorldState}
 use Rattle.rubis_world.specs.declared.faults.WorldFault.{WorldFault}
 use Rattle.rubis_world.specs.declared.faults.WorldFault.TheVariants.{BadEvent, NoSuchPacket, Site, Memory}
 
--- an answer, or a refusal; where a site is behind or memory runs out there is none
-abbrev pub answer_in_world : {A : Type 0} → Result A WorldFault → Result (Result A Refusal) OutOfMemory
-answer_in_world (Ok a) = Ok (Ok a)
-answer_in_world (Err BadEvent) = Ok (Err refusal.BadEvent)
-answer_in_world (Err NoSuchPacket) = Ok (Err refusal.NoSuchPacket)
-answer_in_world (Err (Site (fault.Refused r))) = Ok (Err r)
-answer_in_world (Err (Site fault.Behind)) = Err (record {})
-answer_in_world (Err (Site fault.Memory)) = Err (record {})
-answer_in_world (Err Memory) = Err (record {})
+-- what refuses an event; where a site is behind or memory runs out nothing does
+abbrev pub refusal_of : WorldFault → Option Refusal
+refusal_of BadEvent = Some refusal.BadEvent
+refusal_of NoSuchPacket = Some refusal.NoSuchPacket
+refusal_of (Site (fault.Refused r)) = Some r
+refusal_of (Site fault.Behind) = None
+refusal_of (Site fault.Memory) = None
+refusal_of Memory = None
+
+-- the event is refused, and the text says so behind what stood before
+abbrev pub IsRefused : ℕ → ℕ → WorldFault → List ℕ → List ℕ → Type 0
+IsRefused n site fault before after = MatchOption (refusal_of fault) ⊥ (λ r. after ≡ before ++ rows_text (refusal_row n site r ∷ []))
 
 -- the world has come to what a step makes of it, and the text of the step's records follows what stood before
 abbrev pub IsTold : WorldState → WorldState → World × List (List (List ℕ)) → List ℕ → List ℕ → Type 0

@@ -2,7 +2,7 @@
 
 ghost use Rattle.std.specs.Prelude.{◌≡◌, ◌++◌, ◌∷◌, [], OnOk, Some, map};
 ghost use Rattle.rubis_model.specs.Answers.{refused_row};
-ghost use Rattle.rubis_model.specs.WorldRecords.{event_rows, happened_rows, refusal_row, sent_rows, site_row, world_row};
+ghost use Rattle.rubis_model.specs.WorldRecords.{happened_rows, refusal_row, sent_rows, site_row, world_row};
 ghost use Rattle.rubis_engine.specs.Text.{rows_text};
 
 use crate::packets::packet;
@@ -11,7 +11,7 @@ use rubis_engine::{Reply, Sink};
 use rubis_message::{Happened, Packet};
 use rubis_schema::{Fields, Refusal, RowSink, push_number};
 use rubis_script::{
-    write_arrival, write_handed_on, write_listed, write_refusal, write_sent, write_taken,
+    write_arrival, write_listed, write_passed, write_refusal, write_sent, write_taken,
 };
 use std::alloc::AllocError;
 
@@ -40,7 +40,7 @@ fn write_packet<S: RowSink>(
 {
     match packet {
         Packet::Msg(message) => write_sent(fields, sink, number, message),
-        Packet::Token(token) => write_handed_on(fields, sink, number, token),
+        Packet::Token(token) => write_passed(fields, sink, number, token),
     }
 }
 
@@ -59,14 +59,14 @@ fn write_happened<S: RowSink>(
             Some(packet) => write_packet(fields, sink, number, packet),
             None => Ok(()),
         },
-        Happened::Came(arrival) => write_arrival(fields, sink, number, &Ok(arrival)),
-        Happened::Token(taken) => write_taken(fields, sink, number, &Ok(taken)),
-        Happened::Rows(rows) => write_listed(fields, sink, number, &Ok(rows)),
+        Happened::Came(arrival) => write_arrival(fields, sink, number, arrival),
+        Happened::Token(taken) => write_taken(fields, sink, number, taken),
+        Happened::Rows(rows) => write_listed(fields, sink, number, &rows),
     }
 }
 
-// The records of a site where something happened.
-fn write_event(
+/// Says what happened at a site; all packets that were sent are at hand.
+pub fn write_event(
     fields: &mut Fields,
     sink: &mut Sink,
     number: u64,
@@ -80,8 +80,8 @@ fn write_event(
     write_happened(fields, &mut rows, number, sent, happened)
 }
 
-/// Says that a site refuses the record.
-pub fn write_refused(
+// Says that a site refuses the record.
+fn write_site_refusal(
     fields: &mut Fields,
     sink: &mut Sink,
     number: u64,
@@ -94,27 +94,14 @@ pub fn write_refused(
     write_refusal(fields, &mut rows, number, refusal)
 }
 
-/// Says what the record came to at a site.
-pub fn write_answer(
-    reply: &mut Reply,
-    site: u8,
-    sent: &[Packet],
-    answer: Result<Happened, Refusal>,
-) -> Result<(), AllocError>
-    ensures { OnOk result (reply.new.sink ≡ reply.old.sink ++ rows_text (event_rows reply.old.number site sent.now answer)) }
+/// Says why a record is refused: by the world if it is no event, and otherwise by the site.
+pub fn write_refused(reply: &mut Reply, site: u8, refusal: Refusal) -> Result<(), AllocError>
+    ensures { OnOk result (reply.new.sink ≡ reply.old.sink ++ rows_text (refusal_row reply.old.number site refusal ∷ [])) }
 {
-    match answer {
-        Ok(happened) => write_event(
-            &mut reply.fields,
-            &mut reply.sink,
-            reply.number,
-            site,
-            sent,
-            happened,
-        ),
-        Err(Refusal::BadEvent) => write_no_event(reply, Refusal::BadEvent),
-        Err(Refusal::NoSuchPacket) => write_no_event(reply, Refusal::NoSuchPacket),
-        Err(refusal) => write_refused(
+    match refusal {
+        Refusal::BadEvent => write_no_event(reply, Refusal::BadEvent),
+        Refusal::NoSuchPacket => write_no_event(reply, Refusal::NoSuchPacket),
+        refusal => write_site_refusal(
             &mut reply.fields,
             &mut reply.sink,
             reply.number,

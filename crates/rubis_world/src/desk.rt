@@ -11,9 +11,9 @@ ghost use Rattle.rubis_model.specs.WorldRecords.{logs_of, told_at, world_step};
 ghost use Rattle.rubis_schema.specs.declared.limits.TheConstants.{KEEP_MAX, SITES_MAX};
 ghost use Rattle.rubis_script.specs.Replica.{IsCount};
 ghost use Rattle.rubis_world.specs.SitesWorlds.{opening_world};
-ghost use Rattle.rubis_world.specs.Running.{IsTold, answer_in_world, told_by_world};
+ghost use Rattle.rubis_world.specs.Running.{IsRefused, IsTold, told_by_world};
 
-use crate::answers::{write_answer, write_no_event, write_refused};
+use crate::answers::{write_event, write_no_event, write_refused};
 use crate::config::WorldConfig;
 use crate::faults::WorldFault;
 use crate::world::World;
@@ -26,16 +26,15 @@ use std::alloc::{AllocError, Global};
 use std::sync::Wait;
 use std::thread::Threads;
 
-// The answer to an event, or its refusal. Where a site has no memory for an answer there is none, nor where it is behind.
-fn answered<A>(answer: Result<A, WorldFault>) -> Result<Result<A, Refusal>, OutOfMemory>
-    ensures { result ≡ answer_in_world answer }
+// Says why an event is refused. Where a site has no memory for an answer there is none, nor where it is behind.
+fn refuse(reply: &mut Reply, site: u8, fault: WorldFault) -> Result<(), OutOfMemory>
+    ensures { OnOk result (IsRefused reply.old.number site fault reply.old.sink reply.new.sink) }
 {
-    match answer {
-        Ok(answer) => Ok(Ok(answer)),
-        Err(WorldFault::BadEvent) => Ok(Err(Refusal::BadEvent)),
-        Err(WorldFault::NoSuchPacket) => Ok(Err(Refusal::NoSuchPacket)),
-        Err(WorldFault::Site(Fault::Refused(refusal))) => Ok(Err(refusal)),
-        Err(WorldFault::Site(_)) | Err(WorldFault::Memory) => Err(OutOfMemory),
+    match fault {
+        WorldFault::BadEvent => Ok(write_refused(reply, site, Refusal::BadEvent)?),
+        WorldFault::NoSuchPacket => Ok(write_refused(reply, site, Refusal::NoSuchPacket)?),
+        WorldFault::Site(Fault::Refused(refusal)) => Ok(write_refused(reply, site, refusal)?),
+        WorldFault::Site(_) | WorldFault::Memory => Err(OutOfMemory),
     }
 }
 
@@ -51,9 +50,17 @@ fn answer_request<R: Threads + Wait + Sync>(
     ensures { OnOk result (IsTold world.old world.new (told_at reply.old.number site
         (happens world.old.keep world.old.world (At site request))) reply.old.sink reply.new.sink) }
 {
-    let answer = answered(world.at(rt, site, request))?;
-    write_answer(reply, site, world.packets(), answer)?;
-    Ok(())
+    match world.at(rt, site, request) {
+        Ok(happened) => Ok(write_event(
+            &mut reply.fields,
+            &mut reply.sink,
+            reply.number,
+            site,
+            world.packets(),
+            happened,
+        )?),
+        Err(fault) => refuse(reply, site, fault),
+    }
 }
 
 // Answers the delivery of a packet to a site.
@@ -67,9 +74,17 @@ fn answer_delivery<R: Threads + Wait + Sync>(
     ensures { OnOk result (IsTold world.old world.new (told_at reply.old.number site
         (happens world.old.keep world.old.world (Deliver site which))) reply.old.sink reply.new.sink) }
 {
-    let answer = answered(world.deliver(rt, site, which))?;
-    write_answer(reply, site, world.packets(), answer)?;
-    Ok(())
+    match world.deliver(rt, site, which) {
+        Ok(happened) => Ok(write_event(
+            &mut reply.fields,
+            &mut reply.sink,
+            reply.number,
+            site,
+            world.packets(),
+            happened,
+        )?),
+        Err(fault) => refuse(reply, site, fault),
+    }
 }
 
 // Answers an audit.
@@ -127,13 +142,7 @@ impl WorldDesk {
             WorldInput::Asked(site, Some(request)) => answer_request(
                 rt, world, reply, site, request,
             ),
-            WorldInput::Asked(site, None) => Ok(write_refused(
-                &mut reply.fields,
-                &mut reply.sink,
-                reply.number,
-                site,
-                Refusal::BadRecord,
-            )?),
+            WorldInput::Asked(site, None) => Ok(write_refused(reply, site, Refusal::BadRecord)?),
             WorldInput::Delivered(site, which) => answer_delivery(rt, world, reply, site, which),
             WorldInput::Audit => answer_audit(rt, world, reply),
             WorldInput::Neither => Ok(write_no_event(reply, Refusal::BadEvent)?),

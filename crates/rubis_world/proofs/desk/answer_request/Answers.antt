@@ -1,9 +1,14 @@
-use Rattle.std.proofs.Common.{◌∙◌, sym}
+use Rattle.std.proofs.lemmas.Result.{on_ok_weaker}
 use Rattle.rubis_model.specs.System.Event.{At}
-use Rattle.rubis_world.proofs.Answering.{event_told}
+use Rattle.rubis_world.proofs.Answering.{event_refused, event_told}
 use Rattle.rubis_world.proofs.desk.answer_request.Goals as goal
 
-pub returns : goal.returns
-returns g c =
-    event_told c.args.world.now c.at.new.self c.args.reply.now.number c.args.site (At c.args.site c.args.request) c.at.result c.in_ok-answer.answer c.packets.result.now c.args.reply.now.sink c.write_answer.new.reply.sink
-    c.at.ensures.answers.step (sym c.answered.ensures ∙ c.in_ok-answer.was) c.packets.ensures.value c.in_ok-write_answer.ensures
+pub returns-in_ok-write_event-in-Ok : goal.returns-in_ok-write_event-in-Ok
+returns-in_ok-write_event-in-Ok g c =
+    event_told c.args.world.now c.at.new.self c.args.reply.now.number c.args.site (At c.args.site c.args.request) c.in-Ok.happened c.packets.result.now c.args.reply.now.sink c.write_event.new.sink
+    c.in-Ok.ensures.answers.step c.packets.ensures.value c.in_ok-write_event-in-Ok.ensures
+
+pub returns-in-Err : goal.returns-in-Err
+returns-in-Err g c =
+    on_ok_weaker c.refuse.result (λ told. event_refused c.args.world.now c.at.new.self c.args.reply.now.number c.args.site (At c.args.site c.args.request) c.in-Err.fault c.args.reply.now.sink c.refuse.new.reply.sink
+    c.in-Err.ensures.answers.step told) c.refuse.ensures

@@ -2,7 +2,7 @@ use Rattle.std.proofs.Common.{◌≡◌, ◌∷◌, [], length, decimal, rules, 
 use Rattle.std.specs.Prelude.{codes}
 use Rattle.rubis_model.specs.Answers.{reply}
 use Rattle.rubis_engine.proofs.RowFacts.{on_ok}
-use Rattle.rubis_script.proofs.replies.write_listing.Goals as goal
+use Rattle.rubis_script.proofs.replies.write_listed.Goals as goal
 
 pub returns : goal.returns
 returns g c =

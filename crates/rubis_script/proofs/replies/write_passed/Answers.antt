@@ -3,7 +3,7 @@ use Rattle.std.specs.Prelude.{codes}
 use Rattle.rubis_message.specs.Grammar.{token_record}
 use Rattle.rubis_model.specs.Answers.{reply, send_row}
 use Rattle.rubis_engine.proofs.RowFacts.{on_ok}
-use Rattle.rubis_script.proofs.replies.write_handed_on.Goals as goal
+use Rattle.rubis_script.proofs.replies.write_passed.Goals as goal
 
 pub returns : goal.returns
 returns g c =
