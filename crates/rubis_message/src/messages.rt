@@ -155,6 +155,7 @@ impl Message {
     }
 
     /// An equal message.
+    #[inline(always)]
     pub fn copy(&self) -> Result<Message, AllocError>
         ensures { IfOk result (λ message. message ≡ self.now) }
     {
