@@ -1,4 +1,4 @@
--- What is in a list.
+-- What is in a list: a word that the definitions of all crates above share.
 use Rattle.std.specs.Prelude.{◌≡◌, List, [], ◌∷◌, ◌⊎◌}
 
 -- x is in the list

@@ -1,4 +1,4 @@
-//! The law of a site that is built again from its input.
+//! The law of a site's run from records to answers, cut in two: what was answered before, and what is answered after.
 
 ghost use Rattle.rubis_script.specs.Replays.{ReplaysGoOn};
 

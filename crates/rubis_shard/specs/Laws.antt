@@ -1,4 +1,4 @@
--- The laws of shards that hold a log, as contracts name them.
+-- What holds of any list of shards that hold a log: the laws of this crate, which the batches above cite.
 use Rattle.std.specs.Prelude.{ℕ, ◌≡◌, ◌+◌, ◌<◌, List, ◌++◌, length}
 use Rattle.rubis_model.specs.Log.{Core, fold_of, numbered_from}
 use Rattle.rubis_shard.specs.States.{ShardState}
