@@ -4,24 +4,11 @@ ghost use Rattle.std.specs.Prelude.{◌≡◌};
 ghost use Rattle.rubis_schema.specs.IdKeys.{row_key};
 ghost use Rattle.rubis_schema.specs.Keys.{key_order};
 ghost use Rattle.rubis_schema.specs.declared.row_keys.RowKey.TheVariants as key;
-ghost use Rattle.rubis_shard.specs.ListedRows.{key_number, listed_with, place_of, table_with, IsListed};
+ghost use Rattle.rubis_shard.specs.ListedRows.{key_number, listed_with, place_of, IsListed};
 
-use rubis_schema::{Id, IdKey, IdTable, Row, RowKey, Table};
+use rubis_schema::{Id, IdKey, IdTable, Row, RowKey};
 use std::cmp::Ordering;
 use std::marker::Model;
-
-/// A table whose rows have ids, as one of all tables.
-pub fn table_with(table: IdTable) -> Table
-    ensures { result ≡ table_with table }
-{
-    match table {
-        IdTable::User => Table::Users,
-        IdTable::Item => Table::Items,
-        IdTable::Bid => Table::Bids,
-        IdTable::Purchase => Table::Purchases,
-        IdTable::Comment => Table::Comments,
-    }
-}
 
 /// One of the six tables whose rows listings show.
 #[derive(Clone, Copy)]
@@ -142,7 +129,7 @@ impl<'a> ListedRow<'a> {
 
     // The key as one number.
     #[inline(always)]
-    fn number(&self) -> u64
+    fn key_number(&self) -> u64
         ensures number { result ≡ key_number self.now.0 }
         ensures listed { IsListed self.now.0 }
     {
@@ -155,6 +142,6 @@ impl<'a> ListedRow<'a> {
     pub fn order(&self, other: &ListedRow<'_>) -> Ordering
         ensures { result ≡ key_order self.now.0 other.now.0 }
     {
-        self.number().cmp(&other.number())
+        self.key_number().cmp(&other.key_number())
     }
 }

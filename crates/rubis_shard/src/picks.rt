@@ -14,19 +14,34 @@ ghost use Rattle.rubis_shard.specs.Rows.{kept_of, linked_of, tables_in};
 ghost use Rattle.rubis_shard.specs.Written.{written};
 
 use crate::chains::chain_with;
-use crate::listed_rows::{ListedRow, table_with};
+use crate::listed_rows::ListedRow;
 use crate::row_map::Rows;
 use crate::selections::selects;
 use indexmap::IndexMap;
-use rubis_schema::{IdKey, IdTable, Listing, Row, RowKey, Table};
+use rubis_schema::{IdKey, IdTable, Listing, Row};
 use std::alloc::{AllocError, Global};
 
-// Whether the row matches the listing, and the row is one of the table's.
+// Whether the key is one of the table's.
 #[inline(always)]
-fn picks(listing: &Listing, table: Table, key: &RowKey, row: &Row) -> bool
-    ensures { result ≡ (is_of listing.now key.now row.now && holds table key.now) }
+fn is_in(table: IdTable, key: &IdKey) -> bool
+    ensures { result ≡ holds (table_with table) (row_key key.now) }
 {
-    selects(listing, key, row) && table.holds(key)
+    match (table, key.table) {
+        (IdTable::User, IdTable::User) => true,
+        (IdTable::Item, IdTable::Item) => true,
+        (IdTable::Bid, IdTable::Bid) => true,
+        (IdTable::Purchase, IdTable::Purchase) => true,
+        (IdTable::Comment, IdTable::Comment) => true,
+        _ => false,
+    }
+}
+
+// Whether the row is one of the table's and matches the listing.
+#[inline(always)]
+fn picks(listing: &Listing, table: IdTable, key: &IdKey, row: &Row) -> bool
+    ensures { result ≡ (is_of listing.now (row_key key.now) row.now && holds (table_with table) (row_key key.now)) }
+{
+    is_in(table, key) && selects(listing, &key.row_key(), row)
 }
 
 // For how many rows of a map to make room at once: a listing of all tables shows most of them, and any other finds few.
@@ -54,14 +69,14 @@ pub fn with_room<'a>(
 #[inline(always)]
 fn pick<'a>(
     picked: &mut Vec<ListedRow<'a>>,
-    table: Table,
+    table: IdTable,
     listing: &Listing,
     key: &IdKey,
     row: &'a Row,
 ) -> Result<(), AllocError>
-    ensures { OnOk result (picked.new.items ≡ picked.old.items ++ listed_among listing.now table ((row_key key.now, row.now) ∷ [])) }
+    ensures { OnOk result (picked.new.items ≡ picked.old.items ++ listed_among listing.now (table_with table) ((row_key key.now, row.now) ∷ [])) }
 {
-    if !picks(listing, table, &key.row_key(), row) {
+    if !picks(listing, table, key, row) {
         return Ok(());
     }
     picked.reserve(1)?;
@@ -74,10 +89,10 @@ fn pick_from<'a>(
     picked: &mut Vec<ListedRow<'a>>,
     rows: &'a Rows,
     from: usize,
-    table: Table,
+    table: IdTable,
     listing: &Listing,
 ) -> Result<(), AllocError>
-    ensures { OnOk result (picked.new.items ≡ picked.old.items ++ listed_among listing.now table (drop from (kept_of rows.now))) }
+    ensures { OnOk result (picked.new.items ≡ picked.old.items ++ listed_among listing.now (table_with table) (drop from (kept_of rows.now))) }
 {
     for at in from..rows.kept.len() {
         let Some((key, row)) = rows.kept.get_index(at) else {
@@ -93,11 +108,11 @@ fn pick_of_chain<'a>(
     picked: &mut Vec<ListedRow<'a>>,
     rows: &'a Rows,
     chain: &IdKey,
-    table: Table,
+    table: IdTable,
     listing: &Listing,
 ) -> Result<(), AllocError>
     requires { chain_with listing.now ≡ Some chain.now }
-    ensures { OnOk result (IsPermutation (picked.old.items ++ listed_among listing.now table (linked_of rows.now)) picked.new.items) }
+    ensures { OnOk result (IsPermutation (picked.old.items ++ listed_among listing.now (table_with table) (linked_of rows.now)) picked.new.items) }
 {
     let mut place = rows.chains.last(chain);
     while place > 0 {
@@ -120,7 +135,6 @@ pub fn pick_rows<'a>(
     ensures { OnOk result (IsPermutation (picked.old.items ++ listed_of listing.now (table_with table) (tables_in rows.now)) picked.new.items) }
 {
     let _lens = rows.lens();
-    let table = table_with(table);
     match chain_with(listing) {
         Some(chain) => {
             pick_of_chain(picked, rows, &chain, table, listing)?;

@@ -11,6 +11,7 @@ use Rattle.rubis_schema.specs.declared.rows.Row.{Row}
 use Rattle.rubis_model.specs.Listings.{is_of}
 use Rattle.rubis_shard.specs.Chains.{chain_of, chains_of, last_among, last_before}
 use Rattle.rubis_shard.specs.Listed.{listed_among}
+use Rattle.rubis_shard.specs.ListedRows.{table_with}
 use Rattle.rubis_shard.specs.Rows.{kept_of, linked_of}
 use Rattle.rubis_shard.proofs.Linking.{last_small}
 use Rattle.rubis_shard.proofs.OneTable.{listed_one, taken_at, written_at}
@@ -28,8 +29,8 @@ loop-place-init c =
     record {
       within = within;
       inside = omega (arith, within, linked_length c.args.rows.now, linked_few c.args.rows.now);
-      own = own_last l c.args.table c.args.chain.now c.requires es (length cs) c.last-place.result is;
-      walked = ([], sym (append-nil c.args.picked.now.items), walk_from l c.args.table c.args.chain.now c.requires es c.last-place.result is);
+      own = own_last l (table_with c.args.table) c.args.chain.now c.requires es (length cs) c.last-place.result is;
+      walked = ([], sym (append-nil c.args.picked.now.items), walk_from l (table_with c.args.table) c.args.chain.now c.requires es c.last-place.result is);
     }
 
 pub before-place-requires : goal.before-place-requires
@@ -49,7 +50,7 @@ loop-place-smaller c =
 pub loop-place-preserved : goal.loop-place-preserved
 loop-place-preserved c =
     let l = c.args.listing.now in
-    let t = c.args.table in
+    let t = table_with c.args.table in
     let es = linked_of c.args.rows.now in
     let cs = chains_of es in
     let at = c.loop-place.place - 1 in
@@ -85,11 +86,11 @@ loop-place-preserved c =
 pub returns : goal.returns
 returns c =
     let es = linked_of c.args.rows.now in
-    let found = listed_among c.args.listing.now c.args.table es in
+    let found = listed_among c.args.listing.now (table_with c.args.table) es in
     let first : List (RowKey × Row) = c.args.picked.now.items in
     let added = c.loop-place.invariant.walked.0 in
     let none : 0 ≡ c.loop-place.place = omega arith in
     let all : reverse added ≡ found =
-    ap (λ n. listed_among c.args.listing.now c.args.table (take n es) ++ reverse added) none ∙ c.loop-place.invariant.walked.2 in
+    ap (λ n. listed_among c.args.listing.now (table_with c.args.table) (take n es) ++ reverse added) none ∙ c.loop-place.invariant.walked.2 in
     let moved : IsPermutation found added = IsPermutation-sym added _ (subst (IsPermutation added) all (IsPermutation-reverse added)) in
     subst (IsPermutation (first ++ found)) (sym c.loop-place.invariant.walked.1) (IsPermutation-append_right first found added moved)

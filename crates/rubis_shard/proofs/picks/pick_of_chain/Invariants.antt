@@ -5,6 +5,7 @@ use Rattle.rubis_schema.specs.declared.row_keys.RowKey.{RowKey}
 use Rattle.rubis_schema.specs.declared.rows.Row.{Row}
 use Rattle.rubis_shard.specs.Chains.{chains_of}
 use Rattle.rubis_shard.specs.Listed.{listed_among}
+use Rattle.rubis_shard.specs.ListedRows.{table_with}
 use Rattle.rubis_shard.specs.Rows.{kept_of, linked_of}
 use Rattle.rubis_shard.proofs.picks.pick_of_chain.Given as goal
 
@@ -14,7 +15,7 @@ invariant-loop-place l = record {
   inside : l.place ≤ length (kept_of l.rows);
   own : 0 < l.place → get_or (chains_of (linked_of l.rows)) (l.place - 1) None ≡ Some l.chain;
   walked : (added : List (RowKey × Row)) × (l.picked.items ≡ l.fn.picked.items ++ added)
-      × (listed_among l.listing l.table (take l.place (linked_of l.rows)) ++ reverse added ≡ listed_among l.listing l.table (linked_of l.rows));
+      × (listed_among l.listing (table_with l.table) (take l.place (linked_of l.rows)) ++ reverse added ≡ listed_among l.listing (table_with l.table) (linked_of l.rows));
 }
 
 abbrev pub decreases-loop-place : goal.decreases-loop-place

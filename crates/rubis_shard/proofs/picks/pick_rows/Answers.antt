@@ -2,7 +2,6 @@ use Rattle.std.proofs.Common.{◌≡◌, ◌++◌, List, drop, take, sym, ap, su
 use Rattle.std.specs.List.Sorted.{IsPermutation}
 use Rattle.std.proofs.lemmas.List.Sorted.{IsPermutation-append_left, IsPermutation-refl}
 use Rattle.rubis_schema.specs.declared.row_keys.RowKey.{RowKey}
-use Rattle.rubis_schema.specs.declared.row_keys.Table.{Table}
 use Rattle.rubis_schema.specs.declared.rows.Row.{Row}
 use Rattle.rubis_shard.specs.Listed.{listed_among, listed_of}
 use Rattle.rubis_shard.specs.ListedRows.{table_with}
@@ -15,21 +14,18 @@ use Rattle.rubis_shard.proofs.picks.pick_rows.Goals as goal
 pub returns-in-None : goal.returns-in-None
 returns-in-None c =
     let l = c.args.listing.now in
-    let es = kept_of c.args.rows.now in
+    let t = table_with c.args.table in
     let before : List (RowKey × Row) = c.args.picked.now.items in
     let after : List (RowKey × Row) = c.pick_from-in-None.new.picked.items in
-    if_done (after ≡ before ++ listed_among l c.table_with-table.result es)
-    (IsPermutation (before ++ listed_of l (table_with c.args.table) (tables_in c.args.rows.now)) after) (λ is.
-    let all : after ≡ before ++ listed_among l (table_with c.args.table) es =
-    is ∙ ap (λ (t : Table). before ++ listed_among l t es) c.table_with-table.ensures in
-    listed_behind l c.args.table c.args.rows.now before after c.lens-lens.ensures
-    (subst (IsPermutation (before ++ listed_among l (table_with c.args.table) es)) (sym all) (IsPermutation-refl _)))
+    let found = before ++ listed_among l t (kept_of c.args.rows.now) in
+    if_done (after ≡ found) (IsPermutation (before ++ listed_of l t (tables_in c.args.rows.now)) after)
+    (λ is. listed_behind l c.args.table c.args.rows.now before after c.lens-lens.ensures (subst (IsPermutation found) (sym is) (IsPermutation-refl found)))
     c.pick_from-in-None.result c.pick_from-in-None.ensures
 
 pub returns-in_ok-pick_of_chain-in-Some : goal.returns-in_ok-pick_of_chain-in-Some
 returns-in_ok-pick_of_chain-in-Some c =
     let l = c.args.listing.now in
-    let t = c.table_with-table.result in
+    let t = table_with c.args.table in
     let n = c.len.result in
     let es = kept_of c.args.rows.now in
     let before : List (RowKey × Row) = c.args.picked.now.items in
@@ -39,11 +35,9 @@ returns-in_ok-pick_of_chain-in-Some c =
     let rest = listed_among l t (drop n es) in
     let chained : IsPermutation (before ++ linked) middle =
     subst (λ m. IsPermutation (before ++ listed_among l t (take m es)) middle) (sym c.len.ensures) c.in_ok-pick_of_chain-in-Some.ensures in
-    if_done (after ≡ middle ++ rest)
-    (IsPermutation (before ++ listed_of l (table_with c.args.table) (tables_in c.args.rows.now)) after) (λ is.
-    let all : (before ++ linked) ++ rest ≡ before ++ listed_among l (table_with c.args.table) es =
-    append_assoc before linked rest ∙ ap (λ (xs : List (RowKey × Row)). before ++ xs) (sym (pick_split l t n es))
-    ∙ ap (λ (u : Table). before ++ listed_among l u es) c.table_with-table.ensures in
+    let all : (before ++ linked) ++ rest ≡ before ++ listed_among l t es =
+    append_assoc before linked rest ∙ ap (λ (xs : List (RowKey × Row)). before ++ xs) (sym (pick_split l t n es)) in
+    if_done (after ≡ middle ++ rest) (IsPermutation (before ++ listed_of l t (tables_in c.args.rows.now)) after) (λ is.
     listed_behind l c.args.table c.args.rows.now before after c.lens-lens.ensures
     (subst (λ xs. IsPermutation xs after) all
     (subst (IsPermutation ((before ++ linked) ++ rest)) (sym is)

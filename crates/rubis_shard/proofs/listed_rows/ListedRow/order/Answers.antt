@@ -5,5 +5,5 @@ use Rattle.rubis_shard.proofs.listed_rows.ListedRow.order.Goals as goal
 
 pub returns : goal.returns
 returns c =
-    c.cmp.ensures ∙ (λ i. nat_cmp (c.number.ensures.number i) (c.number-2.ensures.number i))
-    ∙ ordered c.args.self.now.0 c.args.other.now.0 c.number.ensures.listed c.number-2.ensures.listed
+    c.cmp.ensures ∙ (λ i. nat_cmp (c.key_number.ensures.number i) (c.key_number-2.ensures.number i))
+    ∙ ordered c.args.self.now.0 c.args.other.now.0 c.key_number.ensures.listed c.key_number-2.ensures.listed

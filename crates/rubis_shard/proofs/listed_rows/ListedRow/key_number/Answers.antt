@@ -3,7 +3,7 @@ use Rattle.rubis_schema.specs.declared.row_keys.RowKey.{RowKey}
 use Rattle.rubis_schema.specs.declared.rows.Row.{Row}
 use Rattle.rubis_shard.specs.ListedRows.{key_number, IsListed}
 use Rattle.rubis_shard.proofs.ListedKeys.{is_listed, numbered}
-use Rattle.rubis_shard.proofs.listed_rows.ListedRow.number.Goals as goal
+use Rattle.rubis_shard.proofs.listed_rows.ListedRow.key_number.Goals as goal
 
 pub returns-clause-number : goal.returns-clause-number
 returns-clause-number c =
