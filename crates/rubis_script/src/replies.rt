@@ -3,7 +3,6 @@
 ghost use Rattle.std.specs.Prelude.{◌≡◌, ◌∷◌, ◌++◌, [], ℕ, List, Ok, OnOk, codes, decimal, true};
 ghost use Rattle.rubis_message.specs.declared.answers.Arrival.TheVariants.{Released};
 ghost use Rattle.rubis_schema.specs.FieldList.{is_plain};
-ghost use Rattle.rubis_schema.specs.Ids.{id_text};
 ghost use Rattle.rubis_model.specs.Answers.{arrived_rows, asked_rows, listed_rows, passed_rows, refused_row, reply, took_rows};
 ghost use Rattle.rubis_script.specs.Replies.{HasRows};
 ghost use Rattle.rubis_engine.specs.Text.{rows_text};
@@ -40,20 +39,6 @@ pub fn write_refusal<S: RowSink>(
     sink.put(fields)
 }
 
-// The first record of an accepted ask.
-fn write_accepted<S: RowSink>(
-    fields: &mut Fields,
-    sink: &mut S,
-    number: u64,
-    message: &Message,
-) -> Result<(), AllocError>
-    ensures { OnOk result (S.adds (reply number (codes "ok" ∷ id_text message.now.stamp.id ∷ []) ∷ []) sink.old sink.new) }
-{
-    begin(fields, number, b"ok")?;
-    message.id().push_to(fields)?;
-    sink.put(fields)
-}
-
 /// Gives the id of an accepted ask, and sends its message.
 pub fn write_sent<S: RowSink>(
     fields: &mut Fields,
@@ -63,7 +48,9 @@ pub fn write_sent<S: RowSink>(
 ) -> Result<(), AllocError>
     ensures { OnOk result (S.adds (asked_rows number (Ok message.now)) sink.old sink.new) }
 {
-    write_accepted(fields, sink, number, message)?;
+    begin(fields, number, b"ok")?;
+    message.id().push_to(fields)?;
+    sink.put(fields)?;
     fields.clear();
     fields.push_plain(b"send")?;
     append_message(fields, message)?;

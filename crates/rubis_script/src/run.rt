@@ -292,32 +292,6 @@ fn wait<G: Gate, T: Threads + Wait + Sync, R: Read, W: Write>(
     }
 }
 
-// Goes on by a chunk, and writes out where there is much.
-fn go_on_writing<G: Gate, T: Threads + Wait + Sync, R: Read, W: Write>(
-    rt: &T,
-    source: &mut Source<R>,
-    desk: &mut Desk<G>,
-    backlog: &mut Backlog,
-    writer: &mut W,
-    many: usize,
-) -> Result<(), RunFault>
-    requires some { 0 < many }
-    requires text { many ≤ length (held_text source.old.chunks) }
-    requires whole { IsWhole (take many (held_text source.old.chunks)) }
-    requires sound { IsSound desk.old.site desk.old.plan backlog.old }
-    requires room { backlog.old.answered + length (flat backlog.old.ahead) + 1 < 2 ^ 64 }
-    ensures plan { OnOk result (desk.new.plan ≡ desk.old.plan) }
-    ensures sound { OnOk result (IsSound desk.new.site desk.new.plan backlog.new) }
-    ensures count { OnOk result (backlog.new.answered ≡ backlog.old.answered + length (flat backlog.old.ahead)) }
-    ensures goes { OnOk result (OfEachAhead R.remaining source.old.chunks desk.old.site backlog.old (W.contents writer.old) (λ first old input.
-        HasReadAhead R.remaining source.new.chunks desk.new.site backlog.new first old (W.contents writer.new) input)) }
-    ensures memory { IsErrOf result RunFault.Memory → LeavesPrefix None desk.old.site backlog.old (W.contents writer.old) (W.contents writer.new) }
-    ensures faults { IfErr result (λ e. (e ≡ RunFault.Write) ⊎ (e ≡ RunFault.Memory)) }
-{
-    go_on(rt, source, desk, backlog, writer, many)?;
-    drain_full(source, desk, backlog, writer)
-}
-
 // Goes on by a chunk, if one is at hand, and otherwise asks the reader for more. `None` if the run goes on, otherwise how many
 // records were read.
 fn turn<G: Gate, T: Threads + Wait + Sync, R: Read, W: Write>(
@@ -357,7 +331,8 @@ fn turn<G: Gate, T: Threads + Wait + Sync, R: Read, W: Write>(
     let most = chunk_of(source.chunks.held().len(), backlog.ahead.len());
     let many = source.chunks.whole(most);
     if many > 1 {
-        go_on_writing(rt, source, desk, backlog, writer, many)?;
+        go_on(rt, source, desk, backlog, writer, many)?;
+        drain_full(source, desk, backlog, writer)?;
         return Ok(None);
     }
     wait(rt, source, desk, backlog, writer, limit)

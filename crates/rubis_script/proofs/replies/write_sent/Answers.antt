@@ -8,7 +8,9 @@ use Rattle.rubis_script.proofs.replies.write_sent.Goals as goal
 
 pub returns : goal.returns
 returns g c =
-    let told = reply c.args.number (codes "ok" ∷ id_text c.args.message.now.stamp.id ∷ []) in
+    let accepted = reply c.args.number (codes "ok" ∷ id_text c.args.message.now.stamp.id ∷ []) in
+    let told : c.push_to.new.fields ≡ accepted = search rules in
     let sent : c.append_message.new.fields ≡ send_row (message_record c.args.message.now) = search rules in
-    on_ok c.put.result (λ two. g.met.S.RowSink.adds_more (told ∷ []) (send_row (message_record c.args.message.now) ∷ [])
-    c.args.sink.now c.write_accepted.new.sink c.put.new.self c.in_ok-write_accepted.ensures (subst (λ r. g.S.RowSink.adds (r ∷ []) c.write_accepted.new.sink c.put.new.self) sent two)) c.put.ensures
+    let one = subst (λ r. g.S.RowSink.adds (r ∷ []) c.args.sink.now c.put.new.self) told c.in_ok-put.ensures in
+    on_ok c.put-2.result (λ two. g.met.S.RowSink.adds_more (accepted ∷ []) (send_row (message_record c.args.message.now) ∷ [])
+    c.args.sink.now c.put.new.self c.put-2.new.self one (subst (λ r. g.S.RowSink.adds (r ∷ []) c.put.new.self c.put-2.new.self) sent two)) c.put-2.ensures

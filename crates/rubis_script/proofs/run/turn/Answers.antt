@@ -18,7 +18,7 @@ returns-then-len-left-clause-too_long g c e first old input h =
     subst (λ k. AnswersFirst k first c.stop.new.desk.site old (g.W.Write.contents c.stop.new.writer) (input_records input)) most
     (c.in_ok-stop.ensures.too_long first old (input_records input) h.later h.stands)
 
-pub returns-in_err-go_on_writing-clause-memory : goal.returns-in_err-go_on_writing-clause-memory
-returns-in_err-go_on_writing-clause-memory g c e first old input h =
-    let memory = handed_on c.from_residual-in_err-go_on_writing.result c.in_err-go_on_writing.field-0.0 fault.Memory c.from_residual-in_err-go_on_writing.ensures e in
-    c.in_err-go_on_writing.ensures.memory (rw memory refl) first old (input_records input) h.later h.stands
+pub returns-in_err-go_on-clause-memory : goal.returns-in_err-go_on-clause-memory
+returns-in_err-go_on-clause-memory g c e first old input h =
+    let memory = handed_on c.from_residual-in_err-go_on.result c.in_err-go_on.field-0.0 fault.Memory c.from_residual-in_err-go_on.ensures e in
+    c.in_err-go_on.ensures.memory (rw memory refl) first old (input_records input) h.later h.stands
