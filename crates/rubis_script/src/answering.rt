@@ -58,67 +58,8 @@ pub fn answer_some<G: Gate, T: Threads + Wait + Sync>(
     Ok(())
 }
 
-// Answers a record, which was read ahead and taken off the front.
-fn answer_one<G: Gate, T: Threads + Wait + Sync>(
-    rt: &T,
-    desk: &mut Desk<G>,
-    backlog: &mut Backlog,
-    parsed: Parsed,
-) -> Result<(), OutOfMemory>
-    requires held { AreHeld desk.old.site.place backlog.old.window.items backlog.old.answered }
-    requires fits { FitsIn desk.old.site.place.sites parsed }
-    requires room { backlog.old.answered + 1 < 2 ^ 64 }
-    ensures place { OnOk result (desk.new.site.place ≡ desk.old.site.place) }
-    ensures plan { OnOk result (desk.new.plan ≡ desk.old.plan) }
-    ensures held { OnOk result (AreHeld desk.new.site.place backlog.new.window.items backlog.new.answered) }
-    ensures few { OnOk result (FitPlan desk.new.plan backlog.new.window.items) }
-    ensures ahead { backlog.new.ahead ≡ backlog.old.ahead }
-    ensures count { OnOk result (backlog.new.answered ≡ backlog.old.answered + 1) }
-    ensures goes { OnOk result (GoesOnFrom (parsed ∷ []) desk.old.site backlog.old desk.new.site backlog.new) }
-{
-    desk.take_parsed(
-        rt,
-        backlog.answered,
-        parsed,
-        &mut backlog.window,
-        &mut backlog.reply,
-    )?;
-    backlog.answered += 1;
-    Ok(())
-}
-
-// Takes in the messages that are held, and holds these, which were read ahead and taken off the front: no more than the plan says.
-fn hold_messages<G: Gate, T: Threads + Wait + Sync>(
-    rt: &T,
-    desk: &mut Desk<G>,
-    backlog: &mut Backlog,
-    list: Vec<Message>,
-) -> Result<(), OutOfMemory>
-    requires held { AreHeld desk.old.site.place backlog.old.window.items backlog.old.answered }
-    requires fits { All (λ p. FitsIn desk.old.site.place.sites p) (all_came list.items) }
-    requires window { FitPlan desk.old.plan list.items }
-    requires room { backlog.old.answered + length list.items + 1 < 2 ^ 64 }
-    ensures place { OnOk result (desk.new.site.place ≡ desk.old.site.place) }
-    ensures plan { OnOk result (desk.new.plan ≡ desk.old.plan) }
-    ensures held { OnOk result (AreHeld desk.new.site.place backlog.new.window.items backlog.new.answered) }
-    ensures few { OnOk result (FitPlan desk.new.plan backlog.new.window.items) }
-    ensures ahead { backlog.new.ahead ≡ backlog.old.ahead }
-    ensures count { OnOk result (backlog.new.answered ≡ backlog.old.answered + length list.items) }
-    ensures goes { OnOk result (GoesOnFrom (all_came list.items) desk.old.site backlog.old desk.new.site backlog.new) }
-{
-    let many = list.len() as u64;
-    desk.flush(
-        rt,
-        backlog.answered,
-        &mut backlog.window,
-        &mut backlog.reply,
-    )?;
-    backlog.window = list;
-    backlog.answered += many;
-    Ok(())
-}
-
-// Answers or holds the records of a run, which was taken off the front.
+// Answers or holds the records of a run, which was taken off the front: before messages that came together are held, no more than
+// the plan says, those that are held are taken in.
 fn answer_run<G: Gate, T: Threads + Wait + Sync>(
     rt: &T,
     desk: &mut Desk<G>,
@@ -138,8 +79,29 @@ fn answer_run<G: Gate, T: Threads + Wait + Sync>(
     ensures goes { OnOk result (GoesOnFrom (of_stretch run) desk.old.site backlog.old desk.new.site backlog.new) }
 {
     match run {
-        Stretch::Messages(list) => hold_messages(rt, desk, backlog, list),
-        Stretch::One(parsed) => answer_one(rt, desk, backlog, parsed),
+        Stretch::Messages(list) => {
+            let many = list.len() as u64;
+            desk.flush(
+                rt,
+                backlog.answered,
+                &mut backlog.window,
+                &mut backlog.reply,
+            )?;
+            backlog.window = list;
+            backlog.answered += many;
+            Ok(())
+        }
+        Stretch::One(parsed) => {
+            desk.take_parsed(
+                rt,
+                backlog.answered,
+                parsed,
+                &mut backlog.window,
+                &mut backlog.reply,
+            )?;
+            backlog.answered += 1;
+            Ok(())
+        }
     }
 }
 
