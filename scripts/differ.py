@@ -322,6 +322,9 @@ def main() -> int:
     if not options.plain:
         subprocess.run(["cargo", "build", "--release", "--offline", "--quiet"], cwd=TOP / "plain", check=True)
     programs = Programs(str(pathlib.Path(options.program).resolve()), options.plain or str(PLAIN))
+    for program in (programs.rubis, programs.plain):
+        if not os.access(program, os.X_OK):
+            raise SystemExit(f"differ: there is no program {program}")
     if options.case is not None:
         print(shown(programs, f"{options.seed}:{options.case}", Maker(options.seed, programs.plain).case(options.case)))
         return 0
