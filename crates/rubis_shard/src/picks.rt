@@ -52,7 +52,7 @@ fn room_of(listing: &Listing, rows: usize) -> usize {
     }
 }
 
-/// No rows, with room for those of a listing among so many.
+/// An empty list for the rows of a listing, with room at once if it shows most of the `rows` rows there are.
 pub fn with_room<'a>(
     alloc: Global,
     listing: &Listing,
