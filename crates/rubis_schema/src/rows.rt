@@ -96,7 +96,7 @@ impl Model for PackedBid {
 }
 
 impl PackedBid {
-    /// That row.
+    /// Packs a bid's row.
     #[inline(always)]
     pub fn new(row: BidRow) -> PackedBid
         ensures { result ≡ row }

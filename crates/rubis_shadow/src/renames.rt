@@ -15,7 +15,7 @@ struct Nicknames {
     to: Nick,
 }
 
-/// What a user asks for who wants another nickname, with room for the one that the user has. Contracts see what is asked.
+/// A user's ask for another nickname, with room for the one that the user has. Contracts see what is asked.
 #[derive(Drop)]
 pub struct RenameAsk {
     // Both are the one that is asked for.

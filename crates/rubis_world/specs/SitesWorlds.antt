@@ -54,7 +54,7 @@ pub record Asks (i : ℕ) (old new : WorldState) (result : Result Happened World
   pub waits : 0 < left_at old i → (result ≡ Err (Site fault.Behind)) × (new ≡ old)
   pub says : result ≡ Err (Site fault.Behind) → 0 < left_at new i
 
--- a request at a site is answered as the step says, by that site alone; without such a site nothing is
+-- a request at a site is answered as the step says, and only that site changes; if there is no such site, nothing does
 pub record AnswersRequest (site : ℕ) (request : Request) (old new : WorldState) (result : Result Happened WorldFault) : Type 0 where
   pub step : Steps old new (happens old.keep old.world (At site request)) result
   pub tables : site < length old.world.sites → Asks site old new result
@@ -62,7 +62,8 @@ pub record AnswersRequest (site : ℕ) (request : Request) (old new : WorldState
   -- handing the token on applies nothing, so it finds a site behind only where that was so before
   pub pass : (to : ℕ) → request ≡ Pass to → result ≡ Err (Site fault.Behind) → 0 < left_at old site
 
--- a delivery of packet `which` to a site is answered as the step says, by that site alone; without such a site or packet nothing is
+-- a delivery of packet `which` to a site is answered as the step says, and only that site changes; if there is no such site or packet,
+-- nothing does
 pub record AnswersDelivery (site which : ℕ) (old new : WorldState) (result : Result Happened WorldFault) : Type 0 where
   pub step : Steps old new (happens old.keep old.world (Deliver site which)) result
   pub tables : site < length old.world.sites → (p : Packet) → packet_at old.world.sent which ≡ Some p → Asks site old new result
