@@ -245,7 +245,7 @@ impl<T> Answering<T> for Auditor {
         {
             return Ok(Course::GoesOn);
         }
-        write_bad_record(&mut reply.fields, &mut reply.sink, reply.number)?;
+        write_bad_record(&mut reply.draft.fields, &mut reply.sink, reply.number)?;
         Ok(Course::Ends)
     }
 }

@@ -128,7 +128,7 @@ impl Widener {
     {
         match line {
             Line::Next(message) => write_widened(
-                &mut reply.fields,
+                &mut reply.draft.fields,
                 &mut reply.sink,
                 message,
                 self.to,
@@ -175,7 +175,7 @@ impl<T> Answering<T> for Widener {
             self.write_line(fields, line, reply)?;
             return Ok(Course::GoesOn);
         }
-        write_bad_record(&mut reply.fields, &mut reply.sink, reply.number)?;
+        write_bad_record(&mut reply.draft.fields, &mut reply.sink, reply.number)?;
         Ok(Course::Ends)
     }
 }

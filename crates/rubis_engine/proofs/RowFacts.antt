@@ -140,9 +140,13 @@ joined-makes first fields plain all some =
     let size = ap length (comma-first fields (omega (arith, some))) in
     (row ∙ ap (λ t. t ++ line_feed ∷ []) begins ∙ append_assoc (prefix_text first) (drop 1 (joined fields)) (line_feed ∷ []), omega (arith, size))
 
+pub text-makes : (first fields : List (List ℕ)) (text : List ℕ) → text ≡ joined fields → all_plain first ≡ true → all_plain fields ≡ true → 2 ≤ length fields
+    → MakesRow first fields text
+text-makes first fields text is plain all some = subst (MakesRow first fields) (sym is) (joined-makes first fields plain all some)
+
 pub found-makes : (first fields : List (List ℕ)) (found : Option (Bor (List ℕ))) → IfSome found (λ text. text.now ≡ joined fields)
     → IfSome found (λ text. all_plain fields ≡ true) → all_plain first ≡ true → 2 ≤ length fields → IfSome found (λ text. MakesRow first fields text.now)
-found-makes first fields (Some text) is all plain some = subst (MakesRow first fields) (sym is) (joined-makes first fields plain all some)
+found-makes first fields (Some text) is all plain some = text-makes first fields text.now is plain all some
 found-makes first fields None is all plain some = tt
 
 -- what holds of what was found

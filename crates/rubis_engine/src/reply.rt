@@ -3,16 +3,22 @@
 ghost use Rattle.std.specs.Prelude.{◌≡◌, []};
 
 use crate::sink::Sink;
-use rubis_schema::Fields;
+use rubis_schema::{Fields, PlainRow};
 use std::alloc::Global;
 
-/// What a record is answered with: its number, the fields of the row that is being made, and the text of all rows that wait
-/// to be written.
+/// A row that is being made: in place, if none of its fields calls for quotes, or as a list of fields.
+#[derive(Drop)]
+pub struct Draft {
+    pub row: PlainRow,
+    pub fields: Fields,
+}
+
+/// What a record is answered with: its number, the row that is being made, and the text of all rows that wait to be written.
 #[derive(Drop)]
 pub struct Reply {
     /// The number of the record, counted from 1.
     pub number: u64,
-    pub fields: Fields,
+    pub draft: Draft,
     pub sink: Sink,
 }
 
@@ -23,7 +29,10 @@ impl Reply {
     {
         Reply {
             number: 0,
-            fields: Fields::new(alloc),
+            draft: Draft {
+                row: PlainRow::new(),
+                fields: Fields::new(alloc),
+            },
             sink: Sink::new(alloc),
         }
     }

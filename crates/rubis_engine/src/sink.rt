@@ -8,8 +8,9 @@ ghost use Rattle.rubis_engine.specs.Rows.{plain_row, prefix_text};
 ghost use Rattle.rubis_engine.specs.Text.{plain_writer};
 
 use crate::fault::RunFault;
+use crate::plain_sinks::PlainSink;
 use crate::quoted_rows::QuotedRows;
-use rubis_schema::{Fields, RowSink, SharedSink, is_plain, make_room, push_bytes};
+use rubis_schema::{Fields, PlainRow, RowSink, SharedSink, is_plain, make_room, push_bytes};
 use std::alloc::{AllocError, Global};
 use std::io::Write;
 use std::marker::Model;
@@ -68,6 +69,16 @@ fn plain_text<'a>(first: &[&[u8]], fields: &'a Fields) -> Option<&'a [u8]>
         return None;
     }
     fields.plain_text()
+}
+
+// The fields of a row that was made in place, each with a comma before it: they make a plain row.
+#[inline(always)]
+fn text_of(row: &PlainRow) -> &[u8]
+    requires { 2 ≤ length row.now.fields }
+    ensures row { row_text plain_writer row.now.fields ≡ plain_row [] result.now }
+    ensures some { 0 < length result.now }
+{
+    row.text()
 }
 
 // Adds fields with a comma after each.
@@ -178,6 +189,20 @@ impl Sink {
         added
     }
 
+    /// Adds a row of two fields or more that was made in place. Without memory for it no text is left.
+    #[inline(always)]
+    pub fn write_plain(&mut self, row: &PlainRow) -> Result<(), AllocError>
+        requires { 2 ≤ length row.now.fields }
+        ensures ok { OnOk result (self.new ≡ self.old ++ row_text plain_writer row.now.fields) }
+        ensures err { OnErr result (self.new ≡ []) }
+    {
+        let added = push_line(&mut self.text, text_of(row));
+        if added.is_err() {
+            self.clear();
+        }
+        added
+    }
+
     /// Adds a row that begins with the fields `first` and goes on with those of a record. Without memory for it no
     /// text is left.
     pub fn write_after(&mut self, first: &[&[u8]], fields: &Fields) -> Result<(), AllocError>
@@ -281,6 +306,13 @@ impl RowSink for Sink {
     ghost adds_none = { none_written };
 
     ghost adds_more = { more_written };
+}
+
+impl PlainSink for Sink {
+    #[inline(always)]
+    fn put_plain(&mut self, row: &mut PlainRow) -> Result<(), AllocError> {
+        self.write_plain(row)
+    }
 }
 
 impl SharedSink for Sink {

@@ -1,5 +1,5 @@
 -- Counts that are joined by `:`.
-use Rattle.std.proofs.Common.{◌≡◌, ◌≤◌, ◌<◌, ◌+◌, ◌||◌, ℕ, suc, List, [], ◌∷◌, ◌++◌, length, get_or, drop, decimal, refl, ap, sym, ◌∙◌, arith, length-drop, true}
+use Rattle.std.proofs.Common.{◌≡◌, ◌≤◌, ◌<◌, ◌+◌, ◌||◌, ℕ, suc, drop_of_length-le, List, [], ◌∷◌, ◌++◌, length, get_or, drop, decimal, refl, ap, sym, ◌∙◌, arith, length-drop, true}
 use Rattle.std.specs.Prelude.{Option, Some, None, not, option_map}
 use Rattle.std.proofs.Math.Seq.{drop-cons}
 use Rattle.std.proofs.lemmas.Bool.{not-true}
@@ -38,6 +38,13 @@ text_more counts text marked more i at next lt e mark last is =
     text_before (get_or counts i 0) (drop (suc i) counts) text marked more tail
     (λ some. mark (omega (arith, rest, some))) (λ none. last (omega (arith, rest, none, lt))) is
     ∙ ap deps_text (sym (drop-cons counts i 0 lt))
+
+-- the last count alone
+pub last_text : (counts : List ℕ) (i : ℕ) → i + 1 ≡ length counts → decimal (get_or counts i 0) ≡ deps_text (drop i counts)
+last_text counts i last =
+    let outside : length counts ≤ suc i = omega (arith, last) in
+    let behind : drop (suc i) counts ≡ [] = drop_of_length-le counts outside in
+    sym (ap deps_text (drop-cons counts i 0 (omega (arith, last)) ∙ ap (λ rest. get_or counts i 0 ∷ rest) behind))
 
 -- the counts that were read, and those that are left
 abbrev pub then_left : List ℕ → Option (List ℕ) → Option (List ℕ)

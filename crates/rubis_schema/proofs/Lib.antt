@@ -8,3 +8,4 @@ pub mod PlainTexts
 pub mod Words
 pub mod NumberTexts
 pub mod NumberForms
+pub mod PlainRows

@@ -14,4 +14,5 @@ pub mod NickKeys
 pub mod Categories
 pub mod Adding
 pub mod Members
+pub mod PlainRows
 pub mod NumberForms

@@ -16,6 +16,7 @@ mod lists;
 mod nicks;
 mod number_texts;
 mod numbers;
+mod plain_rows;
 mod records;
 mod refusals;
 mod row_keys;
@@ -38,14 +39,15 @@ pub use key_hashes::{Hashes, KeyHasher, KeyHashes, NickHasher, NickHashes};
 pub use laws::fields_have_one_reading;
 pub use limits::{
     AMOUNT_MAX, BATCH_MAX, CAT_MAX, CATEGORIES, COUNT_MAX, COUNTED_MAX, COUNTS_TEXT_MAX, KEEP_MAX,
-    NAME_MAX, NICK_MAX, NUMBER_TEXT_MAX, PASS_MAX, QUANTITY_MAX, RECORDS_MAX, SEQ_MAX, SHARDS_MAX,
-    SITES_MAX, TEXT_MAX, TURN_MAX, WORKERS_MAX,
+    NAME_MAX, NICK_MAX, NUMBER_TEXT_MAX, PASS_MAX, PLAIN_ROW_MAX, QUANTITY_MAX, RECORDS_MAX,
+    SEQ_MAX, SHARDS_MAX, SITES_MAX, TEXT_MAX, TURN_MAX, WORKERS_MAX,
 };
 pub use listings::Listing;
 pub use lists::Items;
 pub use nicks::Nick;
 pub use number_texts::push_digits;
-pub use numbers::{push_int, push_number};
+pub use numbers::{push_int, push_number, put_int};
+pub use plain_rows::PlainRow;
 pub use records::Record;
 pub use refusals::Refusal;
 pub use row_keys::{RowKey, Table, key_cmp};

@@ -65,3 +65,6 @@ pub const ID_TEXT_MAX: usize = 21;
 
 /// The most bytes of the counts of a message as they are written, each with ten digits and a mark.
 pub const COUNTS_TEXT_MAX: usize = 11 * COUNTED_MAX;
+
+/// The most bytes of a row that is made in place, with a comma for each field: those of any message, and what stands before it.
+pub const PLAIN_ROW_MAX: usize = 640;

@@ -1,9 +1,11 @@
 //! Numbers as fields.
 
-ghost use Rattle.std.specs.Prelude.{◌≡◌, ◌∷◌, ◌++◌, [], OnErr, OnOk, decimal};
+ghost use Rattle.std.specs.Prelude.{◌≡◌, ◌≤◌, ◌+◌, ◌∷◌, ◌++◌, [], OnErr, OnOk, decimal};
 ghost use Rattle.rubis_schema.specs.Ids.{int_text};
+ghost use Rattle.rubis_schema.specs.declared.limits.TheConstants.{NUMBER_TEXT_MAX};
 
 use crate::field_list::Fields;
+use crate::plain_rows::PlainRow;
 use itoa::Buffer;
 use std::alloc::AllocError;
 
@@ -26,4 +28,17 @@ pub fn push_int(fields: &mut Fields, number: i64) -> Result<(), AllocError>
     }
     let mut buffer = Buffer::new();
     fields.push(buffer.format(number).as_bytes())
+}
+
+/// Puts a number, with `-` in front where it is below 0, first, as a field.
+#[inline(always)]
+pub fn put_int(row: &mut PlainRow, number: i64)
+    requires room { NUMBER_TEXT_MAX + 2 ≤ row.old.left }
+    ensures fields { row.new.fields ≡ int_text number ∷ row.old.fields }
+    ensures left { row.old.left ≤ row.new.left + (NUMBER_TEXT_MAX + 2) }
+{
+    row.put_number(number.unsigned_abs());
+    if number < 0 {
+        row.put_mark(b'-');
+    }
 }

@@ -7,3 +7,4 @@ pub mod HeadlineExamples
 pub mod LeadFacts
 pub mod TurnFacts
 pub mod DrainFacts
+pub mod Names

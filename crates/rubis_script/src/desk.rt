@@ -49,7 +49,7 @@ use std::thread::Threads;
 fn refuse(reply: &mut Reply, refusal: Refusal) -> Result<(), OutOfMemory>
     ensures { OnOk result (reply.new.sink ≡ reply.old.sink ++ rows_text (refused_row reply.old.number refusal ∷ [])) }
 {
-    write_refusal(&mut reply.fields, &mut reply.sink, reply.number, refusal)?;
+    write_refusal(&mut reply.draft.row, &mut reply.sink, reply.number, refusal)?;
     Ok(())
 }
 
@@ -66,7 +66,7 @@ fn answer_ask<G: Gate, R: Threads + Wait + Sync>(
     ensures answered { OnOk result (IsAnswered reply.old.number (Asked (Request.Ask ask)) site.old site.new reply.old.sink reply.new.sink) }
 {
     match site.request(rt, ask) {
-        Ok(message) => write_sent(&mut reply.fields, &mut reply.sink, reply.number, &message)?,
+        Ok(message) => write_sent(&mut reply.draft, &mut reply.sink, reply.number, &message)?,
         Err(Fault::Refused(refusal)) => refuse(reply, refusal)?,
         Err(Fault::Behind) | Err(Fault::Memory) => return Err(OutOfMemory),
     }
@@ -79,7 +79,7 @@ fn answer_pass<G: Gate>(site: &mut Site<G>, reply: &mut Reply, to: u8) -> Result
     ensures answered { OnOk result (IsAnswered reply.old.number (Asked (Request.Pass to)) site.old site.new reply.old.sink reply.new.sink) }
 {
     match site.pass(to) {
-        Ok(token) => write_passed(&mut reply.fields, &mut reply.sink, reply.number, &token)?,
+        Ok(token) => write_passed(&mut reply.draft.row, &mut reply.sink, reply.number, &token)?,
         Err(Fault::Refused(refusal)) => refuse(reply, refusal)?,
         Err(Fault::Behind) | Err(Fault::Memory) => return Err(OutOfMemory),
     }
@@ -99,7 +99,7 @@ fn answer_list<G: Gate, R: Threads + Wait + Sync>(
 {
     let mut rows = Counted::new(reply.sink.another());
     match site.list_into(rt, listing, &mut rows) {
-        Ok(()) => write_listed_text(&mut reply.fields, &mut reply.sink, reply.number, rows)?,
+        Ok(()) => write_listed_text(&mut reply.draft.row, &mut reply.sink, reply.number, rows)?,
         Err(Fault::Refused(refusal)) => refuse(reply, refusal)?,
         Err(Fault::Behind) | Err(Fault::Memory) => return Err(OutOfMemory),
     }
@@ -138,7 +138,7 @@ fn answer_message<G: Gate, R: Threads + Wait + Sync>(
     ensures answered { OnOk result (IsAnswered reply.old.number (Came (Packet.Msg message)) site.old site.new reply.old.sink reply.new.sink) }
 {
     match site.arrive(rt, message) {
-        Ok(arrival) => write_arrival(&mut reply.fields, &mut reply.sink, reply.number, arrival)?,
+        Ok(arrival) => write_arrival(&mut reply.draft.row, &mut reply.sink, reply.number, arrival)?,
         Err(Fault::Refused(refusal)) => refuse(reply, refusal)?,
         Err(Fault::Behind) | Err(Fault::Memory) => return Err(OutOfMemory),
     }
@@ -155,7 +155,7 @@ fn answer_token<G: Gate>(
     ensures answered { OnOk result (IsAnswered reply.old.number (Came (Packet.Token token)) site.old site.new reply.old.sink reply.new.sink) }
 {
     match site.token(token) {
-        Ok(taken) => write_taken(&mut reply.fields, &mut reply.sink, reply.number, taken)?,
+        Ok(taken) => write_taken(&mut reply.draft.row, &mut reply.sink, reply.number, taken)?,
         Err(Fault::Refused(refusal)) => refuse(reply, refusal)?,
         Err(Fault::Behind) | Err(Fault::Memory) => return Err(OutOfMemory),
     }
@@ -327,7 +327,7 @@ impl<G: Gate> Desk<G> {
         let messages = mem::replace(window, Vec::new(self.alloc));
         let arrived = self.site.arrive_all(rt, messages);
         write_arrivals(
-            &mut reply.fields,
+            &mut reply.draft.row,
             &mut reply.sink,
             first,
             arrived.answers.as_slice(),
@@ -566,7 +566,7 @@ impl<G: Gate> Desk<G> {
         }
         let mut rows = self.site.rows(listing)?;
         let count = rows.count() as u64;
-        write_count(&mut reply.fields, &mut reply.sink, reply.number, count)?;
+        write_count(&mut reply.draft.row, &mut reply.sink, reply.number, count)?;
         write_rows(rt, &mut rows, &mut reply.sink, writer)
     }
 }

@@ -1,110 +1,154 @@
 //! The records that answer a record.
 
-ghost use Rattle.std.specs.Prelude.{◌≡◌, ◌∷◌, ◌++◌, [], ℕ, List, Ok, OnOk, codes, decimal, true};
+ghost use Rattle.std.specs.Prelude.{◌≡◌, ◌≤◌, ◌∷◌, ◌++◌, [], ℕ, List, Ok, OnOk, codes, decimal, length, true};
+ghost use Rattle.rubis_message.specs.Grammar.{message_record};
 ghost use Rattle.rubis_message.specs.declared.answers.Arrival.TheVariants.{Released};
 ghost use Rattle.rubis_schema.specs.FieldList.{is_plain};
-ghost use Rattle.rubis_model.specs.Answers.{arrived_rows, asked_rows, listed_rows, passed_rows, refused_row, reply, took_rows};
+ghost use Rattle.rubis_model.specs.Answers.{arrived_rows, asked_rows, listed_rows, passed_rows, refused_row, reply, send_row, took_rows};
+ghost use Rattle.rubis_script.specs.declared.replies.TheConstants.{REPLY_ROOM};
 ghost use Rattle.rubis_script.specs.Replies.{HasRows};
 ghost use Rattle.rubis_engine.specs.Text.{rows_text};
 
-use rubis_engine::Sink;
-use rubis_message::{Arrival, Message, Taken, Token, append_message, append_token};
-use rubis_schema::{Counted, Fields, Items, Refusal, RowSink, push_number};
+use rubis_engine::{Draft, PlainSink, Sink};
+use rubis_message::{Arrival, Message, Taken, Token, append_message, put_message, put_token};
+use rubis_schema::{Counted, Fields, Items, PlainRow, Refusal, RowSink};
 use std::alloc::AllocError;
 
-// Begins the reply to the record with that number.
+// The most bytes that the beginning of a reply takes: the word, the number of a record and a word of eight letters.
+const REPLY_ROOM: usize = 36;
+
+// Puts the beginning of the reply to the record with that number first.
 #[inline(always)]
-fn begin(fields: &mut Fields, number: u64, word: &[u8]) -> Result<(), AllocError>
-    requires { is_plain word.now ≡ true }
-    ensures { OnOk result (fields.new ≡ reply number (word.now ∷ [])) }
+fn put_reply(row: &mut PlainRow, number: u64, word: &[u8])
+    requires plain { is_plain word.now ≡ true }
+    requires short { length word.now ≤ 8 }
+    requires room { REPLY_ROOM ≤ row.old.left }
+    ensures fields { row.new.fields ≡ reply number (word.now ∷ row.old.fields) }
+    ensures left { row.old.left ≤ row.new.left + REPLY_ROOM }
 {
-    fields.clear();
-    fields.push_plain(b"reply")?;
-    push_number(fields, number)?;
-    fields.push_plain(word)
+    row.put_plain(word);
+    row.put_number(number);
+    row.put_plain(b"reply");
 }
 
 /// Says why a record is refused.
-pub fn write_refusal<S: RowSink>(
-    fields: &mut Fields,
+#[tactic(auto, using(crate::proofs::Names::name_plain, crate::proofs::Names::name_short))]
+pub fn write_refusal<S: PlainSink>(
+    row: &mut PlainRow,
     sink: &mut S,
     number: u64,
     refusal: Refusal,
 ) -> Result<(), AllocError>
     ensures { OnOk result (S.adds (refused_row number refusal ∷ []) sink.old sink.new) }
 {
-    begin(fields, number, b"refused")?;
-    push_number(fields, u64::from(refusal.code()))?;
-    fields.push(refusal.name().as_bytes())?;
-    sink.put(fields)
+    row.clear();
+    row.put_plain(refusal.name().as_bytes());
+    row.put_number(u64::from(refusal.code()));
+    put_reply(row, number, b"refused");
+    sink.put_plain(row)
 }
 
-/// Gives the id of an accepted ask, and sends its message.
-pub fn write_sent<S: RowSink>(
+// Sends a message, some field of which may call for quotes.
+#[cold]
+fn write_message<S: RowSink>(
     fields: &mut Fields,
     sink: &mut S,
-    number: u64,
     message: &Message,
 ) -> Result<(), AllocError>
-    ensures { OnOk result (S.adds (asked_rows number (Ok message.now)) sink.old sink.new) }
+    ensures { OnOk result (S.adds (send_row (message_record message.now) ∷ []) sink.old sink.new) }
 {
-    begin(fields, number, b"ok")?;
-    message.id().push_to(fields)?;
-    sink.put(fields)?;
     fields.clear();
     fields.push_plain(b"send")?;
     append_message(fields, message)?;
     sink.put(fields)
 }
 
+// Sends a message.
+#[inline(always)]
+fn send_message<S: PlainSink>(
+    draft: &mut Draft,
+    sink: &mut S,
+    message: &Message,
+) -> Result<(), AllocError>
+    ensures { OnOk result (S.adds (send_row (message_record message.now) ∷ []) sink.old sink.new) }
+{
+    let row = &mut draft.row;
+    row.clear();
+    if !put_message(row, message) {
+        return write_message(&mut draft.fields, sink, message);
+    }
+    row.put_plain(b"send");
+    sink.put_plain(row)
+}
+
+/// Gives the id of an accepted ask, and sends its message.
+pub fn write_sent<S: PlainSink>(
+    draft: &mut Draft,
+    sink: &mut S,
+    number: u64,
+    message: &Message,
+) -> Result<(), AllocError>
+    ensures { OnOk result (S.adds (asked_rows number (Ok message.now)) sink.old sink.new) }
+{
+    let row = &mut draft.row;
+    row.clear();
+    message.id().put_to(row);
+    put_reply(row, number, b"ok");
+    sink.put_plain(row)?;
+    send_message(draft, sink, message)
+}
+
 /// Says that the token is handed on, and sends it.
-pub fn write_passed<S: RowSink>(
-    fields: &mut Fields,
+pub fn write_passed<S: PlainSink>(
+    row: &mut PlainRow,
     sink: &mut S,
     number: u64,
     token: &Token,
 ) -> Result<(), AllocError>
     ensures { OnOk result (S.adds (passed_rows number (Ok token.now)) sink.old sink.new) }
 {
-    begin(fields, number, b"passed")?;
-    sink.put(fields)?;
-    fields.clear();
-    fields.push_plain(b"send")?;
-    append_token(fields, token)?;
-    sink.put(fields)
+    write_word(row, sink, number, b"passed")?;
+    row.clear();
+    put_token(row, token);
+    row.put_plain(b"send");
+    sink.put_plain(row)
 }
 
 // Says how many messages were released.
-fn write_released<S: RowSink>(
-    fields: &mut Fields,
+#[inline(always)]
+fn write_released<S: PlainSink>(
+    row: &mut PlainRow,
     sink: &mut S,
     number: u64,
     count: u32,
 ) -> Result<(), AllocError>
     ensures { OnOk result (S.adds (arrived_rows number (Ok (Released count))) sink.old sink.new) }
 {
-    begin(fields, number, b"released")?;
-    push_number(fields, u64::from(count))?;
-    sink.put(fields)
+    row.clear();
+    row.put_number(u64::from(count));
+    put_reply(row, number, b"released");
+    sink.put_plain(row)
 }
 
 // Answers with one word.
-fn write_word<S: RowSink>(
-    fields: &mut Fields,
+fn write_word<S: PlainSink>(
+    row: &mut PlainRow,
     sink: &mut S,
     number: u64,
     word: &[u8],
 ) -> Result<(), AllocError>
-    requires { is_plain word.now ≡ true }
+    requires plain { is_plain word.now ≡ true }
+    requires short { length word.now ≤ 8 }
     ensures { OnOk result (S.adds (reply number (word.now ∷ []) ∷ []) sink.old sink.new) }
 {
-    begin(fields, number, word)?;
-    sink.put(fields)
+    row.clear();
+    put_reply(row, number, word);
+    sink.put_plain(row)
 }
 
 /// Says what became of a message that arrived.
-pub fn write_arrival<S: RowSink>(
-    fields: &mut Fields,
+pub fn write_arrival<S: PlainSink>(
+    row: &mut PlainRow,
     sink: &mut S,
     number: u64,
     arrival: Arrival,
@@ -112,15 +156,15 @@ pub fn write_arrival<S: RowSink>(
     ensures { OnOk result (S.adds (arrived_rows number (Ok arrival)) sink.old sink.new) }
 {
     match arrival {
-        Arrival::Released(count) => write_released(fields, sink, number, count),
-        Arrival::Held => write_word(fields, sink, number, b"held"),
-        Arrival::Repeat => write_word(fields, sink, number, b"repeat"),
+        Arrival::Released(count) => write_released(row, sink, number, count),
+        Arrival::Held => write_word(row, sink, number, b"held"),
+        Arrival::Repeat => write_word(row, sink, number, b"repeat"),
     }
 }
 
 /// Says what became of a token that arrived.
-pub fn write_taken<S: RowSink>(
-    fields: &mut Fields,
+pub fn write_taken<S: PlainSink>(
+    row: &mut PlainRow,
     sink: &mut S,
     number: u64,
     taken: Taken,
@@ -128,8 +172,8 @@ pub fn write_taken<S: RowSink>(
     ensures { OnOk result (S.adds (took_rows number (Ok taken)) sink.old sink.new) }
 {
     match taken {
-        Taken::Holding => write_word(fields, sink, number, b"holding"),
-        Taken::Repeat => write_word(fields, sink, number, b"repeat"),
+        Taken::Holding => write_word(row, sink, number, b"holding"),
+        Taken::Repeat => write_word(row, sink, number, b"repeat"),
     }
 }
 
@@ -144,41 +188,42 @@ fn write_rows<S: RowSink>(sink: &mut S, rows: &[Fields]) -> Result<(), AllocErro
 }
 
 /// Says how many rows a listing has.
-pub(crate) fn write_count<S: RowSink>(
-    fields: &mut Fields,
+pub(crate) fn write_count<S: PlainSink>(
+    row: &mut PlainRow,
     sink: &mut S,
     number: u64,
     count: u64,
 ) -> Result<(), AllocError>
     ensures { OnOk result (S.adds (reply number (codes "rows" ∷ decimal count ∷ []) ∷ []) sink.old sink.new) }
 {
-    begin(fields, number, b"rows")?;
-    push_number(fields, count)?;
-    sink.put(fields)
+    row.clear();
+    row.put_number(count);
+    put_reply(row, number, b"rows");
+    sink.put_plain(row)
 }
 
 /// Says how many rows a listing has, and gives them.
-pub fn write_listed<S: RowSink>(
-    fields: &mut Fields,
+pub fn write_listed<S: PlainSink>(
+    row: &mut PlainRow,
     sink: &mut S,
     number: u64,
     rows: &Items<Fields>,
 ) -> Result<(), AllocError>
     ensures { OnOk result (S.adds (listed_rows number (Ok rows.now)) sink.old sink.new) }
 {
-    write_count(fields, sink, number, rows.len() as u64)?;
+    write_count(row, sink, number, rows.len() as u64)?;
     write_rows(sink, rows.as_slice())
 }
 
 /// Says how many rows a listing has, and gives their text.
 pub fn write_listed_text(
-    fields: &mut Fields,
+    row: &mut PlainRow,
     sink: &mut Sink,
     number: u64,
     listing: Counted<Sink>,
 ) -> Result<(), AllocError>
     ensures { OnOk result ((rows : List (List (List ℕ))) → HasRows rows listing → sink.new ≡ sink.old ++ rows_text (listed_rows number (Ok rows))) }
 {
-    write_count(fields, sink, number, listing.count)?;
+    write_count(row, sink, number, listing.count)?;
     sink.add_text(listing.rows)
 }

@@ -8,7 +8,7 @@ use crate::replies::{write_arrival, write_refusal};
 use rubis_engine::{OutOfMemory, Sink};
 use rubis_message::{Arrival, Message};
 use rubis_replica::Config;
-use rubis_schema::{Fields, Refusal};
+use rubis_schema::{PlainRow, Refusal};
 use std::alloc::AllocError;
 
 /// Holds one more message.
@@ -32,7 +32,7 @@ pub(crate) fn window_of(config: &Config) -> usize
 
 /// Says what became of messages that arrived together, the first of which is the record with that number.
 pub(crate) fn write_arrivals(
-    fields: &mut Fields,
+    row: &mut PlainRow,
     sink: &mut Sink,
     first: u64,
     answers: &[Result<Arrival, Refusal>],
@@ -43,8 +43,8 @@ pub(crate) fn write_arrivals(
     for (at, answer) in answers.iter().enumerate() {
         let number = first + at as u64;
         match answer {
-            Ok(arrival) => write_arrival(fields, sink, number, *arrival)?,
-            Err(refusal) => write_refusal(fields, sink, number, *refusal)?,
+            Ok(arrival) => write_arrival(row, sink, number, *arrival)?,
+            Err(refusal) => write_refusal(row, sink, number, *refusal)?,
         }
     }
     Ok(())

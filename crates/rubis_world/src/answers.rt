@@ -7,9 +7,9 @@ ghost use Rattle.rubis_engine.specs.Text.{rows_text};
 
 use crate::packets::packet;
 use crate::site_rows::SiteRows;
-use rubis_engine::{Reply, Sink};
+use rubis_engine::{Draft, PlainSink, Reply, Sink};
 use rubis_message::{Happened, Packet};
-use rubis_schema::{Fields, Refusal, RowSink, push_number};
+use rubis_schema::{PlainRow, Refusal, push_number};
 use rubis_script::{
     write_arrival, write_listed, write_passed, write_refusal, write_sent, write_taken,
 };
@@ -19,7 +19,7 @@ use std::alloc::AllocError;
 pub fn write_no_event(reply: &mut Reply, refusal: Refusal) -> Result<(), AllocError>
     ensures { OnOk result (reply.new.sink ≡ reply.old.sink ++ rows_text (world_row reply.old.number refusal ∷ [])) }
 {
-    let fields = &mut reply.fields;
+    let fields = &mut reply.draft.fields;
     fields.clear();
     fields.push_plain(b"world")?;
     push_number(fields, reply.number)?;
@@ -30,8 +30,8 @@ pub fn write_no_event(reply: &mut Reply, refusal: Refusal) -> Result<(), AllocEr
 }
 
 // The packet that answers a request.
-fn write_packet<S: RowSink>(
-    fields: &mut Fields,
+fn write_packet<S: PlainSink>(
+    draft: &mut Draft,
     sink: &mut S,
     number: u64,
     packet: &Packet,
@@ -39,14 +39,14 @@ fn write_packet<S: RowSink>(
     ensures { OnOk result (S.adds (sent_rows number (Some packet.now)) sink.old sink.new) }
 {
     match packet {
-        Packet::Msg(message) => write_sent(fields, sink, number, message),
-        Packet::Token(token) => write_passed(fields, sink, number, token),
+        Packet::Msg(message) => write_sent(draft, sink, number, message),
+        Packet::Token(token) => write_passed(&mut draft.row, sink, number, token),
     }
 }
 
 // What a site gives where something happened; all packets that were sent are at hand.
-fn write_happened<S: RowSink>(
-    fields: &mut Fields,
+fn write_happened<S: PlainSink>(
+    draft: &mut Draft,
     sink: &mut S,
     number: u64,
     sent: &[Packet],
@@ -56,18 +56,18 @@ fn write_happened<S: RowSink>(
 {
     match happened {
         Happened::Sent(which) => match packet(sent, which) {
-            Some(packet) => write_packet(fields, sink, number, packet),
+            Some(packet) => write_packet(draft, sink, number, packet),
             None => Ok(()),
         },
-        Happened::Came(arrival) => write_arrival(fields, sink, number, arrival),
-        Happened::Token(taken) => write_taken(fields, sink, number, taken),
-        Happened::Rows(rows) => write_listed(fields, sink, number, &rows),
+        Happened::Came(arrival) => write_arrival(&mut draft.row, sink, number, arrival),
+        Happened::Token(taken) => write_taken(&mut draft.row, sink, number, taken),
+        Happened::Rows(rows) => write_listed(&mut draft.row, sink, number, &rows),
     }
 }
 
 /// Says what happened at a site; all packets that were sent are at hand.
 pub fn write_event(
-    fields: &mut Fields,
+    draft: &mut Draft,
     sink: &mut Sink,
     number: u64,
     site: u8,
@@ -77,12 +77,12 @@ pub fn write_event(
     ensures { OnOk result (sink.new ≡ sink.old ++ rows_text (map (site_row site) (happened_rows number sent.now happened))) }
 {
     let mut rows = SiteRows { sink, site };
-    write_happened(fields, &mut rows, number, sent, happened)
+    write_happened(draft, &mut rows, number, sent, happened)
 }
 
 // Says that a site refuses the record.
 fn write_site_refusal(
-    fields: &mut Fields,
+    row: &mut PlainRow,
     sink: &mut Sink,
     number: u64,
     site: u8,
@@ -91,7 +91,7 @@ fn write_site_refusal(
     ensures { OnOk result (sink.new ≡ sink.old ++ rows_text (site_row site (refused_row number refusal) ∷ [])) }
 {
     let mut rows = SiteRows { sink, site };
-    write_refusal(fields, &mut rows, number, refusal)
+    write_refusal(row, &mut rows, number, refusal)
 }
 
 /// Says why a record is refused: by the world if it is no event, and otherwise by the site.
@@ -102,7 +102,7 @@ pub fn write_refused(reply: &mut Reply, site: u8, refusal: Refusal) -> Result<()
         Refusal::BadEvent => write_no_event(reply, Refusal::BadEvent),
         Refusal::NoSuchPacket => write_no_event(reply, Refusal::NoSuchPacket),
         refusal => write_site_refusal(
-            &mut reply.fields,
+            &mut reply.draft.row,
             &mut reply.sink,
             reply.number,
             site,

@@ -52,7 +52,7 @@ fn answer_request<R: Threads + Wait + Sync>(
 {
     match world.at(rt, site, request) {
         Ok(happened) => Ok(write_event(
-            &mut reply.fields,
+            &mut reply.draft,
             &mut reply.sink,
             reply.number,
             site,
@@ -76,7 +76,7 @@ fn answer_delivery<R: Threads + Wait + Sync>(
 {
     match world.deliver(rt, site, which) {
         Ok(happened) => Ok(write_event(
-            &mut reply.fields,
+            &mut reply.draft,
             &mut reply.sink,
             reply.number,
             site,
@@ -102,7 +102,7 @@ fn answer_audit<R: Threads + Wait + Sync>(
     let Ok(verdict) = world.check(rt) else {
         return Err(OutOfMemory);
     };
-    write_verdict(&mut reply.fields, &mut reply.sink, verdict)?;
+    write_verdict(&mut reply.draft.fields, &mut reply.sink, verdict)?;
     Ok(())
 }
 

@@ -1,8 +1,8 @@
 //! The records that one site of several gives.
 
 use itoa::Buffer;
-use rubis_engine::Sink;
-use rubis_schema::{Fields, RowSink};
+use rubis_engine::{PlainSink, Sink};
+use rubis_schema::{Fields, PlainRow, RowSink};
 use std::alloc::AllocError;
 
 /// What takes the records that a site gives, and writes each with `at` and the site in front.
@@ -29,4 +29,12 @@ impl RowSink for SiteRows<'_> {
     ghost adds_none = { λ s. (refl, none_told s.sink.now s.site) };
 
     ghost adds_more = { λ xs ys a b c e f. (f.0 ∙ e.0, more_told xs ys a.sink.now b.sink.now c.sink.now a.site b.site c.site e.1 f.1) };
+}
+
+impl PlainSink for SiteRows<'_> {
+    fn put_plain(&mut self, row: &mut PlainRow) -> Result<(), AllocError> {
+        row.put_number(u64::from(self.site));
+        row.put_plain(b"at");
+        self.sink.write_plain(row)
+    }
 }

@@ -1,9 +1,9 @@
 use Rattle.std.proofs.Common.{◌≡◌, ◌∷◌, [], rules, subst}
-use Rattle.std.specs.Prelude.{OnOk}
 use Rattle.rubis_model.specs.Answers.{refused_row}
+use Rattle.rubis_engine.proofs.RowFacts.{on_ok}
 use Rattle.rubis_script.proofs.replies.write_refusal.Goals as goal
 
 pub returns : goal.returns
 returns g c =
-    let row : c.push.new.self ≡ refused_row c.args.number c.args.refusal = search rules in
-    subst (λ r. OnOk c.put.result (g.S.RowSink.adds (r ∷ []) c.args.sink.now c.put.new.self)) row c.put.ensures
+    let row : c.put_reply.new.row.fields ≡ refused_row c.args.number c.args.refusal = search rules in
+    on_ok c.put_plain-2.result (λ one. subst (λ r. g.S.RowSink.adds (r ∷ []) c.args.sink.now c.put_plain-2.new.self) row one) c.put_plain-2.ensures

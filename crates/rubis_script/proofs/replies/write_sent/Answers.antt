@@ -9,8 +9,7 @@ use Rattle.rubis_script.proofs.replies.write_sent.Goals as goal
 pub returns : goal.returns
 returns g c =
     let accepted = reply c.args.number (codes "ok" ∷ id_text c.args.message.now.stamp.id ∷ []) in
-    let told : c.push_to.new.fields ≡ accepted = search rules in
-    let sent : c.append_message.new.fields ≡ send_row (message_record c.args.message.now) = search rules in
-    let one = subst (λ r. g.S.RowSink.adds (r ∷ []) c.args.sink.now c.put.new.self) told c.in_ok-put.ensures in
-    on_ok c.put-2.result (λ two. g.met.S.RowSink.adds_more (accepted ∷ []) (send_row (message_record c.args.message.now) ∷ [])
-    c.args.sink.now c.put.new.self c.put-2.new.self one (subst (λ r. g.S.RowSink.adds (r ∷ []) c.put.new.self c.put-2.new.self) sent two)) c.put-2.ensures
+    let told : c.put_reply.new.row.fields ≡ accepted = search rules in
+    let one = subst (λ r. g.S.RowSink.adds (r ∷ []) c.args.sink.now c.put_plain.new.self) told c.in_ok-put_plain.ensures in
+    on_ok c.send_message.result (λ two. g.met.S.RowSink.adds_more (accepted ∷ []) (send_row (message_record c.args.message.now) ∷ [])
+    c.args.sink.now c.put_plain.new.self c.send_message.new.sink one two) c.send_message.ensures

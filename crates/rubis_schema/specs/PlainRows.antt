@@ -1,0 +1,34 @@
+-- A row of fields that call for no quotes, written from its last field to its first.
+use Rattle.std.specs.Prelude.{◌≡◌, ◌==◌, ◌-◌, ◌≤◌, ℕ, Bool, true, cond, List, [], ◌∷◌, length}
+use Rattle.rubis_schema.specs.FieldList.{all_plain, comma, joined}
+
+-- the fields, and how many bytes there is still room for, where each field takes a comma besides
+pub record PlainRow : Type 0 where
+  pub fields : List (List ℕ)
+  pub left : ℕ
+
+-- what stands before the first comma of a text, and after it the fields between commas
+pub record Cut : Type 0 where
+  pub front : List ℕ
+  pub fields : List (List ℕ)
+
+-- a byte more in front: a comma ends what stood there as a field
+abbrev pub cut_more : ℕ → Cut → Cut
+cut_more b c = cond (b == comma) (record { front = []; fields = c.front ∷ c.fields }) (record { front = b ∷ c.front; fields = c.fields })
+
+abbrev pub cut : List ℕ → Cut
+cut [] = record { front = []; fields = [] }
+cut (b ∷ text) = cut_more b (cut text)
+
+-- the fields of a text in which each has a comma before it
+abbrev pub fields_in : List ℕ → List (List ℕ)
+fields_in text = (cut text).fields
+
+-- `size` bytes at most, which have fields that call for no quotes, with a comma before each, and nothing else
+pub record IsPlainText (size : ℕ) (bytes : List ℕ) : Type 0 where
+  pub fits : length bytes ≤ size
+  pub text : bytes ≡ joined (fields_in bytes)
+  pub plain : all_plain (fields_in bytes) ≡ true
+
+abbrev pub plain_row : ℕ → List ℕ → PlainRow
+plain_row size text = record { fields = fields_in text; left = size - length text }
