@@ -9,7 +9,7 @@ loop-site-preserved c =
     let site = c.loop-site.site in
     let text = deps_text (drop site deps) in
     let more = text_more deps text (58 ∷ text) (decimal c.count-in-loop-site.result ++ 58 ∷ text) (site - 1) site (omega arith) (omega (arith, c.loop-site.invariant.2)) refl
-        (λ _. refl) (λ last. absurd (omega (arith, last, c.loop-site.invariant.2))) (ap (λ n. decimal n ++ 58 ∷ text) c.count-in-loop-site.ensures) in (
+    (λ _. refl) (λ last. absurd (omega (arith, last, c.loop-site.invariant.2))) (ap (λ n. decimal n ++ 58 ∷ text) c.count-in-loop-site.ensures) in (
       c.put_before.ensures.fields text c.args.row.now.fields c.loop-site.invariant.0 ∙ ap (λ t. t ∷ c.args.row.now.fields) more,
       omega (arith, c.loop-site.invariant.1, c.put_before.ensures.left),
       omega (arith, c.loop-site.invariant.2),
