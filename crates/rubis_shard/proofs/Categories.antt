@@ -1,4 +1,4 @@
--- The categories that listings show, among the rows of three maps.
+-- The categories that listings show, among the rows of four maps.
 use Rattle.std.proofs.Common.{◌≡◌, ℕ, Bool, true, false, cond, List, [], ◌∷◌, ◌++◌, refl, sym, ap, ◌∙◌, append_assoc}
 use Rattle.std.specs.Prelude.{filter}
 use Rattle.std.specs.FinMap as map
@@ -60,8 +60,11 @@ pub categories_shown : (r : Rows) → shown_among (written key.Cat r.cats.entrie
 categories_shown r =
     let nicks = written key.Nick r.nicks.entries in
     let cats = written key.Cat r.cats.entries in
-    sym (append_among (kept_of r) (nicks ++ cats)
-    ∙ (λ i. none_among row_key no_key r.kept.entries i ++ append_among nicks cats i)
+    let first = none_among row_key no_key r.users.rows.entries in
+    let second = none_among row_key no_key r.others.rows.entries in
+    sym (append_among (kept_of r.users) (kept_of r.others ++ (nicks ++ cats))
+    ∙ (λ i. first i ++ append_among (kept_of r.others) (nicks ++ cats) i)
+    ∙ (λ i. second i ++ append_among nicks cats i)
     ∙ ap (λ es. es ++ categories_among cats) (none_among key.Nick (λ n. refl) r.nicks.entries)
     ∙ all_among r.cats.entries)
 

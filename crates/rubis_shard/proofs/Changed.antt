@@ -2,6 +2,7 @@
 use Rattle.std.proofs.Common.{◌≡◌, ◌-◌, Bool, true, false, List, sym, ap, ◌∙◌, subst, cond, refl}
 use Rattle.std.specs.Prelude.{Option, Some, None, is_none, is_some, not, nat_le, IsSome}
 use Rattle.std.specs.FinMap as map
+use Rattle.std.specs.List.{AllByRecursion}
 use Rattle.std.specs.Map.{lookup}
 use Rattle.indexmap.specs.IndexMap.{insert_entry}
 use Rattle.rubis_schema.specs.IdKeys.{row_key, same_id_key}
@@ -26,7 +27,7 @@ use Rattle.rubis_shard.specs.Chains.{chains_of, IsLinkedSoFar}
 use Rattle.rubis_shard.specs.Rows.{no_row, IsAltered, IsChanged}
 use Rattle.rubis_shard.specs.Written.{written}
 use Rattle.rubis_shard.specs.declared.chains.Chains.{Chains}
-use Rattle.rubis_shard.proofs.InMaps.{new_last}
+use Rattle.rubis_shard.proofs.InMaps.{all_set, new_last}
 use Rattle.rubis_shard.proofs.Linking.{chain_stays, chains_pushed, chains_set, linked_more}
 
 pub not_true : (b : Bool) → not b ≡ true → b ≡ false
@@ -123,3 +124,16 @@ module _ {K : Type 0} (same : K → K → Bool) (old new : List (K × Row)) (key
           let h = some was is in
           ap (λ es. chains_of (written f es)) h.entries
           ∙ chains_set f (same key) old was h.row is (λ k. chain_stays c k was h.row (kept was is))
+
+-- rows with ids that were all of one kind before
+pub altered_all : (P : IdKey → Type 0) (old new : List (IdKey × Row)) (key : IdKey) (c : Change) (fate : Fate)
+    → (lookup (same_id_key key) old ≡ None → (new ≡ old) × (fate ≡ no_row))
+    → ((was : Row) → lookup (same_id_key key) old ≡ Some was → IsAltered same_id_key old new key c was fate)
+    → AllByRecursion (λ e. P e.0) old → AllByRecursion (λ e. P e.0) new
+altered_all P old new key c fate none some all = by (lookup (same_id_key key) old) refl
+  where
+    by : (o : Option Row) → lookup (same_id_key key) old ≡ o → AllByRecursion (λ e. P e.0) new
+    by None is = subst (AllByRecursion (λ (e : IdKey × Row). P e.0)) (sym (none is).0) all
+    by (Some was) is =
+        let h = some was is in
+        subst (AllByRecursion (λ (e : IdKey × Row). P e.0)) (sym h.entries) (all_set P (same_id_key key) old h.row all)

@@ -43,7 +43,7 @@ pub passing_length : (p : RowKey × Row → Bool) (es : Entries) → IsDistinct 
     → length (filter p (map.entries (tables_of es))) ≡ length (filter p es)
 passing_length p es d = ap length (sym (entries_passing p es d)) ∙ made_length (filter p es) (IsDistinct-keys_filter key_eq p es d)
 
--- ---- among the rows of three maps
+-- ---- among the rows of four maps
 no_more : (b : Bool) → (b && false) ≡ false
 no_more true = refl
 no_more false = refl
@@ -59,15 +59,16 @@ recorded_append n xs ys = ap length (filter-append (is_recorded n) xs ys) ∙ le
 
 pub recorded_in : (n : ℕ) (r : Rows) → IsDistinct key_eq (keys_of (entries_in r))
     → length (recorded_from n (map.entries (tables_of (entries_in r))))
-    ≡ length (recorded_from n (kept_of r)) + length (recorded_from n (written key.Cat r.cats.entries))
+    ≡ length (recorded_from n (kept_of r.users)) + length (recorded_from n (kept_of r.others)) + length (recorded_from n (written key.Cat r.cats.entries))
 recorded_in n r d =
     let nicks = written key.Nick r.nicks.entries in
     let cats = written key.Cat r.cats.entries in
     let all = passing_length (is_recorded n) (entries_in r) d in
-    let first = recorded_append n (kept_of r) (nicks ++ cats) in
-    let second = recorded_append n nicks cats in
+    let first = recorded_append n (kept_of r.users) (kept_of r.others ++ (nicks ++ cats)) in
+    let second = recorded_append n (kept_of r.others) (nicks ++ cats) in
+    let third = recorded_append n nicks cats in
     let none = ap length (no_nicknames n r.nicks.entries) in
-    omega (arith, all, first, second, none)
+    omega (arith, all, first, second, third, none)
 
 pub none_recorded : (n : ℕ) → length (recorded_from n (map.entries (map.empty {X = Row} {R = key_order}))) ≡ 0
 none_recorded n = ap (λ (es : Entries). length (recorded_from n es)) (none_there map.empty refl)

@@ -1,18 +1,20 @@
--- The keys of rows in three maps differ.
-use Rattle.std.proofs.Common.{◌≡◌, Bool, false, List, [], ◌∷◌, ◌++◌, refl, sym, ap, ◌∙◌, subst}
+-- The keys of rows in four maps differ.
+use Rattle.std.proofs.Common.{◌≡◌, Bool, true, false, List, [], ◌∷◌, ◌++◌, refl, sym, ap, ◌∙◌, subst}
 use Rattle.std.specs.List.{AllByRecursion, IsDistinct}
 use Rattle.std.specs.Map.{keys_of}
 use Rattle.rubis_schema.specs.IdKeyLaws.{same_id_key, same_as_row_keys}
 use Rattle.rubis_schema.specs.IdKeys.{row_key}
 use Rattle.rubis_schema.specs.Keys.{key_eq}
+use Rattle.rubis_schema.specs.declared.id_keys.IdKey.{IdKey}
 use Rattle.rubis_schema.specs.declared.row_keys.RowKey.{RowKey}
 use Rattle.rubis_schema.specs.declared.row_keys.RowKey.TheVariants as key
 use Rattle.rubis_schema.specs.declared.rows.Row.{Row}
 use Rattle.std.specs.Prelude.{bytes_eq, nat_eq}
+use Rattle.rubis_shard.specs.MapKeys.{is_user, AreOthers, AreUsers}
 use Rattle.rubis_shard.specs.Rows.{entries_of}
 use Rattle.rubis_shard.specs.Written.{written}
 use Rattle.rubis_shard.specs.declared.row_map.Rows.{Rows}
-use Rattle.rubis_shard.proofs.InMaps.{Entries, nick_of_key, cat_of_key}
+use Rattle.rubis_shard.proofs.InMaps.{Entries, nick_of_key, cat_of_key, user_apart}
 
 keys_append : (es fs : Entries) → keys_of (es ++ fs) ≡ keys_of es ++ keys_of fs
 keys_append [] fs = refl
@@ -35,29 +37,66 @@ module _ {K : Type 0} (f : K → RowKey) (same : K → K → Bool) (is : (k l : 
   all_written k (e ∷ es) h = (sym (is k e.0) ∙ h.0, all_written k es h.1)
 
   -- after them come keys of other maps
-  distinct_written : (ys : List RowKey) → ((k : K) → AllByRecursion (λ y. key_eq (f k) y ≡ false) ys) → IsDistinct key_eq ys
-      → (es : List (K × Row)) → IsDistinct same (keys_of es) → IsDistinct key_eq (keys_of (written f es) ++ ys)
+  distinct_written : (ys : List RowKey) → IsDistinct key_eq ys → (es : List (K × Row))
+      → AllByRecursion (λ e. AllByRecursion (λ y. key_eq (f e.0) y ≡ false) ys) es
+      → IsDistinct same (keys_of es) → IsDistinct key_eq (keys_of (written f es) ++ ys)
   unfolding IsDistinct
-  distinct_written ys apart behind [] d = behind
-  distinct_written ys apart behind (e ∷ es) d = (
-    all_append _ (keys_of (written f es)) ys (all_written e.0 es d.0) (apart e.0),
-    distinct_written ys apart behind es d.1,
+  distinct_written ys behind [] apart d = behind
+  distinct_written ys behind (e ∷ es) apart d = (
+    all_append _ (keys_of (written f es)) ys (all_written e.0 es d.0) apart.0,
+    distinct_written ys behind es apart.1 d.1,
   )
 
-pub keys_differ : (r : Rows) → IsDistinct same_id_key (keys_of r.kept.entries) → IsDistinct bytes_eq (keys_of r.nicks.entries) → IsDistinct nat_eq (keys_of r.cats.entries)
-    → IsDistinct key_eq (keys_of (entries_of r))
-unfolding IsDistinct
-keys_differ r kept nicks cats =
-    let ns = written key.Nick r.nicks.entries in
-    let cs = written key.Cat r.cats.entries in
-    let last : IsDistinct key_eq (keys_of cs ++ []) = distinct_written key.Cat nat_eq (λ k l. refl) [] (λ k. tt) tt r.cats.entries cats in
-    let next : IsDistinct key_eq (keys_of ns ++ (keys_of cs ++ [])) = distinct_written key.Nick bytes_eq (λ k l. refl) (keys_of cs ++ [])
-    (λ n. all_append _ (keys_of cs) [] (others key.Cat (key.Nick n) (λ k. refl) r.cats.entries) tt) last r.nicks.entries nicks in
-    let all = distinct_written row_key same_id_key same_as_row_keys (keys_of ns ++ (keys_of cs ++ []))
-    (λ k. all_append _ (keys_of ns) _ (others key.Nick (row_key k) (nick_of_key k) r.nicks.entries) (all_append _ (keys_of cs) [] (others key.Cat (row_key k) (cat_of_key k) r.cats.entries) tt))
-    next r.kept.entries kept in
-    subst (IsDistinct key_eq) (sym (keys_append (written row_key r.kept.entries) (ns ++ cs) ∙ ap (λ ks. keys_of (written row_key r.kept.entries) ++ ks) (keys_append ns cs ∙ ap (λ ks. keys_of ns ++ ks) (sym (no_more (keys_of cs)))))) all
-  where
-    no_more : (xs : List RowKey) → xs ++ [] ≡ xs
-    no_more [] = refl
-    no_more (x ∷ xs) = ap (λ ys. x ∷ ys) (no_more xs)
+each_of : {A : Type 0} (P : A → Type 0) → ((x : A) → P x) → (xs : List A) → AllByRecursion P xs
+each_of P f [] = tt
+each_of P f (x ∷ xs) = (f x, each_of P f xs)
+
+-- the keys of users differ from those of other rows with ids
+no_other : (q : RowKey) → is_user q ≡ true → (es : List (IdKey × Row)) → AreOthers es → AllByRecursion (λ y. key_eq q y ≡ false) (keys_of (written row_key es))
+no_other q user [] all = tt
+no_other q user (e ∷ es) all = (user_apart q (row_key e.0) user all.0, no_other q user es all.1)
+
+no_more : (xs : List RowKey) → xs ++ [] ≡ xs
+no_more [] = refl
+no_more (x ∷ xs) = ap (λ ys. x ∷ ys) (no_more xs)
+
+module _ (r : Rows) where
+  ns : Entries
+  ns = written key.Nick r.nicks.entries
+
+  cs : Entries
+  cs = written key.Cat r.cats.entries
+
+  others_behind : (k : IdKey) → AllByRecursion (λ y. key_eq (row_key k) y ≡ false) (keys_of ns ++ (keys_of cs ++ []))
+  unfolding ns cs
+  others_behind k = all_append _ (keys_of ns) _ (others key.Nick (row_key k) (nick_of_key k) r.nicks.entries)
+      (all_append _ (keys_of cs) [] (others key.Cat (row_key k) (cat_of_key k) r.cats.entries) tt)
+
+  behind_users : (es : List (IdKey × Row)) → AreUsers es
+      → AllByRecursion (λ e. AllByRecursion (λ y. key_eq (row_key e.0) y ≡ false) (keys_of (written row_key r.others.rows.entries) ++ (keys_of ns ++ (keys_of cs ++ [])))) es
+  behind_users [] all = tt
+  behind_users (e ∷ es) all = (
+    all_append _ (keys_of (written row_key r.others.rows.entries)) _ (no_other (row_key e.0) all.0 r.others.rows.entries r.are_others) (others_behind e.0),
+    behind_users es all.1,
+  )
+
+  keys_in_order : keys_of (entries_of r) ≡ keys_of (written row_key r.users.rows.entries) ++ (keys_of (written row_key r.others.rows.entries) ++ (keys_of ns ++ (keys_of cs ++ [])))
+  unfolding ns cs
+  keys_in_order =
+      let ss = written row_key r.users.rows.entries in
+      let ds = written row_key r.others.rows.entries in
+      keys_append ss (ds ++ (ns ++ cs)) ∙ ap (λ ks. keys_of ss ++ ks) (keys_append ds (ns ++ cs)
+      ∙ ap (λ ks. keys_of ds ++ ks) (keys_append ns cs ∙ ap (λ ks. keys_of ns ++ ks) (sym (no_more (keys_of cs)))))
+
+  pub keys_differ : IsDistinct same_id_key (keys_of r.users.rows.entries) → IsDistinct same_id_key (keys_of r.others.rows.entries)
+      → IsDistinct bytes_eq (keys_of r.nicks.entries) → IsDistinct nat_eq (keys_of r.cats.entries) → IsDistinct key_eq (keys_of (entries_of r))
+  unfolding IsDistinct ns cs
+  keys_differ users rest nicks cats =
+      let last : IsDistinct key_eq (keys_of cs ++ []) = distinct_written key.Cat nat_eq (λ k l. refl) [] tt r.cats.entries (each_of _ (λ e. tt) r.cats.entries) cats in
+      let next : IsDistinct key_eq (keys_of ns ++ (keys_of cs ++ [])) = distinct_written key.Nick bytes_eq (λ k l. refl) (keys_of cs ++ []) last r.nicks.entries
+      (each_of _ (λ e. all_append _ (keys_of cs) [] (others key.Cat (key.Nick e.0) (λ k. refl) r.cats.entries) tt) r.nicks.entries) nicks in
+      let more = distinct_written row_key same_id_key same_as_row_keys (keys_of ns ++ (keys_of cs ++ [])) next r.others.rows.entries
+      (each_of _ (λ e. others_behind e.0) r.others.rows.entries) rest in
+      let all = distinct_written row_key same_id_key same_as_row_keys (keys_of (written row_key r.others.rows.entries) ++ (keys_of ns ++ (keys_of cs ++ []))) more
+      r.users.rows.entries (behind_users r.users.rows.entries r.are_users) users in
+      subst (IsDistinct key_eq) (sym keys_in_order) all

@@ -1,6 +1,8 @@
--- The rows that match a listing, among those of three maps.
+-- The rows that match a listing, among those of four maps.
 use Rattle.std.proofs.Common.{◌≡◌, ℕ, Bool, true, false, cond, ◌&&◌, ◌+◌, ◌<◌, List, [], ◌∷◌, ◌++◌, drop, take, length, refl, sym, ap, ◌∙◌, append_assoc, arith}
 use Rattle.std.specs.Prelude.{Some, filter, option_map, slice_get, zero, suc}
+use Rattle.std.specs.List.{AllByRecursion}
+use Rattle.std.proofs.lemmas.Bool.{false≢true}
 use Rattle.std.proofs.lemmas.List.{append-nil, take-append-drop}
 use Rattle.std.proofs.lemmas.List.Elements.{filter-append}
 use Rattle.rubis_schema.specs.IdKeys.{row_key}
@@ -17,10 +19,33 @@ use Rattle.rubis_schema.specs.declared.rows.Row.{Row}
 use Rattle.rubis_model.specs.Listings.{is_of}
 use Rattle.rubis_shard.specs.Listed.{listed_among}
 use Rattle.rubis_shard.specs.ListedRows.{table_with}
-use Rattle.rubis_shard.specs.Rows.{entries_of, kept_of}
+use Rattle.rubis_shard.specs.MapKeys.{is_user, AreOthers, AreUsers}
+use Rattle.rubis_shard.specs.Rows.{entries_of, kept_of, rows_with}
 use Rattle.rubis_shard.specs.Written.{written}
 use Rattle.rubis_shard.specs.declared.row_map.Rows.{Rows}
 use Rattle.rubis_shard.proofs.InMaps.{Entries}
+
+no_more : (b : Bool) → (b && false) ≡ false
+no_more true = refl
+no_more false = refl
+
+no_kept_nick : (k : IdKey) → holds tables.Nicks (row_key k) ≡ false
+no_kept_nick k = elim k.table as (λ t. holds tables.Nicks (row_key (record { seq = k.seq; site = k.site; table = t })) ≡ false) [
+  | table.User ↦ refl
+  | table.Item ↦ refl
+  | table.Bid ↦ refl
+  | table.Purchase ↦ refl
+  | table.Comment ↦ refl
+]
+
+no_kept_cat : (k : IdKey) → holds tables.Cats (row_key k) ≡ false
+no_kept_cat k = elim k.table as (λ t. holds tables.Cats (row_key (record { seq = k.seq; site = k.site; table = t })) ≡ false) [
+  | table.User ↦ refl
+  | table.Item ↦ refl
+  | table.Bid ↦ refl
+  | table.Purchase ↦ refl
+  | table.Comment ↦ refl
+]
 
 module _ (l : Listing) (t : Table) where
   pub picked : RowKey → Row → Bool
@@ -54,81 +79,133 @@ module _ (l : Listing) (t : Table) where
   none_listed f none (e ∷ es) = listed_cons (f e.0, e.1) (written f es)
       ∙ ap (λ b. cond b ((f e.0, e.1) ∷ []) [] ++ listed_among l t (written f es)) (none e.0 e.1) ∙ none_listed f none es
 
-  module _ (r : Rows) where
-    only_kept : ((n : List ℕ) (v : Row) → picked (key.Nick n) v ≡ false) → ((n : ℕ) (v : Row) → picked (key.Cat n) v ≡ false)
-        → listed_among l t (kept_of r) ≡ listed_among l t (entries_of r)
-    only_kept no_nicks no_cats = sym (
-        listed_append (kept_of r) (written key.Nick r.nicks.entries ++ written key.Cat r.cats.entries)
-        ∙ ap (λ es. listed_among l t (kept_of r) ++ es)
-        (listed_append (written key.Nick r.nicks.entries) (written key.Cat r.cats.entries)
-        ∙ (λ i. none_listed key.Nick no_nicks r.nicks.entries i ++ none_listed key.Cat no_cats r.cats.entries i))
-        ∙ append-nil (listed_among l t (kept_of r)))
+  none_kept : (es : List (IdKey × Row)) → AllByRecursion (λ e. holds t (row_key e.0) ≡ false) es → listed_among l t (written row_key es) ≡ []
+  unfolding picked
+  none_kept [] none = refl
+  none_kept (e ∷ es) none = listed_cons (row_key e.0, e.1) (written row_key es)
+      ∙ ap (λ b. cond b ((row_key e.0, e.1) ∷ []) [] ++ listed_among l t (written row_key es)) (ap (λ b. is_of l (row_key e.0) e.1 && b) none.0 ∙ no_more _)
+      ∙ none_kept es none.1
 
-    only_nicks : ((k : IdKey) (v : Row) → picked (row_key k) v ≡ false) → ((n : ℕ) (v : Row) → picked (key.Cat n) v ≡ false)
-        → listed_among l t (written key.Nick r.nicks.entries) ≡ listed_among l t (entries_of r)
-    only_nicks no_kept no_cats = sym (
-        listed_append (kept_of r) (written key.Nick r.nicks.entries ++ written key.Cat r.cats.entries)
-        ∙ ap (λ es. es ++ listed_among l t (written key.Nick r.nicks.entries ++ written key.Cat r.cats.entries)) (none_listed row_key no_kept r.kept.entries)
-        ∙ listed_append (written key.Nick r.nicks.entries) (written key.Cat r.cats.entries)
-        ∙ ap (λ es. listed_among l t (written key.Nick r.nicks.entries) ++ es) (none_listed key.Cat no_cats r.cats.entries)
-        ∙ append-nil (listed_among l t (written key.Nick r.nicks.entries)))
+  -- those of each of four lists
+  listed_four : (ws xs ys zs : Entries) → listed_among l t (ws ++ (xs ++ (ys ++ zs)))
+      ≡ listed_among l t ws ++ (listed_among l t xs ++ (listed_among l t ys ++ listed_among l t zs))
+  listed_four ws xs ys zs = listed_append ws (xs ++ (ys ++ zs))
+      ∙ ap (λ es. listed_among l t ws ++ es) (listed_append xs (ys ++ zs) ∙ ap (λ es. listed_among l t xs ++ es) (listed_append ys zs))
 
-    only_cats : ((k : IdKey) (v : Row) → picked (row_key k) v ≡ false) → ((n : List ℕ) (v : Row) → picked (key.Nick n) v ≡ false)
-        → listed_among l t (written key.Cat r.cats.entries) ≡ listed_among l t (entries_of r)
-    only_cats no_kept no_nicks = sym (
-        listed_append (kept_of r) (written key.Nick r.nicks.entries ++ written key.Cat r.cats.entries)
-        ∙ ap (λ es. es ++ listed_among l t (written key.Nick r.nicks.entries ++ written key.Cat r.cats.entries)) (none_listed row_key no_kept r.kept.entries)
-        ∙ listed_append (written key.Nick r.nicks.entries) (written key.Cat r.cats.entries)
-        ∙ ap (λ es. es ++ listed_among l t (written key.Cat r.cats.entries)) (none_listed key.Nick no_nicks r.nicks.entries))
+-- ---- which keys a table has
+of_users : Table → Bool
+of_users tables.Users = true
+of_users t = false
 
-no_more : (b : Bool) → (b && false) ≡ false
-no_more true = refl
-no_more false = refl
+held_alike : (t : Table) (k : RowKey) → holds t k ≡ true → is_user k ≡ of_users t
+unfolding of_users
+held_alike tables.Users (key.User i) e = refl
+held_alike tables.Items (key.Item i) e = refl
+held_alike tables.Bids (key.Bid i) e = refl
+held_alike tables.Purchases (key.Purchase i) e = refl
+held_alike tables.Comments (key.Comment i) e = refl
+held_alike tables.Nicks (key.Nick n) e = refl
+held_alike tables.Cats (key.Cat k) e = refl
+held_alike t k e = absurd (false≢true e)
 
-no_kept_nick : (l : Listing) (k : IdKey) (v : Row) → picked l tables.Nicks (row_key k) v ≡ false
-unfolding picked
-no_kept_nick l k v = elim k.table as (λ t. (is_of l (row_key (record { seq = k.seq; site = k.site; table = t })) v && holds tables.Nicks (row_key (record { seq = k.seq; site = k.site; table = t }))) ≡ false) [
-  | table.User ↦ no_more _
-  | table.Item ↦ no_more _
-  | table.Bid ↦ no_more _
-  | table.Purchase ↦ no_more _
-  | table.Comment ↦ no_more _
-]
+not_held : (t : Table) (k : RowKey) (b c : Bool) → is_user k ≡ b → of_users t ≡ c → (b ≡ c → ⊥) → holds t k ≡ false
+not_held t k b c own other apart = at (holds t k) refl
+  where
+    at : (x : Bool) → holds t k ≡ x → holds t k ≡ false
+    at true e = absurd (apart (sym own ∙ held_alike t k e ∙ other))
+    at false e = e
 
-no_kept_cat : (l : Listing) (k : IdKey) (v : Row) → picked l tables.Cats (row_key k) v ≡ false
-unfolding picked
-no_kept_cat l k v = elim k.table as (λ t. (is_of l (row_key (record { seq = k.seq; site = k.site; table = t })) v && holds tables.Cats (row_key (record { seq = k.seq; site = k.site; table = t }))) ≡ false) [
-  | table.User ↦ no_more _
-  | table.Item ↦ no_more _
-  | table.Bid ↦ no_more _
-  | table.Purchase ↦ no_more _
-  | table.Comment ↦ no_more _
-]
+no_others : (t : Table) → of_users t ≡ true → (es : List (IdKey × Row)) → AreOthers es → AllByRecursion (λ e. holds t (row_key e.0) ≡ false) es
+no_others t user [] all = tt
+no_others t user (e ∷ es) all = (not_held t (row_key e.0) false true all.0 user false≢true, no_others t user es all.1)
 
-pub nicks_listed : (l : Listing) (r : Rows) → listed_among l tables.Nicks (written key.Nick r.nicks.entries) ≡ listed_among l tables.Nicks (entries_of r)
-unfolding picked
-nicks_listed l r = only_nicks l tables.Nicks r (no_kept_nick l) (λ n v. no_more _)
+no_users : (t : Table) → of_users t ≡ false → (es : List (IdKey × Row)) → AreUsers es → AllByRecursion (λ e. holds t (row_key e.0) ≡ false) es
+no_users t not_user [] all = tt
+no_users t not_user (e ∷ es) all = (not_held t (row_key e.0) true false all.0 not_user (λ same. false≢true (sym same)), no_users t not_user es all.1)
 
-pub cats_listed : (l : Listing) (r : Rows) → listed_among l tables.Cats (written key.Cat r.cats.entries) ≡ listed_among l tables.Cats (entries_of r)
-unfolding picked
-cats_listed l r = only_cats l tables.Cats r (no_kept_cat l) (λ n v. no_more _)
+-- ---- the rows of a table are in one of the maps
+module _ (l : Listing) (r : Rows) where
+  users : Entries
+  users = kept_of r.users
 
-pub kept_listed : (l : Listing) (t : Table) (r : Rows) → (t ≡ tables.Nicks → ⊥) → (t ≡ tables.Cats → ⊥) → listed_among l t (kept_of r) ≡ listed_among l t (entries_of r)
-unfolding picked
-kept_listed l tables.Nicks r n c = absurd (n refl)
-kept_listed l tables.Cats r n c = absurd (c refl)
-kept_listed l tables.Users r n c = only_kept l tables.Users r (λ n v. no_more _) (λ n v. no_more _)
-kept_listed l tables.Items r n c = only_kept l tables.Items r (λ n v. no_more _) (λ n v. no_more _)
-kept_listed l tables.Bids r n c = only_kept l tables.Bids r (λ n v. no_more _) (λ n v. no_more _)
-kept_listed l tables.Purchases r n c = only_kept l tables.Purchases r (λ n v. no_more _) (λ n v. no_more _)
-kept_listed l tables.Comments r n c = only_kept l tables.Comments r (λ n v. no_more _) (λ n v. no_more _)
+  others : Entries
+  others = kept_of r.others
 
-pub ids_listed : (l : Listing) (t : IdTable) (r : Rows) → listed_among l (table_with t) (kept_of r) ≡ listed_among l (table_with t) (entries_of r)
-ids_listed l table.User r = kept_listed l tables.Users r (λ e. absurd cc) (λ e. absurd cc)
-ids_listed l table.Item r = kept_listed l tables.Items r (λ e. absurd cc) (λ e. absurd cc)
-ids_listed l table.Bid r = kept_listed l tables.Bids r (λ e. absurd cc) (λ e. absurd cc)
-ids_listed l table.Purchase r = kept_listed l tables.Purchases r (λ e. absurd cc) (λ e. absurd cc)
-ids_listed l table.Comment r = kept_listed l tables.Comments r (λ e. absurd cc) (λ e. absurd cc)
+  nicks : Entries
+  nicks = written key.Nick r.nicks.entries
+
+  cats : Entries
+  cats = written key.Cat r.cats.entries
+
+  by_map : (t : Table) → listed_among l t (entries_of r)
+      ≡ listed_among l t users ++ (listed_among l t others ++ (listed_among l t nicks ++ listed_among l t cats))
+  unfolding users others nicks cats
+  by_map t = listed_four l t users others nicks cats
+
+  no_nicks : (t : Table) → ((n : List ℕ) → holds t (key.Nick n) ≡ false) → listed_among l t nicks ≡ []
+  unfolding nicks picked
+  no_nicks t none = none_listed l t key.Nick (λ n v. ap (λ b. is_of l (key.Nick n) v && b) (none n) ∙ no_more _) r.nicks.entries
+
+  no_cats : (t : Table) → ((n : ℕ) → holds t (key.Cat n) ≡ false) → listed_among l t cats ≡ []
+  unfolding cats picked
+  no_cats t none = none_listed l t key.Cat (λ n v. ap (λ b. is_of l (key.Cat n) v && b) (none n) ∙ no_more _) r.cats.entries
+
+  only_users : (t : Table) → of_users t ≡ true → ((n : List ℕ) → holds t (key.Nick n) ≡ false) → ((n : ℕ) → holds t (key.Cat n) ≡ false)
+      → listed_among l t (kept_of r.users) ≡ listed_among l t (entries_of r)
+  unfolding users others
+  only_users t user other last =
+      let none = none_kept l t r.others.rows.entries (no_others t user r.others.rows.entries r.are_others) in
+      sym (by_map t ∙ (λ i. listed_among l t users ++ (none i ++ (no_nicks t other i ++ no_cats t last i))) ∙ append-nil (listed_among l t users))
+
+  only_others : (t : Table) → of_users t ≡ false → ((n : List ℕ) → holds t (key.Nick n) ≡ false) → ((n : ℕ) → holds t (key.Cat n) ≡ false)
+      → listed_among l t (kept_of r.others) ≡ listed_among l t (entries_of r)
+  unfolding users others
+  only_others t not_user other last =
+      let none = none_kept l t r.users.rows.entries (no_users t not_user r.users.rows.entries r.are_users) in
+      sym (by_map t ∙ (λ i. none i ++ (listed_among l t others ++ (no_nicks t other i ++ no_cats t last i))) ∙ append-nil (listed_among l t others))
+
+  no_ids : (t : Table) → ((k : IdKey) → holds t (row_key k) ≡ false) → (es : List (IdKey × Row)) → AllByRecursion (λ e. holds t (row_key e.0) ≡ false) es
+  no_ids t none [] = tt
+  no_ids t none (e ∷ es) = (none e.0, no_ids t none es)
+
+  pub nicks_listed : listed_among l tables.Nicks (written key.Nick r.nicks.entries) ≡ listed_among l tables.Nicks (entries_of r)
+  unfolding users others nicks
+  nicks_listed =
+      let t = tables.Nicks in
+      let first = none_kept l t r.users.rows.entries (no_ids t no_kept_nick r.users.rows.entries) in
+      let second = none_kept l t r.others.rows.entries (no_ids t no_kept_nick r.others.rows.entries) in
+      sym (by_map t ∙ (λ i. first i ++ (second i ++ (listed_among l t nicks ++ no_cats t (λ n. refl) i))) ∙ append-nil (listed_among l t nicks))
+
+  pub cats_listed : listed_among l tables.Cats (written key.Cat r.cats.entries) ≡ listed_among l tables.Cats (entries_of r)
+  unfolding users others cats
+  cats_listed =
+      let t = tables.Cats in
+      let first = none_kept l t r.users.rows.entries (no_ids t no_kept_cat r.users.rows.entries) in
+      let second = none_kept l t r.others.rows.entries (no_ids t no_kept_cat r.others.rows.entries) in
+      sym (by_map t ∙ (λ i. first i ++ (second i ++ (no_nicks t (λ n. refl) i ++ listed_among l t cats))))
+
+  pub users_listed : listed_among l tables.Users (kept_of r.users) ≡ listed_among l tables.Users (entries_of r)
+  unfolding of_users
+  users_listed = only_users tables.Users refl (λ n. refl) (λ n. refl)
+
+  pub others_listed : (t : Table) → (t ≡ tables.Users → ⊥) → (t ≡ tables.Nicks → ⊥) → (t ≡ tables.Cats → ⊥)
+      → listed_among l t (kept_of r.others) ≡ listed_among l t (entries_of r)
+  unfolding of_users
+  others_listed tables.Users u n c = absurd (u refl)
+  others_listed tables.Items u n c = only_others tables.Items refl (λ n. refl) (λ n. refl)
+  others_listed tables.Nicks u n c = absurd (n refl)
+  others_listed tables.Cats u n c = absurd (c refl)
+  others_listed tables.Bids u n c = only_others tables.Bids refl (λ n. refl) (λ n. refl)
+  others_listed tables.Purchases u n c = only_others tables.Purchases refl (λ n. refl) (λ n. refl)
+  others_listed tables.Comments u n c = only_others tables.Comments refl (λ n. refl) (λ n. refl)
+
+  pub ids_listed : (t : IdTable) → listed_among l (table_with t) (kept_of (rows_with t r)) ≡ listed_among l (table_with t) (entries_of r)
+  unfolding of_users
+  ids_listed table.User = users_listed
+  ids_listed table.Item = only_others tables.Items refl (λ n. refl) (λ n. refl)
+  ids_listed table.Bid = only_others tables.Bids refl (λ n. refl) (λ n. refl)
+  ids_listed table.Purchase = only_others tables.Purchases refl (λ n. refl) (λ n. refl)
+  ids_listed table.Comment = only_others tables.Comments refl (λ n. refl) (λ n. refl)
 
 -- ---- going over rows by their places
 pub listed_one : (l : Listing) (t : Table) (k : RowKey) (v : Row) (b : Bool) → b ≡ (is_of l k v && holds t k)

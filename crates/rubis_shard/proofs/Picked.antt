@@ -32,7 +32,7 @@ use Rattle.rubis_model.proofs.Commute.{same_tables}
 use Rattle.rubis_shard.specs.Holdings.{AreInOrder, union}
 use Rattle.rubis_shard.specs.Listed.{categories_among, categories_of, listed_among, listed_of, picked_by, shows}
 use Rattle.rubis_shard.specs.ListedRows.{table_with}
-use Rattle.rubis_shard.specs.Rows.{entries_of as entries_in, kept_of, tables_in}
+use Rattle.rubis_shard.specs.Rows.{entries_of as entries_in, kept_of, rows_with, tables_in}
 use Rattle.rubis_shard.specs.declared.row_map.Rows.{Rows}
 use Rattle.rubis_shard.proofs.OneTable.{ids_listed}
 use Rattle.rubis_shard.specs.States.{ShardState, HoldsOwnRows}
@@ -157,13 +157,13 @@ passing_shuffled p t es distinct =
 
 -- those of a listing are behind others, in any order
 pub listed_behind : (l : Listing) (t : IdTable) (r : Rows) (before after : Entries) → IsDistinct key_eq (keys_of (entries_in r))
-    → IsPermutation (before ++ listed_among l (table_with t) (kept_of r)) after
+    → IsPermutation (before ++ listed_among l (table_with t) (kept_of (rows_with t r))) after
     → IsPermutation (before ++ listed_of l (table_with t) (tables_in r)) after
 listed_behind l t r before after distinct moved =
     let found = listed_among l (table_with t) (entries_in r) in
     IsPermutation-trans _ (before ++ found) _
     (IsPermutation-append_right before _ found (IsPermutation-sym found _ (passing_shuffled (λ (e : RowKey × Row). is_of l e.0 e.1) (table_with t) (entries_in r) distinct)))
-    (subst (λ es. IsPermutation (before ++ es) after) (ids_listed l t r) moved)
+    (subst (λ es. IsPermutation (before ++ es) after) (ids_listed l r t) moved)
 
 pub categories_behind : (r : Rows) (before : Entries) → IsDistinct key_eq (keys_of (entries_in r))
     → IsPermutation (before ++ categories_of (tables_in r)) (before ++ categories_among (entries_in r))

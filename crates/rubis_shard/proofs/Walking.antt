@@ -22,18 +22,18 @@ use Rattle.rubis_shadow.specs.Tables.{new_category}
 use Rattle.rubis_model.specs.Listings.{is_of}
 use Rattle.rubis_shard.specs.Chains.{chain_by, chain_of, chain_of_items, chain_of_users, chain_with, chains_of, is_in, last_among, Links}
 use Rattle.rubis_shard.specs.Rows.{kept_of, linked_of}
-use Rattle.rubis_shard.specs.declared.row_map.Rows.{Rows}
+use Rattle.rubis_shard.specs.declared.row_map.LinkedRows.{LinkedRows}
 use Rattle.rubis_shard.specs.Listed.{listed_among}
 use Rattle.rubis_shard.proofs.Linking.{in_chain, in_itself}
 
 -- the chains of the linked rows
-pub linked_chains : (r : Rows) → Links (chains_of (linked_of r)) r.chains
+pub linked_chains : (r : LinkedRows) → Links (chains_of (linked_of r)) r.chains
 linked_chains r = subst (λ cs. Links cs r.chains) (take-map _ (length r.chains.before.items) (kept_of r)) r.linked.links
 
-pub linked_few : (r : Rows) → length r.chains.before.items ≤ length (kept_of r)
+pub linked_few : (r : LinkedRows) → length r.chains.before.items ≤ length (kept_of r)
 linked_few r = omega (arith, length-map (kept_of r) (λ (e : RowKey × Row). chain_of e.0 e.1), r.linked.many)
 
-pub linked_length : (r : Rows) → length (linked_of r) ≡ length r.chains.before.items
+pub linked_length : (r : LinkedRows) → length (linked_of r) ≡ length r.chains.before.items
 linked_length r =
     length-take-le (length r.chains.before.items) (kept_of r) (linked_few r)
 

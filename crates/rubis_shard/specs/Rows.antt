@@ -1,10 +1,12 @@
--- The rows of a shard, in three maps.
+-- The rows of a shard, in four maps.
 use Rattle.std.specs.Prelude.{◌≡◌, ℕ, ◌≤◌, Bool, true, cond, List, ◌++◌, Some, None, Option, length, take}
 use Rattle.std.specs.FinMap as map
 use Rattle.std.specs.Map.{lookup, set_value}
 use Rattle.indexmap.specs.IndexMap.{spare}
 use Rattle.rubis_schema.specs.IdKeys.{row_key}
 use Rattle.rubis_schema.specs.Tables.{Tables}
+use Rattle.rubis_schema.specs.declared.id_keys.IdTable.{IdTable}
+use Rattle.rubis_schema.specs.declared.id_keys.IdTable.TheVariants as table
 use Rattle.rubis_schema.specs.declared.row_keys.RowKey.{RowKey}
 use Rattle.rubis_schema.specs.declared.row_keys.RowKey.TheVariants as key
 use Rattle.rubis_schema.specs.declared.rows.Row.{Row}
@@ -13,26 +15,33 @@ use Rattle.rubis_shadow.specs.declared.changes.Change.{Change}
 use Rattle.rubis_shadow.specs.declared.changes.Fate.{Fate}
 use Rattle.rubis_shadow.specs.declared.changes.MisfitKind.TheVariants.{NoRow}
 use Rattle.rubis_shard.specs.Written.{written}
+use Rattle.rubis_shard.specs.declared.row_map.LinkedRows.{LinkedRows}
 use Rattle.rubis_shard.specs.declared.row_map.Rows.{Rows}
 
--- those of the first map
-abbrev pub kept_of : Rows → List (RowKey × Row)
-kept_of r = written row_key r.kept.entries
+-- those of a map with ids
+abbrev pub kept_of : LinkedRows → List (RowKey × Row)
+kept_of r = written row_key r.rows.entries
 
 -- the first of them, which are linked
-abbrev pub linked_of : Rows → List (RowKey × Row)
+abbrev pub linked_of : LinkedRows → List (RowKey × Row)
 linked_of r = take (length r.chains.before.items) (kept_of r)
 
 -- all, one map after the other
 abbrev pub entries_of : Rows → List (RowKey × Row)
-entries_of r = kept_of r ++ (written key.Nick r.nicks.entries ++ written key.Cat r.cats.entries)
+entries_of r = kept_of r.users ++ (kept_of r.others ++ (written key.Nick r.nicks.entries ++ written key.Cat r.cats.entries))
+
+-- the map that has the rows of a table
+abbrev pub rows_with : IdTable → Rows → LinkedRows
+rows_with table.User r = r.users
+rows_with t r = r.others
 
 abbrev pub tables_in : Rows → Tables
 tables_in r = map.from_entries (entries_of r)
 
 -- there is room for n rows more
 pub record HasRoomForRows (r : Rows) (n : ℕ) : Type 0 where
-  pub kept : n ≤ spare r.kept
+  pub users : n ≤ spare r.users.rows
+  pub others : n ≤ spare r.others.rows
   pub nicks : n ≤ spare r.nicks
   pub cats : n ≤ spare r.cats
 

@@ -78,8 +78,9 @@ pub fn count_recorded(rows: &Rows, first: u8, counted: usize) -> usize
     ensures { result ≡ counted + length (recorded_from first (map.entries (tables_in rows.now))) }
 {
     let _lens = rows.lens();
-    let kept = count_among(&rows.kept, first, counted);
-    count_among(&rows.cats, first, kept)
+    let users = count_among(&rows.users.rows, first, counted);
+    let others = count_among(&rows.others.rows, first, users);
+    count_among(&rows.cats, first, others)
 }
 
 // The sum of two numbers, if it is one.
@@ -94,8 +95,11 @@ pub fn most_recorded(rows: &Rows, most: usize) -> Option<usize>
     ensures { IfSome result (λ all. most + length (recorded_from 0 (map.entries (tables_in rows.now))) ≤ all) }
 {
     let _lens = rows.lens();
-    let Some(kept) = sum_of(most, rows.kept.len()) else {
+    let Some(users) = sum_of(most, rows.users.rows.len()) else {
         return None;
     };
-    sum_of(kept, rows.cats.len())
+    let Some(others) = sum_of(users, rows.others.rows.len()) else {
+        return None;
+    };
+    sum_of(others, rows.cats.len())
 }

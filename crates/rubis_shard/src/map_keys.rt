@@ -2,7 +2,7 @@
 
 ghost use Rattle.std.specs.Prelude.{◌≡◌};
 ghost use Rattle.rubis_schema.specs.declared.row_keys.RowKey.{RowKey};
-ghost use Rattle.rubis_shard.specs.MapKeys.{key_at};
+ghost use Rattle.rubis_shard.specs.MapKeys.{key_at, IsPlaced};
 
 use rubis_schema::{Id, IdKey, IdTable, Nick, RowKey};
 use std::hash::Hash;
@@ -50,29 +50,33 @@ impl MapKey for u16 {
 
 /// The map that a key belongs to, and its key there.
 pub enum MapPlace {
-    Kept(IdKey),
+    /// The map of users.
+    User(IdKey),
+    /// The map of items, bids, purchases and comments.
+    Other(IdKey),
     Nick(Nick),
     Cat(u16),
 }
 
 #[inline(always)]
-fn kept(table: IdTable, id: &Id) -> MapPlace
-    ensures { result ≡ MapPlace.Kept (record { seq = id.now.seq; site = id.now.site; table = table }) }
+fn other(table: IdTable, id: &Id) -> MapPlace
+    ensures { result ≡ MapPlace.Other (record { seq = id.now.seq; site = id.now.site; table = table }) }
 {
-    MapPlace::Kept(IdKey::new(table, *id))
+    MapPlace::Other(IdKey::new(table, *id))
 }
 
 /// Where the row of a key is.
 #[inline(always)]
 pub fn place_of(key: &RowKey) -> MapPlace
-    ensures { key_at result ≡ key.now }
+    ensures key { key_at result ≡ key.now }
+    ensures placed { IsPlaced result }
 {
     match key {
-        RowKey::User(id) => kept(IdTable::User, id),
-        RowKey::Item(id) => kept(IdTable::Item, id),
-        RowKey::Bid(id) => kept(IdTable::Bid, id),
-        RowKey::Purchase(id) => kept(IdTable::Purchase, id),
-        RowKey::Comment(id) => kept(IdTable::Comment, id),
+        RowKey::User(id) => MapPlace::User(IdKey::new(IdTable::User, *id)),
+        RowKey::Item(id) => other(IdTable::Item, id),
+        RowKey::Bid(id) => other(IdTable::Bid, id),
+        RowKey::Purchase(id) => other(IdTable::Purchase, id),
+        RowKey::Comment(id) => other(IdTable::Comment, id),
         RowKey::Nick(nick) => MapPlace::Nick(*nick),
         RowKey::Cat(cat) => MapPlace::Cat(*cat),
     }

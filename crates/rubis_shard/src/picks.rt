@@ -15,7 +15,7 @@ ghost use Rattle.rubis_shard.specs.Written.{written};
 
 use crate::chains::chain_with;
 use crate::listed_rows::ListedRow;
-use crate::row_map::Rows;
+use crate::row_map::{LinkedRows, Rows};
 use crate::selections::selects;
 use indexmap::IndexMap;
 use rubis_schema::{IdKey, IdTable, Listing, Row};
@@ -84,18 +84,18 @@ fn pick<'a>(
     Ok(())
 }
 
-// Adds the rows of one table that match the listing, among those with ids from a place on.
+// Adds the rows of one table that match the listing, among those of a map from a place on.
 fn pick_from<'a>(
     picked: &mut Vec<ListedRow<'a>>,
-    rows: &'a Rows,
+    rows: &'a LinkedRows,
     from: usize,
     table: IdTable,
     listing: &Listing,
 ) -> Result<(), AllocError>
     ensures { OnOk result (picked.new.items ≡ picked.old.items ++ listed_among listing.now (table_with table) (drop from (kept_of rows.now))) }
 {
-    for at in from..rows.kept.len() {
-        let Some((key, row)) = rows.kept.get_index(at) else {
+    for at in from..rows.rows.len() {
+        let Some((key, row)) = rows.rows.get_index(at) else {
             unreachable!()
         };
         pick(picked, table, listing, key, row)?;
@@ -106,7 +106,7 @@ fn pick_from<'a>(
 // Adds those of the linked rows of one table that match the listing, found along the chain that has them, from its last row on.
 fn pick_of_chain<'a>(
     picked: &mut Vec<ListedRow<'a>>,
-    rows: &'a Rows,
+    rows: &'a LinkedRows,
     chain: &IdKey,
     table: IdTable,
     listing: &Listing,
@@ -116,7 +116,7 @@ fn pick_of_chain<'a>(
 {
     let mut place = rows.chains.last(chain);
     while place > 0 {
-        let Some((key, row)) = rows.kept.get_index(place - 1) else {
+        let Some((key, row)) = rows.rows.get_index(place - 1) else {
             unreachable!()
         };
         pick(picked, table, listing, key, row)?;
@@ -135,12 +135,13 @@ pub fn pick_rows<'a>(
     ensures { OnOk result (IsPermutation (picked.old.items ++ listed_of listing.now (table_with table) (tables_in rows.now)) picked.new.items) }
 {
     let _lens = rows.lens();
+    let kept = rows.with_table(table);
     match chain_with(listing) {
         Some(chain) => {
-            pick_of_chain(picked, rows, &chain, table, listing)?;
-            pick_from(picked, rows, rows.chains.len(), table, listing)
+            pick_of_chain(picked, kept, &chain, table, listing)?;
+            pick_from(picked, kept, kept.chains.len(), table, listing)
         }
-        None => pick_from(picked, rows, 0, table, listing),
+        None => pick_from(picked, kept, 0, table, listing),
     }
 }
 

@@ -1,20 +1,31 @@
-//! The map of a shard from keys to rows, and the chains of rows of one group.
+//! The maps of a shard from keys to rows, and the chains of rows that are listed together.
 
+ghost use Rattle.std.proofs.Props.{props};
 ghost use Rattle.rubis_schema.specs.IdKeys.{row_key};
 ghost use Rattle.rubis_shard.specs.Chains.{chains_of, IsLinkedSoFar};
+ghost use Rattle.rubis_shard.specs.MapKeys.{AreOthers, AreUsers};
 ghost use Rattle.rubis_shard.specs.Written.{written};
 
 use crate::chains::Chains;
 use indexmap::IndexMap;
 use rubis_schema::{IdKey, KeyHashes, Nick, NickHashes, Row};
 
-/// The rows of a shard: those with ids, the first of them in chains by what they are listed by; those of nicknames; and
-/// those of categories.
+/// Rows with ids, the first of them in chains by what they are listed by.
+#[derive(Drop)]
+pub struct LinkedRows {
+    pub rows: IndexMap<IdKey, Row, KeyHashes>,
+    pub chains: Chains,
+    ghost linked: { IsLinkedSoFar (chains_of (written row_key rows.entries)) chains },
+}
+
+/// The rows of a shard: the users, which one listing shows all; the other rows with ids, of which there are most; those of
+/// nicknames; and those of categories.
 #[derive(Drop)]
 pub struct Rows {
-    pub kept: IndexMap<IdKey, Row, KeyHashes>,
+    pub users: LinkedRows,
+    pub others: LinkedRows,
     pub nicks: IndexMap<Nick, Row, NickHashes>,
     pub cats: IndexMap<u16, Row>,
-    pub chains: Chains,
-    ghost linked: { IsLinkedSoFar (chains_of (written row_key kept.entries)) chains },
+    ghost are_users: { AreUsers users.rows.entries } by { Prim.hlevel props },
+    ghost are_others: { AreOthers others.rows.entries } by { Prim.hlevel props },
 }

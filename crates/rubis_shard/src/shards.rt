@@ -145,8 +145,16 @@ impl Shard {
     pub fn link_rows(&mut self) -> Result<(), AllocError>
         ensures { self.new ≡ self.old }
     {
+        self.link_with(IdTable::User)?;
+        self.link_with(IdTable::Item)
+    }
+
+    // The same in the map that has the table's rows.
+    pub(crate) fn link_with(&mut self, table: IdTable) -> Result<(), AllocError>
+        ensures { self.new ≡ self.old }
+    {
         let mut store = self.take_store(0)?;
-        let linked = store.get_mut().link_rows();
+        let linked = store.get_mut().link_rows(table);
         self.put_store(store);
         linked
     }
@@ -198,7 +206,7 @@ impl Shard {
         ensures rows { IfOk result (λ rows. rows.items ≡ listed_of listing.now (table_with table) self.now.folded.tables) }
         ensures own { HoldsOwnRows self.now }
     {
-        let mut picked = with_room(alloc, listing, self.len_with_ids())?;
+        let mut picked = with_room(alloc, listing, self.len_with(table))?;
         self.pick(&mut picked, table, listing)?;
         put_in_order(alloc, &mut picked)?;
         Ok(picked)
@@ -218,12 +226,12 @@ impl Shard {
         }
     }
 
-    // How many rows have ids.
-    pub(crate) fn len_with_ids(&self) -> usize
+    // How many rows there are in the map that has the table's.
+    pub(crate) fn len_with(&self, table: IdTable) -> usize
         ensures { HoldsOwnRows self.now }
     {
         match &self.store {
-            Some(store) => store.rows.kept.len(),
+            Some(store) => store.rows.with_table(table).rows.len(),
             None => 0,
         }
     }

@@ -8,7 +8,7 @@ ghost use Rattle.std.specs.FinMap as map;
 
 use crate::row_map::Rows;
 use crate::shard_store::Store;
-use rubis_schema::Hashes;
+use rubis_schema::{Hashes, IdTable};
 use rubis_shadow::{Misfit, Numbered};
 use std::alloc::{AllocError, Global};
 
@@ -81,11 +81,11 @@ impl Store {
         Ok(())
     }
 
-    /// Links the rows that came since the last call into their chains.
-    pub fn link_rows(&mut self) -> Result<(), AllocError>
+    /// Links the rows that came since the last call into their chains, in the map that has the table's.
+    pub fn link_rows(&mut self, table: IdTable) -> Result<(), AllocError>
         ensures { held_by self.new ≡ held_by self.old }
     {
-        self.rows.link()
+        self.rows.link(table)
     }
 
     /// Folds a part on, for which there is room.

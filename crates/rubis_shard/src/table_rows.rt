@@ -45,7 +45,8 @@ fn rows_of_map<'a>(
     match table {
         Table::Nicks => rows_among(alloc, &rows.nicks, table),
         Table::Cats => rows_among(alloc, &rows.cats, table),
-        _ => rows_among(alloc, &rows.kept, table),
+        Table::Users => rows_among(alloc, &rows.users.rows, table),
+        _ => rows_among(alloc, &rows.others.rows, table),
     }
 }
 

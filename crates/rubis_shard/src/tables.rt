@@ -73,12 +73,12 @@ fn is_set(shards: &[Shard]) -> bool
     !shards.is_empty()
 }
 
-// Links the rows of each shard that came since the last call.
-fn link_all(shards: &mut [Shard]) -> Result<(), AllocError>
+// Links the rows of each shard that came since the last call, in the map that has the table's.
+fn link_all(shards: &mut [Shard], table: IdTable) -> Result<(), AllocError>
     ensures { shards.new ≡ shards.old }
 {
     for at in 0..shards.len() {
-        shards[at].link_rows()?;
+        shards[at].link_with(table)?;
     }
     Ok(())
 }
@@ -164,8 +164,8 @@ impl Tables {
     pub fn link_rows(&mut self, listing: &Listing) -> Result<(), AllocError>
         ensures { self.new ≡ self.old }
     {
-        if chain_with(listing).is_some() {
-            return link_all(&mut self.shards);
+        if let Some(chain) = chain_with(listing) {
+            return link_all(&mut self.shards, chain.table);
         }
         Ok(())
     }
@@ -183,11 +183,11 @@ impl Tables {
         Ok(all)
     }
 
-    // How many rows have ids.
-    fn len_with_ids(&self) -> usize {
+    // How many rows there are in the maps that have the table's.
+    fn len_with(&self, table: IdTable) -> usize {
         let mut rows: usize = 0;
         for shard in &self.shards {
-            rows = rows.saturating_add(shard.len_with_ids());
+            rows = rows.saturating_add(shard.len_with(table));
         }
         rows
     }
@@ -201,7 +201,7 @@ impl Tables {
     ) -> Result<Vec<ListedRow<'_>>, AllocError>
         ensures { IfOk result (λ rows. rows.items ≡ listed_of listing.now (table_with table) (union self.now)) }
     {
-        let mut picked = with_room(alloc, listing, self.len_with_ids())?;
+        let mut picked = with_room(alloc, listing, self.len_with(table))?;
         for shard in &self.shards {
             shard.pick(&mut picked, table, listing)?;
         }

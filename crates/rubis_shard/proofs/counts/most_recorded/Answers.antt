@@ -12,9 +12,11 @@ returns c =
     let r = c.args.rows.now in
     let n : ℕ = 0 in
     let all = recorded_in n r c.lens-lens.ensures in
-    let kept = few_recorded row_key n r.kept.entries in
+    let users = few_recorded row_key n r.users.rows.entries in
+    let others = few_recorded row_key n r.others.rows.entries in
     let cats = few_recorded key.Cat n r.cats.entries in
-    let first = some_is c.sum_of.result (λ sum. sum ≡ c.args.most + c.len.result) c.in-Some.kept c.in-Some.is c.sum_of.ensures in
-    if_some c.sum_of-2.result (λ sum. sum ≡ c.in-Some.kept + c.len-2.result)
-    (λ most. c.args.most + length (recorded_from n (map.entries (tables_in r))) ≤ most) c.sum_of-2.ensures
-    (λ v is. omega (arith, all, kept, cats, first, is, c.len.ensures.len, c.len-2.ensures.len))
+    let first = some_is c.sum_of.result (λ sum. sum ≡ c.args.most + c.len.result) c.in-Some.users c.in-Some.is c.sum_of.ensures in
+    let second = some_is c.sum_of-2.result (λ sum. sum ≡ c.in-Some.users + c.len-2.result) c.in-Some-sum_of.others c.in-Some-sum_of.is c.sum_of-2.ensures in
+    if_some c.sum_of-3.result (λ sum. sum ≡ c.in-Some-sum_of.others + c.len-3.result)
+    (λ most. c.args.most + length (recorded_from n (map.entries (tables_in r))) ≤ most) c.sum_of-3.ensures
+    (λ v is. omega (arith, all, users, others, cats, first, second, is, c.len.ensures.len, c.len-2.ensures.len, c.len-3.ensures.len))

@@ -64,7 +64,7 @@ loop-place-preserved c =
     let row = c.in-Some.row.now in
     let e : RowKey × Row = (k, row) in
     let here : slice_get es at ≡ Some e = taken_at (kept_of c.args.rows.now) (length c.args.rows.now.chains.before.items) at (omega (arith, inside, linked_length c.args.rows.now)) ∙
-    written_at row_key c.args.rows.now.kept.entries at c.in-Some.key.now row (sym c.get_index.ensures.entry ∙ ap (option_map deref_pair) c.in-Some.is) in
+    written_at row_key c.args.rows.now.rows.entries at c.in-Some.key.now row (sym c.get_index.ensures.entry ∙ ap (option_map deref_pair) c.in-Some.is) in
     let b = is_of l k row && holds t k in
     let one : List (RowKey × Row) = cond b (e ∷ []) [] in
     let old = c.loop-place.invariant.walked.0 in

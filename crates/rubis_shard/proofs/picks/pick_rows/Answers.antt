@@ -6,6 +6,7 @@ use Rattle.rubis_schema.specs.declared.rows.Row.{Row}
 use Rattle.rubis_shard.specs.Listed.{listed_among, listed_of}
 use Rattle.rubis_shard.specs.ListedRows.{table_with}
 use Rattle.rubis_shard.specs.Rows.{kept_of, tables_in}
+use Rattle.rubis_shard.specs.declared.row_map.LinkedRows.{LinkedRows}
 use Rattle.rubis_shard.proofs.OneTable.{pick_split}
 use Rattle.rubis_shard.proofs.Picked.{listed_behind}
 use Rattle.rubis_shard.proofs.Walking.{if_done}
@@ -17,9 +18,11 @@ returns-in-None c =
     let t = table_with c.args.table in
     let before : List (RowKey × Row) = c.args.picked.now.items in
     let after : List (RowKey × Row) = c.pick_from-in-None.new.picked.items in
-    let found = before ++ listed_among l t (kept_of c.args.rows.now) in
+    let found = before ++ listed_among l t (kept_of c.with_table-kept.result.now) in
     if_done (after ≡ found) (IsPermutation (before ++ listed_of l t (tables_in c.args.rows.now)) after)
-    (λ is. listed_behind l c.args.table c.args.rows.now before after c.lens-lens.ensures (subst (IsPermutation found) (sym is) (IsPermutation-refl found)))
+    (λ is. listed_behind l c.args.table c.args.rows.now before after c.lens-lens.ensures
+    (subst (λ (m : LinkedRows). IsPermutation (before ++ listed_among l t (kept_of m)) after) c.with_table-kept.ensures
+    (subst (IsPermutation found) (sym is) (IsPermutation-refl found))))
     c.pick_from-in-None.result c.pick_from-in-None.ensures
 
 pub returns-in_ok-pick_of_chain-in-Some : goal.returns-in_ok-pick_of_chain-in-Some
@@ -27,7 +30,7 @@ returns-in_ok-pick_of_chain-in-Some c =
     let l = c.args.listing.now in
     let t = table_with c.args.table in
     let n = c.len.result in
-    let es = kept_of c.args.rows.now in
+    let es = kept_of c.with_table-kept.result.now in
     let before : List (RowKey × Row) = c.args.picked.now.items in
     let middle : List (RowKey × Row) = c.pick_of_chain.new.picked.items in
     let after : List (RowKey × Row) = c.pick_from.new.picked.items in
@@ -39,6 +42,7 @@ returns-in_ok-pick_of_chain-in-Some c =
     append_assoc before linked rest ∙ ap (λ (xs : List (RowKey × Row)). before ++ xs) (sym (pick_split l t n es)) in
     if_done (after ≡ middle ++ rest) (IsPermutation (before ++ listed_of l t (tables_in c.args.rows.now)) after) (λ is.
     listed_behind l c.args.table c.args.rows.now before after c.lens-lens.ensures
+    (subst (λ (m : LinkedRows). IsPermutation (before ++ listed_among l t (kept_of m)) after) c.with_table-kept.ensures
     (subst (λ xs. IsPermutation xs after) all
     (subst (IsPermutation ((before ++ linked) ++ rest)) (sym is)
-    (IsPermutation-append_left rest (before ++ linked) middle chained)))) c.pick_from.result c.pick_from.ensures
+    (IsPermutation-append_left rest (before ++ linked) middle chained))))) c.pick_from.result c.pick_from.ensures

@@ -40,7 +40,8 @@ returns c = record {
   tables = c.change_row.ensures.tables;
   misfit = c.change_row.ensures.misfit;
   room = λ n room. c.change_row.ensures.room n (record {
-    kept = omega (arith, room.kept);
+    users = omega (arith, room.users);
+    others = omega (arith, room.others);
     nicks = omega (arith, room.nicks);
     cats = omega (arith, room.cats);
   });

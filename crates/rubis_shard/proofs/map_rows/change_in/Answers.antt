@@ -2,7 +2,7 @@ use Rattle.std.proofs.Common.{◌∙◌}
 use Rattle.std.specs.Prelude.{Some, None}
 use Rattle.rubis_shadow.proofs.Rows.{row_stays, row_goes}
 use Rattle.rubis_shard.proofs.Changed.{not_false, not_true, removed_found}
-use Rattle.rubis_shard.proofs.rows.change_in.Goals as goal
+use Rattle.rubis_shard.proofs.map_rows.change_in.Goals as goal
 
 pub returns-then-not-fate-clause-some : goal.returns-then-not-fate-clause-some
 returns-then-not-fate-clause-some g c = λ was is.
