@@ -287,7 +287,7 @@ pub among_at : (sites : ℕ) (logs : List Log) (at : ℕ) (log : Log) (n : ℕ) 
     → n < length log.messages → v ≡ get_or log.messages n v → IsMessage v → IsAmong sites v
 among_at sites logs at log n v all l e m i f =
     let many : sites_of v ≡ sites = all log (contained logs log (at, l, sym e)) v (contained log.messages v (n, m, sym i)) in
-    record { counts = many; id = subst (λ k. IsId k v.stamp.id) many f.id }
+    record { conditions = f; counts = many; id = subst (λ k. IsId k v.stamp.id) many f.id }
 
 pub sites_at : (sites : ℕ) (logs : List Log) (at : ℕ) (log : Log) (n : ℕ) (v : Message) → HaveMessagesAmong sites logs → at < length logs → log ≡ get_or logs at log
     → n < length log.messages → v ≡ get_or log.messages n v → sites_of v ≡ sites

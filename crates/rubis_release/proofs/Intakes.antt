@@ -22,7 +22,7 @@ use Rattle.rubis_release.proofs.Counting.{length_counts, counts_at}
 use Rattle.rubis_release.proofs.Keeping.{is_released, settling_keeps, coming_keeps}
 
 pub among_is : (n : ℕ) (m : Message) → IsMessage m → sites_of m ≡ n → IsAmong n m
-among_is n m h e = record { counts = e; id = record { site = let l = h.id.site in omega (arith, l, e); positive = h.id.positive; small = h.id.small } }
+among_is n m h e = record { conditions = h; counts = e; id = record { site = let l = h.id.site in omega (arith, l, e); positive = h.id.positive; small = h.id.small } }
 
 -- ---- the clock
 pub sites_of_clock : (i : Intake) (n : ℕ) (k : MessageCounts) → IsUpToDate i n → k ≡ clock_of n i.state.log → length k.counts ≡ i.place.sites

@@ -19,6 +19,7 @@ use Rattle.rubis_release.specs.Release.{IsAmong, AreKept}
 use Rattle.rubis_release.specs.Intake.{Intake, IsIntake, IsUpToDate}
 use Rattle.rubis_release.proofs.Counting.{length_counts, counts_at}
 use Rattle.rubis_release.proofs.Keeping.{settling_keeps, making_keeps}
+use Rattle.rubis_release.proofs.Intakes.{among_is}
 
 at_most_one : (b : Bool) → cond {A = ℕ} b 1 0 ≤ 1
 at_most_one true = omega arith
@@ -92,14 +93,11 @@ built p s x count red deps c d r = λ j. record { id = record { site = p.site; s
 pub made_dep : (i : Intake) (x : Shadow) (j : ℕ) → j < i.place.sites → dep (made i.place i.state x) j ≡ counted j i.state.log
 made_dep i x j l = counts_at i.place.sites i.state.log j l
 
-pub made_among : (i : Intake) (x : Shadow) → IsIntake i → is_full i.place.keep i.state ≡ false → IsAmong i.place.sites (made i.place i.state x)
-made_among i x h full = record {
-  counts = length_counts i.place.sites i.state.log;
-  id = record {
-    site = h.site;
-    positive = omega arith;
-    small = let l = room_left i h full in let c = counted_few i.place.site i.state.log in let k = h.keep in omega (arith, l, c, k);
-  };
+made_id : (i : Intake) (x : Shadow) → IsIntake i → is_full i.place.keep i.state ≡ false → IsId i.place.sites (made i.place i.state x).stamp.id
+made_id i x h full = record {
+  site = h.site;
+  positive = omega arith;
+  small = let l = room_left i h full in let c = counted_few i.place.site i.state.log in let k = h.keep in omega (arith, l, c, k);
 }
 
 pub made_is_ready : (i : Intake) (x : Shadow) → (is_red x ≡ true → is_current i.state ≡ true) → Ready i.state.log (made i.place i.state x)
@@ -113,7 +111,7 @@ made_is_ready i x right = record {
 pub made_is_message : (i : Intake) (x : Shadow) → IsIntake i → is_full i.place.keep i.state ≡ false → (is_red x ≡ true → is_current i.state ≡ true) → InLimits i.place.sites x → IsMessage (made i.place i.state x)
 made_is_message i x h full right limits = record {
   sites = let e = size in let k = h.sites in omega (arith, e, k);
-  id = subst (λ n. IsId n (made i.place i.state x).stamp.id) (sym size) (made_among i x h full).id;
+  id = subst (λ n. IsId n (made i.place i.state x).stamp.id) (sym size) (made_id i x h full);
   own = ap (λ n. n + 1) (sym (made_dep i x i.place.site h.site));
   counts = All-from_get_or (λ n. n ≤ 1000000) (counts i.place.sites i.state.log) 0 (λ j l. let e = counts_at i.place.sites i.state.log j (let z = size in omega (arith, z, l)) in let c = counted_few j i.state.log in let k = h.keep in let r = room_left i h full in omega (arith, e, c, k, r));
   red = ⊎_elim (λ r. let e = r.1 in let c = reds_few i.state.log in let k = h.keep in let l = room_left i h full in omega (arith, e, c, k, l)) (λ b. let e = b.1 in omega (arith, e)) (red_cases i.state x right);
@@ -124,11 +122,14 @@ made_is_message i x h full right limits = record {
     size : sites_of (made i.place i.state x) ≡ i.place.sites
     size = length_counts i.place.sites i.state.log
 
-pub made_kept : (i : Intake) (n : ℕ) (x : Shadow) (m : Message) (log waiting : List Message) → IsUpToDate i n → is_full i.place.keep i.state ≡ false → (is_red x ≡ true → is_current i.state ≡ true) → m ≡ made i.place i.state x
+pub made_among : (i : Intake) (x : Shadow) → IsIntake i → is_full i.place.keep i.state ≡ false → (is_red x ≡ true → is_current i.state ≡ true) → InLimits i.place.sites x → IsAmong i.place.sites (made i.place i.state x)
+made_among i x h full right limits = among_is i.place.sites (made i.place i.state x) (made_is_message i x h full right limits) (length_counts i.place.sites i.state.log)
+
+pub made_kept : (i : Intake) (n : ℕ) (x : Shadow) (m : Message) (log waiting : List Message) → IsUpToDate i n → is_full i.place.keep i.state ≡ false → (is_red x ≡ true → is_current i.state ≡ true) → InLimits i.place.sites x → m ≡ made i.place i.state x
     → Settles (i.state.log ++ m ∷ []) i.state.waiting log waiting → AreKept i.place log waiting
-made_kept i n x m log waiting h full right e s =
+made_kept i n x m log waiting h full right limits e s =
     settling_keeps i.place (i.state.log ++ made i.place i.state x ∷ []) i.state.waiting log waiting
-    (making_keeps i.place i.state.log i.state.waiting (made i.place i.state x) h.conditions.kept (room_left i h.conditions full) refl (made_among i x h.conditions full) (made_is_ready i x right))
+    (making_keeps i.place i.state.log i.state.waiting (made i.place i.state x) h.conditions.kept (room_left i h.conditions full) refl (made_among i x h.conditions full right limits) (made_is_ready i x right))
     (subst (λ u. Settles (i.state.log ++ u ∷ []) i.state.waiting log waiting) e s)
 
 pub made_is : (p : Place) (s : Replica) (x : Shadow) (m : Message) (log waiting : List Message) (held : Option ℕ) → m ≡ made p s x → held ≡ issued_after x s.held → Settles (s.log ++ m ∷ []) s.waiting log waiting

@@ -3,7 +3,7 @@ use Rattle.std.specs.Prelude.{◌≡◌, ◌≢◌, ℕ, ◌+◌, ◌<◌, ◌�
 use Rattle.rubis_schema.specs.Ids.{IsId}
 use Rattle.rubis_schema.specs.declared.ids.Id.{Id}
 use Rattle.rubis_clock.specs.Clocks.{MessageCounts, IsReady}
-use Rattle.rubis_message.specs.Message.{Message, sites_of}
+use Rattle.rubis_message.specs.Message.{IsMessage, Message, sites_of}
 use Rattle.rubis_model.specs.Settle.{Has, counted, reds}
 use Rattle.rubis_model.specs.Order.{Released}
 use Rattle.rubis_model.specs.Site.{Place, counts}
@@ -15,8 +15,9 @@ message_id m = m.stamp.id
 abbrev pub clock_of : ℕ → List Message → MessageCounts
 clock_of sites log = record { counts = counts sites log; red = reds log }
 
--- a message that counts `sites` sites and belongs to one of them
+-- a message that meets every message's conditions, counts `sites` sites and belongs to one of them
 pub record IsAmong (sites : ℕ) (m : Message) : Type 0 where
+  pub conditions : IsMessage m
   pub counts : sites_of m ≡ sites
   pub id : IsId sites m.stamp.id
 

@@ -161,7 +161,8 @@ impl Intake {
 
     /// What a decision has to know of the site.
     pub fn standing(&self) -> Standing
-        ensures { result ≡ standing_of self.now.place.keep self.now.state }
+        ensures value { result ≡ standing_of self.now.place.keep self.now.state }
+        ensures conditions { IsIntake self.now }
     {
         Standing {
             full: self.is_full(),

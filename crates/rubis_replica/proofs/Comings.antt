@@ -1,5 +1,5 @@
 -- Messages that arrive one after the other.
-use Rattle.std.proofs.Common.{◌≡◌, ◌≤◌, List, [], ◌∷◌, ◌++◌, length, length-append, refl, sym, ap, ◌∙◌, append_assoc, arith, subst}
+use Rattle.std.proofs.Common.{◌≡◌, List, [], ◌∷◌, ◌++◌, refl, sym, ap, ◌∙◌, append_assoc, subst}
 use Rattle.std.specs.Prelude.{Err, Result, reverse}
 use Rattle.std.proofs.lemmas.List.{append-nil, reverse-append}
 use Rattle.rubis_schema.specs.declared.refusals.Refusal.{Refusal}
@@ -10,7 +10,7 @@ use Rattle.rubis_release.specs.Answers.{IsFaultOf}
 use Rattle.rubis_release.specs.declared.intake.IntakeFault.{IntakeFault}
 use Rattle.rubis_release.specs.declared.intake.IntakeFault.TheVariants.{Refused}
 use Rattle.rubis_replica.specs.Arrivals.{TakesFirst, after_all, answers_to}
-use Rattle.rubis_replica.specs.Follow.{Follower, FollowsAt}
+use Rattle.rubis_replica.specs.Follow.{Follower, FollowsLog}
 use Rattle.rubis_replica.proofs.Extending.{Extends, arrived_extends, follows_extended}
 
 -- ---- one message more
@@ -64,14 +64,7 @@ taken_extends p old new messages answers rest h =
     let more = all_extend p old h.taken in
     (more.0, ap (λ (r : Replica). r.log) h.state ∙ more.1)
 
-pub taken_longer : (p : Place) (old new : Replica) (messages : List Message) (answers : List (Result Arrival Refusal)) (rest : List Message)
-    → TakesFirst p old new messages answers rest → length old.log ≤ length new.log
-taken_longer p old new messages answers rest h =
-    let more = taken_extends p old new messages answers rest h in
-    omega (arith, ap length more.1, length-append old.log more.0)
-
 -- and the tables that follow it follow it still
-pub follows_taken : (p q : Place) (old new : Replica) (messages : List Message) (answers : List (Result Arrival Refusal)) (rest : List Message) (f : Follower) → q ≡ p
-    → TakesFirst p old new messages answers rest → FollowsAt p.sites old.log f → FollowsAt q.sites new.log f
-follows_taken p q old new messages answers rest f same h follows =
-    follows_extended p q old.log new.log f same (taken_extends p old new messages answers rest h) follows
+pub follows_taken : (p : Place) (old new : Replica) (messages : List Message) (answers : List (Result Arrival Refusal)) (rest : List Message) (f : Follower)
+    → TakesFirst p old new messages answers rest → FollowsLog old.log f → FollowsLog new.log f
+follows_taken p old new messages answers rest f h = follows_extended old.log new.log f (taken_extends p old new messages answers rest h)

@@ -25,12 +25,14 @@ use Rattle.rubis_model.specs.Site.{Place, Replica, asked, generating, standing_o
 use Rattle.rubis_workers.specs.Shard.{union}
 use Rattle.rubis_shadow.specs.declared.numbered.Misfit.{Misfit}
 use Rattle.rubis_workers.specs.Pieces.{AreOfTheLog}
-use Rattle.rubis_replica.specs.Follow.{Follower, FollowsAt}
-use Rattle.rubis_replica.specs.Progress.{Progress, resting_at}
+use Rattle.rubis_release.specs.Intake.{IsIntake}
+use Rattle.rubis_replica.specs.Follow.{Follower, FollowsLog}
+use Rattle.rubis_replica.specs.Progress.{left_of, resting_at}
 use Rattle.rubis_replica.specs.State.{AnswersAsTheStep, IsDecision, SiteState, decision_at, with_all_applied}
 use Rattle.rubis_replica.specs.declared.faults.Fault.{Fault}
 use Rattle.rubis_replica.specs.declared.faults.Fault.TheVariants.{Refused, Behind, Memory}
-use Rattle.rubis_replica.proofs.Growing.{all_at, log_in_limits, tables_of_log}
+use Rattle.rubis_replica.proofs.Growing.{all_at, tables_of_log}
+use Rattle.rubis_replica.proofs.Kept.{log_in_limits}
 use Rattle.rubis_schema.specs.declared.refusals.Refusal.{Refusal}
 
 abbrev ItemFits : ℕ → Option ItemRow → Type 0
@@ -70,7 +72,7 @@ decided_fits sites t s ask x h g e =
 -- a site whose log is all applied
 module _ (old : SiteState) (place : Place) (state : Replica) (batch : ℕ) (f : Follower)
     (same : record { place = place; state = state; progress = f.progress; batch = batch } ≡ with_all_applied old)
-    (follows : FollowsAt place.sites state.log f) where
+    (follows : FollowsLog state.log f) where
   same_place : place ≡ old.place
   same_place = ap (λ (s : SiteState). s.place) same
 
@@ -82,13 +84,13 @@ module _ (old : SiteState) (place : Place) (state : Replica) (batch : ℕ) (f : 
 
   -- its tables are those of the log
   pub log_tables : union f.tables ≡ (fold_of (cores old.state.log)).tables
-  log_tables = tables_of_log place.sites state.log f follows all_applied ∙ ap (λ (r : Replica). (fold_of (cores r.log)).tables) same_state
+  log_tables = tables_of_log state.log f follows all_applied ∙ ap (λ (r : Replica). (fold_of (cores r.log)).tables) same_state
 
   -- and its misfits too
   pub log_misfits : (ms : List Misfit) → AreOfTheLog f.tables ms → ms ≡ (fold_of (cores old.state.log)).misfits
   log_misfits ms h =
       let whole_log : take f.progress.applied state.log ≡ old.state.log = all_at state.log f all_applied ∙ ap (λ (r : Replica). r.log) same_state in
-      h (length f.tables) (cores (take f.progress.applied state.log)) follows.follows.some (follows.follows.rests (ap (λ (x : Progress). x.left) all_applied)) ∙ ap (λ l. (fold_of (cores l)).misfits) whole_log
+      h (length f.tables) (cores (take f.progress.applied state.log)) follows.some (follows.rests (ap left_of all_applied)) ∙ ap (λ l. (fold_of (cores l)).misfits) whole_log
 
   -- so it decides by the model
   pub same_decision : (st : Standing) (ask : Ask) → st ≡ standing_of place.keep state → decision_at old ask ≡ decision (row_by_key (union f.tables)) st ask
@@ -97,11 +99,11 @@ module _ (old : SiteState) (place : Place) (state : Replica) (batch : ℕ) (f : 
       λ i. decision (row_by_key (sym log_tables i)) (standing i) ask
 
   -- and what it decides is within the limits
-  pub decided_limits : (st : Standing) (ask : Ask) (x : Shadow) → IsAsk old.place.sites ask → decision (row_by_key (union f.tables)) st ask ≡ Ok x
-      → InLimits old.place.sites x
-  decided_limits st ask x asks e =
-      let within = subst (λ (p : Place). AllInLimits p.sites (fold_of (cores state.log)).tables) same_place (log_in_limits place.sites state.log f follows all_applied) in
-      let tables = tables_of_log place.sites state.log f follows all_applied in
+  pub decided_limits : (st : Standing) (ask : Ask) (x : Shadow) → IsIntake (record { place = place; state = state }) → IsAsk old.place.sites ask
+      → decision (row_by_key (union f.tables)) st ask ≡ Ok x → InLimits old.place.sites x
+  decided_limits st ask x intake asks e =
+      let within = subst (λ (p : Place). AllInLimits p.sites (fold_of (cores state.log)).tables) same_place (log_in_limits (record { place = place; state = state }) intake) in
+      let tables = tables_of_log state.log f follows all_applied in
       decided_fits old.place.sites (union f.tables) st ask x (subst (AllInLimits old.place.sites) (sym tables) within) asks e
 
 pub decides_err : (old : SiteState) (ask : Ask) (r : Result Shadow Fault) (refusal : Refusal) → IsErr r × IsErrAnd r (λ fault. fault ≡ Refused refusal)

@@ -1,13 +1,11 @@
 -- A site's log grows at its end, and the tables that follow it follow it still.
-use Rattle.std.proofs.Common.{◌≡◌, ℕ, zero, suc, ◌≤◌, Bool, true, false, cond, List, [], ◌∷◌, ◌++◌, length, take, sym, ap, ◌∙◌, subst, append_assoc}
+use Rattle.std.proofs.Common.{◌≡◌, ℕ, zero, suc, Bool, true, false, cond, List, [], ◌∷◌, ◌++◌, length, sym, ◌∙◌, subst, append_assoc}
 use Rattle.std.specs.Prelude.{Some, None}
-use Rattle.std.proofs.lemmas.List.{append-nil, take-append-le}
-use Rattle.rubis_shadow.specs.Limits.{AllInLimits}
+use Rattle.std.proofs.lemmas.List.{append-nil}
 use Rattle.rubis_message.specs.Message.{Message}
-use Rattle.rubis_model.specs.Log.{cores, fold_of}
 use Rattle.rubis_model.specs.Settle.{first_ready, settle}
 use Rattle.rubis_model.specs.Site.{Place, Replica, arrived, is_full, is_repeat, not_ours}
-use Rattle.rubis_replica.specs.Follow.{Follower, FollowsAt, FollowsLog}
+use Rattle.rubis_replica.specs.Follow.{Follower, FollowsLog}
 use Rattle.rubis_replica.proofs.Standing.{follows_more}
 
 abbrev pub Extends : List Message → List Message → Type 0
@@ -39,11 +37,5 @@ arrived_extends p s m =
 
 -- ---- the tables
 
-pub follows_extended : (p q : Place) (log new : List Message) (f : Follower) → q ≡ p → Extends log new → FollowsAt p.sites log f → FollowsAt q.sites new f
-follows_extended p q log new f same e h =
-    let inside : f.progress.upto ≤ length log = h.follows.progress.inside in
-    let front : take f.progress.upto log ≡ take f.progress.upto new = sym (take-append-le f.progress.upto log e.0 inside) ∙ ap (take f.progress.upto) (sym e.1) in
-    subst (λ (y : Place). FollowsAt y.sites new f) (sym same) (record {
-      follows = subst (λ (l : List Message). FollowsLog l f) (sym e.1) (follows_more log e.0 f h.follows);
-      limits = subst (λ (xs : List Message). AllInLimits p.sites (fold_of (cores xs)).tables) front h.limits;
-    })
+pub follows_extended : (log new : List Message) (f : Follower) → Extends log new → FollowsLog log f → FollowsLog new f
+follows_extended log new f e h = subst (λ (l : List Message). FollowsLog l f) (sym e.1) (follows_more log e.0 f h)

@@ -6,7 +6,7 @@ use Rattle.std.specs.Result.{is_ok}
 use Rattle.std.specs.declared.alloc.AllocError.{AllocError}
 use Rattle.std.proofs.lemmas.List.{length-map, take-append-le, take_all}
 use Rattle.rubis_shadow.specs.declared.keyed_change.Effect.{Effect}
-use Rattle.rubis_message.specs.Message.{IsMessage, Message, sites_of}
+use Rattle.rubis_message.specs.Message.{Message}
 use Rattle.rubis_model.specs.Log.{Core, core, cores, parts_of}
 use Rattle.rubis_model.proofs.CoreLists.{cores_append}
 use Rattle.rubis_workers.specs.Shard.{HoldsLog, shard_of_log}
@@ -14,214 +14,111 @@ use Rattle.rubis_workers.specs.Shard.{ShardState}
 use Rattle.rubis_workers.specs.Pieces.{AreFurther, HoldsTo, StopWithin, parts_behind}
 use Rattle.rubis_workers.proofs.Pieces.{behind_few, holds_none, holds_whole}
 use Rattle.rubis_workers.proofs.Pieces.{fewer_behind}
-use Rattle.rubis_workers.specs.Logs.{AreWithin, StaysWithin, parts_between}
+use Rattle.rubis_workers.specs.Logs.{parts_between}
 use Rattle.rubis_workers.proofs.Applied.{cores_front, cores_slice}
 use Rattle.rubis_workers.proofs.Between.{between_inside, slice_inside}
-use Rattle.rubis_workers.proofs.NextMessage.{log_within}
-use Rattle.rubis_replica.specs.Follow.{ComesTo, Follower, FollowsAt, FollowsLog, GoesOnTo}
-use Rattle.rubis_replica.specs.Progress.{BatchBegins, IsProgress, Progress, keeping, resting_at}
+use Rattle.rubis_replica.specs.Follow.{Follower, FollowsLog, HasStops}
+use Rattle.rubis_replica.specs.Progress.{IsProgress, IsStage, end_of, keeping, left_of, resting_at}
+use Rattle.rubis_replica.specs.declared.progress.Progress.{Progress}
+use Rattle.rubis_replica.specs.declared.progress.Stage.{Stage}
+use Rattle.rubis_replica.specs.declared.progress.Stage.TheVariants.{Level, Keeping, Begun}
 
 pub zero_or : (n : ℕ) → (n ≡ 0) ⊎ (0 < n)
 zero_or ℕ.zero = inl refl
 zero_or (ℕ.suc n) = inr (omega arith)
 
 -- ---- all is applied up to a message
-rest_progress : (log : List Message) (upto : ℕ) → upto ≤ length log → IsProgress log (resting_at upto)
-rest_progress log upto l = record {
-  on = omega arith;
-  inside = l;
-  ahead = omega arith;
-  within = l;
-  rests = λ z. refl;
-  begun = λ less. absurd (omega (arith, less));
-}
-
 pub rests_follow : (log : List Message) (upto : ℕ) (f : Follower) → upto ≤ length log → 0 < length f.tables
     → HoldsLog (length f.tables) (cores (take upto log)) f.tables → FollowsLog log (record f { progress = resting_at upto })
 rests_follow log upto f l some holds = record {
-  progress = rest_progress log upto l;
+  progress = record { on = omega arith; inside = l; stage = tt };
   some = some;
   rests = λ z. holds;
   begun = λ less. absurd (omega (arith, less));
 }
 
--- a batch was applied whole
-pub comes_whole : (log : List Message) (upto : ℕ) (old mid new : Follower) → upto ≤ length log → 0 < length old.tables
-    → old.progress.upto ≡ old.progress.applied → length mid.tables ≡ length old.tables
-    → HoldsLog (length old.tables) (cores (take upto log)) mid.tables → StaysWithin log old.progress.applied upto
-    → new ≡ record mid { progress = resting_at upto } → ComesTo log upto old new (Ok tt)
-comes_whole log upto old mid new l some rests many holds limits is = record {
-  follows = subst (FollowsLog log) (sym is)
-      (rests_follow log upto mid l (omega (arith, some, many)) (subst (λ n. HoldsLog n (cores (take upto log)) mid.tables) (sym many) holds));
-  limits = (let at = ap (λ (f : Follower). f.progress.upto) is in
-      subst (λ n. StaysWithin log n new.progress.upto) (sym rests) (subst (StaysWithin log old.progress.applied) (sym at) limits));
-  ok = ap (λ (f : Follower). f.progress) is;
-  err = tt;
-  many = ap (λ (f : Follower). length f.tables) is ∙ many;
-}
-
 -- ---- a batch as far as memory went
-cores_between : (log : List Message) (from upto : ℕ) → length (parts_between log from upto) ≡ length (flat_map parts_of (slice_range (cores log) from upto))
-cores_between log from upto = ap (λ (ms : List Core). length (flat_map parts_of ms)) (cores_slice log from upto)
+module _ (log : List Message) (from upto left : ℕ) (stops : List ℕ) (ts : List ShardState) (l : upto ≤ length log) (some : 0 < length ts)
+    (s : HasStops log (record { progress = record { applied = from; stage = Begun upto left }; stops = stops; tables = ts })) where
+  long_log : upto ≤ length (cores log)
+  long_log = let many = length-map log core in omega (arith, l, many)
 
-long_log : (log : List Message) (upto : ℕ) → upto ≤ length log → upto ≤ length (cores log)
-long_log log upto l = let many = length-map log core in omega (arith, l, many)
+  counted : left ≡ parts_behind (length ts) stops from (slice_range (cores log) from upto)
+  counted = s.left ∙ ap (parts_behind (length ts) stops from) (cores_slice log from upto)
 
--- no part is left
-pub whole_by_stops : (log : List Message) (from upto : ℕ) (f : Follower) → upto ≤ length log → StopWithin from upto f.stops
-    → HoldsTo (length f.tables) (cores log) f.stops f.tables
-    → parts_behind (length f.tables) f.stops from (cores (slice_range log from upto)) ≡ 0
-    → HoldsLog (length f.tables) (cores (take upto log)) f.tables
-whole_by_stops log from upto f l within holds none =
-    subst (λ (ms : List Core). HoldsLog (length f.tables) ms f.tables) (sym (cores_front log upto))
-    (holds_whole (length f.tables) from upto f.stops (cores log) f.tables (long_log log upto l) within holds
-    (subst (λ (ms : List Core). parts_behind (length f.tables) f.stops from ms ≡ 0) (cores_slice log from upto) none))
+  parts : length (parts_between log from upto) ≡ length (flat_map parts_of (slice_range (cores log) from upto))
+  parts = ap (λ (ms : List Core). length (flat_map parts_of ms)) (cores_slice log from upto)
 
--- no part is done
-pub none_by_stops : (log : List Message) (from upto : ℕ) (f : Follower) → upto ≤ length log → StopWithin from upto f.stops
-    → HoldsTo (length f.tables) (cores log) f.stops f.tables
-    → parts_behind (length f.tables) f.stops from (cores (slice_range log from upto)) ≡ length (parts_between log from upto)
-    → HoldsLog (length f.tables) (cores (take from log)) f.tables
-none_by_stops log from upto f l within holds all =
-    subst (λ (ms : List Core). HoldsLog (length f.tables) ms f.tables) (sym (cores_front log from))
-    (holds_none (length f.tables) from upto f.stops (cores log) f.tables (long_log log upto l) within holds
-    (ap (parts_behind (length f.tables) f.stops from) (sym (cores_slice log from upto)) ∙ all ∙ cores_between log from upto))
+  -- no part is left
+  pub follows_whole : left ≡ 0 → FollowsLog log (record { progress = resting_at upto; stops = stops; tables = ts })
+  follows_whole none =
+      rests_follow log upto (record { progress = resting_at upto; stops = stops; tables = ts }) l some
+      (subst (λ (ms : List Core). HoldsLog (length ts) ms ts) (sym (cores_front log upto))
+      (holds_whole (length ts) from upto stops (cores log) ts long_log s.within s.holds (sym counted ∙ none)))
 
--- nothing of the batch was done
-pub comes_none : (log : List Message) (upto : ℕ) (old : Follower) (e : AllocError) → IsProgress log old.progress → old.progress.left ≡ 0
-    → 0 < length old.tables → upto ≤ length log → StopWithin old.progress.applied upto old.stops
-    → HoldsTo (length old.tables) (cores log) old.stops old.tables
-    → parts_behind (length old.tables) old.stops old.progress.applied (cores (slice_range log old.progress.applied upto)) ≡ length (parts_between log old.progress.applied upto)
-    → ComesTo log upto old old (Err e)
-comes_none log upto old e progress rests some l within holds all = record {
-  follows = record {
-    progress = progress;
+  -- no part is done
+  pub follows_none : (p : Progress) → p.applied ≡ from → IsProgress log p → left_of p ≡ 0 → left ≡ length (parts_between log from upto)
+      → FollowsLog log (record { progress = p; stops = stops; tables = ts })
+  follows_none p at h rests all = record {
+    progress = h;
     some = some;
-    rests = λ z. none_by_stops log old.progress.applied upto old l within holds all;
+    rests = λ z. subst (λ n. HoldsLog (length ts) (cores (take n log)) ts) (sym at)
+        (subst (λ (ms : List Core). HoldsLog (length ts) ms ts) (sym (cores_front log from))
+        (holds_none (length ts) from upto stops (cores log) ts long_log s.within s.holds (sym counted ∙ all ∙ parts)));
     begun = λ less. absurd (omega (arith, less, rests));
-  };
-  limits = λ sites counts first. first;
-  ok = tt;
-  err = inl refl;
-  many = refl;
-}
+  }
 
--- some of it was
-pub comes_begun : (log : List Message) (upto left : ℕ) (old new : Follower) (e : AllocError) → IsProgress log old.progress
-    → old.progress.left ≡ 0 → 0 < length old.tables → old.progress.applied < upto → upto ≤ length log
-    → StopWithin old.progress.applied upto old.stops → HoldsTo (length old.tables) (cores log) old.stops old.tables
-    → left ≡ parts_behind (length old.tables) old.stops old.progress.applied (cores (slice_range log old.progress.applied upto))
-    → 0 < left → ¬ (left ≡ length (parts_between log old.progress.applied upto)) → All IsMessage (slice_range log old.progress.applied upto)
-    → new ≡ record { progress = record { applied = old.progress.applied; kept = old.progress.kept; upto = upto; left = left }; stops = old.stops; tables = old.tables }
-    → ComesTo log upto old new (Err e)
-comes_begun log upto left old new e progress rests some pending l within holds counted more differ formed is =
-    subst (λ (f : Follower). ComesTo log upto old f (Err e)) (sym is) (record {
-      follows = record {
-        progress = record {
-          on = omega (arith, pending);
-          inside = l;
-          ahead = progress.ahead;
-          within = progress.within;
-          rests = λ z. absurd (omega (arith, z, more));
-          begun = λ less. (pending, fewer);
-        };
-        some = some;
-        rests = λ z. absurd (omega (arith, z, more));
-        begun = λ less. record { within = within; holds = holds; left = counted };
-      };
-      limits = subst (λ n. StaysWithin log n upto) (progress.rests rests) (log_within log old.progress.applied upto pending l formed);
-      ok = tt;
-      err = inr (record { applied = refl; kept = refl; ends = refl; some_left = more; some_done = fewer });
-      many = refl;
-    })
+  -- some but not all are
+  pub follows_begun : from ≤ upto → 0 < left → ¬ (left ≡ length (parts_between log from upto))
+      → FollowsLog log (record { progress = record { applied = from; stage = Begun upto left }; stops = stops; tables = ts })
+  follows_begun on more differ = record {
+    progress = record {
+      on = on;
+      inside = l;
+      stage = (more, (let few = behind_few (length ts) stops from (slice_range (cores log) from upto) in omega (arith, few, counted, parts, differ)));
+    };
+    some = some;
+    rests = λ z. absurd (omega (arith, z, more));
+    begun = λ less. s;
+  }
+
+-- not all of a batch that has begun is left
+pub begun_fewer : (log : List Message) (p : Progress) → IsProgress log p → 0 < left_of p → left_of p < length (parts_between log p.applied (end_of p))
+begun_fewer log p h = on p.stage h.stage
   where
-    fewer : left < length (parts_between log old.progress.applied upto)
-    fewer =
-        let few = behind_few (length old.tables) old.stops old.progress.applied (cores (slice_range log old.progress.applied upto)) in
-        omega (arith, few, counted, differ)
+    on : (s : Stage) → IsStage log p.applied s → 0 < left_of (record p { stage = s }) → left_of (record p { stage = s }) < length (parts_between log p.applied (end_of (record p { stage = s })))
+    on Level h l = absurd (omega (arith, l))
+    on (Keeping upto) h l = absurd (omega (arith, l))
+    on (Begun upto left) h l = h.1
 
--- ---- a batch that was gone on with
-pub goes_whole : (log : List Message) (old mid new : Follower) → FollowsLog log old → 0 < old.progress.left
-    → length mid.tables ≡ length old.tables → StopWithin old.progress.applied old.progress.upto mid.stops
-    → HoldsTo (length mid.tables) (cores log) mid.stops mid.tables
-    → parts_behind (length mid.tables) mid.stops old.progress.applied (cores (slice_range log old.progress.applied old.progress.upto)) ≡ 0
-    → new ≡ record mid { progress = resting_at old.progress.upto } → GoesOnTo log old new (Ok tt)
-goes_whole log old mid new h begun many within holds none is = record {
-  follows = subst (FollowsLog log) (sym is)
-      (rests_follow log old.progress.upto mid h.progress.inside (let some = h.some in omega (arith, some, many))
-      (whole_by_stops log old.progress.applied old.progress.upto mid h.progress.inside within holds none));
-  upto = ap (λ (f : Follower). f.progress.upto) is;
-  ok = ap (λ (f : Follower). f.progress) is;
-  err = tt;
-}
-
-pub goes_part : (log : List Message) (left : ℕ) (old new : Follower) (stops : List ℕ) (ts : List ShardState) (e : AllocError) → FollowsLog log old
-    → 0 < old.progress.left → length ts ≡ length old.tables → StopWithin old.progress.applied old.progress.upto stops
-    → AreFurther old.stops stops → HoldsTo (length ts) (cores log) stops ts
-    → left ≡ parts_behind (length ts) stops old.progress.applied (cores (slice_range log old.progress.applied old.progress.upto))
-    → 0 < left
-    → new ≡ record { progress = record { applied = old.progress.applied; kept = old.progress.kept; upto = old.progress.upto; left = left }; stops = stops; tables = ts }
-    → GoesOnTo log old new (Err e)
-goes_part log left old new stops ts e h begun many within further holds counted more is =
-    subst (λ (f : Follower). GoesOnTo log old f (Err e)) (sym is) (record {
-      follows = record {
-        progress = record {
-          on = h.progress.on;
-          inside = h.progress.inside;
-          ahead = h.progress.ahead;
-          within = h.progress.within;
-          rests = λ z. absurd (omega (arith, z, more));
-          begun = λ less. ((h.progress.begun begun).0, (let was = (h.progress.begun begun).1 in omega (arith, was, fewer)));
-        };
-        some = (let some = h.some in omega (arith, some, many));
-        rests = λ z. absurd (omega (arith, z, more));
-        begun = λ less. record { within = within; holds = holds; left = counted };
-      };
-      upto = refl;
-      ok = tt;
-      err = record { batch = refl; some_left = more; fewer = fewer };
-    })
-  where
-    fewer : left ≤ old.progress.left
-    fewer =
-        let ms = cores (slice_range log old.progress.applied old.progress.upto) in
-        let less = fewer_behind (length old.tables) old.stops stops old.progress.applied ms further in
-        let same = ap (λ n. parts_behind n stops old.progress.applied ms) many in
-        let was = (h.begun begun).left in
-        omega (arith, counted, less, same, was)
+-- and of one that went on no more is left than was
+pub left_fewer : (log : List Message) (f : Follower) (upto left : ℕ) (stops : List ℕ) (ts : List ShardState) → HasStops log f → upto ≡ end_of f.progress
+    → HasStops log (record { progress = record { applied = f.progress.applied; stage = Begun upto left }; stops = stops; tables = ts })
+    → AreFurther f.stops stops → length ts ≡ length f.tables → left ≤ left_of f.progress
+left_fewer log f upto left stops ts was e now further many =
+    let ms = cores (slice_range log f.progress.applied upto) in
+    let less = fewer_behind (length f.tables) f.stops stops f.progress.applied ms further in
+    let same = ap (λ n. parts_behind n stops f.progress.applied ms) many in
+    let first = ap (λ n. parts_behind (length f.tables) f.stops f.progress.applied (cores (slice_range log f.progress.applied n))) e in
+    omega (arith, now.left, less, same, first, was.left)
 
 -- ---- a batch that is kept
-pub keeps : (log : List Message) (before : ℕ) (f : Follower) → FollowsLog log f → f.progress ≡ resting_at before → before ≤ length log
+pub keeps : (log : List Message) (before : ℕ) (f : Follower) → FollowsLog log f → f.progress ≡ resting_at before → before < length log
     → FollowsLog log (record f { progress = keeping before (length log) })
 keeps log before f h is l = record {
-  progress = record {
-    on = omega arith;
-    inside = l;
-    ahead = l;
-    within = omega arith;
-    rests = λ z. refl;
-    begun = λ less. absurd (omega (arith, less));
-  };
+  progress = record { on = omega (arith, l); inside = omega arith; stage = l };
   some = h.some;
-  rests = λ z. subst (λ (p : Progress). HoldsLog (length f.tables) (cores (take p.applied log)) f.tables) is (h.rests (ap (λ (p : Progress). p.left) is));
+  rests = λ z. subst (λ (p : Progress). HoldsLog (length f.tables) (cores (take p.applied log)) f.tables) is (h.rests (ap left_of is));
   begun = λ less. absurd (omega (arith, less));
 }
 
 -- ---- a log that grows
 pub follows_more : (log more : List Message) (f : Follower) → FollowsLog log f → FollowsLog (log ++ more) f
 follows_more log more f h =
-    let inside : f.progress.upto ≤ length log = h.progress.inside in
     let on = h.progress.on in
-    let batch = sym (between_inside f.progress.applied f.progress.upto log more on inside) in
+    let inside = h.progress.inside in
     record {
-      progress = record {
-        on = on;
-        inside = omega (arith, inside, length-append log more);
-        ahead = h.progress.ahead;
-        within = omega (arith, h.progress.within, length-append log more);
-        rests = h.progress.rests;
-        begun = λ l. ((h.progress.begun l).0, subst (λ (es : List Effect). f.progress.left < length es) batch (h.progress.begun l).1);
-      };
+      progress = record { on = on; inside = omega (arith, inside, length-append log more); stage = stage_inside f.progress.stage on inside h.progress.stage };
       some = h.some;
       rests = λ z. subst (λ (xs : List Message). HoldsLog (length f.tables) (cores xs) f.tables)
           (sym (take-append-le f.progress.applied log more (omega (arith, on, inside)))) (h.rests z);
@@ -229,11 +126,18 @@ follows_more log more f h =
           let s = h.begun l in
           record {
             within = s.within;
-            holds = stops_inside log more f.progress.applied f.progress.upto f.stops f.tables inside s.within s.holds;
-            left = s.left ∙ ap (λ xs. parts_behind (length f.tables) f.stops f.progress.applied (cores xs)) (sym (slice_inside f.progress.applied f.progress.upto log more on inside));
+            holds = stops_inside log more f.progress.applied (end_of f.progress) f.stops f.tables inside s.within s.holds;
+            left = s.left ∙ ap (λ xs. parts_behind (length f.tables) f.stops f.progress.applied (cores xs)) (sym (slice_inside f.progress.applied (end_of f.progress) log more on inside));
           };
     }
   where
+    stage_inside : (s : Stage) → f.progress.applied ≤ end_of (record { applied = f.progress.applied; stage = s }) → end_of (record { applied = f.progress.applied; stage = s }) ≤ length log
+        → IsStage log f.progress.applied s → IsStage (log ++ more) f.progress.applied s
+    stage_inside Level on l h = tt
+    stage_inside (Keeping upto) on l h = h
+    stage_inside (Begun upto left) on l h =
+        (h.0, subst (λ (es : List Effect). left < length es) (sym (between_inside f.progress.applied upto log more on l)) h.1)
+
     stops_inside : (log more : List Message) (from upto : ℕ) (stops : List ℕ) (ts : List ShardState) → upto ≤ length log
         → StopWithin from upto stops → HoldsTo (length ts) (cores log) stops ts → HoldsTo (length ts) (cores (log ++ more)) stops ts
     stops_inside log more from upto stops ts l within holds = record {
@@ -246,15 +150,6 @@ follows_more log more f h =
           ∙ ap (λ (ms : List Core). Some (shard_of_log (length ts) ms k)) (sym (ap (take (slice_index stops k)) (cores_append log more)
           ∙ take-append-le (slice_index stops k) (cores log) (cores more) (omega (arith, stop, l, many))));
     }
-
--- ---- tables that were brought on
-pub follows_on : (sites : ℕ) (log read : List Message) (old new : Follower) → read ≡ log → All (λ m. sites_of m ≡ sites) log
-    → FollowsAt sites log old → FollowsLog read new → StaysWithin read old.progress.upto new.progress.upto → FollowsAt sites log new
-follows_on sites log read old new e all f h k = record {
-  follows = subst (λ (l : List Message). FollowsLog l new) e h;
-  limits = subst (λ (l : List Message). AreWithin sites l new.progress.upto) e
-      (k sites (subst (λ (l : List Message). All (λ m. sites_of m ≡ sites) l) (sym e) all) (subst (λ (l : List Message). AreWithin sites l old.progress.upto) (sym e) f.limits));
-}
 
 -- ---- from the clauses of the calls
 pub ok_of : {A E : Type 0} (P : Type 0) (r : Result A E) → is_ok r ≡ true → OnOk r P → P
@@ -278,16 +173,6 @@ stops_further from upto old new many within further ends k l =
     let was = (within k (omega (arith, l, many))).0 in
     let more = further k in
     (omega (arith, was, more), (ends k l).1)
-
-pub comes_from : (log : List Message) (upto : ℕ) (old mid new : Follower) (r : Result (Unit {0}) AllocError) → mid.progress ≡ old.progress
-    → length mid.tables ≡ length old.tables → ComesTo log upto mid new r → ComesTo log upto old new r
-comes_from log upto old mid new r same many h = record {
-  follows = h.follows;
-  limits = subst (λ (p : Progress). StaysWithin log p.upto new.progress.upto) same h.limits;
-  ok = h.ok;
-  err = subst (λ (p : Progress). OnErr r ((new.progress ≡ p) ⊎ BatchBegins log upto p new.progress)) same h.err;
-  many = h.many ∙ many;
-}
 
 -- what was written into a list of the same length
 pub written_back : (len : ℕ) (new old : List ℕ) → length new ≡ length old → len ≡ length old

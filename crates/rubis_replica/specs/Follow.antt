@@ -6,8 +6,8 @@ use Rattle.rubis_model.specs.Log.{cores}
 use Rattle.rubis_workers.specs.Shard.{HoldsLog}
 use Rattle.rubis_workers.specs.Shard.{ShardState}
 use Rattle.rubis_workers.specs.Pieces.{HoldsTo, StopWithin, parts_behind}
-use Rattle.rubis_workers.specs.Logs.{AreWithin, StaysWithin}
-use Rattle.rubis_replica.specs.Progress.{BatchBegins, BatchGoesOn, IsProgress, Progress, resting_at}
+use Rattle.rubis_replica.specs.Progress.{BatchBegins, BatchGoesOn, IsProgress, end_of, left_of, resting_at}
+use Rattle.rubis_replica.specs.declared.progress.Progress.{Progress}
 
 -- the shards of the tables, how far they are in their log, and, where a batch has begun, how many of its messages stand in each
 pub record Follower : Type 0 where
@@ -17,33 +17,25 @@ pub record Follower : Type 0 where
 
 -- a batch has begun: each shard stands at its stop within it, and the parts that are left are those behind the stops
 pub record HasStops (log : List Message) (f : Follower) : Type 0 where
-  pub within : StopWithin f.progress.applied f.progress.upto f.stops
+  pub within : StopWithin f.progress.applied (end_of f.progress) f.stops
   pub holds : HoldsTo (length f.tables) (cores log) f.stops f.tables
-  pub left : f.progress.left ≡ parts_behind (length f.tables) f.stops f.progress.applied (cores (slice_range log f.progress.applied f.progress.upto))
+  pub left : left_of f.progress ≡ parts_behind (length f.tables) f.stops f.progress.applied (cores (slice_range log f.progress.applied (end_of f.progress)))
 
 -- the tables are those of the log as far as they are in it, misfits too
 pub record FollowsLog (log : List Message) (f : Follower) : Type 0 where
   pub progress : IsProgress log f.progress
   pub some : 0 < length f.tables
-  pub rests : f.progress.left ≡ 0 → HoldsLog (length f.tables) (cores (take f.progress.applied log)) f.tables
-  pub begun : 0 < f.progress.left → HasStops log f
-
--- the same of a site's, whose rows are within the limits
-pub record FollowsAt (sites : ℕ) (log : List Message) (f : Follower) : Type 0 where
-  pub follows : FollowsLog log f
-  pub limits : AreWithin sites log f.progress.upto
+  pub rests : left_of f.progress ≡ 0 → HoldsLog (length f.tables) (cores (take f.progress.applied log)) f.tables
+  pub begun : 0 < left_of f.progress → HasStops log f
 
 -- the batch that ends with message `upto` was tried: it is whole, or has begun, or nothing of it is done
 pub record ComesTo (log : List Message) (upto : ℕ) (old new : Follower) (result : Result (Unit {0}) AllocError) : Type 0 where
   pub follows : FollowsLog log new
-  pub limits : StaysWithin log old.progress.upto new.progress.upto
   pub ok : OnOk result (new.progress ≡ resting_at upto)
-  pub err : OnErr result ((new.progress ≡ old.progress) ⊎ BatchBegins log upto old.progress new.progress)
-  pub many : length new.tables ≡ length old.tables
+  pub err : OnErr result ((new.progress ≡ old.progress) ⊎ BatchBegins log old.progress.applied upto new.progress)
 
 -- the batch that has begun was gone on with: it is whole, or no more is left of it than before
 pub record GoesOnTo (log : List Message) (old new : Follower) (result : Result (Unit {0}) AllocError) : Type 0 where
   pub follows : FollowsLog log new
-  pub upto : new.progress.upto ≡ old.progress.upto
-  pub ok : OnOk result (new.progress ≡ resting_at old.progress.upto)
+  pub ok : OnOk result (new.progress ≡ resting_at (end_of old.progress))
   pub err : OnErr result (BatchGoesOn old.progress new.progress)

@@ -1,60 +1,56 @@
 -- How far tables are in a log, which they follow batch by batch.
-use Rattle.std.specs.Prelude.{◌≡◌, ℕ, ◌-◌, ◌<◌, ◌≤◌, ◌⊎◌, Bool, List, nat_lt, length}
+use Rattle.std.specs.Prelude.{◌≡◌, ℕ, ◌-◌, ◌<◌, ◌≤◌, ◌⊎◌, Bool, List, nat_lt, length, ⊤}
 use Rattle.rubis_message.specs.Message.{Message}
 use Rattle.rubis_workers.specs.Logs.{parts_between}
+use Rattle.rubis_replica.specs.declared.progress.Progress.{Progress}
+use Rattle.rubis_replica.specs.declared.progress.Stage.{Stage}
+use Rattle.rubis_replica.specs.declared.progress.Stage.TheVariants.{Level, Keeping, Begun}
 
--- `applied` messages were applied before the batch that has begun; the batch ends with message `upto`, and `left` of
--- its parts aren't done. If no batch has begun, `left` is 0. What is pending up to message `kept` is kept as a batch of
--- its own, which is the next; if none is kept, `kept` equals `applied`
-pub record Progress : Type 0 where
-  pub applied : ℕ
-  pub kept : ℕ
-  pub upto : ℕ
-  pub left : ℕ
-
--- n messages are applied, no batch has begun, and the next is kept up to message `kept`
+-- n messages are applied, and what is pending up to message `upto` is kept as the next batch
 abbrev pub keeping : ℕ → ℕ → Progress
-keeping n kept = record { applied = n; kept = kept; upto = n; left = 0 }
+keeping n upto = record { applied = n; stage = Keeping upto }
 
 -- n messages are applied, and no batch has begun or is kept
 abbrev pub resting_at : ℕ → Progress
-resting_at n = keeping n n
+resting_at n = record { applied = n; stage = Level }
+
+-- the message that ends the batch that is kept or has begun, or else what is applied
+abbrev pub end_of : Progress → ℕ
+end_of p = elim p.stage [ Level ↦ p.applied | Keeping upto ↦ upto | Begun upto left ↦ upto ]
+
+-- how many parts of the begun batch aren't done; 0 if none has begun
+abbrev pub left_of : Progress → ℕ
+left_of p = elim p.stage [ Level ↦ 0 | Keeping upto ↦ 0 | Begun upto left ↦ left ]
 
 -- a batch has begun and isn't whole
 abbrev pub is_behind : Progress → Bool
-is_behind p = nat_lt 0 p.left
+is_behind p = nat_lt 0 (left_of p)
 
--- the batch is one of the log, and so is the kept one; if the batch has begun, some but not all of its parts are done
+-- a kept batch has messages; of one that has begun some but not all parts are done
+abbrev pub IsStage : List Message → ℕ → Stage → Type 0
+IsStage log applied Level = ⊤
+IsStage log applied (Keeping upto) = applied < upto
+IsStage log applied (Begun upto left) = (0 < left) × (left < length (parts_between log applied upto))
+
+-- and it is one of the log
 pub record IsProgress (log : List Message) (p : Progress) : Type 0 where
-  pub on : p.applied ≤ p.upto
-  pub inside : p.upto ≤ length log
-  pub ahead : p.applied ≤ p.kept
-  pub within : p.kept ≤ length log
-  pub rests : p.left ≡ 0 → p.applied ≡ p.upto
-  pub begun : 0 < p.left → (p.applied < p.upto) × (p.left < length (parts_between log p.applied p.upto))
+  pub on : p.applied ≤ end_of p
+  pub inside : end_of p ≤ length log
+  pub stage : IsStage log p.applied p.stage
 
--- the batch that follows what is applied, up to message `upto`, has begun, and some but not all of its parts are done
-pub record BatchBegins (log : List Message) (upto : ℕ) (old new : Progress) : Type 0 where
-  pub applied : new.applied ≡ old.applied
-  pub kept : new.kept ≡ old.kept
-  pub ends : new.upto ≡ upto
-  pub some_left : 0 < new.left
-  pub some_done : new.left < length (parts_between log new.applied new.upto)
+-- the batch from message `from` on, up to message `upto`, has begun, and some but not all of its parts are done
+pub record BatchBegins (log : List Message) (from upto : ℕ) (new : Progress) : Type 0 where
+  pub batch : new ≡ record { applied = from; stage = Begun upto (left_of new) }
+  pub some_left : 0 < left_of new
+  pub some_done : left_of new < length (parts_between log from upto)
 
--- the batches of an application: the kept one, and then the rest of what is pending
-abbrev pub IsBatchOf : List Message → Progress → ℕ → ℕ → Type 0
-IsBatchOf log p from upto = ((from ≡ p.applied) × (upto ≡ p.kept)) ⊎ ((from ≡ p.kept) × (upto ≡ length log))
-
--- those before one of these batches are applied; that one has begun, and some but not all of its parts are done
-pub record HasBegun (log : List Message) (old new : Progress) : Type 0 where
-  pub batch : IsBatchOf log old new.applied new.upto
-  pub kept : new.kept ≡ old.kept
-  pub some_left : 0 < new.left
-  pub some_done : new.left < length (parts_between log new.applied new.upto)
+-- a batch of an application has begun: the kept one, or, with that applied, the rest of what is pending
+abbrev pub HasBegun : List Message → Progress → Progress → Type 0
+HasBegun log old new = BatchBegins log old.applied (end_of old) new ⊎ BatchBegins log (end_of old) (length log) new
 
 -- no part of the next batch is done: nothing changed, or exactly the kept batch was applied
 abbrev pub IsBetween : Progress → Progress → Type 0
-IsBetween old new = (new ≡ old) ⊎ (new ≡ resting_at old.kept)
+IsBetween old new = (new ≡ old) ⊎ (new ≡ resting_at (end_of old))
 
 -- an attempt to apply all that is pending: it is applied, or one of its batches has begun, or no part of the next is done
 abbrev pub IsTried : List Message → Progress → Progress → Type 0
@@ -71,6 +67,6 @@ pub record IsBatched (batch : ℕ) (log : List Message) (old new : Progress) : T
 
 -- the begun batch goes on: some of its parts are left, and no more than before
 pub record BatchGoesOn (old new : Progress) : Type 0 where
-  pub batch : new ≡ record old { left = new.left }
-  pub some_left : 0 < new.left
-  pub fewer : new.left ≤ old.left
+  pub batch : new ≡ record old { stage = Begun (end_of old) (left_of new) }
+  pub some_left : 0 < left_of new
+  pub fewer : left_of new ≤ left_of old

@@ -9,7 +9,8 @@ use Rattle.rubis_generate.specs.Decision.{decision}
 use Rattle.rubis_message.specs.declared.answers.Arrival.{Arrival}
 use Rattle.rubis_message.specs.declared.answers.Arrival.TheVariants.{Released, Held, Repeat}
 use Rattle.rubis_model.specs.Site.{Place, Replica, rows_at, standing_of}
-use Rattle.rubis_replica.specs.Progress.{HasBegun, IsBatched, Progress, resting_at}
+use Rattle.rubis_replica.specs.Progress.{HasBegun, IsBatched, end_of, left_of, resting_at}
+use Rattle.rubis_replica.specs.declared.progress.Progress.{Progress}
 use Rattle.rubis_replica.specs.declared.faults.Fault.{Fault}
 use Rattle.rubis_replica.specs.declared.faults.Fault.TheVariants.{Refused, Behind, Memory}
 
@@ -30,7 +31,7 @@ with_all_applied s = record s { progress = resting_at (length s.state.log) }
 
 -- the site with what was kept applied, and no more
 abbrev pub with_kept_applied : SiteState → SiteState
-with_kept_applied s = record s { progress = resting_at s.progress.kept }
+with_kept_applied s = record s { progress = resting_at (end_of s.progress) }
 
 -- the call answers as the step says; where it doesn't, the site's state is as it was
 abbrev pub AnswersAsTheStep : {A : Type 0} → SiteState → SiteState → Replica × Result A Refusal → Result A Fault → Type 0
@@ -57,7 +58,7 @@ IsDecision s ask (Err fault) = ⊤
 
 -- a site that is behind says so, and stays as it is
 abbrev pub WaitsBehind : {A : Type 0} → SiteState → SiteState → Result A Fault → Type 0
-WaitsBehind old new result = 0 < old.progress.left → (result ≡ Err Behind) × (new ≡ old)
+WaitsBehind old new result = 0 < left_of old.progress → (result ≡ Err Behind) × (new ≡ old)
 
 -- ---- how far the tables are after a call
 
@@ -65,7 +66,7 @@ WaitsBehind old new result = 0 < old.progress.left → (result ≡ Err Behind) �
 abbrev pub NeedsNoTables : {A : Type 0} → SiteState → SiteState → Result A Fault → Type 0
 NeedsNoTables old new (Ok a) = new.progress ≡ old.progress
 NeedsNoTables old new (Err (Refused r)) = new ≡ old
-NeedsNoTables old new (Err Behind) = 0 < old.progress.left
+NeedsNoTables old new (Err Behind) = 0 < left_of old.progress
 NeedsNoTables old new (Err Memory) = ⊥
 
 -- after an arrival that released something, what is pending is a batch or waits; any other leaves the tables, and one
@@ -75,20 +76,20 @@ TakesIn old new (Ok (Released n)) = IsBatched old.batch new.state.log old.progre
 TakesIn old new (Ok Held) = new.progress ≡ old.progress
 TakesIn old new (Ok Repeat) = new.progress ≡ old.progress
 TakesIn old new (Err (Refused r)) = new ≡ old
-TakesIn old new (Err Behind) = 0 < old.progress.left
+TakesIn old new (Err Behind) = 0 < left_of old.progress
 TakesIn old new (Err Memory) = new ≡ old
 
 -- why what was pending isn't applied: a batch of it has begun and isn't whole, or nothing of the next one is done
 abbrev pub IsCutFault : SiteState → SiteState → Fault → Type 0
 IsCutFault old new (Refused r) = ⊥
-IsCutFault old new Behind = old.progress.left ≡ 0 → HasBegun old.state.log old.progress new.progress
+IsCutFault old new Behind = left_of old.progress ≡ 0 → HasBegun old.state.log old.progress new.progress
 IsCutFault old new Memory = (new ≡ old) ⊎ (new ≡ with_kept_applied old)
 
 -- why a call that reads the tables gives no answer. It applies all that is pending first: without memory for that a batch of it
 -- has begun and isn't whole, or nothing of the next one is done; where it comes to nothing later, all stays applied
 abbrev pub IsReadFault : SiteState → SiteState → Fault → Type 0
 IsReadFault old new (Refused r) = new ≡ with_all_applied old
-IsReadFault old new Behind = old.progress.left ≡ 0 → HasBegun old.state.log old.progress new.progress
+IsReadFault old new Behind = left_of old.progress ≡ 0 → HasBegun old.state.log old.progress new.progress
 IsReadFault old new Memory = (new ≡ old) ⊎ (new ≡ with_kept_applied old) ⊎ (new ≡ with_all_applied old)
 
 -- a listing of the log reads no tables and changes nothing, and it yields its rows unless the site was behind or memory
@@ -96,7 +97,7 @@ IsReadFault old new Memory = (new ≡ old) ⊎ (new ≡ with_kept_applied old) �
 abbrev pub ListsTheLog : {A : Type 0} → SiteState → SiteState → Result A Fault → Type 0
 ListsTheLog old new (Ok rows) = new ≡ old
 ListsTheLog old new (Err (Refused r)) = ⊥
-ListsTheLog old new (Err Behind) = (0 < old.progress.left) × (new ≡ old)
+ListsTheLog old new (Err Behind) = (0 < left_of old.progress) × (new ≡ old)
 ListsTheLog old new (Err Memory) = new ≡ old
 
 -- how far the tables are after a listing: all but that of the log read them, so all is applied first

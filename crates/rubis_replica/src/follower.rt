@@ -4,16 +4,14 @@ ghost use Rattle.std.specs.Prelude.{◌≡◌, ◌≤◌, ◌<◌, ◌⊎◌, []
 ghost use Rattle.rubis_schema.specs.declared.limits.TheConstants.{KEEP_MAX, WORKERS_MAX};
 ghost use Rattle.rubis_message.specs.Message.{sites_of};
 ghost use Rattle.rubis_model.specs.Listings.{log_rows, misfit_rows, table_rows};
-ghost use Rattle.rubis_model.specs.Log.{cores};
 ghost use Rattle.rubis_workers.specs.Shard.{HoldsLog, union};
-ghost use Rattle.rubis_workers.specs.Pieces.{HoldsTo, StopWithin};
-ghost use Rattle.rubis_workers.specs.Logs.{StaysWithin};
 ghost use Rattle.rubis_replica.specs.Arrivals.{IsStop, TakesFirst};
-ghost use Rattle.rubis_replica.specs.Follow.{ComesTo, FollowsAt, FollowsLog, GoesOnTo};
-ghost use Rattle.rubis_replica.specs.Progress.{HasBegun, IsAhead, IsBetween, IsProgress, is_behind, keeping, resting_at};
+ghost use Rattle.rubis_replica.specs.Follow.{ComesTo, FollowsLog, GoesOnTo};
+ghost use Rattle.rubis_replica.specs.Progress.{HasBegun, IsAhead, IsBetween, is_behind, left_of, resting_at};
 ghost use Rattle.rubis_replica.specs.Counts.{IsCount};
 
 use crate::arriving::{Arrived, take_all};
+use crate::progress::{Progress, Stage};
 use rubis_listing::ListingRows;
 use rubis_message::Message;
 use rubis_release::Intake;
@@ -33,16 +31,9 @@ pub struct Follower<G: Gate> {
     tables: Tables,
     // Who applies the batches.
     workers: Workers<G>,
-    // How many messages are applied, those of the begun batch aside.
-    applied: usize,
-    // The message that ends the batch that is kept as the next one; `applied` where none is.
-    kept: usize,
-    // How many messages of the log end the begun batch.
-    upto: usize,
+    progress: Progress,
     // How many messages of the log stand in each shard, where a batch has begun. It has room for each.
     stops: Vec<usize>,
-    // How many of the begun batch's parts aren't done.
-    left: u32,
 }
 
 impl<G: Gate + Drop> Drop for Follower<G> {
@@ -51,11 +42,8 @@ impl<G: Gate + Drop> Drop for Follower<G> {
         let Follower {
             tables: _,
             workers: _,
-            applied: _,
-            kept: _,
-            upto: _,
+            progress: _,
             stops: _,
-            left: _,
         } = self;
     }
 }
@@ -74,7 +62,7 @@ impl<G: Gate> Model for Follower<G> {
     ghost coded = { Prim.hlevel (codes, shards.the_row.coded) };
 
     ghost view = { λ f. record {
-      progress = record { applied = f.applied; kept = f.kept; upto = f.upto; left = f.left };
+      progress = f.progress;
       stops = f.stops.items;
       tables = f.tables;
     } };
@@ -105,11 +93,8 @@ impl<G: Gate + Drop> Follower<G> {
                 gate,
                 alloc,
             },
-            applied: 0,
-            kept: 0,
-            upto: 0,
+            progress: Progress::resting_at(0),
             stops: Vec::with_capacity(alloc, usize::from(shards))?,
-            left: 0,
         })
     }
 }
@@ -152,21 +137,21 @@ impl<G: Gate> Follower<G> {
     pub fn is_behind(&self) -> bool
         ensures { result ≡ is_behind self.now.progress }
     {
-        self.left != 0
+        self.progress.left() != 0
     }
 
     /// How many messages are applied, those of the begun batch aside.
     pub fn applied(&self) -> usize
         ensures { result ≡ self.now.progress.applied }
     {
-        self.applied
+        self.progress.applied
     }
 
     /// How many parts of the begun batch aren't done.
     pub fn left(&self) -> u32
-        ensures { result ≡ self.now.progress.left }
+        ensures { result ≡ left_of self.now.progress }
     {
-        self.left
+        self.progress.left()
     }
 
     /// The tables as far as they are.
@@ -176,44 +161,7 @@ impl<G: Gate> Follower<G> {
         &self.tables
     }
 
-    // All up to message `upto` is applied.
-    fn rest_at(&mut self, upto: usize)
-        ensures { self.new ≡ record self.old { progress = resting_at upto } }
-    {
-        self.applied = upto;
-        self.kept = upto;
-        self.upto = upto;
-        self.left = 0;
-    }
-
-    // Notes how far the batch has come that ends with message `upto`, where each shard stands at its stop.
-    fn note(&mut self, log: &[Message], upto: usize) -> Result<(), AllocError>
-        requires few { length log.now ≤ KEEP_MAX }
-        requires progress { IsProgress log.now self.old.progress }
-        requires rests { self.old.progress.left ≡ 0 }
-        requires pending { self.old.progress.applied < upto }
-        requires within { upto ≤ length log.now }
-        requires some { 0 < length self.old.tables }
-        requires stops { StopWithin self.old.progress.applied upto self.old.stops }
-        requires holds { HoldsTo (length self.old.tables) (cores log.now) self.old.stops self.old.tables }
-        ensures { ComesTo log.now upto self.old self.new result }
-    {
-        let from = self.applied;
-        let parts = count_parts(&log[from..upto]);
-        let left = count_behind(&log[from..upto], from, &self.stops);
-        if left == 0 {
-            self.rest_at(upto);
-            return Ok(());
-        }
-        if left == parts {
-            return Err(AllocError);
-        }
-        self.upto = upto;
-        self.left = left;
-        Err(AllocError)
-    }
-
-    // Applies the batch that ends with message `upto`.
+    // Applies the batch that ends with message `upto`, and notes how far it came.
     fn follow_upto<R: Threads + Wait + Sync>(
         &mut self,
         rt: &R,
@@ -221,15 +169,15 @@ impl<G: Gate> Follower<G> {
         upto: usize,
     ) -> Result<(), AllocError>
         requires few { length log.now ≤ KEEP_MAX }
-        requires rests { self.old.progress.left ≡ 0 }
+        requires rests { left_of self.old.progress ≡ 0 }
         requires follows { FollowsLog log.now self.old }
         requires on { self.old.progress.applied ≤ upto }
         requires within { upto ≤ length log.now }
         ensures { ComesTo log.now upto self.old self.new result }
     {
-        let from = self.applied;
+        let from = self.progress.applied;
         if from == upto {
-            self.rest_at(upto);
+            self.progress = Progress::resting_at(upto);
             return Ok(());
         }
         let batch = LogBatch { log, from, upto };
@@ -241,10 +189,19 @@ impl<G: Gate> Follower<G> {
             &mut self.stops,
         );
         if ended.is_ok() {
-            self.rest_at(upto);
+            self.progress = Progress::resting_at(upto);
             return Ok(());
         }
-        self.note(log, upto)
+        let left = count_behind(&log[from..upto], from, &self.stops);
+        if left == 0 {
+            self.progress = Progress::resting_at(upto);
+            return Ok(());
+        }
+        if left == count_parts(&log[from..upto]) {
+            return Err(AllocError);
+        }
+        self.progress.stage = Stage::Begun { upto, left };
+        Err(AllocError)
     }
 
     /// Applies all that is pending: what is kept as a batch of its own, and then what is pending besides. Where memory runs out
@@ -255,32 +212,15 @@ impl<G: Gate> Follower<G> {
         log: &[Message],
     ) -> Result<(), AllocError>
         requires few { length log.now ≤ KEEP_MAX }
-        requires rests { self.old.progress.left ≡ 0 }
+        requires rests { left_of self.old.progress ≡ 0 }
         requires follows { FollowsLog log.now self.old }
         ensures follows { FollowsLog log.now self.new }
-        ensures limits { StaysWithin log.now self.old.progress.upto self.new.progress.upto }
         ensures ok { OnOk result (self.new.progress ≡ resting_at (length log.now)) }
         ensures err { OnErr result (HasBegun log.now self.old.progress self.new.progress ⊎ IsBetween self.old.progress self.new.progress) }
     {
-        if self.kept == self.applied {
-            return self.follow_upto(rt, log, log.len());
-        }
-        self.follow_upto(rt, log, self.kept)?;
+        let end = self.progress.end();
+        self.follow_upto(rt, log, end)?;
         self.follow_upto(rt, log, log.len())
-    }
-
-    // Keeps what the log has after its first `before` messages as the next batch, where all before it is applied.
-    fn keep(&mut self, log: &[Message], before: usize)
-        requires follows { FollowsLog log.now self.old }
-        requires before { before ≤ length log.now }
-        ensures follows { FollowsLog log.now self.new }
-        ensures upto { self.new.progress.upto ≡ self.old.progress.upto }
-        ensures kept { (self.new.progress ≡ self.old.progress)
-            ⊎ ((self.old.progress ≡ resting_at before) × (self.new.progress ≡ keeping before (length log.now))) }
-    {
-        if self.left == 0 && self.applied == before && self.kept == before {
-            self.kept = log.len();
-        }
     }
 
     /// Takes messages in that arrived together, one after the other, into the intake whose log these tables follow. What is
@@ -293,37 +233,41 @@ impl<G: Gate> Follower<G> {
         messages: Vec<Message>,
     ) -> Arrived
         requires sites { All (λ m. sites_of m ≡ intake.old.place.sites) messages.items }
-        requires rests { self.old.progress.left ≡ 0 }
-        requires follows { FollowsAt intake.old.place.sites intake.old.state.log self.old }
-        ensures follows { FollowsAt intake.new.place.sites intake.new.state.log self.new }
+        requires rests { left_of self.old.progress ≡ 0 }
+        requires follows { FollowsLog intake.old.state.log self.old }
+        ensures follows { FollowsLog intake.new.state.log self.new }
         ensures place { intake.new.place ≡ intake.old.place }
         ensures first { TakesFirst intake.old.place intake.old.state intake.new.state messages.items result.answers result.rest }
         ensures none { IfNone result.fault (result.rest ≡ []) }
-        ensures fault { IfSome result.fault (IsStop self.old.progress.left result.rest) }
+        ensures fault { IfSome result.fault (IsStop (left_of self.old.progress) result.rest) }
         ensures progress { IsAhead intake.old.state.log intake.new.state.log self.old.progress self.new.progress }
     {
         let before = intake.log().len();
         let _ = self.follow(rt, intake.log());
         let arrived = take_all(self.workers.alloc, intake, messages);
-        self.keep(intake.log(), before);
+        let upto = intake.log().len();
+        if before < upto && self.progress == Progress::resting_at(before) {
+            self.progress.stage = Stage::Keeping { upto };
+        }
         arrived
     }
 
     /// Goes on with the batch that has begun, on this thread.
     pub fn finish(&mut self, log: &[Message]) -> Result<(), AllocError>
         requires few { length log.now ≤ KEEP_MAX }
-        requires begun { 0 < self.old.progress.left }
+        requires begun { 0 < left_of self.old.progress }
         requires follows { FollowsLog log.now self.old }
         ensures { GoesOnTo log.now self.old self.new result }
     {
-        let upto = self.upto;
+        let from = self.progress.applied;
+        let upto = self.progress.end();
         follow_rest(&mut self.tables, log, &mut self.stops, upto);
-        let left = count_behind(&log[self.applied..upto], self.applied, &self.stops);
+        let left = count_behind(&log[from..upto], from, &self.stops);
         if left == 0 {
-            self.rest_at(upto);
+            self.progress = Progress::resting_at(upto);
             return Ok(());
         }
-        self.left = left;
+        self.progress.stage = Stage::Begun { upto, left };
         Err(AllocError)
     }
 }

@@ -9,7 +9,7 @@ ghost use Rattle.rubis_model.specs.Site.{arrived, asked, opening_at, passed, row
 ghost use Rattle.rubis_release.specs.Answers.{IsAdmitted};
 ghost use Rattle.rubis_replica.specs.Arrivals.{IsStop, TakesFirst};
 ghost use Rattle.rubis_replica.specs.Lengths.{looks_long};
-ghost use Rattle.rubis_replica.specs.Progress.{BatchGoesOn, IsAhead, IsBatched, IsProgress, is_behind, resting_at};
+ghost use Rattle.rubis_replica.specs.Progress.{BatchGoesOn, IsAhead, IsBatched, IsProgress, end_of, is_behind, left_of, resting_at};
 ghost use Rattle.rubis_replica.specs.Setup.{setup_place};
 ghost use Rattle.rubis_replica.specs.State.{AddsRows, AnswersAsTheStep, IsDecision, IsCutFault, IsReadFault, IsReadyFor, Lists};
 ghost use Rattle.rubis_replica.specs.State.{NeedsNoTables, TakesIn, WaitsBehind, pending, with_all_applied};
@@ -53,14 +53,14 @@ impl<G: Gate + Drop> Drop for Site<G> {
 }
 
 impl<G: Gate> Model for Site<G> {
-    ghost use Rattle.rubis_replica.specs.Follow.{FollowsAt};
+    ghost use Rattle.rubis_replica.specs.Follow.{FollowsLog};
     ghost use Rattle.rubis_replica.specs.State.{SiteState};
 
     ghost Value = { SiteState };
 
     ghost view = { λ s. record { place = s.intake.place; state = s.intake.state; progress = s.follower.progress; batch = s.batch } };
 
-    ghost invariant = { λ s. FollowsAt s.intake.place.sites s.intake.state.log s.follower };
+    ghost invariant = { λ s. FollowsLog s.intake.state.log s.follower };
 }
 
 impl<G: Gate + Drop> Site<G> {
@@ -116,7 +116,7 @@ impl<G: Gate> Site<G> {
 
     // Applies what is pending where that is a batch.
     fn apply_batch<R: Threads + Wait + Sync>(&mut self, rt: &R)
-        requires { self.old.progress.left ≡ 0 }
+        requires { left_of self.old.progress ≡ 0 }
         ensures place { self.new.place ≡ self.old.place }
         ensures batch { self.new.batch ≡ self.old.batch }
         ensures state { self.new.state ≡ self.old.state }
@@ -198,12 +198,12 @@ impl<G: Gate> Site<G> {
         requires { All (λ m. sites_of m ≡ self.old.place.sites) messages.items }
         ensures place { self.new.place ≡ self.old.place }
         ensures batch { self.new.batch ≡ self.old.batch }
-        ensures waits { 0 < self.old.progress.left → (self.new ≡ self.old) × (result.answers ≡ []) × (result.rest ≡ messages.items)
+        ensures waits { 0 < left_of self.old.progress → (self.new ≡ self.old) × (result.answers ≡ []) × (result.rest ≡ messages.items)
             × (result.fault ≡ Some Fault.Behind) }
         ensures first { TakesFirst self.old.place self.old.state self.new.state messages.items result.answers result.rest }
         ensures none { IfNone result.fault (result.rest ≡ []) }
-        ensures fault { IfSome result.fault (IsStop self.old.progress.left result.rest) }
-        ensures progress { self.old.progress.left ≡ 0 → IsAhead self.old.state.log self.new.state.log self.old.progress self.new.progress }
+        ensures fault { IfSome result.fault (IsStop (left_of self.old.progress) result.rest) }
+        ensures progress { left_of self.old.progress ≡ 0 → IsAhead self.old.state.log self.new.state.log self.old.progress self.new.progress }
     {
         if self.follower.is_behind() {
             return Arrived {
@@ -311,7 +311,7 @@ impl<G: Gate> Site<G> {
     /// Whether a listing has many rows, some thousands, by what the rows count of the messages that are applied, and by how many
     /// messages the log has. While a batch is behind, what is done of it counts too. It decides when text is written, not what text.
     pub fn is_long(&self, listing: &Listing) -> bool
-        ensures { self.now.progress.left ≡ 0 → result ≡ looks_long
+        ensures { left_of self.now.progress ≡ 0 → result ≡ looks_long
             (rows_at (take self.now.progress.applied self.now.state.log)) (length self.now.state.log) listing.now }
     {
         is_long(self.follower.tables(), self.intake.log(), listing)
@@ -355,9 +355,9 @@ impl<G: Gate> Site<G> {
         ensures place { self.new.place ≡ self.old.place }
         ensures batch { self.new.batch ≡ self.old.batch }
         ensures state { self.new.state ≡ self.old.state }
-        ensures ready { self.old.progress.left ≡ 0 → (result ≡ Ok 0) × (self.new ≡ self.old) }
-        ensures ok { 0 < self.old.progress.left → IfOk result (λ parts.
-            (parts ≡ self.old.progress.left) × (self.new.progress ≡ resting_at self.old.progress.upto)) }
+        ensures ready { left_of self.old.progress ≡ 0 → (result ≡ Ok 0) × (self.new ≡ self.old) }
+        ensures ok { 0 < left_of self.old.progress → IfOk result (λ parts.
+            (parts ≡ left_of self.old.progress) × (self.new.progress ≡ resting_at (end_of self.old.progress))) }
         ensures fault { IfErr result (λ fault. (fault ≡ Fault.Behind) × BatchGoesOn self.old.progress self.new.progress) }
     {
         if !self.follower.is_behind() {

@@ -6,7 +6,7 @@ use Rattle.std.proofs.lemmas.Bool.{cases_lt}
 use Rattle.std.proofs.lemmas.List.FromFn.{get_or-map-range_with_len, length-map-range_with_len, map-range_with_len_more}
 use Rattle.std.proofs.lemmas.Option.{slice_get-get_or, slice_get_past}
 use Rattle.rubis_model.specs.Site.{opening_at}
-use Rattle.rubis_script.specs.Replica.{resting_at}
+use Rattle.rubis_script.specs.Replica.{left_of, resting_at}
 use Rattle.rubis_script.specs.Replica.{setup_place}
 use Rattle.rubis_script.specs.Replica.{SiteState}
 use Rattle.rubis_world.specs.Setup.{WorldSetup, setup_at}
@@ -29,7 +29,7 @@ states : (setup : WorldSetup) (a n : ℕ) → map (λ (y : SiteState). y.state) 
 states setup a zero = refl
 states setup a (suc n) = ap (λ q. opening_at a ∷ q) (states setup (a + 1) n)
 
-lefts : (setup : WorldSetup) (a n : ℕ) → map (λ (y : SiteState). y.progress.left) (map (fresh setup) (range_with_len a n)) ≡ map (λ i. 0) (range_with_len a n)
+lefts : (setup : WorldSetup) (a n : ℕ) → map (λ (y : SiteState). left_of y.progress) (map (fresh setup) (range_with_len a n)) ≡ map (λ i. 0) (range_with_len a n)
 lefts setup a zero = refl
 lefts setup a (suc n) = ap (λ q. 0 ∷ q) (lefts setup (a + 1) n)
 
@@ -37,7 +37,7 @@ pub starts : (setup : WorldSetup) (sites : List SiteState) → sites ≡ fresh_s
     → state_of setup.keep sites [] ≡ opening_world setup.keep setup.sites
 starts setup sites e =
     let f = ap (map (λ (y : SiteState). y.state)) e ∙ states setup 0 setup.sites in
-    let l = ap (map (λ (y : SiteState). y.progress.left)) e ∙ lefts setup 0 setup.sites in
+    let l = ap (map (λ (y : SiteState). left_of y.progress)) e ∙ lefts setup 0 setup.sites in
     (λ k. record { keep = setup.keep; world = record { sites = f k; sent = [] }; left = l k })
 
 fresh_at_places : (setup : WorldSetup) → AreAtPlaces setup.keep (fresh_sites setup setup.sites)

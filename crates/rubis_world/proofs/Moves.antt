@@ -17,7 +17,7 @@ use Rattle.rubis_model.specs.System.{World, site, place, sends, takes, saying, s
 use Rattle.rubis_model.specs.Log.{cores, fold_of}
 use Rattle.rubis_model.specs.Runs.{listed, listing_rows}
 use Rattle.rubis_laws.proofs.Runs.SoundSteps.{has_packet, same_sites}
-use Rattle.rubis_script.specs.Replica.{AnswersAsTheStep, IsReadFault, Lists, ListsTheLog, NeedsNoTables, SiteState, TakesIn}
+use Rattle.rubis_script.specs.Replica.{AnswersAsTheStep, IsReadFault, Lists, ListsTheLog, NeedsNoTables, SiteState, TakesIn, left_of}
 use Rattle.rubis_script.specs.Replica.{Fault}
 use Rattle.rubis_script.specs.Replica.fault_variants as fault
 use Rattle.rubis_world.specs.Faults.{fault_at_site}
@@ -30,7 +30,7 @@ abbrev pub world_of : List SiteState → List Packet → World
 world_of sites sent = record { sites = map (λ (x : SiteState). x.state) sites; sent = sent }
 
 abbrev pub state_of : ℕ → List SiteState → List Packet → WorldState
-state_of keep sites sent = record { keep = keep; world = world_of sites sent; left = map (λ (x : SiteState). x.progress.left) sites }
+state_of keep sites sent = record { keep = keep; world = world_of sites sent; left = map (λ (x : SiteState). left_of x.progress) sites }
 
 -- a place stays
 if_place : (keep n : ℕ) (sites : List SiteState) (j : ℕ) (d : SiteState) → j < length sites
@@ -121,28 +121,28 @@ module _ (keep : ℕ) (sites : List SiteState) (sent : List Packet) (i : ℕ) (s
       ∙ sym (length-map sites (λ (y : SiteState). y.state)) ∙ ap (λ (w : WorldState). length w.world.sites) view
 
   -- ---- how far the tables are
-  left_is : left_at old i ≡ s.progress.left
-  left_is = subst (λ (w : WorldState). left_at w i ≡ s.progress.left) view
-      (get_or-map (λ (y : SiteState). y.progress.left) sites i s 0 inside ∙ sym (ap (λ (y : SiteState). y.progress.left) read))
+  left_is : left_at old i ≡ left_of s.progress
+  left_is = subst (λ (w : WorldState). left_at w i ≡ left_of s.progress) view
+      (get_or-map (λ (y : SiteState). left_of y.progress) sites i s 0 inside ∙ sym (ap (λ (y : SiteState). left_of y.progress) read))
 
   -- the site had nothing left; where it says that it is behind, it has now
   pub asked_alone : (sent' : List Packet) (result : Result Happened WorldFault) → left_at old i ≡ 0
-      → (s.progress.left ≡ 0 → result ≡ Err (world.Site fault.Behind) → 0 < x.progress.left)
+      → (left_of s.progress ≡ 0 → result ≡ Err (world.Site fault.Behind) → 0 < left_of x.progress)
       → Asks i old (state_of keep (set sites i x) sent') result
   asked_alone sent' result none says = record {
     others = λ j n. subst (λ (w : WorldState). left_at (state_of keep (set sites i x) sent') j ≡ left_at w j) view
-        (ap (λ l. get_or l j 0) (map-set (λ (y : SiteState). y.progress.left) sites i x)
-        ∙ get_or-set_other (map (λ (y : SiteState). y.progress.left) sites) i j x.progress.left 0 n);
+        (ap (λ l. get_or l j 0) (map-set (λ (y : SiteState). left_of y.progress) sites i x)
+        ∙ get_or-set_other (map (λ (y : SiteState). left_of y.progress) sites) i j (left_of x.progress) 0 n);
     waits = λ some. absurd (omega (arith, some, none));
     says = λ e. subst (λ n. 0 < n)
-        (sym (ap (λ l. get_or l i 0) (map-set (λ (y : SiteState). y.progress.left) sites i x)
-        ∙ get_or-set_same (map (λ (y : SiteState). y.progress.left) sites) i x.progress.left 0
-        (subst (λ n. i < n) (sym (length-map sites (λ (y : SiteState). y.progress.left))) inside)))
+        (sym (ap (λ l. get_or l i 0) (map-set (λ (y : SiteState). left_of y.progress) sites i x)
+        ∙ get_or-set_same (map (λ (y : SiteState). left_of y.progress) sites) i (left_of x.progress) 0
+        (subst (λ n. i < n) (sym (length-map sites (λ (y : SiteState). left_of y.progress))) inside)))
         (says (sym left_is ∙ none) e);
   }
 
   -- the site had nothing left, and so doesn't say that it is behind
-  pub never_behind : (result : Result Happened WorldFault) → left_at old i ≡ 0 → (s.progress.left ≡ 0 → result ≡ Err (world.Site fault.Behind) → ⊥)
+  pub never_behind : (result : Result Happened WorldFault) → left_at old i ≡ 0 → (left_of s.progress ≡ 0 → result ≡ Err (world.Site fault.Behind) → ⊥)
       → result ≡ Err (world.Site fault.Behind) → ⊥
   never_behind result none says = says (sym left_is ∙ none)
 
@@ -220,7 +220,7 @@ is_below keep sites sent old view i j n l e f = let g = length-map sites (λ (y 
 -- ---- when a site says that it is behind
 module _ (s x : SiteState) (f : Fault) (result : Result Happened WorldFault) (said : IsErr result × IsErrAnd result (λ g. g ≡ fault_at_site f)) where
   -- what the site says is what is told
-  told_behind : {P : Type 0} → (f ≡ fault.Behind → s.progress.left ≡ 0 → P) → s.progress.left ≡ 0 → result ≡ Err (world.Site fault.Behind) → P
+  told_behind : {P : Type 0} → (f ≡ fault.Behind → left_of s.progress ≡ 0 → P) → left_of s.progress ≡ 0 → result ≡ Err (world.Site fault.Behind) → P
   told_behind so none e = so (is_behind f (fault_is result e said)) none
     where
       fault_is : (r : Result Happened WorldFault) → r ≡ Err (world.Site fault.Behind) → IsErr r × IsErrAnd r (λ g. g ≡ fault_at_site f) → fault_at_site f ≡ world.Site fault.Behind
@@ -232,23 +232,23 @@ module _ (s x : SiteState) (f : Fault) (result : Result Happened WorldFault) (sa
       is_behind fault.Behind e = refl
       is_behind fault.Memory e = absurd cc
 
-  pub read_behind : IsReadFault s x f → s.progress.left ≡ 0 → result ≡ Err (world.Site fault.Behind) → 0 < x.progress.left
-  read_behind h = told_behind (λ e none. (subst (IsReadFault s x) e h none).some_left)
+  pub read_behind : IsReadFault s x f → left_of s.progress ≡ 0 → result ≡ Err (world.Site fault.Behind) → 0 < left_of x.progress
+  read_behind h = told_behind (λ e none. ⊎_elim (λ b. b.some_left) (λ b. b.some_left) (subst (IsReadFault s x) e h none))
 
   -- a call without tables, and an arrival, find a site behind only where it was
-  pub needs_none_never : (A : Type 0) → NeedsNoTables {A = A} s x (Err f) → s.progress.left ≡ 0 → result ≡ Err (world.Site fault.Behind) → ⊥
+  pub needs_none_never : (A : Type 0) → NeedsNoTables {A = A} s x (Err f) → left_of s.progress ≡ 0 → result ≡ Err (world.Site fault.Behind) → ⊥
   needs_none_never A h = told_behind (λ e none. let some = subst (λ g. NeedsNoTables {A = A} s x (Err g)) e h in omega (arith, some, none))
 
-  pub takes_in_never : TakesIn s x (Err f) → s.progress.left ≡ 0 → result ≡ Err (world.Site fault.Behind) → ⊥
+  pub takes_in_never : TakesIn s x (Err f) → left_of s.progress ≡ 0 → result ≡ Err (world.Site fault.Behind) → ⊥
   takes_in_never h = told_behind (λ e none. let some = subst (λ g. TakesIn s x (Err g)) e h in omega (arith, some, none))
 
-  pub needs_none_behind : (A : Type 0) → NeedsNoTables {A = A} s x (Err f) → s.progress.left ≡ 0 → result ≡ Err (world.Site fault.Behind) → 0 < x.progress.left
+  pub needs_none_behind : (A : Type 0) → NeedsNoTables {A = A} s x (Err f) → left_of s.progress ≡ 0 → result ≡ Err (world.Site fault.Behind) → 0 < left_of x.progress
   needs_none_behind A h none e = absurd (needs_none_never A h none e)
 
-  pub takes_in_behind : TakesIn s x (Err f) → s.progress.left ≡ 0 → result ≡ Err (world.Site fault.Behind) → 0 < x.progress.left
+  pub takes_in_behind : TakesIn s x (Err f) → left_of s.progress ≡ 0 → result ≡ Err (world.Site fault.Behind) → 0 < left_of x.progress
   takes_in_behind h none e = absurd (takes_in_never h none e)
 
-  pub lists_behind : (A : Type 0) (l : Listing) → Lists {A = A} l s x (Err f) → s.progress.left ≡ 0 → result ≡ Err (world.Site fault.Behind) → 0 < x.progress.left
+  pub lists_behind : (A : Type 0) (l : Listing) → Lists {A = A} l s x (Err f) → left_of s.progress ≡ 0 → result ≡ Err (world.Site fault.Behind) → 0 < left_of x.progress
   lists_behind A shown_listing.Log h = told_behind (λ e none. let some = (subst (λ g. ListsTheLog {A = A} s x (Err g)) e h).0 in absurd (omega (arith, some, none)))
   lists_behind A shown_listing.Users h = read_behind h
   lists_behind A (shown_listing.Items c) h = read_behind h

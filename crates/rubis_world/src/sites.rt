@@ -38,7 +38,7 @@ pub struct Sites {
 
 impl Model for Sites {
     ghost use Rattle.std.specs.Prelude.{map};
-    ghost use Rattle.rubis_script.specs.Replica.{SiteState};
+    ghost use Rattle.rubis_script.specs.Replica.{SiteState, left_of};
     ghost use Rattle.rubis_world.specs.SitesWorlds.{AreAtPlaces, WorldState};
 
     ghost Value = { WorldState };
@@ -46,7 +46,7 @@ impl Model for Sites {
     ghost view = { λ s. record {
       keep = s.keep;
       world = record { sites = map (λ (x : SiteState). x.state) s.sites.items; sent = s.packets.items };
-      left = map (λ (x : SiteState). x.progress.left) s.sites.items;
+      left = map (λ (x : SiteState). left_of x.progress) s.sites.items;
     } };
 
     ghost invariant = { λ s. AreAtPlaces s.keep s.sites.items };

@@ -1,6 +1,7 @@
-use Rattle.std.proofs.Common.{◌≡◌, ap, ◌∙◌, sym, subst, subst₂}
+use Rattle.std.proofs.Common.{◌≡◌, ap, ◌∙◌, refl, sym, subst, subst₂}
 use Rattle.rubis_clock.specs.declared.stamps.Stamp.{Stamp}
 use Rattle.rubis_message.specs.Message.{Message, IsMessage}
+use Rattle.rubis_shadow.specs.Shadows.{InLimits}
 use Rattle.rubis_model.specs.Site.{made, after_made, is_full, is_current, issued_after}
 use Rattle.rubis_release.specs.Intake.{Intake, IsIntake}
 use Rattle.rubis_release.specs.Release.{IsAmong}
@@ -20,6 +21,7 @@ invariant_of-self-2 c =
     (made_kept _ _ c.args.shadow c.new-message.result c.release.new.self.log c.release.new.self.waiting c.self.invariant
     (ap (λ (i : Intake). is_full i.place.keep i.state) c.self.view_is ∙ c.requires.room)
     (λ e. ap (λ (i : Intake). is_current i.state) c.self.view_is ∙ c.requires.right e)
+    (subst (λ (i : Intake). InLimits i.place.sites c.args.shadow) (sym c.self.view_is) c.requires.limits)
     (made_of _ c.args.self.now c.args.shadow c.next_stamp.result c.new-message.result c.self.view_is c.next_stamp.ensures c.new-message.ensures)
     c.in_ok-release.ensures.settles)
     c.release.ensures.sites c.release.ensures.settled
@@ -44,9 +46,9 @@ returns-clause-state c =
 
 pub release-requires-clause-site : goal.release-requires-clause-site
 release-requires-clause-site c =
-    subst₂ IsAmong (sym c.self.invariant.sites)
-    (sym (made_of _ c.args.self.now c.args.shadow c.next_stamp.result c.new-message.result c.self.view_is c.next_stamp.ensures c.new-message.ensures))
-    (made_among _ c.args.shadow c.self.invariant.conditions (ap (λ (i : Intake). is_full i.place.keep i.state) c.self.view_is ∙ c.requires.room))
+    subst₂ IsAmong (ap (λ (i : Intake). i.place.sites) (sym c.self.view_is) ∙ sym c.self.invariant.sites)
+    (sym (made_of c.args.self.now c.args.self.now c.args.shadow c.next_stamp.result c.new-message.result refl c.next_stamp.ensures c.new-message.ensures))
+    (made_among c.args.self.now c.args.shadow (subst IsIntake c.self.view_is c.self.invariant.conditions) c.requires.room c.requires.right c.requires.limits)
 
 pub release-requires-clause-settled : goal.release-requires-clause-settled
 release-requires-clause-settled c = c.self.invariant.settled

@@ -1,41 +1,33 @@
-use Rattle.std.proofs.Common.{List, length, ap, sym, subst, arith}
+use Rattle.std.proofs.Common.{◌≡◌, List, length, ap, sym, subst, arith, rules}
 use Rattle.rubis_message.specs.Message.{Message}
-use Rattle.rubis_workers.specs.Logs.{AreWithin}
-use Rattle.rubis_replica.specs.Follow.{FollowsLog}
-use Rattle.rubis_replica.proofs.Comings.{follows_taken, taken_longer}
-use Rattle.rubis_replica.proofs.Kept.{log_counts}
-use Rattle.rubis_replica.proofs.Standing.{follows_on}
+use Rattle.rubis_replica.specs.Follow.{Follower, FollowsLog}
+use Rattle.rubis_replica.specs.Progress.{resting_at}
+use Rattle.rubis_replica.specs.declared.progress.Progress.{Progress}
+use Rattle.rubis_replica.specs.declared.progress.Stage.TheVariants.{Keeping}
+use Rattle.rubis_replica.proofs.Comings.{follows_taken}
+use Rattle.rubis_replica.proofs.Standing.{keeps}
+use Rattle.rubis_replica.proofs.follower.Follower.take_in.Given as given
 use Rattle.rubis_replica.proofs.follower.Follower.take_in.Goals as goal
+use Rattle.rubis_replica.proofs.follower.Follower.take_in.Goals.{After-take_all-arrived}
 
-pub keep-requires-clause-follows : goal.keep-requires-clause-follows
-keep-requires-clause-follows g c κs within =
+-- the tables, with what was pending tried, follow the log with what came
+taken : (g : given.Over) (c : After-take_all-arrived g) → FollowsLog c.take_all-arrived.new.intake.state.log c.follow.new.self
+taken g c =
     let old = c.args.intake.now in
-    let counts = log_counts old c.log.ensures.conditions in
-    let first = follows_on old.place.sites old.state.log c.log.result.now c.args.self.now c.follow.new.self c.log.ensures.value counts c.requires.follows c.follow.ensures.follows c.follow.ensures.limits in
-    let new = c.take_all-arrived.new.intake in
-    let third = follows_taken old.place new.place old.state new.state c.args.messages.items c.take_all-arrived.result.answers c.take_all-arrived.result.rest c.follow.new.self c.take_all-arrived.ensures.place c.take_all-arrived.ensures.first first in
-    subst (λ (l : List Message). FollowsLog l c.follow.new.self) (sym c.log-2.ensures.value) third.follows
+    follows_taken old.place old.state c.take_all-arrived.new.intake.state c.args.messages.items c.take_all-arrived.result.answers c.take_all-arrived.result.rest c.follow.new.self c.take_all-arrived.ensures.first
+    (subst (λ (l : List Message). FollowsLog l c.follow.new.self) c.log.ensures.value c.follow.ensures.follows)
 
-pub keep-requires-clause-before : goal.keep-requires-clause-before
-keep-requires-clause-before g c κs within =
-    let old = c.args.intake.now in
-    let new = c.take_all-arrived.new.intake in
-    omega (
-      arith,
-      ap length c.log-before.ensures.value,
-      ap length c.log-2.ensures.value,
-      taken_longer old.place old.state new.state c.args.messages.items c.take_all-arrived.result.answers c.take_all-arrived.result.rest
-          c.take_all-arrived.ensures.first,
-    )
+pub returns-then-eq-clause-follows : goal.returns-then-eq-clause-follows
+returns-then-eq-clause-follows g c =
+    let t = taken g (goal.at.returns-then-eq-clause-follows g c).After-take_all-arrived in
+    let log = c.take_all-arrived.new.intake.state.log in
+    let site = c.self.inside in
+    let f : Follower = record { progress = site.progress; stops = site.stops.items; tables = site.tables } in
+    let many = ap length c.log-upto.ensures.value in
+    let at : site.progress ≡ resting_at (length c.log-before.result.now) = search rules in
+    subst (λ n. FollowsLog log (record f { progress = record { applied = site.progress.applied; stage = Keeping n } })) (sym many)
+    (subst (λ n. FollowsLog log (record f { progress = record { applied = n; stage = Keeping (length log) } })) (sym (ap (λ (p : Progress). p.applied) at))
+    (keeps log (length c.log-before.result.now) f (subst (FollowsLog log) (sym c.self.view_is) t) at (let less = c.if-before-upto.true in omega (arith, less, many))))
 
-pub returns-clause-follows : goal.returns-clause-follows
-returns-clause-follows g c =
-    let old = c.args.intake.now in
-    let counts = log_counts old c.log.ensures.conditions in
-    let first = follows_on old.place.sites old.state.log c.log.result.now c.args.self.now c.follow.new.self c.log.ensures.value counts c.requires.follows c.follow.ensures.follows c.follow.ensures.limits in
-    let new = c.take_all-arrived.new.intake in
-    let third = follows_taken old.place new.place old.state new.state c.args.messages.items c.take_all-arrived.result.answers c.take_all-arrived.result.rest c.follow.new.self c.take_all-arrived.ensures.place c.take_all-arrived.ensures.first first in
-    record {
-      follows = subst (λ (l : List Message). FollowsLog l c.keep.new.self) c.log-2.ensures.value c.keep.ensures.follows;
-      limits = subst (AreWithin new.place.sites new.state.log) (sym c.keep.ensures.upto) third.limits;
-    }
+pub returns-else-before-upto-clause-follows : goal.returns-else-before-upto-clause-follows
+returns-else-before-upto-clause-follows g c = taken g (goal.at.returns-else-before-upto-clause-follows g c).After-take_all-arrived

@@ -5,11 +5,11 @@ use Rattle.rubis_replica.proofs.site.Site.arrive.Goals as goal
 pub invariant_of-self-in-Released : goal.invariant_of-self-in-Released
 invariant_of-self-in-Released g c =
     let site = c.self.inside in
-    follows_arrived site.intake.place c.arrive.new.self.place site.intake.state c.arrive.new.self.state c.args.message site.follower
-    c.arrive.ensures.place (ap (λ r. r.0) c.in_ok-arrival.ensures.step) c.self.invariant
+    follows_arrived site.intake.place site.intake.state c.arrive.new.self.state c.args.message site.follower
+    (ap (λ r. r.0) c.in_ok-arrival.ensures.step) c.self.invariant
 
 pub invariant_of-self-in_default : goal.invariant_of-self-in_default
 invariant_of-self-in_default g c =
     let site = c.self.inside in
-    follows_arrived site.intake.place c.arrive.new.self.place site.intake.state c.arrive.new.self.state c.args.message site.follower
-    c.arrive.ensures.place (ap (λ r. r.0) c.in_ok-arrival.ensures.step) c.self.invariant
+    follows_arrived site.intake.place site.intake.state c.arrive.new.self.state c.args.message site.follower
+    (ap (λ r. r.0) c.in_ok-arrival.ensures.step) c.self.invariant

@@ -14,8 +14,8 @@ returns-in_err-shadow-clause-step g c =
 pub invariant_of-self-2 : goal.invariant_of-self-2
 invariant_of-self-2 g c =
     let intake = c.self.inside.intake in
-    follows_made intake.place c.generated.new.self.place intake.state c.generated.new.self.state c.in_ok-shadow.shadow c.self.inside.follower
-    c.generated.ensures.place c.in_ok-message.ensures.state c.self.invariant
+    follows_made intake.place intake.state c.generated.new.self.state c.in_ok-shadow.shadow c.self.inside.follower
+    c.in_ok-message.ensures.state c.self.invariant
 
 pub generated-requires-clause-right : goal.generated-requires-clause-right
 generated-requires-clause-right g c red =

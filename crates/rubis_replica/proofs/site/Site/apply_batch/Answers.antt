@@ -1,6 +1,0 @@
-use Rattle.rubis_replica.proofs.Standing.{follows_on}
-use Rattle.rubis_replica.proofs.Kept.{log_counts}
-use Rattle.rubis_replica.proofs.site.Site.apply_batch.Goals as goal
-
-pub invariant_of-self : goal.invariant_of-self
-invariant_of-self g c = follows_on c.self.inside.intake.place.sites c.self.inside.intake.state.log c.log-then-pending-self.result.now c.self.inside.follower c.follow.new.self c.log-then-pending-self.ensures.value (log_counts c.self.inside.intake c.log-then-pending-self.ensures.conditions) c.self.invariant c.follow.ensures.follows c.follow.ensures.limits
