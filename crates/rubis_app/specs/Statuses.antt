@@ -22,6 +22,14 @@ status_of (folder.IsOther setup) = 2
 status_of (folder.IsOld version) = 2
 status_of other = 1
 
+-- the status of a run: 0 if it went well, 1 if a fault ended it or what it looked for isn't so
+abbrev pub IsRunStatus : ℕ → Type 0
+IsRunStatus s = (s ≡ 0) ⊎ (s ≡ 1)
+
+-- the same, or 2 where what is asked for isn't run
+abbrev pub IsStatus : ℕ → Type 0
+IsStatus s = IsRunStatus s ⊎ (s ≡ 2)
+
 -- the status of words that are refused for one of these reasons
 abbrev pub IsStatusAmong : Kinds → ℕ → Type 0
 IsStatusAmong [] s = ⊥

@@ -10,7 +10,7 @@ ghost use Rattle.clap.specs.Words.{kind_of};
 ghost use Rattle.rubis_world.specs.Script.{IsSetup};
 ghost use Rattle.rubis_app.specs.Setups.{setup_of, waiting_options, world_setup_of};
 ghost use Rattle.rubis_world.specs.Setup.{IsWorldSetup};
-ghost use Rattle.rubis_app.specs.Statuses.{IsStatusOf, status_by, status_of};
+ghost use Rattle.rubis_app.specs.Statuses.{IsRunStatus, IsStatus, IsStatusOf, status_by, status_of};
 
 use clap::Error;
 use rubis_audit::{Auditor, Grammar, Question, Tally, run_auditor, run_check, run_widen};
@@ -72,7 +72,8 @@ fn tell<R: Print + Eprint>(rt: &R, error: &Error) -> ExitCode
 
 // Says how a run ended, if a fault ended it.
 fn end<R: Eprint>(rt: &R, ended: Result<Count, RunFault>) -> ExitCode
-    ensures { exit_status result ≡ cond (is_ok ended) 0 1 }
+    ensures value { exit_status result ≡ cond (is_ok ended) 0 1 }
+    ensures either { IsRunStatus (exit_status result) }
 {
     match ended {
         Ok(_) => ExitCode::SUCCESS,
@@ -82,7 +83,8 @@ fn end<R: Eprint>(rt: &R, ended: Result<Count, RunFault>) -> ExitCode
 
 // Says how what was asked of logs ended: the status is 0 only if they are well, where it is by that.
 fn end_audit<R: Eprint>(rt: &R, ended: Result<Count, RunFault>, is_well: bool) -> ExitCode
-    ensures { exit_status result ≡ cond (is_ok ended && is_well) 0 1 }
+    ensures value { exit_status result ≡ cond (is_ok ended && is_well) 0 1 }
+    ensures either { IsRunStatus (exit_status result) }
 {
     match ended {
         Ok(_) if !is_well => ExitCode::from(NOT_WELL),
@@ -129,7 +131,8 @@ fn run<R: Print + Eprint + Input + AllocGlobal + RandomSource + Threads + Wait +
     options: &Options,
 ) -> ExitCode
     ensures misuse { ¬ IsSetup (setup_of options.now) → exit_status result ≡ 2 }
-    ensures runs { IsSetup (setup_of options.now) → (exit_status result ≡ 0) ⊎ (exit_status result ≡ 1) }
+    ensures runs { IsSetup (setup_of options.now) → IsRunStatus (exit_status result) }
+    ensures status { IsStatus (exit_status result) }
 {
     let Some(config) = config_of(options) else {
         return misuse(rt, "site must be below sites");
@@ -176,7 +179,8 @@ fn run_sites<R: Print + Eprint + Input + AllocGlobal + RandomSource + Threads + 
     setup: &Setup,
 ) -> ExitCode
     ensures misuse { ¬ IsWorldSetup (world_setup_of setup.now) → exit_status result ≡ 2 }
-    ensures runs { IsWorldSetup (world_setup_of setup.now) → (exit_status result ≡ 0) ⊎ (exit_status result ≡ 1) }
+    ensures runs { IsWorldSetup (world_setup_of setup.now) → IsRunStatus (exit_status result) }
+    ensures status { IsStatus (exit_status result) }
 {
     let Some(config) = world_config_of(setup) else {
         return misuse(rt, "a number isn't within its limits");
@@ -194,7 +198,8 @@ fn audit_logs<R: Print + Eprint + Input + AllocGlobal + RandomSource>(
     by_status: bool,
 ) -> ExitCode
     ensures misuse { SITES_MAX < sites → exit_status result ≡ 2 }
-    ensures runs { sites ≤ SITES_MAX → (exit_status result ≡ 0) ⊎ (exit_status result ≡ 1) }
+    ensures runs { sites ≤ SITES_MAX → IsRunStatus (exit_status result) }
+    ensures status { IsStatus (exit_status result) }
 {
     if sites > SITES_MAX {
         return misuse(rt, "there are too many sites");
@@ -230,7 +235,8 @@ fn run_waits<R: Print + Eprint + Input + AllocGlobal + RandomSource + Threads + 
     options: &LackOptions,
 ) -> ExitCode
     ensures misuse { ¬ IsSetup (setup_of (waiting_options options.now)) → exit_status result ≡ 2 }
-    ensures runs { IsSetup (setup_of (waiting_options options.now)) → (exit_status result ≡ 0) ⊎ (exit_status result ≡ 1) }
+    ensures runs { IsSetup (setup_of (waiting_options options.now)) → IsRunStatus (exit_status result) }
+    ensures status { IsStatus (exit_status result) }
 {
     let Some(config) = config_of(&waiting_options(options)) else {
         return misuse(rt, "site must be below sites");
@@ -248,7 +254,7 @@ fn run_lack<R: Print + Eprint + Input + AllocGlobal + RandomSource + Threads + W
     rt: &R,
     options: &LackOptions,
 ) -> ExitCode
-    ensures { (exit_status result ≡ 0) ⊎ (exit_status result ≡ 1) ⊎ (exit_status result ≡ 2) }
+    ensures { IsStatus (exit_status result) }
 {
     if options.waiting {
         return run_waits(rt, options);
@@ -269,6 +275,7 @@ fn grammar_of(reading: Reading) -> Grammar {
 fn end_check<R: Eprint>(rt: &R, ended: Result<Tally, RunFault>) -> ExitCode
     ensures well { IfOk ended (λ tally. exit_status result ≡ cond (tally.bad == 0) 0 1) }
     ensures fault { IfErr ended (λ fault. exit_status result ≡ 1) }
+    ensures either { IsRunStatus (exit_status result) }
 {
     match ended {
         Ok(tally) if tally.bad > 0 => ExitCode::from(NOT_WELL),
@@ -279,7 +286,7 @@ fn end_check<R: Eprint>(rt: &R, ended: Result<Tally, RunFault>) -> ExitCode
 
 // Checks records, from standard input to standard output.
 fn run_checker<R: Print + Eprint + Input + AllocGlobal>(rt: &R, options: &CheckOptions) -> ExitCode
-    ensures { (exit_status result ≡ 0) ⊎ (exit_status result ≡ 1) ⊎ (exit_status result ≡ 2) }
+    ensures { IsStatus (exit_status result) }
 {
     if options.sites > SITES_MAX {
         return misuse(rt, "there are too many sites");
@@ -301,7 +308,8 @@ fn run_checker<R: Print + Eprint + Input + AllocGlobal>(rt: &R, options: &CheckO
 // Widens logs to more sites, from standard input to standard output.
 fn run_widener<R: Print + Eprint + Input + AllocGlobal>(rt: &R, counts: &Widening) -> ExitCode
     ensures misuse { (counts.now.to < counts.now.sites) ⊎ (SITES_MAX < counts.now.to) → exit_status result ≡ 2 }
-    ensures runs { counts.now.sites ≤ counts.now.to → counts.now.to ≤ SITES_MAX → (exit_status result ≡ 0) ⊎ (exit_status result ≡ 1) }
+    ensures runs { counts.now.sites ≤ counts.now.to → counts.now.to ≤ SITES_MAX → IsRunStatus (exit_status result) }
+    ensures status { IsStatus (exit_status result) }
 {
     if counts.to < counts.sites {
         return misuse(rt, "to must not be below sites");
@@ -320,8 +328,21 @@ fn run_widener<R: Print + Eprint + Input + AllocGlobal>(rt: &R, counts: &Widenin
     end(rt, ended)
 }
 
-// Says why a site in a folder isn't run, or ended early.
-fn tell_fault<R: Eprint>(rt: &R, folder: &str, fault: &FolderFault) -> io::Result<()> {
+// What failed of a site in a folder, and why: the folder itself or a file, where that is its fault.
+fn failed_part<'a>(folder: &'a str, fault: &'a FolderFault) -> Option<(&'a str, &'a io::Error)> {
+    match fault {
+        FolderFault::Folder(e) => Some((folder, e)),
+        FolderFault::Lock(e) => Some(("lock", e)),
+        FolderFault::Setup(e) => Some(("setup", e)),
+        FolderFault::Kept(e) => Some(("open kept", e)),
+        FolderFault::Out(e) => Some(("open out", e)),
+        FolderFault::Closed(e) => Some(("write", e)),
+        _ => None,
+    }
+}
+
+// Says that something else was asked for than what the folder has, if that is so.
+fn tell_misuse<R: Eprint>(rt: &R, folder: &str, fault: &FolderFault) -> io::Result<()> {
     match fault {
         FolderFault::NotBelow => eprintln!(rt; "fault: site must be below sites"),
         FolderFault::IsOther(
@@ -337,26 +358,56 @@ fn tell_fault<R: Eprint>(rt: &R, folder: &str, fault: &FolderFault) -> io::Resul
                 "fault: {folder} has answers of version {version}: --upgrade writes them anew"
             )
         }
+        _ => Ok(()),
+    }
+}
+
+// Says why a site in a folder isn't run, or ended early.
+fn tell_fault<R: Eprint>(rt: &R, folder: &str, fault: &FolderFault) -> io::Result<()> {
+    if let Some((part, e)) = failed_part(folder, fault) {
+        return eprintln!(rt; "run fault: {part}: {e}");
+    }
+    match fault {
         FolderFault::NoSetup => eprintln!(rt; "run fault: {folder} has records, and no setup"),
         FolderFault::IsRunning => eprintln!(rt; "run fault: {folder} is running"),
-        FolderFault::Folder(e) => eprintln!(rt; "run fault: {folder}: {e}"),
-        FolderFault::Lock(e) => eprintln!(rt; "run fault: lock: {e}"),
-        FolderFault::Setup(e) => eprintln!(rt; "run fault: setup: {e}"),
-        FolderFault::Kept(e) => eprintln!(rt; "run fault: open kept: {e}"),
-        FolderFault::Out(e) => eprintln!(rt; "run fault: open out: {e}"),
-        FolderFault::Closed(e) => eprintln!(rt; "run fault: write: {e}"),
         FolderFault::Run(fault) => eprintln!(rt; "run fault: {fault}"),
+        _ => tell_misuse(rt, folder, fault),
     }
 }
 
 // The status of a site in a folder that isn't run, or ended early: that of a command line that asks for another site, or of a fault.
 fn status_of(fault: &FolderFault) -> u8
-    ensures { result ≡ status_of fault.now }
+    ensures value { result ≡ status_of fault.now }
+    ensures either { (result ≡ 1) ⊎ (result ≡ 2) }
 {
     match fault {
         FolderFault::NotBelow | FolderFault::IsOther(_) | FolderFault::IsOld(_) => MISUSE,
         _ => FAULT,
     }
+}
+
+// What is asked for of a site in a folder.
+fn wanted_of(options: &KeepOptions) -> Wanted {
+    Wanted {
+        site: options.site,
+        sites: options.sites,
+        keep: options.keep,
+        shards: options.shards,
+        workers: options.workers,
+        batch: options.batch,
+        is_synced: options.sync,
+        shortens: options.shorten,
+        upgrades: options.upgrade,
+    }
+}
+
+// Says why a site in a folder isn't run, or ended early, and by which status.
+fn fail_keep<R: Eprint>(rt: &R, folder: &str, fault: FolderFault) -> ExitCode
+    ensures value { exit_status result ≡ status_of fault }
+    ensures status { IsStatus (exit_status result) }
+{
+    let _ = tell_fault(rt, folder, &fault);
+    ExitCode::from(status_of(&fault))
 }
 
 // Runs a site in a folder.
@@ -372,30 +423,48 @@ fn run_keep<
         + Wait
         + Sync,
 >(rt: &R, options: &KeepOptions) -> ExitCode
-    ensures { (exit_status result ≡ 0) ⊎ (exit_status result ≡ 1) ⊎ (exit_status result ≡ 2) }
+    ensures { IsStatus (exit_status result) }
 {
-    let wanted = Wanted {
-        site: options.site,
-        sites: options.sites,
-        keep: options.keep,
-        shards: options.shards,
-        workers: options.workers,
-        batch: options.batch,
-        is_synced: options.sync,
-        shortens: options.shorten,
-        upgrades: options.upgrade,
-    };
     let folder = options.folder.as_str();
-    match keep_folder(rt, folder, &wanted) {
+    match keep_folder(rt, folder, &wanted_of(options)) {
         Ok(()) => ExitCode::SUCCESS,
-        Err(fault) => {
-            let _ = tell_fault(rt, folder, &fault);
-            ExitCode::from(status_of(&fault))
-        }
+        Err(fault) => fail_keep(rt, folder, fault),
+    }
+}
+
+// Runs what is asked for.
+fn obey<
+    R: Files<File = File>
+        + Clock
+        + Print
+        + Eprint
+        + Input
+        + AllocGlobal
+        + RandomSource
+        + Threads
+        + Wait
+        + Sync,
+>(rt: &R, asked: &Invocation) -> ExitCode
+    ensures { IsStatus (exit_status result) }
+{
+    match asked {
+        Invocation::Site(options) => run(rt, options),
+        Invocation::World(setup) => run_sites(rt, setup),
+        Invocation::Audit(options) => audit_logs(
+            rt,
+            options.sites,
+            Question::Agreement,
+            options.status,
+        ),
+        Invocation::Lack(options) => run_lack(rt, options),
+        Invocation::Check(options) => run_checker(rt, options),
+        Invocation::Widen(counts) => run_widener(rt, counts),
+        Invocation::Keep(options) => run_keep(rt, options),
     }
 }
 
 // Does what the words of the command line ask for.
+#[tactic(auto, using(crate::proofs::Reasons::status_of_run))]
 fn start<
     R: Files<File = File>
         + Clock
@@ -411,18 +480,7 @@ fn start<
     ensures { IsStatusOf (map string_bytes words.now) (exit_status result) }
 {
     match read_options(rt.alloc(), words) {
-        Ok(Invocation::Site(options)) => run(rt, &options),
-        Ok(Invocation::World(setup)) => run_sites(rt, &setup),
-        Ok(Invocation::Audit(options)) => audit_logs(
-            rt,
-            options.sites,
-            Question::Agreement,
-            options.status,
-        ),
-        Ok(Invocation::Lack(options)) => run_lack(rt, &options),
-        Ok(Invocation::Check(options)) => run_checker(rt, &options),
-        Ok(Invocation::Widen(counts)) => run_widener(rt, &counts),
-        Ok(Invocation::Keep(options)) => run_keep(rt, &options),
+        Ok(asked) => obey(rt, &asked),
         Err(OptionFault::Memory) => fail(rt, RunFault::Memory),
         Err(OptionFault::Words(error)) => tell(rt, &error),
     }

@@ -184,19 +184,22 @@ pub record AreKeepOptionsIn (rows : List Row) (o : KeepOptions) : Type 0 where
   pub shorten : IsFlag (one_of (codes "shorten") rows) o.shorten
   pub upgrade : IsFlag (one_of (codes "upgrade") rows) o.upgrade
 
--- what the words of a command line ask for: an audit, what logs lack or what waits, a check, several sites, a widening or a site that keeps its records
--- where that is the command, or else a site, with the options that stand after the command
+-- what a command of this name asks for, with what stands after it: an audit, what logs lack or what waits, a check, several sites, a widening
+-- or a site that keeps its records where that is the name, or else a site
+abbrev pub IsNamed : Text → List Row → Invocation → Type 0
+IsNamed name rows (Audit options) = (name ≡ codes "audit") × AreAuditOptionsIn rows options
+IsNamed name rows (Lack options) = (name ≡ codes "lack") × AreLackOptionsIn rows options
+IsNamed name rows (Check options) = (name ≡ codes "check") × AreCheckOptionsIn rows options
+IsNamed name rows (World setup) = (name ≡ codes "world") × IsSetupIn rows setup
+IsNamed name rows (Widen counts) = (name ≡ codes "widen") × AreCountsIn rows counts
+IsNamed name rows (Keep options) = (name ≡ codes "keep") × AreKeepOptionsIn rows options
+IsNamed name rows (Site options) =
+    (name ≢ codes "audit") × (name ≢ codes "world") × (name ≢ codes "widen") × (name ≢ codes "keep") × (name ≢ codes "lack")
+    × (name ≢ codes "check") × AreOptionsIn rows options
+
+-- what the words of a command line ask for: what their command asks for, with the options that stand after it
 abbrev pub IsAsked : List Text → Invocation → Type 0
-IsAsked words (Audit options) = (rows : List Row) × (subcommand_of command_line words ≡ Some (codes "audit", rows)) × AreAuditOptionsIn rows options
-IsAsked words (Lack options) = (rows : List Row) × (subcommand_of command_line words ≡ Some (codes "lack", rows)) × AreLackOptionsIn rows options
-IsAsked words (Check options) = (rows : List Row) × (subcommand_of command_line words ≡ Some (codes "check", rows)) × AreCheckOptionsIn rows options
-IsAsked words (World setup) = (rows : List Row) × (subcommand_of command_line words ≡ Some (codes "world", rows)) × IsSetupIn rows setup
-IsAsked words (Widen counts) = (rows : List Row) × (subcommand_of command_line words ≡ Some (codes "widen", rows)) × AreCountsIn rows counts
-IsAsked words (Keep options) = (rows : List Row) × (subcommand_of command_line words ≡ Some (codes "keep", rows)) × AreKeepOptionsIn rows options
-IsAsked words (Site options) =
-    (name : Text) × (rows : List Row) × (subcommand_of command_line words ≡ Some (name, rows)) × (name ≢ codes "audit") × (name ≢ codes "world")
-    × (name ≢ codes "widen") × (name ≢ codes "keep") × (name ≢ codes "lack") × (name ≢ codes "check")
-    × AreOptionsIn rows options
+IsAsked words asked = (name : Text) × (rows : List Row) × (subcommand_of command_line words ≡ Some (name, rows)) × IsNamed name rows asked
 
 -- what an error of `clap` is called here
 abbrev pub fault_by : ErrorKind → Error → OptionFault

@@ -4,7 +4,7 @@ ghost use Rattle.std.specs.Prelude.{◌≡◌, false, [], Some, codes, map, stri
 ghost use Rattle.rubis_schema.specs.declared.limits.TheConstants.{SITES_MAX};
 ghost use Rattle.clap.specs.Words.{app_of, fault_of, first_of, found_of, new_app, one_of, rows_of, rule_of};
 ghost use Rattle.rubis_cli.specs.CommandLine.{AreAuditOptionsIn, AreCheckOptionsIn, AreCountsIn, AreLackOptionsIn, AreOptionsIn, IsAsked};
-ghost use Rattle.rubis_cli.specs.CommandLine.{IsFaultAmong, IsNumberOf, IsReading, IsSetupIn, audit_command, check_command, command_line};
+ghost use Rattle.rubis_cli.specs.CommandLine.{IsFaultAmong, IsNamed, IsNumberOf, IsReading, IsSetupIn, audit_command, check_command, command_line};
 ghost use Rattle.rubis_cli.specs.CommandLine.{described, given_option, keep_option, lack_command, number_option, option_named};
 ghost use Rattle.rubis_cli.specs.CommandLine.{program_alone, reading_named, reading_option, site_command, site_option, widen_command};
 ghost use Rattle.rubis_cli.specs.CommandLine.{with_input, with_setup, with_work, world_command};
@@ -498,6 +498,27 @@ fn check_options(matches: &ArgMatches<'_>) -> CheckOptions
     }
 }
 
+// What a command of this name asks for, with the options that stand after it.
+fn asked_of(alloc: Global, name: &str, options: &ArgMatches<'_>) -> Result<Invocation, AllocError>
+    ensures { IfOk result (IsNamed name.now (rows_of (found_of options.now))) }
+{
+    Ok(if name == "audit" {
+        Invocation::Audit(audit_options(options))
+    } else if name == "world" {
+        Invocation::World(read_setup(options))
+    } else if name == "widen" {
+        Invocation::Widen(counts(options))
+    } else if name == "keep" {
+        Invocation::Keep(read_keep(alloc, options)?)
+    } else if name == "lack" {
+        Invocation::Lack(lack_options(options))
+    } else if name == "check" {
+        Invocation::Check(check_options(options))
+    } else {
+        Invocation::Site(site_options(options))
+    })
+}
+
 /// What the words of a command line, the program's name first, ask for. If they are refused, it is for one of the
 /// reasons that this command line has to refuse them, or because memory ran out.
 pub fn read_options(alloc: Global, words: &[String]) -> Result<Invocation, OptionFault>
@@ -507,23 +528,7 @@ pub fn read_options(alloc: Global, words: &[String]) -> Result<Invocation, Optio
 {
     let matches = program(alloc)?.try_get_matches_from(words)?;
     match matches.subcommand() {
-        Some((name, inner)) => {
-            if name == "audit" {
-                Ok(Invocation::Audit(audit_options(inner)))
-            } else if name == "world" {
-                Ok(Invocation::World(read_setup(inner)))
-            } else if name == "widen" {
-                Ok(Invocation::Widen(counts(inner)))
-            } else if name == "keep" {
-                Ok(Invocation::Keep(read_keep(alloc, inner)?))
-            } else if name == "lack" {
-                Ok(Invocation::Lack(lack_options(inner)))
-            } else if name == "check" {
-                Ok(Invocation::Check(check_options(inner)))
-            } else {
-                Ok(Invocation::Site(site_options(inner)))
-            }
-        }
+        Some((name, options)) => Ok(asked_of(alloc, name, options)?),
         None => unreachable!(),
     }
 }
