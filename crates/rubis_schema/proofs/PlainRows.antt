@@ -6,7 +6,7 @@ use Rattle.std.proofs.lemmas.Bool.{both_ways, not-true, or_parts}
 use Rattle.std.proofs.lemmas.List.{append-nil}
 use Rattle.std.proofs.lemmas.List.Folds.{list_any-append}
 use Rattle.rubis_schema.specs.FieldList.{all_plain, comma, is_mark, is_plain, joined}
-use Rattle.rubis_schema.specs.PlainRows.{Cut, IsPlainText, PlainRow, cut, cut_more, fields_in, plain_row}
+use Rattle.rubis_schema.specs.PlainRows.{TextFields, IsPlainText, PlainRow, text_fields, with_byte, fields_in, row_of_text}
 
 -- a byte that calls for no quotes is no comma
 no_comma : (b : ℕ) → is_mark b ≡ false → (b == comma) ≡ false
@@ -27,24 +27,24 @@ both_parts true b h = (refl, h)
 both_parts false b h = absurd (both_ways false refl h)
 
 -- bytes that call for no quotes, in front of a text
-cut_front : (f text : List ℕ) → is_plain f ≡ true → cut (f ++ text) ≡ record { front = f ++ (cut text).front; fields = (cut text).fields }
-cut_front [] text h = refl
-cut_front (b ∷ f) text h =
-    rw (cut_front f text (plain_rest b f h), no_comma b (plain_first b f h)) refl
+fields_front : (f text : List ℕ) → is_plain f ≡ true → text_fields (f ++ text) ≡ record { front = f ++ (text_fields text).front; fields = (text_fields text).fields }
+fields_front [] text h = refl
+fields_front (b ∷ f) text h =
+    rw (fields_front f text (plain_rest b f h), no_comma b (plain_first b f h)) refl
 
 -- the text of fields has these fields
-cut_joined : (fields : List (List ℕ)) → all_plain fields ≡ true → cut (joined fields) ≡ record { front = []; fields = fields }
-cut_joined [] h = refl
-cut_joined (f ∷ fs) h =
+fields_joined : (fields : List (List ℕ)) → all_plain fields ≡ true → text_fields (joined fields) ≡ record { front = []; fields = fields }
+fields_joined [] h = refl
+fields_joined (f ∷ fs) h =
     let parts = both_parts (is_plain f) (all_plain fs) h in
-    let rest = cut_front f (joined fs) parts.0 in
-    rw (rest, cut_joined fs parts.1, append-nil f) refl
+    let rest = fields_front f (joined fs) parts.0 in
+    rw (rest, fields_joined fs parts.1, append-nil f) refl
 
 -- a text of such fields
 plain_text : (size : ℕ) (text : List ℕ) (fields : List (List ℕ)) → text ≡ joined fields → all_plain fields ≡ true → length text ≤ size
     → IsPlainText size text × (fields_in text ≡ fields)
 plain_text size text fields e plain fits =
-    let same : fields_in text ≡ fields = ap fields_in e ∙ ap (λ c. c.fields) (cut_joined fields plain) in
+    let same : fields_in text ≡ fields = ap fields_in e ∙ ap (λ c. c.fields) (fields_joined fields plain) in
     (record { fits = fits; text = e ∙ ap joined (sym same); plain = rw same plain }, same)
 
 -- one more field in front
@@ -67,7 +67,7 @@ more_in_first size text more field fields h e plain fits =
     (omega (arith, size_of, ap (λ t. length (drop 1 t)) old, length-append more (drop 1 text), fits))
 
 -- a row with one more field in front
-pub row_with_one_more : (size : ℕ) (row : PlainRow) (text new field : List ℕ) → plain_row size text ≡ row → IsPlainText size text → is_plain field ≡ true
+pub row_with_one_more : (size : ℕ) (row : PlainRow) (text new field : List ℕ) → row_of_text size text ≡ row → IsPlainText size text → is_plain field ≡ true
     → length field + 1 ≤ row.left → new ≡ comma ∷ field ++ text → IsPlainText size new × (fields_in new ≡ field ∷ row.fields)
 row_with_one_more size row text new field is h plain room e =
     let left : size - length text ≡ row.left = ap (λ (r : PlainRow). r.left) is in
@@ -75,7 +75,7 @@ row_with_one_more size row text new field is h plain room e =
     rw (e, ← fields) (one_more size text field h plain (omega (arith, left, room, h.fits)))
 
 -- a row whose first field has more in front
-pub row_with_more_in_first : (size : ℕ) (row : PlainRow) (text new more : List ℕ) → plain_row size text ≡ row → IsPlainText size text → is_plain more ≡ true
+pub row_with_more_in_first : (size : ℕ) (row : PlainRow) (text new more : List ℕ) → row_of_text size text ≡ row → IsPlainText size text → is_plain more ≡ true
     → length more ≤ row.left → new ≡ comma ∷ more ++ drop 1 text → (f : List ℕ) (fs : List (List ℕ)) → row.fields ≡ f ∷ fs
     → IsPlainText size new × (fields_in new ≡ (more ++ f) ∷ fs)
 row_with_more_in_first size row text new more is h plain room e f fs first =
@@ -84,7 +84,7 @@ row_with_more_in_first size row text new more is h plain room e f fs first =
     rw e (more_in_first size text more f fs h (fields ∙ first) plain (omega (arith, left, room, h.fits)))
 
 -- such a row, whichever its fields are
-pub some_more_in_first : (size : ℕ) (row : PlainRow) (text new more : List ℕ) → plain_row size text ≡ row → IsPlainText size text → is_plain more ≡ true
+pub some_more_in_first : (size : ℕ) (row : PlainRow) (text new more : List ℕ) → row_of_text size text ≡ row → IsPlainText size text → is_plain more ≡ true
     → length more ≤ row.left → new ≡ comma ∷ more ++ drop 1 text → (fields : List (List ℕ)) → row.fields ≡ fields → 0 < length fields → IsPlainText size new
 some_more_in_first size row text new more is h plain room e [] first some = absurd (omega (arith, some))
 some_more_in_first size row text new more is h plain room e (f ∷ fs) first some = (row_with_more_in_first size row text new more is h plain room e f fs first).0

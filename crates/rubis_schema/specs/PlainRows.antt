@@ -1,5 +1,5 @@
 -- A row of fields that call for no quotes, written from its last field to its first.
-use Rattle.std.specs.Prelude.{◌≡◌, ◌==◌, ◌-◌, ◌≤◌, ℕ, Bool, true, cond, List, [], ◌∷◌, length}
+use Rattle.std.specs.Prelude.{◌≡◌, ◌==◌, ◌-◌, ◌≤◌, ℕ, true, cond, List, [], ◌∷◌, length}
 use Rattle.rubis_schema.specs.FieldList.{all_plain, comma, joined}
 
 -- the fields, and how many bytes there is still room for, where each field takes a comma besides
@@ -8,21 +8,22 @@ pub record PlainRow : Type 0 where
   pub left : ℕ
 
 -- what stands before the first comma of a text, and after it the fields between commas
-pub record Cut : Type 0 where
+pub record TextFields : Type 0 where
   pub front : List ℕ
   pub fields : List (List ℕ)
 
 -- a byte more in front: a comma ends what stood there as a field
-abbrev pub cut_more : ℕ → Cut → Cut
-cut_more b c = cond (b == comma) (record { front = []; fields = c.front ∷ c.fields }) (record { front = b ∷ c.front; fields = c.fields })
+abbrev pub with_byte : ℕ → TextFields → TextFields
+with_byte b c = cond (b == comma) (record { front = []; fields = c.front ∷ c.fields }) (record { front = b ∷ c.front; fields = c.fields })
 
-abbrev pub cut : List ℕ → Cut
-cut [] = record { front = []; fields = [] }
-cut (b ∷ text) = cut_more b (cut text)
+-- a text, read from its last byte to its first
+abbrev pub text_fields : List ℕ → TextFields
+text_fields [] = record { front = []; fields = [] }
+text_fields (b ∷ text) = with_byte b (text_fields text)
 
 -- the fields of a text in which each has a comma before it
 abbrev pub fields_in : List ℕ → List (List ℕ)
-fields_in text = (cut text).fields
+fields_in text = (text_fields text).fields
 
 -- `size` bytes at most, which have fields that call for no quotes, with a comma before each, and nothing else
 pub record IsPlainText (size : ℕ) (bytes : List ℕ) : Type 0 where
@@ -30,5 +31,6 @@ pub record IsPlainText (size : ℕ) (bytes : List ℕ) : Type 0 where
   pub text : bytes ≡ joined (fields_in bytes)
   pub plain : all_plain (fields_in bytes) ≡ true
 
-abbrev pub plain_row : ℕ → List ℕ → PlainRow
-plain_row size text = record { fields = fields_in text; left = size - length text }
+-- a row of at most `size` bytes that stands in this text
+abbrev pub row_of_text : ℕ → List ℕ → PlainRow
+row_of_text size text = record { fields = fields_in text; left = size - length text }

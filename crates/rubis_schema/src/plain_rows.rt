@@ -20,12 +20,12 @@ pub struct PlainRow {
 
 impl Model for PlainRow {
     ghost use Rattle.rubis_schema.specs.PlainRows as model;
-    ghost use Rattle.rubis_schema.specs.PlainRows.{IsPlainText, plain_row};
+    ghost use Rattle.rubis_schema.specs.PlainRows.{IsPlainText, row_of_text};
     ghost use Rattle.rubis_schema.specs.declared.limits.TheConstants.{PLAIN_ROW_MAX};
 
     ghost Value = { model.PlainRow };
 
-    ghost view = { λ r. plain_row PLAIN_ROW_MAX r.text };
+    ghost view = { λ r. row_of_text PLAIN_ROW_MAX r.text };
 
     ghost invariant = { λ r. IsPlainText PLAIN_ROW_MAX r.text };
 }
