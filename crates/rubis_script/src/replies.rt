@@ -1,6 +1,6 @@
 //! The records that answer a record.
 
-ghost use Rattle.std.specs.Prelude.{◌≡◌, ◌≤◌, ◌∷◌, ◌++◌, [], ℕ, List, Ok, OnOk, codes, decimal, length, true};
+ghost use Rattle.std.specs.Prelude.{◌≡◌, ◌≤◌, ◌+◌, ◌∷◌, ◌++◌, [], ℕ, List, Ok, OnOk, codes, decimal, length, true};
 ghost use Rattle.rubis_message.specs.Grammar.{message_record};
 ghost use Rattle.rubis_message.specs.declared.answers.Arrival.TheVariants.{Released};
 ghost use Rattle.rubis_schema.specs.FieldList.{is_plain};
