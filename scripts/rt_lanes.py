@@ -99,7 +99,9 @@ class Lanes:
         needs = self.tasks[key][2]
         busy = [(self.tasks[it][2], jobs) for it, jobs in self.running.items() if not self.is_nothing(it)]
         room = self.memory - sum(taken(*it) for it in busy)
-        if busy and (sum(jobs for _, jobs in busy) >= CROWDED * self.processors or taken(needs, 1) > room):
+        # A proof waits for no wrong body.
+        crowd = sum(jobs for it, jobs in self.running.items() if not self.is_nothing(it) and (fills(key) or not fills(it)))
+        if busy and (crowd >= CROWDED * self.processors or taken(needs, 1) > room):
             return 0
         if fills(key):
             return 1
