@@ -1,6 +1,6 @@
 -- A message is taken out of its slot, and the slots that are left empty go.
-use Rattle.std.proofs.Common.{◌≡◌, ℕ, zero, suc, ◌+◌, ◌<◌, ◌≤◌, ◌||◌, Bool, true, false, cond, List, [], ◌∷◌, ◌++◌, length, get_or, refl, sym, ap, ◌∙◌, subst, inl, inr, arith, length-append}
-use Rattle.std.specs.Prelude.{Option, None, Some, filter, is_some, slice_get, ◌⊎◌}
+use Rattle.std.proofs.Common.{◌≡◌, ℕ, zero, suc, ◌+◌, ◌-◌, ◌<◌, ◌≤◌, ◌||◌, Bool, true, false, cond, List, [], ◌∷◌, ◌++◌, length, get_or, refl, sym, ap, ◌∙◌, subst, inl, inr, arith, length-append, length-take}
+use Rattle.std.specs.Prelude.{Option, None, Some, filter, is_some, slice_get, take, ◌⊎◌}
 use Rattle.std.specs.List.{remove, AllByRecursion, IsDistinct, list_any}
 use Rattle.std.proofs.lemmas.List.{get_or_append_left, get_or_at, nil_from_length}
 use Rattle.indexmap.specs.IndexMap.{insert_entry, set_value_at}
@@ -223,6 +223,36 @@ few_somes (e ∷ es) = by e.1 (few_somes es)
     by : (v : Option Message) → length (somes es) ≤ length es → length (put_some v (somes es)) ≤ suc (length es)
     by None l = omega (arith, l)
     by (Some m) l = omega (arith, l)
+
+-- without its last slot, which is empty, a list of slots has the same messages
+front_same : (es : Slots) (n : ℕ) (k : Id) → length es ≡ n + 1 → slice_get es n ≡ Some (k, None) → somes (take n es) ≡ somes es
+front_same [] n k long there = absurd (omega (arith, long))
+front_same (e ∷ []) zero k long there = let same : e ≡ (k, None) = cc in ap (λ (x : Id × Option Message). put_some x.1 []) (sym same)
+front_same (e ∷ f ∷ es) zero k long there = absurd (omega (arith, long))
+front_same (e ∷ es) (suc n) k long there = ap (put_some e.1) (front_same es n k (omega (arith, long)) there)
+
+front_own : (es : Slots) (n : ℕ) → HaveTheirIds es → HaveTheirIds (take n es)
+front_own es zero own = tt
+front_own [] (suc n) own = tt
+front_own (e ∷ es) (suc n) own = (own.0, front_own es n own.1)
+
+-- and one that is empty less
+pub without_last : (es fs : Slots) (n gone : ℕ) (k : Id) → length es ≡ n + 1 → slice_get es n ≡ Some (k, None) → fs ≡ take n es → AreApart fs
+    → AreSlots es gone → (somes fs ≡ somes es) × (1 ≤ gone) × AreSlots fs (gone - 1)
+without_last es fs n gone k long there front apart slots =
+    let same = ap somes front ∙ front_same es n k long there in
+    let many = ap length same in
+    let few = few_somes fs in
+    let left = ap length front ∙ length-take n es in
+    let all = slots.gone in (
+      same,
+      omega (arith, many, few, left, long, all),
+      record {
+        own = subst HaveTheirIds (sym front) (front_own es n slots.own);
+        apart = apart;
+        gone = omega (arith, many, few, left, long, all);
+      },
+    )
 
 pub full_lookup : (t : Id → Bool) (es : Slots) → length (somes es) ≡ length es → is_there (lookup t es) ≡ false → lookup t es ≡ None
 full_lookup t [] full none = refl

@@ -118,11 +118,12 @@ impl Waiting {
         Some(message)
     }
 
-    // Closes the gaps where they are more than half of the slots.
+    // Closes a gap at the end, and all gaps where they are more than half of the slots.
     #[inline(always)]
     fn close_many_gaps(&mut self)
         ensures { self.new ≡ self.old }
     {
+        self.gone = drop_last(&mut self.slots, self.gone);
         if self.gone > self.slots.len() / 2 {
             self.close_gaps();
         }
@@ -167,7 +168,8 @@ fn has_message(slots: &IndexMap<Id, Option<Message>, KeyHashes>, id: &Id) -> boo
     }
 }
 
-// Lets an empty slot of that id go, with all others. Answers how many empty slots there are.
+// Lets an empty slot of that id go, with all others. Answers how many empty slots there are. Where there is none, it isn't
+// looked for.
 fn make_place(slots: &mut IndexMap<Id, Option<Message>, KeyHashes>, gone: usize, id: &Id) -> usize
     requires none { list_any (λ m. same_id id.now m.stamp.id) (somes slots.old.entries) ≡ false }
     requires slots { AreSlots slots.old.entries gone }
@@ -175,12 +177,29 @@ fn make_place(slots: &mut IndexMap<Id, Option<Message>, KeyHashes>, gone: usize,
     ensures slots { AreSlots slots.new.entries result }
     ensures absent { get same_id slots.new id.now ≡ None }
 {
+    if gone == 0 {
+        return gone;
+    }
     if !slots.contains_key(id) {
         return gone;
     }
     let none = gone == slots.len();
     close(slots, none);
     0
+}
+
+// Lets the last slot go, if it is empty. Answers how many empty slots there are.
+#[inline(always)]
+fn drop_last(slots: &mut IndexMap<Id, Option<Message>, KeyHashes>, gone: usize) -> usize
+    requires { AreSlots slots.old.entries gone }
+    ensures same { somes slots.new.entries ≡ somes slots.old.entries }
+    ensures slots { AreSlots slots.new.entries result }
+{
+    let Some((_id, None)) = slots.last() else {
+        return gone;
+    };
+    slots.truncate(slots.len() - 1);
+    gone - 1
 }
 
 // Gives room back where there is much more than is used.

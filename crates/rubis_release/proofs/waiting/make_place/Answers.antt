@@ -1,4 +1,4 @@
-use Rattle.std.proofs.Common.{sym, ap, ◌∙◌, arith}
+use Rattle.std.proofs.Common.{◌≡◌, length, sym, ap, ◌∙◌, arith}
 use Rattle.std.specs.List.{list_any}
 use Rattle.std.proofs.lemmas.Bool.Decides.{Decides-eqb}
 use Rattle.std.proofs.lemmas.List.{nil_from_length}
@@ -7,6 +7,13 @@ use Rattle.rubis_message.specs.Message.{Message}
 use Rattle.rubis_release.specs.Waiting.{somes}
 use Rattle.rubis_release.proofs.Gaps.{has_told, full_lookup, none_is}
 use Rattle.rubis_release.proofs.waiting.make_place.Goals as goal
+
+pub returns-then-gone-eq0-clause-absent : goal.returns-then-gone-eq0-clause-absent
+returns-then-gone-eq0-clause-absent c =
+    let es = c.args.slots.now.entries in
+    let full : length (somes es) ≡ length es = omega (arith, c.requires.slots.gone, c.if-gone-eq0.true) in
+    full_lookup (same_id c.args.id.now) es full
+    (has_told es c.args.id.now c.requires.slots.own c.requires.slots.apart ∙ c.requires.none)
 
 pub returns-then-not-contains_key-clause-absent : goal.returns-then-not-contains_key-clause-absent
 returns-then-not-contains_key-clause-absent c = none_is _ (sym c.contains_key.ensures ∙ c.if-not-contains_key.true)
