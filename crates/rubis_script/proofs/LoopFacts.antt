@@ -28,7 +28,7 @@ use Rattle.rubis_engine.specs.Progress.{WrotePrefix}
 use Rattle.rubis_engine.specs.declared.fault.Count.{Count}
 use Rattle.rubis_engine.specs.declared.fault.RunFault.{RunFault}
 use Rattle.rubis_engine.specs.declared.fault.RunFault.TheVariants as fault
-use Rattle.rubis_script.specs.Runs.{HasReadAhead, IsSound, OfEachAhead, Stands, StandsWith}
+use Rattle.rubis_script.specs.Runs.{AnswersAllAhead, AnswersFirstAhead, AnswersJustAhead, HasReadAhead, IsSound, Stands, StandsWith, WritesPrefixAhead}
 use Rattle.std.specs.Prelude.{IfOk, IfSome, OnOk, IsErrOf, Result, Ok, Err, Some, None}
 use Rattle.rubis_script.specs.declared.backlog.Backlog.{Backlog}
 use Rattle.rubis_script.specs.declared.plan.Plan.{Plan}
@@ -274,10 +274,10 @@ pub ends_ahead : {R : Type 0} (rem : R → Option (List ℕ)) (chunks : Chunks R
     (input old now : Option (List ℕ)) (result : Result Count RunFault)
     → IfSome input (λ bytes. HasPending rem chunks (input_records bytes))
     → ((bytes : List ℕ) → HasPending rem chunks (input_records bytes) → HasReadAhead rem chunks s b s old old bytes)
-    → IfOk result (λ count. OfEachAhead rem chunks s b old (λ first old bytes. AnswersAll limit first new old now (input_records bytes) count.records))
-    → (IsErrOf result fault.TooLong → OfEachAhead rem chunks s b old (λ first old bytes. AnswersFirst limit first new old now (input_records bytes)))
-    → (IsErrOf result fault.Read → OfEachAhead rem chunks s b old (λ first old bytes. AnswersJust answered first new old now (input_records bytes)))
-    → (IsErrOf result fault.Memory → OfEachAhead rem chunks s b old (λ first old bytes. WrotePrefix ((told_by first 1).text AtEnd) old now (input_records bytes)))
+    → IfOk result (λ count. AnswersAllAhead limit rem chunks s b old new now count)
+    → (IsErrOf result fault.TooLong → AnswersFirstAhead limit rem chunks s b old new now)
+    → (IsErrOf result fault.Read → AnswersJustAhead answered rem chunks s b old new now)
+    → (IsErrOf result fault.Memory → WritesPrefixAhead rem chunks s b old now)
     → IfSome input (λ bytes. SiteEnds limit s new old now (input_records bytes) result)
 ends_ahead rem chunks s b new limit answered None old now result pending starts done long cut prefix = tt
 ends_ahead rem chunks s b new limit answered (Some bytes) old now (Ok count) pending starts done long cut prefix = done s old bytes (starts bytes pending)

@@ -97,6 +97,24 @@ abbrev pub OfEachSiteRun : {R : Type 0} → (R → Option (List ℕ)) → Run R 
 OfEachSiteRun rem run s held now holds = (first : SiteState) (old : Option (List ℕ)) (input : List ℕ)
     → StandsAtSite rem run s held first old now input → holds first old input
 
+-- every run that stands there has answered what was answered or held then, and that is all of its input
+abbrev pub AnsweredAll : {R : Type 0} → (R → Option (List ℕ)) → Run R → SiteState → List Message → Option (List ℕ)
+    → SiteState → Option (List ℕ) → Count → Type 0
+AnsweredAll rem run s held before new after count = OfEachSiteRun rem run s held before (λ first old input.
+    AnswersAll run.answered first new old after (input_records input) count.records)
+
+-- the same, where its input has more
+abbrev pub AnsweredFirst : {R : Type 0} → (R → Option (List ℕ)) → Run R → SiteState → List Message → Option (List ℕ)
+    → SiteState → Option (List ℕ) → Type 0
+AnsweredFirst rem run s held before new after = OfEachSiteRun rem run s held before (λ first old input.
+    AnswersFirst run.answered first new old after (input_records input))
+
+-- the same, where its input may have more
+abbrev pub AnsweredJust : {R : Type 0} → (R → Option (List ℕ)) → Run R → SiteState → List Message → Option (List ℕ)
+    → SiteState → Option (List ℕ) → Type 0
+AnsweredJust rem run s held before new after = OfEachSiteRun rem run s held before (λ first old input.
+    AnswersJust run.answered first new old after (input_records input))
+
 -- after one record more it stands there, or all are answered
 abbrev pub HasMovedSite : {R : Type 0} → (R → Option (List ℕ)) → Run R → Run R → SiteState → List Message → SiteState → List Message
     → Option (List ℕ) → Option (List ℕ) → Option Count → Type 0

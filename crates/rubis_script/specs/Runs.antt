@@ -1,14 +1,15 @@
 -- A run that reads ahead, at the desk of a site.
-use Rattle.std.specs.Prelude.{◌+◌, ◌++◌, ◌∷◌, [], ℕ, All, List, None, Option, Some}
+use Rattle.std.specs.Prelude.{◌+◌, ◌++◌, ◌∷◌, [], ℕ, All, List, MatchOption, None, Option, Some}
 use Rattle.rubis_schema.specs.declared.listings.Listing.{Listing}
 use Rattle.rubis_message.specs.Message.{Message}
 use Rattle.rubis_message.specs.declared.requests.Request.TheVariants as request
-use Rattle.rubis_script.specs.Headline.{HasLed}
+use Rattle.rubis_script.specs.Headline.{AnswersAll, AnswersFirst, AnswersJust, HasLed}
 use Rattle.rubis_script.specs.SiteRuns.{told_by}
 use Rattle.rubis_script.specs.Windows.{AreHeld, FitPlan, held_by}
 use Rattle.rubis_engine.specs.Accounts.Ending.{AtEnd}
 use Rattle.rubis_engine.specs.Progress.{WrotePrefix}
 use Rattle.rubis_engine.specs.Text.{input_records}
+use Rattle.rubis_engine.specs.declared.fault.Count.{Count}
 use Rattle.rubis_reading.specs.Chunked.{HasPending}
 use Rattle.rubis_reading.specs.Parsed.{FitsIn}
 use Rattle.rubis_reading.specs.Runs.{FitWindow, flat}
@@ -64,6 +65,42 @@ abbrev pub OfEachAhead : {R : Type 0} → (R → Option (List ℕ)) → Chunks R
     → (SiteState → Option (List ℕ) → List ℕ → Type 0) → Type 0
 OfEachAhead rem chunks s b now holds = (first : SiteState) (old : Option (List ℕ)) (input : List ℕ) → HasReadAhead rem chunks s b first old now input
     → holds first old input
+
+-- every run that stands there has come to stand here: `before` was written then, and `after` is now
+abbrev pub ReadsOn : {R : Type 0} → (R → Option (List ℕ)) → Chunks R → SiteState → Backlog → Option (List ℕ)
+    → Chunks R → SiteState → Backlog → Option (List ℕ) → Type 0
+ReadsOn rem chunks s b before chunks2 s2 b2 after =
+    OfEachAhead rem chunks s b before (λ first old input. HasReadAhead rem chunks2 s2 b2 first old after input)
+
+-- every run that stands there has answered all records, at most `limit`
+abbrev pub AnswersAllAhead : {R : Type 0} → ℕ → (R → Option (List ℕ)) → Chunks R → SiteState → Backlog → Option (List ℕ)
+    → SiteState → Option (List ℕ) → Count → Type 0
+AnswersAllAhead limit rem chunks s b before new after count =
+    OfEachAhead rem chunks s b before (λ first old input. AnswersAll limit first new old after (input_records input) count.records)
+
+-- every run that stands there has come to stand here, or has answered all records, at most `limit`
+abbrev pub ReadsOnOrEnds : {R : Type 0} → ℕ → (R → Option (List ℕ)) → Chunks R → SiteState → Backlog → Option (List ℕ)
+    → Chunks R → SiteState → Backlog → Option (List ℕ) → Option Count → Type 0
+ReadsOnOrEnds limit rem chunks s b before chunks2 s2 b2 after over = OfEachAhead rem chunks s b before (λ first old input.
+    MatchOption over (HasReadAhead rem chunks2 s2 b2 first old after input)
+    (λ count. AnswersAll limit first s2 old after (input_records input) count.records))
+
+-- every run that stands there has answered the first `limit` records, and there are more
+abbrev pub AnswersFirstAhead : {R : Type 0} → ℕ → (R → Option (List ℕ)) → Chunks R → SiteState → Backlog → Option (List ℕ)
+    → SiteState → Option (List ℕ) → Type 0
+AnswersFirstAhead limit rem chunks s b before new after =
+    OfEachAhead rem chunks s b before (λ first old input. AnswersFirst limit first new old after (input_records input))
+
+-- every run that stands there has answered just the first n records
+abbrev pub AnswersJustAhead : {R : Type 0} → ℕ → (R → Option (List ℕ)) → Chunks R → SiteState → Backlog → Option (List ℕ)
+    → SiteState → Option (List ℕ) → Type 0
+AnswersJustAhead n rem chunks s b before new after =
+    OfEachAhead rem chunks s b before (λ first old input. AnswersJust n first new old after (input_records input))
+
+-- every run that stands there has written a prefix of its text
+abbrev pub WritesPrefixAhead : {R : Type 0} → (R → Option (List ℕ)) → Chunks R → SiteState → Backlog → Option (List ℕ) → Option (List ℕ) → Type 0
+WritesPrefixAhead rem chunks s b before after =
+    OfEachAhead rem chunks s b before (λ first old input. WrotePrefix ((told_by first 1).text AtEnd) old after (input_records input))
 
 -- ---- a listing that is written out while it is made, at which reading and answering at once stops
 

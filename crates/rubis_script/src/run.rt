@@ -1,14 +1,14 @@
 //! A run of a site that reads ahead.
 
-ghost use Rattle.std.specs.Prelude.{◌≡◌, ◌≤◌, ◌<◌, ◌+◌, ◌^◌, ◌⊎◌, [], List, ℕ, Option, IfErr, IfNone, IfOk, IfSome, IsErrOf, MatchOption};
+ghost use Rattle.std.specs.Prelude.{◌≡◌, ◌≤◌, ◌<◌, ◌+◌, ◌^◌, ◌⊎◌, [], List, ℕ, Option, IfErr, IfNone, IfOk, IfSome, IsErrOf};
 ghost use Rattle.std.specs.Prelude.{None, OnOk, length, take};
 ghost use Rattle.rubis_model.specs.Site.{opening_at};
 ghost use Rattle.rubis_replica.specs.State.{SiteState};
-ghost use Rattle.rubis_script.specs.Headline.{AnswersAll, AnswersFirst, AnswersJust, HasAnswered, OfRead, StandsAsProcess, WritesAsProcess};
-ghost use Rattle.rubis_script.specs.Runs.{GoesOnWriting, HasReadAhead, IsSound, LeavesPrefix, OfEachAhead, StandsWith};
+ghost use Rattle.rubis_script.specs.Headline.{AnswersFirst, HasAnswered, OfRead, StandsAsProcess, WritesAsProcess};
+ghost use Rattle.rubis_script.specs.Runs.{AnswersAllAhead, AnswersFirstAhead, AnswersJustAhead, GoesOnWriting, IsSound, LeavesPrefix, ReadsOn, ReadsOnOrEnds};
+ghost use Rattle.rubis_script.specs.Runs.{StandsWith, WritesPrefixAhead};
 ghost use Rattle.rubis_script.specs.SiteRuns.{told_by};
-ghost use Rattle.rubis_engine.specs.Accounts.Ending.{AtEnd};
-ghost use Rattle.rubis_engine.specs.Progress.{IsRun, WrotePrefix};
+ghost use Rattle.rubis_engine.specs.Progress.{IsRun};
 ghost use Rattle.rubis_engine.specs.Text.{input_records};
 ghost use Rattle.rubis_reading.specs.Chunked.{HasPending, held_text};
 ghost use Rattle.rubis_reading.specs.Runs.{AreSingle, flat};
@@ -170,8 +170,8 @@ fn go_on<G: Gate, T: Threads + Wait + Sync, R: Read, W: Write>(
     ensures plan { OnOk result (desk.new.plan ≡ desk.old.plan) }
     ensures sound { OnOk result (IsSound desk.new.site desk.new.plan backlog.new) }
     ensures count { OnOk result (backlog.new.answered ≡ backlog.old.answered + length (flat backlog.old.ahead)) }
-    ensures goes { OnOk result (OfEachAhead R.remaining source.old.chunks desk.old.site backlog.old (W.contents writer.old) (λ first old input.
-        HasReadAhead R.remaining source.new.chunks desk.new.site backlog.new first old (W.contents writer.new) input)) }
+    ensures goes { OnOk result (ReadsOn R.remaining source.old.chunks desk.old.site backlog.old (W.contents writer.old) source.new.chunks
+        desk.new.site backlog.new (W.contents writer.new)) }
     ensures memory { IsErrOf result RunFault.Memory → LeavesPrefix None desk.old.site backlog.old (W.contents writer.old) (W.contents writer.new) }
     ensures faults { IfErr result (λ e. (e ≡ RunFault.Write) ⊎ (e ≡ RunFault.Memory)) }
 {
@@ -194,8 +194,8 @@ fn drain_full<G: Gate, R: Read, W: Write>(
     requires { IsSound desk.now.site desk.now.plan backlog.old }
     ensures sound { OnOk result (IsSound desk.now.site desk.now.plan backlog.new) }
     ensures count { OnOk result (backlog.new.answered ≡ backlog.old.answered) }
-    ensures goes { OnOk result (OfEachAhead R.remaining source.now.chunks desk.now.site backlog.old (W.contents writer.old) (λ first old input.
-        HasReadAhead R.remaining source.now.chunks desk.now.site backlog.new first old (W.contents writer.new) input)) }
+    ensures goes { OnOk result (ReadsOn R.remaining source.now.chunks desk.now.site backlog.old (W.contents writer.old) source.now.chunks
+        desk.now.site backlog.new (W.contents writer.new)) }
     ensures faults { IfErr result (λ e. e ≡ RunFault.Write) }
 {
     if backlog.reply.sink.is_full() {
@@ -218,14 +218,12 @@ fn end<G: Gate, T: Threads + Wait + Sync, R: Read, W: Write>(
     requires within { backlog.old.answered ≤ limit }
     requires limit { limit + 1 < 2 ^ 64 }
     requires last { (rows : List (List (List ℕ))) → HasPending R.remaining source.now.chunks rows → rows ≡ input_records (held_text source.now.chunks) }
-    ensures done { IfOk result (λ count. OfEachAhead R.remaining source.now.chunks desk.old.site backlog.old (W.contents writer.old) (λ first old input.
-        AnswersAll limit first desk.new.site old (W.contents writer.new) (input_records input) count.records)) }
-    ensures too_long { IsErrOf result RunFault.TooLong → OfEachAhead R.remaining source.now.chunks desk.old.site backlog.old (W.contents writer.old)
-        (λ first old input.
-        AnswersFirst limit first desk.new.site old (W.contents writer.new) (input_records input)) }
-    ensures memory { IsErrOf result RunFault.Memory → OfEachAhead R.remaining source.now.chunks desk.old.site backlog.old (W.contents writer.old)
-        (λ first old input.
-        WrotePrefix ((told_by first 1).text AtEnd) old (W.contents writer.new) (input_records input)) }
+    ensures done { IfOk result (λ count. AnswersAllAhead limit R.remaining source.now.chunks desk.old.site backlog.old (W.contents writer.old)
+        desk.new.site (W.contents writer.new) count) }
+    ensures too_long { IsErrOf result RunFault.TooLong → AnswersFirstAhead limit R.remaining source.now.chunks desk.old.site backlog.old
+        (W.contents writer.old) desk.new.site (W.contents writer.new) }
+    ensures memory { IsErrOf result RunFault.Memory → WritesPrefixAhead R.remaining source.now.chunks desk.old.site backlog.old
+        (W.contents writer.old) (W.contents writer.new) }
     ensures faults { IfErr result (λ e. (e ≡ RunFault.Write) ⊎ (e ≡ RunFault.Memory) ⊎ (e ≡ RunFault.TooLong)) }
 {
     let sites = desk.sites();
@@ -266,19 +264,15 @@ fn wait<G: Gate, T: Threads + Wait + Sync, R: Read, W: Write>(
     ensures plan { IfOk result (λ over. IfNone over (desk.new.plan ≡ desk.old.plan)) }
     ensures sound { IfOk result (λ over. IfNone over (IsSound desk.new.site desk.new.plan backlog.new)) }
     ensures within { IfOk result (λ over. IfNone over (backlog.new.answered ≤ limit)) }
-    ensures goes { IfOk result (λ over. OfEachAhead R.remaining source.old.chunks desk.old.site backlog.old (W.contents writer.old) (λ first old input.
-        MatchOption over (HasReadAhead R.remaining source.new.chunks desk.new.site backlog.new first old (W.contents writer.new) input)
-        (λ count. AnswersAll limit first desk.new.site old (W.contents writer.new) (input_records input) count.records))) }
-    ensures too_long { IsErrOf result RunFault.TooLong → OfEachAhead R.remaining source.old.chunks desk.old.site backlog.old (W.contents writer.old)
-        (λ first old input.
-        AnswersFirst limit first desk.new.site old (W.contents writer.new) (input_records input)) }
+    ensures goes { IfOk result (λ over. ReadsOnOrEnds limit R.remaining source.old.chunks desk.old.site backlog.old (W.contents writer.old)
+        source.new.chunks desk.new.site backlog.new (W.contents writer.new) over) }
+    ensures too_long { IsErrOf result RunFault.TooLong → AnswersFirstAhead limit R.remaining source.old.chunks desk.old.site backlog.old
+        (W.contents writer.old) desk.new.site (W.contents writer.new) }
     ensures cut { IsErrOf result RunFault.Read → backlog.new.answered ≡ backlog.old.answered + length (flat backlog.old.ahead) }
-    ensures read { IsErrOf result RunFault.Read → OfEachAhead R.remaining source.old.chunks desk.old.site backlog.old (W.contents writer.old)
-        (λ first old input.
-        AnswersJust (backlog.old.answered + length (flat backlog.old.ahead)) first desk.new.site old (W.contents writer.new) (input_records input)) }
-    ensures memory { IsErrOf result RunFault.Memory → OfEachAhead R.remaining source.old.chunks desk.old.site backlog.old (W.contents writer.old)
-        (λ first old input.
-        WrotePrefix ((told_by first 1).text AtEnd) old (W.contents writer.new) (input_records input)) }
+    ensures read { IsErrOf result RunFault.Read → AnswersJustAhead (backlog.old.answered + length (flat backlog.old.ahead)) R.remaining
+        source.old.chunks desk.old.site backlog.old (W.contents writer.old) desk.new.site (W.contents writer.new) }
+    ensures memory { IsErrOf result RunFault.Memory → WritesPrefixAhead R.remaining source.old.chunks desk.old.site backlog.old
+        (W.contents writer.old) (W.contents writer.new) }
 {
     catch_up(rt, desk, backlog, writer)?;
     match source.chunks.fill() {
@@ -308,20 +302,16 @@ fn turn<G: Gate, T: Threads + Wait + Sync, R: Read, W: Write>(
     ensures plan { IfOk result (λ over. IfNone over (desk.new.plan ≡ desk.old.plan)) }
     ensures sound { IfOk result (λ over. IfNone over (IsSound desk.new.site desk.new.plan backlog.new)) }
     ensures within { IfOk result (λ over. IfNone over (backlog.new.answered ≤ limit)) }
-    ensures goes { IfOk result (λ over. OfEachAhead R.remaining source.old.chunks desk.old.site backlog.old (W.contents writer.old) (λ first old input.
-        MatchOption over (HasReadAhead R.remaining source.new.chunks desk.new.site backlog.new first old (W.contents writer.new) input)
-        (λ count. AnswersAll limit first desk.new.site old (W.contents writer.new) (input_records input) count.records))) }
-    ensures too_long { IsErrOf result RunFault.TooLong → OfEachAhead R.remaining source.old.chunks desk.old.site backlog.old (W.contents writer.old)
-        (λ first old input.
-        AnswersFirst limit first desk.new.site old (W.contents writer.new) (input_records input)) }
+    ensures goes { IfOk result (λ over. ReadsOnOrEnds limit R.remaining source.old.chunks desk.old.site backlog.old (W.contents writer.old)
+        source.new.chunks desk.new.site backlog.new (W.contents writer.new) over) }
+    ensures too_long { IsErrOf result RunFault.TooLong → AnswersFirstAhead limit R.remaining source.old.chunks desk.old.site backlog.old
+        (W.contents writer.old) desk.new.site (W.contents writer.new) }
     ensures left { IsErrOf result RunFault.Read → NoWholeAfter (held_text source.old.chunks) 1 }
     ensures cut { IsErrOf result RunFault.Read → backlog.new.answered ≡ backlog.old.answered + length (flat backlog.old.ahead) }
-    ensures read { IsErrOf result RunFault.Read → OfEachAhead R.remaining source.old.chunks desk.old.site backlog.old (W.contents writer.old)
-        (λ first old input.
-        AnswersJust (backlog.old.answered + length (flat backlog.old.ahead)) first desk.new.site old (W.contents writer.new) (input_records input)) }
-    ensures memory { IsErrOf result RunFault.Memory → OfEachAhead R.remaining source.old.chunks desk.old.site backlog.old (W.contents writer.old)
-        (λ first old input.
-        WrotePrefix ((told_by first 1).text AtEnd) old (W.contents writer.new) (input_records input)) }
+    ensures read { IsErrOf result RunFault.Read → AnswersJustAhead (backlog.old.answered + length (flat backlog.old.ahead)) R.remaining
+        source.old.chunks desk.old.site backlog.old (W.contents writer.old) desk.new.site (W.contents writer.new) }
+    ensures memory { IsErrOf result RunFault.Memory → WritesPrefixAhead R.remaining source.old.chunks desk.old.site backlog.old
+        (W.contents writer.old) (W.contents writer.new) }
 {
     let left = limit - backlog.answered;
     if backlog.ahead.len() as u64 > left {
@@ -350,16 +340,14 @@ fn serve<G: Gate, T: Threads + Wait + Sync, R: Read, W: Write>(
     requires sound { IsSound desk.old.site desk.old.plan backlog.old }
     requires within { backlog.old.answered ≤ limit }
     requires limit { limit + 1 < 2 ^ 64 }
-    ensures ok { IfOk result (λ count. OfEachAhead R.remaining source.old.chunks desk.old.site backlog.old (W.contents writer.old) (λ first old input.
-        AnswersAll limit first desk.new.site old (W.contents writer.new) (input_records input) count.records)) }
-    ensures too_long { IsErrOf result RunFault.TooLong → OfEachAhead R.remaining source.old.chunks desk.old.site backlog.old (W.contents writer.old)
-        (λ first old input.
-        AnswersFirst limit first desk.new.site old (W.contents writer.new) (input_records input)) }
-    ensures read { IsErrOf result RunFault.Read → OfEachAhead R.remaining source.old.chunks desk.old.site backlog.old (W.contents writer.old)
-        (λ first old input. AnswersJust backlog.new.answered first desk.new.site old (W.contents writer.new) (input_records input)) }
-    ensures memory { IsErrOf result RunFault.Memory → OfEachAhead R.remaining source.old.chunks desk.old.site backlog.old (W.contents writer.old)
-        (λ first old input.
-        WrotePrefix ((told_by first 1).text AtEnd) old (W.contents writer.new) (input_records input)) }
+    ensures ok { IfOk result (λ count. AnswersAllAhead limit R.remaining source.old.chunks desk.old.site backlog.old (W.contents writer.old)
+        desk.new.site (W.contents writer.new) count) }
+    ensures too_long { IsErrOf result RunFault.TooLong → AnswersFirstAhead limit R.remaining source.old.chunks desk.old.site backlog.old
+        (W.contents writer.old) desk.new.site (W.contents writer.new) }
+    ensures read { IsErrOf result RunFault.Read → AnswersJustAhead backlog.new.answered R.remaining source.old.chunks desk.old.site backlog.old
+        (W.contents writer.old) desk.new.site (W.contents writer.new) }
+    ensures memory { IsErrOf result RunFault.Memory → WritesPrefixAhead R.remaining source.old.chunks desk.old.site backlog.old
+        (W.contents writer.old) (W.contents writer.new) }
 {
     'steps: for _ in 0..u64::MAX {
         if let Some(count) = turn(rt, source, desk, backlog, writer, limit)? {

@@ -8,10 +8,10 @@ ghost use Rattle.rubis_engine.specs.Accounts.Ending.{AtEnd};
 ghost use Rattle.rubis_engine.specs.Progress.{Drained, EndsInPrefix, FromStart, IsRun, WrotePrefix};
 ghost use Rattle.rubis_engine.specs.Reading.{Advances, fields_now};
 ghost use Rattle.rubis_script.specs.Drains.{AnswersOut, WritesFrontFrom};
-ghost use Rattle.rubis_script.specs.Headline.{AnswersAll, AnswersFirst, AnswersJust, HasAnswered, HasMovedSite, OfEachSiteRun, OfRead};
-ghost use Rattle.rubis_script.specs.Headline.{Settles, StandsAtSite, StepsOn};
+ghost use Rattle.rubis_script.specs.Headline.{AnsweredAll, AnsweredFirst, AnsweredJust, AnswersAll, AnswersFirst, AnswersJust, HasAnswered, HasMovedSite};
+ghost use Rattle.rubis_script.specs.Headline.{OfEachSiteRun, OfRead, Settles, StandsAtSite, StepsOn};
 ghost use Rattle.rubis_script.specs.SiteRuns.{told_by};
-ghost use Rattle.rubis_engine.specs.Text.{input_records, rows_text};
+ghost use Rattle.rubis_engine.specs.Text.{rows_text};
 ghost use Rattle.rubis_script.specs.Windows.{AreHeld, FitPlan, held_by};
 
 use crate::desk::Desk;
@@ -65,11 +65,10 @@ fn next_or_end<G: Gate, T: Threads + Wait + Sync, R: Read, W: Write>(
     ensures same { IfOk result (λ over. IfNone over ((desk.new ≡ desk.old) × (site_run.new.window ≡ site_run.old.window)
         × (site_run.new.run.reply ≡ site_run.old.run.reply)
         × (site_run.new.run.answered ≡ site_run.old.run.answered) × (writer.new ≡ writer.old))) }
-    ensures done { IfOk result (λ over. IfSome over (λ count.
-        OfEachSiteRun R.remaining site_run.old.run desk.old.site site_run.old.window.items (W.contents writer.old) (λ first old input.
-        AnswersAll site_run.old.run.answered first desk.new.site old (W.contents writer.new) (input_records input) count.records))) }
-    ensures read { IsErrOf result RunFault.Read → OfEachSiteRun R.remaining site_run.old.run desk.old.site site_run.old.window.items (W.contents writer.old)
-        (λ first old input. AnswersJust site_run.old.run.answered first desk.new.site old (W.contents writer.new) (input_records input)) }
+    ensures done { IfOk result (λ over. IfSome over (λ count. AnsweredAll R.remaining site_run.old.run desk.old.site site_run.old.window.items
+        (W.contents writer.old) desk.new.site (W.contents writer.new) count)) }
+    ensures read { IsErrOf result RunFault.Read → AnsweredJust R.remaining site_run.old.run desk.old.site site_run.old.window.items
+        (W.contents writer.old) desk.new.site (W.contents writer.new) }
     ensures count { site_run.new.run.answered ≡ site_run.old.run.answered }
     ensures memory { IsErrOf result RunFault.Memory → EndsInPrefix R.remaining site_run.old.run (held_by desk.old.site site_run.old.window.items)
         (W.contents writer.old) (W.contents writer.new) }
@@ -205,8 +204,8 @@ fn take_next<G: Gate, T: Threads + Wait + Sync, R: Read, W: Write>(
         desk.new.site site_run.new.window.items (W.contents writer.old) (W.contents writer.new) over) }
     ensures counted { IfOk result (λ over. IfNone over (site_run.new.run.answered ≡ site_run.old.run.answered + 1)) }
     ensures cut { IsErrOf result RunFault.Read → site_run.new.run.answered ≡ site_run.old.run.answered }
-    ensures read { IsErrOf result RunFault.Read → OfEachSiteRun R.remaining site_run.old.run desk.old.site site_run.old.window.items (W.contents writer.old)
-        (λ first old input. AnswersJust site_run.old.run.answered first desk.new.site old (W.contents writer.new) (input_records input)) }
+    ensures read { IsErrOf result RunFault.Read → AnsweredJust R.remaining site_run.old.run desk.old.site site_run.old.window.items
+        (W.contents writer.old) desk.new.site (W.contents writer.new) }
     ensures memory { IsErrOf result RunFault.Memory → EndsInPrefix R.remaining site_run.old.run (held_by desk.old.site site_run.old.window.items)
         (W.contents writer.old) (W.contents writer.new) }
     ensures faults { IfErr result (λ e. (e ≡ RunFault.Read) ⊎ (e ≡ RunFault.Write) ⊎ (e ≡ RunFault.Memory)) }
@@ -227,14 +226,13 @@ fn stop_at<G: Gate, T: Threads + Wait + Sync, R: Read, W: Write>(
     writer: &mut W,
 ) -> Result<Count, RunFault>
     requires held { AreHeld desk.old.site.place site_run.old.window.items site_run.old.run.answered }
-    ensures ok { IfOk result (λ count. OfEachSiteRun R.remaining site_run.old.run desk.old.site site_run.old.window.items (W.contents writer.old)
-        (λ first old input. AnswersAll site_run.old.run.answered first desk.new.site old (W.contents writer.new) (input_records input) count.records)) }
-    ensures too_long { IsErrOf result RunFault.TooLong → OfEachSiteRun R.remaining site_run.old.run desk.old.site site_run.old.window.items
-        (W.contents writer.old) (λ first old input.
-        AnswersFirst site_run.old.run.answered first desk.new.site old (W.contents writer.new) (input_records input)) }
+    ensures ok { IfOk result (λ count. AnsweredAll R.remaining site_run.old.run desk.old.site site_run.old.window.items
+        (W.contents writer.old) desk.new.site (W.contents writer.new) count) }
+    ensures too_long { IsErrOf result RunFault.TooLong → AnsweredFirst R.remaining site_run.old.run desk.old.site site_run.old.window.items
+        (W.contents writer.old) desk.new.site (W.contents writer.new) }
     ensures cut { IsErrOf result RunFault.Read → site_run.new.run.answered ≡ site_run.old.run.answered }
-    ensures read { IsErrOf result RunFault.Read → OfEachSiteRun R.remaining site_run.old.run desk.old.site site_run.old.window.items (W.contents writer.old)
-        (λ first old input. AnswersJust site_run.old.run.answered first desk.new.site old (W.contents writer.new) (input_records input)) }
+    ensures read { IsErrOf result RunFault.Read → AnsweredJust R.remaining site_run.old.run desk.old.site site_run.old.window.items
+        (W.contents writer.old) desk.new.site (W.contents writer.new) }
     ensures memory { IsErrOf result RunFault.Memory → EndsInPrefix R.remaining site_run.old.run (held_by desk.old.site site_run.old.window.items)
         (W.contents writer.old) (W.contents writer.new) }
 {
