@@ -84,9 +84,9 @@ fn same_key(a: &RowKey, b: &RowKey) -> bool
     }
 }
 
-// The place of a key's table in the order of keys.
+/// The place of a key's table in the order of keys, from 0.
 #[inline(always)]
-fn table_number(key: &RowKey) -> u8
+pub fn table_number(key: &RowKey) -> u8
     ensures { result ≡ table_of key.now }
 {
     match key {

@@ -2,7 +2,6 @@
 
 ghost use Rattle.std.specs.Prelude.{◌≡◌, ◌+◌, ◌≤◌, ◌&&◌, IfSome, length, nat_le};
 ghost use Rattle.std.specs.FinMap as map;
-ghost use Rattle.rubis_schema.specs.Keys.{table_of};
 ghost use Rattle.rubis_shard.specs.Counted.{has_record, is_recorded, number_of, recorded_from};
 ghost use Rattle.rubis_shard.specs.Rows.{tables_in};
 ghost use Rattle.rubis_shard.specs.Written.{written};
@@ -11,24 +10,8 @@ use crate::map_keys::MapKey;
 use crate::row_map::Rows;
 use crate::selections::has_record;
 use indexmap::IndexMap;
-use rubis_schema::{Row, RowKey, Table};
+use rubis_schema::{Row, RowKey, Table, table_number};
 use std::hash::BuildHasher;
-
-// The place of a key's table in the order of keys.
-#[inline(always)]
-fn number_of_key(key: &RowKey) -> u8
-    ensures { result ≡ table_of key.now }
-{
-    match key {
-        RowKey::User(_) => 0,
-        RowKey::Item(_) => 1,
-        RowKey::Bid(_) => 2,
-        RowKey::Purchase(_) => 3,
-        RowKey::Comment(_) => 4,
-        RowKey::Nick(_) => 5,
-        RowKey::Cat(_) => 6,
-    }
-}
 
 // The place of a table in the order of keys.
 pub fn number_of(table: Table) -> u8
@@ -50,7 +33,7 @@ pub fn number_of(table: Table) -> u8
 fn is_counted(first: u8, key: &RowKey, row: &Row) -> bool
     ensures { result ≡ is_recorded first (key.now, row.now) }
 {
-    first <= number_of_key(key) && has_record(key, row)
+    first <= table_number(key) && has_record(key, row)
 }
 
 // Counts on with those rows of a map that have a record, of the tables from that number on.
