@@ -9,11 +9,11 @@ ghost use Rattle.rubis_generate.specs.Decision.{decision};
 
 use crate::standing::Standing;
 use rubis_schema::{
-    CommentRow, Id, ItemRow, Nick, PurchaseRow, Refusal, Row, RowKey, Sale, Shared, UserRow, View,
+    CommentRow, Id, ItemRow, NewItem, Nick, PurchaseRow, Refusal, Row, RowKey, Sale, Shared,
+    UserRow, View,
 };
 use rubis_shadow::{
-    Ask, AskedClose, AskedRestock, NewBid, NewClose, NewItem, NewRename, NewRestock, RenameAsk,
-    Shadow,
+    Ask, AskedClose, AskedRestock, NewBid, NewClose, NewRename, NewRestock, RenameAsk, Shadow,
 };
 
 // Whether the id has a user's row.

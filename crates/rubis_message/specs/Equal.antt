@@ -14,13 +14,13 @@ use Rattle.rubis_schema.specs.declared.rows.CommentRow.{CommentRow}
 use Rattle.rubis_schema.specs.contracts.rows.PurchaseRowPartialEq.TheImpl as purchase
 use Rattle.rubis_schema.specs.contracts.rows.CommentRowPartialEq.TheImpl as comment
 use Rattle.rubis_shadow.specs.Renames.{Decides-same_rename, equiv_from_decides}
-use Rattle.rubis_shadow.specs.declared.shadows.NewItem.{NewItem}
+use Rattle.rubis_schema.specs.declared.offers.NewItem.{NewItem}
 use Rattle.rubis_shadow.specs.declared.shadows.NewBid.{NewBid}
 use Rattle.rubis_shadow.specs.declared.shadows.NewClose.{NewClose}
 use Rattle.rubis_shadow.specs.declared.shadows.NewRestock.{NewRestock}
 use Rattle.rubis_shadow.specs.declared.shadows.Shadow.{Shadow}
 use Rattle.rubis_shadow.specs.declared.shadows.Shadow.TheVariants.{User, Item, Bid, Buy, Close, Comment, Restock, Rename}
-use Rattle.rubis_shadow.specs.contracts.shadows.NewItemPartialEq.TheImpl as item
+use Rattle.rubis_schema.specs.contracts.offers.NewItemPartialEq.TheImpl as item
 use Rattle.rubis_shadow.specs.contracts.shadows.NewBidPartialEq.TheImpl as bid
 use Rattle.rubis_shadow.specs.contracts.shadows.NewClosePartialEq.TheImpl as close
 use Rattle.rubis_shadow.specs.contracts.shadows.NewRestockPartialEq.TheImpl as restock

@@ -15,7 +15,7 @@ use Rattle.rubis_shadow.specs.declared.shadows.Ask.TheVariants as ask
 use Rattle.rubis_shadow.specs.declared.shadows.AskedClose.{AskedClose}
 use Rattle.rubis_shadow.specs.declared.shadows.AskedRename.{AskedRename}
 use Rattle.rubis_shadow.specs.declared.shadows.AskedRestock.{AskedRestock}
-use Rattle.rubis_shadow.specs.declared.shadows.NewItem.{NewItem}
+use Rattle.rubis_schema.specs.declared.offers.NewItem.{NewItem}
 use Rattle.rubis_shadow.specs.declared.shadows.NewBid.{NewBid}
 use Rattle.rubis_shadow.specs.declared.shadows.NewClose.{NewClose}
 use Rattle.rubis_shadow.specs.Renames.{NewRename}

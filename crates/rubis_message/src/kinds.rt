@@ -11,11 +11,11 @@ use crate::readers::Reader;
 use crate::requests::Request;
 use crate::words::says;
 use rubis_schema::{
-    AMOUNT_MAX, CAT_MAX, CommentRow, PASS_MAX, PurchaseRow, QUANTITY_MAX, Record, Shared,
+    AMOUNT_MAX, CAT_MAX, CommentRow, NewItem, PASS_MAX, PurchaseRow, QUANTITY_MAX, Record, Shared,
 };
 use rubis_shadow::{
-    Ask, AskedClose, AskedRename, AskedRestock, NewBid, NewClose, NewItem, NewRename, NewRestock,
-    RenameAsk, Shadow,
+    Ask, AskedClose, AskedRename, AskedRestock, NewBid, NewClose, NewRename, NewRestock, RenameAsk,
+    Shadow,
 };
 use std::alloc::Global;
 

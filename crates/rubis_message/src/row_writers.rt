@@ -9,8 +9,10 @@ ghost use Rattle.rubis_schema.specs.declared.limits.TheConstants.{COUNTS_TEXT_MA
 use crate::messages::Message;
 use crate::tokens::{TOKEN_VERSION, Token};
 use rubis_clock::PackedDeps;
-use rubis_schema::{COUNTS_TEXT_MAX, CommentRow, Id, Nick, PlainRow, PurchaseRow, put_int};
-use rubis_shadow::{NewBid, NewClose, NewItem, NewRename, NewRestock, Shadow};
+use rubis_schema::{
+    COUNTS_TEXT_MAX, CommentRow, Id, NewItem, Nick, PlainRow, PurchaseRow, put_int,
+};
+use rubis_shadow::{NewBid, NewClose, NewRename, NewRestock, Shadow};
 
 /// The most bytes that a shadow's fields take, with a comma for each.
 pub const SHADOW_ROOM: usize = 300;

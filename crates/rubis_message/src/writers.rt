@@ -7,8 +7,8 @@ ghost use Rattle.rubis_message.specs.Grammar.{rename_fields, restock_fields, sha
 use crate::messages::Message;
 use crate::stamps::push_deps;
 use crate::tokens::{TOKEN_VERSION, Token};
-use rubis_schema::{CommentRow, Fields, Id, PurchaseRow, push_int, push_number};
-use rubis_shadow::{NewBid, NewClose, NewItem, NewRename, NewRestock, Shadow};
+use rubis_schema::{CommentRow, Fields, Id, NewItem, PurchaseRow, push_int, push_number};
+use rubis_shadow::{NewBid, NewClose, NewRename, NewRestock, Shadow};
 use std::alloc::{AllocError, Global};
 
 fn push_item(fields: &mut Fields, item: &NewItem) -> Result<(), AllocError>

@@ -16,6 +16,7 @@ mod lists;
 mod nicks;
 mod number_texts;
 mod numbers;
+mod offers;
 mod plain_rows;
 mod records;
 mod refusals;
@@ -47,10 +48,11 @@ pub use lists::Items;
 pub use nicks::Nick;
 pub use number_texts::push_digits;
 pub use numbers::{push_int, push_number, put_int};
+pub use offers::{NewItem, OfferedName};
 pub use plain_rows::PlainRow;
 pub use records::Record;
 pub use refusals::Refusal;
-pub use row_keys::{RowKey, Table, key_cmp};
+pub use row_keys::{RowKey, Table, key_cmp, table_number};
 pub use row_sinks::{RowSink, SharedSink};
 pub use rows::{
     Best, BidRow, CatRow, CommentRow, ItemRow, PackedBid, PurchaseRow, Row, Sale, UserRow,

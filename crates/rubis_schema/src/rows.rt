@@ -6,8 +6,9 @@ ghost use Rattle.rubis_schema.specs.Categories.{shows_nothing};
 use crate::boxed::Boxed;
 use crate::ids::Id;
 use crate::nicks::Nick;
+use crate::offers::OfferedName;
 use crate::shared::Shared;
-use crate::texts::{Name, Text};
+use crate::texts::Text;
 use std::alloc::AllocError;
 use std::marker::Model;
 
@@ -42,7 +43,7 @@ pub enum Sale {
 #[derive(Drop, Clone)]
 pub struct ItemRow {
     pub seller: Id,
-    pub name: Name,
+    pub name: OfferedName,
     pub cat: u16,
     pub stock: u64,
     pub sold: u64,

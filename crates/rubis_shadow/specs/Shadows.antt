@@ -22,7 +22,7 @@ use Rattle.rubis_shadow.specs.declared.shadows.Ask.TheVariants as ask
 use Rattle.rubis_shadow.specs.declared.shadows.Colour.{Colour}
 use Rattle.rubis_shadow.specs.declared.shadows.Colour.TheVariants.{Red, Blue}
 use Rattle.rubis_shadow.specs.declared.shadows.NewBid.{NewBid}
-use Rattle.rubis_shadow.specs.declared.shadows.NewItem.{NewItem}
+use Rattle.rubis_schema.specs.declared.offers.NewItem.{NewItem}
 use Rattle.rubis_shadow.specs.declared.shadows.Shadow.{Shadow}
 use Rattle.rubis_shadow.specs.declared.shadows.Shadow.TheVariants.{User, Item, Bid, Buy, Close, Comment, Restock, Rename}
 

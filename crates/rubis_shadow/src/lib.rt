@@ -22,6 +22,5 @@ pub use parts::{EffectRef, PARTS_MAX};
 pub use plain::PlainTables;
 pub use renames::{NewRename, RenameAsk};
 pub use shadows::{
-    Ask, AskedClose, AskedRename, AskedRestock, Colour, NewBid, NewClose, NewItem, NewRestock,
-    Shadow,
+    Ask, AskedClose, AskedRename, AskedRestock, Colour, NewBid, NewClose, NewRestock, Shadow,
 };

@@ -13,10 +13,10 @@ use crate::changes::Change;
 use crate::keyed_change::Effect;
 use crate::keys::{Keys, no_key, one_key, three_keys, two_keys};
 use crate::renames::NewRename;
-use crate::shadows::{NewBid, NewClose, NewItem, NewRestock, Shadow};
+use crate::shadows::{NewBid, NewClose, NewRestock, Shadow};
 use rubis_schema::{
-    Best, BidRow, Boxed, CommentRow, Id, ItemRow, Nick, PackedBid, PurchaseRow, Row, RowKey, Sale,
-    Shared, UserRow,
+    Best, BidRow, Boxed, CommentRow, Id, ItemRow, NewItem, Nick, OfferedName, PackedBid,
+    PurchaseRow, Row, RowKey, Sale, Shared, UserRow,
 };
 use std::alloc::{AllocError, Global};
 use std::marker::Model;
@@ -344,12 +344,12 @@ fn user_row(alloc: Global, nick: Nick) -> Result<Row, AllocError>
 }
 
 // The row of an item that is offered.
-fn item_row(alloc: Global, item: &NewItem) -> Result<Row, AllocError>
+fn item_row(alloc: Global, item: &Shared<NewItem>) -> Result<Row, AllocError>
     ensures { IfOk result (λ row. row ≡ rows.Item (new_item item.now)) }
 {
     let row = ItemRow {
         seller: item.seller,
-        name: item.name.copy()?,
+        name: OfferedName::new(item)?,
         cat: item.cat,
         stock: item.stock,
         sold: 0,

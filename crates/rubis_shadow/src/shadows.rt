@@ -4,20 +4,8 @@ ghost use Rattle.std.specs.Prelude.{◌≡◌, IfOk};
 ghost use Rattle.rubis_shadow.specs.Shadows.{colour_of, version_of};
 
 use crate::renames::{NewRename, RenameAsk};
-use rubis_schema::{CommentRow, Id, Name, Nick, PurchaseRow, Shared};
+use rubis_schema::{CommentRow, Id, NewItem, Nick, PurchaseRow, Shared};
 use std::alloc::AllocError;
-
-/// An item that is offered: `stock` pieces of it, bids from `start` on, and `price` for a piece at once (0: no
-/// buy-now).
-#[derive(Drop, Clone, PartialEq, Eq)]
-pub struct NewItem {
-    pub seller: Id,
-    pub name: Name,
-    pub cat: u16,
-    pub stock: u64,
-    pub start: u64,
-    pub price: u64,
-}
 
 /// A bid for an item.
 #[derive(Clone, Copy, PartialEq, Eq)]

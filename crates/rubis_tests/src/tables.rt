@@ -1,8 +1,8 @@
 //! Plain tables, and decisions over them.
 
 use rubis_generate::{Standing, decide};
-use rubis_schema::{Id, Name, Nick, Refusal, Row, RowKey, Shared, Table, View};
-use rubis_shadow::{Ask, MisfitKind, NewBid, NewClose, NewItem, PlainTables, Shadow};
+use rubis_schema::{Id, Name, NewItem, Nick, Refusal, Row, RowKey, Shared, Table, View};
+use rubis_shadow::{Ask, MisfitKind, NewBid, NewClose, PlainTables, Shadow};
 use std::alloc::Global;
 use std::process::Abort;
 use std::test::Fail;

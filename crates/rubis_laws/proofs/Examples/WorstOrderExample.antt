@@ -9,7 +9,7 @@ use Rattle.rubis_schema.specs.FieldForms.{name_of, nick_of}
 use Rattle.rubis_schema.specs.FieldForms.{id_of}
 use Rattle.rubis_schema.specs.Tables.{Tables}
 use Rattle.rubis_shadow.specs.declared.shadows.Ask.TheVariants as ask
-use Rattle.rubis_shadow.specs.declared.shadows.NewItem.{NewItem}
+use Rattle.rubis_schema.specs.declared.offers.NewItem.{NewItem}
 use Rattle.rubis_shadow.specs.declared.shadows.Shadow.TheVariants as shadow
 use Rattle.rubis_generate.specs.Decision.{decision}
 use Rattle.rubis_generate.specs.Lookup.{Rows}

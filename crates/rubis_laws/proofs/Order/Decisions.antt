@@ -10,7 +10,7 @@ use Rattle.rubis_schema.specs.declared.row_keys.RowKey.{RowKey}
 use Rattle.rubis_schema.specs.declared.row_keys.RowKey.TheVariants as key
 use Rattle.rubis_schema.specs.declared.rows.ItemRow.{ItemRow}
 use Rattle.rubis_schema.specs.declared.rows.UserRow.{UserRow}
-use Rattle.rubis_shadow.specs.declared.shadows.NewItem.{NewItem}
+use Rattle.rubis_schema.specs.declared.offers.NewItem.{NewItem}
 use Rattle.rubis_schema.specs.declared.rows.Best.{Best}
 use Rattle.rubis_model.specs.Log.{Core}
 use Rattle.rubis_shadow.specs.declared.shadows.Shadow.{Shadow}

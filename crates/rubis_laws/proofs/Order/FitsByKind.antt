@@ -16,7 +16,7 @@ use Rattle.rubis_schema.specs.declared.rows.UserRow.{UserRow}
 use Rattle.rubis_shadow.specs.Shadows.{is_red, refers_of, winner_key}
 use Rattle.rubis_shadow.specs.declared.shadows.Ask.{Ask}
 use Rattle.rubis_shadow.specs.declared.shadows.Ask.TheVariants as ask
-use Rattle.rubis_shadow.specs.declared.shadows.NewItem.{NewItem}
+use Rattle.rubis_schema.specs.declared.offers.NewItem.{NewItem}
 use Rattle.rubis_shadow.specs.declared.shadows.Shadow.{Shadow}
 use Rattle.rubis_shadow.specs.declared.shadows.Shadow.TheVariants.{User, Item, Bid, Buy, Close, Comment, Restock, Rename}
 use Rattle.rubis_generate.specs.Decision.{decision, is_due, of_item, order_of, shadow_of}

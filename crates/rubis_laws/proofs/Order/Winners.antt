@@ -10,7 +10,7 @@ use Rattle.rubis_message.specs.Message.{Message}
 use Rattle.std.proofs.lemmas.Option.{same_Some}
 use Rattle.rubis_model.specs.Invariants.{Holds}
 use Rattle.rubis_schema.specs.declared.rows.ItemRow.{ItemRow}
-use Rattle.rubis_shadow.specs.declared.shadows.NewItem.{NewItem}
+use Rattle.rubis_schema.specs.declared.offers.NewItem.{NewItem}
 use Rattle.rubis_schema.specs.declared.rows.Row.{Row}
 use Rattle.rubis_schema.specs.declared.rows.Row.TheVariants as row
 use Rattle.rubis_schema.specs.declared.row_keys.RowKey.TheVariants as key

@@ -34,7 +34,7 @@ use Rattle.rubis_message.specs.Message.{Message}
 use Rattle.rubis_message.specs.declared.requests.Request.TheVariants as request
 use Rattle.rubis_schema.specs.declared.row_keys.RowKey.{RowKey}
 use Rattle.rubis_schema.specs.declared.row_keys.RowKey.TheVariants as key
-use Rattle.rubis_shadow.specs.declared.shadows.NewItem.{NewItem}
+use Rattle.rubis_schema.specs.declared.offers.NewItem.{NewItem}
 
 first_not : (b : Bool) (r : Refusal) (o : Option Refusal) → cond b (Some r) o ≡ None → (b ≡ false) × (o ≡ None)
 first_not true r o e = absurd cc

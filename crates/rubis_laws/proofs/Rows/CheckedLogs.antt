@@ -6,7 +6,7 @@ use Rattle.std.proofs.lemmas.Int.{ints}
 use Rattle.rubis_schema.specs.declared.ids.Id.{Id}
 use Rattle.rubis_laws.proofs.Order.FitsByKind.{FitsByKind, bought_in, by_kind, nothing_of_item, nothing_of_user, rated_in, restocked_in, sold_in}
 use Rattle.rubis_laws.proofs.Rows.Heads.{Head, head_of, msg}
-use Rattle.rubis_shadow.specs.declared.shadows.NewItem.{NewItem}
+use Rattle.rubis_schema.specs.declared.offers.NewItem.{NewItem}
 use Rattle.rubis_shadow.specs.Renames.{NewRename}
 use Rattle.rubis_shadow.specs.declared.shadows.Shadow.{Shadow}
 use Rattle.rubis_shadow.specs.declared.shadows.Shadow.TheVariants.{User, Item, Buy, Rename}

@@ -4,7 +4,7 @@ use Rattle.std.specs.Prelude.{option_map, nat_lt, IsSome, pos, ◌-ℤ◌, ◌-�
 use Rattle.std.specs.Option.{option_or}
 use mathlib.Core.Bool.{true≢false}
 use Rattle.rubis_schema.specs.declared.ids.Id.{Id}
-use Rattle.rubis_shadow.specs.declared.shadows.NewItem.{NewItem}
+use Rattle.rubis_schema.specs.declared.offers.NewItem.{NewItem}
 use Rattle.rubis_shadow.specs.declared.shadows.Shadow.{Shadow}
 use Rattle.rubis_shadow.specs.declared.shadows.Shadow.TheVariants.{User, Bid, Close, Rename}
 use Rattle.rubis_model.specs.Log.{Core, fold_of}

@@ -6,7 +6,7 @@ use Rattle.std.proofs.lemmas.Bool.Decides.{nat_tests}
 use Rattle.rubis_schema.specs.declared.ids.Id.{Id}
 use Rattle.rubis_laws.proofs.Order.FitsByKind.{by_kind}
 use Rattle.rubis_laws.proofs.Rows.Heads.{Head, msg}
-use Rattle.rubis_shadow.specs.declared.shadows.NewItem.{NewItem}
+use Rattle.rubis_schema.specs.declared.offers.NewItem.{NewItem}
 use Rattle.rubis_shadow.specs.declared.shadows.NewClose.{NewClose}
 use Rattle.rubis_shadow.specs.declared.shadows.NewRestock.{NewRestock}
 use Rattle.rubis_shadow.specs.declared.shadows.Shadow.{Shadow}
