@@ -37,8 +37,9 @@ MOST, OF_ONE, OF_MORE = 4, 0.5, 0.1
 ORDER = "\ndef in_lanes(tasks):"
 # How much of the free memory is used.
 USED = 0.85
-# How much a proof beside the longest chain gives way to it, and how many jobs there are at once for each processor.
-BEHIND, CROWDED = 10, 1.5
+# How much a proof beside the longest chain gives way to it, and a wrong body to all proofs; and how many jobs there are at once for each
+# processor.
+BEHIND, LAST, CROWDED = 10, 19, 1.5
 
 
 def fills(key: Key) -> bool:
@@ -108,11 +109,17 @@ class Lanes:
         wanted = min(MOST, self.processors) if self.is_longest(key) else max(1, self.processors // 2)
         return max([1, *(jobs for jobs in range(1, wanted + 1) if taken(needs, jobs) <= room)])
 
-    def do(self, key: Key, jobs: int, gives_way: bool) -> None:
+    def way_given(self, key: Key) -> int:
+        """Returns how much the task gives way to others, if it is started now."""
+        if fills(key):
+            return LAST
+        return 0 if self.is_longest(key) else BEHIND
+
+    def do(self, key: Key, jobs: int, way: int) -> None:
         """Does one task in a thread of its own, whose programs give way as it does."""
         try:
-            if gives_way:
-                os.setpriority(os.PRIO_PROCESS, threading.get_native_id(), BEHIND)
+            if way:
+                os.setpriority(os.PRIO_PROCESS, threading.get_native_id(), way)
             self.ended.put((key, self.tasks[key][3](self.given, jobs), None))
         except BaseException as fault:
             self.ended.put((key, None, fault))
@@ -122,10 +129,10 @@ class Lanes:
         for key in [it for it in self.left if all(below in self.given for below in self.tasks[it][0])]:
             jobs = self.jobs_for(key)
             if jobs:
-                gives_way = not self.is_longest(key)
+                way = self.way_given(key)
                 self.left.remove(key)
                 self.running[key] = jobs
-                threading.Thread(target=self.do, args=(key, jobs, gives_way), daemon=True).start()
+                threading.Thread(target=self.do, args=(key, jobs, way), daemon=True).start()
 
     def run(self) -> Dict[Key, Any]:
         """Runs all tasks, and returns what each gave."""
