@@ -40,20 +40,6 @@ fn others_released(deps: &[u32], counts: &[u32], origin: usize) -> bool
     true
 }
 
-// The same for counts that are packed.
-#[inline(always)]
-fn others_released_packed(deps: &PackedDeps, counts: &[u32], origin: u8) -> bool
-    requires { length deps.now ≡ length counts.now }
-    ensures { IsTrue result ↔ ((j : ℕ) → j < length deps.now → j ≢ origin → slice_index deps.now j ≤ slice_index counts.now j) }
-{
-    for site in 0..deps.sites() {
-        if site != origin && deps.count(site) > counts[usize::from(site)] {
-            return false;
-        }
-    }
-    true
-}
-
 impl Clock {
     /// A clock for `sites` sites, with nothing counted yet.
     pub fn new(sites: u8) -> Clock
@@ -123,7 +109,16 @@ impl Clock {
         requires origin { id.site < length self.now.counts }
         ensures { IsTrue result ↔ IsReady self.now (record { id = id; red = red; deps = deps.now }) }
     {
-        self.is_next(id, red) && others_released_packed(deps, self.counts.as_slice(), id.site)
+        if !self.is_next(id, red) {
+            return false;
+        }
+        let counts = self.counts.as_slice();
+        for site in 0..deps.sites() {
+            if site != id.site && deps.count(site) > counts[usize::from(site)] {
+                return false;
+            }
+        }
+        true
     }
 
     /// Counts the message with that stamp.

@@ -16,16 +16,6 @@ use rubis_shadow::{
     Ask, AskedClose, AskedRestock, NewBid, NewClose, NewRename, NewRestock, RenameAsk, Shadow,
 };
 
-// Whether the id has a user's row.
-fn has_user<V: View>(view: &V, user: Id) -> bool
-    ensures { result ≡ is_some (user_in (row_by_key (V.tables view.now)) user) }
-{
-    match view.row(&RowKey::User(user)) {
-        Some(Row::User(_)) => true,
-        _ => false,
-    }
-}
-
 // The user's row.
 fn user_row<V: View>(view: &V, user: Id) -> Option<&UserRow>
     ensures { option_copied result ≡ user_in (row_by_key (V.tables view.now)) user }
@@ -90,7 +80,7 @@ fn check_buyer<V: View>(view: &V, user: Id, item: &ItemRow) -> Result<(), Refusa
     ensures ok { IfOk result (λ _. MayBuy (is_some (user_in (row_by_key (V.tables view.now)) user)) user item.now) }
     ensures refused { IfErr result (IsBuyerRefusal (is_some (user_in (row_by_key (V.tables view.now)) user)) user item.now) }
 {
-    if !has_user(view, user) {
+    if user_row(view, user).is_none() {
         return Err(Refusal::NoUser);
     }
     if is_over(&item.sale) {
@@ -135,7 +125,7 @@ fn decide_item<V: View>(
     ensures { result ≡ decision (row_by_key (V.tables view.now)) standing.now (Ask.Item item) }
 {
     check_room(standing)?;
-    if !has_user(view, item.seller) {
+    if user_row(view, item.seller).is_none() {
         return Err(Refusal::NoUser);
     }
     Ok(Shadow::Item(item))
@@ -206,7 +196,7 @@ fn decide_comment<V: View>(
     if item_row(view, comment.item).is_none() {
         return Err(Refusal::NoItem);
     }
-    if !has_user(view, comment.from) || !has_user(view, comment.to) {
+    if user_row(view, comment.from).is_none() || user_row(view, comment.to).is_none() {
         return Err(Refusal::NoUser);
     }
     if comment.from == comment.to {

@@ -1,7 +1,7 @@
 //! What one site sends to others, read from its record.
 
-ghost use Rattle.std.specs.Prelude.{◌≡◌, ◌≢◌, ◌<◌, ◌≤◌, None, Some, IfOk, IsErrOf, length};
-ghost use Rattle.rubis_message.specs.Forms.{Takes, take_deps, take_site};
+ghost use Rattle.std.specs.Prelude.{◌≡◌, ◌≢◌, ◌<◌, ◌≤◌, None, Some, IfOk, IsErrOf};
+ghost use Rattle.rubis_message.specs.Forms.{Takes, take_site};
 ghost use Rattle.rubis_message.specs.Grammar.{IsPacket, packet_record};
 ghost use Rattle.rubis_message.specs.Readings.{agrees, packet_of, take_message, take_packet, take_stamp, take_token};
 
@@ -11,7 +11,7 @@ use crate::readers::Reader;
 use crate::stamps::read_deps;
 use crate::tokens::{Packet, TOKEN_VERSION, Token};
 use crate::words::says;
-use rubis_clock::{Deps, Stamp};
+use rubis_clock::Stamp;
 use rubis_schema::{COUNT_MAX, COUNTED_MAX, Id, Record, SEQ_MAX, TURN_MAX};
 use rubis_shadow::{Colour, Shadow};
 use std::alloc::Global;
@@ -41,17 +41,6 @@ impl<'a, F: Record> Reader<'a, F> {
         Ok(site as u8)
     }
 
-    /// A count for each of the `sites` sites.
-    #[inline(always)]
-    fn deps(&mut self, sites: u8) -> Result<Deps, ReadFault>
-        requires some_sites { 0 < sites }
-        requires few_sites { sites ≤ COUNTED_MAX }
-        ensures form { Takes (take_deps sites) self.old self.new result }
-        ensures counted { IfOk result (λ d. length d ≡ sites) }
-    {
-        read_deps(self.field()?, sites).ok_or(ReadFault::BadRecord)
-    }
-
     /// A stamp.
     #[tactic(auto, unfolding(crate::specs::Readings::take_stamp))]
     #[inline(always)]
@@ -62,7 +51,7 @@ impl<'a, F: Record> Reader<'a, F> {
         let site = self.site(sites)?;
         let seq = self.positive(u64::from(SEQ_MAX))?;
         let red = self.number(COUNT_MAX)?;
-        let deps = self.deps(sites)?;
+        let deps = read_deps(self.field()?, sites).ok_or(ReadFault::BadRecord)?;
         if !deps.is_next(site, seq) {
             return Err(ReadFault::BadRecord);
         }

@@ -35,7 +35,7 @@ fn put_item(row: &mut PlainRow, item: &NewItem) -> bool
     if !row.put(item.name.as_bytes()) {
         return false;
     }
-    item.seller.put_to(row);
+    row.put_id(item.seller);
     row.put_plain(b"item");
     true
 }
@@ -46,8 +46,8 @@ fn put_bid(row: &mut PlainRow, bid: &NewBid)
     ensures left { row.old.left ≤ row.new.left + SHADOW_ROOM }
 {
     row.put_number(bid.amount);
-    bid.bidder.put_to(row);
-    bid.item.put_to(row);
+    row.put_id(bid.bidder);
+    row.put_id(bid.item);
     row.put_plain(b"bid");
 }
 
@@ -57,8 +57,8 @@ fn put_purchase(row: &mut PlainRow, purchase: &PurchaseRow)
     ensures left { row.old.left ≤ row.new.left + SHADOW_ROOM }
 {
     row.put_number(purchase.quantity);
-    purchase.buyer.put_to(row);
-    purchase.item.put_to(row);
+    row.put_id(purchase.buyer);
+    row.put_id(purchase.item);
     row.put_plain(b"buy");
 }
 
@@ -68,7 +68,7 @@ fn put_winner(row: &mut PlainRow, winner: Option<Id>)
     ensures left { row.old.left ≤ row.new.left + (ID_TEXT_MAX + 1) }
 {
     match winner {
-        Some(id) => id.put_to(row),
+        Some(id) => row.put_id(id),
         None => row.put_plain(b"none"),
     }
 }
@@ -80,7 +80,7 @@ fn put_close(row: &mut PlainRow, close: &NewClose)
 {
     put_winner(row, close.winner);
     row.put_number(u64::from(close.cat));
-    close.item.put_to(row);
+    row.put_id(close.item);
     row.put_plain(b"close");
 }
 
@@ -93,9 +93,9 @@ fn put_comment(row: &mut PlainRow, comment: &CommentRow) -> bool
         return false;
     }
     put_int(row, i64::from(comment.rating));
-    comment.to.put_to(row);
-    comment.from.put_to(row);
-    comment.item.put_to(row);
+    row.put_id(comment.to);
+    row.put_id(comment.from);
+    row.put_id(comment.item);
     row.put_plain(b"comment");
     true
 }
@@ -106,7 +106,7 @@ fn put_restock(row: &mut PlainRow, restock: &NewRestock)
     ensures left { row.old.left ≤ row.new.left + SHADOW_ROOM }
 {
     row.put_number(restock.quantity);
-    restock.item.put_to(row);
+    row.put_id(restock.item);
     row.put_plain(b"restock");
 }
 
@@ -118,7 +118,7 @@ fn put_rename(row: &mut PlainRow, rename: &NewRename) -> bool
     if !row.put(rename.to().as_bytes()) || !row.put(rename.from().as_bytes()) {
         return false;
     }
-    rename.user().put_to(row);
+    row.put_id(rename.user());
     row.put_plain(b"rename");
     true
 }

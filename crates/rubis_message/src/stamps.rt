@@ -1,7 +1,6 @@
 //! The counts of a stamp.
 
-ghost use Rattle.std.specs.Prelude.{◌≡◌, ◌<◌, ◌≤◌, [], ◌∷◌, ◌++◌, IfSome, OnErr, OnOk, length, true};
-ghost use Rattle.rubis_schema.specs.FieldList.{is_plain};
+ghost use Rattle.std.specs.Prelude.{◌≡◌, ◌<◌, ◌≤◌, [], ◌∷◌, ◌++◌, IfSome, OnErr, OnOk, length};
 ghost use Rattle.rubis_message.specs.Counts.{deps_of};
 ghost use Rattle.rubis_message.specs.Grammar.{deps_text};
 
@@ -30,26 +29,18 @@ pub fn read_deps(text: &[u8], sites: u8) -> Option<Deps>
     Some(deps)
 }
 
-// The counts as they are written.
-fn text_of(deps: &PackedDeps) -> ShortText<COUNTS_TEXT_MAX>
-    ensures value { result ≡ deps_text deps.now }
-    ensures plain { is_plain result ≡ true }
+/// Adds the counts as one field.
+pub fn push_deps(fields: &mut Fields, deps: &PackedDeps) -> Result<(), AllocError>
+    ensures ok { OnOk result (fields.new ≡ fields.old ++ deps_text deps.now ∷ []) }
+    ensures err { OnErr result (fields.new ≡ fields.old) }
 {
     let sites = deps.sites();
-    let mut text = ShortText::new();
+    let mut text: ShortText<COUNTS_TEXT_MAX> = ShortText::new();
     for site in (0..sites).rev() {
         if site + 1 < sites {
             text.put_byte(b':');
         }
         text.put_number(deps.count(site));
     }
-    text
-}
-
-/// Adds the counts as one field.
-pub fn push_deps(fields: &mut Fields, deps: &PackedDeps) -> Result<(), AllocError>
-    ensures ok { OnOk result (fields.new ≡ fields.old ++ deps_text deps.now ∷ []) }
-    ensures err { OnErr result (fields.new ≡ fields.old) }
-{
-    fields.push_plain(text_of(deps).as_bytes())
+    fields.push_plain(text.as_bytes())
 }

@@ -1,6 +1,6 @@
 //! Records of what is sent.
 
-ghost use Rattle.std.specs.Prelude.{◌≡◌, ◌++◌, ◌∷◌, [], IfOk, OnErr, OnOk};
+ghost use Rattle.std.specs.Prelude.{◌≡◌, ◌++◌, ◌∷◌, [], IfOk, OnErr, OnOk, codes};
 ghost use Rattle.rubis_message.specs.Grammar.{bid_fields, close_fields, comment_fields, item_fields, message_record, purchase_fields};
 ghost use Rattle.rubis_message.specs.Grammar.{rename_fields, restock_fields, shadow_fields, token_record, winner_text};
 
@@ -12,8 +12,9 @@ use rubis_shadow::{NewBid, NewClose, NewRename, NewRestock, Shadow};
 use std::alloc::{AllocError, Global};
 
 fn push_item(fields: &mut Fields, item: &NewItem) -> Result<(), AllocError>
-    ensures { OnOk result (fields.new ≡ fields.old ++ item_fields item.now) }
+    ensures { OnOk result (fields.new ≡ fields.old ++ codes "item" ∷ item_fields item.now) }
 {
+    fields.push_plain(b"item")?;
     item.seller.push_to(fields)?;
     fields.push(item.name.as_bytes())?;
     push_number(fields, u64::from(item.cat))?;
@@ -23,16 +24,18 @@ fn push_item(fields: &mut Fields, item: &NewItem) -> Result<(), AllocError>
 }
 
 fn push_bid(fields: &mut Fields, bid: &NewBid) -> Result<(), AllocError>
-    ensures { OnOk result (fields.new ≡ fields.old ++ bid_fields bid.now) }
+    ensures { OnOk result (fields.new ≡ fields.old ++ codes "bid" ∷ bid_fields bid.now) }
 {
+    fields.push_plain(b"bid")?;
     bid.item.push_to(fields)?;
     bid.bidder.push_to(fields)?;
     push_number(fields, bid.amount)
 }
 
 fn push_purchase(fields: &mut Fields, purchase: &PurchaseRow) -> Result<(), AllocError>
-    ensures { OnOk result (fields.new ≡ fields.old ++ purchase_fields purchase.now) }
+    ensures { OnOk result (fields.new ≡ fields.old ++ codes "buy" ∷ purchase_fields purchase.now) }
 {
+    fields.push_plain(b"buy")?;
     purchase.item.push_to(fields)?;
     purchase.buyer.push_to(fields)?;
     push_number(fields, purchase.quantity)
@@ -48,16 +51,18 @@ fn push_winner(fields: &mut Fields, winner: Option<Id>) -> Result<(), AllocError
 }
 
 fn push_close(fields: &mut Fields, close: &NewClose) -> Result<(), AllocError>
-    ensures { OnOk result (fields.new ≡ fields.old ++ close_fields close.now) }
+    ensures { OnOk result (fields.new ≡ fields.old ++ codes "close" ∷ close_fields close.now) }
 {
+    fields.push_plain(b"close")?;
     close.item.push_to(fields)?;
     push_number(fields, u64::from(close.cat))?;
     push_winner(fields, close.winner)
 }
 
 fn push_comment(fields: &mut Fields, comment: &CommentRow) -> Result<(), AllocError>
-    ensures { OnOk result (fields.new ≡ fields.old ++ comment_fields comment.now) }
+    ensures { OnOk result (fields.new ≡ fields.old ++ codes "comment" ∷ comment_fields comment.now) }
 {
+    fields.push_plain(b"comment")?;
     comment.item.push_to(fields)?;
     comment.from.push_to(fields)?;
     comment.to.push_to(fields)?;
@@ -66,15 +71,17 @@ fn push_comment(fields: &mut Fields, comment: &CommentRow) -> Result<(), AllocEr
 }
 
 fn push_restock(fields: &mut Fields, restock: &NewRestock) -> Result<(), AllocError>
-    ensures { OnOk result (fields.new ≡ fields.old ++ restock_fields restock.now) }
+    ensures { OnOk result (fields.new ≡ fields.old ++ codes "restock" ∷ restock_fields restock.now) }
 {
+    fields.push_plain(b"restock")?;
     restock.item.push_to(fields)?;
     push_number(fields, restock.quantity)
 }
 
 fn push_rename(fields: &mut Fields, rename: &NewRename) -> Result<(), AllocError>
-    ensures { OnOk result (fields.new ≡ fields.old ++ rename_fields rename.now) }
+    ensures { OnOk result (fields.new ≡ fields.old ++ codes "rename" ∷ rename_fields rename.now) }
 {
+    fields.push_plain(b"rename")?;
     rename.user().push_to(fields)?;
     fields.push(rename.from().as_bytes())?;
     fields.push(rename.to().as_bytes())
@@ -88,34 +95,13 @@ fn push_shadow(fields: &mut Fields, shadow: &Shadow) -> Result<(), AllocError>
             fields.push_plain(b"user")?;
             fields.push(nick.as_bytes())
         }
-        Shadow::Item(item) => {
-            fields.push_plain(b"item")?;
-            push_item(fields, item)
-        }
-        Shadow::Bid(bid) => {
-            fields.push_plain(b"bid")?;
-            push_bid(fields, bid)
-        }
-        Shadow::Buy(purchase) => {
-            fields.push_plain(b"buy")?;
-            push_purchase(fields, purchase)
-        }
-        Shadow::Close(close) => {
-            fields.push_plain(b"close")?;
-            push_close(fields, close)
-        }
-        Shadow::Comment(comment) => {
-            fields.push_plain(b"comment")?;
-            push_comment(fields, comment)
-        }
-        Shadow::Restock(restock) => {
-            fields.push_plain(b"restock")?;
-            push_restock(fields, restock)
-        }
-        Shadow::Rename(rename) => {
-            fields.push_plain(b"rename")?;
-            push_rename(fields, rename)
-        }
+        Shadow::Item(item) => push_item(fields, item),
+        Shadow::Bid(bid) => push_bid(fields, bid),
+        Shadow::Buy(purchase) => push_purchase(fields, purchase),
+        Shadow::Close(close) => push_close(fields, close),
+        Shadow::Comment(comment) => push_comment(fields, comment),
+        Shadow::Restock(restock) => push_restock(fields, restock),
+        Shadow::Rename(rename) => push_rename(fields, rename),
     }
 }
 

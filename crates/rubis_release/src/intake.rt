@@ -144,7 +144,7 @@ impl Intake {
         ensures value { result ≡ length self.now.state.waiting }
         ensures conditions { IsIntake self.now }
     {
-        self.messages.waiting()
+        self.messages.waiting().len()
     }
 
     /// The messages that wait, in arrival order.
@@ -156,7 +156,7 @@ impl Intake {
         ensures value { IfOk result (λ messages. map (λ m. m.now) messages.items ≡ self.now.state.waiting) }
         ensures conditions { IsIntake self.now }
     {
-        self.messages.waiting_messages(alloc)
+        self.messages.waiting().messages(alloc)
     }
 
     /// What a decision has to know of the site.
@@ -242,7 +242,7 @@ impl Intake {
     fn is_full(&self) -> bool
         ensures { result ≡ is_full self.now.place.keep self.now.state }
     {
-        self.messages.log().len() + self.messages.waiting() >= self.keep as usize
+        self.messages.log().len() + self.messages.waiting().len() >= self.keep as usize
     }
 
     // Whether the message says that this site made it, and it didn't.
@@ -262,7 +262,7 @@ impl Intake {
         ensures site { IsAmong self.now.place.sites message.now }
     {
         let id = message.id();
-        id.seq <= self.messages.clock().count(id.site) || self.messages.has_waiting(&id)
+        id.seq <= self.messages.clock().count(id.site) || self.messages.waiting().has(&id)
     }
 
     // The stamp of the message that the site makes of the shadow.

@@ -1,6 +1,6 @@
 //! Messages by origin and number, and those that become ready as others are released.
 
-ghost use Rattle.std.specs.Prelude.{◌≡◌, ◌≤◌, ◌++◌, [], ◌∷◌, false, true, length, map, IfErr, IfOk, OnOk, OnErr};
+ghost use Rattle.std.specs.Prelude.{◌≡◌, ◌≤◌, ◌++◌, [], ◌∷◌, false, true, length, IfErr, OnOk, OnErr};
 ghost use Rattle.std.specs.List.{list_any};
 ghost use Rattle.rubis_schema.specs.declared.limits.TheConstants.{COUNTED_MAX};
 ghost use Rattle.rubis_schema.specs.Keys.{same_id};
@@ -13,7 +13,7 @@ ghost use Rattle.rubis_release.specs.Messages.{HaveSettled};
 use crate::waiting::Waiting;
 use rubis_clock::Clock;
 use rubis_message::Message;
-use rubis_schema::{Hashes, Id};
+use rubis_schema::Hashes;
 use std::alloc::{AllocError, AllocFailed, Global};
 use std::marker::Model;
 
@@ -81,27 +81,12 @@ impl Messages {
         &self.clock
     }
 
-    // How many messages wait.
-    #[inline(always)]
-    pub fn waiting(&self) -> usize
-        ensures { result ≡ length self.now.waiting }
-    {
-        self.waiting.len()
-    }
-
     // Those that wait, in arrival order.
-    pub fn waiting_messages<'a>(&'a self, alloc: Global) -> Result<Vec<&'a Message>, AllocError>
-        ensures { IfOk result (λ messages. map (λ m. m.now) messages.items ≡ self.now.waiting) }
-    {
-        self.waiting.messages(alloc)
-    }
-
-    // Whether a message with that id waits.
     #[inline(always)]
-    pub fn has_waiting(&self, id: &Id) -> bool
-        ensures { result ≡ list_any (λ m. same_id id.now m.stamp.id) self.now.waiting }
+    pub fn waiting(&self) -> &Waiting
+        ensures { result.now ≡ self.now.waiting }
     {
-        self.waiting.has(id)
+        &self.waiting
     }
 
     // Takes a message in where none that waits is ready. One that is ready is released, and then what else is; one that

@@ -7,7 +7,7 @@ ghost use Rattle.std.specs.List.{list_any};
 ghost use Rattle.rubis_schema.specs.Keys.{same_id};
 ghost use Rattle.rubis_release.specs.Release.{AllAmong};
 ghost use Rattle.rubis_release.specs.Waiting.{NoneTaken, TakesFirst, IsFirstOf, IsReadySlot, HasNoReady, HaveTheirIds, AreApart, AreSlots};
-ghost use Rattle.rubis_release.specs.Waiting.{first_of, is_there, somes};
+ghost use Rattle.rubis_release.specs.Waiting.{first_of, somes};
 ghost use Rattle.indexmap.specs.IndexMap.{get};
 
 use indexmap::IndexMap;
@@ -63,7 +63,14 @@ impl Waiting {
     pub fn messages<'a>(&'a self, alloc: Global) -> Result<Vec<&'a Message>, AllocError>
         ensures { IfOk result (λ messages. map (λ m. m.now) messages.items ≡ self.now) }
     {
-        list_messages(alloc, &self.slots)
+        let mut messages = Vec::new(alloc);
+        for slot in self.slots.values() {
+            if let Some(message) = slot {
+                messages.reserve(1)?;
+                messages.push_reserved(message);
+            }
+        }
+        Ok(messages)
     }
 
     // Whether a message with that id waits.
@@ -75,7 +82,10 @@ impl Waiting {
         if self.slots.is_empty() {
             return false;
         }
-        has_message(&self.slots, id)
+        match self.slots.get(id) {
+            Some(slot) => slot.is_some(),
+            None => false,
+        }
     }
 
     // Puts a message last, or hands it back.
@@ -140,34 +150,6 @@ impl Waiting {
     }
 }
 
-// The messages of the slots, in their order.
-fn list_messages<'a>(
-    alloc: Global,
-    slots: &'a IndexMap<Id, Option<Message>, KeyHashes>,
-) -> Result<Vec<&'a Message>, AllocError>
-    ensures { IfOk result (λ messages. map (λ m. m.now) messages.items ≡ somes slots.now.entries) }
-{
-    let mut messages = Vec::new(alloc);
-    for slot in slots.values() {
-        if let Some(message) = slot {
-            messages.reserve(1)?;
-            messages.push_reserved(message);
-        }
-    }
-    Ok(messages)
-}
-
-// Whether the slot of an id has a message.
-#[inline(always)]
-fn has_message(slots: &IndexMap<Id, Option<Message>, KeyHashes>, id: &Id) -> bool
-    ensures { result ≡ is_there (get same_id slots.now id.now) }
-{
-    match slots.get(id) {
-        Some(slot) => slot.is_some(),
-        None => false,
-    }
-}
-
 // Lets an empty slot of that id go, with all others. Answers how many empty slots there are. Where there is none, it isn't
 // looked for.
 fn make_place(slots: &mut IndexMap<Id, Option<Message>, KeyHashes>, gone: usize, id: &Id) -> usize
@@ -177,10 +159,7 @@ fn make_place(slots: &mut IndexMap<Id, Option<Message>, KeyHashes>, gone: usize,
     ensures slots { AreSlots slots.new.entries result }
     ensures absent { get same_id slots.new id.now ≡ None }
 {
-    if gone == 0 {
-        return gone;
-    }
-    if !slots.contains_key(id) {
+    if gone == 0 || !slots.contains_key(id) {
         return gone;
     }
     let none = gone == slots.len();

@@ -1,5 +1,5 @@
 -- How the pieces of a buffer follow its ends.
-use Rattle.std.proofs.Common.{◌≡◌, ◌≤◌, ◌<◌, ◌-◌, ◌+◌, ◌∙◌, ℕ, zero, suc, Some, get_or, List, [], ◌∷◌, ◌++◌, take, drop, length, refl, ap, sym, subst, arith, length-append}
+use Rattle.std.proofs.Common.{◌≡◌, ◌≤◌, ◌<◌, ◌-◌, ◌+◌, ◌∙◌, ℕ, zero, suc, Some, get_or, List, [], ◌∷◌, ◌++◌, take, drop, length, refl, ap, sym, subst, arith, length-append, append_assoc}
 use Rattle.std.proofs.lemmas.Grind.{flat_map-append}
 use Rattle.std.proofs.lemmas.List.{append-nil, drop-append-le, length-drop, length-take-le, take-append-le, take_all}
 use Rattle.std.proofs.Math.Seq.{drop-append-add}
@@ -64,6 +64,15 @@ laid-push ends bytes field more laid size =
       },
       parts,
     )
+
+-- the same, said of the ends and the buffer that follow
+pub laid-more : (ends bytes field new_ends new_bytes : List ℕ) (size : ℕ) → IsLaidOut ends bytes
+    → new_bytes ≡ (bytes ++ comma ∷ []) ++ field → size ≡ length new_bytes → new_ends ≡ ends ++ size ∷ []
+    → IsLaidOut new_ends new_bytes × (pieces 0 new_ends new_bytes ≡ pieces 0 ends bytes ++ field ∷ [])
+laid-more ends bytes field new_ends new_bytes size laid text all more =
+    let same : new_bytes ≡ bytes ++ comma ∷ field = text ∙ append_assoc bytes (comma ∷ []) field in
+    let long : size ≡ length bytes + 1 + length field = omega (arith, all, ap length same, length-append bytes (comma ∷ field)) in
+    rw (more, same) (laid-push ends bytes field size laid long)
 
 -- a buffer has its pieces at one list of ends alone
 ends-fixed : (before : ℕ) (ends others bytes : List ℕ) → Fills before ends (length bytes) → Fills before others (length bytes)

@@ -1,5 +1,5 @@
 -- What a single field is read as: each value from its own text, and from no other.
-use Rattle.std.proofs.Common.{◌≡◌, ℕ, ◌<◌, ◌≤◌, ◌^◌, Bool, true, false, ◌&&◌, cond, List, ◌∷◌, ◌++◌, refl, sym, ap, subst, ◌∙◌, arith, decimal}
+use Rattle.std.proofs.Common.{◌≡◌, ℕ, ◌<◌, ◌≤◌, ◌^◌, Bool, true, false, ◌&&◌, cond, List, ◌∷◌, ◌++◌, refl, ap, subst, ◌∙◌, arith, decimal}
 use Rattle.std.specs.Prelude.{◌==◌, ◌+◌, ◌-◌, nat_lt, ℤ, pos, negsuc, unsigned_abs, IsTrue, slice_index, drop, [], option_map, Option, Some, None, Decides}
 use Rattle.std.proofs.lemmas.Bool.Decides.{Decides-eqb, Decides-ltb, Decides-and}
 use Rattle.std.proofs.lemmas.Fmt.{decimal_nonempty}

@@ -1,12 +1,12 @@
 -- The fields of a text in which each has a comma before it.
 use Rattle.std.proofs.Common.{◌≡◌, ◌∙◌, ◌+◌, ◌-◌, ◌≤◌, ◌<◌, ◌==◌, ◌||◌, ◌&&◌, Bool, ◌++◌, ◌∷◌, [], ℕ, List, true, false, refl, ap, sym, subst, arith, length, length-append, append_assoc, drop}
-use Rattle.std.specs.Prelude.{cond, not}
+use Rattle.std.specs.Prelude.{not}
 use Rattle.std.specs.List.{list_any}
 use Rattle.std.proofs.lemmas.Bool.{both_ways, not-true, or_parts}
 use Rattle.std.proofs.lemmas.List.{append-nil}
 use Rattle.std.proofs.lemmas.List.Folds.{list_any-append}
 use Rattle.rubis_schema.specs.FieldList.{all_plain, comma, is_mark, is_plain, joined}
-use Rattle.rubis_schema.specs.PlainRows.{TextFields, IsPlainText, PlainRow, text_fields, with_byte, fields_in, row_of_text}
+use Rattle.rubis_schema.specs.PlainRows.{IsPlainText, PlainRow, text_fields, fields_in, row_of_text}
 
 -- a byte that calls for no quotes is no comma
 no_comma : (b : ℕ) → is_mark b ≡ false → (b == comma) ≡ false

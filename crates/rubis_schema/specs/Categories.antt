@@ -1,5 +1,5 @@
 -- Which categories a listing leaves out.
-use Rattle.std.specs.Prelude.{ℕ, ℤ, Bool, false, ◌&&◌, nat_eq, pos}
+use Rattle.std.specs.Prelude.{ℤ, Bool, false, ◌&&◌, nat_eq, pos}
 use Rattle.rubis_schema.specs.declared.rows.CatRow.{CatRow}
 
 abbrev pub is_zero : ℤ → Bool

@@ -16,3 +16,4 @@ pub mod Adding
 pub mod Members
 pub mod PlainRows
 pub mod NumberForms
+pub mod SpareRoom

@@ -95,59 +95,6 @@ fn add(text: &mut Vec<u8>, ends: &mut Vec<usize>, field: &[u8]) -> Result<(), Al
     Ok(())
 }
 
-// Adds a field of a few bytes at the end. Without memory for it nothing changes.
-#[inline(always)]
-fn add_short(text: &mut Vec<u8>, ends: &mut Vec<usize>, field: &[u8]) -> Result<(), AllocError>
-    requires { IsLaidOut ends.old.items text.old.items }
-    ensures laid { OnOk result (IsLaidOut ends.new.items text.new.items) }
-    ensures ok { OnOk result (pieces 0 ends.new.items text.new.items ≡ pieces 0 ends.old.items text.old.items ++ field.now ∷ []) }
-    ensures err { OnErr result ((ends.new.items ≡ ends.old.items) × (text.new.items ≡ text.old.items)) }
-{
-    make_room(ends, 1)?;
-    make_room(text, field.len() + 1)?;
-    text.push_reserved(b',');
-    push_bytes(text, field);
-    ends.push_reserved(text.len());
-    Ok(())
-}
-
-// Adds a number as a field at the end. Without memory for it nothing changes.
-#[inline(always)]
-fn add_number(text: &mut Vec<u8>, ends: &mut Vec<usize>, number: u64) -> Result<(), AllocError>
-    requires { IsLaidOut ends.old.items text.old.items }
-    ensures laid { OnOk result (IsLaidOut ends.new.items text.new.items) }
-    ensures ok { OnOk result (pieces 0 ends.new.items text.new.items ≡ pieces 0 ends.old.items text.old.items ++ decimal number ∷ []) }
-    ensures err { OnErr result ((ends.new.items ≡ ends.old.items) × (text.new.items ≡ text.old.items)) }
-{
-    make_room(ends, 1)?;
-    make_room(text, NUMBER_TEXT_MAX + 1)?;
-    text.push_reserved(b',');
-    push_digits(text, number);
-    ends.push_reserved(text.len());
-    Ok(())
-}
-
-// Adds two numbers with a point between them as a field at the end. Without memory for it nothing changes.
-#[inline(always)]
-fn add_numbers(
-    text: &mut Vec<u8>,
-    ends: &mut Vec<usize>,
-    first: u64,
-    second: u64,
-) -> Result<(), AllocError>
-    requires { IsLaidOut ends.old.items text.old.items }
-    ensures laid { OnOk result (IsLaidOut ends.new.items text.new.items) }
-    ensures ok { OnOk result (pieces 0 ends.new.items text.new.items ≡ pieces 0 ends.old.items text.old.items ++ (decimal first ++ 46 ∷ decimal second) ∷ []) }
-    ensures err { OnErr result ((ends.new.items ≡ ends.old.items) × (text.new.items ≡ text.old.items)) }
-{
-    make_room(ends, 1)?;
-    make_room(text, NUMBERS_TEXT_MAX + 1)?;
-    text.push_reserved(b',');
-    push_numbers(text, first, second);
-    ends.push_reserved(text.len());
-    Ok(())
-}
-
 impl Fields {
     /// A record with no fields. It takes no memory yet.
     pub fn new(alloc: Global) -> Fields
@@ -190,7 +137,12 @@ impl Fields {
         ensures ok { OnOk result (self.new ≡ self.old ++ field.now ∷ []) }
         ensures err { OnErr result (self.new ≡ self.old) }
     {
-        add_short(&mut self.text, &mut self.ends, field)
+        make_room(&mut self.ends, 1)?;
+        make_room(&mut self.text, field.len() + 1)?;
+        self.text.push_reserved(b',');
+        push_bytes(&mut self.text, field);
+        self.ends.push_reserved(self.text.len());
+        Ok(())
     }
 
     /// Adds a number as a field at the end. Without memory for it the record stays as it was.
@@ -199,7 +151,11 @@ impl Fields {
         ensures ok { OnOk result (self.new ≡ self.old ++ decimal number ∷ []) }
         ensures err { OnErr result (self.new ≡ self.old) }
     {
-        add_number(&mut self.text, &mut self.ends, number)?;
+        make_room(&mut self.ends, 1)?;
+        make_room(&mut self.text, NUMBER_TEXT_MAX + 1)?;
+        self.text.push_reserved(b',');
+        push_digits(&mut self.text, number);
+        self.ends.push_reserved(self.text.len());
         Ok(())
     }
 
@@ -209,7 +165,11 @@ impl Fields {
         ensures ok { OnOk result (self.new ≡ self.old ++ (decimal first ++ 46 ∷ decimal second) ∷ []) }
         ensures err { OnErr result (self.new ≡ self.old) }
     {
-        add_numbers(&mut self.text, &mut self.ends, first, second)?;
+        make_room(&mut self.ends, 1)?;
+        make_room(&mut self.text, NUMBERS_TEXT_MAX + 1)?;
+        self.text.push_reserved(b',');
+        push_numbers(&mut self.text, first, second);
+        self.ends.push_reserved(self.text.len());
         Ok(())
     }
 

@@ -5,7 +5,6 @@ ghost use Rattle.rubis_schema.specs.Keys.{home};
 
 use crate::ids::Id;
 use crate::limits::NICK_MAX;
-use crate::nicks::Nick;
 use crate::row_keys::RowKey;
 
 // The sum of at most `NICK_MAX` bytes.
@@ -14,13 +13,6 @@ fn sum_of(bytes: &[u8]) -> u64
     ensures { result ≡ sum bytes.now }
 {
     bytes.iter().map(|byte| u64::from(*byte)).sum()
-}
-
-// The sum of the bytes of a nickname.
-fn byte_sum(nick: &Nick) -> u64
-    ensures { result ≡ sum nick.now }
-{
-    sum_of(nick.as_bytes())
 }
 
 // The number of an id in a table that, modulo the number of shards, is its home shard.
@@ -46,7 +38,7 @@ pub fn shard_of(key: &RowKey, shards: usize) -> usize
         RowKey::Bid(id) => id_sum(2, *id),
         RowKey::Purchase(id) => id_sum(3, *id),
         RowKey::Comment(id) => id_sum(4, *id),
-        RowKey::Nick(nick) => byte_sum(nick),
+        RowKey::Nick(nick) => sum_of(nick.as_bytes()),
         RowKey::Cat(cat) => u64::from(*cat),
     };
     (place % shards as u64) as usize

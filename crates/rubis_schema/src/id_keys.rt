@@ -1,7 +1,7 @@
 //! Keys of rows as one word, for maps.
 
 ghost use Rattle.std.specs.Prelude.{◌≡◌, ◌<◌, ◌+◌, ◌*◌, ◌^◌};
-ghost use Rattle.rubis_schema.specs.IdKeys.{key_word, row_key, same_id_key, table_place};
+ghost use Rattle.rubis_schema.specs.IdKeys.{row_key, same_id_key, table_place};
 
 use crate::ids::Id;
 use crate::row_keys::RowKey;
@@ -71,15 +71,6 @@ impl IdKey {
             IdTable::Comment => RowKey::Comment(id),
         }
     }
-
-    // The key as one number.
-    #[inline(always)]
-    fn word(&self) -> u64
-        ensures { result ≡ key_word self.now }
-    {
-        let table = self.table.place();
-        table * (1 << 40) + u64::from(self.site) * (1 << 32) + u64::from(self.seq)
-    }
 }
 
 impl PartialEq for IdKey {
@@ -117,6 +108,7 @@ impl Hash for IdKey {
 
     #[inline(always)]
     fn hash<H: Hasher>(&self, state: &mut H) {
-        state.write_u64(self.word());
+        let table = self.table.place();
+        state.write_u64(table * (1 << 40) + u64::from(self.site) * (1 << 32) + u64::from(self.seq));
     }
 }

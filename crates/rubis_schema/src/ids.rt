@@ -4,11 +4,9 @@ ghost use Rattle.std.specs.Prelude.{◌≡◌, ◌≤◌, ◌+◌, ◌++◌, ◌
 ghost use Rattle.rubis_schema.specs.FieldList.{is_plain};
 ghost use Rattle.rubis_schema.specs.FieldForms.{id_of};
 ghost use Rattle.rubis_schema.specs.Ids.{id_text};
-ghost use Rattle.rubis_schema.specs.declared.limits.TheConstants.{ID_TEXT_MAX};
 
 use crate::field_list::Fields;
 use crate::limits::{ID_TEXT_MAX, SEQ_MAX};
-use crate::plain_rows::PlainRow;
 use crate::short_texts::ShortText;
 use crate::splits::read_number_before;
 use rubis_numbers::read_number;
@@ -78,15 +76,5 @@ impl Id {
         ensures err { OnErr result (fields.new ≡ fields.old) }
     {
         fields.push_numbers(u64::from(self.site), u64::from(self.seq))
-    }
-
-    /// Puts the id first, as a field.
-    #[inline(always)]
-    pub fn put_to(&self, row: &mut PlainRow)
-        requires room { ID_TEXT_MAX + 1 ≤ row.old.left }
-        ensures fields { row.new.fields ≡ id_text self.now ∷ row.old.fields }
-        ensures left { row.old.left ≤ row.new.left + (ID_TEXT_MAX + 1) }
-    {
-        row.put_numbers(u32::from(self.site), self.seq);
     }
 }

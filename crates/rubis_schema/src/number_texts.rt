@@ -2,6 +2,7 @@
 
 ghost use Rattle.std.specs.Prelude.{◌≡◌, ◌+◌, ◌/◌, ◌%◌, ◌<◌, ◌≤◌, ◌++◌, ◌∷◌, [], decimal, length};
 ghost use Rattle.std.specs.Vec.{vec_capacity, vec_len};
+ghost use Rattle.rubis_schema.specs.SpareRoom.{Appends};
 
 use crate::limits::NUMBERS_TEXT_MAX;
 
@@ -10,9 +11,7 @@ use crate::limits::NUMBERS_TEXT_MAX;
 fn push_digit(text: &mut Vec<u8>, digit: u64)
     requires digit { digit < 10 }
     requires room { vec_len text.old < vec_capacity text.old }
-    ensures text { text.new.items ≡ text.old.items ++ (48 + digit) ∷ [] }
-    ensures len { vec_len text.new ≡ vec_len text.old + 1 }
-    ensures room { vec_capacity text.new ≡ vec_capacity text.old }
+    ensures { Appends text.old ((48 + digit) ∷ []) text.new }
 {
     text.push_reserved(b'0' + digit as u8);
 }
@@ -22,9 +21,7 @@ fn push_digit(text: &mut Vec<u8>, digit: u64)
 fn push_pair(text: &mut Vec<u8>, pair: u64)
     requires pair { pair < 100 }
     requires room { vec_len text.old + 2 ≤ vec_capacity text.old }
-    ensures text { text.new.items ≡ text.old.items ++ (48 + pair / 10) ∷ (48 + pair % 10) ∷ [] }
-    ensures len { vec_len text.new ≡ vec_len text.old + 2 }
-    ensures room { vec_capacity text.new ≡ vec_capacity text.old }
+    ensures { Appends text.old ((48 + pair / 10) ∷ (48 + pair % 10) ∷ []) text.new }
 {
     push_digit(text, pair / 10);
     push_digit(text, pair % 10);
@@ -35,9 +32,7 @@ fn push_pair(text: &mut Vec<u8>, pair: u64)
 fn push_short(text: &mut Vec<u8>, number: u64)
     requires short { number < 100 }
     requires room { vec_len text.old + length (decimal number) ≤ vec_capacity text.old }
-    ensures text { text.new.items ≡ text.old.items ++ decimal number }
-    ensures len { vec_len text.new ≡ vec_len text.old + length (decimal number) }
-    ensures room { vec_capacity text.new ≡ vec_capacity text.old }
+    ensures { Appends text.old (decimal number) text.new }
 {
     if number < 10 {
         push_digit(text, number);
@@ -51,9 +46,7 @@ fn push_short(text: &mut Vec<u8>, number: u64)
 fn push_middle(text: &mut Vec<u8>, number: u64)
     requires middle { number < 10000 }
     requires room { vec_len text.old + length (decimal number) ≤ vec_capacity text.old }
-    ensures text { text.new.items ≡ text.old.items ++ decimal number }
-    ensures len { vec_len text.new ≡ vec_len text.old + length (decimal number) }
-    ensures room { vec_capacity text.new ≡ vec_capacity text.old }
+    ensures { Appends text.old (decimal number) text.new }
 {
     if number < 100 {
         push_short(text, number);
@@ -69,9 +62,7 @@ fn push_eight(text: &mut Vec<u8>, number: u64)
     requires long { 10000 ≤ number }
     requires eight { number < 100000000 }
     requires room { vec_len text.old + length (decimal number) ≤ vec_capacity text.old }
-    ensures text { text.new.items ≡ text.old.items ++ decimal number }
-    ensures len { vec_len text.new ≡ vec_len text.old + length (decimal number) }
-    ensures room { vec_capacity text.new ≡ vec_capacity text.old }
+    ensures { Appends text.old (decimal number) text.new }
 {
     let rest = number / 100;
     push_middle(text, rest / 100);
@@ -83,9 +74,7 @@ fn push_eight(text: &mut Vec<u8>, number: u64)
 fn push_long(text: &mut Vec<u8>, number: u64)
     requires long { 10000 ≤ number }
     requires room { vec_len text.old + length (decimal number) ≤ vec_capacity text.old }
-    ensures text { text.new.items ≡ text.old.items ++ decimal number }
-    ensures len { vec_len text.new ≡ vec_len text.old + length (decimal number) }
-    ensures room { vec_capacity text.new ≡ vec_capacity text.old }
+    ensures { Appends text.old (decimal number) text.new }
 {
     let rest = number / 100;
     let front = rest / 100;
@@ -102,9 +91,7 @@ fn push_long(text: &mut Vec<u8>, number: u64)
 #[inline(never)]
 fn push_more(text: &mut Vec<u8>, number: u64)
     requires room { vec_len text.old + length (decimal number) ≤ vec_capacity text.old }
-    ensures text { text.new.items ≡ text.old.items ++ decimal number }
-    ensures len { vec_len text.new ≡ vec_len text.old + length (decimal number) }
-    ensures room { vec_capacity text.new ≡ vec_capacity text.old }
+    ensures { Appends text.old (decimal number) text.new }
 {
     if number < 10000 {
         push_middle(text, number);

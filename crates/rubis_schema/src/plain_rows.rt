@@ -3,9 +3,11 @@
 ghost use Rattle.std.specs.Prelude.{◌≡◌, ◌≤◌, ◌<◌, ◌+◌, ◌++◌, ◌∷◌, [], ℕ, List, IsTrue, decimal, false, length, true};
 ghost use Rattle.rubis_schema.specs.FieldList.{all_plain, is_mark, joined};
 ghost use Rattle.rubis_schema.specs.FieldList as model;
+ghost use Rattle.rubis_schema.specs.Ids.{id_text};
 ghost use Rattle.rubis_schema.specs.declared.limits.TheConstants.{ID_TEXT_MAX, NUMBER_TEXT_MAX, PLAIN_ROW_MAX};
 
 use crate::field_list::is_plain;
+use crate::ids::Id;
 use crate::limits::PLAIN_ROW_MAX;
 use crate::short_texts::ShortText;
 use std::marker::Model;
@@ -87,16 +89,16 @@ impl PlainRow {
         self.text.put_byte(b',');
     }
 
-    /// Puts two numbers with a point between them first, as one field.
+    /// Puts an id first, as a field.
     #[inline(always)]
-    pub fn put_numbers(&mut self, first: u32, second: u32)
+    pub fn put_id(&mut self, id: Id)
         requires room { ID_TEXT_MAX + 1 ≤ self.old.left }
-        ensures fields { self.new.fields ≡ (decimal first ++ 46 ∷ decimal second) ∷ self.old.fields }
+        ensures fields { self.new.fields ≡ id_text id ∷ self.old.fields }
         ensures left { self.old.left ≤ self.new.left + (ID_TEXT_MAX + 1) }
     {
-        self.text.put_number(second);
+        self.text.put_number(id.seq);
         self.text.put_byte(b'.');
-        self.text.put_number(first);
+        self.text.put_number(u32::from(id.site));
         self.text.put_byte(b',');
     }
 

@@ -1,7 +1,7 @@
 //! The keys of rows, and their order within a listing.
 
 ghost use Rattle.std.specs.Prelude.{◌≡◌, ◌<◌};
-ghost use Rattle.rubis_schema.specs.Keys.{holds, home, key_eq, key_order, table_of};
+ghost use Rattle.rubis_schema.specs.Keys.{holds, home, key_order, table_of};
 
 use crate::ids::Id;
 use crate::nicks::Nick;
@@ -68,22 +68,6 @@ pub fn key_cmp(a: &RowKey, b: &RowKey) -> Ordering
     }
 }
 
-#[inline(always)]
-fn same_key(a: &RowKey, b: &RowKey) -> bool
-    ensures { result ≡ key_eq a.now b.now }
-{
-    match (a, b) {
-        (RowKey::User(i), RowKey::User(j)) => i == j,
-        (RowKey::Item(i), RowKey::Item(j)) => i == j,
-        (RowKey::Bid(i), RowKey::Bid(j)) => i == j,
-        (RowKey::Purchase(i), RowKey::Purchase(j)) => i == j,
-        (RowKey::Comment(i), RowKey::Comment(j)) => i == j,
-        (RowKey::Nick(m), RowKey::Nick(n)) => m == n,
-        (RowKey::Cat(k), RowKey::Cat(l)) => k == l,
-        _ => false,
-    }
-}
-
 /// The place of a key's table in the order of keys, from 0.
 #[inline(always)]
 pub fn table_number(key: &RowKey) -> u8
@@ -110,7 +94,16 @@ impl PartialEq for RowKey {
     ghost laws = { partial_equiv_from_equiv key_eq_equiv };
 
     fn eq(&self, other: &RowKey) -> bool {
-        same_key(self, other)
+        match (self, other) {
+            (RowKey::User(i), RowKey::User(j)) => i == j,
+            (RowKey::Item(i), RowKey::Item(j)) => i == j,
+            (RowKey::Bid(i), RowKey::Bid(j)) => i == j,
+            (RowKey::Purchase(i), RowKey::Purchase(j)) => i == j,
+            (RowKey::Comment(i), RowKey::Comment(j)) => i == j,
+            (RowKey::Nick(m), RowKey::Nick(n)) => m == n,
+            (RowKey::Cat(k), RowKey::Cat(l)) => k == l,
+            _ => false,
+        }
     }
 }
 

@@ -92,7 +92,7 @@ pub fn write_sent<S: PlainSink>(
 {
     let row = &mut draft.row;
     row.clear();
-    message.id().put_to(row);
+    row.put_id(message.id());
     put_reply(row, number, b"ok");
     sink.put_plain(row)?;
     send_message(draft, sink, message)

@@ -97,7 +97,16 @@ impl Shadow {
     pub fn effect(&self, id: Id, red: u32, place: u8) -> Option<EffectRef<'_>>
         ensures { result ≡ slice_get (parts id red self.now) place }
     {
-        part_at(id, red, self, place)
+        match self {
+            Shadow::User(nick) => user_part(id, *nick, place),
+            Shadow::Item(item) => item_part(id, item, place),
+            Shadow::Bid(bid) => bid_part(id, red, *bid, place),
+            Shadow::Buy(purchase) => buy_part(id, *purchase, place),
+            Shadow::Close(close) => close_part(*close, place),
+            Shadow::Comment(comment) => comment_part(id, comment, place),
+            Shadow::Restock(restock) => restock_part(*restock, place),
+            Shadow::Rename(rename) => rename_part(rename, place),
+        }
     }
 
     /// The key of the part at this place, from 0; `id` is the shadow's own.
@@ -157,23 +166,6 @@ fn close_keys(close: &NewClose) -> Keys
     match close.winner {
         Some(bid) => two_keys(RowKey::Item(close.item), RowKey::Bid(bid)),
         None => one_key(RowKey::Item(close.item)),
-    }
-}
-
-// The part at this place, from 0.
-#[inline(always)]
-fn part_at<'a>(id: Id, red: u32, shadow: &'a Shadow, place: u8) -> Option<EffectRef<'a>>
-    ensures { result ≡ slice_get (parts id red shadow.now) place }
-{
-    match shadow {
-        Shadow::User(nick) => user_part(id, *nick, place),
-        Shadow::Item(item) => item_part(id, item, place),
-        Shadow::Bid(bid) => bid_part(id, red, *bid, place),
-        Shadow::Buy(purchase) => buy_part(id, *purchase, place),
-        Shadow::Close(close) => close_part(*close, place),
-        Shadow::Comment(comment) => comment_part(id, comment, place),
-        Shadow::Restock(restock) => restock_part(*restock, place),
-        Shadow::Rename(rename) => rename_part(rename, place),
     }
 }
 

@@ -7,16 +7,17 @@ use Rattle.rubis_message.specs.Message.{Message}
 use Rattle.rubis_release.specs.Waiting.{somes}
 use Rattle.rubis_release.proofs.Gaps.{has_told, full_lookup, none_is}
 use Rattle.rubis_release.proofs.waiting.make_place.Goals as goal
+use Rattle.rubis_release.proofs.waiting.make_place.Goals.{then-gone-eq0-via-then-gone-eq0, then-gone-eq0-via-else-gone-eq0+then-not-contains_key}
 
 pub returns-then-gone-eq0-clause-absent : goal.returns-then-gone-eq0-clause-absent
-returns-then-gone-eq0-clause-absent c =
-    let es = c.args.slots.now.entries in
-    let full : length (somes es) ≡ length es = omega (arith, c.requires.slots.gone, c.if-gone-eq0.true) in
-    full_lookup (same_id c.args.id.now) es full
-    (has_told es c.args.id.now c.requires.slots.own c.requires.slots.apart ∙ c.requires.none)
-
-pub returns-then-not-contains_key-clause-absent : goal.returns-then-not-contains_key-clause-absent
-returns-then-not-contains_key-clause-absent c = none_is _ (sym c.contains_key.ensures ∙ c.if-not-contains_key.true)
+returns-then-gone-eq0-clause-absent c = elim c.then-gone-eq0.branch [
+  | then-gone-eq0-via-then-gone-eq0 w ↦
+      let es = c.args.slots.now.entries in
+      let full : length (somes es) ≡ length es = omega (arith, c.requires.slots.gone, w.if-gone-eq0.true) in
+      full_lookup (same_id c.args.id.now) es full
+      (has_told es c.args.id.now c.requires.slots.own c.requires.slots.apart ∙ c.requires.none)
+  | then-gone-eq0-via-else-gone-eq0+then-not-contains_key w ↦ none_is _ (sym w.contains_key.ensures ∙ w.if-not-contains_key.true)
+]
 
 pub close-requires : goal.close-requires
 close-requires c = λ e.

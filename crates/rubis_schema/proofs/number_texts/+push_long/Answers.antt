@@ -1,5 +1,6 @@
-use Rattle.std.proofs.Common.{◌≡◌, ◌∙◌, ◌+◌, ◌/◌, ◌%◌, ◌++◌, ◌∷◌, [], ℕ, List, decimal, ap, arith}
+use Rattle.std.proofs.Common.{◌∙◌, ◌+◌, ◌/◌, ◌%◌, ◌++◌, ◌∷◌, [], ℕ, List, decimal, ap, arith}
 use Rattle.std.specs.Vec.{vec_capacity, vec_len}
+use Rattle.rubis_schema.specs.SpareRoom.{Appends}
 use Rattle.rubis_schema.proofs.NumberTexts.{four_longer, four_more}
 use Rattle.rubis_schema.proofs.number_texts.+push_long.Goals as goal
 use Rattle.rubis_schema.proofs.number_texts.+push_long.Goals.{then-front-lt10000, else-front-lt10000}
@@ -28,30 +29,20 @@ push_pair-requires-2-clause-room t c =
       | else-front-lt10000 w ↦ omega (arith, c.requires.room, len, room, ap (λ v. vec_len v) w.text-is, ap (λ v. vec_capacity v) w.text-is, w.push_long.ensures.len, w.push_long.ensures.room, longer)
     ]
 
-pub returns-clause-text : goal.returns-clause-text
-returns-clause-text t c =
-    let old = c.args.text.now.items in
+pub returns : goal.returns
+returns t c =
+    let old = c.args.text.now in
     let n = c.args.number in
+    let front : Appends old (decimal (n / 100 / 100)) c.if-front-lt10000.text = elim c.if-front-lt10000.branch [
+      | then-front-lt10000 w ↦ rw w.text-is w.push_middle.ensures
+      | else-front-lt10000 w ↦ rw w.text-is w.push_long.ensures
+    ] in
+    let pair = c.push_pair.ensures in
+    let end = c.push_pair-2.ensures in
     let two : List ℕ = (48 + n / 100 % 100 / 10) ∷ (48 + n / 100 % 100 % 10) ∷ [] in
     let last : List ℕ = (48 + n % 100 / 10) ∷ (48 + n % 100 % 10) ∷ [] in
-    let front : c.if-front-lt10000.text.items ≡ old ++ decimal (n / 100 / 100) = elim c.if-front-lt10000.branch [
-      | then-front-lt10000 w ↦ rw w.text-is w.push_middle.ensures.text
-      | else-front-lt10000 w ↦ rw w.text-is w.push_long.ensures.text
-    ] in
-    c.push_pair-2.ensures.text ∙ ap (λ xs. xs ++ last) (c.push_pair.ensures.text ∙ ap (λ xs. xs ++ two) front) ∙ four_more old n c.requires.long c.ranges.number.fits
-
-pub returns-clause-len : goal.returns-clause-len
-returns-clause-len t c =
-    let longer = four_longer c.args.number c.requires.long c.ranges.number.fits in
-    let first = c.push_pair.ensures.len in
-    let second = c.push_pair-2.ensures.len in
-    elim c.if-front-lt10000.branch [
-      | then-front-lt10000 w ↦ omega (arith, first, second, ap (λ v. vec_len v) w.text-is, w.push_middle.ensures.len, longer)
-      | else-front-lt10000 w ↦ omega (arith, first, second, ap (λ v. vec_len v) w.text-is, w.push_long.ensures.len, longer)
-    ]
-
-pub returns-clause-room : goal.returns-clause-room
-returns-clause-room t c = elim c.if-front-lt10000.branch [
-  | then-front-lt10000 w ↦ c.push_pair-2.ensures.room ∙ c.push_pair.ensures.room ∙ ap (λ v. vec_capacity v) w.text-is ∙ w.push_middle.ensures.room
-  | else-front-lt10000 w ↦ c.push_pair-2.ensures.room ∙ c.push_pair.ensures.room ∙ ap (λ v. vec_capacity v) w.text-is ∙ w.push_long.ensures.room
-]
+    record {
+      text = end.text ∙ ap (λ xs. xs ++ last) (pair.text ∙ ap (λ xs. xs ++ two) front.text) ∙ four_more old.items n c.requires.long c.ranges.number.fits;
+      len = omega (arith, front.len, pair.len, end.len, four_longer n c.requires.long c.ranges.number.fits);
+      room = end.room ∙ pair.room ∙ front.room;
+    }

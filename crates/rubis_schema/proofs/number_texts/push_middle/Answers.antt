@@ -11,12 +11,15 @@ push_pair-requires-clause-room c =
     let short = c.push_short-else-number-lt100.ensures in
     omega (arith, c.requires.room, short.len, short.room, longer)
 
-pub returns-else-number-lt100-clause-text : goal.returns-else-number-lt100-clause-text
-returns-else-number-lt100-clause-text c =
+pub returns-else-number-lt100 : goal.returns-else-number-lt100
+returns-else-number-lt100 c =
     let old = c.args.text.now.items in
     let n = c.args.number in
+    let short = c.push_short-else-number-lt100.ensures in
+    let pair = c.push_pair.ensures in
     let two : List ℕ = (48 + n % 100 / 10) ∷ (48 + n % 100 % 10) ∷ [] in
-    c.push_pair.ensures.text ∙ ap (λ xs. xs ++ two) c.push_short-else-number-lt100.ensures.text ∙ append_assoc old (decimal (n / 100)) two ∙ ap (λ xs. old ++ xs) (sym (more_digits n c.if-number-lt100.false c.ranges.number.fits))
-
-pub returns-else-number-lt100-clause-len : goal.returns-else-number-lt100-clause-len
-returns-else-number-lt100-clause-len c = omega (arith, c.push_pair.ensures.len, c.push_short-else-number-lt100.ensures.len, two_longer c.args.number c.if-number-lt100.false c.ranges.number.fits)
+    record {
+      text = pair.text ∙ ap (λ xs. xs ++ two) short.text ∙ append_assoc old (decimal (n / 100)) two ∙ ap (λ xs. old ++ xs) (sym (more_digits n c.if-number-lt100.false c.ranges.number.fits));
+      len = omega (arith, pair.len, short.len, two_longer n c.if-number-lt100.false c.ranges.number.fits);
+      room = pair.room ∙ short.room;
+    }

@@ -9,14 +9,8 @@ push_digit-requires-clause-room c = omega (arith, c.requires.room, one_digit c.a
 pub push_pair-requires-clause-room : goal.push_pair-requires-clause-room
 push_pair-requires-clause-room c = omega (arith, c.requires.room, ap length (two_digits c.args.number c.if-number-lt10.false c.requires.short))
 
-pub returns-then-number-lt10-clause-text : goal.returns-then-number-lt10-clause-text
-returns-then-number-lt10-clause-text c = rw (decimal_digit c.args.number c.if-number-lt10.true) c.push_digit.ensures.text
+pub returns-then-number-lt10 : goal.returns-then-number-lt10
+returns-then-number-lt10 c = rw (decimal_digit c.args.number c.if-number-lt10.true) c.push_digit.ensures
 
-pub returns-then-number-lt10-clause-len : goal.returns-then-number-lt10-clause-len
-returns-then-number-lt10-clause-len c = rw (decimal_digit c.args.number c.if-number-lt10.true) c.push_digit.ensures.len
-
-pub returns-else-number-lt10-clause-text : goal.returns-else-number-lt10-clause-text
-returns-else-number-lt10-clause-text c = rw (two_digits c.args.number c.if-number-lt10.false c.requires.short) c.push_pair.ensures.text
-
-pub returns-else-number-lt10-clause-len : goal.returns-else-number-lt10-clause-len
-returns-else-number-lt10-clause-len c = rw (two_digits c.args.number c.if-number-lt10.false c.requires.short) c.push_pair.ensures.len
+pub returns-else-number-lt10 : goal.returns-else-number-lt10
+returns-else-number-lt10 c = rw (two_digits c.args.number c.if-number-lt10.false c.requires.short) c.push_pair.ensures

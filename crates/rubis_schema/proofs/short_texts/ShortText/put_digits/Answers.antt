@@ -1,4 +1,4 @@
-use Rattle.std.proofs.Common.{◌≡◌, ◌++◌, ◌∷◌, [], ℕ, List, decimal, drop, length, ap, arith, length-drop, rules}
+use Rattle.std.proofs.Common.{arith}
 use Rattle.std.proofs.lemmas.Fmt.{decimal_digit}
 use Rattle.rubis_schema.proofs.NumberTexts.{one_digit}
 use Rattle.rubis_schema.proofs.short_texts.ShortText.put_digits.Goals as goal

@@ -1,7 +1,7 @@
 use Rattle.std.proofs.Common.{◌-◌, ◌∷◌, ◌++◌, length, arith, ap, ◌∙◌, decimal, get_or}
 use Rattle.rubis_message.proofs.Counts.{plain_both, text_more}
-use Rattle.rubis_message.proofs.stamps.text_of.Goals as goal
-use Rattle.rubis_message.proofs.stamps.text_of.Goals.{then-site-sites, else-site-sites}
+use Rattle.rubis_message.proofs.stamps.push_deps.Goals as goal
+use Rattle.rubis_message.proofs.stamps.push_deps.Goals.{then-site-sites, else-site-sites}
 
 pub loop-site-preserved : goal.loop-site-preserved
 loop-site-preserved c = (

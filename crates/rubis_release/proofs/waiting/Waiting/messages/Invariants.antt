@@ -1,7 +1,7 @@
 use Rattle.std.proofs.Common.{◌≡◌, ◌++◌}
 use Rattle.std.specs.Prelude.{map}
 use Rattle.rubis_release.proofs.Listing.{messages_of}
-use Rattle.rubis_release.proofs.waiting.list_messages.Given as goal
+use Rattle.rubis_release.proofs.waiting.Waiting.messages.Given as goal
 
 -- those that were listed, and those of the slots to come
 abbrev pub invariant-loop-slot : goal.invariant-loop-slot

@@ -2,7 +2,7 @@ use Rattle.std.proofs.Common.{◌∙◌, ◌++◌, ap, sym}
 use Rattle.std.specs.Prelude.{map}
 use Rattle.std.proofs.lemmas.List.{append-nil}
 use Rattle.rubis_release.proofs.Listing.{messages_of, of_slots}
-use Rattle.rubis_release.proofs.waiting.list_messages.Goals as goal
+use Rattle.rubis_release.proofs.waiting.Waiting.messages.Goals as goal
 
 pub returns : goal.returns
 returns c =
@@ -10,4 +10,5 @@ returns c =
     ∙ ap (λ rest. map (λ m. m.now) c.loop-slot.messages.items ++ messages_of rest) (sym c.in-None.ensures.steps.0)
     ∙ c.loop-slot.invariant
     ∙ ap messages_of (c.into_iter-slot-iterator.ensures.into_iter_gives ∙ c.values-slot-items.ensures.rest)
-    ∙ of_slots c.args.slots.now.entries
+    ∙ of_slots c.self.inside.slots.entries
+    ∙ c.self.view_is

@@ -1,5 +1,0 @@
-use Rattle.std.proofs.Common.{◌≢◌, ◌<◌, ◌≤◌, ℕ, get_or}
-use Rattle.rubis_clock.proofs.clocks.others_released_packed.Given as goal
-
-abbrev pub invariant-loop-site : goal.invariant-loop-site
-invariant-loop-site l = (j : ℕ) → j < l.site → j ≢ l.origin → get_or l.deps j 0 ≤ get_or l.counts j 0
