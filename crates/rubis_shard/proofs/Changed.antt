@@ -47,13 +47,12 @@ pub removed_found : (b : Bool) (row : Row) (o p q : Option Row) → q ≡ cond b
 removed_found b row o p q less changed = less ∙ ap (cond b None) changed ∙ none_over b row o
 
 -- the first of the rows that were linked are linked when one was put after
-pub linked_put : (put : Bool) (es fs : List (IdKey × Row)) (k : IdKey) (row : Row) (c : Chains) → put ≡ is_none (lookup (same_id_key k) es)
-    → (put ≡ true → fs ≡ insert_entry same_id_key es k row) → (put ≡ false → fs ≡ es)
-    → IsLinkedSoFar (chains_of (written row_key es)) c → IsLinkedSoFar (chains_of (written row_key fs)) c
-linked_put true es fs k row c free put same linked =
-    subst (λ xs. IsLinkedSoFar (chains_of (written row_key xs)) c) (sym (put refl ∙ new_last same_id_key k row es (none_of _ free)))
+pub linked_put : (es fs : List (IdKey × Row)) (k : IdKey) (row : Row) (c : Chains) → true ≡ is_none (lookup (same_id_key k) es)
+    → fs ≡ insert_entry same_id_key es k row → IsLinkedSoFar (chains_of (written row_key es)) c
+    → IsLinkedSoFar (chains_of (written row_key fs)) c
+linked_put es fs k row c free put linked =
+    subst (λ xs. IsLinkedSoFar (chains_of (written row_key xs)) c) (sym (put ∙ new_last same_id_key k row es (none_of _ free)))
     (subst (λ cs. IsLinkedSoFar cs c) (sym (chains_pushed row_key es k row)) (linked_more _ _ c linked))
-linked_put false es fs k row c free put same linked = subst (λ xs. IsLinkedSoFar (chains_of (written row_key xs)) c) (sym (same refl)) linked
 
 module _ {K : Type 0} (same : K → K → Bool) (old new : List (K × Row)) (key : K) (e : Effect) (fate : Fate)
     (none : lookup (same key) old ≡ None → (new ≡ old) × (fate ≡ no_row))

@@ -1,8 +1,7 @@
 -- One message folded on the shards of a set, home by home.
 use Rattle.std.proofs.Common.{◌≡◌, ℕ, zero, suc, ◌+◌, ◌<◌, ◌≤◌, List, [], ◌∷◌, length, get_or, set, refl, sym, ap, ◌∙◌, subst}
-use Rattle.std.proofs.Common.{arith, cond, length-set, ⊎_elim, true, false, Bool}
+use Rattle.std.proofs.Common.{arith, cond, length-set, ⊎_elim}
 use Rattle.std.specs.Prelude.{None, Option, Some, slice_get, Result, Ok, Err, OnOk, OnErr}
-use Rattle.std.specs.Result.{is_ok}
 use Rattle.std.proofs.lemmas.Bool.{cases_eq, cases_lt}
 use Rattle.std.proofs.lemmas.List.{append-nil, set-get_or}
 use Rattle.std.proofs.lemmas.Option.{slice_get-get_or, slice_get_past, slice_get_within, get_or_from_slice_get}
@@ -85,10 +84,8 @@ module _ (ts : List ShardState) (at : ℕ) (x : ShardState) (there : slice_get t
 
   module _ (from : ℕ) (ns : List Numbered) (mid : List ShardState) (after : from ≤ at) where
     -- the shards after it are done, so it is as it was left
-    pub mid_at : {E : Type 0} (r : Result (Unit {0}) E) → OnOk r (FoldsFrom (at + 1) hollow ns mid) → OnErr r (mid ≡ hollow)
-        → slice_get mid at ≡ Some (emptied x)
-    mid_at (Ok u) h e = h.before at (omega arith) ∙ at_hollow
-    mid_at (Err u) h e = ap (λ us. slice_get us at) e ∙ at_hollow
+    pub mid_at : FoldsFrom (at + 1) hollow ns mid → slice_get mid at ≡ Some (emptied x)
+    mid_at h = h.before at (omega arith) ∙ at_hollow
 
     -- and with its own parts folded on, those from `from` on are done
     pub folds_more : (z : ShardState) → FoldsFrom (at + 1) hollow ns mid → z ≡ with_parts x (parts_at (length ts) at ns)
@@ -125,74 +122,52 @@ module _ (ts : List ShardState) (at : ℕ) (x : ShardState) (there : slice_get t
         elsewhere_before k other low within =
             written_elsewhere mid at k z other (let m = many in omega arith) ∙ h.before k low ∙ else_hollow k other within
 
--- the rows that are put into a shard are its own
-pub own_put : (shards k : ℕ) (old new : Folded) (own ns : List Numbered) (wanted : Bool)
-    → part_of shards k old.tables ≡ old.tables
-    → own ≡ parts_at shards k ns → (wanted ≡ true → new ≡ fold_on old own) → (wanted ≡ false → new ≡ old)
-    → part_of shards k new.tables ≡ new.tables
-own_put shards k old new own ns true rows is done undone = own_after shards k old new ns rows (done refl ∙ ap (fold_on old) is)
-own_put shards k old new own ns false rows is done undone =
-    subst (λ (f : Folded). part_of shards k f.tables ≡ f.tables) (sym (undone refl)) rows
-
 -- ---- a shard that was taken from `at`, and is put back once the shards after it are folded on
-module _ {E : Type 0} (ts mid : List ShardState) (shards at from : ℕ) (ns : List Numbered) (x y s : ShardState) (r : Result
-    (Unit {0}) E)
-    (there : slice_get ts at ≡ Some x) (order : AreInOrder ts) (many : shards ≡ length ts) (left : y ≡ emptied x) (behind :
-    from ≤ at)
-    (ok : OnOk r (FoldsFrom (at + 1) (set ts at y) ns mid)) (err : OnErr r (mid ≡ set ts at y)) (back : s ≡ get_or mid at s) where
-  ok_hollow : OnOk r (FoldsFrom (at + 1) (hollow ts at x there) ns mid)
-  ok_hollow = subst (λ z. OnOk r (FoldsFrom (at + 1) (set ts at z) ns mid)) left ok
-
-  err_hollow : OnErr r (mid ≡ hollow ts at x there)
-  err_hollow = subst (λ z. OnErr r (mid ≡ set ts at z)) left err
+module _ (ts mid : List ShardState) (shards at : ℕ) (ns : List Numbered) (x y s : ShardState)
+    (there : slice_get ts at ≡ Some x) (order : AreInOrder ts) (many : shards ≡ length ts) (left : y ≡ emptied x)
+    (done : FoldsFrom (at + 1) (set ts at y) ns mid) (back : s ≡ get_or mid at s) where
+  done_hollow : FoldsFrom (at + 1) (hollow ts at x there) ns mid
+  done_hollow = subst (λ z. FoldsFrom (at + 1) (set ts at z) ns mid) left done
 
   -- what is found there
-  pub found_empty : s ≡ emptied x
-  found_empty = back ∙ get_or_from_slice_get mid at (emptied x) s (mid_at ts at x there from ns mid behind r ok_hollow err_hollow)
+  found_empty : s ≡ emptied x
+  found_empty = back ∙ get_or_from_slice_get mid at (emptied x) s (mid_at ts at x there at ns mid (omega arith) done_hollow)
 
-  own_there : (own : List Numbered) → own ≡ parts_at shards at ns → own ≡ parts_at x.shards x.number ns
-  own_there own is = let w = order at x there in is ∙ (λ i. parts_at ((many ∙ sym w.1) i) (sym w.0 i) ns)
+  own_there : parts_at shards at ns ≡ parts_at x.shards x.number ns
+  own_there = let w = order at x there in λ i. parts_at ((many ∙ sym w.1) i) (sym w.0 i) ns
 
-  pub own_back : (old new : Folded) (own : List Numbered) (wanted : Bool)
-      → part_of x.shards x.number x.folded.tables ≡ x.folded.tables → old ≡ x.folded
-      → own ≡ parts_at shards at ns → (wanted ≡ true → new ≡ fold_on old own) → (wanted ≡ false → new ≡ old)
-      → part_of s.shards s.number new.tables ≡ new.tables
-  own_back old new own wanted rows was is done undone = subst (λ z. part_of z.shards z.number new.tables ≡ new.tables) (sym
-      found_empty)
-      (own_put x.shards x.number old new own ns wanted (subst (λ (f : Folded). part_of x.shards x.number f.tables ≡ f.tables)
-      (sym was) rows) (own_there own is) done undone)
+  -- the rows that are put into it are its own
+  pub own_back : (old new : Folded) → part_of x.shards x.number x.folded.tables ≡ x.folded.tables → old ≡ x.folded
+      → new ≡ fold_on old (parts_at shards at ns) → part_of s.shards s.number new.tables ≡ new.tables
+  own_back old new rows was is = subst (λ z. part_of z.shards z.number new.tables ≡ new.tables) (sym found_empty)
+      (own_after x.shards x.number old new ns (subst (λ (f : Folded). part_of x.shards x.number f.tables ≡ f.tables) (sym was) rows)
+      (is ∙ ap (fold_on old) own_there))
 
-  -- the shard that is put back
-  put_is : (z : ShardState) (new f : Folded) → z ≡ record { number = s.number; shards = s.shards; folded = new } → new ≡ f
-      → z ≡ record { number = x.number; shards = x.shards; folded = f }
-  put_is z new f put is = put ∙ (λ i. record { number = (found_empty i).number; shards = (found_empty i).shards; folded = is i })
+  pub ended_ok : (z : ShardState) (old new : Folded) → z ≡ record { number = s.number; shards = s.shards; folded = new }
+      → old ≡ x.folded → new ≡ fold_on old (parts_at shards at ns) → FoldsFrom at ts ns (set mid at z)
+  ended_ok z old new put was is = folds_more ts at x there at ns mid (omega arith) z done_hollow
+      (put ∙ (λ i. record {
+        number = (found_empty i).number;
+        shards = (found_empty i).shards;
+        folded = (is ∙ (λ j. fold_on (was j) (parts_at (many j) at ns))) i;
+      }))
+      (λ k low high. absurd (omega (arith, low, high)))
 
-  pub ended_ok : (z : ShardState) (old new : Folded) (own : List Numbered) (wanted : Bool)
-      → z ≡ record { number = s.number; shards = s.shards; folded = new }
-      → wanted ≡ is_ok r → old ≡ x.folded → own ≡ parts_at shards at ns → (wanted ≡ true → new ≡ fold_on old own)
-      → ((k : ℕ) → from ≤ k → k < at → parts_at shards k ns ≡ []) → OnOk r (FoldsFrom from ts ns (set mid at z))
-  ended_ok z old new own wanted put asked was is done none = at_end r refl ok_hollow
-    where
-      at_end : (q : Result (Unit {0}) E) → r ≡ q → OnOk q (FoldsFrom (at + 1) (hollow ts at x there) ns mid)
-          → OnOk q (FoldsFrom from ts ns (set mid at z))
-      at_end (Ok u) e h = folds_more ts at x there from ns mid behind z h
-          (put_is z new _ put (done (asked ∙ ap is_ok e) ∙ (λ i. fold_on (was i) ((is ∙ ap (λ n. parts_at n at ns) many) i))))
-          (λ k low high. ap (λ n. parts_at n k ns) (sym many) ∙ none k low high)
-      at_end (Err u) e h = tt
+-- ---- a shard that was taken from `at`, and is put back as it was since those after it could not be folded on
+pub ended_err : (ts mid : List ShardState) (at : ℕ) (x y s z : ShardState) (f : Folded) → slice_get ts at ≡ Some x → y ≡ emptied x
+    → mid ≡ set ts at y → s ≡ get_or mid at s → z ≡ record { number = s.number; shards = s.shards; folded = f } → f ≡ x.folded
+    → set mid at z ≡ ts
+ended_err ts mid at x y s z f there left same back put is = (λ i. set (same i) at (whole i)) ∙ put_back ts at x y there
+  where
+    found_empty : s ≡ emptied x
+    found_empty = back ∙ get_or_from_slice_get mid at (emptied x) s
+        (ap (λ us. slice_get us at) (same ∙ ap (set ts at) left) ∙ at_hollow ts at x there)
 
-  pub ended_err : (z : ShardState) (old new : Folded) (wanted : Bool)
-      → z ≡ record { number = s.number; shards = s.shards; folded = new }
-      → wanted ≡ is_ok r → old ≡ x.folded → (wanted ≡ false → new ≡ old) → OnErr r (set mid at z ≡ ts)
-  ended_err z old new wanted put asked was undone = at_end r refl err_hollow
-    where
-      at_end : (q : Result (Unit {0}) E) → r ≡ q → OnErr q (mid ≡ hollow ts at x there) → OnErr q (set mid at z ≡ ts)
-      at_end (Ok u) e h = tt
-      at_end (Err u) e h =
-          (λ i. set (h i) at (put_is z new x.folded put (undone (asked ∙ ap is_ok e) ∙ was) i))
-          ∙ put_back ts at x (emptied x) there
+    whole : z ≡ x
+    whole = put ∙ (λ i. record { number = (found_empty i).number; shards = (found_empty i).shards; folded = is i })
 
 -- ---- from an earlier shard on, where no part has its home in between
-folds_sooner : (from next shards : ℕ) (old new : List ShardState) (ns : List Numbered) → shards ≡ length old → from ≤ next
+pub folds_sooner : (from next shards : ℕ) (old new : List ShardState) (ns : List Numbered) → shards ≡ length old → from ≤ next
     → ((k : ℕ) → from ≤ k → k < next → parts_at shards k ns ≡ []) → FoldsFrom next old ns new → FoldsFrom from old ns new
 folds_sooner from next shards old new ns many low none h = record {
   many = h.many;
@@ -212,6 +187,16 @@ folds_sooner_ok (Ok u) from next shards old new ns many low none h = folds_soone
 folds_sooner_ok (Err u) from next shards old new ns many low none h = tt
 
 -- ---- all shards
+pub folds_none : (next shards : ℕ) (ts : List ShardState) (ns : List Numbered) → shards ≡ length ts → length ts ≤ next
+    → ((k : ℕ) → 0 ≤ k → k < next → parts_at shards k ns ≡ []) → FoldsFrom 0 ts ns ts
+folds_none next shards ts ns many all none = record {
+  many = refl;
+  before = λ k l. refl;
+  behind = λ k s l e.
+      let within : k < length ts = slice_get_within ts k s e in
+      e ∙ ap (λ ps. Some (with_parts s ps)) (sym (ap (λ n. parts_at n k ns) (sym many) ∙ none k l (omega arith)));
+}
+
 pub order_kept : {E : Type 0} (old new : List ShardState) (ns : List Numbered) (r : Result (Unit {0}) E) → AreInOrder old
     → OnOk r (FoldsFrom 0 old ns new) → OnErr r (new ≡ old) → AreInOrder new
 order_kept old new ns (Ok u) order h e k s is =
@@ -224,7 +209,7 @@ order_kept old new ns (Ok u) order h e k s is =
     (ap (λ (z : ShardState). z.number) same ∙ w.0, ap (λ (z : ShardState). z.shards) same ∙ w.1 ∙ sym many)
 order_kept old new ns (Err u) order h e k s is = subst AreInOrder (sym e) order k s is
 
-takes_on : (m : Core) (entry : ℕ) (old new : List ShardState) → FoldsFrom 0 old (number_parts entry 1 m.id (parts_of m)) new
+pub takes_on : (m : Core) (entry : ℕ) (old new : List ShardState) → FoldsFrom 0 old (number_parts entry 1 m.id (parts_of m)) new
     → TakesOn m entry old new
 takes_on m entry old new h shards log next holds = record {
   many = h.many ∙ holds.many;

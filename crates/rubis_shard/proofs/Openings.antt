@@ -16,6 +16,8 @@ use Rattle.rubis_model.specs.Shares.{part_of}
 use Rattle.rubis_model.proofs.Commute.{same_tables}
 use Rattle.rubis_model.proofs.Shares.{get-part_of, part_with_row}
 use Rattle.rubis_shard.specs.Listed.{listed_of, picked_by}
+use Rattle.rubis_shard.specs.Stores.{held_in, nothing_held}
+use Rattle.rubis_shard.specs.declared.shard_store.Store.{Store}
 use Rattle.rubis_shard.proofs.Items.{no_items}
 use Rattle.std.proofs.lemmas.Bool.Decides.{Decides-eqb}
 
@@ -35,6 +37,12 @@ pub part_empty : (shards k : ℕ) → part_of shards k map.empty ≡ map.empty
 part_empty shards k = same_tables _ _ (λ q.
     get-part_of shards k map.empty q ∙ ap (λ (o : Option Row). cond (nat_eq (home shards q) k) o None) (map.get-empty key_order q)
     ∙ neither (nat_eq (home shards q) k) ∙ sym (map.get-empty key_order q))
+
+-- nor where nothing is held
+pub none_held : (shards k : ℕ) (o : Option Store) → o ≡ None → part_of shards k (held_in o).tables ≡ (held_in o).tables
+none_held shards k o e =
+    let none : (held_in o).tables ≡ nothing_held.tables = ap (λ (p : Option Store). (held_in p).tables) e in
+    ap (part_of shards k) none ∙ part_empty shards k ∙ sym none
 
 -- which no listing shows
 pub none_there : (t : Tables) → t ≡ map.empty → map.entries t ≡ []

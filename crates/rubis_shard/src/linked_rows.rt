@@ -17,28 +17,6 @@ use rubis_schema::{IdKey, KeyHashes, Row};
 use rubis_shadow::{Change, Fate};
 use std::alloc::{AllocError, Global};
 
-// Puts the row at the key where none is there, and says whether it did: it looks for the key only once. There is room for it.
-#[inline(always)]
-fn put_in(rows: &mut IndexMap<IdKey, Row, KeyHashes>, key: IdKey, row: Row) -> bool
-    requires { 0 < spare rows.old }
-    ensures free { result ≡ is_none (get same_id_key rows.old key) }
-    ensures put { result ≡ true → rows.new.entries ≡ insert_entry same_id_key rows.old.entries key row }
-    ensures found { result ≡ true → (q : IdKey) → get same_id_key rows.new q ≡ cond (same_id_key key q) (Some row) (get same_id_key rows.old q) }
-    ensures same { result ≡ false → rows.new.entries ≡ rows.old.entries }
-    ensures room { spare rows.old ≤ spare rows.new + 1 }
-{
-    let Ok(entry) = rows.entry(key) else {
-        unreachable!()
-    };
-    match entry {
-        Entry::Occupied(_) => false,
-        Entry::Vacant(vacant) => {
-            vacant.insert(row);
-            true
-        }
-    }
-}
-
 impl LinkedRows {
     /// No rows.
     pub fn new(alloc: Global, hashes: KeyHashes) -> LinkedRows
@@ -67,7 +45,7 @@ impl LinkedRows {
         self.chains.link(&self.rows)
     }
 
-    /// Puts the row at the key where none is there, and says whether it did. There is room for it.
+    /// Puts the row at the key where none is there, and says whether it did: it looks for the key only once. There is room for it.
     #[inline(always)]
     pub fn put(&mut self, key: IdKey, row: Row) -> bool
         requires { 0 < spare self.old.rows }
@@ -77,7 +55,16 @@ impl LinkedRows {
         ensures same { result ≡ false → self.new.rows.entries ≡ self.old.rows.entries }
         ensures room { spare self.old.rows ≤ spare self.new.rows + 1 }
     {
-        put_in(&mut self.rows, key, row)
+        let Ok(entry) = self.rows.entry(key) else {
+            unreachable!()
+        };
+        match entry {
+            Entry::Occupied(_) => false,
+            Entry::Vacant(vacant) => {
+                vacant.insert(row);
+                true
+            }
+        }
     }
 
     /// Changes the row at the key where it stands, if there is one. No row is removed, so that the rows stay linked.

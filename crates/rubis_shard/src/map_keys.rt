@@ -4,7 +4,7 @@ ghost use Rattle.std.specs.Prelude.{◌≡◌};
 ghost use Rattle.rubis_schema.specs.declared.row_keys.RowKey.{RowKey};
 ghost use Rattle.rubis_shard.specs.MapKeys.{key_at, IsPlaced};
 
-use rubis_schema::{Id, IdKey, IdTable, Nick, RowKey};
+use rubis_schema::{IdKey, IdTable, Nick, RowKey};
 use std::hash::Hash;
 
 /// A key of a map that stands for the key of a row.
@@ -58,13 +58,6 @@ pub enum MapPlace {
     Cat(u16),
 }
 
-#[inline(always)]
-fn other(table: IdTable, id: &Id) -> MapPlace
-    ensures { result ≡ MapPlace.Other (record { seq = id.now.seq; site = id.now.site; table = table }) }
-{
-    MapPlace::Other(IdKey::new(table, *id))
-}
-
 /// Where the row of a key is.
 #[inline(always)]
 pub fn place_of(key: &RowKey) -> MapPlace
@@ -73,10 +66,10 @@ pub fn place_of(key: &RowKey) -> MapPlace
 {
     match key {
         RowKey::User(id) => MapPlace::User(IdKey::new(IdTable::User, *id)),
-        RowKey::Item(id) => other(IdTable::Item, id),
-        RowKey::Bid(id) => other(IdTable::Bid, id),
-        RowKey::Purchase(id) => other(IdTable::Purchase, id),
-        RowKey::Comment(id) => other(IdTable::Comment, id),
+        RowKey::Item(id) => MapPlace::Other(IdKey::new(IdTable::Item, *id)),
+        RowKey::Bid(id) => MapPlace::Other(IdKey::new(IdTable::Bid, *id)),
+        RowKey::Purchase(id) => MapPlace::Other(IdKey::new(IdTable::Purchase, *id)),
+        RowKey::Comment(id) => MapPlace::Other(IdKey::new(IdTable::Comment, *id)),
         RowKey::Nick(nick) => MapPlace::Nick(*nick),
         RowKey::Cat(cat) => MapPlace::Cat(*cat),
     }

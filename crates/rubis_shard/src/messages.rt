@@ -1,6 +1,6 @@
 //! The parts of a message that are a shard's own, folded from where the message lies.
 
-ghost use Rattle.std.specs.Prelude.{◌≡◌, ℕ, ◌+◌, ◌<◌, ◌≤◌, [], length, slice_get, true, false, IfOk, OnOk, OnErr};
+ghost use Rattle.std.specs.Prelude.{◌≡◌, ℕ, ◌+◌, ◌<◌, ◌≤◌, [], length, slice_get, IfOk, OnOk, OnErr};
 ghost use Rattle.rubis_shadow.specs.BoxedRows.{HasBoxedRow};
 ghost use Rattle.rubis_model.specs.Log.{fold_on, parts_of};
 ghost use Rattle.rubis_shard.specs.Entries.{core_of, numbered_of};
@@ -94,9 +94,9 @@ impl<'a> MessageParts<'a> {
         }
     }
 
-    // The least home of a part that is at least `from`, or the number of shards.
+    /// The least home of a part that is at least `from`, or the number of shards.
     #[inline(always)]
-    fn next_home(&self, from: usize) -> usize
+    pub fn next_home(&self, from: usize) -> usize
         requires { from ≤ self.now.shards }
         ensures from { from ≤ result }
         ensures within { result ≤ self.now.shards }
@@ -174,24 +174,10 @@ impl<'a> MessageParts<'a> {
             _ => self.fold_any(store, at, row),
         }
     }
-
-    // Folds the parts on whose home is the shard, if they are wanted.
-    #[inline(always)]
-    fn fold_if(&self, store: &mut Store, at: usize, row: Option<Row>, wanted: bool)
-        requires at { at < self.now.shards }
-        requires room { HasRoom store.old 3 }
-        requires row { self.now.first ≡ at → HasBoxedRow (slice_get (parts_of (core_of self.now.entry)) 0) row }
-        ensures wanted { wanted ≡ true → held_by store.new ≡ fold_on (held_by store.old) (parts_at self.now.shards at (numbered_of self.now.entry)) }
-        ensures unwanted { wanted ≡ false → held_by store.new ≡ held_by store.old }
-    {
-        if wanted {
-            self.fold_at(store, at, row);
-        }
-    }
 }
 
-// Folds the parts whose home is the shard `at` or one after it. No shard changes before each has room.
-fn fold_homes(
+/// Folds the parts whose home is the shard `at` or one after it. No shard changes before each has room.
+pub fn fold_homes(
     alloc: Global,
     list: &mut [Shard],
     message: &MessageParts<'_>,
@@ -209,30 +195,11 @@ fn fold_homes(
         return list[at].fold_message(message, row);
     }
     let mut store = list[at].take_store(3)?;
-    let folded = fold_homes(alloc, list, message, next);
-    message.fold_if(store.get_mut(), at, row, folded.is_ok());
-    list[at].put_store(store);
-    folded
-}
-
-/// Folds the parts whose home is the shard `from` or one after it. No shard changes before each has room.
-#[inline(always)]
-pub fn fold_from(
-    alloc: Global,
-    list: &mut [Shard],
-    message: &MessageParts<'_>,
-    from: usize,
-) -> Result<(), AllocError>
-    requires shards { message.now.shards ≡ length list.old }
-    requires some { 0 < length list.old }
-    requires order { AreInOrder list.old }
-    requires within { from ≤ length list.old }
-    ensures ok { OnOk result (FoldsFrom from list.old (numbered_of message.now.entry) list.new) }
-    ensures err { OnErr result (list.new ≡ list.old) }
-{
-    let at = message.next_home(from);
-    if at == list.len() {
-        return Ok(());
+    if let Err(refused) = fold_homes(alloc, list, message, next) {
+        list[at].put_store(store);
+        return Err(refused);
     }
-    fold_homes(alloc, list, message, at)
+    message.fold_at(store.get_mut(), at, row);
+    list[at].put_store(store);
+    Ok(())
 }

@@ -15,17 +15,6 @@ use std::alloc::{AllocError, Global};
 // For how many parts a store makes room at a time, so that it seldom has to.
 const PARTS_AT_A_TIME: usize = 64;
 
-// For how many parts to make room where these are to be folded on.
-fn at_a_time(parts: usize) -> usize
-    ensures { parts ≤ result }
-{
-    if parts < PARTS_AT_A_TIME {
-        PARTS_AT_A_TIME
-    } else {
-        parts
-    }
-}
-
 impl Store {
     /// No rows and no misfits.
     pub fn new(alloc: Global, hashes: Hashes) -> Store
@@ -63,7 +52,7 @@ impl Store {
         ensures same { held_by self.new ≡ held_by self.old }
         ensures room { OnOk result (HasRoom self.new parts) }
     {
-        match self.reserve(at_a_time(parts)) {
+        match self.reserve(parts.max(PARTS_AT_A_TIME)) {
             Ok(()) => Ok(()),
             Err(_) => self.reserve(parts),
         }

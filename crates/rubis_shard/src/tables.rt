@@ -19,7 +19,7 @@ use crate::entries::LogEntry;
 use crate::groups::Group;
 use crate::listed_rows::ListedRow;
 use crate::message_parts::MessageParts;
-use crate::messages::fold_from;
+use crate::messages::fold_homes;
 use crate::orders::{put_in_order, put_rows_in_order};
 use crate::part_homes::PartHomes;
 use crate::picks::with_room;
@@ -294,7 +294,11 @@ impl Tables {
     {
         let message = MessageParts::new(entry, self.shards.len());
         let alloc = *self.shards.allocator();
-        fold_from(alloc, &mut self.shards, &message, 0)
+        let first = message.next_home(0);
+        if first == self.shards.len() {
+            return Ok(());
+        }
+        fold_homes(alloc, &mut self.shards, &message, first)
     }
 }
 

@@ -30,13 +30,6 @@ fn again(shards: Items<Shard>) -> Tables
     }
 }
 
-// The caller's thread takes each of the shards, as the one worker of a batch.
-fn take_each<G: Gate>(gate: &G, shards: usize) {
-    for number in 0..shards {
-        gate.taken(number);
-    }
-}
-
 // Each of the shards stands there.
 fn stop_all(stops: &mut Vec<usize>, shards: usize, at: usize)
     requires room { shards ≤ vec_capacity stops.old }
@@ -70,7 +63,7 @@ fn stop_each(stops: &mut Vec<usize>, dones: &[usize], from: usize, messages: usi
     whole
 }
 
-// Applies a batch of a log on the caller's thread, which first takes each shard.
+// Applies a batch of a log on the caller's thread, the one worker, which first takes each shard.
 fn apply_alone<G: Gate>(
     tables: &mut Tables,
     batch: &LogBatch,
@@ -87,7 +80,9 @@ fn apply_alone<G: Gate>(
     ensures room { vec_capacity stops.new ≡ vec_capacity stops.old }
 {
     let shards = tables.len();
-    take_each(gate, shards);
+    for number in 0..shards {
+        gate.taken(number);
+    }
     let mut at = batch.from;
     if apply_upto(tables, batch.log, &mut at, batch.upto).is_ok() {
         return Ok(());

@@ -6,9 +6,8 @@ ghost use Rattle.rubis_model.specs.Log.{cores};
 ghost use Rattle.rubis_shard.specs.Holdings.{AreInOrder};
 ghost use Rattle.rubis_shard.specs.PartHomes.{AreHomes};
 ghost use Rattle.rubis_pieces.specs.Following.{AreFollowed};
-ghost use Rattle.std.specs.Vec.{vec_capacity};
 ghost use Rattle.rubis_schema.specs.declared.limits.TheConstants.{KEEP_MAX, WORKERS_MAX};
-ghost use Rattle.rubis_workers.specs.Following.{AreRooms, bare};
+ghost use Rattle.rubis_workers.specs.Following.{bare};
 
 use crate::gate::Gate;
 use crate::rooms::Rooms;
@@ -19,7 +18,7 @@ use rubis_board::Poster;
 use rubis_pieces::{Counted, Piece, gather_counted};
 use rubis_schema::Items;
 use rubis_shard::{Shard, Share};
-use std::alloc::{AllocError, Global};
+use std::alloc::Global;
 use std::sync::Wait;
 use std::thread::Threads;
 
@@ -58,21 +57,6 @@ fn post_bare<R: Wait>(rt: &R, alloc: Global, mut poster: Poster, mut shards: Vec
     poster
 }
 
-// The room for a batch: that of the team, and for how much is done of each shard.
-fn rooms_for(
-    alloc: Global,
-    pieces: usize,
-    workers: usize,
-) -> Result<(Rooms, Vec<usize>), AllocError>
-    requires { (0 < pieces) × (0 < workers) }
-    ensures rooms { IfOk result (λ r. AreRooms pieces workers r.0) }
-    ensures dones { IfOk result (λ r. (r.1.items ≡ []) × (pieces ≤ vec_capacity r.1)) }
-{
-    let rooms = Rooms::new(alloc, pieces, workers)?;
-    let dones = Vec::with_capacity(alloc, pieces)?;
-    Ok((rooms, dones))
-}
-
 /// Folds the parts of a batch on the shards of a set, each on its home, straight from the messages and as far as memory goes, by a
 /// team that is set up so, of no more threads than there are shards. The caller's thread is one of them. The gate is called for each
 /// shard that is taken. Where there is no room to begin, the shards come back. No entry of the batch is above 1,000,000.
@@ -96,7 +80,10 @@ pub fn follow_by_team<G: Gate, R: Threads + Wait + Sync>(
 {
     let pieces = shards.len();
     let team = setup.most.min(pieces);
-    let Ok((rooms, dones)) = rooms_for(setup.alloc, pieces, team) else {
+    let (Ok(rooms), Ok(dones)) = (
+        Rooms::new(setup.alloc, pieces, team),
+        Vec::with_capacity(setup.alloc, pieces),
+    ) else {
         return Err(shards.into());
     };
     let poster = post_bare(rt, setup.alloc, rooms.poster, shards);

@@ -2,7 +2,7 @@
 
 ghost use Rattle.std.specs.Prelude.{◌≡◌, ◌<◌, ◌≤◌, ◌*◌};
 ghost use Rattle.rubis_schema.specs.declared.limits.TheConstants.{WORKERS_MAX};
-ghost use Rattle.rubis_workers.specs.Pace.{longer, most, ready, shorter, threads};
+ghost use Rattle.rubis_workers.specs.Pace.{longer, ready, shorter, threads};
 
 /// A thread is worth starting where it applies this many messages: the start, some 50 microseconds, costs as much as some 150 of
 /// them, and waiting for the thread as much again or more.
@@ -29,19 +29,8 @@ impl Pace {
         Pace { alone: 0, pause: 0 }
     }
 
-    /// The most threads that a batch has work for: no more than the workers, nor than its messages or the shards, and at
-    /// least one.
-    pub fn most(workers: usize, shards: usize, messages: usize) -> usize
-        requires { 0 < workers }
-        ensures threads { result ≡ most workers shards messages }
-        ensures some { 0 < result }
-        ensures workers { result ≤ workers }
-        ensures few { 1 < result → (result ≤ shards) × (result ≤ messages) }
-    {
-        workers.min(shards).min(messages).max(1)
-    }
-
-    /// How many threads the next batch gets, the caller's included.
+    /// How many threads the next batch gets, the caller's included: one while the caller's thread has messages to apply alone; else
+    /// as many as it has work for, no more than the workers, nor than its messages or the shards, and at least one.
     pub fn threads(&self, workers: usize, shards: usize, messages: usize) -> usize
         requires { 0 < workers }
         ensures threads { result ≡ threads self.now workers shards messages }
@@ -53,7 +42,7 @@ impl Pace {
         if self.alone > 0 {
             1
         } else {
-            Pace::most(workers, shards, messages)
+            workers.min(shards).min(messages).max(1)
         }
     }
 

@@ -6,11 +6,11 @@ use Rattle.rubis_shard.specs.Holdings.{AreInOrder, parts_at}
 use Rattle.rubis_shard.specs.Entries.{numbered_of}
 use Rattle.rubis_shard.specs.Messages.{emptied}
 use Rattle.rubis_shard.specs.Stores.{held_by}
-use Rattle.rubis_shard.proofs.Homes.{folds_last_err, folds_last_ok, folds_sooner_ok, hollow_length, hollow_order, if_ok, own_back, ended_ok, ended_err}
+use Rattle.rubis_shard.proofs.Homes.{folds_last_ok, folds_sooner, hollow_length, hollow_order, if_ok, own_back, ended_ok, ended_err}
 use Rattle.rubis_shard.proofs.messages.+fold_homes.Goals as goal
 
-pub fold_homes-folded-requires : goal.fold_homes-folded-requires
-fold_homes-folded-requires t c =
+pub fold_homes-requires : goal.fold_homes-requires
+fold_homes-requires t c =
     let ts : List ShardState = c.args.list.now in
     let at : ℕ = c.args.at in
     let next : ℕ = c.next_home-next.result in
@@ -31,12 +31,12 @@ fold_homes-folded-requires t c =
       ),
     )
 
-pub put_store-requires : goal.put_store-requires
-put_store-requires t c =
+pub put_store-requires-2 : goal.put_store-requires-2
+put_store-requires-2 t c =
     let ts : List ShardState = c.args.list.now in
     let at : ℕ = c.args.at in
     let x : ShardState = c.index-list-at-2.result in
-    let mid : List ShardState = c.fold_homes-folded.new.list in
+    let mid : List ShardState = c.fold_homes.new.list in
     let s : ShardState = get_or mid at c.index-list-at-3.result in
     let ns = numbered_of c.args.message.now.entry in
     let there : slice_get ts at ≡ Some x = slice_get_read ts (length ts) at x refl (search rules) c.index-list-at-2.is in
@@ -44,57 +44,39 @@ put_store-requires t c =
     let taken : held_by c.get_mut.result.now ≡ x.folded = search rules in
     let rows : HoldsOwnRows x = search rules in
     let hollow = set ts at c.take_store.new.self in
-    own_back ts mid c.args.message.now.shards at at ns x c.take_store.new.self s
-    c.fold_homes-folded.result
-    there c.requires.order c.requires.shards left (omega arith)
-    (folds_sooner_ok c.fold_homes-folded.result (at + 1) c.next_home-next.result c.args.message.now.shards hollow mid ns (c.requires.shards ∙ sym (length-set ts at c.take_store.new.self)) c.next_home-next.ensures.from c.next_home-next.ensures.none c.fold_homes-folded.ensures.ok)
-    c.fold_homes-folded.ensures.err
+    own_back ts mid c.args.message.now.shards at ns x c.take_store.new.self s there c.requires.order c.requires.shards left
+    (folds_sooner (at + 1) c.next_home-next.result c.args.message.now.shards hollow mid ns (c.requires.shards ∙ sym (length-set ts at c.take_store.new.self)) c.next_home-next.ensures.from c.next_home-next.ensures.none c.in_default.ensures.ok)
     (ap (get_or mid at) c.index-list-at-3.is)
-    (held_by c.get_mut.result.now) (held_by c.fold_if.new.store) (parts_at c.args.message.now.shards at ns) c.is_ok.result rows taken
-    refl
-    c.fold_if.ensures.wanted c.fold_if.ensures.unwanted
+    (held_by c.get_mut.result.now) (held_by c.fold_at.new.store) rows taken c.fold_at.ensures
 
 pub returns-clause-ok : goal.returns-clause-ok
 returns-clause-ok t c =
     let ts : List ShardState = c.args.list.now in
     let at : ℕ = c.args.at in
     let x : ShardState = c.index-list-at-2.result in
-    let mid : List ShardState = c.fold_homes-folded.new.list in
+    let mid : List ShardState = c.fold_homes.new.list in
     let s : ShardState = get_or mid at c.index-list-at-3.result in
     let ns = numbered_of c.args.message.now.entry in
     let there : slice_get ts at ≡ Some x = slice_get_read ts (length ts) at x refl (search rules) c.index-list-at-2.is in
     let left : c.take_store.new.self ≡ emptied x = search rules in
     let taken : held_by c.get_mut.result.now ≡ x.folded = search rules in
     let hollow = set ts at c.take_store.new.self in
-    ended_ok ts mid c.args.message.now.shards at at ns x c.take_store.new.self s
-    c.fold_homes-folded.result
-    there c.requires.order c.requires.shards left (omega arith)
-    (folds_sooner_ok c.fold_homes-folded.result (at + 1) c.next_home-next.result c.args.message.now.shards hollow mid ns (c.requires.shards ∙ sym (length-set ts at c.take_store.new.self)) c.next_home-next.ensures.from c.next_home-next.ensures.none c.fold_homes-folded.ensures.ok)
-    c.fold_homes-folded.ensures.err
+    ended_ok ts mid c.args.message.now.shards at ns x c.take_store.new.self s there c.requires.order c.requires.shards left
+    (folds_sooner (at + 1) c.next_home-next.result c.args.message.now.shards hollow mid ns (c.requires.shards ∙ sym (length-set ts at c.take_store.new.self)) c.next_home-next.ensures.from c.next_home-next.ensures.none c.in_default.ensures.ok)
     (ap (get_or mid at) c.index-list-at-3.is)
-    c.put_store.new.self (held_by c.get_mut.result.now) (held_by c.fold_if.new.store) (parts_at c.args.message.now.shards at ns) c.is_ok.result
-    c.put_store.ensures c.is_ok.ensures.value taken refl c.fold_if.ensures.wanted (λ k low high. absurd (omega (arith, low, high)))
+    c.put_store-2.new.self (held_by c.get_mut.result.now) (held_by c.fold_at.new.store) c.put_store-2.ensures taken c.fold_at.ensures
 
-pub returns-clause-err : goal.returns-clause-err
-returns-clause-err t c =
+pub returns-in-Err-clause-err : goal.returns-in-Err-clause-err
+returns-in-Err-clause-err t c =
     let ts : List ShardState = c.args.list.now in
     let at : ℕ = c.args.at in
     let x : ShardState = c.index-list-at-2.result in
-    let mid : List ShardState = c.fold_homes-folded.new.list in
-    let s : ShardState = get_or mid at c.index-list-at-3.result in
-    let ns = numbered_of c.args.message.now.entry in
+    let mid : List ShardState = c.fold_homes.new.list in
     let there : slice_get ts at ≡ Some x = slice_get_read ts (length ts) at x refl (search rules) c.index-list-at-2.is in
     let left : c.take_store.new.self ≡ emptied x = search rules in
-    let taken : held_by c.get_mut.result.now ≡ x.folded = search rules in
-    let hollow = set ts at c.take_store.new.self in
-    ended_err ts mid c.args.message.now.shards at at ns x c.take_store.new.self s
-    c.fold_homes-folded.result
-    there c.requires.order c.requires.shards left (omega arith)
-    (folds_sooner_ok c.fold_homes-folded.result (at + 1) c.next_home-next.result c.args.message.now.shards hollow mid ns (c.requires.shards ∙ sym (length-set ts at c.take_store.new.self)) c.next_home-next.ensures.from c.next_home-next.ensures.none c.fold_homes-folded.ensures.ok)
-    c.fold_homes-folded.ensures.err
-    (ap (get_or mid at) c.index-list-at-3.is)
-    c.put_store.new.self (held_by c.get_mut.result.now) (held_by c.fold_if.new.store) c.is_ok.result
-    c.put_store.ensures c.is_ok.ensures.value taken c.fold_if.ensures.unwanted
+    let taken : held_by c.in_ok-store.store ≡ x.folded = search rules in
+    ended_err ts mid at x c.take_store.new.self (get_or mid at c.index-list-at-in-Err.result) c.put_store.new.self (held_by c.in_ok-store.store)
+    there left c.in-Err.ensures.err (ap (get_or mid at) c.index-list-at-in-Err.is) c.put_store.ensures taken
 
 pub returns-then-next-list-clause-ok : goal.returns-then-next-list-clause-ok
 returns-then-next-list-clause-ok t c =
@@ -112,12 +94,3 @@ returns-then-next-list-clause-ok t c =
     (λ k low high. absurd (omega (arith, low, high)))
     (λ k low high. ap (λ n. parts_at n k ns) (sym many) ∙ c.next_home-next.ensures.none k low (omega (arith, high, c.if-next-list.true)))
     (omega arith)
-
-pub returns-then-next-list-clause-err : goal.returns-then-next-list-clause-err
-returns-then-next-list-clause-err t c =
-    let ts : List ShardState = c.args.list.now in
-    let at : ℕ = c.args.at in
-    let x : ShardState = c.index-list-at.result in
-    let there : slice_get ts at ≡ Some x = slice_get_read ts (length ts) at x refl (search rules) c.index-list-at.is in
-    folds_last_err c.fold_message.result ts at (get_or ts at x) c.fold_message.new.self
-    (there ∙ ap Some c.index-list-at.is) c.fold_message.ensures.err

@@ -41,7 +41,7 @@ unreachable-requires g c =
     let moved =
     IsPermutation-trans (each bare ss) c.post_bare-poster.result.posted c.fan_out-pass.result.pass.taken c.post_bare-poster.ensures.posted
     (subst (λ l. IsPermutation l c.fan_out-pass.result.pass.taken) (ap (λ (p : PassState). p.posted) c.fan_out-pass.ensures.pass ∙ ap (λ (p : PassState). p.posted) c.open-board.ensures) c.close.ensures) in
-    let many : c.in-Ok.rooms.places ≡ length ss = search rules in
+    let many : c.in-Ok-Ok.rooms.places ≡ length ss = search rules in
     no_fault c.args.task.now.first (cores c.args.task.now.batch.now) ss c.fan_out-pass.result.pass.taken c.fan_out-pass.result.list.items c.requires.order moved
     c.fan_out-pass.ensures.done
     c.in-Err.field-0.kind (subst (λ n. IsFault n (numbers_of c.fan_out-pass.result.list.items) c.in-Err.field-0.kind) many
@@ -53,11 +53,11 @@ returns-clause-followed g c =
     let moved =
     IsPermutation-trans (each bare ss) c.post_bare-poster.result.posted c.fan_out-pass.result.pass.taken c.post_bare-poster.ensures.posted
     (subst (λ l. IsPermutation l c.fan_out-pass.result.pass.taken) (ap (λ (p : PassState). p.posted) c.fan_out-pass.ensures.pass ∙ ap (λ (p : PassState). p.posted) c.open-board.ensures) c.close.ensures) in
-    let many : c.in-Ok.rooms.places ≡ length ss = search rules in
+    let many : c.in-Ok-Ok.rooms.places ≡ length ss = search rules in
     followed c.args.task.now.first (cores c.args.task.now.batch.now) ss c.fan_out-pass.result.pass.taken c.fan_out-pass.result.list.items c.requires.order moved
     c.fan_out-pass.ensures.done
-    c.in-Ok-gather_counted.counted (subst (λ n. IsCounted n c.fan_out-pass.result.list.items c.in-Ok-gather_counted.counted) many
-    c.in-Ok-gather_counted.ensures.counted)
+    c.in-Ok.counted (subst (λ n. IsCounted n c.fan_out-pass.result.list.items c.in-Ok.counted) many
+    c.in-Ok.ensures.counted)
 
 pub returns-clause-others : goal.returns-clause-others
 returns-clause-others g c =
