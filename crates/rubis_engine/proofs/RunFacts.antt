@@ -1,5 +1,5 @@
 -- How a run goes on.
-use Rattle.std.proofs.Common.{◌≡◌, ◌≤◌, ◌<◌, ◌+◌, ◌∷◌, [], ◌++◌, ◌∙◌, ℕ, List, length, take, Option, Bool, true, false, sym, refl, ap, subst, arith, append_assoc, length-append}
+use Rattle.std.proofs.Common.{◌≡◌, ◌≤◌, ◌<◌, ◌+◌, ◌∷◌, [], ◌++◌, ◌∙◌, ℕ, List, length, take, Option, Bool, true, false, inl, inr, sym, refl, ap, subst, arith, append_assoc, length-append}
 use Rattle.std.specs.Prelude.{IfNone, IfOk, IfSome, IsErr, IsErrAnd, IsErrOf, OnOk, None, Some, Result, Ok, Err, is_some}
 use Rattle.std.proofs.lemmas.List.{append-nil}
 use Rattle.std.proofs.Math.Seq.{take-append_seam}
@@ -12,7 +12,7 @@ use Rattle.rubis_engine.specs.Accounts.{Account, AnswersRecord, Keeps}
 use Rattle.rubis_engine.specs.Accounts.Ending.{AtEnd, Cut}
 use Rattle.rubis_engine.specs.Reading.{Advances, Gives, fields_now}
 use Rattle.rubis_engine.specs.Text.{input_records}
-use Rattle.rubis_engine.specs.Progress.{Drained, FromStart, HasComeSoFar, IsCut, IsDone, IsRun, IsTooLong, StandsAt, WrotePrefix}
+use Rattle.rubis_engine.specs.Progress.{Drained, FromStart, HasComeSoFar, IsCut, IsDone, IsRun, IsTooLong, IsWrittenOrWaits, StandsAt, WrotePrefix}
 use Rattle.rubis_engine.specs.declared.fault.Count.{Count}
 use Rattle.rubis_engine.specs.declared.fault.RunFault.{RunFault}
 use Rattle.rubis_engine.specs.declared.fault.RunFault.TheVariants as fault
@@ -75,6 +75,14 @@ progress-drained rem a all more more2 old now now2 sink n input p d = record {
   told = λ e m. p.told e m ∙ ap (λ t. p.written ++ t) (d.told e m) ∙ sym (append_assoc p.written d.out (more2.text e m));
   counted = λ m. p.counted m ∙ ap (λ k. length p.done + k) (d.counted m);
 }
+
+-- a text that waited was written out, or waits on
+pub progress-waited : {R : Type 0} (rem : R → Option (List ℕ)) (a : Records R) (all more : Account)
+    (old now now2 : Option (List ℕ)) (sink sink2 : List ℕ) (n : ℕ) (input : List ℕ)
+    → HasComeSoFar rem a all more old now sink n input → IsWrittenOrWaits sink sink2 now now2 → HasComeSoFar rem a all more old now2 sink2 n input
+progress-waited rem a all more old now now2 sink sink2 n input p (inl (out, empty)) =
+    rw empty (progress-drained rem a all more more old now now2 sink n input p (record { out = sink; appended = out; told = λ e m. refl; counted = λ m. refl }))
+progress-waited rem a all more old now now2 sink sink2 n input p (inr (same, waits)) = rw (same, waits) p
 
 -- something was written or came to be held, and the text stays what it was
 pub progress-kept : {R : Type 0} (rem : R → Option (List ℕ)) (a : Records R) (all more more2 : Account)

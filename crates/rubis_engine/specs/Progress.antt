@@ -1,5 +1,5 @@
 -- How far a run has come, and how it ended.
-use Rattle.std.specs.Prelude.{◌≡◌, ◌≤◌, ◌<◌, ◌+◌, ◌++◌, [], ℕ, ⊤, List, IfSome, MatchOption, length, take, Option, Result, Ok, Err}
+use Rattle.std.specs.Prelude.{◌≡◌, ◌≤◌, ◌<◌, ◌+◌, ◌++◌, ◌⊎◌, [], ℕ, ⊤, List, IfSome, MatchOption, length, take, Option, Result, Ok, Err}
 use Rattle.std.specs.Io.KnownBytes.{Appends}
 use Rattle.rubis_engine.specs.declared.fault.Count.{Count}
 use Rattle.rubis_engine.specs.declared.fault.RunFault.{RunFault}
@@ -31,6 +31,10 @@ pub record Drained (old new : Account) (held : List ℕ) (before after : Option 
   pub appended : Appends before after out
   pub told : (ending : Ending) (more : List (List (List ℕ))) → held ++ old.text ending more ≡ out ++ new.text ending more
   pub counted : (more : List (List (List ℕ))) → old.read more ≡ new.read more
+
+-- a text that waited was written out, or waits on with nothing written
+abbrev pub IsWrittenOrWaits : List ℕ → List ℕ → Option (List ℕ) → Option (List ℕ) → Type 0
+IsWrittenOrWaits waited waits before after = (Appends before after waited × (waits ≡ [])) ⊎ ((after ≡ before) × (waits ≡ waited))
 
 -- ---- what a run has written and read
 

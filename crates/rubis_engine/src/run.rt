@@ -1,7 +1,6 @@
 //! The run from bytes to bytes.
 
 ghost use Rattle.std.specs.Prelude.{◌≡◌, ◌<◌, ◌+◌, ◌++◌, ◌^◌, ◌⊎◌, [], ℕ, List, Option, IfErr, IfNone, IfOk, IfSome, IsErrOf, OnOk, false, true};
-ghost use Rattle.std.specs.Io.KnownBytes.{Appends};
 ghost use Rattle.rubis_engine.specs.Accounts.{Account};
 ghost use Rattle.rubis_engine.specs.Accounts.Ending.{AtEnd, Cut};
 ghost use Rattle.rubis_engine.specs.Progress.{Drained, EndsCut, EndsInPrefix, FromStart, HasComeSoFar, HasMoved, InEachRun, IsCut, IsDone};
@@ -36,23 +35,6 @@ fn write_out_held<T, S: Service<T>, W: Write>(
     sink.close(writer)
 }
 
-// Has the service give its last answers at the end of the input, and writes out what the sink holds.
-fn write_out_end<T, S: Service<T>, W: Write>(
-    rt: &T,
-    service: &mut S,
-    sink: &mut Sink,
-    writer: &mut W,
-) -> Result<(), RunFault>
-    ensures ok { OnOk result ((number : ℕ) → Appends (W.contents writer.old) (W.contents writer.new)
-        (sink.old ++ (S.account service.old number).text AtEnd [])) }
-    ensures stays { OnOk result (S.stays service.old service.new) }
-    ensures memory { IsErrOf result RunFault.Memory → W.contents writer.new ≡ W.contents writer.old }
-    ensures faults { IfErr result (λ e. (e ≡ RunFault.Write) ⊎ (e ≡ RunFault.Memory)) }
-{
-    service.answer_end(rt, sink)?;
-    sink.close(writer)
-}
-
 /// Writes out what was answered, where to go on is to wait for the reader or where there is much of it.
 pub fn write_out<T, S: Service<T>, R: Read, W: Write>(
     rt: &T,
@@ -71,10 +53,7 @@ pub fn write_out<T, S: Service<T>, R: Read, W: Write>(
     if records.is_used_up() {
         return write_out_held(rt, service, sink, writer);
     }
-    if sink.is_full() {
-        return sink.drain(writer);
-    }
-    Ok(())
+    sink.drain_full(writer)
 }
 
 /// Reads the next record, after `answered` that were answered. `None` if there is one. Otherwise writes the rest of the
@@ -105,7 +84,8 @@ pub fn next_record<T, S: Service<T>, R: Read, W: Write>(
     match records.advance() {
         Ok(true) => Ok(None),
         Ok(false) => {
-            write_out_end(rt, service, sink, writer)?;
+            service.answer_end(rt, sink)?;
+            sink.close(writer)?;
             Ok(Some(Count { records: answered }))
         }
         Err(fault) => {

@@ -4,6 +4,7 @@ ghost use Rattle.std.specs.Prelude.{◌≡◌, ◌<◌, ◌≤◌, ◌++◌, [],
 ghost use Rattle.std.specs.Io.KnownBytes.{Appends};
 ghost use Rattle.csv.specs.Writing.{row_text};
 ghost use Rattle.rubis_schema.specs.FieldList.{all_plain};
+ghost use Rattle.rubis_engine.specs.Progress.{IsWrittenOrWaits};
 ghost use Rattle.rubis_engine.specs.Rows.{plain_row, prefix_text};
 ghost use Rattle.rubis_engine.specs.Text.{plain_writer};
 
@@ -71,16 +72,6 @@ fn plain_text<'a>(first: &[&[u8]], fields: &'a Fields) -> Option<&'a [u8]>
     fields.plain_text()
 }
 
-// The fields of a row that was made in place, each with a comma before it: they make a plain row.
-#[inline(always)]
-fn text_of(row: &PlainRow) -> &[u8]
-    requires { 2 ≤ length row.now.fields }
-    ensures row { row_text plain_writer row.now.fields ≡ plain_row [] result.now }
-    ensures some { 0 < length result.now }
-{
-    row.text()
-}
-
 // Adds fields with a comma after each.
 fn push_first(text: &mut Vec<u8>, first: &[&[u8]]) -> Result<(), AllocError>
     ensures { OnOk result (text.new.items ≡ text.old.items ++ prefix_text (map (λ f. f.now) first.now)) }
@@ -94,17 +85,6 @@ fn push_first(text: &mut Vec<u8>, first: &[&[u8]]) -> Result<(), AllocError>
 }
 
 // Adds a plain row.
-fn push_plain(text: &mut Vec<u8>, first: &[&[u8]], plain: &[u8]) -> Result<(), AllocError>
-    requires { 0 < length plain.now }
-    ensures { OnOk result (text.new.items ≡ text.old.items ++ plain_row (map (λ f. f.now) first.now) plain.now) }
-{
-    push_first(text, first)?;
-    text.extend_from_slice(&plain[1..])?;
-    text.push(b'\n')?;
-    Ok(())
-}
-
-// Adds a plain row that begins with no other fields.
 #[inline(always)]
 fn push_line(text: &mut Vec<u8>, plain: &[u8]) -> Result<(), AllocError>
     requires { 0 < length plain.now }
@@ -113,6 +93,15 @@ fn push_line(text: &mut Vec<u8>, plain: &[u8]) -> Result<(), AllocError>
     text.extend_from_slice(&plain[1..])?;
     text.push(b'\n')?;
     Ok(())
+}
+
+// Adds a plain row that begins with the fields `first`.
+fn push_plain(text: &mut Vec<u8>, first: &[&[u8]], plain: &[u8]) -> Result<(), AllocError>
+    requires { 0 < length plain.now }
+    ensures { OnOk result (text.new.items ≡ text.old.items ++ plain_row (map (λ f. f.now) first.now) plain.now) }
+{
+    push_first(text, first)?;
+    push_line(text, plain)
 }
 
 // Adds a row in which some field calls for quotes, by what is kept for such rows.
@@ -196,7 +185,7 @@ impl Sink {
         ensures ok { OnOk result (self.new ≡ self.old ++ row_text plain_writer row.now.fields) }
         ensures err { OnErr result (self.new ≡ []) }
     {
-        let added = push_line(&mut self.text, text_of(row));
+        let added = push_line(&mut self.text, row.text());
         if added.is_err() {
             self.clear();
         }
@@ -272,6 +261,21 @@ impl Sink {
         let written = write_both(writer, self.before.as_slice(), self.text.as_slice());
         self.clear();
         written
+    }
+
+    /// Writes all text out where there is so much of it that it is time to, and is empty then: otherwise it waits on.
+    ///
+    /// # Errors
+    ///
+    /// `Write` where the writer failed.
+    pub fn drain_full<W: Write>(&mut self, writer: &mut W) -> Result<(), RunFault>
+        ensures ok { OnOk result (IsWrittenOrWaits self.old self.new (W.contents writer.old) (W.contents writer.new)) }
+        ensures faults { IfErr result (λ e. e ≡ RunFault.Write) }
+    {
+        if self.is_full() {
+            return self.drain(writer);
+        }
+        Ok(())
     }
 
     /// Writes all text out, and flushes the writer.

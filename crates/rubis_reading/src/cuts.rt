@@ -17,14 +17,6 @@ fn is_quoted(at: Standing) -> bool
     matches!(at, Standing::Quoted)
 }
 
-// How many bytes stand before the first quote.
-fn before_quote(text: &[u8]) -> Option<usize>
-    ensures none { IfNone result (HasNoQuote text.now) }
-    ensures some { IfSome result (λ k. (k < length text.now) × HasNoQuote (take k text.now) × (get_or text.now k 0 ≡ 34)) }
-{
-    memchr(b'"', text)
-}
-
 // How many bytes of a text with no quote there are up to the end of its last line, where the machine stands so before it: none
 // in the midst of a field with quotes.
 fn last_line(at: Standing, run: &[u8]) -> usize
@@ -66,7 +58,7 @@ fn records_end(text: &[u8]) -> usize
     let mut end = 0;
     'quotes: for _passed in 0..u64::MAX {
         let (_, rest) = text.split_at(place);
-        let Some(quote) = before_quote(rest) else {
+        let Some(quote) = memchr(b'"', rest) else {
             let line = last_line(at, rest);
             return if line > 0 { place + line } else { end };
         };

@@ -26,19 +26,6 @@ pub enum Parsed {
     Neither,
 }
 
-// What a record is that is no packet.
-#[tactic(auto, using(crate::proofs::ParsedFacts::asked, crate::proofs::ParsedFacts::neither))]
-fn read_as_request(alloc: Global, fields: &InputRecord, sites: u8) -> Result<Parsed, OutOfMemory>
-    requires { packet_of sites fields.now ≡ None }
-    ensures { IfOk result (λ parsed. IsParsed sites fields.now parsed) }
-{
-    match read_request(alloc, fields, sites) {
-        Ok(request) => Ok(Parsed::Asked(request)),
-        Err(ReadFault::BadRecord) => Ok(Parsed::Neither),
-        Err(ReadFault::Memory) => Err(OutOfMemory),
-    }
-}
-
 /// What records are, one after the other: messages, which come in great numbers, in a list of their own.
 #[derive(Drop)]
 pub enum Stretch {
@@ -49,14 +36,18 @@ pub enum Stretch {
 }
 
 /// What a record is.
-#[tactic(auto, using(crate::proofs::ParsedFacts::came))]
+#[tactic(auto, using(crate::proofs::ParsedFacts::came, crate::proofs::ParsedFacts::asked, crate::proofs::ParsedFacts::neither))]
 pub fn read_record(alloc: Global, fields: &InputRecord, sites: u8) -> Result<Parsed, OutOfMemory>
     requires { sites ≤ 16 }
     ensures { IfOk result (λ parsed. IsParsed sites fields.now parsed) }
 {
     match read_packet(alloc, fields, sites) {
         Ok(packet) => Ok(Parsed::Came(packet)),
-        Err(ReadFault::BadRecord) => read_as_request(alloc, fields, sites),
+        Err(ReadFault::BadRecord) => match read_request(alloc, fields, sites) {
+            Ok(request) => Ok(Parsed::Asked(request)),
+            Err(ReadFault::BadRecord) => Ok(Parsed::Neither),
+            Err(ReadFault::Memory) => Err(OutOfMemory),
+        },
         Err(ReadFault::Memory) => Err(OutOfMemory),
     }
 }
@@ -68,18 +59,6 @@ pub(crate) fn push_stretch(list: &mut Vec<Stretch>, run: Stretch) -> Result<(), 
     ensures last { OnOk result (list.new.items ≡ list.old.items ++ run ∷ []) }
 {
     match list.push(run) {
-        Ok(()) => Ok(()),
-        Err(_) => Err(OutOfMemory),
-    }
-}
-
-// Puts a message to those that came together.
-#[tactic(auto, using(crate::proofs::RunFacts::came_facts))]
-fn push_message(messages: &mut Vec<Message>, message: Message) -> Result<(), OutOfMemory>
-    ensures records { OnOk result (all_came messages.new.items ≡ all_came messages.old.items ++ Came (Msg message) ∷ []) }
-    ensures last { OnOk result (messages.new.items ≡ messages.old.items ++ message ∷ []) }
-{
-    match messages.push(message) {
         Ok(()) => Ok(()),
         Err(_) => Err(OutOfMemory),
     }
@@ -97,41 +76,8 @@ fn keep_messages(list: &mut Vec<Stretch>, messages: Vec<Message>) -> Result<(), 
     push_stretch(list, Stretch::Messages(messages))
 }
 
-// Puts the messages behind that came together, and what came after them.
-fn keep_one(
-    list: &mut Vec<Stretch>,
-    messages: Vec<Message>,
-    parsed: Parsed,
-) -> Result<(), OutOfMemory>
-    ensures records { OnOk result (flat list.new.items ≡ (flat list.old.items ++ all_came messages.items) ++ parsed ∷ []) }
-    ensures window { OnOk result ((window : ℕ) → HaveWindow window list.old.items messages.items → FitWindow window list.new.items) }
-{
-    keep_messages(list, messages)?;
-    push_stretch(list, Stretch::One(parsed))
-}
-
-// Puts a message to those that came together. Where these are as many as a window has, they are put behind first.
-#[inline(always)]
-fn keep_message(
-    alloc: Global,
-    list: &mut Vec<Stretch>,
-    messages: &mut Vec<Message>,
-    window: usize,
-    message: Message,
-) -> Result<(), OutOfMemory>
-    requires window { HaveWindow window list.old.items messages.old.items }
-    ensures records { OnOk result (flat list.new.items ++ all_came messages.new.items ≡ (flat list.old.items ++ all_came messages.old.items) ++ Came
-        (Msg message) ∷ []) }
-    ensures window { OnOk result (HaveWindow window list.new.items messages.new.items) }
-{
-    if messages.len() >= window {
-        let full = mem::replace(messages, Vec::new(alloc));
-        keep_messages(list, full)?;
-    }
-    push_message(messages, message)
-}
-
-// Puts one more behind: a message to those that came together, or anything else after them.
+// Puts one more behind: a message to those that came together, which are put behind first where they are as many as a window
+// has; anything else after them.
 #[inline(always)]
 fn keep(
     alloc: Global,
@@ -145,18 +91,20 @@ fn keep(
     ensures window { OnOk result (HaveWindow window list.new.items messages.new.items) }
 {
     match parsed {
-        Parsed::Came(Packet::Msg(message)) => keep_message(alloc, list, messages, window, message),
-        Parsed::Came(Packet::Token(token)) => {
-            let before = mem::replace(messages, Vec::new(alloc));
-            keep_one(list, before, Parsed::Came(Packet::Token(token)))
+        Parsed::Came(Packet::Msg(message)) => {
+            if messages.len() >= window {
+                let full = mem::replace(messages, Vec::new(alloc));
+                keep_messages(list, full)?;
+            }
+            if messages.push(message).is_err() {
+                return Err(OutOfMemory);
+            }
+            Ok(())
         }
-        Parsed::Asked(request) => {
+        other => {
             let before = mem::replace(messages, Vec::new(alloc));
-            keep_one(list, before, Parsed::Asked(request))
-        }
-        Parsed::Neither => {
-            let before = mem::replace(messages, Vec::new(alloc));
-            keep_one(list, before, Parsed::Neither)
+            keep_messages(list, before)?;
+            push_stretch(list, Stretch::One(other))
         }
     }
 }
@@ -210,9 +158,7 @@ pub fn read_piece(
 {
     let mut list = Vec::new(alloc);
     let room = (piece.len() / SHORT).min(window).min(ROOM_MAX);
-    let Ok(mut messages) = Vec::with_capacity(alloc, room) else {
-        return Err(OutOfMemory);
-    };
+    let mut messages = Vec::with_capacity(alloc, room)?;
     let mut records = Records::new(alloc, piece);
     read_all(alloc, &mut records, &mut list, &mut messages, sites, window)?;
     keep_messages(&mut list, messages)?;

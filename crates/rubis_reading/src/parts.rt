@@ -1,6 +1,6 @@
 //! A piece of text is read by several threads.
 
-ghost use Rattle.std.specs.Prelude.{◌≡◌, ◌≤◌, ◌++◌, IfOk};
+ghost use Rattle.std.specs.Prelude.{◌≡◌, ◌≤◌, IfOk};
 ghost use Rattle.std.specs.Thread.{IsSync};
 ghost use Rattle.rubis_engine.specs.Text.{input_records};
 ghost use Rattle.rubis_reading.specs.Parsed.{AreParsed};
@@ -12,16 +12,6 @@ use rubis_engine::OutOfMemory;
 use std::alloc::Global;
 use std::thread;
 use std::thread::Threads;
-
-// What was read of the front of a piece, and then what was read of the rest.
-fn both(mut front: Vec<Stretch>, mut rest: Vec<Stretch>) -> Result<Vec<Stretch>, OutOfMemory>
-    ensures { IfOk result (λ list. list.items ≡ front.items ++ rest.items) }
-{
-    match front.append(&mut rest) {
-        Ok(()) => Ok(front),
-        Err(_) => Err(OutOfMemory),
-    }
-}
 
 /// What the records of a piece of text are, in order, read by at most `readers` threads, the caller's included: each reads whole
 /// records, and as much of the text as the others. At most `window` messages that come one after the other are one run, or one
@@ -60,5 +50,7 @@ pub fn read_parts<T: Threads + Sync>(
             ensures { IfOk result (λ list. AreParsed sites (input_records rest.entry.now) (flat list.items) × FitWindow window list.items) }
         { read_parts(rt, alloc, rest, sites, fewer, window) },
     );
-    both(first?, others?)
+    let mut list = first?;
+    list.append(&mut others?)?;
+    Ok(list)
 }

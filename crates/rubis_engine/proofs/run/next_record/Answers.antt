@@ -1,4 +1,5 @@
-use Rattle.std.proofs.Common.{◌≡◌, ◌+◌, false, true, refl, rules, arith}
+use Rattle.std.proofs.Common.{◌≡◌, ◌+◌, false, true, refl, rules, arith, subst, sym}
+use Rattle.std.specs.Io.KnownBytes.{Appends}
 use Rattle.rubis_engine.specs.declared.fault.RunFault.TheVariants as fault
 use Rattle.rubis_engine.proofs.RunFacts.{handed_on, progress-cut, progress-drained, progress-end, progress-prefix, progress-stays, takes-at}
 use Rattle.rubis_engine.proofs.run.next_record.Goals as goal
@@ -8,22 +9,23 @@ returns-in-Ok-true-clause-found g c =
     let found : c.in-Ok-true.field-0 ≡ true = search rules in
     takes-at _ c.args.records.now c.advance.new.self _ _ found c.in-Ok-true.ensures.takes
 
-pub returns-in_ok-write_out_end-in-Ok-false-clause-done : goal.returns-in_ok-write_out_end-in-Ok-false-clause-done
-returns-in_ok-write_out_end-in-Ok-false-clause-done g c all old input p =
+pub returns-in_ok-close-in-Ok-false-clause-done : goal.returns-in_ok-close-in-Ok-false-clause-done
+returns-in_ok-close-in-Ok-false-clause-done g c all old input p =
+    let n = c.args.answered + 1 in
     let none : c.in-Ok-false.field-0 ≡ false = search rules in
+    let text = c.in_ok-answer_end-in-Ok-false.ensures.text n in
     progress-end _ c.args.records.now c.advance.new.self all _ old _ _ _ _ c.args.answered c.args.answered input p
     (takes-at _ c.args.records.now c.advance.new.self _ _ none c.in-Ok-false.ensures.takes)
-    (c.in_ok-write_out_end-in-Ok-false.ensures.ok (c.args.answered + 1)) (g.met.S.Service.reads_none c.args.service.now (c.args.answered + 1)) refl (omega arith)
+    (subst (λ t. Appends (g.W.Write.contents c.args.writer.now) (g.W.Write.contents c.close.new.writer) t) (sym text) c.in_ok-close-in-Ok-false.ensures.ok)
+    (g.met.S.Service.reads_none c.args.service.now n) refl (omega arith)
 
-pub returns-in_ok-write_out_end-in-Ok-false-clause-ended : goal.returns-in_ok-write_out_end-in-Ok-false-clause-ended
-returns-in_ok-write_out_end-in-Ok-false-clause-ended g c =
+pub returns-in_ok-close-in-Ok-false-clause-ended : goal.returns-in_ok-close-in-Ok-false-clause-ended
+returns-in_ok-close-in-Ok-false-clause-ended g c =
     let none : c.in-Ok-false.field-0 ≡ false = search rules in
     takes-at _ c.args.records.now c.advance.new.self _ _ none c.in-Ok-false.ensures.takes
 
-pub returns-in_err-write_out_end-in-Ok-false-clause-memory : goal.returns-in_err-write_out_end-in-Ok-false-clause-memory
-returns-in_err-write_out_end-in-Ok-false-clause-memory g c e all old input p =
-    let memory = handed_on c.from_residual.result c.in_err-write_out_end-in-Ok-false.field-0.0 fault.Memory c.from_residual.ensures e in
-    progress-stays _ _ all _ old _ _ _ _ input p (c.in_err-write_out_end-in-Ok-false.ensures.memory (rw memory refl))
+pub returns-in_err-answer_end-in-Ok-false-clause-memory : goal.returns-in_err-answer_end-in-Ok-false-clause-memory
+returns-in_err-answer_end-in-Ok-false-clause-memory g c e all old input p = progress-prefix _ _ all _ old _ _ _ input p
 
 pub returns-in_ok-write_out_held-in-Err-clause-read : goal.returns-in_ok-write_out_held-in-Err-clause-read
 returns-in_ok-write_out_held-in-Err-clause-read g c e all old input p = (

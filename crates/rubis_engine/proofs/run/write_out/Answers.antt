@@ -1,5 +1,5 @@
-use Rattle.std.proofs.Common.{refl}
-use Rattle.rubis_engine.proofs.RunFacts.{on_ok, on_ok_both, progress-drained}
+use Rattle.std.proofs.lemmas.Result.{on_ok_weaker}
+use Rattle.rubis_engine.proofs.RunFacts.{on_ok, on_ok_both, progress-drained, progress-waited}
 use Rattle.rubis_engine.proofs.run.write_out.Goals as goal
 
 pub returns-then-is_used_up-clause-goes : goal.returns-then-is_used_up-clause-goes
@@ -7,11 +7,9 @@ returns-then-is_used_up-clause-goes g c =
     on_ok_both c.write_out_held.result (λ drains empty all old number input p.
     rw empty (progress-drained _ _ all _ _ old _ _ _ _ input p (drains number))) c.write_out_held.ensures.drains c.write_out_held.ensures.empty
 
-pub returns-then-is_full-clause-goes : goal.returns-then-is_full-clause-goes
-returns-then-is_full-clause-goes g c =
-    on_ok_both c.drain.result (λ out empty all old number input p.
-    rw empty (progress-drained _ _ all _ _ old _ _ _ _ input p (record { out = c.args.sink.now; appended = out; told = λ e m. refl; counted = λ m. refl })))
-    c.drain.ensures.ok (on_ok c.drain.result c.drain.ensures.empty)
+pub returns-clause-goes : goal.returns-clause-goes
+returns-clause-goes g c =
+    on_ok_weaker c.drain_full.result (λ drained all old number input p. progress-waited _ _ all _ old _ _ _ _ _ input p drained) c.drain_full.ensures.ok
 
-pub returns-then-is_full-clause-stays : goal.returns-then-is_full-clause-stays
-returns-then-is_full-clause-stays g c = on_ok c.drain.result (g.met.S.Service.stays_same c.args.service.now)
+pub returns-clause-stays : goal.returns-clause-stays
+returns-clause-stays g c = on_ok c.drain_full.result (g.met.S.Service.stays_same c.args.service.now)

@@ -1,9 +1,10 @@
-use Rattle.std.proofs.Common.{◌≡◌, ◌∙◌, ◌<◌, ◌+◌, ap, arith, drop, get_or, inl, length, length-drop, refl, subst, sym, take}
+use Rattle.std.proofs.Common.{◌≡◌, ◌∙◌, ◌<◌, ◌+◌, ap, arith, drop, get_or, inl, length, length-drop, refl, subst, sym, take, Some}
+use Rattle.rubis_engine.proofs.RunFacts.{if_none}
 use Rattle.csv.specs.declared.parser.State.TheVariants as st
 use Rattle.rubis_reading.specs.Standings.{state_of}
-use Rattle.rubis_reading.specs.Streams.{EndsFrom, IsLike, NoEndAfter, stands}
+use Rattle.rubis_reading.specs.Streams.{EndsFrom, HasNoQuote, IsLike, NoEndAfter, stands}
 use Rattle.rubis_reading.proofs.EndFacts.{none-between, none-later}
-use Rattle.rubis_reading.proofs.QuoteFacts.{after-quote, front-ends, rest-ends}
+use Rattle.rubis_reading.proofs.QuoteFacts.{after-quote, first-none, first-some, front-ends, rest-ends}
 use Rattle.rubis_reading.proofs.cuts.records_end.Goals.{then-line-gt0-2, else-line-gt0-2}
 use Rattle.rubis_reading.proofs.cuts.records_end.Goals as goal
 
@@ -23,6 +24,15 @@ returns-then-line-gt0-clause-ends c some =
     rest-ends (state_of c.quotes.at) c.args.text.now c.quotes.place line c.quotes.invariant.within c.quotes.invariant.like
     (subst (λ r. EndsFrom (state_of c.quotes.at) r line) c.split_at.ensures.back (c.last_line-line.ensures.ends c.if-line-gt0.true))
 
+pub last_line-line-requires : goal.last_line-line-requires
+last_line-line-requires c = if_none c.memchr.result (first-none c.memchr.result c.split_at.result.1.now c.memchr.ensures) c.in_default.is
+
+pub last_line-line-requires-in-quotes : goal.last_line-line-requires-in-quotes
+last_line-line-requires-in-quotes c = subst HasNoQuote (sym c.split_at-in-quotes.ensures.front) (first-some (Some c.in-Some.quote) c.split_at.result.1.now c.in-Some.ensures).1
+
+pub over-requires : goal.over-requires
+over-requires c = subst HasNoQuote (sym c.split_at-in-quotes.ensures.front) (first-some (Some c.in-Some.quote) c.split_at.result.1.now c.in-Some.ensures).1
+
 pub quotes-preserved : goal.quotes-preserved
 quotes-preserved c =
     let text = c.args.text.now in
@@ -31,9 +41,10 @@ quotes-preserved c =
     let quote = c.in-Some.quote in
     let rest = c.split_at.result.1.now in
     let back : rest ≡ drop place text = c.split_at.ensures.back in
+    let found = first-some (Some quote) rest c.in-Some.ensures in
     let run : c.split_at-in-quotes.result.0.now ≡ take quote (drop place text) = c.split_at-in-quotes.ensures.front ∙ ap (take quote) back in
-    let lt : quote < length (drop place text) = subst (λ r. quote < length r) back c.in-Some.ensures.some.0 in
-    let is : get_or (drop place text) quote 0 ≡ 34 = subst (λ r. get_or r quote 0 ≡ 34) back c.in-Some.ensures.some.2 in
+    let lt : quote < length (drop place text) = subst (λ r. quote < length r) back found.0 in
+    let is : get_or (drop place text) quote 0 ≡ 34 = subst (λ r. get_or r quote 0 ≡ 34) back found.2 in
     let over = subst (λ r. IsLike (state_of c.over.result) (stands s r)) run c.over.ensures in
     record {
       like = after-quote s (state_of c.over.result) (state_of c.after-at.result) text place quote c.quotes.invariant.like lt is over c.after-at.ensures;
