@@ -22,6 +22,7 @@ import re
 import sys
 
 import write_contracts
+from trials import report
 
 TOP = pathlib.Path(__file__).resolve().parent.parent
 sys.path.insert(0, str(TOP))
@@ -303,10 +304,7 @@ def main() -> int:
     found += [check_links(page, fix) for page in pages] + [check_images(page) for page in pages]
     looked = sum(count for count, _ in found) + len(edits)
     faults = [fault for _, part in found for fault in part]
-    for fault in faults:
-        print(fault)
-    print(f"pages: {looked - len(faults)} passed, {len(faults)} failed")
-    return 1 if faults else 0
+    return report("pages", looked, faults)
 
 
 if __name__ == "__main__":

@@ -24,6 +24,8 @@ import sys
 import time
 import tty
 
+from trials import report
+
 SECONDS = 120
 
 # How many records a run may have.
@@ -239,10 +241,7 @@ def main() -> int:
     answers += [interrupted_read(program, options) for options in ("--workers 1", "--workers 2", "--workers 4 --batch 3")]
     answers += [told(program, expected) for expected in too_long()]
     faults = [answer for answer in answers if answer]
-    for fault in faults:
-        print(fault)
-    print(f"edge runs: {len(answers) - len(faults)} passed, {len(faults)} failed")
-    return 1 if faults else 0
+    return report("edge runs", len(answers), faults)
 
 
 if __name__ == "__main__":

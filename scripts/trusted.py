@@ -21,6 +21,8 @@ import re
 import subprocess
 import sys
 
+from trials import report
+
 TOP = pathlib.Path(__file__).resolve().parent.parent
 PAGE = TOP / "docs/PROMISES.md"
 PROGRAM_CRATE = "rubis_app"
@@ -97,11 +99,7 @@ def main() -> int:
     faults = [f"docs/PROMISES.md: `{name}` is a library that is {'not listed' if name in stands_on else 'not used'}" for name in sorted(set(stands_on) ^ set(now["libraries"]))]
     more = set(calls) - set(now["assumed"]) - set(now["called"])
     faults += [f"docs/PROMISES.md: the program calls `{name}`, which isn't listed" for name in sorted(more)]
-    for fault in faults:
-        print(fault)
-    looked = len(stands_on) + len(calls)
-    print(f"trusted: {looked - len(faults)} passed, {len(faults)} failed")
-    return 1 if faults else 0
+    return report("trusted", len(stands_on) + len(calls), faults)
 
 
 if __name__ == "__main__":

@@ -14,6 +14,8 @@ import subprocess
 import sys
 import tempfile
 
+from trials import report
+
 PAGE = pathlib.Path(__file__).resolve().parent.parent / "docs/CALLING.md"
 SECONDS = 120
 
@@ -35,7 +37,6 @@ def main() -> int:
     page = PAGE.read_text()
     clients = {"client.py": block(page, "python", "import subprocess"), "client.rs": block(page, "rust", "use std::io")}
     wanted = block(page, "text", "reply,1")
-    passed, failed = 0, 0
     with tempfile.TemporaryDirectory() as folder:
         os.symlink(pathlib.Path(sys.argv[1]).resolve(), pathlib.Path(folder) / "rubis")
         for name, text in clients.items():
@@ -46,12 +47,7 @@ def main() -> int:
         else:
             built = output(folder, "rustc", "--edition", "2021", "client.rs")
             runs.append(("the client in Rust", built + output(folder, "./client")))
-        for name, got in runs:
-            passed, failed = passed + (got == wanted), failed + (got != wanted)
-            if got != wanted:
-                print(f"{name} writes\n{got}")
-    print(f"clients: {passed} passed, {failed} failed")
-    return 1 if failed else 0
+    return report("clients", len(runs), [f"{name} writes\n{got}" for name, got in runs if got != wanted])
 
 
 if __name__ == "__main__":

@@ -21,7 +21,7 @@ sys.path.insert(0, str(TOP))
 
 from picture_tool.tests.browser import Browser, found  # noqa: E402
 from picture_tool.tests.shops import MadeShop, Network  # noqa: E402
-from trials import Skipped, expect, run_trials, trials_in  # noqa: E402
+from trials import Skipped, expect, expect_types, expect_units, run_trials, trials_in  # noqa: E402
 
 MANY, MOST_BYTES, MOST_SECONDS = 20_000, 3_000_000, 5.0
 HALF, ALL = 25.0, 1000.0    # ms: what half of the drawings and steps of 20,000 messages may take, and any, on a machine with other work
@@ -91,19 +91,12 @@ def lines(texts: list[str]) -> str:
 
 def test_units(at: Folder) -> None:
     """The unit tests of picture_tool."""
-    command = [sys.executable, "-m", "unittest", "discover", "-s", "picture_tool/tests", "-t", "."]
-    done = subprocess.run(command, cwd=TOP, capture_output=True, text=True)
-    expect(done.returncode == 0, done.stderr)
+    expect_units(sys.executable, "picture_tool")
 
 
 def test_types(at: Folder) -> None:
     """The types of picture_tool, as mypy checks them."""
-    python = "/usr/bin/python3"
-    if subprocess.run([python, "-c", "import mypy"], capture_output=True).returncode:
-        raise Skipped("no python3-mypy on this machine")
-    words = ["--strict", "--cache-dir", str(at.path / "cache"), "picture_tool", "scripts/picture.py", "scripts/try_pictures.py"]
-    done = subprocess.run([python, "-m", "mypy", *words], cwd=TOP, capture_output=True, text=True)
-    expect(done.returncode == 0, done.stdout)
+    expect_types(at.path / "cache", "picture_tool", "scripts/picture.py", "scripts/try_pictures.py")
 
 
 def test_runs(at: Folder) -> None:

@@ -18,10 +18,8 @@ import time
 from collections.abc import Callable
 from typing import Any
 
-from trials import Skipped, expect, run_trials, trials_in
+from trials import PYTHON, TOP, Skipped, expect, expect_types, expect_units, run_trials, trials_in
 
-TOP = pathlib.Path(__file__).resolve().parent.parent
-PYTHON = "/usr/bin/python3"
 SECONDS = 60
 
 
@@ -314,6 +312,13 @@ def test_folder(at: Folder) -> None:
     at.wait("the end of the supervisor", lambda: not os.path.exists(f"/proc/{supervisor}"))
 
 
+def free_port() -> int:
+    with socket.socket() as free:
+        free.bind(("127.0.0.1", 0))
+        port: int = free.getsockname()[1]
+        return port
+
+
 class Server:
     """A Redis server of a trial, and a shop of three sites over it: 0 and 1 in the folder a, 2 in the folder b."""
 
@@ -322,9 +327,7 @@ class Server:
             raise Skipped("no redis-server on this machine")
         if subprocess.run([PYTHON, "-c", "import redis"], capture_output=True).returncode:
             raise Skipped("no python3-redis on this machine")
-        with socket.socket() as free:
-            free.bind(("127.0.0.1", 0))
-            self.port = free.getsockname()[1]
+        self.port = free_port()
         self.at, self.options = at, " ".join(options)
         self.over = f"redis://127.0.0.1:{self.port}/auction"
         self.start()
@@ -341,9 +344,10 @@ class Server:
         self.process.kill()
         self.process.wait()
 
-    def start_shop(self) -> None:
+    def start_shop(self) -> "Server":
         self.at.run(f"./shop start a --sites 3 --here 0,1 --over {self.over}")
         self.at.run(f"./shop start b --sites 3 --here 2 --over {self.over}")
+        return self
 
 
 def sends(at: Folder, site: str) -> list[str]:
@@ -352,8 +356,7 @@ def sends(at: Folder, site: str) -> list[str]:
 
 def test_streams(at: Folder) -> None:
     """Two supervisors over a server: asks at any site from either; a server that lost its end, or all, is given it again."""
-    server = Server(at)
-    server.start_shop()
+    server = Server(at).start_shop()
     expect(at.shop(f"ask 0 {SALE}", folder="a") == "ok,0.1\nok,0.2\nok,0.3\n", "asks at site 0")
     expect(at.shop("ask 2 bid,0.3,0.2,500 --published", folder="b") == "ok,2.1\n", "a bid at site 2")
     expect(at.shop("ask 1 bid,0.3,0.2,600", folder="b") == "ok,1.1\n", "asked from the other machine")
@@ -374,8 +377,7 @@ def test_streams(at: Folder) -> None:
 
 def test_fence(at: Folder) -> None:
     """A site whose folder has less than its stream is stopped before it gives a number twice, and rebuilt byte for byte, with the token."""
-    server = Server(at)
-    server.start_shop()
+    server = Server(at).start_shop()
     at.shop(f"ask 0 {SALE} 'item,0.1,\"vase, blue\",7,1,100,0' restock,0.3,0.1,2", folder="a")
     at.shop("ask 2 rename,0.2,bea", folder="b")
     at.shop("ask 0 bid,0.3,0.2,500 close,0.3,0.1", folder="a")
@@ -404,8 +406,7 @@ def test_fence(at: Folder) -> None:
 
 def test_lost_twice(at: Folder) -> None:
     """A folder is lost, and the server has lost its end: what the others have of the site goes into its stream first."""
-    server = Server(at)
-    server.start_shop()
+    server = Server(at).start_shop()
     at.shop(f"ask 0 {SALE}", folder="a")
     at.shop("ask 2 bid,0.3,0.2,500", folder="b")
     at.shop("ask 0 bid,0.3,0.2,600", folder="a")
@@ -473,8 +474,7 @@ def test_lost_over_files(at: Folder) -> None:
 
 def test_others_append(at: Folder) -> None:
     """Where the server has lost messages of a site that isn't running, another site appends them."""
-    server = Server(at)
-    server.start_shop()
+    server = Server(at).start_shop()
     at.shop(f"ask 0 {SALE}", folder="a")
     at.shop("wait 2", folder="b")
     at.run("./shop stop a")
@@ -487,8 +487,7 @@ def test_others_append(at: Folder) -> None:
 
 def test_deleted(at: Folder) -> None:
     """Entries that were deleted by hand are published again, at the end of a stream and within it."""
-    server = Server(at)
-    server.start_shop()
+    server = Server(at).start_shop()
     at.shop(f"ask 0 {SALE} user,cat", folder="a")
     at.shop("wait 2", folder="b")
     for name in ("4-0", "2-0"):
@@ -501,8 +500,7 @@ def test_deleted(at: Folder) -> None:
 
 def test_copied(at: Folder) -> None:
     """A copy of a folder doesn't serve, until it is adopted."""
-    server = Server(at)
-    server.start_shop()
+    server = Server(at).start_shop()
     at.shop(f"ask 0 {SALE}", folder="a")
     at.shop("ask 2 bid,0.3,0.2,500", folder="b")
     at.run("cp -a b c; ./shop start c", 3, "b/2 has it (shop adopt 2")
@@ -518,8 +516,7 @@ def test_copied(at: Folder) -> None:
 
 def test_full_server(at: Folder) -> None:
     """Where the server is full, asks go on, and the status says that nothing is published."""
-    server = Server(at, "--maxmemory-policy noeviction")
-    server.start_shop()
+    server = Server(at, "--maxmemory-policy noeviction").start_shop()
     at.shop(f"ask 0 {SALE}", folder="a")
     at.shop("wait 2", folder="b")
     server.say("config set maxmemory 1")
@@ -555,9 +552,7 @@ def test_tls(at: Folder) -> None:
         raise Skipped("no openssl on this machine")
     at.run("openssl req -x509 -newkey rsa:2048 -nodes -keyout key -out certificate -days 2 -subj /CN=localhost "
            "-addext subjectAltName=DNS:localhost 2> told")
-    with socket.socket() as free:
-        free.bind(("127.0.0.1", 0))
-        port = free.getsockname()[1]
+    port = free_port()
     Server(at, f"--tls-port {port} --tls-cert-file certificate --tls-key-file key --tls-ca-cert-file certificate --tls-auth-clients no")
     over = f"rediss://localhost:{port}/auction"
     at.run(f"./shop start a --sites 2 --here 0 --over {over}", 3, "certificate verify failed")
@@ -801,18 +796,12 @@ def test_help(at: Folder) -> None:
 
 def test_units(at: Folder) -> None:
     """The unit tests of shop_tool."""
-    command = [PYTHON, "-m", "unittest", "discover", "-s", "shop_tool/tests", "-t", "."]
-    done = subprocess.run(command, cwd=TOP, capture_output=True, text=True)
-    expect(done.returncode == 0, done.stderr)
+    expect_units(PYTHON, "shop_tool")
 
 
 def test_types(at: Folder) -> None:
     """The types of shop_tool, as mypy checks them."""
-    if subprocess.run([PYTHON, "-c", "import mypy"], capture_output=True).returncode:
-        raise Skipped("no python3-mypy on this machine")
-    words = ["--strict", "--cache-dir", str(at.path / "cache"), "shop_tool", *map(str, TOP.glob("scripts/*shop*.py"))]
-    done = subprocess.run([PYTHON, "-m", "mypy", *words], cwd=TOP, capture_output=True, text=True)
-    expect(done.returncode == 0, done.stdout)
+    expect_types(at.path / "cache", "shop_tool", *map(str, TOP.glob("scripts/*shop*.py")))
 
 
 def tried(test: Callable[[Folder], None], program: pathlib.Path) -> Exception | None:

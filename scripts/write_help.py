@@ -14,6 +14,8 @@ import re
 import subprocess
 import sys
 
+from trials import report
+
 TOP = pathlib.Path(__file__).resolve().parent.parent
 # More than any option takes.
 TOO_LARGE = "4294967295"
@@ -226,6 +228,14 @@ def quoted(text: str) -> str:
     return "'" + text.replace("'", "'\\''") + "'"
 
 
+def zsh_text(text: str) -> str:
+    return text.replace("[", "(").replace("]", ")").replace(":", " -")
+
+
+def fish_text(text: str) -> str:
+    return "'" + text.replace("\\", "\\\\").replace("'", "\\'") + "'"
+
+
 def bash_completion(line: CommandLine) -> str:
     names = " ".join(command.name for command in line.commands)
     out = [
@@ -251,7 +261,7 @@ def bash_completion(line: CommandLine) -> str:
 
 def zsh_completion(line: CommandLine) -> str:
     def spec(option: Option) -> str:
-        words = option.help.replace("[", "(").replace("]", ")").replace(":", " -")
+        words = zsh_text(option.help)
         if not option.takes_number:
             return quoted(f"--{option.name}[{words}]")
         default = "" if option.default is None else f", {int(option.default):,} by default"
@@ -308,42 +318,27 @@ def fish_completion(line: CommandLine) -> str:
         "complete -c rubis -n \"__fish_seen_subcommand_from help\" -a \"$commands\"",
     ]
 
-    def fish(text: str) -> str:
-        return "'" + text.replace("\\", "\\\\").replace("'", "\\'") + "'"
-
     for command in line.commands:
-        out.append(f"complete -c rubis -n \"not __fish_seen_subcommand_from $commands help\" -a {command.name} -d {fish(command.about)}")
+        out.append(f"complete -c rubis -n \"not __fish_seen_subcommand_from $commands help\" -a {command.name} -d {fish_text(command.about)}")
         for option in command.options:
-            values = f" -x -a {fish(' '.join(option.values))}" if option.takes_number else ""
-            out.append(f"complete -c rubis -n \"__fish_seen_subcommand_from {command.name}\" -l {option.name}{values} -d {fish(option.words)}")
+            values = f" -x -a {fish_text(' '.join(option.values))}" if option.takes_number else ""
+            out.append(f"complete -c rubis -n \"__fish_seen_subcommand_from {command.name}\" -l {option.name}{values} -d {fish_text(option.words)}")
         if command.argument is not None:
             offered = " ".join(command.argument.values) or "(__fish_complete_directories)"
             out.append(f"complete -c rubis -n \"__fish_seen_subcommand_from {command.name}\" -a \"{offered}\"")
     return "\n".join(out) + "\n"
 
 
-WRITTEN = {
-    "docs/rubis.1": man_page,
-    "completions/rubis.bash": bash_completion,
-    "completions/_rubis": zsh_completion,
-    "completions/rubis.fish": fish_completion,
-}
-
-
-def write_or_check(texts: dict[str, str], check: bool, what: str, says: str) -> int:
-    """Writes files, or with `check` tells which of them have another text: the status of the command that does so."""
-    other = 0
-    for name, text in texts.items():
-        path = TOP / name
-        if not check:
-            path.parent.mkdir(exist_ok=True)
-            path.write_text(text)
-        elif not path.exists() or path.read_text() != text:
-            other += 1
-            print(f"{name}:1: isn't what {says}")
+def write_or_check(command: str, texts: list[str], check: bool, what: str, says: str) -> int:
+    """Writes the man page and the completions for bash, zsh and fish, or with `check` tells which of them have another text: the status."""
+    names = [f"docs/{command}.1", f"completions/{command}.bash", f"completions/_{command}", f"completions/{command}.fish"]
     if check:
-        print(f"{what}: {len(texts) - other} passed, {other} failed")
-    return 1 if other else 0
+        other = [name for name, text in zip(names, texts) if not (TOP / name).exists() or (TOP / name).read_text() != text]
+        return report(what, len(names), [f"{name}:1: isn't what {says}" for name in other])
+    for name, text in zip(names, texts):
+        (TOP / name).parent.mkdir(exist_ok=True)
+        (TOP / name).write_text(text)
+    return 0
 
 
 def main() -> int:
@@ -354,8 +349,8 @@ def main() -> int:
         print(__doc__, file=sys.stderr)
         return 2
     line = command_line_of(str(pathlib.Path(words[0]).resolve()))
-    texts = {name: write(line) for name, write in WRITTEN.items()}
-    return write_or_check(texts, check, "help", "the program's help says; scripts/write_help.py writes it")
+    texts = [man_page(line), bash_completion(line), zsh_completion(line), fish_completion(line)]
+    return write_or_check("rubis", texts, check, "help", "the program's help says; scripts/write_help.py writes it")
 
 
 if __name__ == "__main__":

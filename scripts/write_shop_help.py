@@ -16,7 +16,7 @@ sys.path.insert(0, str(TOP))
 os.environ.pop("SHOP", None)
 
 from shop_tool.cli import ABOUT, EXAMPLES, NOTES, CommandLine      # noqa: E402
-from write_help import write_or_check                              # noqa: E402
+from write_help import fish_text, quoted, write_or_check, zsh_text  # noqa: E402
 
 WRITTEN_BY = "Written by scripts/write_shop_help.py; changes are lost."
 SITES = [str(site) for site in range(16)]
@@ -160,14 +160,6 @@ def bash_completion() -> str:
     return BASH.format(written=WRITTEN_BY, over=" ".join(OVER), commands=names, cases="\n".join(cases))
 
 
-def quoted(text: str) -> str:
-    return "'" + text.replace("'", "'\\''") + "'"
-
-
-def zsh_text(text: str) -> str:
-    return text.replace("[", "(").replace("]", ")").replace(":", " -")
-
-
 ZSH = """\
 #compdef shop
 # Completion of shop for zsh. {written}
@@ -220,10 +212,6 @@ def zsh_completion() -> str:
     return ZSH.format(written=WRITTEN_BY, commands="\n".join(names), cases="\n".join(cases))
 
 
-def fish_text(text: str) -> str:
-    return "'" + text.replace("\\", "\\\\").replace("'", "\\'") + "'"
-
-
 def fish_values(option: Option) -> str:
     """What stands behind an option."""
     if "--over" in option.names:
@@ -252,20 +240,12 @@ def fish_completion() -> str:
     return "\n".join(out) + "\n"
 
 
-WRITTEN = {
-    "docs/shop.1": man_page,
-    "completions/shop.bash": bash_completion,
-    "completions/_shop": zsh_completion,
-    "completions/shop.fish": fish_completion,
-}
-
-
 def main() -> int:
     if sys.argv[1:] not in ([], ["--check"]):
         print(__doc__, file=sys.stderr)
         return 2
-    texts = {name: write() for name, write in WRITTEN.items()}
-    return write_or_check(texts, bool(sys.argv[1:]), "help of shop", "the command line of shop says; scripts/write_shop_help.py writes it")
+    texts = [man_page(), bash_completion(), zsh_completion(), fish_completion()]
+    return write_or_check("shop", texts, bool(sys.argv[1:]), "help of shop", "the command line of shop says; scripts/write_shop_help.py writes it")
 
 
 if __name__ == "__main__":

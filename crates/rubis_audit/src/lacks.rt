@@ -1,6 +1,6 @@
 //! What logs lack of each other, as records.
 
-ghost use Rattle.std.specs.Prelude.{◌≡◌, ◌≤◌, ◌==◌, ◌&&◌, ◌++◌, ◌∷◌, [], IfOk, OnOk, length, map};
+ghost use Rattle.std.specs.Prelude.{◌≡◌, ◌≤◌, ◌==◌, ◌++◌, ◌∷◌, [], IfOk, OnOk, length, map};
 ghost use Rattle.rubis_schema.specs.declared.limits.TheConstants.{COUNTED_MAX};
 ghost use Rattle.rubis_model.specs.Audit.{AreFaultless};
 ghost use Rattle.rubis_model.specs.LackRecords.{count_row, lack_row, lack_rows, lack_rows_from, made_at};
@@ -76,12 +76,6 @@ fn count_own(site: u8, messages: &[&Message]) -> usize
     many
 }
 
-fn both(first: bool, second: bool) -> bool
-    ensures { result ≡ (first && second) }
-{
-    first && second
-}
-
 // Writes what the log of that number lacks, and says whether none of it is of the log's own site.
 fn write_lack(
     fields: &mut Fields,
@@ -125,10 +119,7 @@ pub fn write_lacks(
     let mut well = true;
     for (at, log) in logs.iter().enumerate() {
         let messages = lacked(alloc, sites, log, &all)?;
-        well = both(
-            well,
-            write_lack(&mut fields, sink, at + 1, log.site(), &messages)?,
-        );
+        well &= write_lack(&mut fields, sink, at + 1, log.site(), &messages)?;
     }
     Ok(well)
 }

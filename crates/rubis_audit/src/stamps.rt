@@ -4,7 +4,6 @@ ghost use Rattle.std.specs.Prelude.{◌≡◌, List, false, length, option_copie
 ghost use Rattle.std.specs.Option.{option_map_or};
 ghost use Rattle.rubis_message.specs.Message as model;
 ghost use Rattle.rubis_message.specs.Message.{sites_of};
-ghost use Rattle.rubis_model.specs.Verdict.{comes_before};
 ghost use Rattle.rubis_audit.specs.Lookups.{by_message_id, clash_by_id, differs_by, early_by, exceeds, forgets_by_id, gap_by, order_by, taken_by_red};
 ghost use Rattle.rubis_audit.specs.Seen.{Sees, id_in};
 ghost use Rattle.rubis_audit.specs.declared.seen.Seen.{Seen};
@@ -112,13 +111,6 @@ pub fn out_of_order(site: u8, seen: &Seen, clock: &Clock, v: &Message) -> bool
         || forgets(seen, v)
 }
 
-// Whether the origin of `v` had released `u` when it made `v`.
-fn precedes(u: &Message, v: &Message) -> bool
-    ensures { result ≡ comes_before u.now v.now }
-{
-    is_counted(u.id(), v)
-}
-
 // Whether another message has the red number of `v`.
 fn is_taken(seen: &Seen, v: &Message) -> bool
     ensures { (all : List model.Message) → Sees seen.now all → result ≡ taken_by_red all v.now }
@@ -142,7 +134,7 @@ pub fn leaves_gap(seen: &Seen, clock: &Clock, last: Option<&Message>, v: &Messag
         return true;
     }
     match last {
-        Some(u) => !precedes(u, v),
+        Some(u) => !is_counted(u.id(), v),
         None => false,
     }
 }

@@ -2,10 +2,10 @@
 
 ghost use Rattle.std.specs.Prelude.{◌≡◌, false, [], Some, codes, map, string_bytes, IfErr, IfOk};
 ghost use Rattle.rubis_schema.specs.declared.limits.TheConstants.{SITES_MAX};
-ghost use Rattle.clap.specs.Words.{app_of, fault_of, first_of, found_of, new_app, one_of, rows_of, rule_of};
+ghost use Rattle.clap.specs.Words.{app_of, fault_of, first_of, found_of, one_of, rows_of, rule_of};
 ghost use Rattle.rubis_cli.specs.CommandLine.{AreAuditOptionsIn, AreCheckOptionsIn, AreCountsIn, AreLackOptionsIn, AreOptionsIn, IsAsked};
 ghost use Rattle.rubis_cli.specs.CommandLine.{IsFaultAmong, IsNamed, IsNumberOf, IsReading, IsSetupIn, audit_command, check_command, command_line};
-ghost use Rattle.rubis_cli.specs.CommandLine.{described, given_option, keep_option, lack_command, number_option, option_named};
+ghost use Rattle.rubis_cli.specs.CommandLine.{given_option, keep_option, lack_command, number_option, option_named};
 ghost use Rattle.rubis_cli.specs.CommandLine.{program_alone, reading_named, reading_option, site_command, site_option, widen_command};
 ghost use Rattle.rubis_cli.specs.CommandLine.{with_input, with_setup, with_work, world_command};
 ghost use Rattle.rubis_cli.specs.declared.options.OptionFault.TheVariants.{Memory};
@@ -359,29 +359,17 @@ fn check<'a>(alloc: Global) -> Result<Command<'a>, AllocError>
         .arg(sites(alloc))
 }
 
-// The program's name.
-fn named<'a>(alloc: Global) -> Result<Command<'a>, AllocError>
-    ensures { IfOk result (λ made. app_of made ≡ new_app (codes "rubis")) }
-{
-    Command::new(alloc, "rubis").bin_name("rubis")
-}
-
-// What is said of the program.
-fn described<'a>(program: Command<'a>) -> Command<'a>
-    ensures { app_of result ≡ described (app_of program.entry) }
-{
-    program
-        .version("0.1.0")
-        .about("A replicated auction store under RedBlue consistency, with proved contracts")
-        .subcommand_required(true)
-}
-
 // The program, before it has its commands.
 fn program_alone<'a>(alloc: Global) -> Result<Command<'a>, AllocError>
     ensures { IfOk result (λ made. app_of made ≡ program_alone) }
 {
-    let program = named(alloc)?;
-    Ok(described(program))
+    let program = Command::new(alloc, "rubis").bin_name("rubis")?;
+    Ok(
+        program
+            .version("0.1.0")
+            .about("A replicated auction store under RedBlue consistency, with proved contracts")
+            .subcommand_required(true),
+    )
 }
 
 // The program's command line. Each command is made where it is added: no other is held across that `?`, which would

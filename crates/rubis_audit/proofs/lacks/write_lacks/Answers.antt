@@ -32,9 +32,8 @@ loop-at-preserved c =
     let has = log_at logs at log c.loop-at-test.true c.index-logs-at.is in
     let all = ap (map (λ m. m.now)) c.deref.ensures.value ∙ c.in_ok-all.ensures.merged in
     let lacks = ap (map (λ m. m.now)) c.deref-in-loop-at.ensures.value ∙ c.in_ok-messages.ensures logs c.requires.faultless has all in
-    let wrote = c.in_ok-write_lack.ensures.rows ∙ (λ i. sink ++ rows_text (lack_rows (at + 1) (c.site.ensures i) (lacks i))) in
-    let kept = c.in_ok-write_lack.ensures.well ∙ (λ i. length (made_at (c.site.ensures i) (lacks i)) == 0) in (
+    let wrote = c.in_ok-well.ensures.rows ∙ (λ i. sink ++ rows_text (lack_rows (at + 1) (c.site.ensures i) (lacks i))) in
+    let kept = c.in_ok-well.ensures.well ∙ (λ i. length (made_at (c.site.ensures i) (lacks i)) == 0) in (
       log_told logs at log _ sink c.write_lack.new.sink c.loop-at-test.true c.index-logs-at.is c.loop-at.invariant.0 wrote,
-      ap (λ well. well && none_lost logs (drop (at + 1) logs)) c.both-well.ensures
-          ∙ lost_told logs at log c.loop-at.well c.in_ok-write_lack.field-0 c.loop-at-test.true c.index-logs-at.is c.loop-at.invariant.1 kept,
+      lost_told logs at log c.loop-at.well c.in_ok-well.field-0 c.loop-at-test.true c.index-logs-at.is c.loop-at.invariant.1 kept,
     )
