@@ -37,10 +37,12 @@ some_fields (Err n) = λ e. cc
 
 -- so it is read back
 record_back : (read : Result (List Log) ℕ) → input_records (rows_text (audit_record read ∷ [])) ≡ audit_record read ∷ []
-record_back read = rows_back (audit_record read ∷ []) (λ row h. ⊎_elim (λ s. subst (λ (r : List (List ℕ)). r ≢ []) (sym s) (some_fields read)) (λ no. absurd no) h) (begins read)
+record_back read = rows_back (audit_record read ∷ [])
+    (λ row h. ⊎_elim (λ s. subst (λ (r : List (List ℕ)). r ≢ []) (sym s) (some_fields read)) (λ no. absurd no) h) (begins read)
 
 agree_back : input_records agreed_text ≡ verdict_record Agree ∷ []
-agree_back = rows_back (verdict_record Agree ∷ []) (λ row h. ⊎_elim (λ s. subst (λ (r : List (List ℕ)). r ≢ []) (sym s) (some_verdict Agree)) (λ no. absurd no) h) (verdict_begins Agree)
+agree_back = rows_back (verdict_record Agree ∷ [])
+    (λ row h. ⊎_elim (λ s. subst (λ (r : List (List ℕ)). r ≢ []) (sym s) (some_verdict Agree)) (λ no. absurd no) h) (verdict_begins Agree)
 
 same_front : (a b : List (List ℕ)) → a ∷ [] ≡ b ∷ [] → a ≡ b
 same_front a b e = cc

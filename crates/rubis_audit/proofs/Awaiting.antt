@@ -28,7 +28,8 @@ for_next log m site l = ap (λ n. map (for_row m) (filter_map (awaited log m) (r
     first (Some id) = refl
 
 for_last : (log : List Message) (m : Message) (site : ℕ) → sites_of m ≤ site → for_rows_from log m site ≡ []
-for_last log m site l = ap (λ n. map (for_row m) (filter_map (awaited log m) (range_with_len site n))) (let none : sites_of m - site ≡ 0 = omega (arith, l) in none)
+for_last log m site l = ap (λ n. map (for_row m) (filter_map (awaited log m) (range_with_len site n)))
+    (let none : sites_of m - site ≡ 0 = omega (arith, l) in none)
 
 -- what the message waits for of one site was written
 pub for_told : (log : List Message) (m : Message) (site : ℕ) (base sink sink2 : List ℕ) → site < sites_of m

@@ -7,7 +7,8 @@ use Rattle.csv.proofs.WriteFacts.{appends-more, appends-none}
 use Rattle.rubis_engine.specs.Reading.{HasToGive, ReadsNext}
 use Rattle.rubis_engine.specs.Text.{rows_text}
 use Rattle.rubis_engine.proofs.TextFacts.{text-goes}
-use Rattle.rubis_audit.specs.Checking.{HasChecked, HasCheckedAll, HasRowOf, IsChecked, checked_row, checker_after, fault_for, none_so_far, place_for, recent, row_for, rows_from, tally_for, tally_from}
+use Rattle.rubis_audit.specs.Checking.{HasChecked, HasCheckedAll, HasRowOf, IsChecked, checked_row, checker_after, fault_for, none_so_far, place_for, recent}
+use Rattle.rubis_audit.specs.Checking.{row_for, rows_from, tally_for, tally_from}
 use Rattle.rubis_audit.specs.declared.checker.Check.{Check}
 use Rattle.rubis_audit.specs.declared.checker.Grammar.{Grammar}
 use Rattle.rubis_audit.specs.declared.checker.Tally.{Tally}
@@ -25,8 +26,10 @@ module _ {R : Type 0} (rem : R → Option (List ℕ)) (grammar : Grammar) (sites
       let fault = fault_for grammar sites was fields in
       let g = so_far.same_grammar in
       let s = so_far.same_sites in
-      let place : b.checker.place ≡ place_for grammar was fields fault = ap (λ c. c.place) state ∙ (λ i. place_for (g i) was fields (fault_for (g i) (s i) was fields)) in
-      let tally : b.checker.tally ≡ tally_for a.checker.tally fault = ap (λ c. c.tally) state ∙ (λ i. tally_for a.checker.tally (fault_for (g i) (s i) was fields)) in
+      let place : b.checker.place ≡ place_for grammar was fields fault = ap (λ c. c.place) state
+      ∙ (λ i. place_for (g i) was fields (fault_for (g i) (s i) was fields)) in
+      let tally : b.checker.tally ≡ tally_for a.checker.tally fault = ap (λ c. c.tally) state
+      ∙ (λ i. tally_for a.checker.tally (fault_for (g i) (s i) was fields)) in
       let wrote : b.sink ≡ a.sink ++ rows_text (row_for sites (a.checker.tally.records + 1) row.0 fields fault) =
       row.1 ∙ (λ i. a.sink ++ rows_text (row_for (s i) (a.checker.tally.records + 1) row.0 fields (fault_for (g i) (s i) was fields))) in
       record {
@@ -84,8 +87,10 @@ module _ {R : Type 0} (rem : R → Option (List ℕ)) (grammar : Grammar) (sites
 pub checked_whole : (grammar : Grammar) (sites : ℕ) (tally : Tally) (sink sink2 : List ℕ) (old now now2 : Option (List ℕ)) (all : List (List (List ℕ)))
     → HasCheckedAll grammar sites tally sink old now all → sink2 ≡ sink ++ rows_text (checked_row tally ∷ []) → Appends now now2 sink2
     → IsChecked grammar sites old now2 all tally
-checked_whole grammar sites tally sink sink2 old now now2 all h wrote out =
-    ((h.lines, subst (Appends old now2) (sym (h.told ∙ ap (λ t. h.out ++ t) (sym wrote))) (appends-more old now now2 h.out sink2 h.appended out)), sym h.counted)
+checked_whole grammar sites tally sink sink2 old now now2 all h wrote out = (
+  (h.lines, subst (Appends old now2) (sym (h.told ∙ ap (λ t. h.out ++ t) (sym wrote))) (appends-more old now now2 h.out sink2 h.appended out)),
+  sym h.counted,
+)
 
 -- a check before its first record
 pub begun : {R : Type 0} (rem : R → Option (List ℕ)) (check : Check R) (old : Option (List ℕ)) (all : List (List (List ℕ)))
@@ -103,21 +108,25 @@ begun rem check old all gives place tally empty = record {
 }
 
 -- a record was read and checked, with `m` between
-pub one_more : {R : Type 0} (rem : R → Option (List ℕ)) (grammar : Grammar) (sites : ℕ) (a m b : Check R) (old now : Option (List ℕ)) (all : List (List (List ℕ)))
+pub one_more : {R : Type 0} (rem : R → Option (List ℕ)) (grammar : Grammar) (sites : ℕ) (a m b : Check R) (old now : Option (List ℕ))
+    (all : List (List (List ℕ)))
     → HasChecked rem grammar sites a old now all → ReadsNext (recent rem) a.records.reader m.records.reader true m.records.row
     → m.checker ≡ a.checker → m.sink ≡ a.sink → b.records ≡ m.records → b.checker ≡ checker_after m.checker m.records.row
     → HasRowOf m.checker m.records.row m.sink b.sink → HasChecked rem grammar sites b old now all
 one_more rem grammar sites a m b old now all h takes kept held same state row =
-    row_goes rem grammar sites a b old now all h m.records.reader m.records.row takes (ap (λ r. r.reader) same) (state ∙ ap (λ c. checker_after c m.records.row) kept)
+    row_goes rem grammar sites a b old now all h m.records.reader m.records.row takes (ap (λ r. r.reader) same)
+    (state ∙ ap (λ c. checker_after c m.records.row) kept)
     (subst (λ s. HasRowOf a.checker m.records.row s b.sink) held (subst (λ c. HasRowOf c m.records.row m.sink b.sink) kept row))
 
 -- no record was read, and `m` stands there after
-pub none_more : {R : Type 0} (rem : R → Option (List ℕ)) (grammar : Grammar) (sites : ℕ) (a m : Check R) (old now : Option (List ℕ)) (all : List (List (List ℕ)))
+pub none_more : {R : Type 0} (rem : R → Option (List ℕ)) (grammar : Grammar) (sites : ℕ) (a m : Check R) (old now : Option (List ℕ))
+    (all : List (List (List ℕ)))
     → HasChecked rem grammar sites a old now all → ReadsNext (recent rem) a.records.reader m.records.reader false m.records.row
     → m.checker ≡ a.checker → m.sink ≡ a.sink → HasCheckedAll grammar sites m.checker.tally m.sink old now all
 none_more rem grammar sites a m old now all h takes kept held =
     subst (λ s. HasCheckedAll grammar sites m.checker.tally s old now all) (sym held)
-    (subst (λ k. HasCheckedAll grammar sites k.tally a.sink old now all) (sym kept) (through rem grammar sites a a old now all h m.records.reader m.records.row takes))
+    (subst (λ k. HasCheckedAll grammar sites k.tally a.sink old now all) (sym kept)
+    (through rem grammar sites a a old now all h m.records.reader m.records.row takes))
 
 pub if_some_so : {A : Type 0} {P Q : A → Type 0} (o : Option A) → IfSome o P → ((x : A) → P x → Q x) → IfSome o Q
 if_some_so None h k = tt

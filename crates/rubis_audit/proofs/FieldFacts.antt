@@ -21,7 +21,8 @@ drop_past [] (suc i) e = refl
 drop_past (f ∷ fs) zero e = absurd (cc e)
 drop_past (f ∷ fs) (suc i) e = drop_past fs i e
 
-pub misfit_past : (sites n : ℕ) (rules : List FieldRule) (fields : List (List ℕ)) (k : ℕ) → slice_get fields k ≡ None → misfit sites n rules (drop k fields) ≡ None
+pub misfit_past : (sites n : ℕ) (rules : List FieldRule) (fields : List (List ℕ)) (k : ℕ) → slice_get fields k ≡ None → misfit sites n rules (drop k fields)
+    ≡ None
 misfit_past sites n rules fields k e = ap (misfit sites n rules) (drop_past fields k e) ∙ none rules
   where
     none : (rules : List FieldRule) → misfit sites n rules [] ≡ None
@@ -31,7 +32,8 @@ misfit_past sites n rules fields k e = ap (misfit sites n rules) (drop_past fiel
 -- a field is as its rule says, and then those after it are looked at
 pub misfit_at : (sites n i k : ℕ) (rules : List FieldRule) (fields : List (List ℕ)) (rule : FieldRule) (field : List ℕ)
     → drop i rules ≡ rule ∷ drop (suc i) rules → slice_get fields k ≡ Some field
-    → misfit sites n (drop i rules) (drop k fields) ≡ (if fits sites rule field then misfit sites (n + 1) (drop (suc i) rules) (drop (suc k) fields) else Some (fault n (Rule rule)))
+    → misfit sites n (drop i rules) (drop k fields)
+    ≡ (if fits sites rule field then misfit sites (n + 1) (drop (suc i) rules) (drop (suc k) fields) else Some (fault n (Rule rule)))
 misfit_at sites n i k rules fields rule field first e = λ j. misfit sites n (first j) (drop_at fields k field e j)
 
 pub line_end_past : (n : ℕ) (fields : List (List ℕ)) (k : ℕ) → slice_get fields k ≡ None → line_end_from n (drop k fields) ≡ None

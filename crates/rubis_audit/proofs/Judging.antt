@@ -1,5 +1,6 @@
 -- An entry without fault goes on with what is known.
-use Rattle.std.proofs.Common.{ℕ, ◌≡◌, ◌+◌, ◌<◌, List, [], ◌∷◌, ◌++◌, Bool, true, false, cond, refl, sym, ap, ◌∙◌, subst, arith, Option, Some, None, ⊎_elim, append_assoc}
+use Rattle.std.proofs.Common.{ℕ, ◌≡◌, ◌+◌, ◌<◌, List, [], ◌∷◌, ◌++◌, Bool, true, false, cond, refl, sym, ap, ◌∙◌, subst, arith, Option, Some, None, ⊎_elim}
+use Rattle.std.proofs.Common.{append_assoc}
 use Rattle.std.specs.Prelude.{◌&&◌, ◌||◌, ◌⊎◌, ◌==◌, not, nat_lt, reverse}
 use Rattle.std.specs.Option.{option_or, option_map_or}
 use mathlib.Core.Bool.{true≢false}
@@ -43,17 +44,22 @@ cond_rest false x r s e = e refl
 abbrev content : Bool → Bool → Bool → Bool → Option Kind
 content a b c d = cond a (Some kind.Refers) (cond b (Some kind.Nick) (cond c (Some kind.Stock) (cond d (Some kind.Winner) None)))
 
-pub checks_are : (sites site : ℕ) (t : Tables) (others own : List Message) (v : Message) → IsFaultless others own → Shows t (cores own) → IsAmong sites v → IsMessage v
+pub checks_are : (sites site : ℕ) (t : Tables) (others own : List Message) (v : Message) → IsFaultless others own → Shows t (cores own) → IsAmong sites v →
+    IsMessage v
     → first_of (checks others site own v) ≡ first_of (checks_by site (clock_of sites own) (last_red own) t (others ++ own) v)
 checks_are sites site t others own v k s a f =
-    (λ i. cond (clash_is others own v k i) (Some kind.Clash) (cond (order_is sites site others own v k a f i) (Some kind.Order) (cond (gap_is others own v k i) (Some kind.RedGap) (rest i))))
+    (λ i. cond (clash_is others own v k i) (Some kind.Clash)
+    (cond (order_is sites site others own v k a f i) (Some kind.Order) (cond (gap_is others own v k i) (Some kind.RedGap) (rest i))))
   where
     rest : content (wrong_reference own v) (nick_taken (cores own) v.shadow) (stock_short (cores own) v.shadow) (wrong_winner (cores own) v.shadow)
-        ≡ content (wrong_reference_in (row_by_key t) v) (nick_taken_in (row_by_key t) v.shadow) (stock_short_in (row_by_key t) v.shadow) (wrong_winner_in (row_by_key t) v.shadow)
+        ≡ content (wrong_reference_in (row_by_key t) v) (nick_taken_in (row_by_key t) v.shadow) (stock_short_in (row_by_key t) v.shadow)
+        (wrong_winner_in (row_by_key t) v.shadow)
     rest =
         cond_rest (wrong_reference own v) (Some kind.Refers) _ _ (λ e i.
-        cond (sym (nick_is t (cores own) v.shadow s) i) (Some kind.Nick) (cond (sym (stock_is t (cores own) v.shadow s) i) (Some kind.Stock) (cond (sym (winner_is t own v s e) i) (Some kind.Winner) None)))
-        ∙ ap (λ b. content b (nick_taken_in (row_by_key t) v.shadow) (stock_short_in (row_by_key t) v.shadow) (wrong_winner_in (row_by_key t) v.shadow)) (sym (reference_is t own v s))
+        cond (sym (nick_is t (cores own) v.shadow s) i) (Some kind.Nick)
+        (cond (sym (stock_is t (cores own) v.shadow s) i) (Some kind.Stock) (cond (sym (winner_is t own v s e) i) (Some kind.Winner) None)))
+        ∙ ap (λ b. content b (nick_taken_in (row_by_key t) v.shadow) (stock_short_in (row_by_key t) v.shadow) (wrong_winner_in (row_by_key t) v.shadow))
+        (sym (reference_is t own v s))
 
 -- ---- where none finds a fault
 next_red : (own : List Message) (b rest : Bool) (n : ℕ) → b ≡ true → (b && (not (n == reds own + 1) || rest)) ≡ false → n ≡ reds own + 1
@@ -76,7 +82,8 @@ ready others site own v f l = record {
     positive : (n : ℕ) → 0 < n → nat_lt 0 n ≡ true
     positive n p = grind (arith, nat_tests)
 
-pub follows : (others : List Message) (site : ℕ) (own : List Message) (v : Message) → IsFaultless others own → IsMessage v → AreClean others site own v → Follows (cores own) (core v)
+pub follows : (others : List Message) (site : ℕ) (own : List Message) (v : Message) → IsFaultless others own → IsMessage v → AreClean others site own v →
+    Follows (cores own) (core v)
 follows others site own v k f l = record {
   new_id = subst (λ xs. new xs) (reverse-reverse own) (new_here (reverse own) v k.released r);
   next_red = number_is v.stamp.red (count is_red (cores own)) (is_red v.shadow) f.colour (λ p. r.number p ∙ ap (λ n. n + 1) same);
@@ -91,7 +98,8 @@ follows others site own v k f l = record {
     new xs = has_id v.stamp.id (cores xs) ≡ None
 
     same : reds (reverse own) ≡ count is_red (cores own)
-    same = sym (count_reds (reverse own) (λ m h. (k.formed m (has_right m others own (has_reverse m own h))).colour)) ∙ ap (λ xs. count is_red (cores xs)) (reverse-reverse own)
+    same = sym (count_reds (reverse own) (λ m h. (k.formed m (has_right m others own (has_reverse m own h))).colour))
+        ∙ ap (λ xs. count is_red (cores xs)) (reverse-reverse own)
 
 -- ---- one message more
 option_or_at : {X : Type 0} (o p : Option X) (x : X) → o ≡ Some x → option_or o p ≡ Some x
@@ -104,12 +112,14 @@ itself v = (Decides-same_id v.stamp.id v.stamp.id).1 refl
 new_id : (all : List Message) (v : Message) → clash_by_id all v ≡ false → by_message_id v.stamp.id (all ++ v ∷ []) ≡ Some v
 new_id all v e = by_id_push v.stamp.id all v ∙ at (by_message_id v.stamp.id all) e
   where
-    at : (o : Option Message) → option_map_or (λ u. not (same_message u v)) o false ≡ false → option_or o (cond (same_id v.stamp.id v.stamp.id) (Some v) None) ≡ Some v
+    at : (o : Option Message) → option_map_or (λ u. not (same_message u v)) o false ≡ false → option_or o (cond (same_id v.stamp.id v.stamp.id) (Some v) None)
+        ≡ Some v
     at None e = ap (λ b. cond b (Some v) None) (itself v)
     at (Some u) e = ap Some ((Decides-same_message u v).0 (not_false _ e))
 
 -- v is the first with its red number
-new_red : (all : List Message) (v : Message) → ((m : Message) → Has m all → by_message_id m.stamp.id all ≡ Some m) → clash_by_id all v ≡ false → taken_by_red all v ≡ false
+new_red : (all : List Message) (v : Message) → ((m : Message) → Has m all → by_message_id m.stamp.id all ≡ Some m) → clash_by_id all v ≡ false →
+    taken_by_red all v ≡ false
     → by_red v.stamp.red (all ++ v ∷ []) ≡ Some v
 new_red all v one c e = by_red_push v.stamp.red all v ∙ at (by_red v.stamp.red all) refl e
   where
@@ -131,7 +141,8 @@ known_push others site own v k f l = record {
       (λ e. subst (λ (x : Message). by_message_id x.stamp.id ((others ++ own) ++ v ∷ []) ≡ Some x) (sym e) (new_id (others ++ own) v clear)) (split m h));
   one_red = λ m h p. subst (λ xs. by_red m.stamp.red xs ≡ Some m) (append_assoc others own (v ∷ [])) (⊎_elim
       (λ a. by_red_push m.stamp.red (others ++ own) v ∙ option_or_at _ _ m (k.one_red m a p))
-      (λ e. subst (λ (x : Message). by_red x.stamp.red ((others ++ own) ++ v ∷ []) ≡ Some x) (sym e) (new_red (others ++ own) v k.one_id clear (free (subst (λ (x : Message). 0 < x.stamp.red) e p)))) (split m h));
+      (λ e. subst (λ (x : Message). by_red x.stamp.red ((others ++ own) ++ v ∷ []) ≡ Some x) (sym e)
+      (new_red (others ++ own) v k.one_id clear (free (subst (λ (x : Message). 0 < x.stamp.red) e p)))) (split m h));
   released = subst Released (sym (reverse_push own v)) (ready others site own v f l, k.released);
   checked = subst Checked (sym (cores_push own v)) (checked_end [] (cores own) (core v) k.checked (follows others site own v k f l));
 }
@@ -143,7 +154,8 @@ known_push others site own v k f l = record {
     clear = sym (clash_is others own v k) ∙ l.clash
 
     free : 0 < v.stamp.red → taken_by_red (others ++ own) v ≡ false
-    free p = parts (is_red v.shadow) (not (v.stamp.red == reds own + 1)) (taken_by_red (others ++ own) v) (option_map_or (λ u. not (comes_before u v)) (last_red own) false) (f.colour ∙ positive v.stamp.red p) (sym (gap_is others own v k) ∙ l.red_gap)
+    free p = parts (is_red v.shadow) (not (v.stamp.red == reds own + 1)) (taken_by_red (others ++ own) v)
+        (option_map_or (λ u. not (comes_before u v)) (last_red own) false) (f.colour ∙ positive v.stamp.red p) (sym (gap_is others own v k) ∙ l.red_gap)
       where
         positive : (n : ℕ) → 0 < n → nat_lt 0 n ≡ true
         positive n p = grind (arith, nat_tests)
@@ -159,8 +171,10 @@ known_none = record { formed = λ m h. absurd h; one_id = λ m h. absurd h; one_
 pub known_log : (others own : List Message) → IsFaultless others own → IsFaultless (others ++ own) []
 known_log others own k = record {
   formed = λ m h. k.formed m (subst (Has m) (append-nil (others ++ own)) h);
-  one_id = λ m h. subst (λ xs. by_message_id m.stamp.id xs ≡ Some m) (sym (append-nil (others ++ own))) (k.one_id m (subst (Has m) (append-nil (others ++ own)) h));
-  one_red = λ m h p. subst (λ xs. by_red m.stamp.red xs ≡ Some m) (sym (append-nil (others ++ own))) (k.one_red m (subst (Has m) (append-nil (others ++ own)) h) p);
+  one_id = λ m h. subst (λ xs. by_message_id m.stamp.id xs ≡ Some m) (sym (append-nil (others ++ own)))
+      (k.one_id m (subst (Has m) (append-nil (others ++ own)) h));
+  one_red = λ m h p. subst (λ xs. by_red m.stamp.red xs ≡ Some m) (sym (append-nil (others ++ own)))
+      (k.one_red m (subst (Has m) (append-nil (others ++ own)) h) p);
   released = tt;
   checked = tt;
 }

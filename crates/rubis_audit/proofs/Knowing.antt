@@ -1,5 +1,6 @@
 -- While no fault was found, the checks of an entry by look-ups are those of the definition.
-use Rattle.std.proofs.Common.{ℕ, ◌≡◌, ◌+◌, ◌≤◌, ◌<◌, List, [], ◌∷◌, ◌++◌, length, get_or, Bool, true, false, cond, refl, sym, ap, ◌∙◌, subst, arith, Option, Some, None, inl, inr, ⊎_elim}
+use Rattle.std.proofs.Common.{ℕ, ◌≡◌, ◌+◌, ◌≤◌, ◌<◌, List, [], ◌∷◌, ◌++◌, length, get_or, Bool, true, false, cond, refl, sym, ap, ◌∙◌, subst, arith, Option}
+use Rattle.std.proofs.Common.{Some, None, inl, inr, ⊎_elim}
 use Rattle.std.specs.Prelude.{◌&&◌, ◌||◌, ◌==◌, not, nat_lt, reverse, slice_index}
 use Rattle.std.specs.Option.{option_map_or}
 use Rattle.std.specs.List.{list_any}
@@ -22,7 +23,8 @@ use Rattle.rubis_model.proofs.Pasts.{found, red_within}
 use Rattle.rubis_model.proofs.Settling.{counted_reverse, reds_reverse}
 use Rattle.rubis_release.specs.Release.{IsAmong}
 use Rattle.rubis_release.proofs.Counting.{counts_at}
-use Rattle.rubis_audit.specs.Lookups.{by_message_id, by_red, clash_by_id, differs_by, early_by, exceeds, forgets_by_id, gap_by, last_of, not_next_by, order_by, taken_by_red}
+use Rattle.rubis_audit.specs.Lookups.{by_message_id, by_red, clash_by_id, differs_by, early_by, exceeds, forgets_by_id, gap_by, last_of, not_next_by, order_by}
+use Rattle.rubis_audit.specs.Lookups.{taken_by_red}
 use Rattle.rubis_audit.specs.Past.{IsFaultless}
 use Rattle.rubis_audit.proofs.SiteTests.{same_sites, site_of, some_site}
 
@@ -92,26 +94,31 @@ clash_is others own v k = same_bool (clash others own v) (clash_by_id (others ++
     there e =
         let w = any_has (clashes v) (others ++ own) e in
         let t = and_parts (same_id w.0.stamp.id v.stamp.id) (not (same_message w.0 v)) w.2 in
-        ap (λ (j : Id). option_map_or (λ u. not (same_message u v)) (by_message_id j (others ++ own)) false) (sym ((Decides-same_id w.0.stamp.id v.stamp.id).0 t.0))
+        ap (λ (j : Id). option_map_or (λ u. not (same_message u v)) (by_message_id j (others ++ own)) false)
+        (sym ((Decides-same_id w.0.stamp.id v.stamp.id).0 t.0))
         ∙ ap (λ o. option_map_or (λ u. not (same_message u v)) o false) (k.one_id w.0 w.1) ∙ t.1
 
-    back : (o : Option Message) → by_message_id v.stamp.id (others ++ own) ≡ o → option_map_or (λ u. not (same_message u v)) o false ≡ true → clash others own v ≡ true
+    back : (o : Option Message) → by_message_id v.stamp.id (others ++ own) ≡ o → option_map_or (λ u. not (same_message u v)) o false ≡ true → clash others own v
+        ≡ true
     back None q e = absurd (true≢false (sym e))
     back (Some u) q e =
         let w = found_id v.stamp.id (others ++ own) u q in
-        has_any (clashes v) (others ++ own) u w.0 (and_from (same_id u.stamp.id v.stamp.id) (not (same_message u v)) ((Decides-same_id u.stamp.id v.stamp.id).1 (sym w.1)) e)
+        has_any (clashes v) (others ++ own) u w.0
+        (and_from (same_id u.stamp.id v.stamp.id) (not (same_message u v)) ((Decides-same_id u.stamp.id v.stamp.id).1 (sym w.1)) e)
 
 -- ---- Order
 past_end : (xs : List ℕ) (j : ℕ) → 1 ≤ get_or xs j 0 → j < length xs
 past_end xs j h = ⊎_elim (λ l. l) (λ l. let z = get_or_past xs j 0 l in absurd (omega (arith, h, z))) (cases_lt j (length xs))
 
 -- what v counts of a site is in this log
-in_own : (own : List Message) (j s : ℕ) → Released (reverse own) → 1 ≤ s → s ≤ counted j own → (u : Message) × (Has u own) × (u.stamp.id.site ≡ j) × (u.stamp.id.seq ≡ s)
+in_own : (own : List Message) (j s : ℕ) → Released (reverse own) → 1 ≤ s → s ≤ counted j own → (u : Message) × (Has u own) × (u.stamp.id.site ≡ j)
+    × (u.stamp.id.seq ≡ s)
 in_own own j s r l h =
     let w = found (reverse own) j s r l (let c = counted_reverse j own in omega (arith, c, h)) in
     (w.0, has_reverse w.0 own w.1, w.2, w.3)
 
-pub forgets_is : (others own : List Message) (v : Message) → IsFaultless others own → ((j : ℕ) → dep v j ≤ counted j own) → list_any (forgets v) own ≡ forgets_by_id (others ++ own) v
+pub forgets_is : (others own : List Message) (v : Message) → IsFaultless others own → ((j : ℕ) → dep v j ≤ counted j own) → list_any (forgets v) own
+    ≡ forgets_by_id (others ++ own) v
 forgets_is others own v k le = same_bool (list_any (forgets v) own) (forgets_by_id (others ++ own) v) there back
   where
     there : list_any (forgets v) own ≡ true → forgets_by_id (others ++ own) v ≡ true
@@ -126,7 +133,8 @@ forgets_is others own v k le = same_bool (list_any (forgets v) own) (forgets_by_
         (ap (λ (n : ℕ). option_map_or (exceeds v) (by_message_id (record { site = w.0.stamp.id.site; seq = n }) (others ++ own)) false) (sym s)
         ∙ ap (λ o. option_map_or (exceeds v) o false) (k.one_id w.0 m) ∙ t.1)
 
-    at : (j : ℕ) (o : Option Message) → by_message_id (last_of v j) (others ++ own) ≡ o → option_map_or (exceeds v) o false ≡ true → list_any (forgets v) own ≡ true
+    at : (j : ℕ) (o : Option Message) → by_message_id (last_of v j) (others ++ own) ≡ o → option_map_or (exceeds v) o false ≡ true → list_any (forgets v) own
+        ≡ true
     at j None q e = absurd (true≢false (sym e))
     at j (Some u) q e =
         let f = found_id (last_of v j) (others ++ own) u q in
@@ -137,8 +145,10 @@ forgets_is others own v k le = same_bool (list_any (forgets v) own) (forgets_by_
         let d = le u.stamp.id.site in
         let w = in_own own u.stamp.id.site u.stamp.id.seq k.released p (omega (arith, c, d)) in
         let same : w.0.stamp.id ≡ u.stamp.id = λ i. record { site = w.2 i; seq = w.3 i } in
-        let one : w.0 ≡ u = some_is w.0 u (sym (k.one_id w.0 (has_right w.0 others own w.1)) ∙ ap (λ (i : Id). by_message_id i (others ++ own)) same ∙ k.one_id u f.0) in
-        has_any (forgets v) own u (subst (λ (x : Message). Has x own) one w.1) (and_from (u.stamp.id.seq == dep v u.stamp.id.site) (exceeds v u) ((Decides-eqb _ _).1 c) e)
+        let one : w.0 ≡ u = some_is w.0 u
+        (sym (k.one_id w.0 (has_right w.0 others own w.1)) ∙ ap (λ (i : Id). by_message_id i (others ++ own)) same ∙ k.one_id u f.0) in
+        has_any (forgets v) own u (subst (λ (x : Message). Has x own) one w.1)
+        (and_from (u.stamp.id.seq == dep v u.stamp.id.site) (exceeds v u) ((Decides-eqb _ _).1 c) e)
 
     back : forgets_by_id (others ++ own) v ≡ true → list_any (forgets v) own ≡ true
     back e =
@@ -163,7 +173,8 @@ within own v f next early j = ⊎_elim here other (cases_eq j v.stamp.id.site)
 
     other : (j ≡ v.stamp.id.site → ⊥) → dep v j ≤ counted j own
     other n = ⊎_elim
-        (λ l. absurd (true≢false (sym (some_site v (λ i. not (i == v.stamp.id.site) && nat_lt (counted i own) (dep v i)) j (past_end v.stamp.deps j (omega (arith, l)))
+        (λ l. absurd (true≢false
+        (sym (some_site v (λ i. not (i == v.stamp.id.site) && nat_lt (counted i own) (dep v i)) j (past_end v.stamp.deps j (omega (arith, l)))
         (and_from _ _ (apart j v.stamp.id.site n) (above (counted j own) (dep v j) l))) ∙ early)))
         (λ l. l) (cases_lt (counted j own) (dep v j))
 
@@ -184,15 +195,18 @@ order_is sites site others own v k a f = clocked ∙ or_rest _ _ _ (λ n. or_res
     differs = same_sites v _ _ (λ j l. ap (λ n. not (dep v j == n)) (at j l))
 
     clocked : out_of_order site own v
-        ≡ (not_next_by (counts sites own) v || (early_by (counts sites own) v || (((v.stamp.id.site == site) && differs_by (counts sites own) v) || list_any (forgets v) own)))
+        ≡ (not_next_by (counts sites own) v ||
+        (early_by (counts sites own) v || (((v.stamp.id.site == site) && differs_by (counts sites own) v) || list_any (forgets v) own)))
     clocked = λ i. next i || (early i || (((v.stamp.id.site == site) && differs i) || list_any (forgets v) own))
 
     le : not_next_by (counts sites own) v ≡ false → early_by (counts sites own) v ≡ false → (j : ℕ) → dep v j ≤ counted j own
     le n e = within own v f (next ∙ n) (early ∙ e)
 
 -- ---- RedGap
-pub taken_is : (others own : List Message) (v : Message) → IsFaultless others own → v.stamp.red ≡ reds own + 1 → list_any (takes_number v) others ≡ taken_by_red (others ++ own) v
-taken_is others own v k next = same_bool (list_any (takes_number v) others) (taken_by_red (others ++ own) v) there (back (by_red v.stamp.red (others ++ own)) refl)
+pub taken_is : (others own : List Message) (v : Message) → IsFaultless others own → v.stamp.red ≡ reds own + 1 → list_any (takes_number v) others
+    ≡ taken_by_red (others ++ own) v
+taken_is others own v k next = same_bool (list_any (takes_number v) others) (taken_by_red (others ++ own) v) there
+    (back (by_red v.stamp.red (others ++ own)) refl)
   where
     there : list_any (takes_number v) others ≡ true → taken_by_red (others ++ own) v ≡ true
     there e =
@@ -200,13 +214,16 @@ taken_is others own v k next = same_bool (list_any (takes_number v) others) (tak
         let t = and_parts (w.0.stamp.red == v.stamp.red) (not (same_id w.0.stamp.id v.stamp.id)) w.2 in
         let r = (Decides-eqb w.0.stamp.red v.stamp.red).0 t.0 in
         ap (λ n. option_map_or (λ u. not (same_id u.stamp.id v.stamp.id)) (by_red n (others ++ own)) false) (sym r)
-        ∙ ap (λ o. option_map_or (λ u. not (same_id u.stamp.id v.stamp.id)) o false) (k.one_red w.0 (has_left w.0 others own w.1) (omega (arith, r, next))) ∙ t.1
+        ∙ ap (λ o. option_map_or (λ u. not (same_id u.stamp.id v.stamp.id)) o false) (k.one_red w.0 (has_left w.0 others own w.1) (omega (arith, r, next)))
+        ∙ t.1
 
-    back : (o : Option Message) → by_red v.stamp.red (others ++ own) ≡ o → option_map_or (λ u. not (same_id u.stamp.id v.stamp.id)) o false ≡ true → list_any (takes_number v) others ≡ true
+    back : (o : Option Message) → by_red v.stamp.red (others ++ own) ≡ o → option_map_or (λ u. not (same_id u.stamp.id v.stamp.id)) o false ≡ true →
+        list_any (takes_number v) others ≡ true
     back None q e = absurd (true≢false (sym e))
     back (Some u) q e =
         let f = found_number v.stamp.red (others ++ own) u q in
-        ⊎_elim (λ l. has_any (takes_number v) others u l (and_from (u.stamp.red == v.stamp.red) (not (same_id u.stamp.id v.stamp.id)) ((Decides-eqb _ _).1 (sym f.1)) e))
+        ⊎_elim (λ l. has_any (takes_number v) others u l
+        (and_from (u.stamp.red == v.stamp.red) (not (same_id u.stamp.id v.stamp.id)) ((Decides-eqb _ _).1 (sym f.1)) e))
         (λ r. let m = red_within (reverse own) u k.released (has_back u own r) in let n = reds_reverse own in absurd (omega (arith, m, n, f.1, next)))
         (has_append u others own f.0)
 

@@ -36,7 +36,8 @@ log_told logs at log base sink sink2 l e told wrote =
     after : 1 + at + 1 ≡ 1 + (at + 1)
     after = omega arith
 
-    next : lack_rows_from (1 + at) logs (drop at logs) ≡ lack_rows (at + 1) log.site (lacked logs log.messages) ++ lack_rows_from (1 + (at + 1)) logs (drop (at + 1) logs)
+    next : lack_rows_from (1 + at) logs (drop at logs) ≡ lack_rows (at + 1) log.site (lacked logs log.messages)
+        ++ lack_rows_from (1 + (at + 1)) logs (drop (at + 1) logs)
     next =
         ap (lack_rows_from (1 + at) logs) (drop_at logs at log l e)
         ∙ (λ i. lack_rows (this i) log.site (lacked logs log.messages) ++ lack_rows_from (after i) logs (drop (at + 1) logs))

@@ -44,7 +44,8 @@ begin_is sites [] = refl
 begin_is sites (word ∷ []) = nothing_behind sites (bytes_eq word (codes "site"))
 begin_is sites (word ∷ site ∷ []) = at (bytes_eq word (codes "site"))
   where
-    at : (b : Bool) → no_more (behind b (mapped Begin (take_site sites)) (site ∷ [])) ≡ option_map Begin (cond b (option_and_then (λ n. cond (nat_lt n sites) (Some n) None) (number_of 255 site)) None)
+    at : (b : Bool) → no_more (behind b (mapped Begin (take_site sites)) (site ∷ []))
+        ≡ option_map Begin (cond b (option_and_then (λ n. cond (nat_lt n sites) (Some n) None) (number_of 255 site)) None)
     at true = one_behind sites (number_of 255 site)
     at false = refl
 begin_is sites (word ∷ site ∷ more ∷ rest) = at (bytes_eq word (codes "site"))
@@ -58,11 +59,13 @@ claim_is [] = refl
 claim_is (word ∷ rest) = refl
 
 pub line_is : (sites : ℕ) (fields : List (List ℕ)) → line_of sites fields
-    ≡ option_or (option_map Begin (begin_of sites fields)) (option_or (cond (is_row fields) (Some (Claim fields)) None) (option_and_then next_of (packet_of sites fields)))
+    ≡ option_or (option_map Begin (begin_of sites fields))
+    (option_or (cond (is_row fields) (Some (Claim fields)) None) (option_and_then next_of (packet_of sites fields)))
 line_is sites fields = λ i. option_or (begin_is sites fields i) (option_or (claim_is fields i) (option_and_then next_of (packet_of sites fields)))
 
 -- where no log begins
-pub line_by : (sites : ℕ) (fields : List (List ℕ)) (row : Bool) (packet : Option Packet) → begin_of sites fields ≡ None → is_row fields ≡ row → packet_of sites fields ≡ packet
+pub line_by : (sites : ℕ) (fields : List (List ℕ)) (row : Bool) (packet : Option Packet) → begin_of sites fields ≡ None → is_row fields ≡ row →
+    packet_of sites fields ≡ packet
     → line_of sites fields ≡ option_or (cond row (Some (Claim fields)) None) (option_and_then next_of packet)
 line_by sites fields row packet b r p =
     line_is sites fields ∙ (λ i. option_or (option_map Begin (b i)) (option_or (cond (r i) (Some (Claim fields)) None) (option_and_then next_of (p i))))
@@ -70,4 +73,5 @@ line_by sites fields row packet b r p =
 -- where one does
 pub line_begins : (sites : ℕ) (fields : List (List ℕ)) (site : ℕ) → begin_of sites fields ≡ Some site → line_of sites fields ≡ Some (Begin site)
 line_begins sites fields site b =
-    line_is sites fields ∙ ap (λ o. option_or (option_map Begin o) (option_or (cond (is_row fields) (Some (Claim fields)) None) (option_and_then next_of (packet_of sites fields)))) b
+    line_is sites fields ∙ ap
+    (λ o. option_or (option_map Begin o) (option_or (cond (is_row fields) (Some (Claim fields)) None) (option_and_then next_of (packet_of sites fields)))) b

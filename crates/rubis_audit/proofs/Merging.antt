@@ -1,5 +1,6 @@
 -- How logs are merged, and what a log lacks: what is new is what its clock doesn't count.
-use Rattle.std.proofs.Common.{ℕ, ◌≡◌, ◌+◌, ◌<◌, ◌≤◌, zero, suc, List, [], ◌∷◌, ◌++◌, length, get_or, take, drop, Bool, true, false, cond, refl, sym, ap, ◌∙◌, subst, arith, inl, inr, ⊎_elim, drop-cons, add-one, append_assoc}
+use Rattle.std.proofs.Common.{ℕ, ◌≡◌, ◌+◌, ◌<◌, ◌≤◌, zero, suc, List, [], ◌∷◌, ◌++◌, length, get_or, take, drop, Bool, true, false, cond, refl, sym, ap, ◌∙◌}
+use Rattle.std.proofs.Common.{subst, arith, inl, inr, ⊎_elim, drop-cons, add-one, append_assoc}
 use Rattle.std.specs.Prelude.{Some, None, filter, map, not, nat_lt, reverse, slice_index}
 use Rattle.std.specs.Borrow.{Bor}
 use Rattle.std.proofs.lemmas.Bool.{cond-true, cond-false, cases_lt, true≢false}
@@ -52,10 +53,12 @@ map_at f (y ∷ xs) (suc n) x l e = map_at f xs n x (omega arith) e
 -- a message that is lent stands at its place among all of them
 pub lent_at : (messages : List (Bor Message)) (n : ℕ) (m : Bor Message) → n < length messages → m ≡ get_or messages n m
     → (n < length (map (λ (x : Bor Message). x.now) messages)) × (m.now ≡ get_or (map (λ (x : Bor Message). x.now) messages) n m.now)
-lent_at messages n m l e = let size = map_length (λ (x : Bor Message). x.now) messages in (omega (arith, size, l), map_at (λ (x : Bor Message). x.now) messages n m l e)
+lent_at messages n m l e = let size = map_length (λ (x : Bor Message). x.now) messages in
+    (omega (arith, size, l), map_at (λ (x : Bor Message). x.now) messages n m l e)
 
 -- and is one of them
-pub lent : (messages : List (Bor Message)) (n : ℕ) (m : Bor Message) → n < length messages → m ≡ get_or messages n m → Has m.now (map (λ (x : Bor Message). x.now) messages)
+pub lent : (messages : List (Bor Message)) (n : ℕ) (m : Bor Message) → n < length messages → m ≡ get_or messages n m →
+    Has m.now (map (λ (x : Bor Message). x.now) messages)
 lent messages n m l e = let p = lent_at messages n m l e in contained (map (λ (x : Bor Message). x.now) messages) m.now (n, p.0, sym p.1)
 
 -- a place behind all that are lent is one behind all of them
@@ -71,7 +74,8 @@ pub record Merges (sites : ℕ) (logs : List Log) (at : ℕ) (log : Log) (n : �
   pub among : AllAmong sites messages
   pub counts : clock ≡ clock_of sites messages
 
-pub merges_start : (sites : ℕ) (logs : List Log) (at : ℕ) (log : Log) (messages : List Message) (clock : MessageCounts) → at < length logs → log ≡ get_or logs at log
+pub merges_start : (sites : ℕ) (logs : List Log) (at : ℕ) (log : Log) (messages : List Message) (clock : MessageCounts) → at < length logs → log
+    ≡ get_or logs at log
     → IsMerged sites logs at messages clock → Merges sites logs at log 0 messages clock
 merges_start sites logs at log messages clock l e m = record {
   rest = ap (λ q. messages ++ firsts messages (messages_of_logs q)) (sym (drop_at logs at log l e)) ∙ m.rest;
@@ -95,7 +99,8 @@ merges_end sites logs at log n messages clock l m = record {
 pub merged_start : (sites : ℕ) (logs : List Log) (clock : MessageCounts) → clock ≡ opening_clock sites → IsMerged sites logs 0 [] clock
 merged_start sites logs clock e = record { rest = refl; released = tt; members = λ x h. absurd h; among = λ x h. absurd h; counts = e ∙ opening_counts sites }
 
-pub merged_end : (sites : ℕ) (logs : List Log) (at : ℕ) (messages : List Message) (clock : MessageCounts) → length logs ≤ at → IsMerged sites logs at messages clock
+pub merged_end : (sites : ℕ) (logs : List Log) (at : ℕ) (messages : List Message) (clock : MessageCounts) → length logs ≤ at →
+    IsMerged sites logs at messages clock
     → messages ≡ merged logs
 merged_end sites logs at messages clock l m =
     sym (append-nil messages) ∙ ap (λ q. messages ++ firsts messages (messages_of_logs q)) (sym (drop_all at logs l)) ∙ m.rest
@@ -106,7 +111,8 @@ counts_length sites messages clock e = ap (λ (k : MessageCounts). length k.coun
 
 -- of messages of which an id is one's: a released list has what it counts
 pub is_new_where : (all : Message → Type 0) → ((u v : Message) → all u → all v → u.stamp.id.site ≡ v.stamp.id.site → u.stamp.id.seq ≡ v.stamp.id.seq → u ≡ v)
-    → (sites : ℕ) (messages : List Message) (v : Message) → IsAmong sites v → 1 ≤ v.stamp.id.seq → Released (reverse messages) → ((m : Message) → Has m messages → all m) → all v
+    → (sites : ℕ) (messages : List Message) (v : Message) → IsAmong sites v → 1 ≤ v.stamp.id.seq → Released (reverse messages) →
+    ((m : Message) → Has m messages → all m) → all v
     → nat_lt (slice_index (clock_of sites messages).counts v.stamp.id.site) v.stamp.id.seq ≡ not (is_among messages v)
 is_new_where all ids sites messages v a some r on av =
     ap (λ n. nat_lt n v.stamp.id.seq) (counts_at sites messages v.stamp.id.site a.id.site) ∙ at (is_among messages v) refl
@@ -129,19 +135,24 @@ is_new_where all ids sites messages v a some r on av =
         let c = counted_reverse v.stamp.id.site messages in
         let f = found (reverse messages) v.stamp.id.site v.stamp.id.seq r some (omega arith) in
         let h = has_reverse f.0 messages f.1 in
-        true≢false (sym (listed v messages (subst (λ x. Has x messages) (ids f.0 v (on f.0 h) av f.2 f.3) h)) ∙ t))) (cases_lt (counted v.stamp.id.site messages) v.stamp.id.seq)
+        true≢false (sym (listed v messages (subst (λ x. Has x messages) (ids f.0 v (on f.0 h) av f.2 f.3) h)) ∙ t)))
+        (cases_lt (counted v.stamp.id.site messages) v.stamp.id.seq)
 
     at : (b : Bool) → is_among messages v ≡ b → nat_lt (counted v.stamp.id.site messages) v.stamp.id.seq ≡ not (is_among messages v)
     at true t = there t ∙ ap not (sym t)
     at false t = missing t ∙ ap not (sym t)
 
-pub counts_same : (sites : ℕ) (logs : List Log) (at : ℕ) (log : Log) (n : ℕ) (v : Message) (messages : List Message) (clock : MessageCounts) → HaveMessagesAmong sites logs → at < length logs
-    → log ≡ get_or logs at log → n < length log.messages → v ≡ get_or log.messages n v → Merges sites logs at log n messages clock → sites_of v ≡ length clock.counts
-counts_same sites logs at log n v messages clock among l e k i m = sites_at sites logs at log n v among l e k i ∙ sym (counts_length sites messages clock m.counts)
+pub counts_same : (sites : ℕ) (logs : List Log) (at : ℕ) (log : Log) (n : ℕ) (v : Message) (messages : List Message) (clock : MessageCounts) →
+    HaveMessagesAmong sites logs → at < length logs
+    → log ≡ get_or logs at log → n < length log.messages → v ≡ get_or log.messages n v → Merges sites logs at log n messages clock → sites_of v
+    ≡ length clock.counts
+counts_same sites logs at log n v messages clock among l e k i m = sites_at sites logs at log n v among l e k i
+    ∙ sym (counts_length sites messages clock m.counts)
 
 -- ---- one entry
 module _ (sites : ℕ) (logs : List Log) (at : ℕ) (log : Log) (n : ℕ) (v : Message) (messages : List Message) (clock : MessageCounts)
-    (f : AreFaultless logs) (among : HaveMessagesAmong sites logs) (l : at < length logs) (e : log ≡ get_or logs at log) (k : n < length log.messages) (i : v ≡ get_or log.messages n v)
+    (f : AreFaultless logs) (among : HaveMessagesAmong sites logs) (l : at < length logs) (e : log ≡ get_or logs at log) (k : n < length log.messages)
+    (i : v ≡ get_or log.messages n v)
     (formed : IsMessage v) (m : Merges sites logs at log n messages clock) where
   here : Has log logs
   here = contained logs log (at, l, sym e)
@@ -177,7 +188,8 @@ module _ (sites : ℕ) (logs : List Log) (at : ℕ) (log : Log) (n : ℕ) (v : M
     rest = ap (λ x. messages ++ x) (sym (cond-true (is_among messages v) (firsts messages later) (v ∷ firsts (messages ++ v ∷ []) later) old)) ∙ same_rest;
     released = m.released;
     members = m.members;
-    within = λ x h. ⊎_elim (λ p. m.within x p) (λ p. subst (λ y. Has y messages) (sym p) there) (push_cases x v (take n log.messages) (subst (Has x) (take_at log.messages n v k i) h));
+    within = λ x h. ⊎_elim (λ p. m.within x p) (λ p. subst (λ y. Has y messages) (sym p) there)
+        (push_cases x v (take n log.messages) (subst (Has x) (take_at log.messages n v k i) h));
     among = m.among;
     counts = m.counts;
   }
@@ -205,7 +217,8 @@ module _ (sites : ℕ) (logs : List Log) (at : ℕ) (log : Log) (n : ℕ) (v : M
 
     pushed : Released (reverse (messages ++ v ∷ []))
     pushed = released_push (Logged logs) f.clash f.red_once (take n log.messages) messages v
-        (released_front (take n log.messages) (drop (n + 1) log.messages) v (subst (λ x. Released (reverse x)) (parted log.messages n v k i) (log_released logs f log here)))
+        (released_front (take n log.messages) (drop (n + 1) log.messages) v
+        (subst (λ x. Released (reverse x)) (parted log.messages n v k i) (log_released logs f log here)))
         m.released m.members in_log m.within new
 
     pub is_ready : IsReady clock v.stamp
@@ -220,7 +233,8 @@ module _ (sites : ℕ) (logs : List Log) (at : ℕ) (log : Log) (n : ℕ) (v : M
       released = pushed;
       members = λ x h. ⊎_elim (λ p. m.members x p) (λ p. subst (Logged logs) (sym p) in_log) (push_cases x v messages h);
       within =
-          λ x h. ⊎_elim (λ p. has_left x messages (v ∷ []) (m.within x p)) (λ p. subst (λ y. Has y (messages ++ v ∷ [])) (sym p) (has_last v messages)) (push_cases x v (take n log.messages) (subst (Has x) (take_at log.messages n v k i) h));
+          λ x h. ⊎_elim (λ p. has_left x messages (v ∷ []) (m.within x p)) (λ p. subst (λ y. Has y (messages ++ v ∷ [])) (sym p) (has_last v messages))
+          (push_cases x v (take n log.messages) (subst (Has x) (take_at log.messages n v k i) h));
       among = λ x h. ⊎_elim (λ p. m.among x p) (λ p. subst (IsAmong sites) (sym p) whose) (push_cases x v messages h);
       counts = c ∙ ap (λ x. advanced x v.stamp) m.counts ∙ clock_more sites messages v whose.id.site;
     }
@@ -253,7 +267,8 @@ uncounted_next counts all n v b l e q =
     ∙ sym (ap (filter (uncounted counts)) (take_at all n v l e) ∙ filter-append (uncounted counts) (take n all) (v ∷ []))
 
 pub uncounted_all : (sites : ℕ) (log : Log) (all : List Message) (counts : List ℕ) (n : ℕ) (logs : List Log) → counts ≡ (clock_of sites log.messages).counts
-    → AllAmong sites all → length all ≤ n → AreFaultless logs → Has log logs → all ≡ merged logs → filter (uncounted counts) (take n all) ≡ lacked logs log.messages
+    → AllAmong sites all → length all ≤ n → AreFaultless logs → Has log logs → all ≡ merged logs → filter (uncounted counts) (take n all)
+    ≡ lacked logs log.messages
 uncounted_all sites log all counts n logs e among l f h same =
     ap (filter (uncounted counts)) (take_all n all l) ∙ filter_same (uncounted counts) (λ m. not (is_among log.messages m)) all each
     ∙ ap (filter (λ m. not (is_among log.messages m))) same
@@ -262,24 +277,29 @@ uncounted_all sites log all counts n logs e among l f h same =
     each v k =
         let a = of_merged logs f v (subst (Has v) same k) in
         let some = (seq_within (reverse a.0.0.messages) v (log_released logs f a.0.0 a.0.1) (has_back v a.0.0.messages a.1)).0 in
-        ap (λ c. uncounted c v) e ∙ is_new_where (Logged logs) f.clash sites log.messages v (among v k) some (log_released logs f log h) (λ x q. ((log, h), q)) a
+        ap (λ c. uncounted c v) e
+        ∙ is_new_where (Logged logs) f.clash sites log.messages v (among v k) some (log_released logs f log h) (λ x q. ((log, h), q)) a
 
 -- ---- what a message waits for
-pub awaited_some : (log : List Message) (m : Message) (site count : ℕ) → site < sites_of m → count ≡ slice_index (clock_of (sites_of m) log).counts site → count < dep m site
+pub awaited_some : (log : List Message) (m : Message) (site count : ℕ) → site < sites_of m → count ≡ slice_index (clock_of (sites_of m) log).counts site →
+    count < dep m site
     → Some (record { site = site; seq = count + 1 }) ≡ awaited log m site
 awaited_some log m site count l e h =
     let q : count ≡ counted site log = e ∙ counts_at (sites_of m) log site l in
-    sym (cond-true (nat_lt (counted site log) (dep m site)) (Some (record { site = site; seq = counted site log + 1 })) None (below (counted site log) (dep m site) (subst (λ k. k < dep m site) q h))
+    sym (cond-true (nat_lt (counted site log) (dep m site)) (Some (record { site = site; seq = counted site log + 1 })) None
+    (below (counted site log) (dep m site) (subst (λ k. k < dep m site) q h))
     ∙ ap (λ k. Some (record { site = site; seq = k + 1 })) (sym q))
   where
     below : (x y : ℕ) → x < y → nat_lt x y ≡ true
     below x y l = grind (arith, nat_tests)
 
-pub awaited_none : (log : List Message) (m : Message) (site count : ℕ) → site < sites_of m → count ≡ slice_index (clock_of (sites_of m) log).counts site → dep m site ≤ count
+pub awaited_none : (log : List Message) (m : Message) (site count : ℕ) → site < sites_of m → count ≡ slice_index (clock_of (sites_of m) log).counts site →
+    dep m site ≤ count
     → None ≡ awaited log m site
 awaited_none log m site count l e h =
     let q : count ≡ counted site log = e ∙ counts_at (sites_of m) log site l in
-    sym (cond-false (nat_lt (counted site log) (dep m site)) (Some (record { site = site; seq = counted site log + 1 })) None (not_below (counted site log) (dep m site) (subst (λ k. dep m site ≤ k) q h)))
+    sym (cond-false (nat_lt (counted site log) (dep m site)) (Some (record { site = site; seq = counted site log + 1 })) None
+    (not_below (counted site log) (dep m site) (subst (λ k. dep m site ≤ k) q h)))
   where
     not_below : (x y : ℕ) → y ≤ x → nat_lt x y ≡ false
     not_below x y l = grind (arith, nat_tests)

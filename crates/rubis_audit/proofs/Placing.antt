@@ -32,7 +32,8 @@ places (log ∷ logs) (Next m) = at log.rows
     at (Some rows) = refl
 places (log ∷ logs) (Claim row) = at log.rows
   where
-    at : (o : Option (List (List (List ℕ)))) → option_map place_of (with_line (record log { rows = o } ∷ logs) (Claim row)) ≡ place_after (place_in o) (Claim row)
+    at : (o : Option (List (List (List ℕ)))) → option_map place_of (with_line (record log { rows = o } ∷ logs) (Claim row))
+        ≡ place_after (place_in o) (Claim row)
     at None = refl
     at (Some rows) = refl
 
@@ -54,7 +55,8 @@ Alike from to n rest = (a b : List Log) → place_of a ≡ place_of b → widene
 some_same : {X : Type 0} (x y : X) → Some x ≡ Some y → x ≡ y
 some_same x y e = cc
 
-after_alike : (from to n : ℕ) (fields : List (List ℕ)) (rest : List (List (List ℕ))) (p q : Option (List Log)) → option_map place_of p ≡ option_map place_of q → Alike from to (n + 1) rest
+after_alike : (from to n : ℕ) (fields : List (List ℕ)) (rest : List (List (List ℕ))) (p q : Option (List Log)) → option_map place_of p ≡ option_map place_of q →
+    Alike from to (n + 1) rest
     → rows_after from to n fields rest p ≡ rows_after from to n fields rest q
 after_alike from to n fields rest None None e ih = refl
 after_alike from to n fields rest None (Some y) e ih = absurd cc
@@ -65,15 +67,18 @@ pub alike : (from to : ℕ) (records : List (List (List ℕ))) (n : ℕ) → Ali
 alike from to [] n a b e = refl
 alike from to (fields ∷ rest) n a b e = line (line_of from fields) (alike from to rest (n + 1))
   where
-    line : (o : Option Line) → Alike from to (n + 1) rest → rows_after from to n fields rest (option_and_then (with_line a) o) ≡ rows_after from to n fields rest (option_and_then (with_line b) o)
+    line : (o : Option Line) → Alike from to (n + 1) rest → rows_after from to n fields rest (option_and_then (with_line a) o)
+        ≡ rows_after from to n fields rest (option_and_then (with_line b) o)
     line None ih = refl
     line (Some x) ih = after_alike from to n fields rest (with_line a x) (with_line b x) (places a x ∙ ap (λ p. place_after p x) e ∙ sym (places b x)) ih
 
 -- ---- a record is answered
-one_row : (row : List (List ℕ)) (rows : List (List (List ℕ))) (sink : List ℕ) → sink ++ rows_text (row ∷ rows) ≡ (sink ++ rows_text (row ∷ [])) ++ rows_text rows
+one_row : (row : List (List ℕ)) (rows : List (List (List ℕ))) (sink : List ℕ) → sink ++ rows_text (row ∷ rows) ≡ (sink ++ rows_text (row ∷ []))
+    ++ rows_text rows
 one_row row rows sink = sym (more_written (row ∷ []) rows sink (sink ++ rows_text (row ∷ [])) ((sink ++ rows_text (row ∷ [])) ++ rows_text rows) refl refl)
 
-rows_go : (from to n : ℕ) (place next : LinePlace) (x : Line) (fields : List (List ℕ)) (rest : List (List (List ℕ))) → line_of from fields ≡ Some x → place_after place x ≡ Some next
+rows_go : (from to n : ℕ) (place next : LinePlace) (x : Line) (fields : List (List ℕ)) (rest : List (List (List ℕ))) → line_of from fields ≡ Some x →
+    place_after place x ≡ Some next
     → widened_rows from to n (logs_at place) (fields ∷ rest) ≡ line_record (widened_line to x) ∷ widened_rows from to (n + 1) (logs_at next) rest
 rows_go from to n place next x fields rest l a =
     ap (λ o. rows_after from to n fields rest (option_and_then (with_line (logs_at place)) o)) l ∙ more (with_line (logs_at place) x) refl
@@ -81,18 +86,22 @@ rows_go from to n place next x fields rest l a =
     record_is : widened_record from to fields ≡ line_record (widened_line to x)
     record_is = search
 
-    more : (o : Option (List Log)) → with_line (logs_at place) x ≡ o → rows_after from to n fields rest o ≡ line_record (widened_line to x) ∷ widened_rows from to (n + 1) (logs_at next) rest
+    more : (o : Option (List Log)) → with_line (logs_at place) x ≡ o → rows_after from to n fields rest o
+        ≡ line_record (widened_line to x) ∷ widened_rows from to (n + 1) (logs_at next) rest
     more None e = absurd (let p = sym (ap (option_map place_of) e) ∙ places (logs_at place) x ∙ ap (λ p. place_after p x) (place_at place) ∙ a in cc)
     more (Some logs) e =
         let p = sym (ap (option_map place_of) e) ∙ places (logs_at place) x ∙ ap (λ p. place_after p x) (place_at place) ∙ a in
         λ i. record_is i ∷ alike from to rest (n + 1) logs (logs_at next) (some_same (place_of logs) next p ∙ sym (place_at next)) i
 
-pub goes : (from to n : ℕ) (place next : LinePlace) (x : Line) (fields : List (List ℕ)) (sink sink2 : List ℕ) → line_of from fields ≡ Some x → place_after place x ≡ Some next
+pub goes : (from to n : ℕ) (place next : LinePlace) (x : Line) (fields : List (List ℕ)) (sink sink2 : List ℕ) → line_of from fields ≡ Some x →
+    place_after place x ≡ Some next
     → sink2 ≡ sink ++ rows_text (line_record (widened_line to x) ∷ [])
     → AnswersRecord GoesOn (widening_from from to n (logs_at place)) (widening_from from to (n + 1) (logs_at next)) sink sink2 fields
 goes from to n place next x fields sink sink2 l a s rest = (
   λ ending. ap (λ rows. sink ++ rows_text rows) (rows_go from to n place next x fields rest l a)
       ∙ one_row (line_record (widened_line to x)) (widened_rows from to (n + 1) (logs_at next) rest) sink
       ∙ ap (λ text. text ++ rows_text (widened_rows from to (n + 1) (logs_at next) rest)) (sym s),
-  ap length (rows_go from to n place next x fields rest l a) ∙ (let e : length (line_record (widened_line to x) ∷ widened_rows from to (n + 1) (logs_at next) rest) ≡ length (widened_rows from to (n + 1) (logs_at next) rest) + 1 = omega arith in e),
+  ap length (rows_go from to n place next x fields rest l a)
+      ∙ (let e : length (line_record (widened_line to x) ∷ widened_rows from to (n + 1) (logs_at next) rest)
+      ≡ length (widened_rows from to (n + 1) (logs_at next) rest) + 1 = omega arith in e),
 )

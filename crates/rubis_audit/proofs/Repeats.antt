@@ -45,7 +45,8 @@ again_red r all m h = by_red_push r all m ∙ at (r == m.stamp.red) refl
     at true t = let f = some_red r all m h t in or_found (by_red r all) f.0 m f.1
     at false t = or_none (by_red r all)
 
-pub more_formed : (all : List Message) (m : Message) → ((u : Message) → Has u all → IsMessage u) → IsMessage m → (u : Message) → Has u (all ++ m ∷ []) → IsMessage u
+pub more_formed : (all : List Message) (m : Message) → ((u : Message) → Has u all → IsMessage u) → IsMessage m → (u : Message) → Has u (all ++ m ∷ []) →
+    IsMessage u
 more_formed all m formed f u h = ⊎_elim (λ l. formed u l) (λ e. subst IsMessage (sym e) f) (push_cases u m all h)
 
 seen_again : (s : Seen) (all : List Message) (m u : Message) → id_in s m.stamp.id ≡ Some u → Sees s all → clash_by_id all m ≡ false → Sees s (all ++ m ∷ [])
@@ -71,7 +72,8 @@ none_known None (Some u) t k = absurd (let q : None ≡ Some u.now = k in cc)
 none_known (Some u) there t k = absurd (true≢false t)
 
 -- no message has number 0
-pub none_at_nought : (s : Seen) (all : List Message) (v : Message) (last : Id) → Sees s all → last.seq ≡ 0 → option_map_or (exceeds v) (by_message_id last all) false ≡ false
+pub none_at_nought : (s : Seen) (all : List Message) (v : Message) (last : Id) → Sees s all → last.seq ≡ 0 →
+    option_map_or (exceeds v) (by_message_id last all) false ≡ false
 none_at_nought s all v last h z = at (by_message_id last all) refl
   where
     at : (o : Option Message) → by_message_id last all ≡ o → option_map_or (exceeds v) o false ≡ false

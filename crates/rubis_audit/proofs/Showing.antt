@@ -23,7 +23,8 @@ use Rattle.rubis_generate.specs.Lookup.{as_item_row, as_user_row, is_ended, item
 use Rattle.rubis_message.specs.Message.{Message, dep}
 use Rattle.rubis_model.specs.Checks.{nick_taken, stock_short, wrong_category, wrong_winner}
 use Rattle.rubis_model.specs.Log.{Core, core, cores}
-use Rattle.rubis_model.specs.Meaning.{as_bid, as_item, as_user, at_id, best_bid, best_of, close_of, item_at, item_row, is_same_nick, meaning_row, named, nick_at, user_row, sale_after, sold_of, supply, total, user_at, when}
+use Rattle.rubis_model.specs.Meaning.{as_bid, as_item, as_user, at_id, best_bid, best_of, close_of, item_at, item_row, is_same_nick, meaning_row, named}
+use Rattle.rubis_model.specs.Meaning.{nick_at, user_row, sale_after, sold_of, supply, total, user_at, when}
 use Rattle.rubis_model.specs.Verdict.{is_known, comes_before, wrong_reference}
 use Rattle.rubis_audit.specs.Contents.{closed_in, known_in, nick_taken_in, outbid_in, stock_short_in, wrong_category_in, wrong_reference_in, wrong_winner_in}
 use Rattle.rubis_audit.specs.Past.{Shows}
@@ -62,13 +63,15 @@ known_is : (t : Tables) (own : List Message) (v : Message) (k : RowKey) → Show
 unfolding meaning_row
 known_is t own v (key.User i) s =
     ap (λ o. is_some o && nat_le i.seq (dep v i.site)) (s.rows (key.User i))
-    ∙ ap (λ b. b && nat_le i.seq (dep v i.site)) (some_map _ (nick_at i (cores own)) ∙ some_map _ (user_at i (cores own))) ∙ sym (known_by (λ m. as_user m.shadow) i own v)
+    ∙ ap (λ b. b && nat_le i.seq (dep v i.site)) (some_map _ (nick_at i (cores own)) ∙ some_map _ (user_at i (cores own)))
+    ∙ sym (known_by (λ m. as_user m.shadow) i own v)
 known_is t own v (key.Item i) s =
     ap (λ o. is_some o && nat_le i.seq (dep v i.site)) (s.rows (key.Item i))
     ∙ ap (λ b. b && nat_le i.seq (dep v i.site)) (some_map _ (item_at i (cores own))) ∙ sym (known_by (λ m. as_item m.shadow) i own v)
 known_is t own v (key.Bid i) s =
     ap (λ o. is_some o && nat_le i.seq (dep v i.site)) (s.rows (key.Bid i))
-    ∙ ap (λ b. b && nat_le i.seq (dep v i.site)) (some_map _ (at_id (λ m. as_bid m.red m.shadow) i (cores own))) ∙ sym (known_by (λ m. as_bid m.red m.shadow) i own v)
+    ∙ ap (λ b. b && nat_le i.seq (dep v i.site)) (some_map _ (at_id (λ m. as_bid m.red m.shadow) i (cores own)))
+    ∙ sym (known_by (λ m. as_bid m.red m.shadow) i own v)
 known_is t own v (key.Purchase i) s = nothing own
 known_is t own v (key.Comment i) s = nothing own
 known_is t own v (key.Nick n) s = nothing own
@@ -79,14 +82,18 @@ any_same p q e [] = refl
 any_same p q e (k ∷ ks) = λ i. e k i || any_same p q e ks i
 
 -- the row of an item
-item_is : (t : Tables) (before : List Core) (i : Id) → Shows t before → item_in (row_by_key t) i ≡ option_and_then as_item_row (option_map (item_row before i) (item_at i before))
+item_is : (t : Tables) (before : List Core) (i : Id) → Shows t before → item_in (row_by_key t) i
+    ≡ option_and_then as_item_row (option_map (item_row before i) (item_at i before))
 unfolding meaning_row
 item_is t before i s = ap (option_and_then as_item_row) (s.rows (key.Item i))
 
 category_is : (t : Tables) (before : List Core) (x : Shadow) → Shows t before → wrong_category_in (row_by_key t) x ≡ wrong_category before x
-category_is t before (Close c) s = ap (λ o. option_map_or (λ (i : ItemRow). not (i.cat == c.cat)) o false) (item_is t before c.item s) ∙ at (item_at c.item before)
+category_is t before (Close c) s = ap (λ o. option_map_or (λ (i : ItemRow). not (i.cat == c.cat)) o false) (item_is t before c.item s)
+    ∙ at (item_at c.item before)
   where
-    at : (o : Option NewItem) → option_map_or (λ (i : ItemRow). not (i.cat == c.cat)) (option_and_then as_item_row (option_map (item_row before c.item) o)) false ≡ option_map_or (λ (n : NewItem). not (n.cat == c.cat)) o false
+    at : (o : Option NewItem) →
+        option_map_or (λ (i : ItemRow). not (i.cat == c.cat)) (option_and_then as_item_row (option_map (item_row before c.item) o)) false
+        ≡ option_map_or (λ (n : NewItem). not (n.cat == c.cat)) o false
     at None = refl
     at (Some n) = refl
 category_is t before (User n) s = refl
@@ -113,9 +120,12 @@ nick_is t before (Comment n) s = refl
 nick_is t before (Restock r) s = refl
 nick_is t before (Rename r) s = λ j.
     (ap is_some (s.rows (key.Nick r.to)) ∙ some_map _ (named r.to before)) j
-    || not ((ap (λ o. option_map_or (λ (u : UserRow). bytes_eq r.from u.nick) o false) (ap (option_and_then as_user_row) (s.rows (key.User r.user))) ∙ at (nick_at r.user before)) j)
+    || not ((ap (λ o. option_map_or (λ (u : UserRow). bytes_eq r.from u.nick) o false) (ap (option_and_then as_user_row) (s.rows (key.User r.user)))
+    ∙ at (nick_at r.user before)) j)
   where
-    at : (o : Option (List ℕ)) → option_map_or (λ (u : UserRow). bytes_eq r.from u.nick) (option_and_then as_user_row (option_map (user_row before r.user) o)) false ≡ is_same_nick r.from o
+    at : (o : Option (List ℕ)) →
+        option_map_or (λ (u : UserRow). bytes_eq r.from u.nick) (option_and_then as_user_row (option_map (user_row before r.user) o)) false
+        ≡ is_same_nick r.from o
     at None = refl
     at (Some n) = refl
 
@@ -123,7 +133,8 @@ short_is : (n t q : ℕ) → t ≤ n → nat_lt (n - t) q ≡ nat_lt n (t + q)
 short_is n t q h = grind (arith, nat_tests)
 
 pub stock_is : (t : Tables) (before : List Core) (x : Shadow) → Shows t before → stock_short_in (row_by_key t) x ≡ stock_short before x
-stock_is t before (Buy p) s = ap (λ o. option_map_or (λ (i : ItemRow). nat_lt i.stock p.quantity) o false) (item_is t before p.item s) ∙ at (item_at p.item before) (s.holds.stock p.item)
+stock_is t before (Buy p) s = ap (λ o. option_map_or (λ (i : ItemRow). nat_lt i.stock p.quantity) o false) (item_is t before p.item s)
+    ∙ at (item_at p.item before) (s.holds.stock p.item)
   where
     at : (o : Option NewItem) → IfSome o (λ n. total (sold_of p.item) before ≤ supply before p.item n)
         → option_map_or (λ (i : ItemRow). nat_lt i.stock p.quantity) (option_and_then as_item_row (option_map (item_row before p.item) o)) false
@@ -153,21 +164,26 @@ best_is (Some m) = refl
 closed_is : (t : Tables) (before : List Core) (i : Id) → Shows t before → IsSome (item_at i before) → closed_in (row_by_key t) i ≡ is_some (close_of i before)
 closed_is t before i s h = ap (λ o. option_map_or (λ (r : ItemRow). is_ended r.sale) o false) (item_is t before i s) ∙ at (item_at i before) h
   where
-    at : (o : Option NewItem) → IsSome o → option_map_or (λ (r : ItemRow). is_ended r.sale) (option_and_then as_item_row (option_map (item_row before i) o)) false ≡ is_some (close_of i before)
+    at : (o : Option NewItem) → IsSome o →
+        option_map_or (λ (r : ItemRow). is_ended r.sale) (option_and_then as_item_row (option_map (item_row before i) o)) false ≡ is_some (close_of i before)
     at None h = absurd (true≢false (sym h))
     at (Some n) h = over_is before i n
 
 outbid_is : (t : Tables) (before : List Core) (i : Id) (w : Option Id) → Shows t before → IsSome (item_at i before)
     → outbid_in (row_by_key t) i w ≡ not (option_eq same_id w (option_map (λ (m : Core). m.id) (best_bid i before)))
 outbid_is t before i w s h =
-    ap (λ o. option_map_or (λ (r : ItemRow). not (option_eq same_id w (option_map (λ (b : Best). b.bid) r.best))) o false) (item_is t before i s) ∙ at (item_at i before) h
+    ap (λ o. option_map_or (λ (r : ItemRow). not (option_eq same_id w (option_map (λ (b : Best). b.bid) r.best))) o false) (item_is t before i s)
+    ∙ at (item_at i before) h
   where
-    at : (o : Option NewItem) → IsSome o → option_map_or (λ (r : ItemRow). not (option_eq same_id w (option_map (λ (b : Best). b.bid) r.best))) (option_and_then as_item_row (option_map (item_row before i) o)) false
+    at : (o : Option NewItem) → IsSome o →
+        option_map_or (λ (r : ItemRow). not (option_eq same_id w (option_map (λ (b : Best). b.bid) r.best)))
+        (option_and_then as_item_row (option_map (item_row before i) o)) false
         ≡ not (option_eq same_id w (option_map (λ (m : Core). m.id) (best_bid i before)))
     at None h = absurd (true≢false (sym h))
     at (Some n) h = ap (λ o. not (option_eq same_id w o)) (best_is (best_bid i before))
 
-item_named : (own : List Message) (v : Message) (i : Id) (rest more : Bool) → ((not (is_known own v (key.Item i)) || rest) || more) ≡ false → IsSome (item_at i (cores own))
+item_named : (own : List Message) (v : Message) (i : Id) (rest more : Bool) → ((not (is_known own v (key.Item i)) || rest) || more) ≡ false →
+    IsSome (item_at i (cores own))
 item_named own v i rest more e =
     (and_parts (is_some (item_at i (cores own))) _ (sym (known_by (λ m. as_item m.shadow) i own v) ∙ first (is_known own v (key.Item i)) rest more e)).0
   where
@@ -175,7 +191,8 @@ item_named own v i rest more e =
     first true b c e = refl
     first false b c e = sym e
 
-winner_by : (t : Tables) (own : List Message) (v : Message) (x : Shadow) → Shows t (cores own) → (list_any (λ k. not (is_known own v k)) (refers_of x) || wrong_category (cores own) x) ≡ false
+winner_by : (t : Tables) (own : List Message) (v : Message) (x : Shadow) → Shows t (cores own) →
+    (list_any (λ k. not (is_known own v k)) (refers_of x) || wrong_category (cores own) x) ≡ false
     → wrong_winner_in (row_by_key t) x ≡ wrong_winner (cores own) x
 winner_by t own v (User n) s e = refl
 winner_by t own v (Item n) s e = refl

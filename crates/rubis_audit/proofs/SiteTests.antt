@@ -31,7 +31,8 @@ no_site v p h = none_from p 0 (sites_of v) (λ j l m. h j (omega (arith, m)))
 
 any_from : (p : ℕ → Bool) (a n : ℕ) → list_any p (range_with_len a n) ≡ true → (j : ℕ) × (j < a + n) × (p j ≡ true)
 any_from p a zero e = absurd (true≢false (sym e))
-any_from p a (suc n) e = ⊎_elim (λ l. (a, omega arith, l)) (λ r. let w = any_from p (a + 1) n r in (w.0, (let k = w.1 in omega (arith, k)), w.2)) (or_cases (p a) (list_any p (range_with_len (a + 1) n)) e)
+any_from p a (suc n) e = ⊎_elim (λ l. (a, omega arith, l)) (λ r. let w = any_from p (a + 1) n r in (w.0, (let k = w.1 in omega (arith, k)), w.2))
+    (or_cases (p a) (list_any p (range_with_len (a + 1) n)) e)
 
 -- a site at which it is so
 pub site_of : (v : Message) (p : ℕ → Bool) → at_some_site v p ≡ true → (j : ℕ) × (j < sites_of v) × (p j ≡ true)

@@ -1,5 +1,6 @@
 -- How a walk goes on: over a log, and from log to log.
-use Rattle.std.proofs.Common.{ℕ, ◌≡◌, ◌+◌, ◌*◌, ◌^◌, ◌≤◌, ◌<◌, zero, suc, List, [], ◌∷◌, ◌++◌, length, get_or, take, drop, Bool, true, false, cond, replicate, refl, sym, ap, ◌∙◌, subst, arith, Option, Some, None, inl, inr, drop-cons, add-one, append_assoc}
+use Rattle.std.proofs.Common.{ℕ, ◌≡◌, ◌+◌, ◌*◌, ◌^◌, ◌≤◌, ◌<◌, zero, suc, List, [], ◌∷◌, ◌++◌, length, get_or, take, drop, Bool, true, false, cond, replicate}
+use Rattle.std.proofs.Common.{refl, sym, ap, ◌∙◌, subst, arith, Option, Some, None, inl, inr, drop-cons, add-one, append_assoc}
 use Rattle.std.specs.Prelude.{option_map, reverse, not, slice_get, find, unwrap_or}
 use Rattle.std.specs.FinMap as map
 use Rattle.std.specs.Option.{option_or, option_map_or}
@@ -48,7 +49,8 @@ use Rattle.rubis_audit.proofs.Judging.{checks_are, known_log, known_none, known_
 short : (others own : List Message) → IsFaultless others own → length own ≤ 16 * 1000000
 short others own k = log_small own k.released (λ v h. k.formed v (has_right v others own (has_reverse v own h)))
 
-pub shows_of : (others own : List Message) (shards : List ShardState) → IsFaultless others own → HoldsLog 1 (cores own) shards → Shows (union shards) (cores own)
+pub shows_of : (others own : List Message) (shards : List ShardState) → IsFaultless others own → HoldsLog 1 (cores own) shards →
+    Shows (union shards) (cores own)
 shows_of others own shards k h =
     let few = short others own k in
     let same = cores_length own in
@@ -59,7 +61,8 @@ shows_of others own shards k h =
     }
 
 -- the checks by look-ups are those of the definition
-pub fault_is : (sites site : ℕ) (seen : Seen) (clock : MessageCounts) (last : Option Message) (shards : List ShardState) (others own : List Message) (v : Message)
+pub fault_is : (sites site : ℕ) (seen : Seen) (clock : MessageCounts) (last : Option Message) (shards : List ShardState) (others own : List Message)
+    (v : Message)
     → Remembers sites seen clock last shards others own → IsAmong sites v → IsMessage v
     → first_of (checks_by site clock last (union shards) (others ++ own) v) ≡ first_of (checks others site own v)
 fault_is sites site seen clock last shards others own v s a f =
@@ -74,7 +77,8 @@ ready_forth own v r = record {
   number = λ p. r.number p ∙ ap (λ n. n + 1) (reds_reverse own);
 }
 
-pub ready_now : (sites site : ℕ) (seen : Seen) (clock : MessageCounts) (last : Option Message) (shards : List ShardState) (others own : List Message) (v : Message)
+pub ready_now : (sites site : ℕ) (seen : Seen) (clock : MessageCounts) (last : Option Message) (shards : List ShardState) (others own : List Message)
+    (v : Message)
     → Remembers sites seen clock last shards others own → IsAmong sites v → IsMessage v → first_of (checks others site own v) ≡ None → IsReady clock v.stamp
 ready_now sites site seen clock last shards others own v s a f e =
     subst (λ k. IsReady k v.stamp) (sym s.clock_is) (ready_by_clock sites own v a (ready_forth own v (ready others site own v f (clean others site own v e))))
@@ -82,7 +86,8 @@ ready_now sites site seen clock last shards others own v s a f e =
 last_push : (own : List Message) (v : Message) → last_red (own ++ v ∷ []) ≡ cond (is_red v.shadow) (Some v) (last_red own)
 last_push own v = ap (find (λ u. is_red u.shadow)) (reverse_push own v)
 
-stands_push : (sites site : ℕ) (seen after : Seen) (clock clock2 : MessageCounts) (last last2 : Option Message) (shards shards2 : List ShardState) (others own : List Message) (v : Message)
+stands_push : (sites site : ℕ) (seen after : Seen) (clock clock2 : MessageCounts) (last last2 : Option Message) (shards shards2 : List ShardState)
+    (others own : List Message) (v : Message)
     → Remembers sites seen clock last shards others own → IsAmong sites v → IsMessage v → first_of (checks others site own v) ≡ None
     → ((all : List Message) → Sees seen all → Sees after (all ++ v ∷ [])) → clock2 ≡ advanced clock v.stamp → last2 ≡ cond (is_red v.shadow) (Some v) last
     → TakesOn (core v) (length own + 1) shards shards2
@@ -100,15 +105,18 @@ opening_counts sites = λ i. record { counts = same i; red = 0 }
   where
     same : replicate sites 0 ≡ counts sites []
     same = same_number_lists (replicate sites 0) (counts sites []) (length-replicate {A = ℕ} sites 0 ∙ sym (length_counts sites []))
-        (λ j l. let k : j < sites = (let e = length-replicate {A = ℕ} sites 0 in omega (arith, e, l)) in get_or-replicate {A = ℕ} sites j 0 0 k ∙ sym (counts_at sites [] j k))
+        (λ j l. let k : j < sites = (let e = length-replicate {A = ℕ} sites 0 in omega (arith, e, l)) in
+        get_or-replicate {A = ℕ} sites j 0 0 k ∙ sym (counts_at sites [] j k))
 
 -- ---- over one log
-pub record Walks (sites : ℕ) (seen : Seen) (clock : MessageCounts) (last : Option Message) (shards : List ShardState) (others : List Message) (log : Log) (n : ℕ) : Type 0 where
+pub record Walks (sites : ℕ) (seen : Seen) (clock : MessageCounts) (last : Option Message) (shards : List ShardState) (others : List Message) (log : Log)
+    (n : ℕ) : Type 0 where
   pub stands : Remembers sites seen clock last shards others (take n log.messages)
   pub rest : first_fault others log.site [] log.messages ≡ first_fault others log.site (take n log.messages) (drop n log.messages)
 
 pub walks_none : (sites : ℕ) (seen : Seen) (clock : MessageCounts) (last : Option Message) (shards : List ShardState) (others : List Message) (log : Log)
-    → IsFaultless others [] → Sees seen others → clock ≡ opening_clock sites → last ≡ None → HoldsLog 1 [] shards → Walks sites seen clock last shards others log 0
+    → IsFaultless others [] → Sees seen others → clock ≡ opening_clock sites → last ≡ None → HoldsLog 1 [] shards →
+    Walks sites seen clock last shards others log 0
 walks_none sites seen clock last shards others log k s c l h = record {
   stands = record { known = k; sees = subst (Sees seen) (sym (append-nil others)) s; clock_is = c ∙ opening_counts sites; last_is = l; holds = h };
   rest = refl;
@@ -127,9 +135,11 @@ step_is : (others : List Message) (log : Log) (n : ℕ) (v : Message) (o : Optio
     ≡ option_or (option_map (λ k. (k, n + 1)) o) (first_fault others log.site (take (n + 1) log.messages) (drop (n + 1) log.messages))
 step_is others log n v o l e f =
     ap (first_fault others log.site (take n log.messages)) (drop_next log.messages n v l e)
-    ∙ (λ i. option_or (option_map (λ k. (k, length-take-le n log.messages (omega arith) i + 1)) (f i)) (first_fault others log.site (sym (take_next log.messages n v l e) i) (drop (n + 1) log.messages)))
+    ∙ (λ i. option_or (option_map (λ k. (k, length-take-le n log.messages (omega arith) i + 1)) (f i))
+    (first_fault others log.site (sym (take_next log.messages n v l e) i) (drop (n + 1) log.messages)))
 
-pub walks_more : (sites : ℕ) (seen after : Seen) (clock clock2 : MessageCounts) (last last2 : Option Message) (shards shards2 : List ShardState) (others : List Message) (log : Log) (n : ℕ) (v : Message)
+pub walks_more : (sites : ℕ) (seen after : Seen) (clock clock2 : MessageCounts) (last last2 : Option Message) (shards shards2 : List ShardState)
+    (others : List Message) (log : Log) (n : ℕ) (v : Message)
     → n < length log.messages → v ≡ get_or log.messages n v → Walks sites seen clock last shards others log n → IsAmong sites v → IsMessage v
     → first_of (checks others log.site (take n log.messages) v) ≡ None
     → ((all : List Message) → Sees seen all → Sees after (all ++ v ∷ [])) → clock2 ≡ advanced clock v.stamp → last2 ≡ cond (is_red v.shadow) (Some v) last
@@ -158,7 +168,8 @@ log_at (x ∷ logs) (suc k) l = log_at logs k (omega (arith, l))
 at_is : (logs : List Log) (k : ℕ) (log : Log) → slice_get logs k ≡ Some log → log ≡ get_or logs k log
 at_is logs k log e = sym (get_or_from_slice_get logs k log log e)
 
-next_said : (k : ℕ) (logs : List Log) (log : Log) → k < length logs → slice_get logs k ≡ Some log → messages_of_logs (take (k + 1) logs) ≡ messages_of_logs (take k logs) ++ log.messages
+next_said : (k : ℕ) (logs : List Log) (log : Log) → k < length logs → slice_get logs k ≡ Some log → messages_of_logs (take (k + 1) logs)
+    ≡ messages_of_logs (take k logs) ++ log.messages
 next_said k logs log l e =
     ap messages_of_logs (take_more logs k log l ∙ ap (λ x. take k logs ++ x ∷ []) (sym (at_is logs k log e)))
     ∙ flat_map-append (λ (x : Log). x.messages) (take k logs) (log ∷ []) ∙ ap (λ xs. messages_of_logs (take k logs) ++ xs) (append-nil log.messages)
@@ -166,8 +177,10 @@ next_said k logs log l e =
 next_logs : (k : ℕ) (logs : List Log) (log : Log) → k < length logs → slice_get logs k ≡ Some log → drop k logs ≡ log ∷ drop (k + 1) logs
 next_logs k logs log l e = drop-cons logs k log l ∙ (λ i. sym (at_is logs k log e) i ∷ drop (sym (add-one k) i) logs)
 
-log_step : (k : ℕ) (logs : List Log) (log : Log) (found : Option (Kind × ℕ)) → k < length logs → slice_get logs k ≡ Some log → found ≡ log_fault (messages_of_logs (take k logs)) log
-    → verdict_from (k + 1) (messages_of_logs (take k logs)) (drop k logs) ≡ found_or (k + 1) found (verdict_from (k + 1 + 1) (messages_of_logs (take (k + 1) logs)) (drop (k + 1) logs))
+log_step : (k : ℕ) (logs : List Log) (log : Log) (found : Option (Kind × ℕ)) → k < length logs → slice_get logs k ≡ Some log → found
+    ≡ log_fault (messages_of_logs (take k logs)) log
+    → verdict_from (k + 1) (messages_of_logs (take k logs)) (drop k logs)
+    ≡ found_or (k + 1) found (verdict_from (k + 1 + 1) (messages_of_logs (take (k + 1) logs)) (drop (k + 1) logs))
 log_step k logs log found l e f =
     ap (verdict_from (k + 1) (messages_of_logs (take k logs))) (next_logs k logs log l e)
     ∙ (λ i. found_or (k + 1) (sym f i) (verdict_from (k + 1 + 1) (sym (next_said k logs log l e) i) (drop (k + 1) logs)))
@@ -178,7 +191,8 @@ over_more before after k logs l o w =
     let r = w there.0 there.1 in
     record { walked = r.1 refl; rest = o.rest ∙ log_step k logs there.0 None l there.1 r.0 }
 
-pub over_found : (before after : Seen) (k : ℕ) (logs : List Log) (p : Kind × ℕ) → k < length logs → Over before k logs → IsWalked after logs k (Some p) → Found p.0 (k + 1) p.1 ≡ verdict logs
+pub over_found : (before after : Seen) (k : ℕ) (logs : List Log) (p : Kind × ℕ) → k < length logs → Over before k logs → IsWalked after logs k (Some p) →
+    Found p.0 (k + 1) p.1 ≡ verdict logs
 over_found before after k logs p l o w =
     let there = log_at logs k l in
     sym (o.rest ∙ log_step k logs there.0 (Some p) l there.1 (w there.0 there.1).0)
@@ -195,7 +209,9 @@ logged_in (x ∷ logs) log m (inr h) k = has_right m x.messages (messages_of_log
 -- the walk saw that each message meets the conditions of its type
 over_among : (sites : ℕ) (seen : Seen) (k : ℕ) (logs : List Log) → length logs ≤ k → HaveMessagesAmong sites logs → Over seen k logs → AreAmong sites logs
 over_among sites seen k logs l among o v a = (
-  o.walked.known.formed v (has_left v (messages_of_logs (take k logs)) [] (subst (λ (ls : List Log). Has v (messages_of_logs ls)) (sym (take_all k logs l)) (logged_in logs a.0.0 v a.0.1 a.1))),
+  o.walked.known.formed v
+      (has_left v (messages_of_logs (take k logs)) []
+      (subst (λ (ls : List Log). Has v (messages_of_logs ls)) (sym (take_all k logs l)) (logged_in logs a.0.0 v a.0.1 a.1))),
   among a.0.0 a.0.1 v a.1,
 )
 
@@ -209,12 +225,15 @@ over_sound sites seen k logs l among o = faultless_sound sites logs (over_among 
 same_log : (logs : List Log) (at : ℕ) (log other : Log) → at < length logs → log ≡ get_or logs at log → slice_get logs at ≡ Some other → log ≡ other
 same_log logs at log other l e f = e ∙ get_or_from_slice_get logs at other log f
 
-pub walked_found : (sites : ℕ) (seen after : Seen) (clock : MessageCounts) (last : Option Message) (shards : List ShardState) (logs : List Log) (at : ℕ) (log : Log) (n : ℕ) (v : Message) (k : Kind)
-    → at < length logs → log ≡ get_or logs at log → Walks sites seen clock last shards (messages_of_logs (take at logs)) log n → n < length log.messages → v ≡ get_or log.messages n v
+pub walked_found : (sites : ℕ) (seen after : Seen) (clock : MessageCounts) (last : Option Message) (shards : List ShardState) (logs : List Log) (at : ℕ)
+    (log : Log) (n : ℕ) (v : Message) (k : Kind)
+    → at < length logs → log ≡ get_or logs at log → Walks sites seen clock last shards (messages_of_logs (take at logs)) log n → n < length log.messages → v
+    ≡ get_or log.messages n v
     → first_of (checks (messages_of_logs (take at logs)) log.site (take n log.messages) v) ≡ Some k → IsWalked after logs at (Some (k, n + 1))
 walked_found sites seen after clock last shards logs at log n v k l e w m i f other g = (
   subst (λ x. Some (k, n + 1) ≡ log_fault (messages_of_logs (take at logs)) x) (same_log logs at log other l e g)
-      (sym (ap (λ o. option_or o (cond (wrong_rows log) (Some (kind.Rows, 0)) None)) (w.rest ∙ step_is (messages_of_logs (take at logs)) log n v (Some k) m i f))),
+      (sym (ap (λ o. option_or o (cond (wrong_rows log) (Some (kind.Rows, 0)) None))
+      (w.rest ∙ step_is (messages_of_logs (take at logs)) log n v (Some k) m i f))),
   λ q. absurd cc,
 )
 
@@ -224,10 +243,12 @@ claims_none None e = refl
 claims_none (Some rows) e = (λ i. not (same_rows (e i) (nothing_shown i)))
 
 -- of a log of nothing
-pub walked_nothing : (seen : Seen) (logs : List Log) (at : ℕ) (log : Log) → at < length logs → log ≡ get_or logs at log → log.messages ≡ [] → unwrap_or log.rows [] ≡ []
+pub walked_nothing : (seen : Seen) (logs : List Log) (at : ℕ) (log : Log) → at < length logs → log ≡ get_or logs at log → log.messages ≡ [] →
+    unwrap_or log.rows [] ≡ []
     → Walked seen (take at logs) → IsWalked seen logs at None
 walked_nothing seen logs at log l e m r w other g = (
-  subst (λ (x : Log). None ≡ log_fault (messages_of_logs (take at logs)) x) same (λ i. option_or (first_fault (messages_of_logs (take at logs)) log.site [] (sym m i)) (cond (none_wrong i) (Some (kind.Rows, 0)) None)),
+  subst (λ (x : Log). None ≡ log_fault (messages_of_logs (take at logs)) x) same
+      (λ i. option_or (first_fault (messages_of_logs (take at logs)) log.site [] (sym m i)) (cond (none_wrong i) (Some (kind.Rows, 0)) None)),
   λ q. record { known = subst (λ xs. IsFaultless xs []) (sym said) w.known; sees = subst (Sees seen) (sym said) w.sees },
 )
   where
@@ -238,19 +259,23 @@ walked_nothing seen logs at log l e m r w other g = (
     none_wrong = sym (claims_none log.rows r) ∙ (λ i. option_map_or (λ rows. not (same_rows rows (shown_rows (sym m i)))) log.rows false)
 
     said : messages_of_logs (take (at + 1) logs) ≡ messages_of_logs (take at logs)
-    said = next_said at logs other l g ∙ ap (λ xs. messages_of_logs (take at logs) ++ xs) (ap (λ (x : Log). x.messages) (sym same) ∙ m) ∙ append-nil (messages_of_logs (take at logs))
+    said = next_said at logs other l g ∙ ap (λ xs. messages_of_logs (take at logs) ++ xs) (ap (λ (x : Log). x.messages) (sym same) ∙ m)
+        ∙ append-nil (messages_of_logs (take at logs))
 
 rows_are : (others own : List Message) (shards : List ShardState) → HoldsLog 1 (cores own) shards → table_rows listing.Tables (union shards) ≡ shown_rows own
 rows_are others own shards h = ap (table_rows listing.Tables) (union_of_log 1 (cores own) shards (omega arith) h)
 
-pub walked_end : (sites : ℕ) (after : Seen) (clock : MessageCounts) (last : Option Message) (shards : List ShardState) (logs : List Log) (at : ℕ) (log : Log) (n : ℕ) (wrong : Bool)
+pub walked_end : (sites : ℕ) (after : Seen) (clock : MessageCounts) (last : Option Message) (shards : List ShardState) (logs : List Log) (at : ℕ) (log : Log)
+    (n : ℕ) (wrong : Bool)
     → at < length logs → log ≡ get_or logs at log → Walks sites after clock last shards (messages_of_logs (take at logs)) log n → length log.messages ≤ n
     → wrong ≡ option_map_or (λ rows. not (same_rows rows (table_rows listing.Tables (union shards)))) log.rows false
     → IsWalked after logs at (cond wrong (Some (kind.Rows, 0)) None)
 walked_end sites after clock last shards logs at log n wrong l e w m r other g = (
-  subst (λ x. cond wrong (Some (kind.Rows, 0)) None ≡ log_fault (messages_of_logs (take at logs)) x) same (sym (ap (λ o. option_or o (cond (wrong_rows log) (Some (kind.Rows, 0)) None)) none ∙ ap (λ b. cond b (Some (kind.Rows, 0)) None) (sym rows))),
+  subst (λ x. cond wrong (Some (kind.Rows, 0)) None ≡ log_fault (messages_of_logs (take at logs)) x) same
+      (sym (ap (λ o. option_or o (cond (wrong_rows log) (Some (kind.Rows, 0)) None)) none ∙ ap (λ b. cond b (Some (kind.Rows, 0)) None) (sym rows))),
   λ q. record {
-    known = subst (λ xs. IsFaultless xs []) (sym said_more) (known_log (messages_of_logs (take at logs)) log.messages (subst (IsFaultless (messages_of_logs (take at logs))) whole w.stands.known));
+    known = subst (λ xs. IsFaultless xs []) (sym said_more)
+        (known_log (messages_of_logs (take at logs)) log.messages (subst (IsFaultless (messages_of_logs (take at logs))) whole w.stands.known));
     sees = subst (Sees after) (sym said_more) (subst (λ xs. Sees after (messages_of_logs (take at logs) ++ xs)) whole w.stands.sees);
   },
 )
@@ -265,7 +290,8 @@ walked_end sites after clock last shards logs at log n wrong l e w m r other g =
     none = w.rest ∙ ap (first_fault (messages_of_logs (take at logs)) log.site (take n log.messages)) (drop_all n log.messages m)
 
     rows : wrong ≡ wrong_rows log
-    rows = r ∙ ap (λ rs. option_map_or (λ rows. not (same_rows rows rs)) log.rows false) (rows_are (messages_of_logs (take at logs)) log.messages shards (subst (λ xs. HoldsLog 1 (cores xs) shards) whole w.stands.holds))
+    rows = r ∙ ap (λ rs. option_map_or (λ rows. not (same_rows rows rs)) log.rows false)
+        (rows_are (messages_of_logs (take at logs)) log.messages shards (subst (λ xs. HoldsLog 1 (cores xs) shards) whole w.stands.holds))
 
     said_more : messages_of_logs (take (at + 1) logs) ≡ messages_of_logs (take at logs) ++ log.messages
     said_more = next_said at logs log l (g ∙ ap Some (sym same))
@@ -275,30 +301,36 @@ first_clear true k o e = absurd cc
 first_clear false k o e = refl
 
 -- where no check finds a fault, no other message has the id
-pub no_clash : (site : ℕ) (clock : MessageCounts) (last : Option Message) (t : Tables) (all : List Message) (v : Message) → first_of (checks_by site clock last t all v) ≡ None → clash_by_id all v ≡ false
+pub no_clash : (site : ℕ) (clock : MessageCounts) (last : Option Message) (t : Tables) (all : List Message) (v : Message) →
+    first_of (checks_by site clock last t all v) ≡ None → clash_by_id all v ≡ false
 no_clash site clock last t all v e = first_clear (clash_by_id all v) kind.Clash _ e
 
 -- the value of a shared entry of a log
-pub entry_is : (items messages : List Message) (n : ℕ) (shared v : Message) → items ≡ messages → shared ≡ get_or items n shared → v ≡ shared → v ≡ get_or messages n v
+pub entry_is : (items messages : List Message) (n : ℕ) (shared v : Message) → items ≡ messages → shared ≡ get_or items n shared → v ≡ shared → v
+    ≡ get_or messages n v
 entry_is items messages n shared v same is e = subst (λ xs. v ≡ get_or xs n v) same (subst (λ u. u ≡ get_or items n u) (sym e) is)
 
 -- a message of a log counts `sites` sites and belongs to one of them
-pub among_at : (sites : ℕ) (logs : List Log) (at : ℕ) (log : Log) (n : ℕ) (v : Message) → HaveMessagesAmong sites logs → at < length logs → log ≡ get_or logs at log
+pub among_at : (sites : ℕ) (logs : List Log) (at : ℕ) (log : Log) (n : ℕ) (v : Message) → HaveMessagesAmong sites logs → at < length logs → log
+    ≡ get_or logs at log
     → n < length log.messages → v ≡ get_or log.messages n v → IsMessage v → IsAmong sites v
 among_at sites logs at log n v all l e m i f =
     let many : sites_of v ≡ sites = all log (contained logs log (at, l, sym e)) v (contained log.messages v (n, m, sym i)) in
     record { conditions = f; counts = many; id = subst (λ k. IsId k v.stamp.id) many f.id }
 
-pub sites_at : (sites : ℕ) (logs : List Log) (at : ℕ) (log : Log) (n : ℕ) (v : Message) → HaveMessagesAmong sites logs → at < length logs → log ≡ get_or logs at log
+pub sites_at : (sites : ℕ) (logs : List Log) (at : ℕ) (log : Log) (n : ℕ) (v : Message) → HaveMessagesAmong sites logs → at < length logs → log
+    ≡ get_or logs at log
     → n < length log.messages → v ≡ get_or log.messages n v → sites_of v ≡ sites
 sites_at sites logs at log n v all l e m i = all log (contained logs log (at, l, sym e)) v (contained log.messages v (n, m, sym i))
 
 pub counts_of : (sites : ℕ) (seen : Seen) (clock : MessageCounts) (last : Option Message) (shards : List ShardState) (others : List Message) (log : Log) (n : ℕ)
     → Walks sites seen clock last shards others log n → length clock.counts ≡ sites
-counts_of sites seen clock last shards others log n w = ap (λ (k : MessageCounts). length k.counts) w.stands.clock_is ∙ length_counts sites (take n log.messages)
+counts_of sites seen clock last shards others log n w = ap (λ (k : MessageCounts). length k.counts) w.stands.clock_is
+    ∙ length_counts sites (take n log.messages)
 
 -- what was found by look-ups is what the checks find
-pub found_is : (sites : ℕ) (seen : Seen) (clock : MessageCounts) (last : Option Message) (shards : List ShardState) (others : List Message) (log : Log) (n : ℕ) (v : Message) (o : Option Kind)
+pub found_is : (sites : ℕ) (seen : Seen) (clock : MessageCounts) (last : Option Message) (shards : List ShardState) (others : List Message) (log : Log) (n : ℕ)
+    (v : Message) (o : Option Kind)
     → Walks sites seen clock last shards others log n → IsAmong sites v → IsMessage v
     → ((all : List Message) → Sees seen all → o ≡ first_of (checks_by log.site clock last (union shards) all v))
     → first_of (checks others log.site (take n log.messages) v) ≡ o
@@ -306,13 +338,16 @@ found_is sites seen clock last shards others log n v o w a f found =
     sym (found (others ++ take n log.messages) w.stands.sees ∙ fault_is sites log.site seen clock last shards others (take n log.messages) v w.stands a f)
 
 -- the number of an entry has room
-pub few_entries : (sites : ℕ) (seen : Seen) (clock : MessageCounts) (last : Option Message) (shards : List ShardState) (others : List Message) (log : Log) (n : ℕ)
+pub few_entries : (sites : ℕ) (seen : Seen) (clock : MessageCounts) (last : Option Message) (shards : List ShardState) (others : List Message) (log : Log)
+    (n : ℕ)
     → n < length log.messages → Walks sites seen clock last shards others log n → n + 1 < 2 ^ 32
 few_entries sites seen clock last shards others log n m w =
     let few = short others (take n log.messages) w.stands.known in
     let size = length-take-le n log.messages (omega arith) in
     omega (arith, few, size)
 
-pub ready_at : (sites : ℕ) (seen : Seen) (clock : MessageCounts) (last : Option Message) (shards : List ShardState) (others : List Message) (log : Log) (n : ℕ) (v : Message)
-    → Walks sites seen clock last shards others log n → IsAmong sites v → IsMessage v → first_of (checks others log.site (take n log.messages) v) ≡ None → IsReady clock v.stamp
+pub ready_at : (sites : ℕ) (seen : Seen) (clock : MessageCounts) (last : Option Message) (shards : List ShardState) (others : List Message) (log : Log) (n : ℕ)
+    (v : Message)
+    → Walks sites seen clock last shards others log n → IsAmong sites v → IsMessage v → first_of (checks others log.site (take n log.messages) v) ≡ None →
+    IsReady clock v.stamp
 ready_at sites seen clock last shards others log n v w a f e = ready_now sites log.site seen clock last shards others (take n log.messages) v w.stands a f e

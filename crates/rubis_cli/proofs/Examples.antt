@@ -3,7 +3,8 @@ use Rattle.std.proofs.Common.{◌≡◌, List, [], ◌∷◌, refl}
 use Rattle.std.specs.Prelude.{Option, Some, codes}
 use Rattle.std.specs.Option.{option_map}
 use Rattle.clap.specs.Words.{Text, fault_of, one_of, subcommand_of}
-use Rattle.clap.specs.declared.error.kind.ErrorKind.TheVariants.{DisplayHelp, DisplayVersion, InvalidSubcommand, MissingSubcommand, UnknownArgument, ValueValidation}
+use Rattle.clap.specs.declared.error.kind.ErrorKind.TheVariants.{DisplayHelp, DisplayVersion, InvalidSubcommand, MissingSubcommand, UnknownArgument}
+use Rattle.clap.specs.declared.error.kind.ErrorKind.TheVariants.{ValueValidation}
 use Rattle.clap.proofs.OnLiterals.{clap_on_literals}
 use Rattle.rubis_cli.specs.CommandLine.{command_line}
 

@@ -12,12 +12,16 @@ use Rattle.clap.proofs.OnLiterals.{clap_on_literals}
 use Rattle.rubis_cli.specs.CommandLine.{IsFaultAmong, command_line, fault_by}
 
 -- a number that was read of a text is the number that it writes
-pub number_read : (bits : ℕ) (t : Text) (r : Option ℕ) → ReadsOne (λ bs x. ParsesUnsigned bits 10 bs x × ExplainsUnsignedError 10 bs x × HasUnsignedDigitsIfOk bs x) t r → IsNumeral 10 (without_leading_plus t) → digits_value 10 (without_leading_plus t) < 2 ^ bits → unwrap_or r 0 ≡ digits_value 10 (without_leading_plus t)
+pub number_read : (bits : ℕ) (t : Text) (r : Option ℕ) →
+    ReadsOne (λ bs x. ParsesUnsigned bits 10 bs x × ExplainsUnsignedError 10 bs x × HasUnsignedDigitsIfOk bs x) t r → IsNumeral 10 (without_leading_plus t) →
+    digits_value 10 (without_leading_plus t) < 2 ^ bits → unwrap_or r 0 ≡ digits_value 10 (without_leading_plus t)
 number_read bits t (Some n) read numeral fits = read.0.1
 number_read bits t None read numeral fits = absurd (read.1.0 (numeral, fits))
 
 -- the same where the option may not be given
-pub given_read : (bits : ℕ) (t : Text) (r : Option ℕ) → ReadsOne (λ bs x. ParsesUnsigned bits 10 bs x × ExplainsUnsignedError 10 bs x × HasUnsignedDigitsIfOk bs x) t r → IsNumeral 10 (without_leading_plus t) → digits_value 10 (without_leading_plus t) < 2 ^ bits → r ≡ Some (digits_value 10 (without_leading_plus t))
+pub given_read : (bits : ℕ) (t : Text) (r : Option ℕ) →
+    ReadsOne (λ bs x. ParsesUnsigned bits 10 bs x × ExplainsUnsignedError 10 bs x × HasUnsignedDigitsIfOk bs x) t r → IsNumeral 10 (without_leading_plus t) →
+    digits_value 10 (without_leading_plus t) < 2 ^ bits → r ≡ Some (digits_value 10 (without_leading_plus t))
 given_read bits t (Some n) read numeral fits = ap (λ m. Some m) read.0.1
 given_read bits t None read numeral fits = absurd (read.1.0 (numeral, fits))
 
@@ -61,7 +65,8 @@ fault_among kinds e h = by_kind kinds e (kind_of e) refl h
 
 -- the name and the rows of what was entered, together
 pub entered_by : {B : Type 0} (name : B → Text) (rows : B → List Row) (o : Option B) (n : Text) (r : List Row) → Some n ≡ option_map name o
-    → Some r ≡ option_map (λ (p : Text × List Row). p.1) (option_map {U = Text × List Row} (λ b. (name b, rows b)) o) → option_map {U = Text × List Row} (λ b. (name b, rows b)) o ≡ Some (n, r)
+    → Some r ≡ option_map (λ (p : Text × List Row). p.1) (option_map {U = Text × List Row} (λ b. (name b, rows b)) o) →
+    option_map {U = Text × List Row} (λ b. (name b, rows b)) o ≡ Some (n, r)
 entered_by name rows None n r e f = absurd cc
 entered_by name rows (Some b) n r e f =
     let p : n ≡ name b = cc in
@@ -72,7 +77,8 @@ entered_by name rows (Some b) n r e f =
 pub fits_line : (a : App) (words : List Text) → a ≡ command_line → fault_of a words ≡ [] → fault_of command_line words ≡ []
 fits_line a words line none = subst (λ x. fault_of x words ≡ []) line none
 
-pub entered_line : (a : App) (words : List Text) (m : ArgMatches) (p : Text × List Row) → a ≡ command_line → HasMatchesOf a words m → subcommand_rows_of m ≡ Some p
+pub entered_line : (a : App) (words : List Text) (m : ArgMatches) (p : Text × List Row) → a ≡ command_line → HasMatchesOf a words m → subcommand_rows_of m
+    ≡ Some p
     → subcommand_of command_line words ≡ Some p
 entered_line a words m p line has rows =
     subst (λ x. subcommand_of x words ≡ Some p) line (sym (has (ap is_simple line ∙ line_is_simple)).1 ∙ rows)

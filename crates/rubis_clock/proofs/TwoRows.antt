@@ -1,10 +1,12 @@
 -- Counts in two rows.
-use Rattle.std.proofs.Common.{ℕ, zero, suc, ◌≡◌, ◌+◌, ◌*◌, ◌<◌, ◌≤◌, List, [], ◌∷◌, ◌++◌, length, take, get_or, refl, sym, ap, ◌∙◌, arith, ◌/◌, ◌%◌, cond, true, false, Bool}
+use Rattle.std.proofs.Common.{ℕ, zero, suc, ◌≡◌, ◌+◌, ◌*◌, ◌<◌, ◌≤◌, List, [], ◌∷◌, ◌++◌, length, take, get_or, refl, sym, ap, ◌∙◌, arith, ◌/◌, ◌%◌, cond, true}
+use Rattle.std.proofs.Common.{false, Bool}
 use Rattle.std.specs.Prelude.{slice_set, slice_index}
 use Rattle.std.proofs.lemmas.List.{length-take, take_more, take_more_set, get_or-take}
 use Rattle.rubis_clock.specs.Packed.{counts_of, halves, joined}
 
-pub joined_at : (low high : List ℕ) (i : ℕ) → i < length low → i < length high → slice_index (joined low high) i ≡ slice_index low i + 65536 * slice_index high i
+pub joined_at : (low high : List ℕ) (i : ℕ) → i < length low → i < length high → slice_index (joined low high) i
+    ≡ slice_index low i + 65536 * slice_index high i
 joined_at [] high i p q = absurd (omega arith)
 joined_at (l ∷ low) [] i p q = absurd (omega arith)
 joined_at (l ∷ low) (h ∷ high) zero p q = refl
@@ -23,7 +25,8 @@ joined_set (l ∷ low) (h ∷ high) zero a b = refl
 joined_set (l ∷ low) (h ∷ high) (suc i) a b = ap (λ xs. (l + 65536 * h) ∷ xs) (joined_set low high i a b)
 
 -- with one count more in the rows, they have one more of the counts
-pub packed_more : (low high counts : List ℕ) (i a b : ℕ) → i < length low → length low ≡ length high → i < length counts → a + 65536 * b ≡ slice_index counts i →
+pub packed_more : (low high counts : List ℕ) (i a b : ℕ) → i < length low → length low ≡ length high → i < length counts → a + 65536 * b
+    ≡ slice_index counts i →
     take i (joined low high) ≡ take i counts → take (i + 1) (joined (slice_set low i a) (slice_set high i b)) ≡ take (i + 1) counts
 packed_more low high counts i a b p e q v h =
     ap (λ xs. take (i + 1) xs) (joined_set low high i a b)
@@ -88,7 +91,8 @@ half_at pairs i false e o l =
     sym (second_at pairs (i / 2) (omega (arith, l))) ∙ ap (λ j. slice_index (halves pairs) j) place
 
 pub half_set : (pairs : List ℕ) (i b : ℕ) (first : Bool) → (first ≡ true → i % 2 ≡ 0) → (first ≡ false → i % 2 ≡ 1) → b < 16 →
-    halves (slice_set pairs (i / 2) (cond first (slice_index pairs (i / 2) / 16 * 16 + b) (slice_index pairs (i / 2) % 16 + 16 * b))) ≡ slice_set (halves pairs) i b
+    halves (slice_set pairs (i / 2) (cond first (slice_index pairs (i / 2) / 16 * 16 + b) (slice_index pairs (i / 2) % 16 + 16 * b)))
+    ≡ slice_set (halves pairs) i b
 half_set pairs i b true e o l =
     let t = twice_is (i / 2) in
     let r = e refl in
@@ -104,7 +108,8 @@ half_set pairs i b false e o l =
 pub counts_more : (low pairs counts : List ℕ) (i a b : ℕ) (first : Bool) → (first ≡ true → i % 2 ≡ 0) → (first ≡ false → i % 2 ≡ 1) →
     length low ≡ 16 → length pairs ≡ 8 → i < 16 → b < 16 → i < length counts → a + 65536 * b ≡ slice_index counts i →
     take i (counts_of low pairs) ≡ take i counts →
-    take (i + 1) (counts_of (slice_set low i a) (slice_set pairs (i / 2) (cond first (slice_index pairs (i / 2) / 16 * 16 + b) (slice_index pairs (i / 2) % 16 + 16 * b)))) ≡ take (i + 1) counts
+    take (i + 1) (counts_of (slice_set low i a)
+    (slice_set pairs (i / 2) (cond first (slice_index pairs (i / 2) / 16 * 16 + b) (slice_index pairs (i / 2) % 16 + 16 * b)))) ≡ take (i + 1) counts
 counts_more low pairs counts i a b first e o one two few l q v h =
     let n = length_halves pairs in
     ap (λ hs. take (i + 1) (joined (slice_set low i a) hs)) (half_set pairs i b first e o l)
@@ -119,7 +124,8 @@ count_at low pairs used i first e o a b l =
     let n = length-take used (counts_of low pairs) in
     let m = length_joined low (halves pairs) (omega (arith, a, b, k)) in
     ap (λ x. slice_index low i + 65536 * x) (half_at pairs i first e o (omega (arith, n, m, a, b, l)))
-    ∙ sym (get_or-take used (counts_of low pairs) i 0 (omega (arith, n, l)) ∙ joined_at low (halves pairs) i (omega (arith, n, m, a, l)) (omega (arith, n, m, a, b, k, l)))
+    ∙ sym (get_or-take used (counts_of low pairs) i 0 (omega (arith, n, l))
+    ∙ joined_at low (halves pairs) i (omega (arith, n, m, a, l)) (omega (arith, n, m, a, b, k, l)))
 
 pub length_used : (low pairs : List ℕ) (used : ℕ) → length low ≡ 16 → length pairs ≡ 8 → used ≤ 16 → length (take used (counts_of low pairs)) ≡ used
 length_used low pairs used a b l =

@@ -1,5 +1,6 @@
 -- Rows that are written as text are read back.
-use Rattle.std.proofs.Common.{◌≡◌, ◌≢◌, ◌<◌, ◌≤◌, ◌+◌, ◌∷◌, [], ◌++◌, ◌∙◌, ◌==◌, ℕ, zero, suc, List, length, false, if◌then◌else◌, inl, inr, refl, ap, arith, length-append}
+use Rattle.std.proofs.Common.{◌≡◌, ◌≢◌, ◌<◌, ◌≤◌, ◌+◌, ◌∷◌, [], ◌++◌, ◌∙◌, ◌==◌, ℕ, zero, suc, List, length, false, if◌then◌else◌, inl, inr, refl, ap, arith}
+use Rattle.std.proofs.Common.{length-append}
 use Rattle.std.specs.Prelude.{get_or}
 use Rattle.csv.specs.Machine.{next_record}
 use Rattle.csv.specs.Reading.{default_config, records_from, records_next, strip_bom}
@@ -56,7 +57,8 @@ rows_from (row ∷ rows) (suc n) few some =
 
 long_enough : (rows : List (List (List ℕ))) → length rows ≤ length (rows_text rows)
 long_enough [] = omega arith
-long_enough (row ∷ rows) = let more = long_enough rows in let one = some_text row in omega (arith, more, one, length-append (row_text plain_writer row) (rows_text rows))
+long_enough (row ∷ rows) = let more = long_enough rows in let one = some_text row in
+    omega (arith, more, one, length-append (row_text plain_writer row) (rows_text rows))
 
 -- a text that begins with no byte order mark
 abbrev pub HasNoMark : List ℕ → Type 0

@@ -1,7 +1,10 @@
 -- What a read does to the records that a reader has still to give.
-use Rattle.std.proofs.Common.{◌≡◌, ◌<◌, ◌≤◌, ◌+◌, ◌-◌, ◌∷◌, [], ◌++◌, ◌∙◌, ◌==◌, ◌&&◌, inl, ℕ, zero, suc, List, length, Option, Some, None, Bool, true, false, if◌then◌else◌, IfSome, option_map, sym, refl, ap, subst, arith}
-use Rattle.csv.specs.Machine.{Read, after_end, ends_at_end, ends_with, field_after, fields_after, in_field, is_byte, is_end, next_record, start_field, start_record, step}
-use Rattle.csv.specs.Reading.{Reached, ReadRecord, Ready, default_config, reader_config, reader_state, reader_trim, records_from, source_of, strip_bom, took_first}
+use Rattle.std.proofs.Common.{◌≡◌, ◌<◌, ◌≤◌, ◌+◌, ◌-◌, ◌∷◌, [], ◌++◌, ◌∙◌, ◌==◌, ◌&&◌, inl, ℕ, zero, suc, List, length, Option, Some, None, Bool, true, false}
+use Rattle.std.proofs.Common.{if◌then◌else◌, IfSome, option_map, sym, refl, ap, subst, arith}
+use Rattle.csv.specs.Machine.{Read, after_end, ends_at_end, ends_with, field_after, fields_after, in_field, is_byte, is_end, next_record, start_field}
+use Rattle.csv.specs.Machine.{start_record, step}
+use Rattle.csv.specs.Reading.{Reached, ReadRecord, Ready, default_config, reader_config, reader_state, reader_trim, records_from, source_of, strip_bom}
+use Rattle.csv.specs.Reading.{took_first}
 use Rattle.csv.specs.declared.parser.Config.{Config}
 use Rattle.csv.specs.declared.parser.Terminator.{Terminator}
 use Rattle.csv.specs.declared.parser.Terminator.TheVariants as term
@@ -53,7 +56,8 @@ next-shorter : (cfg : Config) (s : State) (fields : List (List ℕ)) (field : Li
     → next_record cfg s fields field xs ≡ Some p → (length p.2 ≤ length xs - 1) × (ends_at_end p.1 ≡ false)
 unfolding next_record
 next-shorter cfg s fields field [] p =
-    elim (ends_at_end s) as (λ b. (if b then Some (fields ++ (field ∷ []), st.StartRecord, []) else None) ≡ Some p → (length p.2 ≤ 0 - 1) × (ends_at_end p.1 ≡ false)) [
+    elim (ends_at_end s) as
+    (λ b. (if b then Some (fields ++ (field ∷ []), st.StartRecord, []) else None) ≡ Some p → (length p.2 ≤ 0 - 1) × (ends_at_end p.1 ≡ false)) [
       | true ↦ λ e.
           let rest : p.2 ≡ [] = cc e in
           let state : p.1 ≡ st.StartRecord = cc e in

@@ -1,5 +1,6 @@
 -- How a row goes on.
-use Rattle.std.proofs.Common.{drop, ◌<◌, ◌≤◌, ◌≡◌, ◌==◌, ◌||◌, ◌&&◌, Bool, ◌∙◌, ◌+◌, ◌-◌, ◌^◌, ◌∷◌, [], ◌++◌, ℕ, zero, suc, List, length, Vec, Global, refl, subst, sym, ap, true, false, append_assoc, arith, length-append}
+use Rattle.std.proofs.Common.{drop, ◌<◌, ◌≤◌, ◌≡◌, ◌==◌, ◌||◌, ◌&&◌, Bool, ◌∙◌, ◌+◌, ◌-◌, ◌^◌, ◌∷◌, [], ◌++◌, ℕ, zero, suc, List, length, Vec, Global, refl}
+use Rattle.std.proofs.Common.{subst, sym, ap, true, false, append_assoc, arith, length-append}
 use Rattle.std.specs.Prelude.{Err, IfSome, None, Ok, OnOk, Option, Result, Some, min, not, slice_index_or}
 use Rattle.std.specs.Borrow.{Bor}
 use Rattle.std.specs.Cmp.Derive.{both_true}
@@ -9,7 +10,8 @@ use Rattle.std.proofs.lemmas.Bool.{both_ways, ne_eqb, not-true}
 use Rattle.std.proofs.lemmas.List.{append-nil}
 use Rattle.csv.proofs.WriteFacts.{blank-more, row-more}
 use Rattle.csv.specs.Machine.{line_feed}
-use Rattle.csv.specs.Writing.{field_text, fields_text, fields_written, has_written, is_blank, needs_byte, needs_quotes, next_sep, row_body, row_text, tail_text, writer_setup}
+use Rattle.csv.specs.Writing.{field_text, fields_text, fields_written, has_written, is_blank, needs_byte, needs_quotes, next_sep, row_body, row_text, tail_text}
+use Rattle.csv.specs.Writing.{writer_setup}
 use Rattle.csv.specs.declared.writer.Writer.{Writer}
 use Rattle.std.specs.List.{list_any}
 use Rattle.rubis_schema.specs.FieldList.{all_plain, comma, is_mark, is_plain, joined}
@@ -126,7 +128,8 @@ prefix-joined [] fields some = refl
 prefix-joined (f ∷ rest) fields some =
     let more : 0 < length (rest ++ fields) = omega (arith, length-append rest fields, some) in
     let behind = comma-first (rest ++ fields) more ∙ ap (λ t. comma ∷ t) (prefix-joined rest fields some) in
-    ap (λ t. f ++ t) behind ∙ sym (append_assoc f (comma ∷ []) (prefix_text rest ++ drop 1 (joined fields))) ∙ sym (append_assoc (f ++ comma ∷ []) (prefix_text rest) (drop 1 (joined fields)))
+    ap (λ t. f ++ t) behind ∙ sym (append_assoc f (comma ∷ []) (prefix_text rest ++ drop 1 (joined fields)))
+    ∙ sym (append_assoc (f ++ comma ∷ []) (prefix_text rest) (drop 1 (joined fields)))
 
 -- a text of plain fields, found after plain ones, makes a plain row with them
 abbrev pub MakesRow : List (List ℕ) → List (List ℕ) → List ℕ → Type 0

@@ -1,5 +1,6 @@
 -- How a run goes on.
-use Rattle.std.proofs.Common.{◌≡◌, ◌≤◌, ◌<◌, ◌+◌, ◌∷◌, [], ◌++◌, ◌∙◌, ℕ, List, length, take, Option, Bool, true, false, inl, inr, sym, refl, ap, subst, arith, append_assoc, length-append}
+use Rattle.std.proofs.Common.{◌≡◌, ◌≤◌, ◌<◌, ◌+◌, ◌∷◌, [], ◌++◌, ◌∙◌, ℕ, List, length, take, Option, Bool, true, false, inl, inr, sym, refl, ap, subst, arith}
+use Rattle.std.proofs.Common.{append_assoc, length-append}
 use Rattle.std.specs.Prelude.{IfNone, IfOk, IfSome, IsErr, IsErrAnd, IsErrOf, OnOk, None, Some, Result, Ok, Err, is_some}
 use Rattle.std.proofs.lemmas.List.{append-nil}
 use Rattle.std.proofs.Math.Seq.{take-append_seam}
@@ -126,8 +127,11 @@ progress-ended rem a b all more more2 old now now2 sink sink2 n input p takes an
     ap (all.text AtEnd) whole ∙ p.told AtEnd (fields_now b ∷ left) ∙ ap (λ t. p.written ++ t) (answered left).0 in
     let read : all.read (input_records input) ≡ length p.done + more.read (fields_now b ∷ left) = ap all.read whole ∙ p.counted (fields_now b ∷ left) in
     let one = (answered left).1 in
-    let count = p.count in
-    (subst (λ (t : List ℕ). Appends old now2 t) (sym text) (appends-more old now now2 p.written sink2 p.appended out), omega (arith, read, one, count), omega arith)
+    let count = p.count in (
+      subst (λ (t : List ℕ). Appends old now2 t) (sym text) (appends-more old now now2 p.written sink2 p.appended out),
+      omega (arith, read, one, count),
+      omega arith,
+    )
 
 take-prefix : (xs ys : List (List (List ℕ))) (k : ℕ) → length xs ≡ k → take k (xs ++ ys) ≡ xs
 take-prefix xs ys k e = subst (λ j. take j (xs ++ ys) ≡ xs) e (take-append_seam xs ys)
@@ -218,7 +222,8 @@ if_ok_so P Q (Err e) f p = tt
 pub progress-stays : {R : Type 0} (rem : R → Option (List ℕ)) (a : Records R) (all more : Account)
     (old now now2 : Option (List ℕ)) (sink : List ℕ) (n : ℕ) (input : List ℕ)
     → HasComeSoFar rem a all more old now sink n input → now2 ≡ now → WrotePrefix (all.text AtEnd) old now2 (input_records input)
-progress-stays rem a all more old now now2 sink n input p same = prefix-same (all.text AtEnd) old now now2 (input_records input) (progress-prefix rem a all more old now sink n input p) same
+progress-stays rem a all more old now now2 sink n input p same = prefix-same (all.text AtEnd) old now now2 (input_records input)
+    (progress-prefix rem a all more old now sink n input p) same
 
 -- an error that `?` hands on is the one that was met
 pub handed_on : {A E : Type 0} (r : Result A E) (met given : E) → IsErr r × IsErrAnd r (λ e. e ≡ met) → IsErrOf r given → met ≡ given
@@ -251,7 +256,8 @@ progress-moved rem a all more more2 old now now2 sink sink2 n input p same writt
 -- ---- how a run ends
 
 -- a run from the first record of its input on ends so
-pub ends_so : {R : Type 0} (rem : R → Option (List ℕ)) (run : Run R) (all : Account) (limit : ℕ) (input old new : Option (List ℕ)) (result : Result Count RunFault)
+pub ends_so : {R : Type 0} (rem : R → Option (List ℕ)) (run : Run R) (all : Account) (limit : ℕ) (input old new : Option (List ℕ))
+    (result : Result Count RunFault)
     → IfSome input (λ bytes. Gives rem run.records (input_records bytes)) → run.reply.sink ≡ []
     → IfOk result (λ count. FromStart rem run (λ records. IsDone all limit old new records count.records))
     → (IsErrOf result fault.TooLong → FromStart rem run (λ records. IsTooLong all limit old new records))

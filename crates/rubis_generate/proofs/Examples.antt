@@ -3,7 +3,8 @@ use Rattle.std.proofs.Common.{ℕ, ◌≡◌, [], true, false, refl, Some, None}
 use Rattle.std.specs.Prelude.{pos, codes, Ok, Err, cond}
 use Rattle.rubis_schema.specs.Keys.{same_id}
 use Rattle.rubis_schema.specs.declared.ids.Id.{Id}
-use Rattle.rubis_schema.specs.declared.refusals.Refusal.TheVariants.{Full, NoToken, RedBehind, NickTaken, NoUser, NoItem, Closed, LowBid, NotSeller, OwnItem, NoBuyNow, SelfComment}
+use Rattle.rubis_schema.specs.declared.refusals.Refusal.TheVariants.{Full, NoToken, RedBehind, NickTaken, NoUser, NoItem, Closed, LowBid, NotSeller, OwnItem}
+use Rattle.rubis_schema.specs.declared.refusals.Refusal.TheVariants.{NoBuyNow, SelfComment}
 use Rattle.rubis_schema.specs.declared.row_keys.RowKey.TheVariants as key
 use Rattle.rubis_schema.specs.declared.rows.ItemRow.{ItemRow}
 use Rattle.rubis_schema.specs.declared.rows.Row.TheVariants as row

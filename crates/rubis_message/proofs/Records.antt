@@ -15,9 +15,15 @@ use Rattle.rubis_shadow.specs.declared.shadows.Shadow.{Shadow}
 use Rattle.rubis_shadow.specs.declared.shadows.Shadow.TheVariants as shadow
 use Rattle.rubis_clock.specs.declared.stamps.Stamp.{Stamp}
 use Rattle.rubis_message.specs.Message.{Message, IsMessage}
-use Rattle.rubis_message.specs.Grammar.{token_version, HasShadowTexts, IsListing, IsMessageAmong, IsPacket, IsRequest, IsStamp, IsToken, asked_close_fields, asked_rename_fields, asked_restock_fields, bid_fields, close_fields, comment_fields, item_fields, listing_fields, message_fields, message_record, packet_record, purchase_fields, request_record, rename_fields, restock_fields, shadow_fields, stamp_fields, token_fields, token_record}
+use Rattle.rubis_message.specs.Grammar.{token_version, HasShadowTexts, IsListing, IsMessageAmong, IsPacket, IsRequest, IsStamp, IsToken, asked_close_fields}
+use Rattle.rubis_message.specs.Grammar.{asked_rename_fields, asked_restock_fields, bid_fields, close_fields, comment_fields, item_fields, listing_fields}
+use Rattle.rubis_message.specs.Grammar.{message_fields, message_record, packet_record, purchase_fields, request_record, rename_fields, restock_fields}
+use Rattle.rubis_message.specs.Grammar.{shadow_fields, stamp_fields, token_fields, token_record}
 use Rattle.rubis_message.specs.Forms.{followed_by, give, none, mapped, one, take_id, take_number, take_positive}
-use Rattle.rubis_message.specs.Readings.{agrees, listing_by, packet_of, request_by, request_of, shadow_by, take_asked_close, take_asked_rename, take_asked_restock, take_bid, take_close, take_comment, take_item, take_kind, take_listing, take_message, take_packet, take_purchase, take_rename, take_request, take_restock, take_shadow, take_shown, take_stamp, take_token, all_shown, kind_of, kind_text, kinds, shown_of, shown_text}
+use Rattle.rubis_message.specs.Readings.{agrees, listing_by, packet_of, request_by, request_of, shadow_by, take_asked_close, take_asked_rename}
+use Rattle.rubis_message.specs.Readings.{take_asked_restock, take_bid, take_close, take_comment, take_item, take_kind, take_listing, take_message, take_packet}
+use Rattle.rubis_message.specs.Readings.{take_purchase, take_rename, take_request, take_restock, take_shadow, take_shown, take_stamp, take_token, all_shown}
+use Rattle.rubis_message.specs.Readings.{kind_of, kind_text, kinds, shown_of, shown_text}
 use Rattle.rubis_message.specs.declared.faults.ReadFault.{ReadFault}
 use Rattle.rubis_message.specs.declared.faults.ReadFault.TheVariants.{BadRecord}
 use Rattle.rubis_message.specs.declared.kinds.RecordKind.{RecordKind}
@@ -31,7 +37,8 @@ use Rattle.rubis_message.specs.declared.tokens.Packet.{Packet}
 use Rattle.rubis_message.specs.declared.tokens.Packet.TheVariants as packet
 use Rattle.rubis_schema.proofs.FieldLaws.{id_is, name_is, nick_is, rating_is, text_is}
 use Rattle.rubis_message.proofs.Fields.{deps_is, winner_is}
-use Rattle.rubis_message.proofs.Forms.{IsBehind, IsForm, alone, behind, by_word, check_back, check_only, given, in_words, made_back, made_only, said_is, number_form, one_is, one_value, positive_form, site_form, then_back, then_only, whole_back, whole_only}
+use Rattle.rubis_message.proofs.Forms.{IsBehind, IsForm, alone, behind, by_word, check_back, check_only, given, in_words, made_back, made_only, said_is}
+use Rattle.rubis_message.proofs.Forms.{number_form, one_is, one_value, positive_form, site_form, then_back, then_only, whole_back, whole_only}
 
 -- ---- words
 

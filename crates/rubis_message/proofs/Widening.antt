@@ -36,7 +36,8 @@ more_limits few sites (Item n) l h = record { seller = more few sites n.seller l
 more_limits few sites (Bid b) l h = record { item = more few sites b.item l h.item; bidder = more few sites b.bidder l h.bidder; amount = h.amount }
 more_limits few sites (Buy p) l h = record { item = more few sites p.item l h.item; buyer = more few sites p.buyer l h.buyer; quantity = h.quantity }
 more_limits few sites (Close c) l h = (more few sites c.item l h.0, h.1, more_some few sites c.winner l h.2)
-more_limits few sites (Comment c) l h = record { item = more few sites c.item l h.item; from = more few sites c.from l h.from; to = more few sites c.to l h.to; rating = h.rating }
+more_limits few sites (Comment c) l h =
+    record { item = more few sites c.item l h.item; from = more few sites c.from l h.from; to = more few sites c.to l h.to; rating = h.rating }
 more_limits few sites x l h = (more few sites _ l h.0, h.1)
 
 pub widened_is : (sites : ℕ) (m : Message) → IsMessage m → sites_of m ≤ sites → sites ≤ COUNTED_MAX → IsMessage (widened sites m)
@@ -44,7 +45,8 @@ widened_is sites m h l few = record {
   sites = subst (λ n. n ≤ COUNTED_MAX) (sym long) few;
   id = subst (λ n. IsId n m.stamp.id) (sym long) (more (sites_of m) sites m.stamp.id l h.id);
   own = h.own ∙ ap (λ n. n + 1) (sym (get_or_append_left m.stamp.deps (replicate (sites - sites_of m) 0) 0 m.stamp.id.site h.id.site));
-  counts = All-append (λ n. n ≤ COUNT_MAX) m.stamp.deps (replicate (sites - sites_of m) 0) h.counts (All-replicate (λ n. n ≤ COUNT_MAX) (sites - sites_of m) 0 (omega arith));
+  counts = All-append (λ n. n ≤ COUNT_MAX) m.stamp.deps (replicate (sites - sites_of m) 0) h.counts
+      (All-replicate (λ n. n ≤ COUNT_MAX) (sites - sites_of m) 0 (omega arith));
   red = h.red;
   colour = h.colour;
   shadow = subst (λ n. InLimits n m.shadow) (sym long) (more_limits (sites_of m) sites m.shadow l h.shadow);
@@ -58,7 +60,8 @@ was_ok true x y s e = (refl, cc)
 was_ok false x y s e = absurd cc
 
 -- what the widening of its stamp gives
-pub widened_meets : (sites : ℕ) (m : Message) (y : Stamp) → IsMessage m → stamps.widening sites m.stamp ≡ Ok y → IsMessage (record { stamp = y; shadow = m.shadow })
+pub widened_meets : (sites : ℕ) (m : Message) (y : Stamp) → IsMessage m → stamps.widening sites m.stamp ≡ Ok y →
+    IsMessage (record { stamp = y; shadow = m.shadow })
 widened_meets sites m y h e =
     let w = was_ok (stamps.widens sites m.stamp) (stamps.widened sites m.stamp) y m.stamp e in
     let t = and_parts (nat_le (sites_of m) sites) (nat_le sites COUNTED_MAX) w.0 in

@@ -38,7 +38,8 @@ get-after_both t e f n q =
 
 -- in either order the same tables, and the same misfit for each part
 pub parts_commute : (t : Tables) (e f : Effect) → ¬ (e.key ≡ f.key)
-    → (after_part (after_part t e) f ≡ after_part (after_part t f) e) × (misfit_of (after_part t e) f ≡ misfit_of t f) × (misfit_of (after_part t f) e ≡ misfit_of t e)
+    → (after_part (after_part t e) f ≡ after_part (after_part t f) e) × (misfit_of (after_part t e) f ≡ misfit_of t f)
+    × (misfit_of (after_part t f) e ≡ misfit_of t e)
 parts_commute t e f n =
     let m : ¬ (f.key ≡ e.key) = λ p. n (sym p) in (
       same_tables _ _ (λ q. get-after_both t e f m q

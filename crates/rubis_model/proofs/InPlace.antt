@@ -1,6 +1,7 @@
 -- Misfits stand in the order of their places, and that fixes the list: it is the only list in that order with the
 -- shards' misfits and no others.
-use Rattle.std.proofs.Common.{ℕ, ◌≡◌, ◌+◌, ◌≤◌, ◌<◌, List, [], ◌∷◌, ◌++◌, Bool, true, false, cond, refl, sym, ap, ◌∙◌, subst, arith, Option, Some, None, inl, inr, ⊎_elim}
+use Rattle.std.proofs.Common.{ℕ, ◌≡◌, ◌+◌, ◌≤◌, ◌<◌, List, [], ◌∷◌, ◌++◌, Bool, true, false, cond, refl, sym, ap, ◌∙◌, subst, arith, Option, Some, None, inl}
+use Rattle.std.proofs.Common.{inr, ⊎_elim}
 use Rattle.std.specs.Prelude.{◌⊎◌, ◌↔◌, ⊤, nat_eq, filter}
 use Rattle.std.proofs.lemmas.Bool.Decides.{Decides-eqb}
 use Rattle.std.proofs.lemmas.Nat.{mod_below}
@@ -70,7 +71,8 @@ noted_part shards k (o ∷ os) z m = at (nat_eq (home_of shards o) k) m (noted_p
     at : (b : Bool) → Has z (all_noted (cond b (o ∷ filter (λ o. nat_eq (home_of shards o) k) os) (filter (λ o. nat_eq (home_of shards o) k) os)))
         → (Has z (all_noted (filter (λ o. nat_eq (home_of shards o) k) os)) → Has z (all_noted os)) → Has z (noted o.0 o.1 ++ all_noted os)
     at true m ih =
-        ⊎_elim (λ l. has_left z (noted o.0 o.1) (all_noted os) l) (λ r. has_right z (noted o.0 o.1) (all_noted os) (ih r)) (has_append z (noted o.0 o.1) (all_noted (filter (λ o. nat_eq (home_of shards o) k) os)) m)
+        ⊎_elim (λ l. has_left z (noted o.0 o.1) (all_noted os) l) (λ r. has_right z (noted o.0 o.1) (all_noted os) (ih r))
+        (has_append z (noted o.0 o.1) (all_noted (filter (λ o. nat_eq (home_of shards o) k) os)) m)
     at false m ih = has_right z (noted o.0 o.1) (all_noted os) (ih m)
 
 more_noted : (shards k : ℕ) (o : Numbered × Option MisfitKind) (os : List (Numbered × Option MisfitKind)) (z : Misfit)
@@ -84,13 +86,15 @@ more_noted shards k o os z m = at (nat_eq (home_of shards o) k)
 noted_home : (shards : ℕ) → 0 < shards → (os : List (Numbered × Option MisfitKind)) (z : Misfit) → Has z (all_noted os)
     → (k : ℕ) × (k < shards) × Has z (all_noted (filter (λ o. nat_eq (home_of shards o) k) os))
 noted_home shards some [] z m = absurd m
-noted_home shards some (o ∷ os) z m = ⊎_elim here (λ r. let w = noted_home shards some os z r in (w.0, w.1, more_noted shards w.0 o os z w.2)) (has_append z (noted o.0 o.1) (all_noted os) m)
+noted_home shards some (o ∷ os) z m = ⊎_elim here (λ r. let w = noted_home shards some os z r in (w.0, w.1, more_noted shards w.0 o os z w.2))
+    (has_append z (noted o.0 o.1) (all_noted os) m)
   where
     here : Has z (noted o.0 o.1) → (k : ℕ) × (k < shards) × Has z (all_noted (filter (λ o. nat_eq (home_of shards o) k) (o ∷ os)))
     here l = (
       home_of shards o,
       home_within shards o.0.effect.key some,
-      subst (λ b. Has z (all_noted (cond b (o ∷ filter (λ p. nat_eq (home_of shards p) (home_of shards o)) os) (filter (λ p. nat_eq (home_of shards p) (home_of shards o)) os))))
+      subst (λ b. Has z (all_noted
+          (cond b (o ∷ filter (λ p. nat_eq (home_of shards p) (home_of shards o)) os) (filter (λ p. nat_eq (home_of shards p) (home_of shards o)) os))))
           (sym ((Decides-eqb _ _).1 refl)) (has_left z (noted o.0 o.1) _ l),
     )
 
@@ -143,7 +147,8 @@ numbered_rise first (m ∷ ms) =
 noted_of : (t : Tables) (ns : List Numbered) (z : Misfit) → Has z (all_noted (outcomes t ns))
     → (n : Numbered) × (Has n ns) × (z.entry ≡ n.entry) × (z.part ≡ n.part)
 noted_of t [] z h = absurd h
-noted_of t (n ∷ ns) z h = ⊎_elim (here (misfit_of t n.effect)) (λ k. let w = noted_of (after_part t n.effect) ns z k in (w.0, inr w.1, w.2, w.3)) (has_append z (noted n (misfit_of t n.effect)) (all_noted (outcomes (after_part t n.effect) ns)) h)
+noted_of t (n ∷ ns) z h = ⊎_elim (here (misfit_of t n.effect)) (λ k. let w = noted_of (after_part t n.effect) ns z k in (w.0, inr w.1, w.2, w.3))
+    (has_append z (noted n (misfit_of t n.effect)) (all_noted (outcomes (after_part t n.effect) ns)) h)
   where
     here : (o : Option MisfitKind) → Has z (noted n o) → (n' : Numbered) × (Has n' (n ∷ ns)) × (z.entry ≡ n'.entry) × (z.part ≡ n'.part)
     here None m = absurd m

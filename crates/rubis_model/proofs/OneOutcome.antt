@@ -1,5 +1,6 @@
 -- Settling has one outcome, that of the function.
-use Rattle.std.proofs.Common.{◌≡◌, ℕ, ◌+◌, ◌≤◌, zero, suc, Bool, true, false, ◌&&◌, Option, Some, None, List, [], ◌∷◌, ◌++◌, length, refl, sym, ap, ◌∙◌, subst, inl, inr, ⊎_elim, arith}
+use Rattle.std.proofs.Common.{◌≡◌, ℕ, ◌+◌, ◌≤◌, zero, suc, Bool, true, false, ◌&&◌, Option, Some, None, List, [], ◌∷◌, ◌++◌, length, refl, sym, ap, ◌∙◌, subst}
+use Rattle.std.proofs.Common.{inl, inr, ⊎_elim, arith}
 use Rattle.std.specs.Prelude.{◌||◌, ◌==◌, nat_le}
 use Rattle.std.specs.List.{list_all, range_with_len}
 use Rattle.std.proofs.lemmas.Bool.{cases_eq, cases_lt, cond-true, cond-false, eq-eqb, le-leb, and_from, cond_both, false_from_ne_true}
@@ -29,8 +30,11 @@ red_passes log m r = ⊎_elim (λ l. or_right (m.stamp.red == 0) (m.stamp.red ==
     (λ l. or_left (m.stamp.red == 0) (m.stamp.red == reds log + 1) (eq-eqb m.stamp.red 0 (omega arith))) (cases_lt 0 m.stamp.red)
 
 is_ready_from : (log : List Message) (m : Message) → Ready log m → is_ready log m ≡ true
-is_ready_from log m r = and_from ((m.stamp.id.seq == counted m.stamp.id.site log + 1) && list_all (λ j. (j == m.stamp.id.site) || nat_le (dep m j) (counted j log)) (range_with_len 0 (length m.stamp.deps))) ((m.stamp.red == 0) || (m.stamp.red == reds log + 1))
-    (and_from (m.stamp.id.seq == counted m.stamp.id.site log + 1) (list_all (λ j. (j == m.stamp.id.site) || nat_le (dep m j) (counted j log)) (range_with_len 0 (length m.stamp.deps)))
+is_ready_from log m r =
+    and_from ((m.stamp.id.seq == counted m.stamp.id.site log + 1) && list_all (λ j. (j == m.stamp.id.site) || nat_le (dep m j) (counted j log))
+    (range_with_len 0 (length m.stamp.deps))) ((m.stamp.red == 0) || (m.stamp.red == reds log + 1))
+    (and_from (m.stamp.id.seq == counted m.stamp.id.site log + 1)
+    (list_all (λ j. (j == m.stamp.id.site) || nat_le (dep m j) (counted j log)) (range_with_len 0 (length m.stamp.deps)))
     (eq-eqb m.stamp.id.seq (counted m.stamp.id.site log + 1) r.next)
     (all_pass (λ j. (j == m.stamp.id.site) || nat_le (dep m j) (counted j log)) (dep_passes log m r) (range_with_len 0 (length m.stamp.deps))))
     (red_passes log m r)
@@ -82,7 +86,8 @@ settles_one _ _ _ _ (Release log front back log' waiting' m h r s) =
 Split : List Message → List Message → Option (Message × List Message) → Type 0
 Split log waiting None = (x : Message) → Has x waiting → Ready log x → ⊥
 Split log waiting (Some p) =
-    (front : List Message) × (back : List Message) × (waiting ≡ front ++ p.0 ∷ back) × (p.1 ≡ front ++ back) × ((x : Message) → Has x front → Ready log x → ⊥) × (Ready log p.0)
+    (front : List Message) × (back : List Message) × (waiting ≡ front ++ p.0 ∷ back) × (p.1 ≡ front ++ back) × ((x : Message) → Has x front → Ready log x → ⊥)
+    × (Ready log p.0)
 
 none_more : (log rest : List Message) (m : Message) → (Ready log m → ⊥) → ((x : Message) → Has x rest → Ready log x → ⊥) → (x : Message)
     → Has x (m ∷ rest) → Ready log x → ⊥
@@ -106,15 +111,18 @@ split_first : (log waiting : List Message) → Split log waiting (first_ready lo
 unfolding Split
 split_first log [] = λ x h. absurd h
 split_first log (m ∷ rest) =
-    cond_both (is_ready log m) (Some (m, rest)) (behind m (first_ready log rest)) (Split log (m ∷ rest)) (split_this log rest m) (λ e. split_behind log rest m (first_ready log rest) (unready log m e) (split_first log rest))
+    cond_both (is_ready log m) (Some (m, rest)) (behind m (first_ready log rest)) (Split log (m ∷ rest)) (split_this log rest m)
+    (λ e. split_behind log rest m (first_ready log rest) (unready log m e) (split_first log rest))
 
 settles_next : (n : ℕ) → ((log waiting : List Message) → length waiting ≤ n → Settles log waiting (settle n log waiting).0 (settle n log waiting).1)
-    → (log waiting : List Message) (o : Option (Message × List Message)) → Split log waiting o → length waiting ≤ suc n → Settles log waiting (next n log waiting o).0 (next n log waiting o).1
+    → (log waiting : List Message) (o : Option (Message × List Message)) → Split log waiting o → length waiting ≤ suc n →
+    Settles log waiting (next n log waiting o).0 (next n log waiting o).1
 unfolding Split next
 settles_next n rec log waiting None h l = Rest log waiting h
 settles_next n rec log waiting (Some p) h l =
     let e : suc (length (h.0 ++ h.1)) ≡ length waiting = sym (ap length h.2 ∙ shorter h.0 h.1 p.0) in
-    let s : Settles (log ++ p.0 ∷ []) (h.0 ++ h.1) (settle n (log ++ p.0 ∷ []) (h.0 ++ h.1)).0 (settle n (log ++ p.0 ∷ []) (h.0 ++ h.1)).1 = rec (log ++ p.0 ∷ []) (h.0 ++ h.1) (omega arith) in
+    let s : Settles (log ++ p.0 ∷ []) (h.0 ++ h.1) (settle n (log ++ p.0 ∷ []) (h.0 ++ h.1)).0 (settle n (log ++ p.0 ∷ []) (h.0 ++ h.1)).1 =
+    rec (log ++ p.0 ∷ []) (h.0 ++ h.1) (omega arith) in
     subst (λ w. Settles log w (settle n (log ++ p.0 ∷ []) p.1).0 (settle n (log ++ p.0 ∷ []) p.1).1) (sym h.2)
     (subst (λ q. Settles log (h.0 ++ p.0 ∷ h.1) (settle n (log ++ p.0 ∷ []) q).0 (settle n (log ++ p.0 ∷ []) q).1) (sym h.3)
     (Release log h.0 h.1 (settle n (log ++ p.0 ∷ []) (h.0 ++ h.1)).0 (settle n (log ++ p.0 ∷ []) (h.0 ++ h.1)).1 p.0 h.4 h.5 s))

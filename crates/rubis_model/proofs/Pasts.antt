@@ -28,7 +28,8 @@ pub seq_within : (past : List Message) (v : Message) → Released past → Has v
     → (1 ≤ v.stamp.id.seq) × (v.stamp.id.seq ≤ counted v.stamp.id.site past)
 seq_within [] v r h = absurd h
 seq_within (m ∷ past) v r (inl e) =
-    subst (λ x. (1 ≤ x.stamp.id.seq) × (x.stamp.id.seq ≤ counted x.stamp.id.site (m ∷ past))) (sym e) (omega (arith, r.0.next, counted_yes m.stamp.id.site m past refl), omega (arith, r.0.next, counted_yes m.stamp.id.site m past refl))
+    subst (λ x. (1 ≤ x.stamp.id.seq) × (x.stamp.id.seq ≤ counted x.stamp.id.site (m ∷ past))) (sym e)
+    (omega (arith, r.0.next, counted_yes m.stamp.id.site m past refl), omega (arith, r.0.next, counted_yes m.stamp.id.site m past refl))
 seq_within (m ∷ past) v r (inr h) = let k = seq_within past v r.1 h in (k.0, omega (arith, k.1, counted_grows v.stamp.id.site m past))
 
 -- who has the number s of the origin j, where s is no more than the count
@@ -80,7 +81,8 @@ once (m ∷ past) u v r (inr a) (inl b) e f =
 pub red_within : (past : List Message) (v : Message) → Released past → Has v past → v.stamp.red ≤ reds past
 red_within [] v r h = absurd h
 red_within (m ∷ past) v r (inl e) =
-    subst (λ (x : Message). x.stamp.red ≤ reds (m ∷ past)) (sym e) (⊎_elim (λ k. omega (arith, r.0.number k, reds_yes m past k)) (λ k. omega arith) (cases_lt 0 m.stamp.red))
+    subst (λ (x : Message). x.stamp.red ≤ reds (m ∷ past)) (sym e)
+    (⊎_elim (λ k. omega (arith, r.0.number k, reds_yes m past k)) (λ k. omega arith) (cases_lt 0 m.stamp.red))
 red_within (m ∷ past) v r (inr h) = omega (arith, red_within past v r.1 h)
 
 -- who has the red number s
@@ -90,7 +92,8 @@ FoundRed past s = (u : Message) × (Has u past) × (u.stamp.red ≡ s)
 red_head : (m : Message) (past : List Message) (s : ℕ) → Released (m ∷ past) → s ≤ reds (m ∷ past) → reds past < s → FoundRed (m ∷ past) s
 unfolding FoundRed
 red_head m past s r h k =
-    ⊎_elim (λ e. (m, inl refl, omega (arith, r.0.number e, reds_yes m past e))) (λ e. absurd (omega (arith, reds_no m past (omega arith)))) (cases_lt 0 m.stamp.red)
+    ⊎_elim (λ e. (m, inl refl, omega (arith, r.0.number e, reds_yes m past e))) (λ e. absurd (omega (arith, reds_no m past (omega arith))))
+    (cases_lt 0 m.stamp.red)
 
 red_on : (m : Message) (past : List Message) (s : ℕ) → FoundRed past s → FoundRed (m ∷ past) s
 unfolding FoundRed
@@ -113,7 +116,8 @@ dep_within (m ∷ past) v j r (inr h) n = omega (arith, dep_within past v j r.1 
 
 -- the log when its site made v
 pub made_at : (i : ℕ) (past : List Message) (v : Message) → CountedBy i past → DecidedBy i past → Released past → Has v past → v.stamp.id.site ≡ i
-    → (before : List Message) × (Released before) × ((j : ℕ) → dep v j ≡ counted j before) × ((u : Message) → Has u before → Has u past) × (v.stamp.id.seq ≡ counted i before + 1) × Decided before v
+    → (before : List Message) × (Released before) × ((j : ℕ) → dep v j ≡ counted j before) × ((u : Message) → Has u before → Has u past)
+    × (v.stamp.id.seq ≡ counted i before + 1) × Decided before v
 made_at i [] v b d r h o = absurd h
 made_at i (m ∷ past) v b d r (inl e) o = (
   past,

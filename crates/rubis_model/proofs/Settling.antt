@@ -1,5 +1,6 @@
 -- What settling keeps.
-use Rattle.std.proofs.Common.{◌≡◌, ℕ, ◌+◌, ◌<◌, ◌≤◌, zero, suc, Bool, true, ◌&&◌, cond, Option, Some, None, List, [], ◌∷◌, ◌++◌, length, refl, sym, ap, ◌∙◌, subst, inl, inr, ⊎_elim, arith, get_or}
+use Rattle.std.proofs.Common.{◌≡◌, ℕ, ◌+◌, ◌<◌, ◌≤◌, zero, suc, Bool, true, ◌&&◌, cond, Option, Some, None, List, [], ◌∷◌, ◌++◌, length, refl, sym, ap, ◌∙◌}
+use Rattle.std.proofs.Common.{subst, inl, inr, ⊎_elim, arith, get_or}
 use Rattle.std.specs.Prelude.{reverse, ◌||◌, ◌==◌, nat_le, nat_lt}
 use Rattle.std.specs.List.{list_all, range_with_len}
 use Rattle.std.proofs.lemmas.Bool.{cases_lt, cond_both, and_parts, or_cases, eqb-true, leb-true}
@@ -42,27 +43,33 @@ deps_test log m j = (j == m.stamp.id.site) || nat_le (dep m j) (counted j log)
 within_is : (log : List Message) (m : Message) (j : ℕ) → deps_test log m j ≡ true → (j ≡ m.stamp.id.site → ⊥) → dep m j ≤ counted j log
 unfolding deps_test
 within_is log m j h n =
-    ⊎_elim (λ e. absurd (n (eqb-true j m.stamp.id.site e))) (λ e. leb-true (dep m j) (counted j log) e) (or_cases (j == m.stamp.id.site) (nat_le (dep m j) (counted j log)) h)
+    ⊎_elim (λ e. absurd (n (eqb-true j m.stamp.id.site e))) (λ e. leb-true (dep m j) (counted j log) e)
+    (or_cases (j == m.stamp.id.site) (nat_le (dep m j) (counted j log)) h)
 
 deps_is : (log : List Message) (m : Message) → list_all (deps_test log m) (range_with_len 0 (length m.stamp.deps)) ≡ true → (j : ℕ)
     → (j ≡ m.stamp.id.site → ⊥) → dep m j ≤ counted j log
-deps_is log m h j n = ⊎_elim inside (λ k. subst (λ x. x ≤ counted j log) (sym (get_or_past m.stamp.deps j 0 k)) (omega arith)) (cases_lt j (length m.stamp.deps))
+deps_is log m h j n = ⊎_elim inside (λ k. subst (λ x. x ≤ counted j log) (sym (get_or_past m.stamp.deps j 0 k)) (omega arith))
+    (cases_lt j (length m.stamp.deps))
   where
     inside : j < length m.stamp.deps → dep m j ≤ counted j log
     inside k =
         let e : get_or (range_with_len 0 (length m.stamp.deps)) j 0 ≡ j = get_or-range_with_len 0 (length m.stamp.deps) j 0 k ∙ omega arith in
-        let t : deps_test log m (get_or (range_with_len 0 (length m.stamp.deps)) j 0) ≡ true = AllPass-from_list_all (deps_test log m) (range_with_len 0 (length m.stamp.deps)) h j 0 (subst (λ x. j < x) (sym (length-range_with_len 0 (length m.stamp.deps))) k) in
+        let t : deps_test log m (get_or (range_with_len 0 (length m.stamp.deps)) j 0)
+        ≡ true = AllPass-from_list_all (deps_test log m) (range_with_len 0 (length m.stamp.deps)) h j 0
+        (subst (λ x. j < x) (sym (length-range_with_len 0 (length m.stamp.deps))) k) in
         within_is log m j (subst (λ x. deps_test log m x ≡ true) e t) n
 
 red_is : (log : List Message) (m : Message) → ((m.stamp.red == 0) || (m.stamp.red == reds log + 1)) ≡ true → 0 < m.stamp.red
     → m.stamp.red ≡ reds log + 1
 red_is log m h l =
-    ⊎_elim (λ e. let k = eqb-true m.stamp.red 0 e in absurd (omega arith)) (λ e. eqb-true m.stamp.red (reds log + 1) e) (or_cases (m.stamp.red == 0) (m.stamp.red == reds log + 1) h)
+    ⊎_elim (λ e. let k = eqb-true m.stamp.red 0 e in absurd (omega arith)) (λ e. eqb-true m.stamp.red (reds log + 1) e)
+    (or_cases (m.stamp.red == 0) (m.stamp.red == reds log + 1) h)
 
 pub ready_is : (log : List Message) (m : Message) → is_ready log m ≡ true → Ready log m
 unfolding deps_test
 ready_is log m h =
-    let a = and_parts ((m.stamp.id.seq == counted m.stamp.id.site log + 1) && list_all (deps_test log m) (range_with_len 0 (length m.stamp.deps))) ((m.stamp.red == 0) || (m.stamp.red == reds log + 1)) h in
+    let a = and_parts ((m.stamp.id.seq == counted m.stamp.id.site log + 1) && list_all (deps_test log m) (range_with_len 0 (length m.stamp.deps)))
+    ((m.stamp.red == 0) || (m.stamp.red == reds log + 1)) h in
     let b = and_parts (m.stamp.id.seq == counted m.stamp.id.site log + 1) (list_all (deps_test log m) (range_with_len 0 (length m.stamp.deps))) a.0 in
     record { next = eqb-true m.stamp.id.seq (counted m.stamp.id.site log + 1) b.0; released = deps_is log m b.1; number = red_is log m a.1 }
 
@@ -81,14 +88,16 @@ taken_head log rest m e = (ready_is log m e, inl refl, (λ x k. inr k), omega ar
 pub first_taken : (log waiting : List Message) → Taken log waiting (first_ready log waiting)
 first_taken log [] = tt
 first_taken log (m ∷ rest) =
-    cond_both (is_ready log m) (Some (m, rest)) (behind m (first_ready log rest)) (Taken log (m ∷ rest)) (taken_head log rest m) (λ e. taken_behind log rest m (first_ready log rest) (first_taken log rest))
+    cond_both (is_ready log m) (Some (m, rest)) (behind m (first_ready log rest)) (Taken log (m ∷ rest)) (taken_head log rest m)
+    (λ e. taken_behind log rest m (first_ready log rest) (first_taken log rest))
 
 -- ---- what each release keeps, settling keeps
 next_keeps : (P : List Message → List Message → Type 0) (n : ℕ)
     → ((log waiting : List Message) → P log waiting → P (settle n log waiting).0 (settle n log waiting).1)
     → ((log waiting : List Message) (p : Message × List Message) → Taken log waiting (Some p) → P log waiting → P (log ++ p.0 ∷ []) p.1)
     → (log waiting : List Message) (o : Option (Message × List Message)) → Taken log waiting o → P log waiting
-    → P (elim o as (λ _. List Message × List Message) [ None ↦ (log, waiting) | Some p ↦ settle n (log ++ p.0 ∷ []) p.1 ]).0 (elim o as (λ _. List Message × List Message) [ None ↦ (log, waiting) | Some p ↦ settle n (log ++ p.0 ∷ []) p.1 ]).1
+    → P (elim o as (λ _. List Message × List Message) [ None ↦ (log, waiting) | Some p ↦ settle n (log ++ p.0 ∷ []) p.1 ]).0
+    (elim o as (λ _. List Message × List Message) [ None ↦ (log, waiting) | Some p ↦ settle n (log ++ p.0 ∷ []) p.1 ]).1
 next_keeps P n rec step log waiting None t h = h
 next_keeps P n rec step log waiting (Some p) t h = rec (log ++ p.0 ∷ []) p.1 (step log waiting p t h)
 

@@ -39,7 +39,10 @@ fold_on_is t ms [] = λ i. record { tables = t; misfits = nothing_more i }
     nothing_more = search Rattle.std.proofs.Common.rules
 fold_on_is t ms (n ∷ ns) =
     fold_on_is (after_part t n.effect) (ms ++ noted n (misfit_of t n.effect)) ns
-    ∙ (λ i. record { tables = tables_after (after_part t n.effect) ns; misfits = append_assoc ms (noted n (misfit_of t n.effect)) (all_noted (outcomes (after_part t n.effect) ns)) i })
+    ∙ (λ i. record {
+      tables = tables_after (after_part t n.effect) ns;
+      misfits = append_assoc ms (noted n (misfit_of t n.effect)) (all_noted (outcomes (after_part t n.effect) ns)) i;
+    })
 
 module _ (shards k : ℕ) where
   abbrev at_home : RowKey → Bool
@@ -66,11 +69,13 @@ module _ (shards k : ℕ) where
   -- a row at a key in the part and in the whole
   pub part_with_row : (t : Tables) (p : RowKey) (o : Option Row)
       → part_of shards k (with_row t p o) ≡ cond (at_home p) (with_row (part_of shards k t) p o) (part_of shards k t)
-  part_with_row t p o = elim (at_home p) as (λ b. at_home p ≡ b → part_of shards k (with_row t p o) ≡ cond b (with_row (part_of shards k t) p o) (part_of shards k t)) [
-    | true ↦ λ h. same_tables _ _ (λ q. left q ∙ one_key (at_home q) (tied q p) true _ _ (λ s. ap at_home ((Decides-tied q p).0 s) ∙ h)
-        ∙ sym (get-with_row (part_of shards k t) p o q ∙ ap (cond (tied q p) o) (get-part_of t q)))
-    | false ↦ λ h. same_tables _ _ (λ q. left q ∙ one_key (at_home q) (tied q p) false _ _ (λ s. ap at_home ((Decides-tied q p).0 s) ∙ h) ∙ sym (get-part_of t q))
-  ] refl
+  part_with_row t p o =
+      elim (at_home p) as (λ b. at_home p ≡ b → part_of shards k (with_row t p o) ≡ cond b (with_row (part_of shards k t) p o) (part_of shards k t)) [
+        | true ↦ λ h. same_tables _ _ (λ q. left q ∙ one_key (at_home q) (tied q p) true _ _ (λ s. ap at_home ((Decides-tied q p).0 s) ∙ h)
+            ∙ sym (get-with_row (part_of shards k t) p o q ∙ ap (cond (tied q p) o) (get-part_of t q)))
+        | false ↦ λ h. same_tables _ _
+            (λ q. left q ∙ one_key (at_home q) (tied q p) false _ _ (λ s. ap at_home ((Decides-tied q p).0 s) ∙ h) ∙ sym (get-part_of t q))
+      ] refl
     where
       left : (q : RowKey) → map.get (part_of shards k (with_row t p o)) q ≡ cond (at_home q) (cond (tied q p) o (map.get t q)) None
       left q = get-part_of (with_row t p o) q ∙ ap (λ x. cond (at_home q) x None) (get-with_row t p o q)
@@ -85,20 +90,33 @@ module _ (shards k : ℕ) where
 
   pub share_tables : (t : Tables) (ns : List Numbered) → tables_after (part_of shards k t) (filter mine ns) ≡ part_of shards k (tables_after t ns)
   share_tables t [] = refl
-  share_tables t (n ∷ ns) = elim (mine n) as (λ b. mine n ≡ b → tables_after (part_of shards k t) (cond b (n ∷ filter mine ns) (filter mine ns)) ≡ part_of shards k (tables_after (after_part t n.effect) ns)) [
-    | true ↦ λ h. ap (λ u. tables_after u (filter mine ns)) (sym (part_after t n.effect ∙ ap (λ b. cond b (after_part (part_of shards k t) n.effect) (part_of shards k t)) h)) ∙ share_tables (after_part t n.effect) ns
-    | false ↦ λ h. ap (λ u. tables_after u (filter mine ns)) (sym (part_after t n.effect ∙ ap (λ b. cond b (after_part (part_of shards k t) n.effect) (part_of shards k t)) h)) ∙ share_tables (after_part t n.effect) ns
-  ] refl
+  share_tables t (n ∷ ns) =
+      elim (mine n) as (λ b. mine n ≡ b → tables_after (part_of shards k t) (cond b (n ∷ filter mine ns) (filter mine ns))
+      ≡ part_of shards k (tables_after (after_part t n.effect) ns)) [
+        | true ↦ λ h. ap (λ u. tables_after u (filter mine ns))
+            (sym (part_after t n.effect ∙ ap (λ b. cond b (after_part (part_of shards k t) n.effect) (part_of shards k t)) h))
+            ∙ share_tables (after_part t n.effect) ns
+        | false ↦ λ h. ap (λ u. tables_after u (filter mine ns))
+            (sym (part_after t n.effect ∙ ap (λ b. cond b (after_part (part_of shards k t) n.effect) (part_of shards k t)) h))
+            ∙ share_tables (after_part t n.effect) ns
+      ] refl
 
   abbrev mine_done : Numbered × Option MisfitKind → Bool
   mine_done o = mine o.0
 
   pub share_outcomes : (t : Tables) (ns : List Numbered) → outcomes (part_of shards k t) (filter mine ns) ≡ filter mine_done (outcomes t ns)
   share_outcomes t [] = refl
-  share_outcomes t (n ∷ ns) = elim (mine n) as (λ b. mine n ≡ b → outcomes (part_of shards k t) (cond b (n ∷ filter mine ns) (filter mine ns)) ≡ cond b ((n, misfit_of t n.effect) ∷ filter mine_done (outcomes (after_part t n.effect) ns)) (filter mine_done (outcomes (after_part t n.effect) ns))) [
-    | true ↦ λ h. λ i. (n, (same_doing t n.effect h i).misfit) ∷ ((ap (λ u. outcomes u (filter mine ns)) (sym (part_after t n.effect ∙ ap (λ b. cond b (after_part (part_of shards k t) n.effect) (part_of shards k t)) h)) ∙ share_outcomes (after_part t n.effect) ns) i)
-    | false ↦ λ h. ap (λ u. outcomes u (filter mine ns)) (sym (part_after t n.effect ∙ ap (λ b. cond b (after_part (part_of shards k t) n.effect) (part_of shards k t)) h)) ∙ share_outcomes (after_part t n.effect) ns
-  ] refl
+  share_outcomes t (n ∷ ns) =
+      elim (mine n) as (λ b. mine n ≡ b → outcomes (part_of shards k t) (cond b (n ∷ filter mine ns) (filter mine ns))
+      ≡ cond b ((n, misfit_of t n.effect) ∷ filter mine_done (outcomes (after_part t n.effect) ns)) (filter mine_done (outcomes (after_part t n.effect) ns))) [
+        | true ↦ λ h. λ i. (n, (same_doing t n.effect h i).misfit) ∷
+            ((ap (λ u. outcomes u (filter mine ns))
+            (sym (part_after t n.effect ∙ ap (λ b. cond b (after_part (part_of shards k t) n.effect) (part_of shards k t)) h))
+            ∙ share_outcomes (after_part t n.effect) ns) i)
+        | false ↦ λ h. ap (λ u. outcomes u (filter mine ns))
+            (sym (part_after t n.effect ∙ ap (λ b. cond b (after_part (part_of shards k t) n.effect) (part_of shards k t)) h))
+            ∙ share_outcomes (after_part t n.effect) ns
+      ] refl
 
 -- every row is in its home's part
 pub in_its_part : (shards : ℕ) (t : Tables) (q : RowKey) → map.get (part_of shards (home shards q) t) q ≡ map.get t q
@@ -116,7 +134,8 @@ share_is_part shards first k t batch =
 pub numbered_append : (first : ℕ) (a b : List Core) → numbered_from first (a ++ b) ≡ numbered_from first a ++ numbered_from (first + length a) b
 numbered_append first [] b = ap (λ n. numbered_from n b) (omega arith)
 numbered_append first (m ∷ a) b =
-    ap (λ ns. number_parts first 1 m.id (parts_of m) ++ ns) (numbered_append (first + 1) a b ∙ ap (λ n. numbered_from (first + 1) a ++ numbered_from n b) (omega arith))
+    ap (λ ns. number_parts first 1 m.id (parts_of m) ++ ns)
+    (numbered_append (first + 1) a b ∙ ap (λ n. numbered_from (first + 1) a ++ numbered_from n b) (omega arith))
     ∙ sym (append_assoc (number_parts first 1 m.id (parts_of m)) (numbered_from (first + 1) a) (numbered_from (first + length (m ∷ a)) b))
 
 pub fold_batch : (log batch : List Core) → fold_of (log ++ batch) ≡ record {

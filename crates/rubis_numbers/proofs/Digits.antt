@@ -1,5 +1,6 @@
 -- Digits that are read from the left.
-use Rattle.std.proofs.Common.{◌≡◌, ◌≤◌, ◌<◌, ◌+◌, ◌*◌, ◌-◌, ◌^◌, ℕ, zero, suc, true, false, ◌&&◌, ◌⊎◌, inl, inr, List, [], ◌∷◌, length, get_or, drop, decimal, refl, ap, sym, ◌∙◌, arith, rules, tests, add-one}
+use Rattle.std.proofs.Common.{◌≡◌, ◌≤◌, ◌<◌, ◌+◌, ◌*◌, ◌-◌, ◌^◌, ℕ, zero, suc, true, false, ◌&&◌, ◌⊎◌, inl, inr, List, [], ◌∷◌, length, get_or, drop, decimal}
+use Rattle.std.proofs.Common.{refl, ap, sym, ◌∙◌, arith, rules, tests, add-one}
 use Rattle.std.specs.Str.{all_ascii_digits}
 use Rattle.std.specs.Char.{is_ascii_digit}
 use Rattle.std.proofs.Math.Nat.{pow-le-pow_right}
@@ -53,7 +54,8 @@ pub reading_starts : (bytes : List ℕ) → IsReading bytes 0 0
 reading_starts bytes = record { value = refl; digits = refl }
 
 at_front : (bytes : List ℕ) (at number : ℕ) → at < length bytes → IsReading bytes at number
-    → (read_on number (get_or bytes at 0 ∷ drop (suc at) bytes) ≡ read_on 0 bytes) × (all_ascii_digits (get_or bytes at 0 ∷ drop (suc at) bytes) ≡ all_ascii_digits bytes)
+    → (read_on number (get_or bytes at 0 ∷ drop (suc at) bytes) ≡ read_on 0 bytes)
+    × (all_ascii_digits (get_or bytes at 0 ∷ drop (suc at) bytes) ≡ all_ascii_digits bytes)
 at_front bytes at number lt h =
     let cut = drop-cons bytes at 0 lt in
     (ap (read_on number) (sym cut) ∙ h.value, ap all_ascii_digits (sym cut) ∙ h.digits)
@@ -68,13 +70,15 @@ reading_more bytes at next number lt h low high is =
       digits = ap (λ t. t && all_ascii_digits (drop (suc at) bytes)) (sym passes) ∙ front.1;
     })
 
-pub stops_at : (bytes : List ℕ) (at number n : ℕ) → n < 2 ^ 64 → at < length bytes → IsReading bytes at number → (get_or bytes at 0 < 48) ⊎ (57 < get_or bytes at 0) → bytes ≡ decimal n → ⊥
+pub stops_at : (bytes : List ℕ) (at number n : ℕ) → n < 2 ^ 64 → at < length bytes → IsReading bytes at number → (get_or bytes at 0 < 48)
+    ⊎ (57 < get_or bytes at 0) → bytes ≡ decimal n → ⊥
 stops_at bytes at number n fits lt h other e =
     let front = at_front bytes at number lt h in
     let fails = other_fails (get_or bytes at 0) other in
     no_digit bytes n fits (sym front.1 ∙ ap (λ t. t && all_ascii_digits (drop (suc at) bytes)) fails) e
 
-pub overflows : (bytes : List ℕ) (at number n : ℕ) → n < 2 ^ 64 → at < length bytes → IsReading bytes at number → 2 ^ 64 ≤ number * 10 + (get_or bytes at 0 - 48) → bytes ≡ decimal n → ⊥
+pub overflows : (bytes : List ℕ) (at number n : ℕ) → n < 2 ^ 64 → at < length bytes → IsReading bytes at number →
+    2 ^ 64 ≤ number * 10 + (get_or bytes at 0 - 48) → bytes ≡ decimal n → ⊥
 overflows bytes at number n fits lt h up e =
     let front = at_front bytes at number lt h in
     let grown = grows (number * 10 + (get_or bytes at 0 - 48)) (drop (suc at) bytes) in
@@ -85,7 +89,8 @@ ends_with bytes at number past h =
     let none : drop at bytes ≡ [] = drop_of_length-le bytes past in
     (ap (read_on number) (sym none) ∙ h.value, sym h.digits ∙ ap all_ascii_digits none)
 
-pub read_all : (bytes : List ℕ) (at number : ℕ) → 0 < length bytes → (get_or bytes 0 0 ≡ 48 → length bytes ≡ 1) → number < 2 ^ 64 → length bytes ≤ at → IsReading bytes at number → bytes ≡ decimal number
+pub read_all : (bytes : List ℕ) (at number : ℕ) → 0 < length bytes → (get_or bytes 0 0 ≡ 48 → length bytes ≡ 1) → number < 2 ^ 64 → length bytes ≤ at →
+    IsReading bytes at number → bytes ≡ decimal number
 read_all bytes at number some lone fits past h =
     let all = ends_with bytes at number past h in
     let whole = decimal-digits_value own bytes all.1 some lone (omega (arith, all.0, fits)) in

@@ -4,14 +4,16 @@ use Rattle.std.specs.Prelude.{Option, Some, None, slice_get, slice_set, replicat
 use Rattle.std.specs.List.Sorted.{IsPermutation}
 use Rattle.std.proofs.lemmas.List.{append-nil}
 use Rattle.std.proofs.lemmas.List.Elements.{All-nil, All-cons, All-append}
-use Rattle.std.proofs.lemmas.List.Sorted.{IsPermutation-refl, IsPermutation-trans, IsPermutation-sym, IsPermutation-append_left, IsPermutation-append_right, IsPermutation-append_comm, IsPermutation-middle}
+use Rattle.std.proofs.lemmas.List.Sorted.{IsPermutation-refl, IsPermutation-trans, IsPermutation-sym, IsPermutation-append_left, IsPermutation-append_right}
+use Rattle.std.proofs.lemmas.List.Sorted.{IsPermutation-append_comm, IsPermutation-middle}
 use Rattle.rubis_shadow.specs.declared.numbered.Numbered.{Numbered}
 use Rattle.rubis_pieces.specs.declared.pieces.Piece.{Piece}
 use Rattle.rubis_pieces.specs.declared.pieces.Done.{Done}
 use Rattle.rubis_pool_core.specs.declared.event.Event.{Event}
 use Rattle.rubis_pool_core.specs.declared.event.Event.TheVariants.{Take, Apply, Back}
 use Rattle.rubis_pool_core.specs.Pieces.{begun, next_part, one_part_more, IsWhole}
-use Rattle.rubis_pool_core.specs.Machine.{PoolState, opening_pool, with_posted, taken, applied_to, applied, back_of, backed, or_same, after_event, posted_all, run_from, run_of}
+use Rattle.rubis_pool_core.specs.Machine.{PoolState, opening_pool, with_posted, taken, applied_to, applied, back_of, backed, or_same, after_event, posted_all}
+use Rattle.rubis_pool_core.specs.Machine.{run_from, run_of}
 use Rattle.rubis_pool_core.specs.Schedules.{present, Accounted}
 use Rattle.rubis_pool_core.proofs.Works.{begun_worked, next_worked, none_next}
 use Rattle.rubis_pool_core.proofs.Slots.{zip_set, zip_push, none_present, none_worked, one_present, worked_on, held_at}

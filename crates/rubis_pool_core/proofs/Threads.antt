@@ -6,8 +6,11 @@ use Rattle.rubis_pieces.specs.declared.pieces.Piece.{Piece}
 use Rattle.rubis_pieces.specs.declared.pieces.Done.{Done}
 use Rattle.rubis_pool_core.specs.declared.event.Event.TheVariants.{Take, Apply, Back}
 use Rattle.rubis_pool_core.specs.Pieces.{begun, next_part, one_part_more}
-use Rattle.rubis_pool_core.specs.Machine.{PoolState, opening_pool, with_posted, taken, applied_to, applied, back_of, backed, stepped, or_same, posted_all, run_from}
-use Rattle.rubis_pool_core.specs.Threads.{BoardStep, move_of, Action, steps_of, moves_of, Hands, empty_hands, InTurn, after_action, after_actions, CanDo, GoesAlong, EveryRunIsASchedule, AreTakenBy, EveryListOfStepsIsScheduled, events_of, posts, HasNoPost, PostsFirstAreARun}
+use Rattle.rubis_pool_core.specs.Machine.{PoolState, opening_pool, with_posted, taken, applied_to, applied, back_of, backed, stepped, or_same, posted_all}
+use Rattle.rubis_pool_core.specs.Machine.{run_from}
+use Rattle.rubis_pool_core.specs.Threads.{BoardStep, move_of, Action, steps_of, moves_of, Hands, empty_hands, InTurn, after_action, after_actions, CanDo}
+use Rattle.rubis_pool_core.specs.Threads.{GoesAlong, EveryRunIsASchedule, AreTakenBy, EveryListOfStepsIsScheduled, events_of, posts, HasNoPost}
+use Rattle.rubis_pool_core.specs.Threads.{PostsFirstAreARun}
 use Rattle.rubis_pool_core.specs.Threads.BoardStep.{Posts, Takes}
 use Rattle.rubis_pool_core.specs.Threads.Action.{OnBoard, Folds, GivesBack}
 use Rattle.rubis_pool_core.proofs.Hands.{set_now, set_twice, set_same, all_empty, part_there, no_part, AreHandsOf, start_empty, hands_set, free_at, held_at}

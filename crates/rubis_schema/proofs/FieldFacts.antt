@@ -1,5 +1,6 @@
 -- How the pieces of a buffer follow its ends.
-use Rattle.std.proofs.Common.{◌≡◌, ◌≤◌, ◌<◌, ◌-◌, ◌+◌, ◌∙◌, ℕ, zero, suc, Some, get_or, List, [], ◌∷◌, ◌++◌, take, drop, length, refl, ap, sym, subst, arith, length-append, append_assoc}
+use Rattle.std.proofs.Common.{◌≡◌, ◌≤◌, ◌<◌, ◌-◌, ◌+◌, ◌∙◌, ℕ, zero, suc, Some, get_or, List, [], ◌∷◌, ◌++◌, take, drop, length, refl, ap, sym, subst, arith}
+use Rattle.std.proofs.Common.{length-append, append_assoc}
 use Rattle.std.proofs.lemmas.Grind.{flat_map-append}
 use Rattle.std.proofs.lemmas.List.{append-nil, drop-append-le, length-drop, length-take-le, take-append-le, take_all}
 use Rattle.std.proofs.Math.Seq.{drop-append-add}
@@ -32,7 +33,11 @@ pieces-push before (end ∷ ends) bytes field more h size =
     let all = length-drop (before + 1) bytes in
     let at : before + 1 ≤ length bytes = omega (arith, h.0, up) in
     let fits : end - (before + 1) ≤ length (drop (before + 1) bytes) = omega (arith, all, up) in
-    rw (drop-append-le (before + 1) bytes (comma ∷ field) at, take-append-le (end - (before + 1)) (drop (before + 1) bytes) (comma ∷ field) fits, pieces-push end ends bytes field more h.1 size) refl
+    rw (
+      drop-append-le (before + 1) bytes (comma ∷ field) at,
+      take-append-le (end - (before + 1)) (drop (before + 1) bytes) (comma ∷ field) fits,
+      pieces-push end ends bytes field more h.1 size,
+    ) refl
 
 -- the piece at a place
 pub piece-at : (before : ℕ) (ends bytes : List ℕ) (i : ℕ) → i < length ends

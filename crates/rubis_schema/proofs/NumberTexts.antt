@@ -20,7 +20,8 @@ two_longer n low fits = ap length (more_digits n low fits) ∙ length-append _ _
 
 -- four digits, behind a text and those before them
 pub four_more : (old : List ℕ) (n : ℕ) → 10000 ≤ n → n < 2 ^ 64
-    → ((old ++ decimal (n / 100 / 100)) ++ (48 + n / 100 % 100 / 10) ∷ (48 + n / 100 % 100 % 10) ∷ []) ++ (48 + n % 100 / 10) ∷ (48 + n % 100 % 10) ∷ [] ≡ old ++ decimal n
+    → ((old ++ decimal (n / 100 / 100)) ++ (48 + n / 100 % 100 / 10) ∷ (48 + n / 100 % 100 % 10) ∷ []) ++ (48 + n % 100 / 10) ∷ (48 + n % 100 % 10) ∷ [] ≡ old
+    ++ decimal n
 four_more old n low fits =
     let two : List ℕ = (48 + n / 100 % 100 / 10) ∷ (48 + n / 100 % 100 % 10) ∷ [] in
     let last : List ℕ = (48 + n % 100 / 10) ∷ (48 + n % 100 % 10) ∷ [] in

@@ -1,5 +1,6 @@
 -- The fields of a text in which each has a comma before it.
-use Rattle.std.proofs.Common.{◌≡◌, ◌∙◌, ◌+◌, ◌-◌, ◌≤◌, ◌<◌, ◌==◌, ◌||◌, ◌&&◌, Bool, ◌++◌, ◌∷◌, [], ℕ, List, true, false, refl, ap, sym, subst, arith, length, length-append, append_assoc, drop}
+use Rattle.std.proofs.Common.{◌≡◌, ◌∙◌, ◌+◌, ◌-◌, ◌≤◌, ◌<◌, ◌==◌, ◌||◌, ◌&&◌, Bool, ◌++◌, ◌∷◌, [], ℕ, List, true, false, refl, ap, sym, subst, arith, length}
+use Rattle.std.proofs.Common.{length-append, append_assoc, drop}
 use Rattle.std.specs.Prelude.{not}
 use Rattle.std.specs.List.{list_any}
 use Rattle.std.proofs.lemmas.Bool.{both_ways, not-true, or_parts}
@@ -27,7 +28,8 @@ both_parts true b h = (refl, h)
 both_parts false b h = absurd (both_ways false refl h)
 
 -- bytes that call for no quotes, in front of a text
-fields_front : (f text : List ℕ) → is_plain f ≡ true → text_fields (f ++ text) ≡ record { front = f ++ (text_fields text).front; fields = (text_fields text).fields }
+fields_front : (f text : List ℕ) → is_plain f ≡ true → text_fields (f ++ text)
+    ≡ record { front = f ++ (text_fields text).front; fields = (text_fields text).fields }
 fields_front [] text h = refl
 fields_front (b ∷ f) text h =
     rw (fields_front f text (plain_rest b f h), no_comma b (plain_first b f h)) refl
@@ -51,7 +53,8 @@ plain_text size text fields e plain fits =
 one_more : (size : ℕ) (text field : List ℕ) → IsPlainText size text → is_plain field ≡ true → length field + 1 + length text ≤ size
     → IsPlainText size (comma ∷ field ++ text) × (fields_in (comma ∷ field ++ text) ≡ field ∷ fields_in text)
 one_more size text field h plain fits =
-    plain_text size (comma ∷ field ++ text) (field ∷ fields_in text) (ap (λ t. comma ∷ field ++ t) h.text) (rw (plain, h.plain) refl) (omega (arith, length-append field text, fits))
+    plain_text size (comma ∷ field ++ text) (field ∷ fields_in text) (ap (λ t. comma ∷ field ++ t) h.text) (rw (plain, h.plain) refl)
+    (omega (arith, length-append field text, fits))
 
 -- the first field with more in front
 more_in_first : (size : ℕ) (text more field : List ℕ) (fields : List (List ℕ)) → IsPlainText size text → fields_in text ≡ field ∷ fields
@@ -59,7 +62,8 @@ more_in_first : (size : ℕ) (text more field : List ℕ) (fields : List (List �
     → IsPlainText size (comma ∷ more ++ drop 1 text) × (fields_in (comma ∷ more ++ drop 1 text) ≡ (more ++ field) ∷ fields)
 more_in_first size text more field fields h e plain fits =
     let old : text ≡ comma ∷ field ++ joined fields = h.text ∙ ap joined e in
-    let new : comma ∷ more ++ drop 1 text ≡ joined ((more ++ field) ∷ fields) = ap (λ t. comma ∷ more ++ drop 1 t) old ∙ ap (λ t. comma ∷ t) (sym (append_assoc more field (joined fields))) in
+    let new : comma ∷ more ++ drop 1 text ≡ joined ((more ++ field) ∷ fields) = ap (λ t. comma ∷ more ++ drop 1 t) old
+    ∙ ap (λ t. comma ∷ t) (sym (append_assoc more field (joined fields))) in
     let parts = both_parts (is_plain field) (all_plain fields) (subst (λ fs. all_plain fs ≡ true) e h.plain) in
     let both : is_plain (more ++ field) ≡ true = ap not (list_any-append is_mark more field ∙ (λ i. not-true _ plain i || not-true _ parts.0 i)) in
     let size_of = ap length old in

@@ -8,7 +8,8 @@ first_of : (k n : ℕ) → categories_from k (suc n) ≡ (key.Cat k, new_categor
 unfolding categories_from
 first_of k n = refl
 
-pub categories_more : (k : ℕ) → 0 < k → k ≤ CATEGORIES → categories_from (k - 1) (CATEGORIES - (k - 1)) ≡ (key.Cat (k - 1), new_category) ∷ categories_from k (CATEGORIES - k)
+pub categories_more : (k : ℕ) → 0 < k → k ≤ CATEGORIES → categories_from (k - 1) (CATEGORIES - (k - 1))
+    ≡ (key.Cat (k - 1), new_category) ∷ categories_from k (CATEGORIES - k)
 categories_more k low high =
     let more : CATEGORIES - (k - 1) ≡ suc (CATEGORIES - k) = omega arith in
     let next : k - 1 + 1 ≡ k = omega arith in

@@ -31,5 +31,7 @@ sorted (e ∷ es) h = both _ _ (below e.0 es (sorted_head key_order e.0 (map fir
 pub entries_of_sorted : (es : List (RowKey × Row)) → IsStrictlySortedBy key_order (map first_of es) → map.entries (map.from_entries {R = key_order} es) ≡ es
 entries_of_sorted es h =
     let s = sorted es h in
-    let same : map.from_entries {R = key_order} es ≡ map.from_sorted {R = key_order} es = map.same_map key_total key_antisymmetric _ _ (λ q. map.get-from_entries key_total es q ∙ sym (map.get-from_sorted key_order es q s)) in
+    let same : map.from_entries {R = key_order} es
+    ≡ map.from_sorted {R = key_order} es = map.same_map key_total key_antisymmetric _ _
+    (λ q. map.get-from_entries key_total es q ∙ sym (map.get-from_sorted key_order es q s)) in
     ap map.entries same ∙ map.entries-from_sorted key_order es s

@@ -20,6 +20,7 @@ by_place (a ∷ b ∷ []) few = refl
 by_place (a ∷ b ∷ c ∷ []) few = refl
 by_place (a ∷ b ∷ c ∷ d ∷ es) few = absurd (omega (arith, few))
 
-pub all_keys : (id : Id) (x : Shadow) (a b c : Option RowKey) → a ≡ option_map key_of (slice_get (parts id 0 x) 0) → b ≡ option_map key_of (slice_get (parts id 0 x) 1)
+pub all_keys : (id : Id) (x : Shadow) (a b c : Option RowKey) → a ≡ option_map key_of (slice_get (parts id 0 x) 0) → b
+    ≡ option_map key_of (slice_get (parts id 0 x) 1)
     → c ≡ option_map key_of (slice_get (parts id 0 x) 2) → keys_of a b c ≡ footprint_of id x
 all_keys id x a b c p q r = (λ i. keys_of (p i) (q i) (r i)) ∙ by_place (parts id 0 x) (few_parts id 0 x)

@@ -45,7 +45,8 @@ module _ (sites : ℕ) where
   open_kept i Open d h g = g
   open_kept i (Ended w) d h g = h
 
-  stock_kept : (i : ItemRow) (b : Bool) (d : Done) → Kept (Some (row.Item i)) → Kept d.row → Kept (cond b d (misfits_as MisfitKind.StockShort (Some (row.Item i)))).row
+  stock_kept : (i : ItemRow) (b : Bool) (d : Done) → Kept (Some (row.Item i)) → Kept d.row →
+      Kept (cond b d (misfits_as MisfitKind.StockShort (Some (row.Item i)))).row
   stock_kept i true d h g = g
   stock_kept i false d h g = h
 
@@ -80,7 +81,8 @@ module _ (sites : ℕ) where
 
   with_row_kept : (t : Tables) (k : RowKey) (o : Option Row) → Kept o → AllInLimits sites t → AllInLimits sites (with_row t k o)
   with_row_kept t k None h g q = subst (λ (r : Option Row). Kept r) (sym (map.get-remove key_total t k q)) (at_key (tied q k) None (map.get t q) h (g q))
-  with_row_kept t k (Some r) h g q = subst (λ (x : Option Row). Kept x) (sym (map.get-insert key_total t k r q)) (at_key (tied q k) (Some r) (map.get t q) h (g q))
+  with_row_kept t k (Some r) h g q = subst (λ (x : Option Row). Kept x) (sym (map.get-insert key_total t k r q))
+      (at_key (tied q k) (Some r) (map.get t q) h (g q))
 
   -- a part within the limits keeps the tables within them
   pub after_kept : (t : Tables) (e : Effect) → ChangeInLimits sites e.change → AllInLimits sites t → AllInLimits sites (after_part t e)
@@ -117,7 +119,8 @@ module _ (sites : ℕ) where
   unfolding categories_from
   categories_in_limits k zero q = empty_in_limits q
   categories_in_limits k (suc n) q =
-      subst (λ (r : Option Row). IfSome r (RowInLimits sites)) (sym (map.get-insert key_total (map.from_entries (categories_from (k + 1) n)) (key.Cat k) new_category q))
+      subst (λ (r : Option Row). IfSome r (RowInLimits sites))
+      (sym (map.get-insert key_total (map.from_entries (categories_from (k + 1) n)) (key.Cat k) new_category q))
       (at_key sites (tied q (key.Cat k)) (Some new_category) (map.get (map.from_entries (categories_from (k + 1) n)) q) tt (categories_in_limits (k + 1) n q))
 
   -- so are the tables before any message

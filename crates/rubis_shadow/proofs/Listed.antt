@@ -45,16 +45,19 @@ rises es sorted distinct = sorted_from_all_adjacent key_total (keys_of es) (key.
     let second : slice_index_or (keys_of es) (k + 1) (key.Cat 0) ≡ (slice_index_or es (k + 1) d).0 = get_or-map first_of es (k + 1) d (key.Cat 0) within in
     let a = slice_index_or (keys_of es) k (key.Cat 0) in
     let b = slice_index_or (keys_of es) (k + 1) (key.Cat 0) in
-    let late : is_lt (key_order b a) ≡ false = ap (λ x. is_lt (key_order x a)) second ∙ ap (λ x. is_lt (key_order (slice_index_or es (k + 1) d).0 x)) first ∙ sorted k d (omega arith) within in
+    let late : is_lt (key_order b a) ≡ false = ap (λ x. is_lt (key_order x a)) second ∙ ap (λ x. is_lt (key_order (slice_index_or es (k + 1) d).0 x)) first
+    ∙ sorted k d (omega arith) within in
     let apart : key_eq a b ≡ false = apart_from_distinct key_eq (keys_of es) k (k + 1) (key.Cat 0) distinct (omega arith) in_keys in
     before (key_order a b) (key_order b a) (key_total.antisymm b a) late (tied-key_eq a b ∙ apart))
 
 -- what is found at a key doesn't hang on the order of the entries
-found : (q : RowKey) (v : Row) (es fs : Entries) → IsDistinct key_eq (keys_of fs) → IsPermutation es fs → lookup (key_eq q) es ≡ Some v → lookup (key_eq q) fs ≡ Some v
+found : (q : RowKey) (v : Row) (es fs : Entries) → IsDistinct key_eq (keys_of fs) → IsPermutation es fs → lookup (key_eq q) es ≡ Some v → lookup (key_eq q) fs
+    ≡ Some v
 found q v es fs distinct moved here = lookup-from_Contains key_eq_equiv q v fs distinct
     (Contains-permutation es fs (q, v) moved (Contains-from_lookup (λ x y e. (Decides-key_eq x y).0 e) q v es here))
 
-same_found : (q : RowKey) (es fs : Entries) → IsDistinct key_eq (keys_of es) → IsDistinct key_eq (keys_of fs) → IsPermutation es fs → (a b : Option Row) → lookup (key_eq q) es ≡ a → lookup (key_eq q) fs ≡ b → a ≡ b
+same_found : (q : RowKey) (es fs : Entries) → IsDistinct key_eq (keys_of es) → IsDistinct key_eq (keys_of fs) → IsPermutation es fs → (a b : Option Row) →
+    lookup (key_eq q) es ≡ a → lookup (key_eq q) fs ≡ b → a ≡ b
 same_found q es fs d h moved (Some v) b a_is b_is = sym (found q v es fs h moved a_is) ∙ b_is
 same_found q es fs d h moved None None a_is b_is = refl
 same_found q es fs d h moved None (Some w) a_is b_is = sym a_is ∙ found q w fs es d (IsPermutation-sym es fs moved) b_is
@@ -67,11 +70,13 @@ one_table t q k e = ap (holds t) (sym ((Decides-key_eq q k).0 e))
 found_in : (t : Table) (es : Entries) (q : RowKey) → lookup (key_eq q) (filter (λ e. holds t e.0) es) ≡ cond (holds t q) (lookup (key_eq q) es) None
 found_in t es q = lookup-filter-keys (key_eq q) (holds t) (holds t q) (one_table t q) es
 
-pub rows_listed : (t : Table) (es gs : Entries) → IsDistinct key_eq (keys_of es) → IsPermutation (filter (λ e. holds t e.0) es) gs → IsSortedByKey first_of key_order gs → gs ≡ rows_of t (tables_of es)
+pub rows_listed : (t : Table) (es gs : Entries) → IsDistinct key_eq (keys_of es) → IsPermutation (filter (λ e. holds t e.0) es) gs →
+    IsSortedByKey first_of key_order gs → gs ≡ rows_of t (tables_of es)
 rows_listed t es gs distinct moved sorted =
     let fs = filter (λ (e : RowKey × Row). holds t e.0) es in
     let few : IsDistinct key_eq (keys_of fs) = IsDistinct-keys_filter key_eq (λ e. holds t e.0) es distinct in
-    let same : IsDistinct key_eq (keys_of gs) = IsDistinct-IsPermutation key_eq key_eq_equiv.symm (keys_of fs) (keys_of gs) (IsPermutation-map first_of fs gs moved) few in
+    let same : IsDistinct key_eq (keys_of gs) = IsDistinct-IsPermutation key_eq key_eq_equiv.symm (keys_of fs) (keys_of gs)
+    (IsPermutation-map first_of fs gs moved) few in
     let m = tables_of es in
     let in_order = is_sorted-where_key key_order (holds t) (map.entries m) (map.entries_sorted m) in
     let one : map.from_entries {R = key_order} gs ≡ map.from_sorted {R = key_order} (rows_of t m) = map.same_map key_total key_antisymmetric _ _ (λ q.

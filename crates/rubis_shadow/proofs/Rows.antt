@@ -32,7 +32,8 @@ pub get_tables_of : (es : List (RowKey × Row)) (q : RowKey) → map.get (tables
 get_tables_of es q = map.get-from_entries key_total es q ∙ lookup_find es q
 
 -- entries that have v at k, and at each other key what es has
-pub tables_of_update : (es fs : List (RowKey × Row)) (k : RowKey) (v : Row) → ((q : RowKey) → lookup (key_eq q) fs ≡ cond (key_eq k q) (Some v) (lookup (key_eq q) es)) → tables_of fs ≡ map.insert (tables_of es) k v
+pub tables_of_update : (es fs : List (RowKey × Row)) (k : RowKey) (v : Row) →
+    ((q : RowKey) → lookup (key_eq q) fs ≡ cond (key_eq k q) (Some v) (lookup (key_eq q) es)) → tables_of fs ≡ map.insert (tables_of es) k v
 tables_of_update es fs k v h = map.same_map key_total key_antisymmetric _ _ (λ q.
     get_tables_of fs q ∙ h q
     ∙ ap (λ b. cond b (Some v) (lookup (key_eq q) es)) (key_eq_equiv.symm k q ∙ sym (tied-key_eq q k))
@@ -40,7 +41,8 @@ tables_of_update es fs k v h = map.same_map key_total key_antisymmetric _ _ (λ 
     ∙ sym (map.get-insert key_total (tables_of es) k v q))
 
 -- entries that have nothing at k, and at each other key what es has
-pub tables_of_remove : (es fs : List (RowKey × Row)) (k : RowKey) → ((q : RowKey) → lookup (key_eq q) fs ≡ cond (key_eq k q) None (lookup (key_eq q) es)) → tables_of fs ≡ map.remove (tables_of es) k
+pub tables_of_remove : (es fs : List (RowKey × Row)) (k : RowKey) → ((q : RowKey) → lookup (key_eq q) fs ≡ cond (key_eq k q) None (lookup (key_eq q) es)) →
+    tables_of fs ≡ map.remove (tables_of es) k
 tables_of_remove es fs k h = map.same_map key_total key_antisymmetric _ _ (λ q.
     get_tables_of fs q ∙ h q
     ∙ ap (λ b. cond b None (lookup (key_eq q) es)) (key_eq_equiv.symm k q ∙ sym (tied-key_eq q k))
@@ -48,10 +50,12 @@ tables_of_remove es fs k h = map.same_map key_total key_antisymmetric _ _ (λ q.
     ∙ sym (map.get-remove key_total (tables_of es) k q))
 
 -- a change in place of a row that is there
-pub after_alter : (t : Tables) (e : Effect) (old : Row) (new : Option Row) → map.get t e.key ≡ Some old → (change_row e.change (Some old)).row ≡ new → with_row t e.key new ≡ after_part t e
+pub after_alter : (t : Tables) (e : Effect) (old : Row) (new : Option Row) → map.get t e.key ≡ Some old → (change_row e.change (Some old)).row ≡ new →
+    with_row t e.key new ≡ after_part t e
 after_alter t e old new g r = ap (with_row t e.key) (sym r ∙ ap (λ (o : Option Row). (change_row e.change o).row) (sym g))
 
-pub misfit_alter : (t : Tables) (e : Effect) (old : Row) (m : Option MisfitKind) → map.get t e.key ≡ Some old → (change_row e.change (Some old)).misfit ≡ m → m ≡ misfit_of t e
+pub misfit_alter : (t : Tables) (e : Effect) (old : Row) (m : Option MisfitKind) → map.get t e.key ≡ Some old → (change_row e.change (Some old)).misfit ≡ m → m
+    ≡ misfit_of t e
 misfit_alter t e old m g r = sym r ∙ ap (λ (o : Option Row). (change_row e.change o).misfit) (sym g)
 
 pub row_stays : (b : Bool) (row : Row) → b ≡ true → cond b (Some row) None ≡ Some row
@@ -97,7 +101,8 @@ some_of None e = absurd (search rules)
 some_of (Some row) e = (row, refl)
 
 -- putting a row where it is
-put_same : (t : Tables) (k q : RowKey) (row : Row) → map.get t k ≡ Some row → (b : Bool) → eq_by_cmp key_order q k ≡ b → cond b (Some row) (map.get t q) ≡ map.get t q
+put_same : (t : Tables) (k q : RowKey) (row : Row) → map.get t k ≡ Some row → (b : Bool) → eq_by_cmp key_order q k ≡ b → cond b (Some row) (map.get t q)
+    ≡ map.get t q
 put_same t k q row g true e = sym g ∙ map.get_tied key_total t q k ((Equal-is (key_order q k)).0 e)
 put_same t k q row g false e = refl
 
@@ -110,7 +115,8 @@ unfolding change_row
 refused h row old e = ap (λ x. change_row x (Some old)) e
 
 pub after_refused : (t : Tables) (e : Effect) (row old : Row) → map.get t e.key ≡ Some old → e.change ≡ Insert row → t ≡ after_part t e
-after_refused t e row old g i = sym (insert_same t e.key old g) ∙ ap (λ (x : Done). with_row t e.key x.row) (sym (refused e.change row old i) ∙ ap (change_row e.change) (sym g))
+after_refused t e row old g i = sym (insert_same t e.key old g)
+    ∙ ap (λ (x : Done). with_row t e.key x.row) (sym (refused e.change row old i) ∙ ap (change_row e.change) (sym g))
 
 pub misfit_refused : (t : Tables) (e : Effect) (row old : Row) → map.get t e.key ≡ Some old → e.change ≡ Insert row → Some RowThere ≡ misfit_of t e
 misfit_refused t e row old g i = ap (λ (x : Done). x.misfit) (sym (refused e.change row old i) ∙ ap (change_row e.change) (sym g))

@@ -129,7 +129,8 @@ whole log from upto old new dones stops on inside f are all limits =
                 let long : k < length dones = (let a = f.counts in omega (arith, l, a)) in
                 let is = all k long in
                 let stop : slice_index stops k ≡ upto =
-                ap (λ xs. slice_index xs k) are ∙ get_or-map (λ d. from + d) dones k 0 0 long ∙ (let e : from + slice_index dones k ≡ upto = omega (arith, is, on) in e) in
+                ap (λ xs. slice_index xs k) are ∙ get_or-map (λ d. from + d) dones k 0 0 long
+                ∙ (let e : from + slice_index dones k ≡ upto = omega (arith, is, on) in e) in
                 stand.each k l
                 ∙ ap (λ (ms : List Core). Some (shard_of_log (length old) ms k)) (ap (λ n. take n (cores log)) stop ∙ sym (cores_front log upto));
           };

@@ -61,12 +61,15 @@ rest_within sites log n m (ℕ.suc k) d on inside formed all within =
     let same : n + k + 1 ≡ n + ℕ.suc k = omega arith in
     let conditions : IsMessage x =
     subst IsMessage (get_or-take m (drop n log) k d (omega (arith, on)) ∙ get_or-drop n log k d)
-    (All-get_or IsMessage (take m (drop n log)) k d (omega (arith, on, inside, length-take-le m (drop n log) (omega (arith, inside, length-drop n log)))) formed) in
+    (All-get_or IsMessage (take m (drop n log)) k d (omega (arith, on, inside, length-take-le m (drop n log) (omega (arith, inside, length-drop n log))))
+    formed) in
     subst (AreWithin sites log) same
-    (next_within sites log (n + k) x lt (get_or_default log (n + k) d x lt) conditions all (rest_within sites log n m k d (omega (arith, on)) inside formed all within))
+    (next_within sites log (n + k) x lt (get_or_default log (n + k) d x lt) conditions all
+    (rest_within sites log n m k d (omega (arith, on)) inside formed all within))
 
 pub log_within : (log : List Message) (n upto : ℕ) → n < upto → upto ≤ length log → All IsMessage (slice_range log n upto) → StaysWithin log n upto
 log_within [] n upto l within formed = absurd (omega (arith, l, within))
 log_within (m ∷ log) n upto l within formed = λ sites all first.
     let all_of_it : n + (upto - n) ≡ upto = omega (arith, l) in
-    subst (AreWithin sites (m ∷ log)) all_of_it (rest_within sites (m ∷ log) n (upto - n) (upto - n) m (omega arith) (omega (arith, l, within)) formed all first)
+    subst (AreWithin sites (m ∷ log)) all_of_it
+    (rest_within sites (m ∷ log) n (upto - n) (upto - n) m (omega arith) (omega (arith, l, within)) formed all first)

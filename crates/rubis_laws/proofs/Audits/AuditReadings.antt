@@ -1,5 +1,6 @@
 -- The records of an audit are read as the logs that they are written for, and as nothing else.
-use Rattle.std.proofs.Common.{ℕ, ◌≡◌, ◌+◌, ◌≤◌, ◌<◌, ◌^◌, List, [], ◌∷◌, ◌++◌, Bool, true, false, cond, refl, sym, ap, ◌∙◌, subst, Option, Some, None, inl, inr, ⊎_elim, arith, append_assoc, append-nil}
+use Rattle.std.proofs.Common.{ℕ, ◌≡◌, ◌+◌, ◌≤◌, ◌<◌, ◌^◌, List, [], ◌∷◌, ◌++◌, Bool, true, false, cond, refl, sym, ap, ◌∙◌, subst, Option, Some, None, inl, inr}
+use Rattle.std.proofs.Common.{⊎_elim, arith, append_assoc, append-nil}
 use Rattle.std.specs.Prelude.{◌⊎◌, ◌≢◌, bytes_eq, codes, map, option_and_then, reverse, unwrap_or, Result, Ok, Err}
 use Rattle.std.specs.Cmp.Lexicographic.{bytes_decides}
 use Rattle.std.specs.List.{flat_map}
@@ -15,7 +16,8 @@ use Rattle.rubis_message.specs.declared.tokens.Packet.{Packet}
 use Rattle.rubis_message.specs.declared.tokens.Packet.TheVariants as packet
 use Rattle.rubis_message.proofs.Forms.{IsForm, check_only, made_back, made_only, site_form, whole_back, whole_only}
 use Rattle.rubis_message.proofs.Records.{packet_is}
-use Rattle.rubis_model.specs.AuditRecords.{Line, IsLine, IsLogAmong, LinesAreReadAsWritten, LogsAreReadAsWritten, claim_of, line_of, line_record, log_records, logs_after, next_of, take_begin, with_line}
+use Rattle.rubis_model.specs.AuditRecords.{Line, IsLine, IsLogAmong, LinesAreReadAsWritten, LogsAreReadAsWritten, claim_of, line_of, line_record, log_records}
+use Rattle.rubis_model.specs.AuditRecords.{logs_after, next_of, take_begin, with_line}
 use Rattle.rubis_model.specs.AuditRecords.Line.{Begin, Next, Claim}
 use Rattle.rubis_model.specs.Logs.{Log}
 use Rattle.rubis_model.specs.Settle.{Has}
@@ -99,7 +101,8 @@ no_begin sites word more e = ap (λ b. no_more (followed_by (check b more) (λ _
 
 line_back : (sites : ℕ) → sites ≤ COUNTED_MAX → (x : Line) → IsLine sites x → line_of sites (line_record x) ≡ Some x
 line_back sites top (Begin site) h =
-    ap (λ o. option_or o (option_or (claim_of (line_record (Begin site))) (option_and_then next_of (packet_of sites (line_record (Begin site)))))) (whole_back (begin_form sites (few_sites sites top)) (line_record (Begin site)) (Begin site) h refl)
+    ap (λ o. option_or o (option_or (claim_of (line_record (Begin site))) (option_and_then next_of (packet_of sites (line_record (Begin site))))))
+    (whole_back (begin_form sites (few_sites sites top)) (line_record (Begin site)) (Begin site) h refl)
 line_back sites top (Next m) h =
     ap (λ o. option_or o (option_or (claim_of (message_record m)) (option_and_then next_of (packet_of sites (message_record m))))) (no_begin sites (codes "msg") _ refl)
     ∙ ap (option_and_then next_of) ((packet_is sites (few_sites sites top) top (message_record m) (packet.Msg m)).1 (h, refl))
@@ -185,7 +188,8 @@ unfolding AllAmong written
 goes_on sites logs more (Begin site) e h a =
     let s : record { site = site; messages = []; rows = None } ∷ logs ≡ more = cc in
     subst (λ (l : List Log). ((log : Log) → Has log l → IsLogAmong sites log) × (written logs ++ line_record (Begin site) ∷ [] ≡ written l)) s (
-      (λ log k. ⊎_elim (λ q. subst (IsLogAmong sites) (sym q) (record { site = h; messages = λ m x. absurd x; some = λ x. cc; rows = λ r x. absurd x })) (a log) k),
+      (λ log k. ⊎_elim (λ q. subst (IsLogAmong sites) (sym q) (record { site = h; messages = λ m x. absurd x; some = λ x. cc; rows = λ r x. absurd x }))
+          (a log) k),
       refl,
     )
 goes_on sites [] more (Next m) e h a = absurd cc
@@ -199,11 +203,13 @@ goes_on sites (log ∷ logs) more (Next m) e h a = at log.rows refl e
     at None q e =
         let s : record log { messages = log.messages ++ m ∷ [] } ∷ logs ≡ more = cc in
         subst (λ (l : List Log). AllAmong sites l × (written (log ∷ logs) ++ message_record m ∷ [] ≡ written l)) s
-        (newest sites log (record log { messages = log.messages ++ m ∷ [] }) logs (message_record m) a (with_next sites log m q h (first_among sites log logs a)) (next_records log m q))
+        (newest sites log (record log { messages = log.messages ++ m ∷ [] }) logs (message_record m) a
+        (with_next sites log m q h (first_among sites log logs a)) (next_records log m q))
 goes_on sites (log ∷ logs) more (Claim row) e h a =
     let s : record log { rows = Some (unwrap_or log.rows [] ++ row ∷ []) } ∷ logs ≡ more = cc in
     subst (λ (l : List Log). AllAmong sites l × (written (log ∷ logs) ++ row ∷ [] ≡ written l)) s
-    (newest sites log (record log { rows = Some (unwrap_or log.rows [] ++ row ∷ []) }) logs row a (with_claim sites log row h (first_among sites log logs a)) (claim_records log row))
+    (newest sites log (record log { rows = Some (unwrap_or log.rows [] ++ row ∷ []) }) logs row a (with_claim sites log row h (first_among sites log logs a))
+    (claim_records log row))
 
 -- what is done with the logs after record n
 abbrev pub after_line : ℕ → ℕ → List (List (List ℕ)) → Option (List Log) → Result (List Log) ℕ
@@ -240,33 +246,38 @@ logs_only sites top (fields ∷ rest) n logs last a e = line (line_of sites fiel
 Reaches : ℕ → List Log → List (List (List ℕ)) → List Log → Type 0
 Reaches sites logs records more = (n : ℕ) (rest : List (List (List ℕ))) → (m : ℕ) × (logs_after sites n logs (records ++ rest) ≡ logs_after sites m more rest)
 
-pub one_more : (sites : ℕ) → sites ≤ COUNTED_MAX → (logs more : List Log) (line : Line) (n : ℕ) (rest : List (List (List ℕ))) → IsLine sites line → with_line logs line ≡ Some more
+pub one_more : (sites : ℕ) → sites ≤ COUNTED_MAX → (logs more : List Log) (line : Line) (n : ℕ) (rest : List (List (List ℕ))) → IsLine sites line →
+    with_line logs line ≡ Some more
     → logs_after sites n logs (line_record line ∷ rest) ≡ logs_after sites (n + 1) more rest
 one_more sites top logs more line n rest h e =
     ap (λ o. after_line sites n rest (option_and_then (with_line logs) o)) (line_back sites top line h) ∙ ap (after_line sites n rest) e
 
 messages_read : (sites : ℕ) → sites ≤ COUNTED_MAX → (site : ℕ) (own ms : List Message) (logs : List Log) → ((m : Message) → Has m ms → IsMessageAmong sites m)
-    → Reaches sites (record { site = site; messages = own; rows = None } ∷ logs) (map message_record ms) (record { site = site; messages = own ++ ms; rows = None } ∷ logs)
+    → Reaches sites (record { site = site; messages = own; rows = None } ∷ logs) (map message_record ms)
+    (record { site = site; messages = own ++ ms; rows = None } ∷ logs)
 unfolding Reaches
 messages_read sites top site own [] logs h n rest =
     (n, ap (λ l. logs_after sites n (record { site = site; messages = l; rows = None } ∷ logs) rest) (sym (append-nil own)))
 messages_read sites top site own (m ∷ ms) logs h n rest =
     let r = messages_read sites top site (own ++ m ∷ []) ms logs (λ x k. h x (inr k)) (n + 1) rest in (
       r.0,
-      one_more sites top (record { site = site; messages = own; rows = None } ∷ logs) (record { site = site; messages = own ++ m ∷ []; rows = None } ∷ logs) (Next m) n (map message_record ms ++ rest) (h m (inl refl)) refl
+      one_more sites top (record { site = site; messages = own; rows = None } ∷ logs) (record { site = site; messages = own ++ m ∷ []; rows = None } ∷ logs)
+          (Next m) n (map message_record ms ++ rest) (h m (inl refl)) refl
           ∙ r.1 ∙ ap (λ l. logs_after sites r.0 (record { site = site; messages = l; rows = None } ∷ logs) rest) (append_assoc own (m ∷ []) ms),
     )
 
 rows_read : (sites : ℕ) → sites ≤ COUNTED_MAX → (site : ℕ) (own : List Message) (rows more : List (List (List ℕ))) (logs : List Log)
     → ((r : List (List ℕ)) → Has r more → IsLine sites (Claim r))
-    → Reaches sites (record { site = site; messages = own; rows = Some rows } ∷ logs) more (record { site = site; messages = own; rows = Some (rows ++ more) } ∷ logs)
+    → Reaches sites (record { site = site; messages = own; rows = Some rows } ∷ logs) more
+    (record { site = site; messages = own; rows = Some (rows ++ more) } ∷ logs)
 unfolding Reaches
 rows_read sites top site own rows [] logs h n rest =
     (n, ap (λ l. logs_after sites n (record { site = site; messages = own; rows = Some l } ∷ logs) rest) (sym (append-nil rows)))
 rows_read sites top site own rows (r ∷ more) logs h n rest =
     let k = rows_read sites top site own (rows ++ r ∷ []) more logs (λ x j. h x (inr j)) (n + 1) rest in (
       k.0,
-      one_more sites top (record { site = site; messages = own; rows = Some rows } ∷ logs) (record { site = site; messages = own; rows = Some (rows ++ r ∷ []) } ∷ logs) (Claim r) n (more ++ rest) (h r (inl refl)) refl
+      one_more sites top (record { site = site; messages = own; rows = Some rows } ∷ logs)
+          (record { site = site; messages = own; rows = Some (rows ++ r ∷ []) } ∷ logs) (Claim r) n (more ++ rest) (h r (inl refl)) refl
           ∙ k.1 ∙ ap (λ l. logs_after sites k.0 (record { site = site; messages = own; rows = Some l } ∷ logs) rest) (append_assoc rows (r ∷ []) more),
     )
 
@@ -279,18 +290,21 @@ log_said sites top site ms o logs l h s k n rest =
     let c = claimed o s k b.0 in (
       c.0,
       ap (λ r. logs_after sites n logs (line_record (Begin site) ∷ r)) (append_assoc (map message_record ms) (unwrap_or o []) rest)
-          ∙ one_more sites top logs (record { site = site; messages = []; rows = None } ∷ logs) (Begin site) n (map message_record ms ++ (unwrap_or o [] ++ rest)) l refl
+          ∙ one_more sites top logs (record { site = site; messages = []; rows = None } ∷ logs) (Begin site) n
+          (map message_record ms ++ (unwrap_or o [] ++ rest)) l refl
           ∙ b.1 ∙ c.1,
     )
   where
     claimed : (o : Option (List (List (List ℕ)))) → o ≢ Some [] → ((r : List (List ℕ)) → Has r (unwrap_or o []) → IsLine sites (Claim r)) → (n : ℕ)
-        → (m : ℕ) × (logs_after sites n (record { site = site; messages = ms; rows = None } ∷ logs) (unwrap_or o [] ++ rest) ≡ logs_after sites m (record { site = site; messages = ms; rows = o } ∷ logs) rest)
+        → (m : ℕ) × (logs_after sites n (record { site = site; messages = ms; rows = None } ∷ logs) (unwrap_or o [] ++ rest)
+        ≡ logs_after sites m (record { site = site; messages = ms; rows = o } ∷ logs) rest)
     claimed None s k n = (n, refl)
     claimed (Some []) s k n = absurd (s refl)
     claimed (Some (r ∷ rs)) s k n =
         let c = rows_read sites top site ms (r ∷ []) rs logs (λ x j. k x (inr j)) (n + 1) rest in (
           c.0,
-          one_more sites top (record { site = site; messages = ms; rows = None } ∷ logs) (record { site = site; messages = ms; rows = Some (r ∷ []) } ∷ logs) (Claim r) n (rs ++ rest) (k r (inl refl)) refl ∙ c.1,
+          one_more sites top (record { site = site; messages = ms; rows = None } ∷ logs) (record { site = site; messages = ms; rows = Some (r ∷ []) } ∷ logs)
+              (Claim r) n (rs ++ rest) (k r (inl refl)) refl ∙ c.1,
         )
 
 logs_back : (sites : ℕ) → sites ≤ COUNTED_MAX → (logs older : List Log) (n : ℕ) → AllAmong sites logs

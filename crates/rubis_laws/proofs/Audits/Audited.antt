@@ -57,7 +57,8 @@ checked_from i (v ∷ past) c h f =
     subst Checked (sym (back_push v past)) (checked_end [] (cores (reverse past)) (core v) (checked_from i past c.1 h.1 older) (record {
       new_id = new_here past v r c.0.ready;
       next_red =
-          number_is v.stamp.red (count is_red (cores (reverse past))) (is_red v.shadow) here.colour (λ l. c.0.ready.number l ∙ ap (λ n. n + 1) (sym (count_reds past (λ u k. (older u k).colour))));
+          number_is v.stamp.red (count is_red (cores (reverse past))) (is_red v.shadow) here.colour
+          (λ l. c.0.ready.number l ∙ ap (λ n. n + 1) (sym (count_reds past (λ u k. (older u k).colour))));
       fits = h.0.0;
       limits = here.limits;
     }))
@@ -79,13 +80,16 @@ winner_more all wide v f x r = tt
 
 pub refers_more : (all wide : Message → Type 0) (v : Message) → ((m : Message) → all m → Precedes m v → wide m) → (x : Shadow) → RefersToPast all v x
     → RefersToPast wide v x
-refers_more all wide v f x r =
-    (All-weaker (λ k. Preceded all v (IsMadeBy k)) (λ k. Preceded wide v (IsMadeBy k)) (λ k. more_precede all wide v f (IsMadeBy k)) (refers_of x) r.0, winner_more all wide v f x r.1)
+refers_more all wide v f x r = (
+  All-weaker (λ k. Preceded all v (IsMadeBy k)) (λ k. Preceded wide v (IsMadeBy k)) (λ k. more_precede all wide v f (IsMadeBy k)) (refers_of x) r.0,
+  winner_more all wide v f x r.1,
+)
 
 refers_in : (past : List Message) → AllFitting past → (v : Message) → Has v past → RefersToPast (λ u. Has u past) v v.shadow
 refers_in [] h v k = absurd k
 refers_in (x ∷ past) h v (inl e) =
-    subst (λ (y : Message). RefersToPast (λ u. Has u (x ∷ past)) y y.shadow) (sym e) (refers_more (λ u. Has u past) (λ u. Has u (x ∷ past)) x (λ m g p. inr g) x.shadow h.0.1)
+    subst (λ (y : Message). RefersToPast (λ u. Has u (x ∷ past)) y y.shadow) (sym e)
+    (refers_more (λ u. Has u past) (λ u. Has u (x ∷ past)) x (λ m g p. inr g) x.shadow h.0.1)
 refers_in (x ∷ past) h v (inr k) = refers_more (λ u. Has u past) (λ u. Has u (x ∷ past)) v (λ m g p. inr g) v.shadow (refers_in past h.1 v k)
 
 -- ---- what passes is sound
@@ -95,7 +99,8 @@ module _ (sites : ℕ) (logs : List Log) (among : AreAmong sites logs) (f : AreF
 
   each : (log : Log) → Has log logs → Checked (cores log.messages)
   each log h =
-      subst (λ l. Checked (cores l)) (reverse-reverse log.messages) (checked_from log.site (reverse log.messages) (f.ordered log h) (f.fitting log h) (λ v g. formed v ((log, h), has_reverse v log.messages g)))
+      subst (λ l. Checked (cores l)) (reverse-reverse log.messages)
+      (checked_from log.site (reverse log.messages) (f.ordered log h) (f.fitting log h) (λ v g. formed v ((log, h), has_reverse v log.messages g)))
 
   red_positive : (v : Message) → Logged logs v → is_red v.shadow ≡ true → 0 < v.stamp.red
   red_positive v a e = ltb-true 0 v.stamp.red (sym (formed v a).colour ∙ e)
@@ -106,7 +111,8 @@ module _ (sites : ℕ) (logs : List Log) (among : AreAmong sites logs) (f : AreF
   -- logs of messages that meet the conditions of their type are short enough to be folded
   few : (log : Log) → Has log logs → length (cores log.messages) ≤ 2 ^ 32
   few log h =
-      let l = log_short log.messages (released_all log.site (reverse log.messages) (f.ordered log h)) (λ v b. (among v ((log, h), has_reverse v log.messages b)).0) in
+      let l = log_short log.messages (released_all log.site (reverse log.messages) (f.ordered log h))
+      (λ v b. (among v ((log, h), has_reverse v log.messages b)).0) in
       let c = cores_length log.messages in
       omega (arith, l, c)
 
@@ -119,7 +125,8 @@ module _ (sites : ℕ) (logs : List Log) (among : AreAmong sites logs) (f : AreF
     meaning = is_meaning;
     clean = λ log h. (fold_is_meaning (cores log.messages) (each log h) (few log h)).1;
     refers =
-        λ v a. refers_more (λ u. Has u (reverse a.0.0.messages)) (Logged logs) v (λ m h p. (a.0, has_reverse m a.0.0.messages h)) v.shadow (refers_in (reverse a.0.0.messages) (f.fitting a.0.0 a.0.1) v (has_back v a.0.0.messages a.1));
+        λ v a. refers_more (λ u. Has u (reverse a.0.0.messages)) (Logged logs) v (λ m h p. (a.0, has_reverse m a.0.0.messages h)) v.shadow
+        (refers_in (reverse a.0.0.messages) (f.fitting a.0.0 a.0.1) v (has_back v a.0.0.messages a.1));
     holds = λ log h. checked_holds (cores log.messages) (each log h);
     stock = λ log h j n r e g. stock_left (cores log.messages) j n r (checked_holds (cores log.messages) (each log h)) e
         (sym ((is_meaning log h).rows (key.Item j)) ∙ g);
@@ -132,7 +139,8 @@ module _ (sites : ℕ) (logs : List Log) (among : AreAmong sites logs) (f : AreF
   claimed : (log : Log) → Has log logs → (o : Option (List (List (List ℕ)))) → IfSome o (λ rows. rows ≡ shown_rows log.messages)
       → IfSome o (λ rows. (t : Tables) → IsMeaning (cores log.messages) t → rows ≡ table_rows listing.Tables t)
   claimed log h None e = tt
-  claimed log h (Some rows) e = λ t m. e ∙ ap (table_rows listing.Tables) (meaning_is_one (cores log.messages) (fold_of (cores log.messages)).tables t (is_meaning log h) m)
+  claimed log h (Some rows) e = λ t m. e
+      ∙ ap (table_rows listing.Tables) (meaning_is_one (cores log.messages) (fold_of (cores log.messages)).tables t (is_meaning log h) m)
 
   pub faultless_sound : AreSound logs
   faultless_sound = record {

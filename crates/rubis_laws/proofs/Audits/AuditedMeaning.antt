@@ -31,7 +31,12 @@ numbered_push a m n f r l h = go (is_red m.shadow) refl
     go : (t : Bool) → is_red m.shadow ≡ t → (x : Message) × (Has x (a ++ m ∷ [])) × (is_red x.shadow ≡ true) × (x.stamp.red ≡ r)
     go false e = old (let c = more false e in omega (arith, c, h))
     go true e = ⊎_elim
-        (λ k. (m, has_last m a, e, (let c = more true e in let d = f.next_red ∙ ap (λ b. cond b (count is_red (cores a) + 1) 0) e in omega (arith, c, d, h, k))))
+        (λ k. (
+          m,
+          has_last m a,
+          e,
+          (let c = more true e in let d = f.next_red ∙ ap (λ b. cond b (count is_red (cores a) + 1) 0) e in omega (arith, c, d, h, k)),
+        ))
         (λ k. old k) (cases_lt (count is_red (cores a)) r)
 
 -- what stands before a message of a log
@@ -46,7 +51,8 @@ place before (x ∷ rest) v n u c (inl e) =
 place before (x ∷ rest) v n u c (inr h) =
     let on = sym (cores_push before x) in
     subst (λ l. Place l v) (append_assoc before (x ∷ []) rest)
-    (place (before ++ x ∷ []) rest v (numbered_push before x n c.0) (subst Apart on (apart_push (cores before) (core x) u c.0)) (subst (λ l. CheckedFrom l (cores rest)) on c.1) h)
+    (place (before ++ x ∷ []) rest v (numbered_push before x n c.0) (subst Apart on (apart_push (cores before) (core x) u c.0))
+    (subst (λ l. CheckedFrom l (cores rest)) on c.1) h)
 
 module _ (logs : List Log) (each : (log : Log) → Has log logs → Checked (cores log.messages))
     (once : (u v : Message) → Logged logs u → Logged logs v → is_red u.shadow ≡ true → is_red v.shadow ≡ true → u.stamp.red ≡ v.stamp.red → u ≡ v) where

@@ -65,7 +65,8 @@ module _ {K : Type 0} (sites : K → ℕ) (log : K → List Message) (each : (k 
   -- what precedes v stands before it
   there_before : (k : K) (past : List Message) (u v : Message) → IsOrdered (sites k) past v → Released past
       → ((x : Message) → Has x past → Has x (reverse (log k))) → Back log u → Back log v → Precedes u v → Has u past
-  there_before k past u v e r on a b q = counted_there k past u r on a (⊎_elim same (λ n. let d = e.ready.released u.stamp.id.site n in omega arith) (cases_eq u.stamp.id.site v.stamp.id.site))
+  there_before k past u v e r on a b q =
+      counted_there k past u r on a (⊎_elim same (λ n. let d = e.ready.released u.stamp.id.site n in omega arith) (cases_eq u.stamp.id.site v.stamp.id.site))
     where
       same : u.stamp.id.site ≡ v.stamp.id.site → u.stamp.id.seq ≤ counted u.stamp.id.site past
       same f = let g = o v b in let h = e.ready.next in let c = ap (λ x. dep v x) f in let d = ap (λ x. counted x past) f in omega arith
@@ -101,7 +102,9 @@ module _ {K : Type 0} (sites : K → ℕ) (log : K → List Message) (each : (k 
       let rel = checked_released (sites c.0) t.0 t.2 in
       let v_in = there_before c.0 t.0 v x t.1 rel t.3 b c r in
       let l = least v b in
-      let within : dep x v.stamp.id.site ≤ counted v.stamp.id.site t.0 = ⊎_elim (λ f. let g = o x c in let h = t.1.ready.next in let d = ap (λ y. dep x y) f in let m = ap (λ y. counted y t.0) f in omega arith) (λ n. t.1.ready.released v.stamp.id.site n) (cases_eq v.stamp.id.site x.stamp.id.site) in
+      let within : dep x v.stamp.id.site ≤ counted v.stamp.id.site t.0 =
+      ⊎_elim (λ f. let g = o x c in let h = t.1.ready.next in let d = ap (λ y. dep x y) f in let m = ap (λ y. counted y t.0) f in omega arith)
+      (λ n. t.1.ready.released v.stamp.id.site n) (cases_eq v.stamp.id.site x.stamp.id.site) in
       let y = found t.0 v.stamp.id.site (dep x v.stamp.id.site) rel (omega arith) within in
       let e : y.0.stamp.id.seq ≡ dep x y.0.stamp.id.site = y.3 ∙ ap (dep x) (sym y.2) in
       let g = grows (y.0.stamp.id.seq - v.stamp.id.seq) c.0 v y.0 (t.3 v v_in) (t.3 y.0 y.1) (sym y.2) (omega (arith, y.3)) u.stamp.id.site in
@@ -138,7 +141,8 @@ module _ {K : Type 0} (sites : K → ℕ) (log : K → List Message) (each : (k 
     irreflexive = λ u a q. let f = o u a in omega arith;
     transitive = λ u v x a b c q r. trans u v x a b c q r;
     reds =
-        λ u v a b l m. ⊎_elim (λ e. inl (red_once u v a b l e)) (λ d. inr (⊎_elim (λ f. inl (red_cross u v a b l f)) (λ f. inr (red_cross v u b a m f)) d)) (cases_order u.stamp.red v.stamp.red);
+        λ u v a b l m. ⊎_elim (λ e. inl (red_once u v a b l e)) (λ d. inr (⊎_elim (λ f. inl (red_cross u v a b l f)) (λ f. inr (red_cross v u b a m f)) d))
+        (cases_order u.stamp.red v.stamp.red);
   }
 
   pub back_serializes : (k : K) → Serializes (sites k) (Back log) (log k)
@@ -146,7 +150,8 @@ module _ {K : Type 0} (sites : K → ℕ) (log : K → List Message) (each : (k 
     members = λ u h. (k, has_back u (log k) h);
     distinct = λ u h. distinct_back (reverse (log k)) u (released k) (behind_from u u (log k) h);
     closed =
-        λ u v a h q. subst (StandsBefore u v) (reverse-reverse (log k)) (before_from u v (reverse (log k)) (closed k (reverse (log k)) u v (each k) (λ x m. m) a (has_back v (log k) h) q));
+        λ u v a h q. subst (StandsBefore u v) (reverse-reverse (log k))
+        (before_from u v (reverse (log k)) (closed k (reverse (log k)) u v (each k) (λ x m. m) a (has_back v (log k) h) q));
     causal =
         λ u v h e. causal_back (sites k) (reverse (log k)) u v (released k) (checked_made (sites k) (reverse (log k)) (each k)) (behind_from u v (log k) h) e;
   }
@@ -198,10 +203,13 @@ is_ordered w i past v s r m all = record {
   where
     carry : (u : Message) → Has u past → u.stamp.id.seq ≡ dep v u.stamp.id.site → (k : ℕ) → dep u k ≤ dep v k
     carry u h e k =
-        let t = made_at v.stamp.id.site (reverse (site w v.stamp.id.site).log) v (s.good v.stamp.id.site).made (s.good v.stamp.id.site).decided (s.good v.stamp.id.site).released (s.home.home v (all v (inl refl))) refl in
-        let u_in : Has u t.0 = there w t.0 u s t.1 (λ y q. (s.good v.stamp.id.site).log_sent y (t.3 y q)) (all u (inr h)) (omega (arith, t.2 u.stamp.id.site)) in
+        let t = made_at v.stamp.id.site (reverse (site w v.stamp.id.site).log) v (s.good v.stamp.id.site).made (s.good v.stamp.id.site).decided
+        (s.good v.stamp.id.site).released (s.home.home v (all v (inl refl))) refl in
+        let u_in : Has u t.0 = there w t.0 u s t.1 (λ y q. (s.good v.stamp.id.site).log_sent y (t.3 y q)) (all u (inr h))
+        (omega (arith, t.2 u.stamp.id.site)) in
         let f = own w u s (all u (inr h)) in
-        ⊎_elim (λ q. let g = ap (dep u) q in let d = ap (dep v) q in omega arith) (λ q. omega (arith, dep_within t.0 u k t.1 u_in q, t.2 k)) (cases_eq k u.stamp.id.site)
+        ⊎_elim (λ q. let g = ap (dep u) q in let d = ap (dep v) q in omega arith) (λ q. omega (arith, dep_within t.0 u k t.1 u_in q, t.2 k))
+        (cases_eq k u.stamp.id.site)
 
 pub run_ordered : (w : World) (i : ℕ) (past : List Message) → Sound w → Released past → CountedBy i past → ((x : Message) → Has x past → Sent w x)
     → AllOrdered i past

@@ -61,9 +61,11 @@ module _ (own : List Message) (v : Message) where
   all_made : (ks : List RowKey) → list_any (λ k. not (is_known own v k)) ks ≡ false → All (MadeBefore own v) ks
   all_made [] e = All-nil (MadeBefore own v)
   all_made (k ∷ ks) e =
-      let r = or_parts (not (is_known own v k)) (list_any (λ j. not (is_known own v j)) ks) e in All-cons (MadeBefore own v) k ks (made_before k r.0) (all_made ks r.1)
+      let r = or_parts (not (is_known own v k)) (list_any (λ j. not (is_known own v j)) ks) e in
+      All-cons (MadeBefore own v) k ks (made_before k r.0) (all_made ks r.1)
 
-  stands : {X : Type 0} (f : Core → Option X) (i : Id) → Preceded (λ u. Has u own) v (λ m. (i ≡ m.stamp.id) × IsSome (f (core m))) → IsSome (at_id f i (cores own))
+  stands : {X : Type 0} (f : Core → Option X) (i : Id) → Preceded (λ u. Has u own) v (λ m. (i ≡ m.stamp.id) × IsSome (f (core m))) →
+      IsSome (at_id f i (cores own))
   stands f i r = subst (λ j. IsSome (at_id f j (cores own))) (sym r.2.0) (stands_at f (cores own) (core r.0) (has_core r.0 own r.1) r.2.1)
 
   stands_in : (k : RowKey) → MadeBefore own v k → StandsIn (cores own) k
@@ -115,7 +117,8 @@ module _ (own : List Message) (v : Message) where
   all_known : (ks : List RowKey) → All (MadeBefore own v) ks → list_any (λ k. not (is_known own v k)) ks ≡ false
   all_known [] h = refl
   all_known (k ∷ ks) h =
-      or_from (not (is_known own v k)) (list_any (λ j. not (is_known own v j)) ks) (known k (All-head (MadeBefore own v) k ks h)) (all_known ks (All-tail (MadeBefore own v) k ks h))
+      or_from (not (is_known own v k)) (list_any (λ j. not (is_known own v j)) ks) (known k (All-head (MadeBefore own v) k ks h))
+      (all_known ks (All-tail (MadeBefore own v) k ks h))
 
   pub passes : (x : Shadow) → Fits (cores own) x → RefersToPast (λ u. Has u own) v x → Passes own v x
   passes x f r = record { known = all_known (refers_of x) r.0; category = f.category; nick = f.nick; stock = f.stock; winner = f.winner }

@@ -1,9 +1,11 @@
 -- The tests of an entry's stamp, and what they mean: of ids, of the order in its log, and of red numbers.
-use Rattle.std.proofs.Common.{ℕ, ◌≡◌, ◌+◌, ◌≤◌, ◌<◌, List, [], ◌∷◌, ◌++◌, true, false, ◌&&◌, cond, refl, sym, ap, ◌∙◌, subst, Option, Some, None, inl, inr, ⊎_elim, arith}
+use Rattle.std.proofs.Common.{ℕ, ◌≡◌, ◌+◌, ◌≤◌, ◌<◌, List, [], ◌∷◌, ◌++◌, true, false, ◌&&◌, cond, refl, sym, ap, ◌∙◌, subst, Option, Some, None, inl, inr}
+use Rattle.std.proofs.Common.{⊎_elim, arith}
 use Rattle.std.specs.Prelude.{◌||◌, ◌==◌, find, not, nat_lt, reverse}
 use Rattle.std.specs.List.{list_any, range_with_len}
 use Rattle.std.specs.Option.{option_map_or}
-use Rattle.std.proofs.lemmas.Bool.{true≢false, and_cases, and_parts, cases_Bool, cases_lt, eq-eqb, eqb-true, false_from_ne_true, le-leb, le-ltb, leb-true, ltb-false, ltb-true, lt-ltb, not-false, not-true, not_from_true, or_from, or_parts}
+use Rattle.std.proofs.lemmas.Bool.{true≢false, and_cases, and_parts, cases_Bool, cases_lt, eq-eqb, eqb-true, false_from_ne_true, le-leb, le-ltb, leb-true}
+use Rattle.std.proofs.lemmas.Bool.{ltb-false, ltb-true, lt-ltb, not-false, not-true, not_from_true, or_from, or_parts}
 use Rattle.std.proofs.lemmas.List.{get_or_past}
 use Rattle.rubis_schema.specs.KeyLaws.{Decides-same_id}
 use Rattle.rubis_schema.specs.Keys.{same_id}
@@ -71,7 +73,8 @@ module _ (site : ℕ) (own : List Message) (v : Message) (e : out_of_order site 
   within j n l = ⊎_elim
       (λ f. absurd (n (same_number j v.stamp.id.site f)))
       (λ f. ltb-false (counted j own) (dep v j) f)
-      (and_cases (not (j == v.stamp.id.site)) (nat_lt (counted j own) (dep v j)) (below_none (λ j. not (j == v.stamp.id.site) && nat_lt (counted j own) (dep v j)) (sites_of v) after_early.0 j l))
+      (and_cases (not (j == v.stamp.id.site)) (nat_lt (counted j own) (dep v j))
+      (below_none (λ j. not (j == v.stamp.id.site) && nat_lt (counted j own) (dep v j)) (sites_of v) after_early.0 j l))
 
   pub released : (j : ℕ) → (j ≡ v.stamp.id.site → ⊥) → dep v j ≤ counted j own
   released j n = ⊎_elim (λ l. within j n l) (λ l. let z = nothing_past v j l in omega (arith, z)) (cases_lt j (sites_of v))
@@ -88,12 +91,14 @@ module _ (site : ℕ) (own : List Message) (v : Message) (e : out_of_order site 
       (λ f. absurd (true≢false (sym (eq-eqb u.stamp.id.seq (dep v u.stamp.id.site) q) ∙ f)))
       (λ f. ⊎_elim (λ l. ltb-false (dep v j) (dep u j) (below_none (λ j. nat_lt (dep v j) (dep u j)) (sites_of v) f j l))
       (λ l. let s = (sites u h).0 in let z = nothing_past u j (omega (arith, s, l)) in omega (arith, z)) (cases_lt j (sites_of v)))
-      (and_cases (u.stamp.id.seq == dep v u.stamp.id.site) (list_any (λ j. nat_lt (dep v j) (dep u j)) (range_with_len 0 (sites_of v))) (has_none (forgets v) own after_miscounts.1 u h))
+      (and_cases (u.stamp.id.seq == dep v u.stamp.id.site) (list_any (λ j. nat_lt (dep v j) (dep u j)) (range_with_len 0 (sites_of v)))
+      (has_none (forgets v) own after_miscounts.1 u h))
 
 -- what is in order passes
 pub orderly : (site : ℕ) (own : List Message) (v : Message) → IsOrdered site (reverse own) v → out_of_order site own v ≡ false
 orderly site own v o =
-    or_from (is_not_next own v) _ (number_same v.stamp.id.seq (counted v.stamp.id.site own + 1) (o.ready.next ∙ ap (λ n. n + 1) (counted_reverse v.stamp.id.site own)))
+    or_from (is_not_next own v) _
+    (number_same v.stamp.id.seq (counted v.stamp.id.site own + 1) (o.ready.next ∙ ap (λ n. n + 1) (counted_reverse v.stamp.id.site own)))
     (or_from (is_early own v) _ (none_below (λ j. not (j == v.stamp.id.site) && nat_lt (counted j own) (dep v j)) (sites_of v) early)
     (or_from (miscounts site own v) _ (false_from_ne_true (miscounts site own v) miscounted)
     (none_has (forgets v) own (λ u h. false_from_ne_true (forgets v u) (forgot u h)))))
@@ -110,7 +115,8 @@ orderly site own v o =
     miscounted e =
         let t = and_parts (v.stamp.id.site == site) (list_any (λ j. not (dep v j == counted j own)) (range_with_len 0 (sites_of v))) e in
         let m = o.made (eqb-true v.stamp.id.site site t.0) in
-        true≢false (sym t.1 ∙ none_below (λ j. not (dep v j == counted j own)) (sites_of v) (λ j. number_same (dep v j) (counted j own) (m j ∙ counted_reverse j own)))
+        true≢false (sym t.1 ∙ none_below (λ j. not (dep v j == counted j own)) (sites_of v)
+        (λ j. number_same (dep v j) (counted j own) (m j ∙ counted_reverse j own)))
 
     forgot : (u : Message) → Has u own → forgets v u ≡ true → ⊥
     forgot u h e =
@@ -151,7 +157,8 @@ last_is : (past : List Message) → Released past → ((u : Message) → Has u p
     → u.stamp.red ≡ reds past → find (λ (x : Message). is_red x.shadow) past ≡ Some u
 last_is [] r c u h l e = absurd h
 last_is (m ∷ past) r c u (inl s) l e =
-    ap (λ t. cond t (Some m) (find (λ (x : Message). is_red x.shadow) past)) (c m (inl refl) ∙ lt-ltb 0 m.stamp.red (subst (λ (x : Message). 0 < x.stamp.red) s l)) ∙ ap Some (sym s)
+    ap (λ t. cond t (Some m) (find (λ (x : Message). is_red x.shadow) past))
+    (c m (inl refl) ∙ lt-ltb 0 m.stamp.red (subst (λ (x : Message). 0 < x.stamp.red) s l)) ∙ ap Some (sym s)
 last_is (m ∷ past) r c u (inr h) l e = ⊎_elim
     (λ k. let p = reds_yes m past k in let w = red_within past u r.1 h in absurd (omega (arith, w, p, e)))
     (λ k.
@@ -160,7 +167,8 @@ last_is (m ∷ past) r c u (inr h) l e = ⊎_elim
     (cases_lt 0 m.stamp.red)
 
 module _ (others own : List Message) (v : Message) (e : red_gap others own v ≡ false) (red : Coloured v) where
-  number_tests : 0 < v.stamp.red → (not (v.stamp.red == reds own + 1) || (list_any (takes_number v) others || option_map_or (λ u. not (comes_before u v)) (last_red own) false)) ≡ false
+  number_tests : 0 < v.stamp.red →
+      (not (v.stamp.red == reds own + 1) || (list_any (takes_number v) others || option_map_or (λ u. not (comes_before u v)) (last_red own) false)) ≡ false
   number_tests l = ⊎_elim (λ f. absurd (true≢false (sym (lt-ltb 0 v.stamp.red l) ∙ sym red ∙ f))) (λ f. f) (and_cases (is_red v.shadow) _ e)
 
   pub number : 0 < v.stamp.red → v.stamp.red ≡ reds own + 1
@@ -182,16 +190,20 @@ module _ (others own : List Message) (v : Message) (e : red_gap others own v ≡
       let p : 0 < v.stamp.red = omega (arith, q) in
       let n = number p in
       let s = last_is (reverse own) r (λ x k. c x (has_reverse x own k)) u (has_back u own h) l (let z = reds_reverse own in omega (arith, z, n, q)) in
-      leb-true u.stamp.id.seq (dep v u.stamp.id.site) (not-false (comes_before u v) (ap (λ o. option_map_or (λ u. not (comes_before u v)) o false) (sym s) ∙ (others_tests p).1))
+      leb-true u.stamp.id.seq (dep v u.stamp.id.site)
+      (not-false (comes_before u v) (ap (λ o. option_map_or (λ u. not (comes_before u v)) o false) (sym s) ∙ (others_tests p).1))
 
 -- what has the next red number, and is preceded by the red one before it, passes
 pub no_gap : (site : ℕ) (others own : List Message) (v : Message) → Coloured v → Released (reverse own) → ((u : Message) → Has u own → Coloured u)
     → IsOrdered site (reverse own) v → ((u : Message) → Has u others → 0 < v.stamp.red → u.stamp.red ≡ v.stamp.red → u ≡ v) → red_gap others own v ≡ false
 no_gap site others own v red r c o once = false_from_ne_true (red_gap others own v) (λ e.
-    let t = and_parts (is_red v.shadow) (not (v.stamp.red == reds own + 1) || (list_any (takes_number v) others || option_map_or (λ u. not (comes_before u v)) (last_red own) false)) e in
+    let t = and_parts (is_red v.shadow)
+    (not (v.stamp.red == reds own + 1) || (list_any (takes_number v) others || option_map_or (λ u. not (comes_before u v)) (last_red own) false)) e in
     let l = ltb-true 0 v.stamp.red (sym red ∙ t.0) in
-    true≢false (sym t.1 ∙ or_from (not (v.stamp.red == reds own + 1)) _ (number_same v.stamp.red (reds own + 1) (o.ready.number l ∙ ap (λ n. n + 1) (reds_reverse own)))
-    (or_from (list_any (takes_number v) others) _ (none_has (takes_number v) others (λ u h. false_from_ne_true (takes_number v u) (taken l u h))) (last l (last_red own) refl))))
+    true≢false (sym t.1 ∙ or_from (not (v.stamp.red == reds own + 1)) _
+    (number_same v.stamp.red (reds own + 1) (o.ready.number l ∙ ap (λ n. n + 1) (reds_reverse own)))
+    (or_from (list_any (takes_number v) others) _ (none_has (takes_number v) others (λ u h. false_from_ne_true (takes_number v u) (taken l u h)))
+    (last l (last_red own) refl))))
   where
     taken : 0 < v.stamp.red → (u : Message) → Has u others → takes_number v u ≡ true → ⊥
     taken l u h e =

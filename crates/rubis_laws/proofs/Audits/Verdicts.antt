@@ -1,5 +1,6 @@
 -- The verdict is Agree if and only if the logs pass every check.
-use Rattle.std.proofs.Common.{ℕ, ◌≡◌, ◌+◌, ◌≤◌, ◌<◌, List, [], ◌∷◌, ◌++◌, length, Bool, true, false, cond, refl, sym, ap, ◌∙◌, subst, Option, Some, None, inl, inr, ⊎_elim, arith, append_assoc}
+use Rattle.std.proofs.Common.{ℕ, ◌≡◌, ◌+◌, ◌≤◌, ◌<◌, List, [], ◌∷◌, ◌++◌, length, Bool, true, false, cond, refl, sym, ap, ◌∙◌, subst, Option, Some, None, inl}
+use Rattle.std.proofs.Common.{inr, ⊎_elim, arith, append_assoc}
 use Rattle.std.specs.Prelude.{◌↔◌, not, reverse, option_map, IfSome}
 use Rattle.std.specs.Cmp.Lexicographic.{bytes_decides, pointwise_decides}
 use Rattle.std.specs.Option.{option_map_or, option_or}
@@ -17,7 +18,8 @@ use Rattle.rubis_model.specs.Logs.{Log, shown_rows}
 use Rattle.rubis_model.specs.Order.{Released}
 use Rattle.rubis_model.specs.References.{RefersToPast}
 use Rattle.rubis_model.specs.Settle.{Has, Ready}
-use Rattle.rubis_model.specs.Verdict.{checks, clash, first_fault, first_of, found_or, log_fault, out_of_order, red_gap, same_rows, verdict, verdict_from, wrong_reference, wrong_rows}
+use Rattle.rubis_model.specs.Verdict.{checks, clash, first_fault, first_of, found_or, log_fault, out_of_order, red_gap, same_rows, verdict, verdict_from}
+use Rattle.rubis_model.specs.Verdict.{wrong_reference, wrong_rows}
 use Rattle.rubis_model.proofs.Lists.{has_append, has_back, has_left, has_reverse, has_right, push_cases}
 use Rattle.rubis_model.proofs.Pasts.{red_within}
 use Rattle.rubis_model.proofs.Settling.{counted_reverse, reds_reverse, reverse_push}
@@ -70,11 +72,14 @@ one_push : (all : List Message) (v : Message) → AreOne all → ((u : Message) 
 one_push all v o id red = record {
   ids = λ u w h k. ⊎_elim
       (λ a. ⊎_elim (λ b. o.ids u w a b) (λ b. subst (Same u) (sym b) (id u a)) (push_cases w v all k))
-      (λ a. ⊎_elim (λ b s q. sym (subst (λ x. w ≡ x) (sym a) (id w b (sym s ∙ ap (λ (x : Message). x.stamp.id.site) a) (sym q ∙ ap (λ (x : Message). x.stamp.id.seq) a)))) (λ b s q. a ∙ sym b) (push_cases w v all k))
+      (λ a. ⊎_elim (λ b s q. sym
+      (subst (λ x. w ≡ x) (sym a) (id w b (sym s ∙ ap (λ (x : Message). x.stamp.id.site) a) (sym q ∙ ap (λ (x : Message). x.stamp.id.seq) a))))
+      (λ b s q. a ∙ sym b) (push_cases w v all k))
       (push_cases u v all h);
   reds = λ u w h k. ⊎_elim
       (λ a. ⊎_elim (λ b. o.reds u w a b) (λ b l q. red u a l (q ∙ ap (λ (x : Message). x.stamp.red) b) ∙ sym b) (push_cases w v all k))
-      (λ a. ⊎_elim (λ b l q. a ∙ sym (red w b (subst (λ n. 0 < n) q l) (sym q ∙ ap (λ (x : Message). x.stamp.red) a))) (λ b l q. a ∙ sym b) (push_cases w v all k))
+      (λ a. ⊎_elim (λ b l q. a ∙ sym (red w b (subst (λ n. 0 < n) q l) (sym q ∙ ap (λ (x : Message). x.stamp.red) a))) (λ b l q. a ∙ sym b)
+      (push_cases w v all k))
       (push_cases u v all h);
 }
 
@@ -152,7 +157,8 @@ walk_log sites site others own (v ∷ rest) w t e =
     let n = or_first (option_map (λ k. (k, length own + 1)) (first_of (checks others site own v))) (first_fault others site (own ++ v ∷ []) rest) e in
     let c = clean others site own v (none_map (λ k. (k, length own + 1)) (first_of (checks others site own v)) n.0) in
     let s = step sites site others own v w (λ u h. t u (has_left u own (v ∷ rest) h)) (t v (has_right v own (v ∷ rest) (inl refl))) c in
-    subst (Walked others site) (append_assoc own (v ∷ []) rest) (walk_log sites site others (own ++ v ∷ []) rest s (λ u h. t u (subst (Has u) (append_assoc own (v ∷ []) rest) h)) n.1)
+    subst (Walked others site) (append_assoc own (v ∷ []) rest)
+    (walk_log sites site others (own ++ v ∷ []) rest s (λ u h. t u (subst (Has u) (append_assoc own (v ∷ []) rest) h)) n.1)
 
 -- ---- rows
 pub same_rows_decides : (a b : List (List (List ℕ))) → (same_rows a b ≡ true → a ≡ b) × (a ≡ b → same_rows a b ≡ true)
@@ -198,7 +204,8 @@ no_rows false e = refl
 begin : (site : ℕ) (others : List Message) → AreOne others → Walked others site []
 begin site others o = record { one = subst AreOne (sym (append-nil others)) o; ordered = tt; fitting = tt }
 
-walk : (sites k : ℕ) (others : List Message) (logs : List Log) → AreOne others → ((log : Log) → Has log logs → (u : Message) → Has u log.messages → IsOf sites u)
+walk : (sites k : ℕ) (others : List Message) (logs : List Log) → AreOne others →
+    ((log : Log) → Has log logs → (u : Message) → Has u log.messages → IsOf sites u)
     → verdict_from k others logs ≡ Agree → AreOne (others ++ said logs) × ((log : Log) → Has log logs → IsFine log)
 unfolding said
 walk sites k others [] o t e = (subst AreOne (sym (append-nil others)) o, (λ log h. absurd h))
@@ -255,10 +262,13 @@ module _ (logs : List Log) (f : AreFaultless logs) (formed : (v : Message) → L
   log_clean site others own [] o g there here = refl
   log_clean site others own (v ∷ rest) o g there here =
       let push = append_assoc own (v ∷ []) rest in
-      let behind : reverse (own ++ v ∷ rest) ≡ reverse rest ++ (v ∷ reverse own) = ap reverse (sym push) ∙ reverse-append (own ++ v ∷ []) rest ∙ ap (λ l. reverse rest ++ l) (reverse_push own v) in
-      let c = entry_clean site others own v (ordered_behind site (reverse rest) (v ∷ reverse own) (subst (AllOrdered site) behind o)) (fitting_behind (reverse rest) (v ∷ reverse own) (subst AllFitting behind g))
+      let behind : reverse (own ++ v ∷ rest) ≡ reverse rest ++ (v ∷ reverse own) = ap reverse (sym push) ∙ reverse-append (own ++ v ∷ []) rest
+      ∙ ap (λ l. reverse rest ++ l) (reverse_push own v) in
+      let c = entry_clean site others own v (ordered_behind site (reverse rest) (v ∷ reverse own) (subst (AllOrdered site) behind o))
+      (fitting_behind (reverse rest) (v ∷ reverse own) (subst AllFitting behind g))
       there (λ u h. here u (has_left u own (v ∷ rest) h)) (here v (has_right v own (v ∷ rest) (inl refl))) in
-      let n = log_clean site others (own ++ v ∷ []) rest (subst (λ l. AllOrdered site (reverse l)) (sym push) o) (subst (λ l. AllFitting (reverse l)) (sym push) g) there (λ u h. here u (subst (Has u) push h)) in
+      let n = log_clean site others (own ++ v ∷ []) rest (subst (λ l. AllOrdered site (reverse l)) (sym push) o)
+      (subst (λ l. AllFitting (reverse l)) (sym push) g) there (λ u h. here u (subst (Has u) push h)) in
       ap (λ k. option_or (option_map (λ x. (x, length own + 1)) k) (first_fault others site (own ++ v ∷ []) rest)) (none_found others site own v c) ∙ n
 
   logs_clean : (k : ℕ) (others : List Message) (rest : List Log) → ((u : Message) → Has u others → Logged logs u) → ((log : Log) → Has log rest → Has log logs)

@@ -148,7 +148,8 @@ nick_twice = refl
 
 -- ---- Stock
 
-five_of_three : verdict (log 0 (ann ∷ bob ∷ cups ∷ message 0 4 3 (3 ∷ 0 ∷ []) (shadow.Buy (record { item = id 0 3; buyer = id 0 2; quantity = 5 })) ∷ []) ∷ []) ≡ Found kind.Stock 1 4
+five_of_three : verdict (log 0 (ann ∷ bob ∷ cups ∷ message 0 4 3 (3 ∷ 0 ∷ []) (shadow.Buy (record { item = id 0 3; buyer = id 0 2; quantity = 5 })) ∷ []) ∷ [])
+    ≡ Found kind.Stock 1 4
 five_of_three = refl
 
 -- ---- Winner
@@ -178,16 +179,20 @@ order_and_red_gap : verdict (log 0 (message 0 2 2 (1 ∷ 0 ∷ []) (shadow.User 
 order_and_red_gap = refl
 
 -- red number 2 is missing, and so is the item
-red_gap_and_refers : verdict (log 0 (ann ∷ message 0 2 3 (1 ∷ 0 ∷ []) (shadow.Bid (record { item = id 0 9; bidder = id 0 1; amount = 60 })) ∷ []) ∷ []) ≡ Found kind.RedGap 1 2
+red_gap_and_refers : verdict (log 0 (ann ∷ message 0 2 3 (1 ∷ 0 ∷ []) (shadow.Bid (record { item = id 0 9; bidder = id 0 1; amount = 60 })) ∷ []) ∷ [])
+    ≡ Found kind.RedGap 1 2
 red_gap_and_refers = refl
 
 -- no buyer, and more than there is
-refers_and_stock : verdict (log 0 (ann ∷ bob ∷ cups ∷ message 0 4 3 (3 ∷ 0 ∷ []) (shadow.Buy (record { item = id 0 3; buyer = id 0 9; quantity = 5 })) ∷ []) ∷ []) ≡ Found kind.Refers 1 4
+refers_and_stock : verdict
+    (log 0 (ann ∷ bob ∷ cups ∷ message 0 4 3 (3 ∷ 0 ∷ []) (shadow.Buy (record { item = id 0 3; buyer = id 0 9; quantity = 5 })) ∷ []) ∷ [])
+    ≡ Found kind.Refers 1 4
 refers_and_stock = refl
 
 -- more than there is, after the close
 stock_and_winner : verdict (
-    log 0 (ann ∷ bob ∷ cups ∷ bid ∷ close 9 (Some (id 0 4)) ∷ message 0 6 5 (5 ∷ 0 ∷ []) (shadow.Buy (record { item = id 0 3; buyer = id 0 2; quantity = 5 })) ∷ []) ∷ []
+    log 0 (ann ∷ bob ∷ cups ∷ bid ∷ close 9 (Some (id 0 4)) ∷ message 0 6 5 (5 ∷ 0 ∷ [])
+    (shadow.Buy (record { item = id 0 3; buyer = id 0 2; quantity = 5 })) ∷ []) ∷ []
     ) ≡ Found kind.Stock 1 6
 stock_and_winner = refl
 
@@ -216,7 +221,8 @@ row_is_long k r fields h = absurd h
 rows_are_long : (es : List (RowKey × Row)) (fields : List (List ℕ)) → Has fields (flat_map (λ e. row_record e.0 e.1) es) → 2 < length fields
 rows_are_long [] fields h = absurd h
 rows_are_long (e ∷ es) fields h =
-    ⊎_elim (λ k. row_is_long e.0 e.1 fields k) (λ k. rows_are_long es fields k) (has_append fields (row_record e.0 e.1) (flat_map (λ e. row_record e.0 e.1) es) h)
+    ⊎_elim (λ k. row_is_long e.0 e.1 fields k) (λ k. rows_are_long es fields k)
+    (has_append fields (row_record e.0 e.1) (flat_map (λ e. row_record e.0 e.1) es) h)
 
 -- a record that is none of the log's rows is claimed
 abbrev claims_a_row : List Message → Log

@@ -20,7 +20,8 @@ use Rattle.rubis_model.specs.Answers.{asked_rows, send_row}
 use Rattle.rubis_model.specs.Checks.{Checked}
 use Rattle.rubis_model.specs.Log.{cores, fold_of}
 use Rattle.rubis_model.specs.Meaning.{meaning_row}
-use Rattle.rubis_model.specs.Processes.{Carried, HasExactlySent, HasReadAll, IsSentMessage, KeepsAll, Reading, WasSent, answers_of, process, read_by, site_after, state_of}
+use Rattle.rubis_model.specs.Processes.{Carried, HasExactlySent, HasReadAll, IsSentMessage, KeepsAll, Reading, WasSent, answers_of, process, read_by}
+use Rattle.rubis_model.specs.Processes.{site_after, state_of}
 use Rattle.rubis_model.specs.Restarts.{AreReplayed, CarriedWithRestarts, Moment, recorded, state_since_start}
 use Rattle.rubis_model.specs.Restarts.Moment.{Reads, Replays, Restarts}
 use Rattle.rubis_model.specs.Runs.{answers, input_of, input_step, output_of, told}
@@ -28,7 +29,8 @@ use Rattle.rubis_model.specs.Settle.{Has}
 use Rattle.rubis_model.specs.Site.{Replica, generating, opening_at, rows_at, standing_of}
 use Rattle.rubis_laws.proofs.Rows.FoldIsMeaning.{fold_is_meaning}
 use Rattle.rubis_laws.proofs.Processes.NewRecords.{new_records_are_read}
-use Rattle.rubis_laws.proofs.Examples.ProcessExamples.{ann_answers, ann_is_answered, ann_is_asked, ann_is_sent, bob_is_asked, most, no_packet_asked, not_some, reads}
+use Rattle.rubis_laws.proofs.Examples.ProcessExamples.{ann_answers, ann_is_answered, ann_is_asked, ann_is_sent, bob_is_asked, most, no_packet_asked, not_some}
+use Rattle.rubis_laws.proofs.Examples.ProcessExamples.{reads}
 use Rattle.rubis_laws.proofs.Processes.AreARun.{output_one}
 use Rattle.rubis_laws.proofs.Processes.ProcessesConverging.{processes_converge, restarted_converge}
 use Rattle.rubis_laws.proofs.Processes.Restarts.{nothing_left_out, readings_are_moments, recordings_replay, split_append}
@@ -86,7 +88,12 @@ ann_is_logged = ann_is_read ∙ ap ann_by (λ i key. (fold_is_meaning [] tt (ome
 
 ann_is_checked : Checked (cores (ann ∷ []))
 ann_is_checked = (
-  record { new_id = refl; next_red = refl; fits = record { known = λ k d l. absurd (omega arith); category = refl; nick = refl; stock = refl; winner = refl }; limits = (1, tt) },
+  record {
+    new_id = refl;
+    next_red = refl;
+    fits = record { known = λ k d l. absurd (omega arith); category = refl; nick = refl; stock = refl; winner = refl };
+    limits = (1, tt);
+  },
   tt,
 )
 
@@ -163,7 +170,9 @@ module _ (readings : List Reading) (zero : answers_of 2 most readings 0 ≡ ann_
       inr (⊎_elim (λ e. ap (λ (x : Message). x.stamp.id.site) e) (λ e. ap (λ (x : Message). x.stamp.id.site) e) (are_these fields m is (two_sent fields h)))
 
   one_has_read : HasReadAll 2 most readings 1
-  one_has_read fields m h is = inl (⊎_elim (λ e. subst (λ x. Has x (read_by 1 readings)) (sym e) reads_ann) (λ e. subst (λ x. Has x (read_by 1 readings)) (sym e) reads_bob) (two_sent fields h))
+  one_has_read fields m h is =
+      inl (⊎_elim (λ e. subst (λ x. Has x (read_by 1 readings)) (sym e) reads_ann) (λ e. subst (λ x. Has x (read_by 1 readings)) (sym e) reads_bob)
+      (two_sent fields h))
 
   keep_them : (i : ℕ) → KeepsAll 2 most readings i
   keep_them i = (ann ∷ bob ∷ [], (λ m h. ⊎_elim (λ e. inl e) (λ e. inr (inl e)) (are_these h.0 m h.2 (two_sent h.0 h.1))), omega arith)
@@ -178,7 +187,8 @@ abbrev again_answers : List (List (List ℕ))
 again_answers = (codes "reply" ∷ codes "1" ∷ codes "held" ∷ []) ∷ (codes "reply" ∷ codes "2" ∷ codes "released" ∷ codes "2" ∷ []) ∷ []
 
 again_is_answered : answers_of 2 most lost_and_again 1 ≡ again_answers
-unfolding answers request_of take_request take_kind kind_of packet_of take_packet take_message take_stamp take_site take_positive number_of deps_of take_shadow nick_of digits
+unfolding answers request_of take_request take_kind kind_of packet_of take_packet take_message take_stamp take_site take_positive number_of deps_of take_shadow
+    nick_of digits
 again_is_answered = refl
 
 again_is_carried : Carried 2 most lost_and_again
@@ -221,11 +231,13 @@ too_few_is_answered : answers_of 2 one_kept in_order 1 ≡
     (codes "reply" ∷ codes "1" ∷ codes "released" ∷ codes "1" ∷ [])
     ∷ (codes "reply" ∷ codes "2" ∷ codes "refused" ∷ codes "2" ∷ codes "Full" ∷ [])
     ∷ []
-unfolding answers request_of take_request take_kind kind_of packet_of take_packet take_message take_stamp take_site take_positive number_of deps_of take_shadow nick_of digits
+unfolding answers request_of take_request take_kind kind_of packet_of take_packet take_message take_stamp take_site take_positive number_of deps_of take_shadow
+    nick_of digits
 too_few_is_answered = refl
 
 too_few_are_logged : (state_of 2 one_kept in_order 1).log ≡ ann ∷ []
-unfolding request_of take_request take_kind kind_of packet_of take_packet take_message take_stamp take_site take_positive number_of deps_of take_shadow nick_of digits
+unfolding request_of take_request take_kind kind_of packet_of take_packet take_message take_stamp take_site take_positive number_of deps_of take_shadow nick_of
+    digits
 too_few_are_logged = refl
 
 bob_is_sent_there : IsSentMessage 2 one_kept in_order bob
@@ -271,24 +283,34 @@ second_is_fine = recordings_replay 2 0 most first_life (ann_is_asked ∷ []) fir
 other_is_fine : Fine other_goes_on
 other_is_fine =
     let f = new_records_are_read 2 1 most second_life ann_is_sent second_is_fine.0 second_is_fine.1 (nothing_left_out (process 2 most 1) (opening_at 1) [])
-    (λ p is. (0, omega arith, first_life, Restarts 0 ∷ Replays 0 ann_is_asked ∷ [], refl, subst (Has (send_row ann_is_sent)) (sym ann_is_answered) (inr (inl refl)))) in
+    (λ p is. (
+      0,
+      omega arith,
+      first_life,
+      Restarts 0 ∷ Replays 0 ann_is_asked ∷ [],
+      refl,
+      subst (Has (send_row ann_is_sent)) (sym ann_is_answered) (inr (inl refl)),
+    )) in
     (f.0, f.1)
 
 site_0_is_fine : Fine site_0_goes_on
 site_0_is_fine =
-    let f = new_records_are_read 2 0 most other_goes_on bob_is_asked other_is_fine.0 other_is_fine.1 (nothing_left_out (process 2 most 0) (opening_at 0) (ann_is_asked ∷ []))
+    let f = new_records_are_read 2 0 most other_goes_on bob_is_asked other_is_fine.0 other_is_fine.1
+    (nothing_left_out (process 2 most 0) (opening_at 0) (ann_is_asked ∷ []))
     (λ p is. absurd (not_some (packet_of 2 bob_is_asked) p no_packet_bob is)) in
     (f.0, f.1)
 
 killed_is_fine : Fine killed
 killed_is_fine =
-    let f = new_records_are_read 2 1 most site_0_goes_on bob_is_sent site_0_is_fine.0 site_0_is_fine.1 (nothing_left_out (process 2 most 1) (opening_at 1) (ann_is_sent ∷ []))
+    let f = new_records_are_read 2 1 most site_0_goes_on bob_is_sent site_0_is_fine.0 site_0_is_fine.1
+    (nothing_left_out (process 2 most 1) (opening_at 1) (ann_is_sent ∷ []))
     (λ p is. (0, omega arith, site_0_goes_on, [], refl, subst (Has (send_row bob_is_sent)) (sym both_are_answered) (inr (inr (inr (inl refl)))))) in
     (f.0, f.1)
 
 killed_is_answered : answers_of 2 most (recorded killed) 1 ≡
     (codes "reply" ∷ codes "1" ∷ codes "released" ∷ codes "1" ∷ []) ∷ (codes "reply" ∷ codes "2" ∷ codes "released" ∷ codes "1" ∷ []) ∷ []
-unfolding answers request_of take_request take_kind kind_of packet_of take_packet take_message take_stamp take_site take_positive number_of deps_of take_shadow nick_of digits
+unfolding answers request_of take_request take_kind kind_of packet_of take_packet take_message take_stamp take_site take_positive number_of deps_of take_shadow
+    nick_of digits
 killed_is_answered = refl
 
 killed_sends_nothing : (fields : List (List ℕ)) → Has (send_row fields) (answers_of 2 most (recorded killed) 1) → ⊥
@@ -298,7 +320,8 @@ killed_sends_nothing fields h = two_replies _ _ _ _ fields (subst (Has (send_row
 killed_converges : (fold_of (cores (state_since_start 2 most killed 0).log)).tables ≡ (fold_of (cores (state_since_start 2 most killed 1).log)).tables
 killed_converges =
     (restarted_converge 2 most killed (omega arith) (omega arith) (λ i. omega arith) killed_is_fine.0 killed_is_fine.1 0 1 (omega arith) (omega arith)
-    (nothing_left_out (process 2 most 0) (opening_at 0) (ann_is_asked ∷ bob_is_asked ∷ [])) (nothing_left_out (process 2 most 1) (opening_at 1) (ann_is_sent ∷ bob_is_sent ∷ []))
+    (nothing_left_out (process 2 most 0) (opening_at 0) (ann_is_asked ∷ bob_is_asked ∷ []))
+    (nothing_left_out (process 2 most 1) (opening_at 1) (ann_is_sent ∷ bob_is_sent ∷ []))
     (zero_has_read (recorded killed) both_are_answered killed_sends_nothing (inl refl) (inr (inl refl)))
     (one_has_read (recorded killed) both_are_answered killed_sends_nothing (inl refl) (inr (inl refl)))
     (keep_them (recorded killed) both_are_answered killed_sends_nothing (inl refl) (inr (inl refl)) 0)

@@ -75,11 +75,13 @@ abbrev ids_of : List Message → List Id
 ids_of log = map (λ (m : Message). m.stamp.id) log
 
 -- the second message of a site waits for the first one
-later_first : (taking_in (record { site = 1; sites = 2; keep = 1000000 }) (opening_at 1) (bob_of (1 ∷ 0 ∷ []) ∷ ann_of (0 ∷ 0 ∷ []) ∷ [])).0 ≡ Ok Held ∷ Ok (Released 2) ∷ []
+later_first : (taking_in (record { site = 1; sites = 2; keep = 1000000 }) (opening_at 1) (bob_of (1 ∷ 0 ∷ []) ∷ ann_of (0 ∷ 0 ∷ []) ∷ [])).0
+    ≡ Ok Held ∷ Ok (Released 2) ∷ []
 later_first = refl
 
 -- what came before is answered so, held or released
-arrives_again : (taking_in (record { site = 1; sites = 2; keep = 1000000 }) (opening_at 1) (bob_of (1 ∷ 0 ∷ []) ∷ bob_of (1 ∷ 0 ∷ []) ∷ ann_of (0 ∷ 0 ∷ []) ∷ bob_of (1 ∷ 0 ∷ []) ∷ ann_of (0 ∷ 0 ∷ []) ∷ [])).0
+arrives_again : (taking_in (record { site = 1; sites = 2; keep = 1000000 }) (opening_at 1)
+    (bob_of (1 ∷ 0 ∷ []) ∷ bob_of (1 ∷ 0 ∷ []) ∷ ann_of (0 ∷ 0 ∷ []) ∷ bob_of (1 ∷ 0 ∷ []) ∷ ann_of (0 ∷ 0 ∷ []) ∷ [])).0
     ≡ Ok Held ∷ Ok Repeat ∷ Ok (Released 2) ∷ Ok Repeat ∷ Ok Repeat ∷ []
 arrives_again = refl
 
@@ -336,7 +338,8 @@ both_mean_ann = refl
 
 both_show_ann : rows_of_two (key.User (id 0 1)) (run 1000000 comments_cross (start 2)) ≡ (ann_after_both, ann_after_both)
 both_show_ann =
-    ap (rows_of_two (key.User (id 0 1))) (same_run 1000000 (omega arith) comments_cross (start 2) comments_are_events (start_sound 2 (omega arith)) (room_start 1000000 2))
+    ap (rows_of_two (key.User (id 0 1)))
+    (same_run 1000000 (omega arith) comments_cross (start 2) comments_are_events (start_sound 2 (omega arith)) (room_start 1000000 2))
     ∙ both_mean_ann
 
 late_after_both : Option Row
@@ -348,5 +351,6 @@ both_mean_late = refl
 
 both_show_late : rows_of_two (key.Comment (id 1 1)) (run 1000000 comments_cross (start 2)) ≡ (late_after_both, late_after_both)
 both_show_late =
-    ap (rows_of_two (key.Comment (id 1 1))) (same_run 1000000 (omega arith) comments_cross (start 2) comments_are_events (start_sound 2 (omega arith)) (room_start 1000000 2))
+    ap (rows_of_two (key.Comment (id 1 1)))
+    (same_run 1000000 (omega arith) comments_cross (start 2) comments_are_events (start_sound 2 (omega arith)) (room_start 1000000 2))
     ∙ both_mean_late

@@ -1,5 +1,6 @@
 -- Worked examples of processes, computed on the definitions.
-use Rattle.std.proofs.Common.{ℕ, ◌≡◌, ◌<◌, List, [], ◌∷◌, ◌++◌, length, length-append, refl, sym, ap, ◌∙◌, subst, arith, Option, Some, None, inl, inr, ⊎_elim, append-nil}
+use Rattle.std.proofs.Common.{ℕ, ◌≡◌, ◌<◌, List, [], ◌∷◌, ◌++◌, length, length-append, refl, sym, ap, ◌∙◌, subst, arith, Option, Some, None, inl, inr, ⊎_elim}
+use Rattle.std.proofs.Common.{append-nil}
 use Rattle.std.specs.Prelude.{bytes_eq, codes, unwrap_or}
 use Rattle.std.specs.Fmt.{digits}
 use Rattle.std.proofs.lemmas.Bool.{cases_eq}
@@ -11,7 +12,8 @@ use Rattle.rubis_generate.specs.Decision.{decision}
 use Rattle.rubis_generate.specs.Lookup.{Rows}
 use Rattle.rubis_message.specs.Counts.{deps_of}
 use Rattle.rubis_message.specs.Forms.{take_positive, take_site}
-use Rattle.rubis_message.specs.Readings.{packet_of, request_of, take_kind, take_listing, take_message, take_packet, take_request, take_shadow, take_shown, take_stamp, take_token, kind_of, shown_of}
+use Rattle.rubis_message.specs.Readings.{packet_of, request_of, take_kind, take_listing, take_message, take_packet, take_request, take_shadow, take_shown}
+use Rattle.rubis_message.specs.Readings.{take_stamp, take_token, kind_of, shown_of}
 use Rattle.rubis_message.specs.Message.{Message}
 use Rattle.rubis_model.specs.Answers.{asked_rows}
 use Rattle.rubis_model.specs.Listings.{log_from}
@@ -71,7 +73,8 @@ ann_is_shown : answers_of 2 most ann_comes 1 ≡
     ∷ (codes "reply" ∷ codes "2" ∷ codes "rows" ∷ codes "1" ∷ [])
     ∷ (codes "row" ∷ codes "log" ∷ codes "1" ∷ ann_is_sent)
     ∷ []
-unfolding answers request_of take_request take_kind kind_of packet_of take_packet take_message take_stamp take_site take_positive number_of deps_of take_shadow nick_of take_listing take_shown shown_of log_from digits
+unfolding answers request_of take_request take_kind kind_of packet_of take_packet take_message take_stamp take_site take_positive number_of deps_of take_shadow
+    nick_of take_listing take_shown shown_of log_from digits
 ann_is_shown = refl
 
 -- ---- it is carried unchanged
@@ -148,7 +151,8 @@ forged_is_no_run events among are = at (sound_run 2 1000000 events (omega arith)
     not_none : (i : ℕ) → i < 2 → (state_of 2 most forged i).held ≡ Some 0 → (site (run 1000000 events (start 2)) i).held ≡ None → ⊥
     not_none i l e f = not_some (site (run 1000000 events (start 2)) i).held 0 f (ap (λ (s : Replica). s.held) (are.states i l) ∙ e)
 
-    at : OneToken (length (run 1000000 events (start 2)).sites) (λ i. (site (run 1000000 events (start 2)) i).held) (λ i. (site (run 1000000 events (start 2)) i).last) (run 1000000 events (start 2)).sent → ⊥
+    at : OneToken (length (run 1000000 events (start 2)).sites) (λ i. (site (run 1000000 events (start 2)) i).held)
+        (λ i. (site (run 1000000 events (start 2)) i).last) (run 1000000 events (start 2)).sent → ⊥
     at (inr t) = not_none 0 (omega arith) held_by_zero (t.1.nowhere 0)
     at (inl h) = ⊎_elim (λ e. not_none 0 (omega arith) held_by_zero (h.1.alone 0 (λ q. absurd (omega (arith, e, q)))))
         (λ n. not_none 1 (omega arith) held_by_one (h.1.alone 1 n)) (cases_eq 1 h.0)

@@ -113,7 +113,8 @@ unfolding meaning_row
 sent_by_meaning = refl
 
 all_sent : (run 1000000 events (start 2)).sent ≡ packets
-all_sent = ap (λ (w : World). w.sent) (same_run 1000000 (omega arith) events (start 2) are_events (start_sound 2 (omega arith)) (room_start 1000000 2)) ∙ sent_by_meaning
+all_sent = ap (λ (w : World). w.sent) (same_run 1000000 (omega arith) events (start 2) are_events (start_sound 2 (omega arith)) (room_start 1000000 2))
+    ∙ sent_by_meaning
 
 -- ---- site 1 is rebuilt
 
@@ -154,7 +155,8 @@ log_before = ap (λ (w : World). (site w 1).log) first_run ∙ ap (λ (r : Repli
 
 rows_before : rows_at (ann ∷ bob ∷ item ∷ []) ≡ meaning_row (cores (ann ∷ bob ∷ item ∷ []))
 rows_before = subst (λ l. rows_at l ≡ meaning_row (cores l)) log_before
-    (λ k q. ((every_run 2 1000000 first_events (omega arith) (omega arith) first_are_events).invariants.meaning (log_at (run 1000000 first_events (start 2)) 1) (is_log (run 1000000 first_events (start 2)) 1)).rows q k)
+    (λ k q. ((every_run 2 1000000 first_events (omega arith) (omega arith) first_are_events).invariants.meaning (log_at (run 1000000 first_events (start 2)) 1)
+    (is_log (run 1000000 first_events (start 2)) 1)).rows q k)
 
 bid_is_made_again : sent_again place_1 tokens messages (opening_at 1) (packet.Msg bid) ≡ (after_bid, packet.Msg bid ∷ [])
 bid_is_made_again = ap bid_by rows_before ∙ bid_by_meaning
@@ -224,7 +226,8 @@ site_1_is_in_a_run : IsRebuilt 2 1000000 1 tokens (run 1000000 events (start 2))
 site_1_is_in_a_run =
     subst (IsRebuilt 2 1000000 1 tokens (run 1000000 events (start 2)) (packet.Msg bid ∷ [])) site_1_is_rebuilt
     (subst (λ ps. IsRebuilt 2 1000000 1 tokens (run 1000000 events (start 2)) ps (rebuilt place_1 tokens messages (opening_at 1) ps)) site_1_sent
-    (sites_are_rebuilt 2 1000000 1 events messages tokens (omega arith) (omega arith) are_events (λ m. (streams_of_run m).0) (λ m h _. (streams_of_run m).1 h) (λ t. (tokens_of_run t).0) (λ t h _. (tokens_of_run t).1 h)))
+    (sites_are_rebuilt 2 1000000 1 events messages tokens (omega arith) (omega arith) are_events (λ m. (streams_of_run m).0) (λ m h _. (streams_of_run m).1 h)
+    (λ t. (tokens_of_run t).0) (λ t h _. (tokens_of_run t).1 h)))
 
 -- ---- wrong definitions
 
@@ -260,7 +263,8 @@ none_sent ps e f = absurd (cc)
 
 refuted : (way : Way) → (way place_1 tokens messages (opening_at 1) (packet.Msg bid ∷ [])).1 ≡ [] → SendsAgain way → ⊥
 refuted way e law = none_sent (way place_1 tokens messages (opening_at 1) (packet.Msg bid ∷ [])).1 e
-    (subst (λ ps. (way place_1 tokens messages (opening_at 1) ps).1 ≡ ps) site_1_sent (law 2 1000000 1 events messages tokens (omega arith) (omega arith) are_events streams_of_run tokens_of_run))
+    (subst (λ ps. (way place_1 tokens messages (opening_at 1) ps).1 ≡ ps) site_1_sent
+    (law 2 1000000 1 events messages tokens (omega arith) (omega arith) are_events streams_of_run tokens_of_run))
 
 -- the right way is `by_giving prepared`
 right_way : (by_giving prepared place_1 tokens messages (opening_at 1) (packet.Msg bid ∷ [])) ≡ (after_bid, packet.Msg bid ∷ [])

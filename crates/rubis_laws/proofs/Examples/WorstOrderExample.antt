@@ -75,11 +75,13 @@ ann_is_answered : output_of (process 3 most 0) (ann_is_asked ∷ []) ≡ ann_ans
 ann_is_answered = ann_is_read ∙ ap ann_by (λ i key. (fold_is_meaning [] tt (omega arith)).0.rows key i) ∙ ann_by_meaning
 
 after_ann_at_1 : site_after (process 3 most 1) (opening_at 1) 1 (ann_is_sent ∷ []) ≡ record { log = ann_of_three ∷ []; waiting = []; held = None; last = 0 }
-unfolding request_of take_request take_kind kind_of packet_of take_packet take_message take_stamp take_site take_positive number_of deps_of take_shadow nick_of digits
+unfolding request_of take_request take_kind kind_of packet_of take_packet take_message take_stamp take_site take_positive number_of deps_of take_shadow nick_of
+    digits
 after_ann_at_1 = refl
 
 ann_came_to_1 : output_of (process 3 most 1) (ann_is_sent ∷ []) ≡ (codes "reply" ∷ codes "1" ∷ codes "released" ∷ codes "1" ∷ []) ∷ []
-unfolding answers request_of take_request take_kind kind_of packet_of take_packet take_message take_stamp take_site take_positive number_of deps_of take_shadow nick_of digits
+unfolding answers request_of take_request take_kind kind_of packet_of take_packet take_message take_stamp take_site take_positive number_of deps_of take_shadow
+    nick_of digits
 ann_came_to_1 = refl
 
 abbrev ready_at_1 : Replica
@@ -115,7 +117,8 @@ worst_is_answered : answers_of 3 most worst 2 ≡
     ∷ (codes "reply" ∷ codes "2" ∷ codes "repeat" ∷ [])
     ∷ (codes "reply" ∷ codes "3" ∷ codes "released" ∷ codes "2" ∷ [])
     ∷ []
-unfolding answers request_of take_request take_kind kind_of packet_of take_packet take_message take_stamp take_site take_positive number_of deps_of take_shadow nick_of take_item id_of name_of digits
+unfolding answers request_of take_request take_kind kind_of packet_of take_packet take_message take_stamp take_site take_positive number_of deps_of take_shadow
+    nick_of take_item id_of name_of digits
 worst_is_answered = refl
 
 -- ---- all three come to the same tables
@@ -136,13 +139,15 @@ asked_state = asked_is_read ∙ ap asked_by (λ i key. (fold_is_meaning [] tt (o
 
 lamp_came_to_0 : (input_step (process 3 most 0) (record { log = ann_of_three ∷ []; waiting = []; held = Some 1; last = 0 }) 2 (input_of 3 lamp_is_sent)).1
     ≡ (codes "reply" ∷ codes "2" ∷ codes "released" ∷ codes "1" ∷ []) ∷ []
-unfolding request_of take_request take_kind kind_of packet_of take_packet take_message take_stamp take_site take_positive number_of deps_of take_shadow nick_of take_item id_of name_of digits
+unfolding request_of take_request take_kind kind_of packet_of take_packet take_message take_stamp take_site take_positive number_of deps_of take_shadow nick_of
+    take_item id_of name_of digits
 lamp_came_to_0 = refl
 
 zero_is_answered : answers_of 3 most worst 0 ≡ ann_answers ++ (codes "reply" ∷ codes "2" ∷ codes "released" ∷ codes "1" ∷ []) ∷ []
 zero_is_answered =
     output_one (process 3 most 0) (ann_is_asked ∷ []) lamp_is_sent
-    ∙ (λ i. ann_is_answered i ++ (input_step (process 3 most 0) (asked_state i) 2 (input_of 3 lamp_is_sent)).1) ∙ ap (λ rows. ann_answers ++ rows) lamp_came_to_0
+    ∙ (λ i. ann_is_answered i ++ (input_step (process 3 most 0) (asked_state i) 2 (input_of 3 lamp_is_sent)).1)
+    ∙ ap (λ rows. ann_answers ++ rows) lamp_came_to_0
 
 ann_is_it : packet_of 3 ann_is_sent ≡ Some (packet.Msg ann_of_three)
 unfolding packet_of take_packet take_message take_stamp take_site take_positive take_kind kind_of number_of deps_of take_shadow nick_of digits
@@ -199,9 +204,11 @@ worst_is_carried =
 
 -- two messages were sent
 two_sent : (fields : List (List ℕ)) → WasSent 3 most worst fields → (fields ≡ ann_is_sent) ⊎ (fields ≡ lamp_is_sent)
-two_sent fields h = ⊎_elim (λ e. by_zero (subst (Has (send_row fields)) zero_is_answered (subst (λ i. Has (send_row fields) (answers_of 3 most worst i)) e h.2)))
+two_sent fields h = ⊎_elim
+    (λ e. by_zero (subst (Has (send_row fields)) zero_is_answered (subst (λ i. Has (send_row fields) (answers_of 3 most worst i)) e h.2)))
     (λ n. ⊎_elim (λ e. by_one (subst (Has (send_row fields)) lamp_is_answered (subst (λ i. Has (send_row fields) (answers_of 3 most worst i)) e h.2)))
-    (λ k. absurd (by_two (subst (Has (send_row fields)) worst_is_answered (subst (λ i. Has (send_row fields) (answers_of 3 most worst i)) (last h.0 h.1 n k) h.2))))
+    (λ k. absurd (by_two (subst (Has (send_row fields)) worst_is_answered
+    (subst (λ i. Has (send_row fields) (answers_of 3 most worst i)) (last h.0 h.1 n k) h.2))))
     (cases_eq h.0 1)) (cases_eq h.0 0)
   where
     small : (i : ℕ) → i < 3 → (i ≡ 0 → ⊥) → (i ≡ 1 → ⊥) → (i ≡ 2 → ⊥) → ⊥
@@ -238,7 +245,8 @@ are_these fields m is (inr e) =
     inr (e, (let z : m ≡ lamp = cc in z))
 
 zero_has_read : HasReadAll 3 most worst 0
-zero_has_read fields m h is = ⊎_elim (λ k. inr (ap (λ (x : Message). x.stamp.id.site) k.1)) (λ k. inl (inr (inl k.0))) (are_these fields m is (two_sent fields h))
+zero_has_read fields m h is = ⊎_elim (λ k. inr (ap (λ (x : Message). x.stamp.id.site) k.1)) (λ k. inl (inr (inl k.0)))
+    (are_these fields m is (two_sent fields h))
 
 one_has_read : HasReadAll 3 most worst 1
 one_has_read fields m h is = ⊎_elim (λ k. inl (inl k.0)) (λ k. inr (ap (λ (x : Message). x.stamp.id.site) k.1)) (are_these fields m is (two_sent fields h))
@@ -258,6 +266,8 @@ tables_of i = (fold_of (cores (state_of 3 most worst i).log)).tables
 
 worst_converges : (tables_of 0 ≡ tables_of 2) × (tables_of 1 ≡ tables_of 2)
 worst_converges = (
-  (processes_converge 3 most worst (omega arith) (omega arith) (λ i. omega arith) worst_is_carried 0 2 (omega arith) (omega arith) zero_has_read two_has_read (keep_them 0) (keep_them 2)).2,
-  (processes_converge 3 most worst (omega arith) (omega arith) (λ i. omega arith) worst_is_carried 1 2 (omega arith) (omega arith) one_has_read two_has_read (keep_them 1) (keep_them 2)).2,
+  (processes_converge 3 most worst (omega arith) (omega arith) (λ i. omega arith) worst_is_carried 0 2 (omega arith) (omega arith) zero_has_read two_has_read
+      (keep_them 0) (keep_them 2)).2,
+  (processes_converge 3 most worst (omega arith) (omega arith) (λ i. omega arith) worst_is_carried 1 2 (omega arith) (omega arith) one_has_read two_has_read
+      (keep_them 1) (keep_them 2)).2,
 )

@@ -1,5 +1,6 @@
 -- What a message waits for: one that was sent, precedes it or has a smaller red number, and isn't there.
-use Rattle.std.proofs.Common.{◌≡◌, ◌∙◌, ℕ, ◌+◌, ◌≤◌, ◌<◌, zero, suc, Bool, true, false, Option, Some, None, length, refl, sym, ap, subst, inl, inr, ⊎_elim, arith}
+use Rattle.std.proofs.Common.{◌≡◌, ◌∙◌, ℕ, ◌+◌, ◌≤◌, ◌<◌, zero, suc, Bool, true, false, Option, Some, None, length, refl, sym, ap, subst, inl, inr, ⊎_elim}
+use Rattle.std.proofs.Common.{arith}
 use Rattle.std.specs.Prelude.{◌⊎◌, cond, reverse, nat_lt, unwrap_or}
 use Rattle.std.proofs.lemmas.Bool.{cases_eq, cases_lt, cond-true, ltb-true}
 use Rattle.std.proofs.lemmas.Bool.Decides.{nat_tests}
@@ -73,7 +74,8 @@ module _ (w : World) (s : Sound w) (r : AllRest w) (i : ℕ) (m : Message) (h : 
         f.2,
         record {
           sent = f.1;
-          missing = λ q. let g = red_within (reverse (site w i).log) f.0 released (has_back f.0 (site w i).log q) in let b = reds_reverse (site w i).log in let e = f.2 in absurd (omega (arith, g, b, e));
+          missing = λ q. let g = red_within (reverse (site w i).log) f.0 released (has_back f.0 (site w i).log q) in let b = reds_reverse (site w i).log in
+              let e = f.2 in absurd (omega (arith, g, b, e));
           before = inr (let e = f.2 in (omega (arith, e), omega (arith, e, l)));
         },
       )
@@ -83,7 +85,8 @@ module _ (w : World) (s : Sound w) (r : AllRest w) (i : ℕ) (m : Message) (h : 
   search_sites zero = inl (λ j l. absurd (omega arith))
   search_sites (suc n) = ⊎_elim
       (λ l. inr (n, l))
-      (λ l. ⊎_elim (λ all. inl (λ j k. ⊎_elim (λ e. subst (λ q. dep m q ≤ counted q (site w i).log) (sym e) l) (λ d. all j (below j n k d)) (cases_eq j n))) (λ one. inr one) (search_sites n))
+      (λ l. ⊎_elim (λ all. inl (λ j k. ⊎_elim (λ e. subst (λ q. dep m q ≤ counted q (site w i).log) (sym e) l) (λ d. all j (below j n k d)) (cases_eq j n)))
+      (λ one. inr one) (search_sites n))
       (cases_lt (counted n (site w i).log) (dep m n))
     where
       below : (j n : ℕ) → j < suc n → (j ≡ n → ⊥) → j < n
@@ -94,7 +97,8 @@ module _ (w : World) (s : Sound w) (r : AllRest w) (i : ℕ) (m : Message) (h : 
   would_be_ready all low = record {
     next = ⊎_elim
         (λ l. let o = own w m s m_sent in let c = all m.stamp.id.site in omega arith)
-        (λ l. absurd (new (there w (reverse (site w i).log) m s released (s.good i).log_sent m_sent (let b = counted_reverse m.stamp.id.site (site w i).log in omega arith))))
+        (λ l. absurd (new (there w (reverse (site w i).log) m s released (s.good i).log_sent m_sent
+        (let b = counted_reverse m.stamp.id.site (site w i).log in omega arith))))
         (cases_lt (counted m.stamp.id.site (site w i).log) m.stamp.id.seq);
     released = λ j n. all j;
     number = λ p. ⊎_elim (λ l. omega arith) (λ l. absurd (new (red_there p l))) (cases_lt (reds (site w i).log) m.stamp.red);
@@ -109,10 +113,20 @@ module _ (w : World) (s : Sound w) (r : AllRest w) (i : ℕ) (m : Message) (h : 
 
   one : ((j : ℕ) × (id : Id) × (awaited (site w i).log m j ≡ Some id)) ⊎ ((n : ℕ) × (awaited_red (site w i).log m ≡ Some n))
   one = ⊎_elim
-      (λ l. inr (reds (site w i).log + 1, cond-true (nat_lt (reds (site w i).log + 1) m.stamp.red) (Some (reds (site w i).log + 1)) None (is_below (reds (site w i).log + 1) m.stamp.red l)))
+      (λ l. inr (
+        reds (site w i).log + 1,
+        cond-true (nat_lt (reds (site w i).log + 1) m.stamp.red) (Some (reds (site w i).log + 1)) None (is_below (reds (site w i).log + 1) m.stamp.red l),
+      ))
       (λ low. ⊎_elim
-      (λ all. absurd ((rests_at w i r).unready m h (would_be_ready (λ j. ⊎_elim (λ k. all j k) (λ k. subst (λ q. q ≤ counted j (site w i).log) (sym (get_or_past m.stamp.deps j 0 k)) (omega arith)) (cases_lt j (length m.stamp.deps))) low)))
-      (λ k. inl (k.0, record { site = k.0; seq = counted k.0 (site w i).log + 1 }, cond-true (nat_lt (counted k.0 (site w i).log) (dep m k.0)) (Some (record { site = k.0; seq = counted k.0 (site w i).log + 1 })) None (is_below (counted k.0 (site w i).log) (dep m k.0) k.1)))
+      (λ all. absurd ((rests_at w i r).unready m h
+      (would_be_ready (λ j. ⊎_elim (λ k. all j k) (λ k. subst (λ q. q ≤ counted j (site w i).log) (sym (get_or_past m.stamp.deps j 0 k)) (omega arith))
+      (cases_lt j (length m.stamp.deps))) low)))
+      (λ k. inl (
+        k.0,
+        record { site = k.0; seq = counted k.0 (site w i).log + 1 },
+        cond-true (nat_lt (counted k.0 (site w i).log) (dep m k.0)) (Some (record { site = k.0; seq = counted k.0 (site w i).log + 1 })) None
+            (is_below (counted k.0 (site w i).log) (dep m k.0) k.1),
+      ))
       (search_sites (length m.stamp.deps)))
       (cases_lt (reds (site w i).log + 1) m.stamp.red)
 

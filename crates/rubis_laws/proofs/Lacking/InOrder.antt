@@ -1,5 +1,6 @@
 -- What a log lacks of others: going through these in order, each message is ready at once.
-use Rattle.std.proofs.Common.{◌≡◌, ◌∙◌, ℕ, ◌+◌, ◌≤◌, ◌<◌, Bool, true, false, List, [], ◌∷◌, ◌++◌, length, length-append, append_assoc, append-nil, refl, sym, ap, subst, inl, inr, ⊎_elim, arith}
+use Rattle.std.proofs.Common.{◌≡◌, ◌∙◌, ℕ, ◌+◌, ◌≤◌, ◌<◌, Bool, true, false, List, [], ◌∷◌, ◌++◌, length, length-append, append_assoc, append-nil, refl, sym}
+use Rattle.std.proofs.Common.{ap, subst, inl, inr, ⊎_elim, arith}
 use Rattle.std.specs.Prelude.{◌≢◌, ◌⊎◌, ◌↔◌, cond, not, reverse, filter, map, ◌==◌, ◌-◌, ◌&&◌, nat_le, nat_lt, Option, Result, Ok, Err}
 use Rattle.std.specs.List.{list_any, flat_map}
 use Rattle.std.proofs.lemmas.Bool.{cases_lt, cond_both, or_cases, false_from_ne_true, true≢false}
@@ -37,7 +38,8 @@ released_drop (m ∷ newer) older r = released_drop newer older r.1
 pub released_apart : (newer older : List Message) (m : Message) → Released (newer ++ m ∷ older) → Has m newer → ⊥
 released_apart [] older m r h = h
 released_apart (y ∷ newer) older m r (inl e) =
-    clash y (newer ++ m ∷ older) m r (has_right m newer (m ∷ older) (inl refl)) (ap (λ (x : Message). x.stamp.id.site) (sym e)) (ap (λ (x : Message). x.stamp.id.seq) (sym e))
+    clash y (newer ++ m ∷ older) m r (has_right m newer (m ∷ older) (inl refl)) (ap (λ (x : Message). x.stamp.id.site) (sym e))
+    (ap (λ (x : Message). x.stamp.id.seq) (sym e))
 released_apart (y ∷ newer) older m r (inr h) = released_apart newer older m r.1 h
 
 pub released_on : (front rest : List Message) (m : Message) → Released (reverse (front ++ m ∷ rest)) → Released (reverse ((front ++ m ∷ []) ++ rest))
@@ -78,7 +80,8 @@ firsts_append before (m ∷ xs) ys =
     (λ (q : List Message). cond (is_among before m) (firsts before (xs ++ ys)) (m ∷ firsts (before ++ m ∷ []) (xs ++ ys)) ≡ q ++ firsts (before ++ q) ys)
     (λ t. ap (λ b. cond b (firsts before (xs ++ ys)) (m ∷ firsts (before ++ m ∷ []) (xs ++ ys))) t ∙ firsts_append before xs ys)
     (λ t. ap (λ b. cond b (firsts before (xs ++ ys)) (m ∷ firsts (before ++ m ∷ []) (xs ++ ys))) t
-    ∙ ap (λ q. m ∷ q) (firsts_append (before ++ m ∷ []) xs ys ∙ ap (λ q. firsts (before ++ m ∷ []) xs ++ firsts q ys) (append_assoc before (m ∷ []) (firsts (before ++ m ∷ []) xs))))
+    ∙ ap (λ q. m ∷ q) (firsts_append (before ++ m ∷ []) xs ys
+    ∙ ap (λ q. firsts (before ++ m ∷ []) xs ++ firsts q ys) (append_assoc before (m ∷ []) (firsts (before ++ m ∷ []) xs))))
 
 -- ---- of messages of which an id and a red number is one's
 module _ (all : Message → Type 0) (ids : (u v : Message) → all u → all v → u.stamp.id.site ≡ v.stamp.id.site → u.stamp.id.seq ≡ v.stamp.id.seq → u ≡ v)
@@ -114,7 +117,8 @@ module _ (all : Message → Type 0) (ids : (u v : Message) → all u → all v �
   pub released_push : (front log : List Message) (m : Message) → Released (m ∷ reverse front) → Released (reverse log)
       → ((x : Message) → Has x log → all x) → all m → ((x : Message) → Has x front → Has x log) → (Has m log → ⊥) → Released (reverse (log ++ m ∷ []))
   released_push front log m rm rl on a within new = subst Released (sym (reverse_push log m)) (
-    ready_on (reverse front) (reverse log) m rm rl (λ x h. on x (has_reverse x log h)) a (λ x h. has_back x log (within x (has_reverse x front h))) (λ h. new (has_reverse m log h)),
+    ready_on (reverse front) (reverse log) m rm rl (λ x h. on x (has_reverse x log h)) a (λ x h. has_back x log (within x (has_reverse x front h)))
+        (λ h. new (has_reverse m log h)),
     rl,
   )
 
@@ -155,7 +159,8 @@ module _ (all : Message → Type 0) (ids : (u v : Message) → all u → all v �
     only = λ x h. ⊎_elim (λ l. inl l) (λ k. absurd k) (has_append x before [] h);
   }
   go front (m ∷ rest) before r on rb ob within = cond_both (is_among before m) (firsts before rest) (m ∷ firsts (before ++ m ∷ []) rest)
-      (λ (q : List Message). Grown before (m ∷ rest) (before ++ q)) (there (λ b rb ob within. go (front ++ m ∷ []) rest b (fine_on front rest m r) (λ x k. on x (inr k)) rb ob within))
+      (λ (q : List Message). Grown before (m ∷ rest) (before ++ q))
+      (there (λ b rb ob within. go (front ++ m ∷ []) rest b (fine_on front rest m r) (λ x k. on x (inr k)) rb ob within))
       (fresh (λ b rb ob within. go (front ++ m ∷ []) rest b (fine_on front rest m r) (λ x k. on x (inr k)) rb ob within))
     where
       there : Goes (front ++ m ∷ []) rest → is_among before m ≡ true → Grown before (m ∷ rest) (before ++ firsts before rest)
@@ -174,11 +179,13 @@ module _ (all : Message → Type 0) (ids : (u v : Message) → all u → all v �
           let rp = push front before m (prefix front rest m r) rb ob a within (unlisted m before t) in
           let g = next (before ++ m ∷ []) rp
           (λ x k. ⊎_elim (λ l. ob x l) (λ e. subst all (sym e) a) (push_cases x m before k))
-          (λ x k. ⊎_elim (λ l. has_left x before (m ∷ []) (within x l)) (λ e. subst (λ y. Has y (before ++ m ∷ [])) (sym e) (has_last m before)) (push_cases x m front k)) in
+          (λ x k. ⊎_elim (λ l. has_left x before (m ∷ []) (within x l)) (λ e. subst (λ y. Has y (before ++ m ∷ [])) (sym e) (has_last m before))
+          (push_cases x m front k)) in
           subst (Grown before (m ∷ rest)) (append_assoc before (m ∷ []) (firsts (before ++ m ∷ []) rest)) (record {
             fine = g.fine;
             old = λ x k. g.old x (has_left x before (m ∷ []) k);
-            new = λ x k. ⊎_elim (λ e. subst (λ y. Has y ((before ++ m ∷ []) ++ firsts (before ++ m ∷ []) rest)) (sym e) (g.old m (has_last m before))) (λ l. g.new x l) k;
+            new = λ x k. ⊎_elim (λ e. subst (λ y. Has y ((before ++ m ∷ []) ++ firsts (before ++ m ∷ []) rest)) (sym e) (g.old m (has_last m before)))
+                (λ l. g.new x l) k;
             only = λ x k. ⊎_elim (λ l. ⊎_elim (λ b. inl b) (λ e. inr (inl e)) (push_cases x m before l)) (λ l. inr (inr l)) (g.only x k);
           })
 
@@ -198,11 +205,13 @@ module _ (all : Message → Type 0) (ids : (u v : Message) → all u → all v �
       let g = go [] log.messages before here.0 here.1 rb ob (λ x h. absurd h) in
       let mid = before ++ firsts before log.messages in
       let k = go_logs logs mid (λ l h. each l (inr h)) g.fine (λ x h. ⊎_elim (λ b. ob x b) (λ b. here.1 x b) (g.only x h)) in
-      subst (Grown before (log.messages ++ more)) (append_assoc before (firsts before log.messages) (firsts mid more) ∙ ap (λ q. before ++ q) (sym (firsts_append before log.messages more))) (record {
+      subst (Grown before (log.messages ++ more))
+      (append_assoc before (firsts before log.messages) (firsts mid more) ∙ ap (λ q. before ++ q) (sym (firsts_append before log.messages more))) (record {
         fine = k.fine;
         old = λ x h. k.old x (g.old x h);
         new = λ x h. ⊎_elim (λ l. k.old x (g.new x l)) (λ l. k.new x l) (has_append x log.messages more h);
-        only = λ x h. ⊎_elim (λ l. ⊎_elim (λ b. inl b) (λ b. inr (has_left x log.messages more b)) (g.only x l)) (λ l. inr (has_right x log.messages more l)) (k.only x h);
+        only = λ x h. ⊎_elim (λ l. ⊎_elim (λ b. inl b) (λ b. inr (has_left x log.messages more b)) (g.only x l)) (λ l. inr (has_right x log.messages more l))
+            (k.only x h);
       })
 
   abbrev left : List Message → List Message → List Message
@@ -219,7 +228,8 @@ module _ (all : Message → Type 0) (ids : (u v : Message) → all u → all v �
       → Fine (log ++ filter (λ m. not (is_among own m)) rest)
   fill own front [] log r on rl ol oo keeps within new = subst Fine (sym (append-nil log)) rl
   fill own front (m ∷ rest) log r on rl ol oo keeps within new = at
-      (λ log rl ol keeps within new. fill own (front ++ m ∷ []) rest log (fine_on front rest m r) (λ x k. on x (inr k)) rl ol oo keeps within new) (is_among own m) refl
+      (λ log rl ol keeps within new. fill own (front ++ m ∷ []) rest log (fine_on front rest m r) (λ x k. on x (inr k)) rl ol oo keeps within new)
+      (is_among own m) refl
     where
       at : Fills own (front ++ m ∷ []) rest → (b : Bool) → is_among own m ≡ b
           → Fine (log ++ cond (not (is_among own m)) (m ∷ left own rest) (left own rest))
@@ -235,7 +245,8 @@ module _ (all : Message → Type 0) (ids : (u v : Message) → all u → all v �
           (subst Fine (append_assoc log (m ∷ []) (left own rest)) (next (log ++ m ∷ []) rp
           (λ x k. ⊎_elim (λ l. ol x l) (λ e. subst all (sym e) a) (push_cases x m log k))
           (λ x k. has_left x log (m ∷ []) (keeps x k))
-          (λ x k. ⊎_elim (λ l. has_left x log (m ∷ []) (within x l)) (λ e. subst (λ y. Has y (log ++ m ∷ [])) (sym e) (has_last m log)) (push_cases x m front k))
+          (λ x k. ⊎_elim (λ l. has_left x log (m ∷ []) (within x l)) (λ e. subst (λ y. Has y (log ++ m ∷ [])) (sym e) (has_last m log))
+          (push_cases x m front k))
           (λ x k l. ⊎_elim (λ q. new x (inr k) q) (λ e. absurd (apart front rest m r (subst (λ y. Has y rest) e k))) (push_cases x m log l))))
 
 -- ---- a site at which nothing waits, and messages that it can release one after the other
@@ -247,16 +258,21 @@ abbrev quiet : List Message → Option ℕ → ℕ → Replica
 quiet log held last = record { log = log; waiting = []; held = held; last = last }
 
 answer_released : (a b c : Bool) (s t : Replica) (n : ℕ) → a ≡ false → b ≡ false → c ≡ false → n ≡ 1
-    → cond {A = Replica × Result Arrival Refusal} a (s, Err NotOurs) (cond b (s, Ok arrival.Repeat) (cond c (s, Err Full) (t, Ok (arrival_of n)))) ≡ (t, Ok (arrival.Released 1))
-answer_released a b c s t n ea eb ec en = λ i. cond {A = Replica × Result Arrival Refusal} (ea i) (s, Err NotOurs) (cond (eb i) (s, Ok arrival.Repeat) (cond (ec i) (s, Err Full) (t, Ok (arrival_of (en i)))))
+    → cond {A = Replica × Result Arrival Refusal} a (s, Err NotOurs) (cond b (s, Ok arrival.Repeat) (cond c (s, Err Full) (t, Ok (arrival_of n))))
+    ≡ (t, Ok (arrival.Released 1))
+answer_released a b c s t n ea eb ec en = λ i. cond {A = Replica × Result Arrival Refusal} (ea i) (s, Err NotOurs)
+    (cond (eb i) (s, Ok arrival.Repeat) (cond (ec i) (s, Err Full) (t, Ok (arrival_of (en i)))))
 
-came_quiet : (log : List Message) (held : Option ℕ) (last : ℕ) (m : Message) → Ready log m → after_came (quiet log held last) m ≡ quiet (log ++ m ∷ []) held last
+came_quiet : (log : List Message) (held : Option ℕ) (last : ℕ) (m : Message) → Ready log m → after_came (quiet log held last) m
+    ≡ quiet (log ++ m ∷ []) held last
 came_quiet log held last m r = ap (λ (p : List Message × List Message). record { log = p.0; waiting = p.1; held = held; last = last }) (settle_one log m r)
 
-arrives : (p : Place) (log : List Message) (held : Option ℕ) (last : ℕ) (m : Message) → Released (m ∷ reverse log) → m.stamp.id.site ≢ p.site → length log < p.keep
+arrives : (p : Place) (log : List Message) (held : Option ℕ) (last : ℕ) (m : Message) → Released (m ∷ reverse log) → m.stamp.id.site ≢ p.site →
+    length log < p.keep
     → arrived p (quiet log held last) m ≡ (quiet (log ++ m ∷ []) held last, Ok (arrival.Released 1))
 arrives p log held last m r other room =
-    answer_released (not_ours p (quiet log held last) m) (is_repeat (quiet log held last) m) (is_full p.keep (quiet log held last)) (quiet log held last) (after_came (quiet log held last) m) (length (after_came (quiet log held last) m).log - length log)
+    answer_released (not_ours p (quiet log held last) m) (is_repeat (quiet log held last) m) (is_full p.keep (quiet log held last)) (quiet log held last)
+    (after_came (quiet log held last) m) (length (after_came (quiet log held last) m).log - length log)
     (not_of m.stamp.id.site p.site (nat_lt (counted p.site log) m.stamp.id.seq) other)
     (false_from_ne_true (is_repeat (quiet log held last) m) (λ e. new (repeat_in e)))
     (short p.keep (length log) room)
@@ -284,14 +300,16 @@ arrives p log held last m r other room =
     longer e = let a = length-append log (m ∷ []) in omega (arith, e, a)
 
 abbrev Ends : Place → List Message → Option ℕ → ℕ → List Message → Type 0
-Ends p log held last more = (answers_to p (quiet log held last) more ≡ map (λ m. Ok (arrival.Released 1)) more) × (after_all p (quiet log held last) more ≡ quiet (log ++ more) held last)
+Ends p log held last more = (answers_to p (quiet log held last) more ≡ map (λ m. Ok (arrival.Released 1)) more)
+    × (after_all p (quiet log held last) more ≡ quiet (log ++ more) held last)
 
 all_arrive : (p : Place) (log : List Message) (held : Option ℕ) (last : ℕ) (more : List Message) → Released (reverse (log ++ more))
     → ((m : Message) → Has m more → m.stamp.id.site ≢ p.site) → length (log ++ more) ≤ p.keep → Ends p log held last more
 all_arrive p log held last [] r others room = (refl, ap (λ q. quiet q held last) (sym (append-nil log)))
 all_arrive p log held last (m ∷ more) r others room =
     let one = arrives p log held last m (released_front log more m r) (others m (inl refl)) (let a = length-append log (m ∷ more) in omega (arith, a, room)) in
-    let rest = all_arrive p (log ++ m ∷ []) held last more (released_on log more m r) (λ x h. others x (inr h)) (subst (λ q. length q ≤ p.keep) (sym (append_assoc log (m ∷ []) more)) room) in (
+    let rest = all_arrive p (log ++ m ∷ []) held last more (released_on log more m r) (λ x h. others x (inr h))
+    (subst (λ q. length q ≤ p.keep) (sym (append_assoc log (m ∷ []) more)) room) in (
       (λ i. (one i).1 ∷ answers_to p (one i).0 more) ∙ ap (λ q. Ok (arrival.Released 1) ∷ q) rest.0,
       ap (λ (q : Replica × Result Arrival Refusal). after_all p q.0 more) one ∙ rest.1 ∙ ap (λ q. quiet q held last) (append_assoc log (m ∷ []) more),
     )
@@ -323,8 +341,10 @@ module _ (logs : List Log) (f : AreFaultless logs) where
   pub log_released : (log : Log) → Has log logs → Released (reverse log.messages)
   log_released log h = released_all log.site (reverse log.messages) (f.ordered log h)
 
-  merged_grown : Grown (Logged logs) f.clash IsReleased released_prefix apart_front (push_released (Logged logs) f.clash f.red_once) [] (flat_map (λ (l : Log). l.messages) logs) (merged logs)
-  merged_grown = go_logs (Logged logs) f.clash IsReleased released_prefix apart_front (push_released (Logged logs) f.clash f.red_once) logs [] (λ log h. (log_released log h, λ x k. ((log, h), k))) tt (λ x h. absurd h)
+  merged_grown : Grown (Logged logs) f.clash IsReleased released_prefix apart_front (push_released (Logged logs) f.clash f.red_once) []
+      (flat_map (λ (l : Log). l.messages) logs) (merged logs)
+  merged_grown = go_logs (Logged logs) f.clash IsReleased released_prefix apart_front (push_released (Logged logs) f.clash f.red_once) logs []
+      (λ log h. (log_released log h, λ x k. ((log, h), k))) tt (λ x h. absurd h)
 
   pub merged_released : Released (reverse (merged logs))
   merged_released = merged_grown.fine
@@ -346,11 +366,13 @@ module _ (logs : List Log) (f : AreFaultless logs) where
 
   pub in_lacked : (own : List Message) → ((x : Message) → Has x own → Logged logs x) → (m : Message) → Logged logs m → (Has m own → ⊥) → Has m (lacked logs own)
   in_lacked own on m a n =
-      in_filter (λ u. not (is_among own u)) m (merged logs) (in_merged m a) (ap not (false_from_ne_true (is_among own m) (λ e. n (among_in (Logged logs) f.clash m own a on e))))
+      in_filter (λ u. not (is_among own u)) m (merged logs) (in_merged m a)
+      (ap not (false_from_ne_true (is_among own m) (λ e. n (among_in (Logged logs) f.clash m own a on e))))
 
   module _ (own : List Message) (r : Released (reverse own)) (on : (x : Message) → Has x own → Logged logs x) where
     pub completed_released : Released (reverse (completed logs own))
-    completed_released = fill (Logged logs) f.clash IsReleased released_prefix apart_front (push_released (Logged logs) f.clash f.red_once) own [] (merged logs) own merged_released of_merged r on on (λ x h. h) (λ x h. absurd h) (λ x h k. k)
+    completed_released = fill (Logged logs) f.clash IsReleased released_prefix apart_front (push_released (Logged logs) f.clash f.red_once) own []
+        (merged logs) own merged_released of_merged r on on (λ x h. h) (λ x h. absurd h) (λ x h k. k)
 
     pub completed_all : (m : Message) → Has m (completed logs own) ↔ Logged logs m
     completed_all m = (
@@ -374,7 +396,8 @@ module _ (logs : List Log) (f : AreFaultless logs) where
 pub lacks_the_rest : LacksTheRest
 lacks_the_rest logs f log h = (
   λ m. ((λ k. of_lacked logs f log.messages m k), (λ k. in_lacked logs f log.messages on m k.0 k.1)),
-  λ m k. distinct_back (reverse (completed logs log.messages)) m (completed_released logs f log.messages (log_released logs f log h) on) (behind_from m m (completed logs log.messages) (before_right m m log.messages (lacked logs log.messages) k)),
+  λ m k. distinct_back (reverse (completed logs log.messages)) m (completed_released logs f log.messages (log_released logs f log h) on)
+      (behind_from m m (completed logs log.messages) (before_right m m log.messages (lacked logs log.messages) k)),
 )
   where
     on : (x : Message) → Has x log.messages → Logged logs x

@@ -20,7 +20,8 @@ other_verdict logs (Found kind log entry) n = refl
 
 agreed : (sites : ℕ) (records : List (List (List ℕ))) (read : Result (List Log) ℕ) → sites ≤ COUNTED_MAX → logs_after sites 1 [] records ≡ read
     → audit_record read ≡ verdict_record Agree
-    → (logs : List Log) × (logs_after sites 1 [] records ≡ Ok (reverse logs)) × (AreAmong sites logs) × (AreFaultless logs) × (lack_rows_read read ≡ lack_rows_from 1 logs logs)
+    → (logs : List Log) × (logs_after sites 1 [] records ≡ Ok (reverse logs)) × (AreAmong sites logs) × (AreFaultless logs)
+    × (lack_rows_read read ≡ lack_rows_from 1 logs logs)
 agreed sites records (Err n) few is e = let l = ap length e in absurd cc
 agreed sites records (Ok found) few is e =
     let logs = reverse found in

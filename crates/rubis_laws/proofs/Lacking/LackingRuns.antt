@@ -1,5 +1,6 @@
 -- What sending what is lacking leads to: in a run, and of the tables.
-use Rattle.std.proofs.Common.{◌≡◌, ◌∙◌, ℕ, ◌+◌, ◌^◌, ◌≤◌, ◌<◌, Bool, true, false, List, [], ◌∷◌, ◌++◌, length, append_assoc, refl, sym, ap, subst, inl, inr, arith}
+use Rattle.std.proofs.Common.{◌≡◌, ◌∙◌, ℕ, ◌+◌, ◌^◌, ◌≤◌, ◌<◌, Bool, true, false, List, [], ◌∷◌, ◌++◌, length, append_assoc, refl, sym, ap, subst, inl, inr}
+use Rattle.std.proofs.Common.{arith}
 use Rattle.std.specs.Prelude.{◌≢◌, ◌⊎◌, reverse}
 use Rattle.std.proofs.lemmas.Bool.{ltb-true}
 use Rattle.std.proofs.lemmas.List.{length-reverse, reverse-reverse}
@@ -9,7 +10,8 @@ use Rattle.rubis_message.specs.declared.tokens.Packet.TheVariants as packet
 use Rattle.rubis_model.specs.Audit.{AreFaultless, Logged}
 use Rattle.rubis_model.specs.Checks.{Checked, CheckedFrom, Follows}
 use Rattle.rubis_model.specs.Convergence.{AreDeliveries, HasAll, message_count}
-use Rattle.rubis_model.specs.Lack.{is_among, merged, lacked, completed, AreLogsOfAll, BringsLack, Completes, CompletedTablesAreEqual, LackIsReleasedInRuns, OneRoundConverges}
+use Rattle.rubis_model.specs.Lack.{is_among, merged, lacked, completed, AreLogsOfAll, BringsLack, Completes, CompletedTablesAreEqual, LackIsReleasedInRuns}
+use Rattle.rubis_model.specs.Lack.{OneRoundConverges}
 use Rattle.rubis_model.specs.Laws.{Sent, WasLogOf}
 use Rattle.rubis_model.specs.Log.{Core, core, cores, fold_of}
 use Rattle.rubis_model.specs.Logs.{Log}
@@ -26,11 +28,13 @@ use Rattle.rubis_laws.proofs.Audits.Audited.{message_formed, checked_from, run_f
 use Rattle.rubis_laws.proofs.Audits.AuditedOrder.{IsFormed}
 use Rattle.rubis_laws.proofs.Runs.Converging.{released_all, same_tables, rests_run}
 use Rattle.rubis_laws.proofs.Rows.Cores.{same_cores}
-use Rattle.rubis_laws.proofs.Runs.Delivering.{are_events, delivered, deliveries_sent, messages_of, messages_length, message_in, no_longer, number_of, run_sites, singly_released}
+use Rattle.rubis_laws.proofs.Runs.Delivering.{are_events, delivered, deliveries_sent, messages_of, messages_length, message_in, no_longer, number_of, run_sites}
+use Rattle.rubis_laws.proofs.Runs.Delivering.{singly_released}
 use Rattle.rubis_laws.proofs.Rows.EqualSets.{OneRed, equal_sets_equal_tables}
 use Rattle.rubis_laws.proofs.Order.Fitting.{fits_on}
 use Rattle.rubis_laws.proofs.Runs.SoundSteps.{run_keeps, start_sites}
-use Rattle.rubis_laws.proofs.Lacking.InOrder.{IsReleased, among_in, apart_front, completed_all, completed_released, completes, fill, go_logs, in_lacked, log_released, of_lacked, of_merged, push_released, released_prefix}
+use Rattle.rubis_laws.proofs.Lacking.InOrder.{IsReleased, among_in, apart_front, completed_all, completed_released, completes, fill, go_logs, in_lacked}
+use Rattle.rubis_laws.proofs.Lacking.InOrder.{log_released, of_lacked, of_merged, push_released, released_prefix}
 use Rattle.rubis_laws.proofs.Rows.Lengths.{log_short}
 use Rattle.rubis_laws.proofs.Order.LogsChecked.{of_back, to_back, new_here, one_each_back, count_reds, number_is, checked_end}
 use Rattle.rubis_laws.proofs.Runs.Resting.{AllRest, rest_run, unlisted}
@@ -70,7 +74,8 @@ module _ (all : Message → Type 0) (ids : (u v : Message) → all u → all v �
   one_red past on c d h k e f g =
       let u = of_back c past h in
       let v = of_back d past k in
-      sym u.2 ∙ ap core (red_once u.0 v.0 (on u.0 u.1) (on v.0 v.1) (positive u.0 (on u.0 u.1) (ap (λ (x : Core). is_red x.shadow) u.2 ∙ e)) (ap (λ (x : Core). x.red) u.2 ∙ g ∙ sym (ap (λ (x : Core). x.red) v.2))) ∙ v.2
+      sym u.2 ∙ ap core (red_once u.0 v.0 (on u.0 u.1) (on v.0 v.1) (positive u.0 (on u.0 u.1) (ap (λ (x : Core). is_red x.shadow) u.2 ∙ e))
+      (ap (λ (x : Core). x.red) u.2 ∙ g ∙ sym (ap (λ (x : Core). x.red) v.2))) ∙ v.2
 
   -- what follows some messages follows a list that has those, and not it; both newest first
   follows_on : (front past : List Message) (m : Message) → Released (m ∷ front) → Released (m ∷ past) → ((x : Message) → Has x past → all x) → all m
@@ -78,8 +83,10 @@ module _ (all : Message → Type 0) (ids : (u v : Message) → all u → all v �
   follows_on front past m rf rp on a within f = record {
     new_id = new_here past m rp.1 rp.0;
     next_red =
-        number_is m.stamp.red (count is_red (cores (reverse past))) (is_red m.shadow) (formed m a).colour (λ l. rp.0.number l ∙ ap (λ n. n + 1) (sym (count_reds past (λ x h. (formed x (on x h)).colour))));
-    fits = fits_on (cores (reverse front)) (cores (reverse past)) members (one_each_back front rf.1) (one_each_back past rp.1) (one_red past on) m.shadow back f.fits;
+        number_is m.stamp.red (count is_red (cores (reverse past))) (is_red m.shadow) (formed m a).colour
+        (λ l. rp.0.number l ∙ ap (λ n. n + 1) (sym (count_reds past (λ x h. (formed x (on x h)).colour))));
+    fits = fits_on (cores (reverse front)) (cores (reverse past)) members (one_each_back front rf.1) (one_each_back past rp.1)
+        (one_red past on) m.shadow back f.fits;
     limits = f.limits;
   }
     where
@@ -102,8 +109,10 @@ module _ (all : Message → Type 0) (ids : (u v : Message) → all u → all v �
       → ((x : Message) → Has x front → Has x log) → (Has m log → ⊥) → IsChecked (log ++ m ∷ [])
   push_checked front log m cf cl on a within new =
       let r = push_released all ids red_once front log m cf.0 cl.0 on a within new in
-      let f : Follows (cores (reverse (reverse front))) (core m) = subst (λ q. Follows (cores q) (core m)) (sym (reverse-reverse front)) (last_follows [] front m cf.1) in
-      let g = follows_on (reverse front) (reverse log) m (subst Released (reverse_push front m) cf.0) (subst Released (reverse_push log m) r) (λ x h. on x (has_reverse x log h)) a
+      let f : Follows (cores (reverse (reverse front))) (core m) = subst (λ q. Follows (cores q) (core m)) (sym (reverse-reverse front))
+      (last_follows [] front m cf.1) in
+      let g = follows_on (reverse front) (reverse log) m (subst Released (reverse_push front m) cf.0) (subst Released (reverse_push log m) r)
+      (λ x h. on x (has_reverse x log h)) a
       (λ x h. has_back x log (within x (has_reverse x front h))) f in
       (r, subst Checked (sym (cores_push log m)) (checked_end [] (cores log) (core m) cl.1 (subst (λ q. Follows (cores q) (core m)) (reverse-reverse log) g)))
 
@@ -111,15 +120,18 @@ module _ (logs : List Log) (f : AreFaultless logs) (formed : (v : Message) → L
   log_checked : (log : Log) → Has log logs → IsChecked log.messages
   log_checked log h = (
     log_released logs f log h,
-    subst (λ l. Checked (cores l)) (reverse-reverse log.messages) (checked_from log.site (reverse log.messages) (f.ordered log h) (f.fitting log h) (λ v g. formed v ((log, h), has_reverse v log.messages g))),
+    subst (λ l. Checked (cores l)) (reverse-reverse log.messages)
+        (checked_from log.site (reverse log.messages) (f.ordered log h) (f.fitting log h) (λ v g. formed v ((log, h), has_reverse v log.messages g))),
   )
 
   merged_checked : IsChecked (merged logs)
-  merged_checked = (go_logs (Logged logs) f.clash IsChecked checked_prefix checked_apart (push_checked (Logged logs) f.clash f.red_once formed) logs [] (λ log h. (log_checked log h, λ x k. ((log, h), k))) (tt, tt) (λ x h. absurd h)).fine
+  merged_checked = (go_logs (Logged logs) f.clash IsChecked checked_prefix checked_apart (push_checked (Logged logs) f.clash f.red_once formed) logs []
+      (λ log h. (log_checked log h, λ x k. ((log, h), k))) (tt, tt) (λ x h. absurd h)).fine
 
   completed_checked : (log : Log) → Has log logs → IsChecked (completed logs log.messages)
   completed_checked log h = let on : (x : Message) → Has x log.messages → Logged logs x = λ x k. ((log, h), k) in
-      fill (Logged logs) f.clash IsChecked checked_prefix checked_apart (push_checked (Logged logs) f.clash f.red_once formed) log.messages [] (merged logs) log.messages merged_checked (of_merged logs f) (log_checked log h) on on (λ x k. k) (λ x k. absurd k) (λ x k l. l)
+      fill (Logged logs) f.clash IsChecked checked_prefix checked_apart (push_checked (Logged logs) f.clash f.red_once formed) log.messages []
+      (merged logs) log.messages merged_checked (of_merged logs f) (log_checked log h) on on (λ x k. k) (λ x k. absurd k) (λ x k l. l)
 
   completed_same : (a b : Log) → Has a logs → Has b logs → length (completed logs a.messages) ≤ 2 ^ 32 → length (completed logs b.messages) ≤ 2 ^ 32
       → (fold_of (cores (completed logs a.messages))).tables ≡ (fold_of (cores (completed logs b.messages))).tables
@@ -128,12 +140,14 @@ module _ (logs : List Log) (f : AreFaultless logs) (formed : (v : Message) → L
       let y = completed logs b.messages in
       let ca = cores_length x in
       let cb = cores_length y in
-      equal_sets_equal_tables (cores x) (cores y) (completed_checked a ha).1 (completed_checked b hb).1 (omega (arith, la, ca)) (omega (arith, lb, cb)) (same_cores x y (λ m. (
+      equal_sets_equal_tables (cores x) (cores y) (completed_checked a ha).1 (completed_checked b hb).1 (omega (arith, la, ca)) (omega (arith, lb, cb))
+      (same_cores x y (λ m. (
         λ c. contains y m ((at b hb m).1 ((at a ha m).0 (contained x m c))),
         λ c. contains x m ((at a ha m).1 ((at b hb m).0 (contained y m c))),
       )))
     where
-      at : (log : Log) (h : Has log logs) (m : Message) → (Has m (completed logs log.messages) → Logged logs m) × (Logged logs m → Has m (completed logs log.messages))
+      at : (log : Log) (h : Has log logs) (m : Message) → (Has m (completed logs log.messages) → Logged logs m)
+          × (Logged logs m → Has m (completed logs log.messages))
       at log h m = completed_all logs f log.messages (log_released logs f log h) (λ x k. ((log, h), k)) m
 
 pub completed_tables_are_equal : CompletedTablesAreEqual
@@ -159,13 +173,15 @@ module _ (w : World) (s : Sound w) (logs : List Log) (of : (log : Log) → Has l
   few : (own : List Message) → Released (reverse own) → ((x : Message) → Has x own → Logged logs x) → length (completed logs own) ≤ message_count w.sent
   few own r on =
       let all = completed logs own in
-      let l : length (reverse all) ≤ length (messages_of w.sent) = no_longer (reverse all) (messages_of w.sent) (singly_released (reverse all) (completed_released logs faultless own r on))
+      let l : length (reverse all) ≤ length (messages_of w.sent) = no_longer (reverse all) (messages_of w.sent)
+      (singly_released (reverse all) (completed_released logs faultless own r on))
       (λ x h. message_in x w.sent (was_sent x ((completed_all logs faultless own r on x).0 (has_reverse x all h)))) in
       let c = messages_length w.sent in
       let b = length-reverse all in
       omega arith
 
-  completes_in_run : (log : Log) → Has log logs → log.messages ≡ (site w log.site).log → (site w log.site).waiting ≡ [] → (keep : ℕ) → message_count w.sent ≤ keep
+  completes_in_run : (log : Log) → Has log logs → log.messages ≡ (site w log.site).log → (site w log.site).waiting ≡ [] → (keep : ℕ) →
+      message_count w.sent ≤ keep
       → Completes logs (place keep w log.site) (site w log.site)
   completes_in_run log h e wt keep room =
       completes logs faultless (place keep w log.site) (site w log.site) (s.good log.site).released on wt others
@@ -198,7 +214,8 @@ module _ (n keep : ℕ) (few : keep ≤ 1000000) (w : World) (s : Sound w) (r : 
       at : (t : Bool) → is_among (site w i).log m ≡ t → Has m (site (run keep es w) i).log ⊎ Has m (site (run keep es w) i).waiting
       at true t =
           let k = number_of (packet.Msg m) w.sent b in
-          let h : Has m (site w i).log = among_in (Sent w) (λ u v. unique w u v s) m (site w i).log b (λ x q. (s.good i).log_sent x (has_back x (site w i).log q)) t in
+          let h : Has m (site w i).log = among_in (Sent w) (λ u v. unique w u v s) m (site w i).log b
+          (λ x q. (s.good i).log_sent x (has_back x (site w i).log q)) t in
           delivered keep few es w i k.0 m d s r room (omega (arith, size, l)) k.1 b (inr (inl h))
       at false t =
           let o = s.home.origin m b in

@@ -45,8 +45,10 @@ taken_of n l = subst (λ b. IsTakenIn (Ok (cond b arrival.Held (arrival.Released
 
 -- the answer where none of the tests holds
 is_answer : (a b c : Bool) (s t : Replica) (n : ℕ) → a ≡ false → b ≡ false → c ≡ false
-    → cond {A = Replica × Result Arrival Refusal} a (s, Err NotOurs) (cond b (s, Ok arrival.Repeat) (cond c (s, Err Full) (t, Ok (arrival_of n)))) ≡ (t, Ok (arrival_of n))
-is_answer a b c s t n ea eb ec = λ i. cond {A = Replica × Result Arrival Refusal} (ea i) (s, Err NotOurs) (cond (eb i) (s, Ok arrival.Repeat) (cond (ec i) (s, Err Full) (t, Ok (arrival_of n))))
+    → cond {A = Replica × Result Arrival Refusal} a (s, Err NotOurs) (cond b (s, Ok arrival.Repeat) (cond c (s, Err Full) (t, Ok (arrival_of n))))
+    ≡ (t, Ok (arrival_of n))
+is_answer a b c s t n ea eb ec = λ i. cond {A = Replica × Result Arrival Refusal} (ea i) (s, Err NotOurs)
+    (cond (eb i) (s, Ok arrival.Repeat) (cond (ec i) (s, Err Full) (t, Ok (arrival_of n))))
 
 abbrev state : ℕ → World → ℕ → Message → Replica
 state keep w i m = (arrived (place keep w i) (site w i) m).0
@@ -57,7 +59,9 @@ module _ (keep : ℕ) (few : keep ≤ 1000000) (w : World) (s : Sound w) (r : Al
   logged_of : (v : World) → Sound v → AllRest v → Sent v m → ((x : Message) → Has x front → Has x (site v i).log)
       → Has m (site v i).log ⊎ Has m (site v i).waiting → Has m (site v i).log
   logged_of v sv rv av on h = ⊎_elim (λ q. q)
-      (λ q. absurd ((rests_at v i rv).unready m q (ready_forth (site v i).log m (ready_on (Sent v) (λ x y. unique v x y sv) sv.reds.single front (reverse (site v i).log) m rm (sv.good i).released (sv.good i).log_sent av
+      (λ q. absurd ((rests_at v i rv).unready m q
+      (ready_forth (site v i).log m
+      (ready_on (Sent v) (λ x y. unique v x y sv) sv.reds.single front (reverse (site v i).log) m rm (sv.good i).released (sv.good i).log_sent av
       (λ x y. has_back x (site v i).log (on x y)) (λ y. (rests_at v i rv).apart.not_logged m q (has_reverse m (site v i).log y))))))
       h
 
@@ -89,8 +93,10 @@ module _ (keep : ℕ) (few : keep ≤ 1000000) (w : World) (s : Sound w) (r : Al
 
   pub next_site : site next i ≡ state keep w i m
   unfolding next
-  next_site = cond_both (nat_lt i (length w.sites)) (coming keep w i (packet_at w.sent number.0)) (w, Err BadEvent) (λ (p : World × Result Happened Refusal). site p.0 i ≡ state keep w i m)
-      (λ _. subst (λ o. site (coming keep w i o).0 i ≡ state keep w i m) (sym number.1) (set_at (λ q y. q ≡ i → y ≡ state keep w i m) w.sites i (state keep w i m) (opening_at 1) l (λ _. refl) (λ q n e. absurd (n e)) i refl))
+  next_site = cond_both (nat_lt i (length w.sites)) (coming keep w i (packet_at w.sent number.0)) (w, Err BadEvent)
+      (λ (p : World × Result Happened Refusal). site p.0 i ≡ state keep w i m)
+      (λ _. subst (λ o. site (coming keep w i o).0 i ≡ state keep w i m) (sym number.1)
+      (set_at (λ q y. q ≡ i → y ≡ state keep w i m) w.sites i (state keep w i m) (opening_at 1) l (λ _. refl) (λ q n e. absurd (n e)) i refl))
       (λ b. absurd (outside i (length w.sites) l b))
 
   pub stays : (x : Message) → Has x (site w i).log → Has x (state keep w i m).log
@@ -98,7 +104,8 @@ module _ (keep : ℕ) (few : keep ≤ 1000000) (w : World) (s : Sound w) (r : Al
       cond_both (not_ours (place keep w i) (site w i) m) (site w i, Err NotOurs) _ (λ (p : Replica × Result Arrival Refusal). Has x p.0.log) (λ _. h)
       (λ _. cond_both (is_repeat (site w i) m) (site w i, Ok arrival.Repeat) _ (λ (p : Replica × Result Arrival Refusal). Has x p.0.log) (λ _. h)
       (λ _. cond_both (is_full keep (site w i)) (site w i, Err Full) _ (λ (p : Replica × Result Arrival Refusal). Has x p.0.log) (λ _. h)
-      (λ _. has_reverse x (after_came (site w i) m).log (settle_grows x (length ((site w i).waiting ++ m ∷ [])) (site w i).log ((site w i).waiting ++ m ∷ []) (has_back x (site w i).log h)))))
+      (λ _. has_reverse x (after_came (site w i) m).log
+      (settle_grows x (length ((site w i).waiting ++ m ∷ [])) (site w i).log ((site w i).waiting ++ m ∷ []) (has_back x (site w i).log h)))))
 
   pub comes : Has m (state keep w i m).log
   comes = subst (λ (q : Replica). Has m q.log) next_site
@@ -115,7 +122,8 @@ module _ (keep : ℕ) (few : keep ≤ 1000000) (w : World) (s : Sound w) (r : Al
   released_now ea eb ec =
       let t = (after_came (site w i) m).log in
       let same : state keep w i m ≡ after_came (site w i) m = ap (λ (p : Replica × Result Arrival Refusal). p.0)
-      (is_answer (not_ours (place keep w i) (site w i) m) (is_repeat (site w i) m) (is_full keep (site w i)) (site w i) (after_came (site w i) m) (length t - length (site w i).log) ea eb ec) in
+      (is_answer (not_ours (place keep w i) (site w i) m) (is_repeat (site w i) m) (is_full keep (site w i)) (site w i) (after_came (site w i) m)
+      (length t - length (site w i).log) ea eb ec) in
       let q = or_parts (list_any (λ u. same_id m.stamp.id u.stamp.id) (site w i).log) (list_any (λ u. same_id m.stamp.id u.stamp.id) (site w i).waiting) eb in
       let here : Has m t = subst (λ (y : Replica). Has m y.log) same comes in
       let n : length (m ∷ reverse (site w i).log) ≤ length t = no_longer (m ∷ reverse (site w i).log) t
@@ -126,15 +134,18 @@ module _ (keep : ℕ) (few : keep ≤ 1000000) (w : World) (s : Sound w) (r : Al
 
   pub answer : IsTakenIn (arrived (place keep w i) (site w i) m).1
   answer =
-      cond_both (not_ours (place keep w i) (site w i) m) (site w i, Err NotOurs) _ (λ (p : Replica × Result Arrival Refusal). IsTakenIn p.1) (λ e. absurd (is_ours w s r i m a keep e))
+      cond_both (not_ours (place keep w i) (site w i) m) (site w i, Err NotOurs) _ (λ (p : Replica × Result Arrival Refusal). IsTakenIn p.1)
+      (λ e. absurd (is_ours w s r i m a keep e))
       (λ ea. cond_both (is_repeat (site w i) m) (site w i, Ok arrival.Repeat) _ (λ (p : Replica × Result Arrival Refusal). IsTakenIn p.1) (λ _. tt)
       (λ eb. cond_both (is_full keep (site w i)) (site w i, Err Full) _ (λ (p : Replica × Result Arrival Refusal). IsTakenIn p.1) (λ e. absurd (too_many eb e))
       (λ ec. taken_of (length (after_came (site w i) m).log - length (site w i).log) (released_now ea eb ec))))
 
 abbrev Taken : Place → Replica → List Message → List Message → Type 0
-Taken p s front more = ((a : Result Arrival Refusal) → Has a (answers_to p s more) → IsTakenIn a) × ((x : Message) → Has x front ⊎ Has x more → Has x (after_all p s more).log)
+Taken p s front more = ((a : Result Arrival Refusal) → Has a (answers_to p s more) → IsTakenIn a)
+    × ((x : Message) → Has x front ⊎ Has x more → Has x (after_all p s more).log)
 
-all_taken : (keep : ℕ) → keep ≤ 1000000 → (more front : List Message) (w : World) (i : ℕ) (p : Place) → Sound w → AllRest w → i < length w.sites → message_count w.sent ≤ keep
+all_taken : (keep : ℕ) → keep ≤ 1000000 → (more front : List Message) (w : World) (i : ℕ) (p : Place) → Sound w → AllRest w → i < length w.sites →
+    message_count w.sent ≤ keep
     → Released (reverse (front ++ more)) → ((x : Message) → Has x more → Sent w x) → ((x : Message) → Has x front → Has x (site w i).log) → place keep w i ≡ p
     → Taken p (site w i) front more
 all_taken keep few [] front w i p s r l room rel on within e = ((λ a h. absurd h), (λ x h. ⊎_elim (λ k. within x k) (λ k. absurd k) h))
@@ -147,14 +158,18 @@ all_taken keep few (m ∷ more) front w i p s r l room rel on within e =
     let sent = next_sent keep few w s r i l room m a (reverse front) rm inside in
     let sites = next_sites keep few w s r i l room m a (reverse front) rm inside in
     let grown : (x : Message) → Has x (front ++ m ∷ []) → Has x (site v i).log = λ x h. subst (λ (q : Replica). Has x q.log) (sym there)
-    (⊎_elim (λ k. stays keep few w s r i l room m a (reverse front) rm inside x (within x k)) (λ k. subst (λ y. Has y (state keep w i m).log) (sym k) (comes keep few w s r i l room m a (reverse front) rm inside)) (push_cases x m front h)) in
-    let rest = all_taken keep few more (front ++ m ∷ []) v i (place keep w i) (next_sound keep few w s r i l room m a (reverse front) rm inside) (next_rest keep few w s r i l room m a (reverse front) rm inside)
+    (⊎_elim (λ k. stays keep few w s r i l room m a (reverse front) rm inside x (within x k))
+    (λ k. subst (λ y. Has y (state keep w i m).log) (sym k) (comes keep few w s r i l room m a (reverse front) rm inside)) (push_cases x m front h)) in
+    let rest = all_taken keep few more (front ++ m ∷ []) v i (place keep w i) (next_sound keep few w s r i l room m a (reverse front) rm inside)
+    (next_rest keep few w s r i l room m a (reverse front) rm inside)
     (subst (λ n. i < n) (sym sites) l) (subst (λ ps. message_count ps ≤ keep) (sym sent) room) (released_on front more m rel)
     (λ x h. subst (λ ps. Has (packet.Msg x) ps) (sym sent) (on x (inr h))) grown (λ j. record { site = i; sites = sites j; keep = keep }) in
     let moved : Taken (place keep w i) (state keep w i m) (front ++ m ∷ []) more = subst (λ q. Taken (place keep w i) q (front ++ m ∷ []) more) there rest in
     subst (λ q. Taken q (site w i) front (m ∷ more)) e (
       (λ b h. ⊎_elim (λ k. subst IsTakenIn (sym k) (answer keep few w s r i l room m a (reverse front) rm inside)) (λ k. moved.0 b k) h),
-      (λ x h. ⊎_elim (λ k. moved.1 x (inl (has_left x front (m ∷ []) k))) (λ k. ⊎_elim (λ q. moved.1 x (inl (subst (λ y. Has y (front ++ m ∷ [])) (sym q) (has_right m front (m ∷ []) (inl refl))))) (λ q. moved.1 x (inr q)) k) h),
+      (λ x h. ⊎_elim (λ k. moved.1 x (inl (has_left x front (m ∷ []) k)))
+          (λ k. ⊎_elim (λ q. moved.1 x (inl (subst (λ y. Has y (front ++ m ∷ [])) (sym q) (has_right m front (m ∷ []) (inl refl))))) (λ q. moved.1 x (inr q)) k)
+          h),
     )
 
 pub lack_never_waits : LackNeverWaits

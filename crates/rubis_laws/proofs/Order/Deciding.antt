@@ -99,15 +99,20 @@ module _ (keep : ℕ) (few : keep ≤ 1000000) (w : World) (i : ℕ) (s : Sound 
   fitting ask x e =
       let c = log_checked w i s in
       let l : length (cores (site w i).log) ≤ 2 ^ 32 = (let a = short ask x e in let b = cores_length (site w i).log in omega (arith, a, b)) in
-      decided_fits (rows_at (site w i).log) (cores (site w i).log) (fold_is_meaning (cores (site w i).log) c l).0.rows (standing_of keep (site w i)) ask x (checked_holds (cores (site w i).log) c) e
+      decided_fits (rows_at (site w i).log) (cores (site w i).log) (fold_is_meaning (cores (site w i).log) c l).0.rows (standing_of keep (site w i)) ask x
+      (checked_holds (cores (site w i).log) c) e
 
   pub in_limits : (ask : Ask) (x : Shadow) → IsAsk (length w.sites) ask → decision (rows_at (site w i).log) (standing_of keep (site w i)) ask ≡ Ok x
       → InLimits (length w.sites) x
   unfolding Allows
   in_limits ask x l e =
       let p = (granted (rows_at (site w i).log) (standing_of keep (site w i)) ask x e).1 in
-      subst (InLimits (length w.sites)) p (shadow_limits (length w.sites) (rows_at (site w i).log) (standing_of keep (site w i)) ask (granted (rows_at (site w i).log) (standing_of keep (site w i)) ask x e).0 l (λ c same asks.
-      let f = by_kind (cores (site w i).log) (closing (rows_at (site w i).log) c.item) (subst (λ a. Fits (cores (site w i).log) (shadow_of (rows_at (site w i).log) a)) same (subst (Fits (cores (site w i).log)) (sym p) (fitting ask x e))) in
+      subst (InLimits (length w.sites)) p
+      (shadow_limits (length w.sites) (rows_at (site w i).log) (standing_of keep (site w i)) ask
+      (granted (rows_at (site w i).log) (standing_of keep (site w i)) ask x e).0 l (λ c same asks.
+      let f = by_kind (cores (site w i).log) (closing (rows_at (site w i).log) c.item)
+      (subst (λ a. Fits (cores (site w i).log) (shadow_of (rows_at (site w i).log) a)) same (subst (Fits (cores (site w i).log)) (sym p) (fitting ask x e)))
+      in
       (asks.0, cat_small w i c.item _ s f.0, subst (λ o. IfSome o (IsId (length w.sites))) (sym f.2) (bid_id w i c.item s (short ask x e)))))
 
   pub decided : (ask : Ask) (x : Shadow) → IsAsk (length w.sites) ask → decision (rows_at (site w i).log) (standing_of keep (site w i)) ask ≡ Ok x

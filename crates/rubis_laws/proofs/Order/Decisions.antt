@@ -16,7 +16,8 @@ use Rattle.rubis_model.specs.Log.{Core}
 use Rattle.rubis_shadow.specs.declared.shadows.Shadow.{Shadow}
 use Rattle.rubis_generate.specs.declared.standing.Standing.{Standing}
 use Rattle.rubis_shadow.specs.declared.shadows.Ask.{Ask}
-use Rattle.rubis_model.specs.Meaning.{user_at, nick_at, item_at, user_row, item_row, meaning_row, close_of, best_bid, best_of, sale_after, named, total, sold_of, supply}
+use Rattle.rubis_model.specs.Meaning.{user_at, nick_at, item_at, user_row, item_row, meaning_row, close_of, best_bid, best_of, sale_after, named, total}
+use Rattle.rubis_model.specs.Meaning.{sold_of, supply}
 use Rattle.rubis_model.specs.Checks.{Fits}
 use Rattle.rubis_laws.proofs.Rows.Nicks.{nick_user}
 use Rattle.rubis_laws.proofs.Order.FitsByKind.{Tells, decided_by_kind, from_kind}
@@ -50,7 +51,8 @@ module _ (t : Rows) (a : List Core) (rows : (q : RowKey) → t q ≡ meaning_row
       at : (o : Option (List ℕ)) → nick_at i a ≡ o → is_none (option_and_then as_user_row (option_map (user_row a i) o)) ≡ false
           → nick_at i a ≡ Some (option_map_or (λ (u : UserRow). u.nick) (user_in t i) [])
       at None q e = absurd (true≢false e)
-      at (Some n) q e = q ∙ ap Some (sym (ap (λ g. option_map_or (λ (u : UserRow). u.nick) (option_and_then as_user_row g) []) (get_user i ∙ ap (option_map (user_row a i)) q)))
+      at (Some n) q e = q ∙ ap Some
+          (sym (ap (λ g. option_map_or (λ (u : UserRow). u.nick) (option_and_then as_user_row g) []) (get_user i ∙ ap (option_map (user_row a i)) q)))
 
   item_there : (i : Id) → is_none (item_in t i) ≡ false → (n : NewItem) × (item_at i a ≡ Some n)
   item_there i e = at (item_at i a) refl (sym (ap (λ g. is_none (option_and_then as_item_row g)) (get_item i)) ∙ e)
@@ -74,7 +76,8 @@ module _ (t : Rows) (a : List Core) (rows : (q : RowKey) → t q ≡ meaning_row
   enough : (h : Holds a) (i : Id) (n : NewItem) (q : ℕ) → item_at i a ≡ Some n → of_item t i (λ r. nat_lt r.stock q) ≡ false
       → IfSome (item_at i a) (λ n. total (sold_of i) a + q ≤ supply a i n)
   enough h i n q e f =
-      let k : nat_lt (supply a i n - total (sold_of i) a) q ≡ false = sym (ap (λ o. option_map_or (λ (r : ItemRow). nat_lt r.stock q) o false) (item_is i n e)) ∙ f in
+      let k : nat_lt (supply a i n - total (sold_of i) a) q ≡ false = sym (ap (λ o. option_map_or (λ (r : ItemRow). nat_lt r.stock q) o false) (item_is i n e))
+      ∙ f in
       let s : total (sold_of i) a ≤ supply a i n = subst (λ o. IfSome o (λ n. total (sold_of i) a ≤ supply a i n)) e (h.stock i) in
       subst (λ o. IfSome o (λ n. total (sold_of i) a + q ≤ supply a i n)) (sym e) (room _ _ _ k s)
     where

@@ -25,7 +25,8 @@ use Rattle.rubis_generate.specs.declared.standing.Standing.{Standing}
 use Rattle.rubis_message.specs.Equal.{Decides-winner}
 use Rattle.rubis_model.specs.Checks.{Fits, IsLimited, StandsIn, nick_taken, stock_short, wrong_category, wrong_winner}
 use Rattle.rubis_model.specs.Log.{Core}
-use Rattle.rubis_model.specs.Meaning.{as_bid, at_id, best_bid, bids_on, bought_by, close_of, closes, higher, is_same_nick, item_at, lists_item_of, named, nick_at, rates, rating_for, renames, restocked_of, sold_of, supply, total, user_at, when}
+use Rattle.rubis_model.specs.Meaning.{as_bid, at_id, best_bid, bids_on, bought_by, close_of, closes, higher, is_same_nick, item_at, lists_item_of, named}
+use Rattle.rubis_model.specs.Meaning.{nick_at, rates, rating_for, renames, restocked_of, sold_of, supply, total, user_at, when}
 use Rattle.rubis_laws.proofs.Order.NotRefused.{neither, not_refused, only}
 use Rattle.rubis_laws.proofs.Rows.Nicks.{is_nick_at, is_nick_of, some_nick}
 use Rattle.rubis_laws.proofs.Rows.Choices.{IsChoice, choose_is, higher_ranks}
@@ -88,7 +89,8 @@ module _ (a : List Core) where
   same_cat cat None s e = absurd (true≢false (sym s))
   same_cat cat (Some n) s e = ap Some (eqb-true n.cat cat (not-false (n.cat == cat) e))
 
-  right_cat : (cat : ℕ) (o : Option NewItem) → option_map (λ (n : NewItem). n.cat) o ≡ Some cat → option_map_or (λ (n : NewItem). not (n.cat == cat)) o false ≡ false
+  right_cat : (cat : ℕ) (o : Option NewItem) → option_map (λ (n : NewItem). n.cat) o ≡ Some cat → option_map_or (λ (n : NewItem). not (n.cat == cat)) o false
+      ≡ false
   right_cat cat None e = refl
   right_cat cat (Some n) e = let s : n.cat ≡ cat = cc in not_from_true (n.cat == cat) (eq-eqb n.cat cat s)
 
@@ -143,7 +145,8 @@ module _ (a : List Core) where
   known_by (Close c) f =
       and_stands (key.Item c.item) (winner_key c.winner) (has_cat (item_at c.item a) c.cat f.0) (winner_stands c.item c.winner f.2)
   known_by (Comment c) f =
-      and_stands (key.Item c.item) (key.User c.from ∷ key.User c.to ∷ []) f.0 (and_stands (key.User c.from) (key.User c.to ∷ []) f.1 (one_stands (key.User c.to) f.2))
+      and_stands (key.Item c.item) (key.User c.from ∷ key.User c.to ∷ []) f.0
+      (and_stands (key.User c.from) (key.User c.to ∷ []) f.1 (one_stands (key.User c.to) f.2))
   known_by (Restock r) f = one_stands (key.Item r.item) f
   known_by (Rename r) f = one_stands (key.User r.user) (some_nick r.user a r.from f.0)
 
@@ -210,7 +213,12 @@ decided_by_kind t a h s (ask.Bid b) x e =
 decided_by_kind t a h s (ask.Buy p) x e =
     let w = not_refused (is_due t s (ask.Buy p)) (order_of (ask.Buy p)) (shadow_of t (ask.Buy p)) x e in
     let n = h.item p.item w.0.1.1.1.0 in
-    subst (FitsByKind a) w.1 (ap is_some n.1, h.user p.buyer (only _ w.0.1.1.1.1.0), h.unended p.item n.0 n.1 w.0.1.1.1.1.1.0, h.enough p.item n.0 p.quantity n.1 w.0.1.1.1.1.1.1.1.1.0)
+    subst (FitsByKind a) w.1 (
+      ap is_some n.1,
+      h.user p.buyer (only _ w.0.1.1.1.1.0),
+      h.unended p.item n.0 n.1 w.0.1.1.1.1.1.0,
+      h.enough p.item n.0 p.quantity n.1 w.0.1.1.1.1.1.1.1.1.0,
+    )
 decided_by_kind t a h s (ask.Close c) x e =
     let w = not_refused (is_due t s (ask.Close c)) (order_of (ask.Close c)) (shadow_of t (ask.Close c)) x e in
     let n = h.item c.item w.0.1.1.1.0 in
@@ -254,7 +262,8 @@ kept_by_kind a b k (User n) r f = sym ((r refl).named n) ∙ f
 kept_by_kind a b k (Item n) r f = k.user n.seller f
 kept_by_kind a b k (Bid x) r f = (k.item x.item f.0, k.user x.bidder f.1, sym ((r refl).close x.item) ∙ f.2)
 kept_by_kind a b k (Buy p) r f = (k.item p.item f.0, k.user p.buyer f.1, sym ((r refl).close p.item) ∙ f.2, (r refl).stock p.item p.quantity f.0 f.3)
-kept_by_kind a b k (Close c) r f = (k.cat c.item c.cat f.0, sym ((r refl).close c.item) ∙ f.1, f.2 ∙ ap (option_map (λ (m : Core). m.id)) ((r refl).best c.item))
+kept_by_kind a b k (Close c) r f =
+    (k.cat c.item c.cat f.0, sym ((r refl).close c.item) ∙ f.1, f.2 ∙ ap (option_map (λ (m : Core). m.id)) ((r refl).best c.item))
 kept_by_kind a b k (Comment c) r f = (k.item c.item f.0, k.user c.from f.1, k.user c.to f.2)
 kept_by_kind a b k (Restock x) r f = k.item x.item f
 kept_by_kind a b k (Rename x) r f = (sym ((r refl).nick x.user) ∙ f.0, sym ((r refl).named x.to) ∙ f.1)
@@ -268,11 +277,15 @@ not_there (Some x) s e = absurd cc
 -- a test of two ids fails where one names a row and the other has none
 other_user : (u v : Id) (a : List Core) → user_at u a ≡ None → IsSome (user_at v a) → same_id u v ≡ false
 other_user u v a e s =
-    elim (same_id u v) as (λ b. same_id u v ≡ b → b ≡ false) [ true ↦ λ h. absurd (not_there (user_at v a) s (subst (λ w. user_at w a ≡ None) ((Decides-same_id u v).0 h) e)) | false ↦ λ h. refl ] refl
+    elim (same_id u v) as
+    (λ b. same_id u v ≡ b → b ≡ false)
+    [ true ↦ λ h. absurd (not_there (user_at v a) s (subst (λ w. user_at w a ≡ None) ((Decides-same_id u v).0 h) e)) | false ↦ λ h. refl ] refl
 
 other_item : (u v : Id) (a : List Core) → item_at u a ≡ None → IsSome (item_at v a) → same_id u v ≡ false
 other_item u v a e s =
-    elim (same_id u v) as (λ b. same_id u v ≡ b → b ≡ false) [ true ↦ λ h. absurd (not_there (item_at v a) s (subst (λ w. item_at w a ≡ None) ((Decides-same_id u v).0 h) e)) | false ↦ λ h. refl ] refl
+    elim (same_id u v) as
+    (λ b. same_id u v ≡ b → b ≡ false)
+    [ true ↦ λ h. absurd (not_there (item_at v a) s (subst (λ w. item_at w a ≡ None) ((Decides-same_id u v).0 h) e)) | false ↦ λ h. refl ] refl
 
 mapped_some : {X Y : Type 0} (f : X → Y) (o : Option X) (y : Y) → option_map f o ≡ Some y → IsSome o
 mapped_some f None y e = absurd cc
@@ -296,7 +309,13 @@ nothing_of_user u a (Item n) f e = record { items = other_user u n.seller a e f;
 nothing_of_user u a (Buy p) f e =
     record { items = refl; bought = ap (λ b. cond b p.quantity 0) (other_user u p.buyer a e f.1); rating = refl; comments = refl; rename = refl }
 nothing_of_user u a (Comment c) f e =
-    record { items = refl; bought = refl; rating = ap (λ b. cond b c.rating (pos 0)) (other_user u c.to a e f.2); comments = other_user u c.to a e f.2; rename = refl }
+    record {
+      items = refl;
+      bought = refl;
+      rating = ap (λ b. cond b c.rating (pos 0)) (other_user u c.to a e f.2);
+      comments = other_user u c.to a e f.2;
+      rename = refl;
+    }
 nothing_of_user u a (Rename r) f e =
     record { items = refl; bought = refl; rating = refl; comments = refl; rename = other_user u r.user a e (some_nick r.user a r.from f.0) }
 nothing_of_user u a x f e = record { items = refl; bought = refl; rating = refl; comments = refl; rename = refl }

@@ -11,7 +11,8 @@ use Rattle.rubis_shadow.specs.declared.shadows.Shadow.{Shadow}
 use Rattle.rubis_shadow.specs.declared.shadows.Shadow.TheVariants.{Buy}
 use Rattle.rubis_model.specs.Log.{Core}
 use Rattle.rubis_schema.specs.Keys.{same_id}
-use Rattle.rubis_model.specs.Meaning.{when, at_id, as_item, user_at, item_at, total, sold_of, restocked_of, choose, last_rename, nick_after, nick_at, renames, is_same_nick, as_user, supply, named, best_bid, close_of, bids_on, closes, earlier}
+use Rattle.rubis_model.specs.Meaning.{when, at_id, as_item, user_at, item_at, total, sold_of, restocked_of, choose, last_rename, nick_after, nick_at, renames}
+use Rattle.rubis_model.specs.Meaning.{is_same_nick, as_user, supply, named, best_bid, close_of, bids_on, closes, earlier}
 use Rattle.rubis_shadow.specs.Shadows.{is_red}
 use Rattle.rubis_model.specs.Checks.{Fits}
 use Rattle.rubis_schema.specs.KeyLaws.{Decides-same_id}
@@ -53,7 +54,10 @@ less p f others (x ∷ b) a u h = go (p x.shadow) refl (less p f others b)
         let c = sum_by-cons (λ (m : Core). f m.shadow) x b in
         let d = sum_by-cons (λ (m : Core). f m.shadow) x (w.0 ++ w.1) in
         let v = ap (total f) w.2 ∙ same_total f (w.0 ++ x ∷ w.1) (x ∷ (w.0 ++ w.1)) (IsPermutation-middle w.0 x w.1) in
-        let l = ih (w.0 ++ w.1) u.1 (λ m k r. ⊎_elim (λ q. member_left w.0 w.1 m q) (λ q. ⊎_elim (λ y. absurd (apart b x u.0 (subst (Member b) (sym y) k))) (λ y. member_right w.0 w.1 m y) q) (member_append w.0 (x ∷ w.1) m (subst (λ z. Member z m) w.2 (h m (inr k) r)))) in
+        let l = ih (w.0 ++ w.1) u.1
+        (λ m k r. ⊎_elim (λ q. member_left w.0 w.1 m q)
+        (λ q. ⊎_elim (λ y. absurd (apart b x u.0 (subst (Member b) (sym y) k))) (λ y. member_right w.0 w.1 m y) q)
+        (member_append w.0 (x ∷ w.1) m (subst (λ z. Member z m) w.2 (h m (inr k) r)))) in
         omega (arith, c, d, v, l)
 
 pub sold_blue : (i : Id) (x : Shadow) → is_red x ≡ false → sold_of i x ≡ 0
@@ -142,7 +146,8 @@ module _ (a b : List Core) (within : (m : Core) → Member a m → Member b m) (
             → IfSome (item_at i b) (λ n. total (sold_of i) b + q ≤ supply b i n)
         at None e s l = absurd (true≢false (sym s))
         at (Some n) e s l =
-            subst (λ o. IfSome o (λ n. total (sold_of i) b + q ≤ supply b i n)) (sym (still (λ m. as_item m.shadow) i n e)) (let r = less is_red (sold_of i) (sold_blue i) b a ids back in let k = restocks_only_add i in omega (arith, r, k, l))
+            subst (λ o. IfSome o (λ n. total (sold_of i) b + q ≤ supply b i n)) (sym (still (λ m. as_item m.shadow) i n e))
+            (let r = less is_red (sold_of i) (sold_blue i) b a ids back in let k = restocks_only_add i in omega (arith, r, k, l))
 
   same_cat : (i : Id) (c : ℕ) → option_map (λ (n : NewItem). n.cat) (item_at i a) ≡ Some c
       → option_map (λ (n : NewItem). n.cat) (item_at i b) ≡ Some c

@@ -1,5 +1,6 @@
 -- In a sound world each log passes the checks.
-use Rattle.std.proofs.Common.{ℕ, ◌≡◌, ◌+◌, ◌<◌, List, [], ◌∷◌, ◌++◌, Bool, true, false, cond, refl, sym, ap, ◌∙◌, subst, arith, Option, Some, None, inl, inr, append_assoc}
+use Rattle.std.proofs.Common.{ℕ, ◌≡◌, ◌+◌, ◌<◌, List, [], ◌∷◌, ◌++◌, Bool, true, false, cond, refl, sym, ap, ◌∙◌, subst, arith, Option, Some, None, inl, inr}
+use Rattle.std.proofs.Common.{append_assoc}
 use Rattle.std.specs.Prelude.{reverse, nat_lt}
 use Rattle.std.proofs.lemmas.Bool.{ltb-true}
 use Rattle.std.proofs.lemmas.Bool.Decides.{nat_tests}
@@ -90,9 +91,11 @@ pub follows : (w : World) (past : List Message) (v : Message) → Sound w → Re
 follows w past v s r all b k = record {
   new_id = new_here past v r k;
   next_red =
-      number_is v.stamp.red (count is_red (cores (reverse past))) (is_red v.shadow) (colour w v s b) (λ l. k.number l ∙ ap (λ n. n + 1) (sym (count_reds past (λ m h. colour w m s (all m h)))));
+      number_is v.stamp.red (count is_red (cores (reverse past))) (is_red v.shadow) (colour w v s b)
+      (λ l. k.number l ∙ ap (λ n. n + 1) (sym (count_reds past (λ m h. colour w m s (all m h)))));
   fits =
-      fits_on (cores (reverse f.past)) (cores (reverse past)) within (one_each_back f.past f.released) (one_each_back past r) (one_red w past s all) v.shadow back f.decided.fits;
+      fits_on (cores (reverse f.past)) (cores (reverse past)) within (one_each_back f.past f.released) (one_each_back past r)
+      (one_red w past s all) v.shadow back f.decided.fits;
   limits = f.decided.limits;
 }
   where

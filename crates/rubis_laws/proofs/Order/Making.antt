@@ -79,7 +79,8 @@ pub made_dep : (p : Place) (s : Replica) (x : Shadow) → ((m : Message) → Has
     → dep (made p s x) j ≡ counted j s.log
 made_dep p s x inside j = ⊎_elim
     (λ k. get_or-map-range_with_len (λ q. counted q s.log) 0 p.sites j j 0 k (omega arith))
-    (λ k. get_or_past (map (λ q. counted q s.log) (range_with_len 0 p.sites)) j 0 (subst (λ n. n ≤ j) (sym (length-map-range_with_len (λ q. counted q s.log) 0 p.sites)) k)
+    (λ k. get_or_past (map (λ q. counted q s.log) (range_with_len 0 p.sites)) j 0
+    (subst (λ n. n ≤ j) (sym (length-map-range_with_len (λ q. counted q s.log) 0 p.sites)) k)
     ∙ sym (sym (counted_reverse j s.log) ∙ counted_zero j (reverse s.log) (λ m h e. let l = inside m h in omega arith)))
     (cases_lt j p.sites)
 
@@ -111,7 +112,8 @@ good_make sent i log waiting m k g = record {
   made = subst (CountedBy i) (sym (reverse_push log m)) ((λ e j. k.deps j ∙ sym (counted_reverse j log)), g.made);
   decided = subst (DecidedBy i) (sym (reverse_push log m)) ((λ e. k.decided), g.decided);
   log_sent =
-      λ u h. ⊎_elim (λ e. subst (λ x. Has (packet.Msg x) (sent ++ packet.Msg m ∷ [])) (sym e) (has_last (packet.Msg m) sent)) (λ q. has_left (packet.Msg u) sent (packet.Msg m ∷ []) (g.log_sent u q)) (subst (Has u) (reverse_push log m) h);
+      λ u h. ⊎_elim (λ e. subst (λ x. Has (packet.Msg x) (sent ++ packet.Msg m ∷ [])) (sym e) (has_last (packet.Msg m) sent))
+      (λ q. has_left (packet.Msg u) sent (packet.Msg m ∷ []) (g.log_sent u q)) (subst (Has u) (reverse_push log m) h);
   waiting_sent = λ u h. has_left (packet.Msg u) sent (packet.Msg m ∷ []) (g.waiting_sent u h);
   waiting_others = g.waiting_others;
 }
@@ -166,7 +168,8 @@ reds_red sent i log waiting m g full k number r = record {
       (λ f. ⊎_elim (λ b. absurd (omega (arith, red_same u m f, r.small v b))) (λ q. f ∙ sym q) (shadow_cases v m sent hv)) (shadow_cases u m sent hu);
   ordered = λ u v hu hv l e. ⊎_elim
       (λ a. ⊎_elim (λ b. r.ordered u v a b l e) (λ f. before u v a l f) (shadow_cases v m sent hv))
-      (λ f. ⊎_elim (λ b. absurd (omega (arith, red_same u m f, r.small v b))) (λ q. absurd (omega (arith, red_same u m f, red_same v m q))) (shadow_cases v m sent hv)) (shadow_cases u m sent hu);
+      (λ f. ⊎_elim (λ b. absurd (omega (arith, red_same u m f, r.small v b))) (λ q. absurd (omega (arith, red_same u m f, red_same v m q)))
+      (shadow_cases v m sent hv)) (shadow_cases u m sent hu);
   each = λ q l h. ⊎_elim
       (λ b. let f = r.each q l b in (f.0, has_left (packet.Msg f.0) sent (packet.Msg m ∷ []) f.1, f.2))
       (λ b. (m, has_last (packet.Msg m) sent, omega (arith, more)))

@@ -38,7 +38,8 @@ pub before_from : (u v : Message) (past : List Message) → Behind u v past → 
 unfolding Behind
 before_from u v [] h = absurd h
 before_from u v (x ∷ past) (inl e) =
-    subst (StandsBefore u v) (sym (reverse-append (x ∷ []) past)) (subst (λ q. StandsBefore u v (reverse past ++ q ∷ [])) e.0 (before_last u v (reverse past) (has_back u past e.1)))
+    subst (StandsBefore u v) (sym (reverse-append (x ∷ []) past))
+    (subst (λ q. StandsBefore u v (reverse past ++ q ∷ [])) e.0 (before_last u v (reverse past) (has_back u past e.1)))
 before_from u v (x ∷ past) (inr h) =
     subst (StandsBefore u v) (sym (reverse-append (x ∷ []) past)) (before_push u v x (reverse past) (before_from u v past h))
 
@@ -57,13 +58,15 @@ behind_more u v x (y ∷ ps) (inr h) = inr (behind_more u v x ps h)
 pub behind_from : (u v : Message) (log : List Message) → StandsBefore u v log → Behind u v (reverse log)
 behind_from u v [] h = absurd h
 behind_from u v (x ∷ log) (inl e) =
-    subst (Behind u v) (sym (reverse-append (x ∷ []) log)) (subst (λ q. Behind q v (reverse log ++ x ∷ [])) (sym e.0) (behind_end x v (reverse log) (has_back v log e.1)))
+    subst (Behind u v) (sym (reverse-append (x ∷ []) log))
+    (subst (λ q. Behind q v (reverse log ++ x ∷ [])) (sym e.0) (behind_end x v (reverse log) (has_back v log e.1)))
 behind_from u v (x ∷ log) (inr h) = subst (Behind u v) (sym (reverse-append (x ∷ []) log)) (behind_more u v x (reverse log) (behind_from u v log h))
 
 -- ---- ids
 pub unique : (w : World) (u v : Message) → Sound w → Sent w u → Sent w v → u.stamp.id.site ≡ v.stamp.id.site → u.stamp.id.seq ≡ v.stamp.id.seq → u ≡ v
 unique w u v s a b e f =
-    once (reverse (site w v.stamp.id.site).log) u v (s.good v.stamp.id.site).released (subst (λ q. Has u (reverse (site w q).log)) e (s.home.home u a)) (s.home.home v b) e f
+    once (reverse (site w v.stamp.id.site).log) u v (s.good v.stamp.id.site).released (subst (λ q. Has u (reverse (site w q).log)) e (s.home.home u a))
+    (s.home.home v b) e f
 
 positive : (w : World) (u : Message) → Sound w → Sent w u → 1 ≤ u.stamp.id.seq
 positive w u s a = (seq_within (reverse (site w u.stamp.id.site).log) u (s.good u.stamp.id.site).released (s.home.home u a)).0
@@ -71,7 +74,8 @@ positive w u s a = (seq_within (reverse (site w u.stamp.id.site).log) u (s.good 
 -- its origin had released all before it
 pub own : (w : World) (v : Message) → Sound w → Sent w v → v.stamp.id.seq ≡ dep v v.stamp.id.site + 1
 own w v s b =
-    let m = made_at v.stamp.id.site (reverse (site w v.stamp.id.site).log) v (s.good v.stamp.id.site).made (s.good v.stamp.id.site).decided (s.good v.stamp.id.site).released (s.home.home v b) refl in omega (arith, m.4, m.2 v.stamp.id.site)
+    let m = made_at v.stamp.id.site (reverse (site w v.stamp.id.site).log) v (s.good v.stamp.id.site).made (s.good v.stamp.id.site).decided
+    (s.good v.stamp.id.site).released (s.home.home v b) refl in omega (arith, m.4, m.2 v.stamp.id.site)
 
 -- what is within a count of a log is there
 pub there : (w : World) (past : List Message) (u : Message) → Sound w → Released past → ((x : Message) → Has x past → Sent w x) → Sent w u
@@ -119,7 +123,8 @@ distinct_back (x ∷ past) u r (inr h) = distinct_back past u r.1 h
 -- ---- the claims
 transitive : (w : World) (u v x : Message) → Sound w → Sent w v → Sent w x → Precedes u v → Precedes v x → Precedes u x
 transitive w u v x s b c p q =
-    let m = made_at x.stamp.id.site (reverse (site w x.stamp.id.site).log) x (s.good x.stamp.id.site).made (s.good x.stamp.id.site).decided (s.good x.stamp.id.site).released (s.home.home x c) refl in
+    let m = made_at x.stamp.id.site (reverse (site w x.stamp.id.site).log) x (s.good x.stamp.id.site).made (s.good x.stamp.id.site).decided
+    (s.good x.stamp.id.site).released (s.home.home x c) refl in
     let h : Has v m.0 = there w m.0 v s m.1 (λ y k. (s.good x.stamp.id.site).log_sent y (m.3 y k)) b (omega (arith, m.2 v.stamp.id.site)) in
     ⊎_elim (λ e. let d = ap (λ k. dep v k) e in let f = ap (λ k. dep x k) e in let o = own w v s b in omega arith)
     (λ n. omega (arith, dep_within m.0 v u.stamp.id.site m.1 h n, m.2 u.stamp.id.site))
@@ -130,7 +135,9 @@ serializes w i s = record {
   members = λ u h. (s.good i).log_sent u (has_back u (site w i).log h);
   distinct = λ u h. distinct_back (reverse (site w i).log) u (s.good i).released (behind_from u u (site w i).log h);
   closed =
-      λ u v a h p. subst (StandsBefore u v) (reverse-reverse (site w i).log) (before_from u v (reverse (site w i).log) (behind_all w (reverse (site w i).log) u v s (s.good i).released (s.good i).log_sent a (has_back v (site w i).log h) p));
+      λ u v a h p. subst (StandsBefore u v) (reverse-reverse (site w i).log)
+      (before_from u v (reverse (site w i).log)
+      (behind_all w (reverse (site w i).log) u v s (s.good i).released (s.good i).log_sent a (has_back v (site w i).log h) p));
   causal = λ u v h o. causal_back i (reverse (site w i).log) u v (s.good i).released (s.good i).made (behind_from u v (site w i).log h) o;
 }
 
@@ -146,14 +153,16 @@ is_ours keep w i m s a e =
 
 -- the answer to a message is NotOurs only where that is tested
 answer_is : (b c d : Bool) (s t : Replica) (n : ℕ) → b ≡ false
-    → (cond {A = Replica × Result Arrival Refusal} b (s, Err NotOurs) (cond c (s, Ok arrival.Repeat) (cond d (s, Err Full) (t, Ok (arrival_of n))))).1 ≢ Err NotOurs
+    → (cond {A = Replica × Result Arrival Refusal} b (s, Err NotOurs) (cond c (s, Ok arrival.Repeat) (cond d (s, Err Full) (t, Ok (arrival_of n))))).1 ≢ Err
+    NotOurs
 answer_is true c d s t n e = absurd (true≢false e)
 answer_is false true d s t n e = λ q. absurd cc
 answer_is false false true s t n e = λ q. absurd cc
 answer_is false false false s t n e = λ q. absurd cc
 
 ours : (keep : ℕ) (w : World) (i : ℕ) (m : Message) → Sound w → Sent w m → (arrived (place keep w i) (site w i) m).1 ≢ Err NotOurs
-ours keep w i m s a = answer_is (not_ours (place keep w i) (site w i) m) (is_repeat (site w i) m) (is_full keep (site w i)) (site w i) (after_came (site w i) m) (length (after_came (site w i) m).log - length (site w i).log)
+ours keep w i m s a = answer_is (not_ours (place keep w i) (site w i) m) (is_repeat (site w i) m) (is_full keep (site w i)) (site w i) (after_came (site w i) m)
+    (length (after_came (site w i) m).log - length (site w i).log)
     (false_from_ne_true (not_ours (place keep w i) (site w i) m) (is_ours keep w i m s a))
 
 pub foundation : (w : World) (v : Message) → Sound w → Sent w v → Foundation (Sent w) v
@@ -164,9 +173,12 @@ foundation w v s b = record {
   decided = m.5;
 }
   where
-    m : (before : List Message) × (Released before) × ((j : ℕ) → dep v j ≡ counted j before) × ((u : Message) → Has u before → Has u (reverse (site w v.stamp.id.site).log)) × (v.stamp.id.seq ≡ counted v.stamp.id.site before + 1) × Decided before v
+    m : (before : List Message) × (Released before) × ((j : ℕ) → dep v j ≡ counted j before)
+        × ((u : Message) → Has u before → Has u (reverse (site w v.stamp.id.site).log)) × (v.stamp.id.seq ≡ counted v.stamp.id.site before + 1)
+        × Decided before v
     m =
-        made_at v.stamp.id.site (reverse (site w v.stamp.id.site).log) v (s.good v.stamp.id.site).made (s.good v.stamp.id.site).decided (s.good v.stamp.id.site).released (s.home.home v b) refl
+        made_at v.stamp.id.site (reverse (site w v.stamp.id.site).log) v (s.good v.stamp.id.site).made (s.good v.stamp.id.site).decided
+        (s.good v.stamp.id.site).released (s.home.home v b) refl
 
     sent : (u : Message) → Has u m.0 → Sent w u
     sent u h = (s.good v.stamp.id.site).log_sent u (m.3 u h)
@@ -184,7 +196,8 @@ serial w s = record {
     irreflexive = λ u a p. let o = own w u s a in omega arith;
     transitive = λ u v x a b c p q. transitive w u v x s b c p q;
     reds =
-        λ u v a b l k. ⊎_elim (λ e. inl (s.reds.single u v a b l e)) (λ o. inr (⊎_elim (λ f. inl (s.reds.ordered u v a b l f)) (λ f. inr (s.reds.ordered v u b a k f)) o)) (cases_order u.stamp.red v.stamp.red);
+        λ u v a b l k. ⊎_elim (λ e. inl (s.reds.single u v a b l e))
+        (λ o. inr (⊎_elim (λ f. inl (s.reds.ordered u v a b l f)) (λ f. inr (s.reds.ordered v u b a k f)) o)) (cases_order u.stamp.red v.stamp.red);
   };
   logs = λ log of. subst (Serializes log.site (Sent w)) (sym of.messages) (serializes w log.site s);
 }

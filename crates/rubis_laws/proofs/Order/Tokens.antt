@@ -97,6 +97,7 @@ token_taken n held held' last last' sent u h l e f eh el (inr t) = ⊎_elim here
           λ j. ⊎_elim (λ q. subst (λ x. last' x ≤ turns sent) (sym q) (omega (arith, f, s.turn))) (λ q. omega (arith, el j q, s.earlier j)) (cases_eq j u.to);
       taken = λ v b. ⊎_elim
           (λ q. let a : last' v.to ≡ u.turn = ap (λ (x : Token). last' x.to) q ∙ f in let c : v.turn ≡ u.turn = ap (λ (x : Token). x.turn) q in omega arith)
-          (λ q. ⊎_elim (λ p. let a : last' v.to ≡ u.turn = ap last' p ∙ f in let c = ap last p in omega (arith, s.untaken)) (λ p. omega (arith, el v.to p)) (cases_eq v.to u.to))
+          (λ q. ⊎_elim (λ p. let a : last' v.to ≡ u.turn = ap last' p ∙ f in let c = ap last p in omega (arith, s.untaken)) (λ p. omega (arith, el v.to p))
+          (cases_eq v.to u.to))
           (s.others v b);
     }

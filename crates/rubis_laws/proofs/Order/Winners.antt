@@ -15,7 +15,8 @@ use Rattle.rubis_schema.specs.declared.rows.Row.{Row}
 use Rattle.rubis_schema.specs.declared.rows.Row.TheVariants as row
 use Rattle.rubis_schema.specs.declared.row_keys.RowKey.TheVariants as key
 use Rattle.rubis_schema.specs.declared.rows.Sale.TheVariants.{Ended}
-use Rattle.rubis_model.specs.Meaning.{total, sold_of, supply, meaning_row, item_row, sale_after, item_at, bids_on, closes, close_of, best_bid, winner_of, higher, earlier}
+use Rattle.rubis_model.specs.Meaning.{total, sold_of, supply, meaning_row, item_row, sale_after, item_at, bids_on, closes, close_of, best_bid, winner_of}
+use Rattle.rubis_model.specs.Meaning.{higher, earlier}
 use Rattle.rubis_shadow.specs.Shadows.{is_red}
 use Rattle.rubis_model.specs.Checks.{Fits}
 use Rattle.rubis_schema.specs.KeyLaws.{Decides-same_id}
@@ -47,7 +48,8 @@ open_before a j (Close b) f e = subst (λ k. close_of k a ≡ None) (sym ((Decid
 open_before a j x f e = absurd (true≢false (sym e))
 
 won_by : (a : List Core) (j : Id) (x : Shadow) → Fits a x → closes j x ≡ true → winner_of x ≡ option_map (λ (m : Core). m.id) (best_bid j a)
-won_by a j (Close b) f e = subst (λ k. b.winner ≡ option_map (λ (m : Core). m.id) (best_bid k a)) (sym ((Decides-same_id j b.item).0 e)) (by_kind a (Close b) f).2
+won_by a j (Close b) f e = subst (λ k. b.winner ≡ option_map (λ (m : Core). m.id) (best_bid k a)) (sym ((Decides-same_id j b.item).0 e))
+    (by_kind a (Close b) f).2
 won_by a j x f e = absurd (true≢false (sym e))
 
 not_both : (j : Id) (x : Shadow) → bids_on j x ≡ true → closes j x ≡ true → ⊥
@@ -77,8 +79,10 @@ module _ (all : Message → Type 0) (ground : (v : Message) → all v → Ground
 
   pub one_close : (j : Id) (u v : Message) → all u → all v → closes j u.shadow ≡ true → closes j v.shadow ≡ true → u ≡ v
   one_close j u v a b e f = ⊎_elim (λ q. q) (λ o. absurd (⊎_elim
-      (λ h. none_closes (cores (ground v b).past) j (core u) (open_before (cores (ground v b).past) j v.shadow (ground v b).fits f) (has_core u (ground v b).past h) e)
-      (λ h. none_closes (cores (ground u a).past) j (core v) (open_before (cores (ground u a).past) j u.shadow (ground u a).fits e) (has_core v (ground u a).past h) f) o))
+      (λ h. none_closes (cores (ground v b).past) j (core u) (open_before (cores (ground v b).past) j v.shadow (ground v b).fits f)
+      (has_core u (ground v b).past h) e)
+      (λ h. none_closes (cores (ground u a).past) j (core v) (open_before (cores (ground u a).past) j u.shadow (ground u a).fits e)
+      (has_core v (ground u a).past h) f) o))
       (red_cases u v a b (close_red j u.shadow e) (close_red j v.shadow f))
 
   -- a bid for an item that was closed is in what the close was decided against
@@ -86,11 +90,14 @@ module _ (all : Message → Type 0) (ground : (v : Message) → all v → Ground
       → Member (cores (ground c sc).past) (core b)
   bid_before j b c sb sc e f = has_core b (ground c sc).past (⊎_elim
       (λ q. absurd (not_both j c.shadow (subst (λ (x : Message). bids_on j x.shadow ≡ true) q e) f))
-      (λ o. ⊎_elim (λ h. h) (λ h. absurd (none_closes (cores (ground b sb).past) j (core c) (open_for (cores (ground b sb).past) j b.shadow (ground b sb).fits e) (has_core c (ground b sb).past h) f)) o)
+      (λ o. ⊎_elim (λ h. h)
+      (λ h. absurd (none_closes (cores (ground b sb).past) j (core c) (open_for (cores (ground b sb).past) j b.shadow (ground b sb).fits e)
+      (has_core c (ground b sb).past h) f)) o)
       (red_cases b c sb sc (bid_red j b.shadow e) (close_red j c.shadow f)))
 
   pub winner_is : (j : Id) (c : Message) → all c → closes j c.shadow ≡ true → IsHighestBid all j (winner_of c.shadow)
-  winner_is j c sc f = subst (IsHighestBid all j) (sym (won_by (cores (ground c sc).past) j c.shadow (ground c sc).fits f)) (at (best_bid j (cores (ground c sc).past)) (choose_is higher_ranks (λ m. bids_on j m.shadow) (cores (ground c sc).past)))
+  winner_is j c sc f = subst (IsHighestBid all j) (sym (won_by (cores (ground c sc).past) j c.shadow (ground c sc).fits f))
+      (at (best_bid j (cores (ground c sc).past)) (choose_is higher_ranks (λ m. bids_on j m.shadow) (cores (ground c sc).past)))
     where
       at : (o : Option Core) → IsChoice higher (λ m. bids_on j m.shadow) (cores (ground c sc).past) o
           → IsHighestBid all j (option_map (λ (m : Core). m.id) o)
@@ -111,7 +118,8 @@ module _ (all : Message → Type 0) (ground : (v : Message) → all v → Ground
       at None h = tt
       at (Some c) h =
           let w = core_of c a h.there in
-          subst (λ (x : Core). IsHighestBid all j (winner_of x.shadow)) w.2 (winner_is j w.0 (inside w.0 w.1) (ap (λ (x : Core). closes j x.shadow) w.2 ∙ h.passes))
+          subst (λ (x : Core). IsHighestBid all j (winner_of x.shadow)) w.2
+          (winner_is j w.0 (inside w.0 w.1) (ap (λ (x : Core). closes j x.shadow) w.2 ∙ h.passes))
 
   -- as the item's row shows it
   pub row_winner : (a : List Message) (j : Id) (r : ItemRow) (o : Option Id) → ((m : Message) → Has m a → all m)

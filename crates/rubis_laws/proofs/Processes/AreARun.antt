@@ -1,5 +1,6 @@
 -- Processes whose packets are carried unchanged are a run.
-use Rattle.std.proofs.Common.{ℕ, ◌≡◌, ◌+◌, ◌≤◌, ◌<◌, suc, Bool, true, false, cond, List, [], ◌∷◌, ◌++◌, length, get_or, refl, sym, ap, ◌∙◌, subst, arith, Option, Some, None, inl, inr, ⊎_elim, append_assoc, append-nil}
+use Rattle.std.proofs.Common.{ℕ, ◌≡◌, ◌+◌, ◌≤◌, ◌<◌, suc, Bool, true, false, cond, List, [], ◌∷◌, ◌++◌, length, get_or, refl, sym, ap, ◌∙◌, subst, arith}
+use Rattle.std.proofs.Common.{Option, Some, None, inl, inr, ⊎_elim, append_assoc, append-nil}
 use Rattle.std.specs.Prelude.{◌⊎◌, ◌↔◌, ◌==◌, ◌-◌, IsSome, codes, decimal, filter, is_some, nat_le, nat_lt, slice_get, slice_set, Result, Ok, Err}
 use Rattle.std.specs.FinMap as map
 use Rattle.std.specs.List.{flat_map}
@@ -50,7 +51,8 @@ use Rattle.rubis_model.specs.Restarts.{AnswersStay}
 use Rattle.rubis_model.specs.Runs.{Input, answers, input_by, input_of, input_step, listing_rows, output_of, told}
 use Rattle.rubis_model.specs.Runs.Input.{Asked, Came, Neither}
 use Rattle.rubis_model.specs.Settle.{Has}
-use Rattle.rubis_model.specs.Site.{Place, Replica, after_came, arrival_of, arrived, asked, generating, is_full, is_repeat, not_ours, opening_at, passed, rows_at, standing_of, took}
+use Rattle.rubis_model.specs.Site.{Place, Replica, after_came, arrival_of, arrived, asked, generating, is_full, is_repeat, not_ours, opening_at, passed}
+use Rattle.rubis_model.specs.Site.{rows_at, standing_of, took}
 use Rattle.rubis_model.specs.Sound.{Sound}
 use Rattle.rubis_model.specs.System.{AreEvents, Event, World, coming, happens, packet_at, place, requested, run, sending, site, start}
 use Rattle.rubis_model.specs.System.Event.{At, Deliver}
@@ -272,14 +274,19 @@ module _ (keep : ℕ) (few : keep ≤ 1000000) (w : World) (i n : ℕ) where
   requested_steps (request.Pass to) =
       let a = (passed (place keep w i) (site w i) to).1 in inr (record { new = sending packet.Token a; sites = refl; sent = refl; rows = passed_sends n a })
   requested_steps (request.List l) =
-      inl (steps_not w i (step_of (Asked (request.List l))) refl (send_listed n (listing_rows (site w i).log (fold_of (cores (site w i).log)) l) (rows_listed (site w i).log (fold_of (cores (site w i).log)) l)))
+      inl (steps_not w i (step_of (Asked (request.List l))) refl
+      (send_listed n (listing_rows (site w i).log (fold_of (cores (site w i).log)) l) (rows_listed (site w i).log (fold_of (cores (site w i).log)) l)))
   requested_steps (request.Ask a) = at (is_full keep (site w i)) refl
     where
-      at : (b : Bool) → is_full keep (site w i) ≡ b → Steps w i (step_of (Asked (request.Ask a))) w ⊎ Steps w i (step_of (Asked (request.Ask a))) (requested 1000000 w i (request.Ask a)).0
+      at : (b : Bool) → is_full keep (site w i) ≡ b → Steps w i (step_of (Asked (request.Ask a))) w
+          ⊎ Steps w i (step_of (Asked (request.Ask a))) (requested 1000000 w i (request.Ask a)).0
       at true e = inl (subst (λ d. Steps w i (told (asked_rows n) (generating (place keep w i) (site w i) d)) w)
           (sym (full_first (rows_at (site w i).log) (standing_of keep (site w i)) a e))
           (steps_not w i (told (asked_rows n) (generating (place keep w i) (site w i) (Err Full))) refl (send_refused n Full)))
-      at false e = inr (subst (λ f. Steps w i (told (asked_rows n) (generating (place keep w i) (site w i) (decision (rows_at (site w i).log) (record (standing_of keep (site w i)) { full = f }) a))) (requested 1000000 w i (request.Ask a)).0)
+      at false e = inr (subst
+          (λ f. Steps w i (told (asked_rows n)
+          (generating (place keep w i) (site w i) (decision (rows_at (site w i).log) (record (standing_of keep (site w i)) { full = f }) a)))
+          (requested 1000000 w i (request.Ask a)).0)
           (not_full_more keep (site w i) few e ∙ sym e)
           (let m = (asked (place 1000000 w i) (site w i) a).1 in record { new = sending packet.Msg m; sites = refl; sent = refl; rows = asked_sends n m }))
 
@@ -293,26 +300,40 @@ module _ (keep : ℕ) (few : keep ≤ 1000000) (w : World) (i n : ℕ) where
 
   coming_steps : (p : Packet) → Steps w i (step_of (Came p)) w ⊎ Steps w i (step_of (Came p)) (coming 1000000 w i (Some p)).0
   coming_steps (packet.Token t) =
-      inr (record { new = []; sites = refl; sent = sym (append-nil w.sent); rows = send_none (took_rows n (took (place keep w i) (site w i) t).1) (none_taken n (took (place keep w i) (site w i) t).1) })
+      inr (record {
+        new = [];
+        sites = refl;
+        sent = sym (append-nil w.sent);
+        rows = send_none (took_rows n (took (place keep w i) (site w i) t).1) (none_taken n (took (place keep w i) (site w i) t).1);
+      })
   coming_steps (packet.Msg m) = at (is_full keep (site w i)) refl
     where
-      at : (b : Bool) → is_full keep (site w i) ≡ b → Steps w i (step_of (Came (packet.Msg m))) w ⊎ Steps w i (step_of (Came (packet.Msg m))) (coming 1000000 w i (Some (packet.Msg m))).0
+      at : (b : Bool) → is_full keep (site w i) ≡ b → Steps w i (step_of (Came (packet.Msg m))) w
+          ⊎ Steps w i (step_of (Came (packet.Msg m))) (coming 1000000 w i (Some (packet.Msg m))).0
       at true e = inl (steps_not w i (step_of (Came (packet.Msg m))) (full_stays m e)
           (send_none (arrived_rows n (arrived (place keep w i) (site w i) m).1) (none_arrived n (arrived (place keep w i) (site w i) m).1)))
       at false e = inr (subst (λ (a : Replica × Result Arrival Refusal). Steps w i (told (arrived_rows n) a) (coming 1000000 w i (Some (packet.Msg m))).0)
           (ap (λ b. cond (not_ours (place keep w i) (site w i) m) (site w i, Err NotOurs) (cond (is_repeat (site w i) m) (site w i, Ok arrival.Repeat)
-          (cond b (site w i, Err Full) (after_came (site w i) m, Ok (arrival_of (length (after_came (site w i) m).log - length (site w i).log)))))) (not_full_more keep (site w i) few e ∙ sym e))
-          (record { new = []; sites = refl; sent = sym (append-nil w.sent); rows = send_none (arrived_rows n (arrived (place 1000000 w i) (site w i) m).1) (none_arrived n (arrived (place 1000000 w i) (site w i) m).1) }))
+          (cond b (site w i, Err Full) (after_came (site w i) m, Ok (arrival_of (length (after_came (site w i) m).log - length (site w i).log))))))
+          (not_full_more keep (site w i) few e ∙ sym e))
+          (record {
+            new = [];
+            sites = refl;
+            sent = sym (append-nil w.sent);
+            rows = send_none (arrived_rows n (arrived (place 1000000 w i) (site w i) m).1) (none_arrived n (arrived (place 1000000 w i) (site w i) m).1);
+          }))
 
   asked_steps : (q : Request) → i < length w.sites → Steps w i (step_of (Asked q)) w ⊎ Steps w i (step_of (Asked q)) (happens 1000000 w (At i q)).0
   asked_steps q l =
-      subst (λ b. Steps w i (step_of (Asked q)) w ⊎ Steps w i (step_of (Asked q)) (cond b (requested 1000000 w i q) (w, Err BadEvent)).0) (sym (is_within i (length w.sites) l))
+      subst (λ b. Steps w i (step_of (Asked q)) w ⊎ Steps w i (step_of (Asked q)) (cond b (requested 1000000 w i q) (w, Err BadEvent)).0)
+      (sym (is_within i (length w.sites) l))
       (requested_steps q)
 
   came_steps : (k : ℕ) (p : Packet) → i < length w.sites → packet_at w.sent k ≡ Some p
       → Steps w i (step_of (Came p)) w ⊎ Steps w i (step_of (Came p)) (happens 1000000 w (Deliver i k)).0
   came_steps k p l e =
-      subst (λ b. Steps w i (step_of (Came p)) w ⊎ Steps w i (step_of (Came p)) (cond b (coming 1000000 w i (packet_at w.sent k)) (w, Err BadEvent)).0) (sym (is_within i (length w.sites) l))
+      subst (λ b. Steps w i (step_of (Came p)) w ⊎ Steps w i (step_of (Came p)) (cond b (coming 1000000 w i (packet_at w.sent k)) (w, Err BadEvent)).0)
+      (sym (is_within i (length w.sites) l))
       (subst (λ o. Steps w i (step_of (Came p)) w ⊎ Steps w i (step_of (Came p)) (coming 1000000 w i o).0) (sym e) (coming_steps p))
 
 -- ---- one reading more
@@ -388,7 +409,8 @@ module _ (sites : ℕ) (keep : ℕ → ℕ) (before : List Reading) (r : Reading
       was_sent : (fields : List (List ℕ)) → WasSent sites keep (before ++ r ∷ []) fields → WasSent sites keep before fields
       was_sent fields h = (h.0, h.1, subst (Has (send_row fields)) (answers_there h.0 (other h.0 h.1)) h.2)
 
-  advance : sites ≤ COUNTED_MAX → r.site < sites → (w v : World) (x : Input) → input_of sites r.fields ≡ x → AllPackets sites v.sent → AreProcesses sites keep before w
+  advance : sites ≤ COUNTED_MAX → r.site < sites → (w v : World) (x : Input) → input_of sites r.fields ≡ x → AllPackets sites v.sent →
+      AreProcesses sites keep before w
       → Steps w r.site (input_step (place (keep r.site) w r.site) (site w r.site) number x) v → AreProcesses sites keep (before ++ r ∷ []) v
   advance top l w v x is all are t =
       record { count = ap length t.sites ∙ length-set w.sites r.site _ ∙ are.count; states = states; sent = λ p. (to p, back p); read = read }
@@ -464,7 +486,8 @@ module _ (sites : ℕ) (keep : ℕ → ℕ) (top : sites ≤ COUNTED_MAX) (small
       let at = subst (λ k. IsWritten k e) (sym c) is in
       record {
         sound = event_keeps 1000000 (omega arith) w e (written_event (length w.sites) e at) t.sound;
-        written = subst (λ k. AllPackets k (happens 1000000 w e).0.sent) (sym (event_sites 1000000 w e)) (event_written 1000000 (omega arith) w e (omega (arith, c, top)) at t.sound t.written);
+        written = subst (λ k. AllPackets k (happens 1000000 w e).0.sent) (sym (event_sites 1000000 w e))
+            (event_written 1000000 (omega arith) w e (omega (arith, c, top)) at t.sound t.written);
       }
 
   -- the processes are w, or w after one event more
@@ -488,7 +511,13 @@ module _ (sites : ℕ) (keep : ℕ → ℕ) (top : sites ≤ COUNTED_MAX) (small
               → Next (before ++ r ∷ []) w
           goes x is e written = ⊎_elim
               (λ s. inl (advance sites keep before r top l w w x is (subst (λ k. AllPackets k w.sent) are.count t.written) are s))
-              (λ s. inr (e, written, advance sites keep before r top l w _ x is (subst (λ k. AllPackets k (happens 1000000 w e).0.sent) (event_sites 1000000 w e ∙ are.count) (after_event w e are.count written t).written) are s))
+              (λ s. inr (
+                e,
+                written,
+                advance sites keep before r top l w _ x is
+                    (subst (λ k. AllPackets k (happens 1000000 w e).0.sent) (event_sites 1000000 w e ∙ are.count) (after_event w e are.count written t).written)
+                    are s,
+              ))
 
           at : (q : Option Request) (p : Option Packet) → request_of sites r.fields ≡ q → packet_of sites r.fields ≡ p → Next (before ++ r ∷ []) w
           at (Some q) p eq ep =
@@ -496,10 +525,12 @@ module _ (sites : ℕ) (keep : ℕ → ℕ) (top : sites ≤ COUNTED_MAX) (small
               (asked_steps (keep r.site) (small r.site) w r.site (number sites keep before r) q inside)
           at None (Some p) eq ep =
               let j = place_of p w.sent ((are.sent p).1 (r.fields, carried p ep, ep)) in
-              goes (Came p) (λ j. input_by (eq j) (ep j)) (Deliver r.site (suc j.0)) tt (came_steps (keep r.site) (small r.site) w r.site (number sites keep before r) (suc j.0) p inside j.1)
+              goes (Came p) (λ j. input_by (eq j) (ep j)) (Deliver r.site (suc j.0)) tt
+              (came_steps (keep r.site) (small r.site) w r.site (number sites keep before r) (suc j.0) p inside j.1)
           at None None eq ep =
               inl (advance sites keep before r top l w w Neither (λ j. input_by (eq j) (ep j)) (subst (λ k. AllPackets k w.sent) are.count t.written) are
-              (steps_not w r.site (input_step (place (keep r.site) w r.site) (site w r.site) (number sites keep before r) Neither) refl (send_refused (number sites keep before r) BadRecord)))
+              (steps_not w r.site (input_step (place (keep r.site) w r.site) (site w r.site) (number sites keep before r) Neither) refl
+              (send_refused (number sites keep before r) BadRecord)))
 
   read_all : (all : List Reading) → Carried sites keep all → (later before : List Reading) → all ≡ before ++ later → (w : World) → Stays sites w
       → AreProcesses sites keep before w → (events : List Event) × AreEvents sites events × AreProcesses sites keep all (run 1000000 events w)

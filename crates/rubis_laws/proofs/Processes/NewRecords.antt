@@ -5,7 +5,8 @@ use Rattle.std.proofs.lemmas.Bool.{cases_eq}
 use Rattle.rubis_message.specs.Readings.{packet_of}
 use Rattle.rubis_message.specs.declared.tokens.Packet.{Packet}
 use Rattle.rubis_model.specs.Processes.{process, read_by}
-use Rattle.rubis_model.specs.Restarts.{AreReplayed, CarriedWithRestarts, IsLevel, IsShortened, Moment, NewRecordsAreRead, Replayed, WasEverSent, has_read, recorded}
+use Rattle.rubis_model.specs.Restarts.{AreReplayed, CarriedWithRestarts, IsLevel, IsShortened, Moment, NewRecordsAreRead, Replayed, WasEverSent, has_read}
+use Rattle.rubis_model.specs.Restarts.{recorded}
 use Rattle.rubis_model.specs.Restarts.Moment.{Reads, Restarts, Replays}
 use Rattle.rubis_model.specs.Runs.{input_of, input_step}
 use Rattle.rubis_model.specs.Site.{Place, Replica, opening_at}
@@ -38,8 +39,10 @@ module _ (sites j : ℕ) (keep : ℕ → ℕ) (moments : List Moment) (fields : 
 
   still_level : IsLevel sites keep after j
   still_level =
-      subst (λ l. IsShortened (process sites keep j) (opening_at j) l (read_by j (recorded after))) (sym (read_now j ∙ ap (λ b. cond b (has_read j moments ++ fields ∷ []) (has_read j moments)) (is_itself j j refl)))
-      (subst (λ l. IsShortened (process sites keep j) (opening_at j) (has_read j moments ++ fields ∷ []) l) (sym (kept_now j ∙ ap (λ b. read_by j (recorded moments) ++ cond b (fields ∷ []) []) (is_itself j j refl)))
+      subst (λ l. IsShortened (process sites keep j) (opening_at j) l (read_by j (recorded after)))
+      (sym (read_now j ∙ ap (λ b. cond b (has_read j moments ++ fields ∷ []) (has_read j moments)) (is_itself j j refl)))
+      (subst (λ l. IsShortened (process sites keep j) (opening_at j) (has_read j moments ++ fields ∷ []) l)
+      (sym (kept_now j ∙ ap (λ b. read_by j (recorded moments) ++ cond b (fields ∷ []) []) (is_itself j j refl)))
       (short_more (process sites keep j) fields (read_by j (recorded moments)) (has_read j moments) (opening_at j) level))
 
   -- before it, where nobody but process j may read a new record
@@ -51,7 +54,8 @@ module _ (sites j : ℕ) (keep : ℕ → ℕ) (moments : List Moment) (fields : 
         first = read_by i (recorded before);
         rest = [];
         parts = sym (append-nil (read_by i (recorded before)));
-        again = subst (λ l. IsShortened (process sites keep i) (opening_at i) (has_read i l) (read_by i (recorded l))) (sym f) (subst (λ k. IsLevel sites keep moments k) (sym e) level);
+        again = subst (λ l. IsShortened (process sites keep i) (opening_at i) (has_read i l) (read_by i (recorded l))) (sym f)
+            (subst (λ k. IsLevel sites keep moments k) (sym e) level);
         whole = λ x more q. refl;
       }
 
@@ -66,7 +70,8 @@ module _ (sites j : ℕ) (keep : ℕ → ℕ) (moments : List Moment) (fields : 
         rest = r.rest;
         parts = r.parts;
         again = r.again;
-        whole = λ x more q. let e : Reads j fields ≡ Reads i x = (let z : Reads j fields ∷ [] ≡ Reads i x ∷ more = sym g ∙ q in cc) in absurd (n (sym (ap reader e)));
+        whole = λ x more q. let e : Reads j fields ≡ Reads i x = (let z : Reads j fields ∷ [] ≡ Reads i x ∷ more = sym g ∙ q in cc) in
+            absurd (n (sym (ap reader e)));
       }
 
   -- after it
@@ -81,7 +86,8 @@ module _ (sites j : ℕ) (keep : ℕ → ℕ) (moments : List Moment) (fields : 
         first = read_by i (recorded before);
         rest = [];
         parts = sym (append-nil (read_by i (recorded before)));
-        again = subst (λ l. IsShortened (process sites keep i) (opening_at i) (has_read i l) (read_by i (recorded l))) (sym f) (subst (λ k. IsLevel sites keep after k) (sym e) still_level);
+        again = subst (λ l. IsShortened (process sites keep i) (opening_at i) (has_read i l) (read_by i (recorded l))) (sym f)
+            (subst (λ k. IsLevel sites keep after k) (sym e) still_level);
         whole = λ x more q. refl;
       }
 
@@ -91,8 +97,10 @@ module _ (sites j : ℕ) (keep : ℕ → ℕ) (moments : List Moment) (fields : 
           let o = is_other j i n in record {
             first = r.first;
             rest = r.rest;
-            parts = ap (λ l. read_by i (recorded l)) f ∙ kept_now i ∙ ap (λ b. read_by i (recorded moments) ++ cond b (fields ∷ []) []) o ∙ append-nil (read_by i (recorded moments)) ∙ r.parts;
-            again = subst (λ l. IsShortened (process sites keep i) (opening_at i) l r.first) (sym (ap (has_read i) f ∙ read_now i ∙ ap (λ b. cond b (has_read i moments ++ fields ∷ []) (has_read i moments)) o)) r.again;
+            parts = ap (λ l. read_by i (recorded l)) f ∙ kept_now i ∙ ap (λ b. read_by i (recorded moments) ++ cond b (fields ∷ []) []) o
+                ∙ append-nil (read_by i (recorded moments)) ∙ r.parts;
+            again = subst (λ l. IsShortened (process sites keep i) (opening_at i) l r.first)
+                (sym (ap (has_read i) f ∙ read_now i ∙ ap (λ b. cond b (has_read i moments ++ fields ∷ []) (has_read i moments)) o)) r.again;
             whole = λ x more q. none x more q;
           }
 
@@ -106,7 +114,8 @@ module _ (sites j : ℕ) (keep : ℕ → ℕ) (moments : List Moment) (fields : 
         rest = r.rest;
         parts = r.parts;
         again = r.again;
-        whole = λ x more q. let h : z ≡ Reads i x = (let y : z ∷ (c ++ Reads j fields ∷ []) ≡ Reads i x ∷ more = sym g ∙ q in cc) in r.whole x c (ap (λ m. m ∷ c) h);
+        whole = λ x more q. let h : z ≡ Reads i x = (let y : z ∷ (c ++ Reads j fields ∷ []) ≡ Reads i x ∷ more = sym g ∙ q in cc) in
+            r.whole x c (ap (λ m. m ∷ c) h);
       }
 
       at_it : (c : List Moment) → before ≡ moments ++ c → Reads j fields ∷ [] ≡ c ++ later → Replayed sites keep i before later
@@ -118,13 +127,15 @@ module _ (sites j : ℕ) (keep : ℕ → ℕ) (moments : List Moment) (fields : 
       at_it (z ∷ y ∷ c) f g = absurd cc
 
   still_carried : CarriedWithRestarts sites keep after
-  still_carried before later i x p e is = ⊎_elim (λ k. earlier k.0 k.1 k.2) (λ k. at_it k.0 k.1 k.2) (split_append moments (Reads j fields ∷ []) before (Reads i x ∷ later) e)
+  still_carried before later i x p e is = ⊎_elim (λ k. earlier k.0 k.1 k.2) (λ k. at_it k.0 k.1 k.2)
+      (split_append moments (Reads j fields ∷ []) before (Reads i x ∷ later) e)
     where
       now : (z : Moment) → z ≡ Reads i x → z ≡ Reads j fields → x ≡ fields
       now z e f = let q : Reads i x ≡ Reads j fields = sym e ∙ f in cc
 
       this : before ≡ moments → x ≡ fields → WasEverSent sites keep before x
-      this f same = subst (λ l. WasEverSent sites keep l x) (sym f) (subst (WasEverSent sites keep moments) (sym same) (sent p (ap (packet_of sites) (sym same) ∙ is)))
+      this f same = subst (λ l. WasEverSent sites keep l x) (sym f)
+          (subst (WasEverSent sites keep moments) (sym same) (sent p (ap (packet_of sites) (sym same) ∙ is)))
 
       earlier : (c : List Moment) → moments ≡ before ++ c → Reads i x ∷ later ≡ c ++ Reads j fields ∷ [] → WasEverSent sites keep before x
       earlier [] f g = this (sym (f ∙ append-nil before)) (let q : Reads i x ≡ Reads j fields = cc in now (Reads i x) refl q)

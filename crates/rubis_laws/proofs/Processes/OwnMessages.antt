@@ -1,5 +1,6 @@
 -- No process whose packets are carried unchanged answers NotOurs.
-use Rattle.std.proofs.Common.{ℕ, ◌≡◌, ◌≤◌, ◌<◌, Bool, true, false, cond, List, [], ◌∷◌, ◌++◌, refl, sym, ap, ◌∙◌, subst, arith, Option, Some, None, inl, inr, ⊎_elim, append_assoc, append-nil}
+use Rattle.std.proofs.Common.{ℕ, ◌≡◌, ◌≤◌, ◌<◌, Bool, true, false, cond, List, [], ◌∷◌, ◌++◌, refl, sym, ap, ◌∙◌, subst, arith, Option, Some, None, inl, inr}
+use Rattle.std.proofs.Common.{⊎_elim, append_assoc, append-nil}
 use Rattle.std.specs.Prelude.{◌==◌, ◌||◌, bytes_eq, codes, find, nat_le, not, Result, Ok, Err}
 use Rattle.std.proofs.lemmas.Bool.{cases_eq, cond_both}
 use mathlib.Core.Bool.{true≢false}
@@ -71,7 +72,8 @@ due_other t s ask r e is = at (find (is_due t s ask) (order_of ask)) refl e
         let same : q ≡ NotOurs = (let z : q ≡ r = cc in z) ∙ is in
         true≢false (sym (find_is (is_due t s ask) (order_of ask) q f) ∙ ap (is_due t s ask) same)
 
-asked_own : (p : Place) (s : Replica) (n : ℕ) (a : Result Shadow Refusal) → ((r : Refusal) → a ≡ Err r → r ≡ NotOurs → ⊥) → NotRefused (asked_rows n (generating p s a).1)
+asked_own : (p : Place) (s : Replica) (n : ℕ) (a : Result Shadow Refusal) → ((r : Refusal) → a ≡ Err r → r ≡ NotOurs → ⊥) →
+    NotRefused (asked_rows n (generating p s a).1)
 asked_own p s n (Err r) other k h = refused_other n r (other r refl) k h
 asked_own p s n (Ok x) other k (inl e) = absurd cc
 asked_own p s n (Ok x) other k (inr (inl e)) = absurd cc
@@ -82,8 +84,10 @@ asked_own p s n (Ok x) other k (inr (inr h)) = h
 passed_own : (p : Place) (s : Replica) (n to : ℕ) (o : Option ℕ) → NotRefused (passed_rows n (passing p s to o).1)
 passed_own p s n to None = refused_other n NoToken (λ e. absurd cc)
 passed_own p s n to (Some issued) =
-    cond_both (nat_le p.sites to || (to == p.site)) (s, Err BadTarget) _ (λ (a : Replica × Result Token Refusal). NotRefused (passed_rows n a.1)) (λ _. refused_other n BadTarget (λ e. absurd cc))
-    (λ _. cond_both (nat_le 1000000000 s.last) (s, Err LastTurn) _ (λ (a : Replica × Result Token Refusal). NotRefused (passed_rows n a.1)) (λ _. refused_other n LastTurn (λ e. absurd cc))
+    cond_both (nat_le p.sites to || (to == p.site)) (s, Err BadTarget) _ (λ (a : Replica × Result Token Refusal). NotRefused (passed_rows n a.1))
+    (λ _. refused_other n BadTarget (λ e. absurd cc))
+    (λ _. cond_both (nat_le 1000000000 s.last) (s, Err LastTurn) _ (λ (a : Replica × Result Token Refusal). NotRefused (passed_rows n a.1))
+    (λ _. refused_other n LastTurn (λ e. absurd cc))
     (λ _. sent))
   where
     sent : NotRefused (passed_rows n (Ok (token_for s to issued)))
@@ -106,8 +110,10 @@ arrived_own n (Ok arrival.Repeat) other k (inr h) = h
 
 took_own : (p : Place) (s : Replica) (n : ℕ) (t : Token) → NotRefused (took_rows n (took p s t).1)
 took_own p s n t =
-    cond_both (not (t.to == p.site)) (s, Err NotForMe) _ (λ (a : Replica × Result Taken Refusal). NotRefused (took_rows n a.1)) (λ _. refused_other n NotForMe (λ e. absurd cc))
-    (λ _. cond_both (nat_le t.turn s.last) (s, Ok taken.Repeat) _ (λ (a : Replica × Result Taken Refusal). NotRefused (took_rows n a.1)) (λ _. again) (λ _. holding))
+    cond_both (not (t.to == p.site)) (s, Err NotForMe) _ (λ (a : Replica × Result Taken Refusal). NotRefused (took_rows n a.1))
+    (λ _. refused_other n NotForMe (λ e. absurd cc))
+    (λ _. cond_both (nat_le t.turn s.last) (s, Ok taken.Repeat) _ (λ (a : Replica × Result Taken Refusal). NotRefused (took_rows n a.1)) (λ _. again)
+    (λ _. holding))
   where
     again : NotRefused (took_rows n (Ok taken.Repeat))
     again k (inl e) = absurd cc
@@ -131,14 +137,17 @@ module _ (sites : ℕ) (keep : ℕ → ℕ) (some : 1 ≤ sites) (top : sites �
     where
       at : (q : Option Request) (o : Option Packet) → packet_of sites r.fields ≡ o
           → NotRefused (input_step (process sites keep r.site) (state_of sites keep before r.site) (number sites keep before r) (input_by q o)).1
-      at (Some (request.Ask a)) o is = asked_own (process sites keep r.site) (state_of sites keep before r.site) _ (decision (rows_at (state_of sites keep before r.site).log) (standing_of (keep r.site) (state_of sites keep before r.site)) a)
+      at (Some (request.Ask a)) o is = asked_own (process sites keep r.site) (state_of sites keep before r.site) _
+          (decision (rows_at (state_of sites keep before r.site).log) (standing_of (keep r.site) (state_of sites keep before r.site)) a)
           (due_other (rows_at (state_of sites keep before r.site).log) (standing_of (keep r.site) (state_of sites keep before r.site)) a)
-      at (Some (request.Pass to)) o is = passed_own (process sites keep r.site) (state_of sites keep before r.site) _ to (state_of sites keep before r.site).held
+      at (Some (request.Pass to)) o is = passed_own (process sites keep r.site) (state_of sites keep before r.site) _ to
+          (state_of sites keep before r.site).held
       at (Some (request.List l)) o is = listed_own (state_of sites keep before r.site) _ l
       at None (Some (packet.Msg m)) is =
           let sent = (are.sent (packet.Msg m)).1 (r.fields, carried (packet.Msg m) is, is) in
           arrived_own _ (arrived (process sites keep r.site) (state_of sites keep before r.site) m).1
-          (subst (λ (x : Place × Replica). (arrived x.0 x.1 m).1 ≡ Err NotOurs → ⊥) (λ i. (record { site = r.site; sites = are.count i; keep = keep r.site }, are.states r.site l i)) (order.ours (keep r.site) r.site m sent))
+          (subst (λ (x : Place × Replica). (arrived x.0 x.1 m).1 ≡ Err NotOurs → ⊥)
+          (λ i. (record { site = r.site; sites = are.count i; keep = keep r.site }, are.states r.site l i)) (order.ours (keep r.site) r.site m sent))
       at None (Some (packet.Token t)) is = took_own (process sites keep r.site) (state_of sites keep before r.site) _ t
       at None None is = refused_other _ BadRecord (λ e. absurd cc)
 
@@ -153,7 +162,8 @@ module _ (sites : ℕ) (keep : ℕ → ℕ) (some : 1 ≤ sites) (top : sites �
           let m = subst (λ j. j < sites) e l in
           ⊎_elim (own r.site k m) (now m k)
           (has_append (refused_row k NotOurs) (answers_of sites keep before r.site) (step sites keep before r).1
-          (subst (Has (refused_row k NotOurs)) (answers_here sites keep before r) (subst (λ j. Has (refused_row k NotOurs) (answers_of sites keep (before ++ r ∷ []) j)) e h)))
+          (subst (Has (refused_row k NotOurs)) (answers_here sites keep before r)
+          (subst (λ j. Has (refused_row k NotOurs) (answers_of sites keep (before ++ r ∷ []) j)) e h)))
 
       there : (i ≡ r.site → ⊥) → ⊥
       there n = own i k l (subst (Has (refused_row k NotOurs)) (answers_there sites keep before r i n) h)
@@ -163,7 +173,8 @@ module _ (sites : ℕ) (keep : ℕ → ℕ) (some : 1 ≤ sites) (top : sites �
   own_all all carried (r ∷ later) before is own =
       let first = processes_run sites keep before some top small (carried_before sites keep all before (r ∷ later) is carried) in
       own_all all carried later (before ++ r ∷ []) (is ∙ sym (append_assoc before (r ∷ []) later))
-      (own_next before r (λ l. own_step before r (run 1000000 first.0 (start sites)) l first.2 (every_order sites 1000000 first.0 some (omega arith) first.1) (λ p e. carried before later r p is e)) own)
+      (own_next before r (λ l. own_step before r (run 1000000 first.0 (start sites)) l first.2 (every_order sites 1000000 first.0 some (omega arith) first.1)
+      (λ p e. carried before later r p is e)) own)
 
   own_none : Own []
   unfolding answers

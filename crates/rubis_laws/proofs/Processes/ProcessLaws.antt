@@ -1,5 +1,6 @@
 -- What holds of processes whose packets are carried unchanged.
-use Rattle.std.proofs.Common.{ℕ, ◌≡◌, ◌+◌, zero, suc, List, [], ◌∷◌, ◌++◌, length, refl, sym, ap, ◌∙◌, subst, arith, Option, Some, None, append_assoc, append-nil}
+use Rattle.std.proofs.Common.{ℕ, ◌≡◌, ◌+◌, zero, suc, List, [], ◌∷◌, ◌++◌, length, refl, sym, ap, ◌∙◌, subst, arith, Option, Some, None, append_assoc}
+use Rattle.std.proofs.Common.{append-nil}
 use Rattle.std.specs.Prelude.{◌==◌, ◌||◌, Contains, nat_le, not, Result, Ok, Err}
 use Rattle.std.proofs.lemmas.Bool.{cond_both}
 use Rattle.rubis_schema.specs.declared.ids.Id.{Id}
@@ -20,11 +21,13 @@ use Rattle.rubis_model.specs.Claims.{KeepInvariants, SerializeOneOrder}
 use Rattle.rubis_model.specs.Log.{cores, fold_of}
 use Rattle.rubis_model.specs.Logs.{Log}
 use Rattle.rubis_model.specs.Laws.{InRun, IsLogOf, Sent, WasLogOf}
-use Rattle.rubis_model.specs.Processes.{AreProcesses, IsLogOfProcess, IsSentMessage, ProcessesAgree, ProcessesAgreeOnTables, ProcessesAreInRun, ProcessesKeepInvariants, Reading, WasLogOfProcess, process, read_by, site_after, state_of}
+use Rattle.rubis_model.specs.Processes.{AreProcesses, IsLogOfProcess, IsSentMessage, ProcessesAgree, ProcessesAgreeOnTables, ProcessesAreInRun}
+use Rattle.rubis_model.specs.Processes.{ProcessesKeepInvariants, Reading, WasLogOfProcess, process, read_by, site_after, state_of}
 use Rattle.rubis_model.specs.Runs.{Input, input_of, input_step}
 use Rattle.rubis_model.specs.Runs.Input.{Asked, Came, Neither}
 use Rattle.rubis_model.specs.Settle.{Has, first_ready, settle}
-use Rattle.rubis_model.specs.Site.{Place, Replica, arrived, generating, is_full, is_repeat, made, not_ours, opening_at, passing, rows_at, settled, standing_of, took}
+use Rattle.rubis_model.specs.Site.{Place, Replica, arrived, generating, is_full, is_repeat, made, not_ours, opening_at, passing, rows_at, settled, standing_of}
+use Rattle.rubis_model.specs.Site.{took}
 use Rattle.rubis_model.specs.System.{World, run, start}
 use Rattle.rubis_laws.proofs.Audits.Audited.{refers_more, run_faultless, run_formed}
 use Rattle.rubis_laws.proofs.Processes.AreARun.{after_more, processes_run, read_more}
@@ -49,7 +52,8 @@ settle_more (suc n) log waiting = at (first_ready log waiting) (λ p. settle_mor
   where
     at : (o : Option (Message × List Message))
         → ((p : Message × List Message) → (later : List Message) × ((log ++ p.0 ∷ []) ++ later ≡ (settle n (log ++ p.0 ∷ []) p.1).0))
-        → (later : List Message) × (log ++ later ≡ (elim o as (λ _. List Message × List Message) [ None ↦ (log, waiting) | Some p ↦ settle n (log ++ p.0 ∷ []) p.1 ]).0)
+        → (later : List Message)
+        × (log ++ later ≡ (elim o as (λ _. List Message × List Message) [ None ↦ (log, waiting) | Some p ↦ settle n (log ++ p.0 ∷ []) p.1 ]).0)
     at None more = ([], append-nil log)
     at (Some p) more = let r = more p in (p.0 ∷ r.0, sym (append_assoc log (p.0 ∷ []) r.0) ∙ r.1)
 
@@ -95,16 +99,21 @@ after_grows p (fields ∷ rest) s n =
     let t = (input_step p s n (input_of p.sites fields)).0 in
     grows_twice s t (site_after p t (n + 1) rest) (input_grows p s n (input_of p.sites fields)) (after_grows p rest t (n + 1))
 
-pub state_grows : (sites : ℕ) (keep : ℕ → ℕ) (before later : List Reading) (i : ℕ) → Grows (state_of sites keep before i) (state_of sites keep (before ++ later) i)
+pub state_grows : (sites : ℕ) (keep : ℕ → ℕ) (before later : List Reading) (i : ℕ) →
+    Grows (state_of sites keep before i) (state_of sites keep (before ++ later) i)
 state_grows sites keep before later i =
     let p = process sites keep i in
     let s = state_of sites keep before i in
-    let r = after_grows p (read_by i later) s (1 + length (read_by i before)) in
-    (r.0, r.1 ∙ ap (λ (t : Replica). t.log) (sym (ap (site_after p (opening_at i) 1) (read_more i before later) ∙ after_more p (read_by i before) (read_by i later) (opening_at i) 1)))
+    let r = after_grows p (read_by i later) s (1 + length (read_by i before)) in (
+      r.0,
+      r.1 ∙ ap (λ (t : Replica). t.log)
+          (sym (ap (site_after p (opening_at i) 1) (read_more i before later) ∙ after_more p (read_by i before) (read_by i later) (opening_at i) 1)),
+    )
 
 -- ---- the claims, of the same messages and of some of the logs
 
-module _ (all same : Message → Type 0) (L K : Log → Type 0) (on : (m : Message) → all m → same m) (back : (m : Message) → same m → all m) (some : (log : Log) → K log → L log) where
+module _ (all same : Message → Type 0) (L K : Log → Type 0) (on : (m : Message) → all m → same m) (back : (m : Message) → same m → all m)
+    (some : (log : Log) → K log → L log) where
   same_order : SerializeOneOrder all L → SerializeOneOrder same K
   same_order s = record {
     ids = λ u v a b. s.ids u v (back u a) (back v b);
@@ -157,7 +166,8 @@ module _ (sites : ℕ) (keep : ℕ → ℕ) (readings : List Reading) (w : World
       let g = state_grows sites keep h.0 h.1 log.site in
       record {
         later = g.0;
-        messages = ap (λ l. l ++ g.0) is.messages ∙ g.1 ∙ ap (λ rs. (state_of sites keep rs log.site).log) (sym h.2) ∙ ap (λ (s : Replica). s.log) (sym (are.states log.site is.within));
+        messages = ap (λ l. l ++ g.0) is.messages ∙ g.1 ∙ ap (λ rs. (state_of sites keep rs log.site).log) (sym h.2)
+            ∙ ap (λ (s : Replica). s.log) (sym (are.states log.site is.within));
         rows = is.rows;
       }
 
@@ -185,5 +195,9 @@ processes_same_tables sites keep readings some top small carried others kept lat
     let e = ap (λ (s : Replica). s.log) (r.2.states i l) in
     let f = ap (λ (s : Replica). s.log) (q.2.states j k) in
     ap (λ l. (fold_of (cores l)).tables) (sym e)
-    ∙ equal_tables sites 1000000 r.0 some (omega arith) r.1 others 1000000 q.0 more (omega arith) q.1 i j (λ m. ((λ h. subst (λ l. Contains l m) (sym f) ((same m).0 (subst (λ l. Contains l m) e h))), (λ h. subst (λ l. Contains l m) (sym e) ((same m).1 (subst (λ l. Contains l m) f h)))))
+    ∙ equal_tables sites 1000000 r.0 some (omega arith) r.1 others 1000000 q.0 more (omega arith) q.1 i j
+    (λ m. (
+      (λ h. subst (λ l. Contains l m) (sym f) ((same m).0 (subst (λ l. Contains l m) e h))),
+      (λ h. subst (λ l. Contains l m) (sym e) ((same m).1 (subst (λ l. Contains l m) f h))),
+    ))
     ∙ ap (λ l. (fold_of (cores l)).tables) f

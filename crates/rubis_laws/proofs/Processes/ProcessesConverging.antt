@@ -1,5 +1,6 @@
 -- Processes that have read all messages have released all of them, and have equal tables.
-use Rattle.std.proofs.Common.{ℕ, ◌≡◌, ◌≤◌, ◌<◌, false, List, [], ◌∷◌, ◌++◌, refl, sym, ap, ◌∙◌, subst, arith, Option, Some, None, inl, inr, ⊎_elim, append_assoc, append-nil}
+use Rattle.std.proofs.Common.{ℕ, ◌≡◌, ◌≤◌, ◌<◌, false, List, [], ◌∷◌, ◌++◌, refl, sym, ap, ◌∙◌, subst, arith, Option, Some, None, inl, inr, ⊎_elim}
+use Rattle.std.proofs.Common.{append_assoc, append-nil}
 use Rattle.std.specs.Prelude.{◌||◌, ◌==◌, bytes_eq, codes, nat_le, Result, Ok, Err}
 use Rattle.std.proofs.lemmas.Bool.{cases_eq, cond_both}
 use mathlib.Core.Bool.{true≢false}
@@ -20,7 +21,8 @@ use Rattle.rubis_message.proofs.Records.{packet_is, request_is}
 use Rattle.rubis_model.specs.Convergence.{HasAll}
 use Rattle.rubis_model.specs.Laws.{Sent}
 use Rattle.rubis_model.specs.Log.{cores, fold_of}
-use Rattle.rubis_model.specs.Processes.{Carried, HasExactlySent, HasReadAll, KeepsAll, ProcessesConverge, Reading, WasSent, answers_of, process, read_by, state_of}
+use Rattle.rubis_model.specs.Processes.{Carried, HasExactlySent, HasReadAll, KeepsAll, ProcessesConverge, Reading, WasSent, answers_of, process, read_by}
+use Rattle.rubis_model.specs.Processes.{state_of}
 use Rattle.rubis_model.specs.Restarts.{IsLevel, Moment, RestartedConverge, has_read, recorded, state_since_start}
 use Rattle.rubis_model.specs.Runs.{Input, input_by, input_of, input_step, output_of}
 use Rattle.rubis_model.specs.Runs.Input.{Asked, Came, Neither}
@@ -42,7 +44,8 @@ use Rattle.rubis_laws.proofs.Runs.EveryRun.{sound_run}
 generating_keeps : (p : Place) (s : Replica) (r : Result Shadow Refusal) (u : Message) → Had s u → Had (generating p s r).0 u
 generating_keeps p s (Err r) u h = h
 generating_keeps p s (Ok x) u h =
-    settled_had (record s { log = s.log ++ made p s x ∷ []; held = issued_after x s.held }) u (⊎_elim (λ k. inl (has_left u s.log (made p s x ∷ []) k)) (λ k. inr k) h)
+    settled_had (record s { log = s.log ++ made p s x ∷ []; held = issued_after x s.held }) u
+    (⊎_elim (λ k. inl (has_left u s.log (made p s x ∷ []) k)) (λ k. inr k) h)
 
 passing_keeps : (p : Place) (s : Replica) (to : ℕ) (o : Option ℕ) (u : Message) → Had s u → Had (passing p s to o).0 u
 passing_keeps p s to None u h = h
@@ -90,20 +93,24 @@ sent_later sites keep all before later fields is h =
     let p = process sites keep h.0 in (
       h.0,
       h.1,
-      subst (Has _) (sym (ap (λ l. output_of p (read_by h.0 l)) is ∙ ap (output_of p) (read_more h.0 before later) ∙ answers_stay p (read_by h.0 before) (read_by h.0 later)))
+      subst (Has _) (sym (ap (λ l. output_of p (read_by h.0 l)) is ∙ ap (output_of p) (read_more h.0 before later)
+          ∙ answers_stay p (read_by h.0 before) (read_by h.0 later)))
           (has_left _ (answers_of sites keep before h.0) _ h.2),
     )
 
 -- ---- what a process has read it has
 
-module _ (sites : ℕ) (keep : ℕ → ℕ) (some : 1 ≤ sites) (top : sites ≤ COUNTED_MAX) (small : (i : ℕ) → keep i ≤ 1000000) (all : List Reading) (carried : Carried sites keep all) (i : ℕ) (within : i < sites) (keeps : KeepsAll sites keep all i) where
+module _ (sites : ℕ) (keep : ℕ → ℕ) (some : 1 ≤ sites) (top : sites ≤ COUNTED_MAX) (small : (i : ℕ) → keep i ≤ 1000000) (all : List Reading)
+    (carried : Carried sites keep all) (i : ℕ) (within : i < sites) (keeps : KeepsAll sites keep all i) where
   -- each message that the process has read is in its log or waits there
   abbrev HasWhatItRead : List Reading → Type 0
   HasWhatItRead before =
-      (fields : List (List ℕ)) (m : Message) → packet_of sites fields ≡ Some (packet.Msg m) → Has fields (read_by i before) → Had (state_of sites keep before i) m
+      (fields : List (List ℕ)) (m : Message) → packet_of sites fields ≡ Some (packet.Msg m) → Has fields (read_by i before) →
+      Had (state_of sites keep before i) m
 
   -- a message that it reads now
-  has_now : (before later : List Reading) (r : Reading) → all ≡ before ++ r ∷ later → r.site ≡ i → (m : Message) → packet_of sites r.fields ≡ Some (packet.Msg m)
+  has_now : (before later : List Reading) (r : Reading) → all ≡ before ++ r ∷ later → r.site ≡ i → (m : Message) → packet_of sites r.fields
+      ≡ Some (packet.Msg m)
       → Had (step sites keep before r).0 m
   has_now before later r is here m e =
       let q = processes_run sites keep before some top small (carried_before sites keep all before (r ∷ later) is carried) in
@@ -116,7 +123,8 @@ module _ (sites : ℕ) (keep : ℕ → ℕ) (some : 1 ≤ sites) (top : sites �
       let had : Had (arrived (place (keep i) w i) (site w i) m).0 m = had_among w s rest i m a (keep i) keeps.0 covers keeps.2 in
       let same : (arrived (place (keep i) w i) (site w i) m).0 ≡ (step sites keep before r).0 =
       (λ j. (arrived (record { site = i; sites = q.2.count j; keep = keep i }) (q.2.states i within j) m).0)
-      ∙ (λ j. (input_step (process sites keep (sym here j)) (state_of sites keep before (sym here j)) (number sites keep before r) (sym (message_came sites top r.fields m e) j)).0) in
+      ∙ (λ j. (input_step (process sites keep (sym here j)) (state_of sites keep before (sym here j)) (number sites keep before r)
+      (sym (message_came sites top r.fields m e) j)).0) in
       subst (λ (t : Replica). Had t m) same had
 
   has_next : (before later : List Reading) (r : Reading) → all ≡ before ++ r ∷ later → HasWhatItRead before → HasWhatItRead (before ++ r ∷ [])
@@ -126,7 +134,8 @@ module _ (sites : ℕ) (keep : ℕ → ℕ) (some : 1 ≤ sites) (top : sites �
       here k =
           let now : state_of sites keep (before ++ r ∷ []) i ≡ (step sites keep before r).0 =
           ap (state_of sites keep (before ++ r ∷ [])) k ∙ state_here sites keep before r in
-          let read : Has fields (read_by i before ++ r.fields ∷ []) = subst (Has fields) ((λ j. read_by (k j) (before ++ r ∷ [])) ∙ read_here before r ∙ (λ j. read_by (sym k j) before ++ r.fields ∷ [])) h in
+          let read : Has fields (read_by i before ++ r.fields ∷ []) =
+          subst (Has fields) ((λ j. read_by (k j) (before ++ r ∷ [])) ∙ read_here before r ∙ (λ j. read_by (sym k j) before ++ r.fields ∷ [])) h in
           subst (λ (t : Replica). Had t m) (sym now)
           (⊎_elim
           (λ q. input_keeps (process sites keep r.site) (state_of sites keep before r.site) (number sites keep before r) (input_of sites r.fields) m

@@ -1,5 +1,6 @@
 -- Processes that stop, and are restarted on their recordings, are processes that never stopped.
-use Rattle.std.proofs.Common.{ℕ, ◌≡◌, ◌+◌, ◌<◌, Bool, true, false, cond, List, [], ◌∷◌, ◌++◌, length, refl, sym, ap, ◌∙◌, subst, Some, inl, inr, ⊎_elim, append_assoc, append-nil}
+use Rattle.std.proofs.Common.{ℕ, ◌≡◌, ◌+◌, ◌<◌, Bool, true, false, cond, List, [], ◌∷◌, ◌++◌, length, refl, sym, ap, ◌∙◌, subst, Some, inl, inr, ⊎_elim}
+use Rattle.std.proofs.Common.{append_assoc, append-nil}
 use Rattle.std.specs.Prelude.{◌⊎◌, ◌==◌, map, Result, Ok, Err}
 use Rattle.std.proofs.lemmas.Bool.{cases_eq}
 use Rattle.rubis_schema.specs.declared.refusals.Refusal.{Refusal}
@@ -10,7 +11,9 @@ use Rattle.rubis_message.specs.declared.tokens.Packet.TheVariants as packet
 use Rattle.rubis_message.specs.declared.tokens.Token.{Token}
 use Rattle.rubis_model.specs.Answers.{asked_rows, passed_rows, send_row}
 use Rattle.rubis_model.specs.Processes.{Carried, Reading, WasSent, process, read_by, site_after, state_of}
-use Rattle.rubis_model.specs.Restarts.{AreReplayed, CarriedWithRestarts, IsShortened, Moment, NeverStopped, NothingIsLeftOut, ReadingsAreMoments, RecordingsReplay, Replayed, RestartedAgree, RestartsChangeNothing, WasEverSent, has_read, read_on, recorded, restarted_on, without_restarts}
+use Rattle.rubis_model.specs.Restarts.{AreReplayed, CarriedWithRestarts, IsShortened, Moment, NeverStopped, NothingIsLeftOut, ReadingsAreMoments}
+use Rattle.rubis_model.specs.Restarts.{RecordingsReplay, Replayed, RestartedAgree, RestartsChangeNothing, WasEverSent, has_read, read_on, recorded}
+use Rattle.rubis_model.specs.Restarts.{restarted_on, without_restarts}
 use Rattle.rubis_model.specs.Restarts.Moment.{Reads, Replays, Restarts}
 use Rattle.rubis_model.specs.Runs.{Input, answers, input_of, input_step, output_of}
 use Rattle.rubis_model.specs.Runs.Input.{Asked, Came, Neither}
@@ -18,7 +21,8 @@ use Rattle.rubis_model.specs.Settle.{Has}
 use Rattle.rubis_model.specs.Site.{Place, Replica, arrived, asked, opening_at, passed, took}
 use Rattle.rubis_model.proofs.Lists.{has_append, has_left, has_right}
 use Rattle.rubis_laws.proofs.Processes.ProcessLaws.{processes_agree}
-use Rattle.rubis_laws.proofs.Processes.AreARun.{answers_stay, is_itself, is_other, none_arrived, none_replied, none_taken, number, output_one, read_more, sent_now, step}
+use Rattle.rubis_laws.proofs.Processes.AreARun.{answers_stay, is_itself, is_other, none_arrived, none_replied, none_taken, number, output_one, read_more}
+use Rattle.rubis_laws.proofs.Processes.AreARun.{sent_now, step}
 
 -- ---- lists
 
@@ -26,7 +30,8 @@ nothing_in : {A : Type 0} (c d : List A) → c ++ d ≡ [] → (c ≡ []) × (d 
 nothing_in [] d e = (refl, e)
 nothing_in (x ∷ c) d e = absurd cc
 
-pub split_append : {A : Type 0} (xs ys c d : List A) → xs ++ ys ≡ c ++ d → ((e : List A) × (xs ≡ c ++ e) × (d ≡ e ++ ys)) ⊎ ((e : List A) × (c ≡ xs ++ e) × (ys ≡ e ++ d))
+pub split_append : {A : Type 0} (xs ys c d : List A) → xs ++ ys ≡ c ++ d → ((e : List A) × (xs ≡ c ++ e) × (d ≡ e ++ ys))
+    ⊎ ((e : List A) × (c ≡ xs ++ e) × (ys ≡ e ++ d))
 split_append xs ys [] d e = inl (xs, refl, sym e)
 split_append [] ys (z ∷ c) d e = inr (z ∷ c, refl, e)
 split_append (x ∷ xs) ys (z ∷ c) d e =
@@ -65,7 +70,8 @@ passed_same n m (Ok u) fields (inr h) = inr h
 passed_same n m (Err r) fields (inl e) = absurd cc
 passed_same n m (Err r) fields (inr h) = absurd h
 
-same_sent : (p : Place) (s : Replica) (n m : ℕ) (x : Input) (fields : List (List ℕ)) → Has (send_row fields) (input_step p s n x).1 → Has (send_row fields) (input_step p s m x).1
+same_sent : (p : Place) (s : Replica) (n m : ℕ) (x : Input) (fields : List (List ℕ)) → Has (send_row fields) (input_step p s n x).1 →
+    Has (send_row fields) (input_step p s m x).1
 same_sent p s n m (Asked (request.Ask a)) fields h = asked_same n m (asked p s a).1 fields h
 same_sent p s n m (Asked (request.Pass to)) fields h = passed_same n m (passed p s to).1 fields h
 same_sent p s n m (Asked (request.List l)) fields (inl e) = absurd cc
@@ -91,19 +97,24 @@ module _ (p : Place) where
       ∙ short_state full h.0 (next s 1 x) (n + 1) (m + 1) h.2
       ∙ ap (λ t. site_after p t (m + 1) full) (same_state p s 1 m (input_of p.sites x))
 
-  short_sent : (fields : List (List ℕ)) (full short : List (List (List ℕ))) (s : Replica) (n m : ℕ) → IsShortened p s short full → Has (send_row fields) (answers p s n short)
+  short_sent : (fields : List (List ℕ)) (full short : List (List (List ℕ))) (s : Replica) (n m : ℕ) → IsShortened p s short full →
+      Has (send_row fields) (answers p s n short)
       → Has (send_row fields) (answers p s m full)
   unfolding answers
   short_sent fields [] short s n m e h = subst (λ l. Has (send_row fields) (answers p s n l)) e h
   short_sent fields (x ∷ full) short s n m (inl k) h =
       has_right (send_row fields) (input_step p s m (input_of p.sites x)).1 (answers p (next s m x) (m + 1) full)
-      (subst (λ t. Has (send_row fields) (answers p t (m + 1) full)) (sym k.0 ∙ same_state p s 1 m (input_of p.sites x)) (short_sent fields full short s n (m + 1) k.1 h))
+      (subst (λ t. Has (send_row fields) (answers p t (m + 1) full)) (sym k.0 ∙ same_state p s 1 m (input_of p.sites x))
+      (short_sent fields full short s n (m + 1) k.1 h))
   short_sent fields (x ∷ full) short s n m (inr k) h = ⊎_elim
-      (λ l. has_left (send_row fields) (input_step p s m (input_of p.sites x)).1 (answers p (next s m x) (m + 1) full) (same_sent p s n m (input_of p.sites x) fields l))
+      (λ l. has_left (send_row fields) (input_step p s m (input_of p.sites x)).1 (answers p (next s m x) (m + 1) full)
+      (same_sent p s n m (input_of p.sites x) fields l))
       (λ r. has_right (send_row fields) (input_step p s m (input_of p.sites x)).1 (answers p (next s m x) (m + 1) full)
       (subst (λ t. Has (send_row fields) (answers p t (m + 1) full)) (same_state p s 1 m (input_of p.sites x))
-      (short_sent fields full k.0 (next s 1 x) (n + 1) (m + 1) k.2 (subst (λ t. Has (send_row fields) (answers p t (n + 1) k.0)) (same_state p s n 1 (input_of p.sites x)) r))))
-      (has_append (send_row fields) (input_step p s n (input_of p.sites x)).1 (answers p (next s n x) (n + 1) k.0) (subst (λ l. Has (send_row fields) (answers p s n l)) k.1 h))
+      (short_sent fields full k.0 (next s 1 x) (n + 1) (m + 1) k.2
+      (subst (λ t. Has (send_row fields) (answers p t (n + 1) k.0)) (same_state p s n 1 (input_of p.sites x)) r))))
+      (has_append (send_row fields) (input_step p s n (input_of p.sites x)).1 (answers p (next s n x) (n + 1) k.0)
+      (subst (λ l. Has (send_row fields) (answers p s n l)) k.1 h))
 
   -- nothing has to be left out
   whole_short : (full : List (List (List ℕ))) (s : Replica) → IsShortened p s full full
@@ -116,12 +127,14 @@ module _ (p : Place) where
 abbrev WasRead : ℕ → List Reading → List (List (List ℕ)) → Type 0
 WasRead i readings records = (before later : List Reading) × (readings ≡ before ++ later) × (read_by i before ≡ records)
 
-own_first : (i : ℕ) (r : Reading) (rest : List Reading) (x : List (List ℕ)) (records : List (List (List ℕ))) → (r.site == i) ≡ true → x ≡ r.fields → WasRead i rest records
+own_first : (i : ℕ) (r : Reading) (rest : List Reading) (x : List (List ℕ)) (records : List (List (List ℕ))) → (r.site == i) ≡ true → x ≡ r.fields →
+    WasRead i rest records
     → WasRead i (r ∷ rest) (x ∷ records)
 own_first i r rest x records is same w =
     (r ∷ w.0, w.1, ap (λ l. r ∷ l) w.2, ap (λ b. cond b (r.fields ∷ read_by i w.0) (read_by i w.0)) is ∙ (λ j. sym same j ∷ w.3 j))
 
-other_first : (i : ℕ) (r : Reading) (rest : List Reading) (records : List (List (List ℕ))) → (r.site == i) ≡ false → WasRead i rest records → WasRead i (r ∷ rest) records
+other_first : (i : ℕ) (r : Reading) (rest : List Reading) (records : List (List (List ℕ))) → (r.site == i) ≡ false → WasRead i rest records →
+    WasRead i (r ∷ rest) records
 other_first i r rest records is w =
     (r ∷ w.0, w.1, ap (λ l. r ∷ l) w.2, ap (λ b. cond b (r.fields ∷ read_by i w.0) (read_by i w.0)) is ∙ w.3)
 
@@ -180,14 +193,16 @@ recorded_where (Replays i fields ∷ moments) first r rest e =
 
 module _ (sites : ℕ) (keep : ℕ → ℕ) (moments : List Moment) (replayed : AreReplayed sites keep moments) (carried : CarriedWithRestarts sites keep moments) where
   states : (i : ℕ) (before later : List Moment) → moments ≡ before ++ later
-      → (first rest : List Reading) × (recorded moments ≡ first ++ rest) × (site_after (process sites keep i) (opening_at i) 1 (has_read i before) ≡ state_of sites keep first i)
+      → (first rest : List Reading) × (recorded moments ≡ first ++ rest)
+      × (site_after (process sites keep i) (opening_at i) 1 (has_read i before) ≡ state_of sites keep first i)
   states i before later e =
       let r = replayed i before later e in
       let w = read_first i (recorded before) r.first r.rest (sym r.parts) in (
         w.0,
         w.1 ++ recorded later,
         ap recorded e ∙ recorded_more before later ∙ ap (λ l. l ++ recorded later) w.2 ∙ append_assoc w.0 w.1 (recorded later),
-        short_state (process sites keep i) r.first (has_read i before) (opening_at i) 1 1 r.again ∙ ap (site_after (process sites keep i) (opening_at i) 1) (sym w.3),
+        short_state (process sites keep i) r.first (has_read i before) (opening_at i) 1 1 r.again
+            ∙ ap (site_after (process sites keep i) (opening_at i) 1) (sym w.3),
       )
 
   sent_before : (done rest : List Moment) → moments ≡ done ++ rest → (fields : List (List ℕ)) → WasEverSent sites keep done fields
@@ -217,7 +232,8 @@ module _ (sites : ℕ) (keep : ℕ → ℕ) (moments : List Moment) (replayed : 
   abbrev AllSent : List Moment → Type 0
   AllSent done = (fields : List (List ℕ)) → WasSent sites keep (recorded done) fields → WasEverSent sites keep done fields
 
-  sent_read : (done : List Moment) (j : ℕ) (x : List (List ℕ)) (rest : List Moment) → moments ≡ done ++ Reads j x ∷ rest → AllSent done → AllSent (done ++ Reads j x ∷ [])
+  sent_read : (done : List Moment) (j : ℕ) (x : List (List ℕ)) (rest : List Moment) → moments ≡ done ++ Reads j x ∷ rest → AllSent done →
+      AllSent (done ++ Reads j x ∷ [])
   sent_read done j x rest e sent fields h =
       ⊎_elim (λ k. sent_longer done (Reads j x ∷ []) fields (sent fields k)) (λ k. new k.0 k.1)
       (sent_now sites keep (recorded done) r fields (subst (λ l. WasSent sites keep l fields) (recorded_more done (Reads j x ∷ [])) h))
@@ -225,7 +241,8 @@ module _ (sites : ℕ) (keep : ℕ → ℕ) (moments : List Moment) (replayed : 
       r : Reading
       r = record { site = j; fields = x }
 
-      new : j < sites → Has (send_row fields) (step sites keep (recorded done) (record { site = j; fields = x })).1 → WasEverSent sites keep (done ++ Reads j x ∷ []) fields
+      new : j < sites → Has (send_row fields) (step sites keep (recorded done) (record { site = j; fields = x })).1 →
+          WasEverSent sites keep (done ++ Reads j x ∷ []) fields
       new l k =
           let p = process sites keep j in
           let o = opening_at j in
@@ -241,9 +258,11 @@ module _ (sites : ℕ) (keep : ℕ → ℕ) (moments : List Moment) (replayed : 
             [],
             sym (append-nil (done ++ Reads j x ∷ [])),
             subst (Has (send_row fields)) (sym (ap (output_of p) now ∙ output_one p (has_read j done) x))
-                (has_right (send_row fields) (output_of p (has_read j done)) (input_step p (site_after p o 1 (has_read j done)) (1 + length (has_read j done)) (input_of sites x)).1
+                (has_right (send_row fields) (output_of p (has_read j done))
+                (input_step p (site_after p o 1 (has_read j done)) (1 + length (has_read j done)) (input_of sites x)).1
                 (subst (λ t. Has (send_row fields) (input_step p t (1 + length (has_read j done)) (input_of sites x)).1) same
-                (same_sent p (state_of sites keep (recorded done) j) (number sites keep (recorded done) (record { site = j; fields = x })) (1 + length (has_read j done)) (input_of sites x) fields k))),
+                (same_sent p (state_of sites keep (recorded done) j) (number sites keep (recorded done) (record { site = j; fields = x }))
+                (1 + length (has_read j done)) (input_of sites x) fields k))),
           )
 
   -- a moment at which nothing is recorded
@@ -253,8 +272,10 @@ module _ (sites : ℕ) (keep : ℕ → ℕ) (moments : List Moment) (replayed : 
 
   all_sent : (rest done : List Moment) → moments ≡ done ++ rest → AllSent done → AllSent moments
   all_sent [] done e sent = subst AllSent (sym (e ∙ append-nil done)) sent
-  all_sent (Reads j x ∷ rest) done e sent = all_sent rest (done ++ Reads j x ∷ []) (e ∙ sym (append_assoc done (Reads j x ∷ []) rest)) (sent_read done j x rest e sent)
-  all_sent (Restarts j ∷ rest) done e sent = all_sent rest (done ++ Restarts j ∷ []) (e ∙ sym (append_assoc done (Restarts j ∷ []) rest)) (sent_still done (Restarts j) refl sent)
+  all_sent (Reads j x ∷ rest) done e sent = all_sent rest (done ++ Reads j x ∷ []) (e ∙ sym (append_assoc done (Reads j x ∷ []) rest))
+      (sent_read done j x rest e sent)
+  all_sent (Restarts j ∷ rest) done e sent = all_sent rest (done ++ Restarts j ∷ []) (e ∙ sym (append_assoc done (Restarts j ∷ []) rest))
+      (sent_still done (Restarts j) refl sent)
   all_sent (Replays j x ∷ rest) done e sent =
       all_sent rest (done ++ Replays j x ∷ []) (e ∙ sym (append_assoc done (Replays j x ∷ []) rest)) (sent_still done (Replays j x) refl sent)
 
@@ -310,7 +331,8 @@ readings_are_moments sites keep readings carried = (replayed, carried_on)
           first = read_by i w.0;
           rest = [];
           parts = ap (λ l. read_by i (recorded l)) w.3 ∙ ap (read_by i) (recorded_readings w.0) ∙ sym (append-nil (read_by i w.0));
-          again = subst (λ l. IsShortened (process sites keep i) (opening_at i) l (read_by i w.0)) (sym (ap (has_read i) w.3 ∙ read_on_reads i [] w.0)) (whole_short (process sites keep i) (read_by i w.0) (opening_at i));
+          again = subst (λ l. IsShortened (process sites keep i) (opening_at i) l (read_by i w.0)) (sym (ap (has_read i) w.3 ∙ read_on_reads i [] w.0))
+              (whole_short (process sites keep i) (read_by i w.0) (opening_at i));
           whole = λ fields more q. refl;
         }
 
@@ -319,7 +341,8 @@ readings_are_moments sites keep readings carried = (replayed, carried_on)
         let w = split_map as_moment readings before (Reads i fields ∷ later) e in
         at w.0 w.1 w.2 w.3 w.4
       where
-        at : (x y : List Reading) → readings ≡ x ++ y → before ≡ without_restarts x → Reads i fields ∷ later ≡ without_restarts y → WasEverSent sites keep before fields
+        at : (x y : List Reading) → readings ≡ x ++ y → before ≡ without_restarts x → Reads i fields ∷ later ≡ without_restarts y →
+            WasEverSent sites keep before fields
         at x [] f g h = absurd cc
         at x (r ∷ y) f g h =
             let q : fields ≡ r.fields = cc in
@@ -349,7 +372,8 @@ short_first p (z ∷ full) short s x y (inl h) e =
 short_first p (z ∷ full) short s [] y (inr h) e = ([], z ∷ full, refl, refl)
 short_first p (z ∷ full) short s (a ∷ x) y (inr h) e =
     let k : z ∷ h.0 ≡ a ∷ x ++ y = sym h.1 ∙ e in
-    kept_first p z full s a x (let same : z ≡ a = cc in same) (short_first p full h.0 (input_step p s 1 (input_of p.sites z)).0 x y h.2 (let q : h.0 ≡ x ++ y = cc in q))
+    kept_first p z full s a x (let same : z ≡ a = cc in same)
+    (short_first p full h.0 (input_step p s 1 (input_of p.sites z)).0 x y h.2 (let q : h.0 ≡ x ++ y = cc in q))
 
 read_again : (i j : ℕ) → i ≡ j → (so_far records : List (List (List ℕ))) → read_on i so_far (map (Replays j) records) ≡ so_far ++ records
 read_again i j e so_far [] = sym (append-nil so_far)
@@ -366,7 +390,8 @@ recorded_none : (j : ℕ) (records : List (List (List ℕ))) → recorded (map (
 recorded_none j [] = refl
 recorded_none j (x ∷ records) = recorded_none j records
 
-no_new : {P : Type 0} (j : ℕ) (records : List (List (List ℕ))) (i : ℕ) (fields : List (List ℕ)) (more : List Moment) → map (Replays j) records ≡ Reads i fields ∷ more → P
+no_new : {P : Type 0} (j : ℕ) (records : List (List (List ℕ))) (i : ℕ) (fields : List (List ℕ)) (more : List Moment) → map (Replays j) records
+    ≡ Reads i fields ∷ more → P
 no_new j [] i fields more e = absurd cc
 no_new j (x ∷ records) i fields more e = absurd cc
 
@@ -415,14 +440,16 @@ module _ (sites : ℕ) (keep : ℕ → ℕ) (j : ℕ) (moments : List Moment) (r
           ∙ ap (λ b. read_on i (cond b [] (has_read i moments)) (map (Replays j) x)) (is_other j i n) ∙ read_elsewhere i j n (has_read i moments) x) still none
 
   all_replayed : AreReplayed sites keep (restarted_on j records moments)
-  all_replayed i before later e = ⊎_elim (λ k. earlier k.0 k.1 k.2) (λ k. after k.0 k.1 k.2) (split_append moments (Restarts j ∷ map (Replays j) records) before later e)
+  all_replayed i before later e = ⊎_elim (λ k. earlier k.0 k.1 k.2) (λ k. after k.0 k.1 k.2)
+      (split_append moments (Restarts j ∷ map (Replays j) records) before later e)
     where
       earlier : (e : List Moment) → moments ≡ before ++ e → later ≡ e ++ Restarts j ∷ map (Replays j) records → Replayed sites keep i before later
       earlier e f g =
           let r = replayed i before e f in
           record { first = r.first; rest = r.rest; parts = r.parts; again = r.again; whole = λ fields more q. whole e fields more f (sym g ∙ q) }
         where
-          whole : (e : List Moment) (fields : List (List ℕ)) (more : List Moment) (f : moments ≡ before ++ e) → e ++ Restarts j ∷ map (Replays j) records ≡ Reads i fields ∷ more
+          whole : (e : List Moment) (fields : List (List ℕ)) (more : List Moment) (f : moments ≡ before ++ e) → e ++ Restarts j ∷ map (Replays j) records
+              ≡ Reads i fields ∷ more
               → (replayed i before e f).rest ≡ []
           whole [] fields more f q = absurd cc
           whole (z ∷ e) fields more f q = (replayed i before (z ∷ e) f).whole fields e (let h : z ≡ Reads i fields = cc in ap (λ m. m ∷ e) h)
@@ -430,7 +457,8 @@ module _ (sites : ℕ) (keep : ℕ → ℕ) (j : ℕ) (moments : List Moment) (r
       after : (e : List Moment) → before ≡ moments ++ e → Restarts j ∷ map (Replays j) records ≡ e ++ later → Replayed sites keep i before later
       after [] f g =
           let same = f ∙ append-nil moments in
-          at_the_end i before later (ap (has_read i) same) (ap recorded same) (λ k fields more q. let z : Restarts j ∷ map (Replays j) records ≡ Reads k fields ∷ more = g ∙ q in absurd cc)
+          at_the_end i before later (ap (has_read i) same) (ap recorded same)
+          (λ k fields more q. let z : Restarts j ∷ map (Replays j) records ≡ Reads k fields ∷ more = g ∙ q in absurd cc)
       after (z ∷ e) f g =
           let h : z ≡ Restarts j = cc in
           let k : map (Replays j) records ≡ e ++ later = cc in
@@ -442,7 +470,8 @@ module _ (sites : ℕ) (keep : ℕ → ℕ) (j : ℕ) (moments : List Moment) (r
   still_carried before later i fields p e is = ⊎_elim (λ k. earlier k.0 k.1 k.2) (λ k. after k.0 k.2)
       (split_append moments (Restarts j ∷ map (Replays j) records) before (Reads i fields ∷ later) e)
     where
-      earlier : (e : List Moment) → moments ≡ before ++ e → Reads i fields ∷ later ≡ e ++ Restarts j ∷ map (Replays j) records → WasEverSent sites keep before fields
+      earlier : (e : List Moment) → moments ≡ before ++ e → Reads i fields ∷ later ≡ e ++ Restarts j ∷ map (Replays j) records →
+          WasEverSent sites keep before fields
       earlier [] f g = absurd cc
       earlier (z ∷ e) f g = let h : z ≡ Reads i fields = cc in carried before e i fields p (f ∙ (λ k. before ++ h k ∷ e)) is
 

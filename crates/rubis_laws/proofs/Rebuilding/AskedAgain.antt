@@ -12,7 +12,9 @@ use Rattle.rubis_schema.specs.KeyLaws.{Decides-same_id}
 use Rattle.rubis_schema.specs.declared.ids.Id.{Id}
 use Rattle.rubis_schema.specs.declared.rows.ItemRow.{ItemRow}
 use Rattle.rubis_schema.specs.declared.refusals.Refusal.{Refusal}
-use Rattle.rubis_schema.specs.declared.refusals.Refusal.TheVariants.{BadRecord, Full, NoToken, RedBehind, NickTaken, NoUser, NoItem, Closed, LowBid, StockShort, NotSeller, OwnItem, NoBuyNow, SelfComment, BadTarget, LastTurn, NotOurs, NotForMe, BadEvent, NoSuchPacket}
+use Rattle.rubis_schema.specs.declared.refusals.Refusal.TheVariants.{BadRecord, Full, NoToken, RedBehind, NickTaken, NoUser, NoItem, Closed, LowBid, StockShort}
+use Rattle.rubis_schema.specs.declared.refusals.Refusal.TheVariants.{NotSeller, OwnItem, NoBuyNow, SelfComment, BadTarget, LastTurn, NotOurs, NotForMe}
+use Rattle.rubis_schema.specs.declared.refusals.Refusal.TheVariants.{BadEvent, NoSuchPacket}
 use Rattle.rubis_shadow.specs.Shadows.{InLimits, is_red, refers_of, winner_key}
 use Rattle.rubis_shadow.specs.declared.shadows.Ask.{Ask}
 use Rattle.rubis_shadow.specs.declared.shadows.Ask.TheVariants as ask
@@ -124,7 +126,8 @@ asked_seller : (o : Option ItemRow) (u s : Id) → is_none o ≡ false → optio
 asked_seller None u s e f k = absurd (true≢false e)
 asked_seller (Some i) u s e f k = k i refl ∙ seller_is (Some i) u s e f
 
-pub same_ask : (t : Rows) (s : Standing) (all : List Message) → TellSellers all t → (a : Ask) → find (is_due t s a) (order_of a) ≡ None → ask_of all (shadow_of t a) ≡ a
+pub same_ask : (t : Rows) (s : Standing) (all : List Message) → TellSellers all t → (a : Ask) → find (is_due t s a) (order_of a) ≡ None →
+    ask_of all (shadow_of t a) ≡ a
 same_ask t s all k (ask.Close c) e =
     let seller = asked_seller (item_in t c.item) c.seller (seller_in all c.item)
     (none_found (is_due t s (ask.Close c)) (order_of (ask.Close c)) e NoItem (inr (inr (inr (inl refl)))))
@@ -165,7 +168,8 @@ pub decided_again : (t : Rows) (s u : Standing) (all : List Message) → TellSel
     → (is_red x ≡ true → (u.holds ≡ true) × (u.current ≡ true)) → decision t u (ask_of all x) ≡ Ok x
 decided_again t s u all q a x e f k =
     let g = granted t s a x e in
-    let none = find_none (is_due t u a) (order_of a) (λ r h. due_again t s u a f (λ b. k (ap is_red (sym g.1) ∙ b)) r h (none_found (is_due t s a) (order_of a) g.0 r h)) in
+    let none = find_none (is_due t u a) (order_of a)
+    (λ r h. due_again t s u a f (λ b. k (ap is_red (sym g.1) ∙ b)) r h (none_found (is_due t s a) (order_of a) g.0 r h)) in
     ap (decision t u) (asks_same t s all q a x e) ∙ ap (λ o. refused_or o (shadow_of t a)) none ∙ ap (λ y. Ok y) g.1
 
 -- ---- the seller in an item's row is that of its message
@@ -174,7 +178,8 @@ row_seller : (a : List Core) (id : Id) (t : Rows) → t (key.Item id) ≡ meanin
 unfolding meaning_row
 row_seller a id t m r e = by (item_at id a) refl (ap (option_and_then as_item_row) (sym m) ∙ e)
   where
-    by : (o : Option NewItem) → item_at id a ≡ o → option_and_then as_item_row (option_map (item_row a id) o) ≡ Some r → (n : NewItem) × (item_at id a ≡ Some n) × (n.seller ≡ r.seller)
+    by : (o : Option NewItem) → item_at id a ≡ o → option_and_then as_item_row (option_map (item_row a id) o) ≡ Some r → (n : NewItem) × (item_at id a ≡ Some n)
+        × (n.seller ≡ r.seller)
     by None q h = absurd (cc)
     by (Some n) q h = (n, q, ap (λ (o : Option ItemRow). option_map_or (λ (i : ItemRow). i.seller) o n.seller) h)
 
@@ -183,7 +188,8 @@ first_found : (id : Id) (n : NewItem) (a : List Core) (c : Core) → Member a c 
 first_found id n [] c h i f only = absurd h
 first_found id n (y ∷ a) c h i f only = go (same_id id y.id) refl (as_item y.shadow) refl (λ q. first_found id n a c q i f (λ d k l. only d k (inr l))) h
   where
-    go : (b : Bool) → same_id id y.id ≡ b → (o : Option NewItem) → as_item y.shadow ≡ o → (Member a c → item_at id a ≡ Some n) → Member (y ∷ a) c → item_at id (y ∷ a) ≡ Some n
+    go : (b : Bool) → same_id id y.id ≡ b → (o : Option NewItem) → as_item y.shadow ≡ o → (Member a c → item_at id a ≡ Some n) → Member (y ∷ a) c →
+        item_at id (y ∷ a) ≡ Some n
     go true q (Some k) r ih l = (λ j. option_or (when (q j) (r j)) (item_at id a)) ∙ ap (λ z. Some z) (only y k (inl refl) ((Decides-same_id id y.id).0 q) r)
     go true q None r ih (inl e) = absurd (let p : None ≡ Some n = sym r ∙ ap (λ (z : Core). as_item z.shadow) e ∙ f in cc)
     go true q None r ih (inr l) = (λ j. option_or (when (q j) (r j)) (item_at id a)) ∙ ih l
@@ -198,8 +204,10 @@ tell_sellers log all t means within single id r e =
     let f = found_at (λ (c : Core). as_item c.shadow) id n.0 (cores log) n.1 in
     let m = core_of f.0 log f.1 in
     let there : Has m.0 all = within m.0 m.1 in
-    let at = first_found id n.0 (cores all) (core m.0) (has_core m.0 all there) (f.2 ∙ ap (λ (c : Core). c.id) (sym m.2)) (ap (λ (c : Core). as_item c.shadow) m.2 ∙ f.3)
+    let at = first_found id n.0 (cores all) (core m.0) (has_core m.0 all there) (f.2 ∙ ap (λ (c : Core). c.id) (sym m.2))
+    (ap (λ (c : Core). as_item c.shadow) m.2 ∙ f.3)
     (λ d k h i g. let u = core_of d all h in
     let same : u.0 ≡ m.0 = single u.0 m.0 u.1 there (ap (λ (c : Core). c.id) u.2 ∙ sym i ∙ f.2 ∙ ap (λ (c : Core). c.id) (sym m.2)) in
-    same_Some k n.0 (sym g ∙ ap (λ (c : Core). as_item c.shadow) (sym u.2) ∙ ap (λ (y : Message). as_item y.shadow) same ∙ ap (λ (c : Core). as_item c.shadow) m.2 ∙ f.3)) in
+    same_Some k n.0 (sym g ∙ ap (λ (c : Core). as_item c.shadow) (sym u.2) ∙ ap (λ (y : Message). as_item y.shadow) same
+    ∙ ap (λ (c : Core). as_item c.shadow) m.2 ∙ f.3)) in
     ap (λ o. option_map_or (λ (i : NewItem). i.seller) o (record { site = 0; seq = 0 })) at ∙ n.2

@@ -68,21 +68,26 @@ record Delivered (keep i : ℕ) (v : World) (messages : List Message) : Type 0 w
 delivered_next : (keep i k : ℕ) (v : World) (m : Message) → i < length v.sites → packet_at v.sent k ≡ Some (packet.Msg m)
     → site (happens keep v (Deliver i k)).0 i ≡ (arrived (place keep v i) (site v i) m).0
 delivered_next keep i k v m l e =
-    cond_both (nat_lt i (length v.sites)) (coming keep v i (packet_at v.sent k)) (v, Err BadEvent) (λ (p : World × Result Happened Refusal). site p.0 i ≡ (arrived (place keep v i) (site v i) m).0)
-    (λ _. subst (λ o. site (coming keep v i o).0 i ≡ (arrived (place keep v i) (site v i) m).0) (sym e) (set_at (λ q y. q ≡ i → y ≡ (arrived (place keep v i) (site v i) m).0) v.sites i (arrived (place keep v i) (site v i) m).0 (opening_at 1) l (λ _. refl) (λ q n h. absurd (n h)) i refl))
+    cond_both (nat_lt i (length v.sites)) (coming keep v i (packet_at v.sent k)) (v, Err BadEvent)
+    (λ (p : World × Result Happened Refusal). site p.0 i ≡ (arrived (place keep v i) (site v i) m).0)
+    (λ _. subst (λ o. site (coming keep v i o).0 i ≡ (arrived (place keep v i) (site v i) m).0) (sym e)
+    (set_at (λ q y. q ≡ i → y ≡ (arrived (place keep v i) (site v i) m).0) v.sites i (arrived (place keep v i) (site v i) m).0 (opening_at 1) l (λ _. refl)
+    (λ q n h. absurd (n h)) i refl))
     (λ b. absurd (outside i (length v.sites) l b))
   where
     outside : (x y : ℕ) → x < y → nat_lt x y ≡ false → ⊥
     outside x y l b = grind (arith, nat_tests)
 
-deliver_each : (keep i : ℕ) (messages : List Message) (v : World) → i < length v.sites → ((m : Message) → Has m messages → Sent v m) → Delivered keep i v messages
+deliver_each : (keep i : ℕ) (messages : List Message) (v : World) → i < length v.sites → ((m : Message) → Has m messages → Sent v m) →
+    Delivered keep i v messages
 deliver_each keep i [] v l sent = record { events = []; only = tt; here = refl; each = λ m h. absurd h }
 deliver_each keep i (m ∷ messages) v l sent =
     let k = number_of (packet.Msg m) v.sent (sent m (inl refl)) in
     let next = (happens keep v (Deliver i k.0)).0 in
     let same = deliver_sent keep v i k.0 in
     let many = event_sites keep v (Deliver i k.0) in
-    let rest = deliver_each keep i messages next (subst (λ n. i < n) (sym many) l) (λ x h. subst (λ ps. Has (packet.Msg x) ps) (sym same) (sent x (inr h))) in record {
+    let rest = deliver_each keep i messages next (subst (λ n. i < n) (sym many) l) (λ x h. subst (λ ps. Has (packet.Msg x) ps) (sym same) (sent x (inr h))) in
+    record {
       events = Deliver i k.0 ∷ rest.events;
       only = rest.only;
       here = rest.here ∙ (λ j. after_all (record { site = i; sites = many j; keep = keep }) (delivered_next keep i k.0 v m l k.1 j) messages);
@@ -101,13 +106,16 @@ record IsThere (keep i : ℕ) (w : World) (s : Replica) : Type 0 where
   sent : world.sent ≡ w.sent
   done : HasReleasedAll world i
 
-module _ (n keep i : ℕ) (events : List Event) (messages : List Message) (some : 1 ≤ n) (few : keep ≤ 1000000) (a : AreEvents n events) (are : AreAllFor n keep i events messages) where
+module _ (n keep i : ℕ) (events : List Event) (messages : List Message) (some : 1 ≤ n) (few : keep ≤ 1000000) (a : AreEvents n events)
+    (are : AreAllFor n keep i events messages) where
   abbrev w : World
   w = run keep events (start n)
 
   new : IsRebuilt n keep i (tokens_of w.sent) w [] (opening_at i, [])
-  new = subst (λ ps. IsRebuilt n keep i (tokens_of w.sent) w ps (rebuilt (record { site = i; sites = n; keep = keep }) (tokens_of w.sent) messages (opening_at i) ps)) are.sends_nothing
-      (sites_are_rebuilt n keep i events messages (tokens_of w.sent) few are.within a (λ m. (are.all m).0) (λ m h _. (are.all m).1 h) (λ t. token_of t w.sent) (λ t h _. token_in t w.sent h))
+  new = subst (λ ps. IsRebuilt n keep i (tokens_of w.sent) w ps
+      (rebuilt (record { site = i; sites = n; keep = keep }) (tokens_of w.sent) messages (opening_at i) ps)) are.sends_nothing
+      (sites_are_rebuilt n keep i events messages (tokens_of w.sent) few are.within a (λ m. (are.all m).0) (λ m h _. (are.all m).1 h) (λ t. token_of t w.sent)
+      (λ t h _. token_in t w.sent h))
 
   is_there : IsThere keep i w (given n keep i messages)
   is_there =
@@ -150,7 +158,8 @@ given_are_released n keep i events messages some few a are = exactly n keep i ev
 same_tables : (keep i j : ℕ) (u v : World) → keep ≤ 1000000 → Sound u → Sound v → Room keep u → Room keep v → SameSet (site u i).log (site v j).log
     → tables_at u i ≡ tables_at v j
 same_tables keep i j u v few s t r q same =
-    equal_sets_equal_tables (cores (site u i).log) (cores (site v j).log) (log_checked u i s) (log_checked v j t) (short keep u i few r) (short keep v j few q) (same_cores (site u i).log (site v j).log same)
+    equal_sets_equal_tables (cores (site u i).log) (cores (site v j).log) (log_checked u i s) (log_checked v j t) (short keep u i few r) (short keep v j few q)
+    (same_cores (site u i).log (site v j).log same)
 
 pub given_converge : GivenConverge
 given_converge n keep i j events messages others some few a are there =
@@ -158,8 +167,10 @@ given_converge n keep i j events messages others some few a are there =
     let q = is_there n keep j events others some few a there in
     ap (λ (s : Replica). (fold_of (cores s.log)).tables) (sym p.here)
     ∙ same_tables keep i j p.world q.world few p.sound q.sound p.room q.room (λ m. (
-      (λ h. contains (site q.world j).log m ((q.done.released m).0 (subst (λ ps. Has (packet.Msg m) ps) (p.sent ∙ sym q.sent) ((p.done.released m).1 (contained (site p.world i).log m h))))),
-      λ h. contains (site p.world i).log m ((p.done.released m).0 (subst (λ ps. Has (packet.Msg m) ps) (q.sent ∙ sym p.sent) ((q.done.released m).1 (contained (site q.world j).log m h)))),
+      (λ h. contains (site q.world j).log m
+          ((q.done.released m).0 (subst (λ ps. Has (packet.Msg m) ps) (p.sent ∙ sym q.sent) ((p.done.released m).1 (contained (site p.world i).log m h))))),
+      λ h. contains (site p.world i).log m
+          ((p.done.released m).0 (subst (λ ps. Has (packet.Msg m) ps) (q.sent ∙ sym p.sent) ((q.done.released m).1 (contained (site q.world j).log m h)))),
     ))
     ∙ ap (λ (s : Replica). (fold_of (cores s.log)).tables) q.here
 
@@ -169,6 +180,8 @@ given_have_the_tables_of_the_run n keep i j events messages some few a are done 
     let v = run keep events (start n) in
     ap (λ (s : Replica). (fold_of (cores s.log)).tables) (sym p.here)
     ∙ same_tables keep i j p.world v few p.sound (sound_run n keep events some few a) p.room (room_of n keep events) (λ m. (
-      (λ h. contains (site v j).log m ((done.released m).0 (subst (λ ps. Has (packet.Msg m) ps) p.sent ((p.done.released m).1 (contained (site p.world i).log m h))))),
-      λ h. contains (site p.world i).log m ((p.done.released m).0 (subst (λ ps. Has (packet.Msg m) ps) (sym p.sent) ((done.released m).1 (contained (site v j).log m h)))),
+      (λ h. contains (site v j).log m
+          ((done.released m).0 (subst (λ ps. Has (packet.Msg m) ps) p.sent ((p.done.released m).1 (contained (site p.world i).log m h))))),
+      λ h. contains (site p.world i).log m
+          ((p.done.released m).0 (subst (λ ps. Has (packet.Msg m) ps) (sym p.sent) ((done.released m).1 (contained (site v j).log m h)))),
     ))

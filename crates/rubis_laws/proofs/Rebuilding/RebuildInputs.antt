@@ -1,5 +1,6 @@
 -- The rebuilt site as one that was given a list of inputs.
-use Rattle.std.proofs.Common.{◌≡◌, ◌∙◌, ℕ, Bool, true, false, cond, Option, Some, None, List, [], ◌∷◌, ◌++◌, refl, sym, ap, subst, inl, inr, ⊎_elim, append_assoc, append-nil}
+use Rattle.std.proofs.Common.{◌≡◌, ◌∙◌, ℕ, Bool, true, false, cond, Option, Some, None, List, [], ◌∷◌, ◌++◌, refl, sym, ap, subst, inl, inr, ⊎_elim}
+use Rattle.std.proofs.Common.{append_assoc, append-nil}
 use Rattle.std.specs.Prelude.{map, is_some}
 use Rattle.rubis_shadow.specs.Shadows.{is_red}
 use Rattle.rubis_message.specs.Message.{Message}
@@ -9,7 +10,8 @@ use Rattle.rubis_message.specs.declared.tokens.Packet.{Packet}
 use Rattle.rubis_message.specs.declared.tokens.Packet.TheVariants as packet
 use Rattle.rubis_message.specs.declared.tokens.Token.{Token}
 use Rattle.rubis_model.specs.Arrivals.{after_all}
-use Rattle.rubis_model.specs.Rebuild.{InputsRebuild, after_inputs, ask_of, holding, inputs_before, inputs_for, inputs_to_rebuild, is_lacking, lacking, next_token, prepared, sent_again, sent_on, sent_on_inputs, token_as, token_before, with_token}
+use Rattle.rubis_model.specs.Rebuild.{InputsRebuild, after_inputs, ask_of, holding, inputs_before, inputs_for, inputs_to_rebuild, is_lacking, lacking}
+use Rattle.rubis_model.specs.Rebuild.{next_token, prepared, sent_again, sent_on, sent_on_inputs, token_as, token_before, with_token}
 use Rattle.rubis_model.specs.Runs.{Input, input_step}
 use Rattle.rubis_model.specs.Runs.Input.{Asked, Came}
 use Rattle.rubis_model.specs.Settle.{Has}
@@ -22,9 +24,11 @@ after_append : (p : Place) (s : Replica) (xs ys : List Input) → after_inputs p
 after_append p s [] ys = refl
 after_append p s (x ∷ xs) ys = after_append p (input_step p s 1 x).0 xs ys
 
-sent_append : (p : Place) (s : Replica) (xs ys : List Input) → sent_on_inputs p s (xs ++ ys) ≡ sent_on_inputs p s xs ++ sent_on_inputs p (after_inputs p s xs) ys
+sent_append : (p : Place) (s : Replica) (xs ys : List Input) → sent_on_inputs p s (xs ++ ys) ≡ sent_on_inputs p s xs
+    ++ sent_on_inputs p (after_inputs p s xs) ys
 sent_append p s [] ys = refl
-sent_append p s (x ∷ xs) ys = ap (λ ps. sent_on p s x ++ ps) (sent_append p (input_step p s 1 x).0 xs ys) ∙ sym (append_assoc (sent_on p s x) (sent_on_inputs p (input_step p s 1 x).0 xs) (sent_on_inputs p (after_inputs p (input_step p s 1 x).0 xs) ys))
+sent_append p s (x ∷ xs) ys = ap (λ ps. sent_on p s x ++ ps) (sent_append p (input_step p s 1 x).0 xs ys)
+    ∙ sym (append_assoc (sent_on p s x) (sent_on_inputs p (input_step p s 1 x).0 xs) (sent_on_inputs p (after_inputs p (input_step p s 1 x).0 xs) ys))
 
 -- they lead to a state, and nothing is sent
 abbrev LeadTo : Place → Replica → List Input → Replica → Type 0
@@ -50,12 +54,15 @@ either_leads p s t u xs ys false a c = c
 
 holding_leads : (p : Place) (tokens : List Token) (s : Replica) → LeadTo p s (token_before p tokens s) (holding p tokens s)
 holding_leads p tokens s =
-    either_leads p s s (with_token p s (next_token p.site s.last tokens)) [] (token_as (next_token p.site s.last tokens)) (is_some s.held) (refl, refl) (token_leads p s (next_token p.site s.last tokens))
+    either_leads p s s (with_token p s (next_token p.site s.last tokens)) [] (token_as (next_token p.site s.last tokens)) (is_some s.held) (refl, refl)
+    (token_leads p s (next_token p.site s.last tokens))
 
-prepared_leads : (p : Place) (tokens : List Token) (all : List Message) (s : Replica) (m : Message) → LeadTo p s (inputs_before p tokens all s m) (prepared p tokens all s m)
+prepared_leads : (p : Place) (tokens : List Token) (all : List Message) (s : Replica) (m : Message) →
+    LeadTo p s (inputs_before p tokens all s m) (prepared p tokens all s m)
 prepared_leads p tokens all s m =
     let g = after_all p s (lacking p.site s.log m all) in
-    lead_on p s g (prepared p tokens all s m) (map (λ u. Came (packet.Msg u)) (lacking p.site s.log m all)) (cond (is_red m.shadow) (token_before p tokens g) [])
+    lead_on p s g (prepared p tokens all s m) (map (λ u. Came (packet.Msg u)) (lacking p.site s.log m all))
+    (cond (is_red m.shadow) (token_before p tokens g) [])
     (messages_lead p s (lacking p.site s.log m all))
     (either_leads p g (holding p tokens g) g (token_before p tokens g) [] (is_red m.shadow) (holding_leads p tokens g) (refl, refl))
 
@@ -64,11 +71,13 @@ one_more : (p : Place) (s t : Replica) (xs : List Input) (x : Input) → LeadTo 
     → (after_inputs p s (xs ++ x ∷ []) ≡ (input_step p t 1 x).0) × (sent_on_inputs p s (xs ++ x ∷ []) ≡ sent_on p t x)
 one_more p s t xs x a = (
   after_append p s xs (x ∷ []) ∙ ap (λ r. (input_step p r 1 x).0) a.0,
-  sent_append p s xs (x ∷ []) ∙ ap (λ ps. ps ++ sent_on_inputs p (after_inputs p s xs) (x ∷ [])) a.1 ∙ append-nil (sent_on p (after_inputs p s xs) x) ∙ ap (λ r. sent_on p r x) a.0,
+  sent_append p s xs (x ∷ []) ∙ ap (λ ps. ps ++ sent_on_inputs p (after_inputs p s xs) (x ∷ [])) a.1 ∙ append-nil (sent_on p (after_inputs p s xs) x)
+      ∙ ap (λ r. sent_on p r x) a.0,
 )
 
 inputs_are : (p : Place) (tokens : List Token) (all : List Message) (s : Replica) (x : Packet)
-    → (after_inputs p s (inputs_for p tokens all s x) ≡ (sent_again p tokens all s x).0) × (sent_on_inputs p s (inputs_for p tokens all s x) ≡ (sent_again p tokens all s x).1)
+    → (after_inputs p s (inputs_for p tokens all s x) ≡ (sent_again p tokens all s x).0)
+    × (sent_on_inputs p s (inputs_for p tokens all s x) ≡ (sent_again p tokens all s x).1)
 inputs_are p tokens all s (packet.Msg m) =
     one_more p s (prepared p tokens all s m) (inputs_before p tokens all s m) (Asked (request.Ask (ask_of all m.shadow))) (prepared_leads p tokens all s m)
 inputs_are p tokens all s (packet.Token t) =
@@ -105,13 +114,17 @@ module _ (p : Place) (sent : List Packet) (all : List Message) (tokens : List To
   inputs_were : (s : Replica) (y : Packet) (x : Packet) → Has (Came x) (inputs_for p tokens all s y) → Has x sent
   inputs_were s (packet.Msg m) x h =
       ⊎_elim (λ k. ⊎_elim
-      (λ q. let u = in_map x (lacking p.site s.log m all) q in subst (λ y. Has y sent) (sym u.2) (were u.0 (filter_has (is_lacking p.site s.log m) u.0 all u.1).0))
-      (in_either (Came x) (token_before p tokens (after_all p s (lacking p.site s.log m all))) [] (is_red m.shadow) (Has x sent) (before_was (after_all p s (lacking p.site s.log m all)) x) (λ q. absurd q))
-      (has_append (Came x) (map (λ u. Came (packet.Msg u)) (lacking p.site s.log m all)) (cond (is_red m.shadow) (token_before p tokens (after_all p s (lacking p.site s.log m all))) []) k))
+      (λ q. let u = in_map x (lacking p.site s.log m all) q in
+      subst (λ y. Has y sent) (sym u.2) (were u.0 (filter_has (is_lacking p.site s.log m) u.0 all u.1).0))
+      (in_either (Came x) (token_before p tokens (after_all p s (lacking p.site s.log m all))) [] (is_red m.shadow) (Has x sent)
+      (before_was (after_all p s (lacking p.site s.log m all)) x) (λ q. absurd q))
+      (has_append (Came x) (map (λ u. Came (packet.Msg u)) (lacking p.site s.log m all))
+      (cond (is_red m.shadow) (token_before p tokens (after_all p s (lacking p.site s.log m all))) []) k))
       (λ k. absurd (not_asked x (request.Ask (ask_of all m.shadow)) k))
       (has_append (Came x) (inputs_before p tokens all s m) (Asked (request.Ask (ask_of all m.shadow)) ∷ []) h)
   inputs_were s (packet.Token t) x h =
-      ⊎_elim (λ k. before_was s x k) (λ k. absurd (not_asked x (request.Pass t.to) k)) (has_append (Came x) (token_before p tokens s) (Asked (request.Pass t.to) ∷ []) h)
+      ⊎_elim (λ k. before_was s x k) (λ k. absurd (not_asked x (request.Pass t.to) k))
+      (has_append (Came x) (token_before p tokens s) (Asked (request.Pass t.to) ∷ []) h)
 
 pub inputs_rebuild : InputsRebuild
 inputs_rebuild p sent all tokens s [] were told = (refl, refl, λ x h. absurd h)
@@ -119,10 +132,12 @@ inputs_rebuild p sent all tokens s (y ∷ packets) were told =
     let a = inputs_are p tokens all s y in
     let t = (sent_again p tokens all s y).0 in
     let k = inputs_rebuild p sent all tokens t packets were told in (
-      after_append p s (inputs_for p tokens all s y) (inputs_to_rebuild p tokens all t packets) ∙ ap (λ r. after_inputs p r (inputs_to_rebuild p tokens all t packets)) a.0 ∙ k.0,
+      after_append p s (inputs_for p tokens all s y) (inputs_to_rebuild p tokens all t packets)
+          ∙ ap (λ r. after_inputs p r (inputs_to_rebuild p tokens all t packets)) a.0 ∙ k.0,
       sent_append p s (inputs_for p tokens all s y) (inputs_to_rebuild p tokens all t packets)
           ∙ ap (λ ps. ps ++ sent_on_inputs p (after_inputs p s (inputs_for p tokens all s y)) (inputs_to_rebuild p tokens all t packets)) a.1
           ∙ ap (λ r. (sent_again p tokens all s y).1 ++ sent_on_inputs p r (inputs_to_rebuild p tokens all t packets)) a.0
           ∙ ap (λ ps. (sent_again p tokens all s y).1 ++ ps) k.1,
-      λ x h. ⊎_elim (inputs_were p sent all tokens were told s y x) (k.2 x) (has_append (Came x) (inputs_for p tokens all s y) (inputs_to_rebuild p tokens all t packets) h),
+      λ x h. ⊎_elim (inputs_were p sent all tokens were told s y x) (k.2 x)
+          (has_append (Came x) (inputs_for p tokens all s y) (inputs_to_rebuild p tokens all t packets) h),
     )

@@ -1,5 +1,6 @@
 -- The records that a fresh site is given are read as the inputs that rebuild it.
-use Rattle.std.proofs.Common.{◌≡◌, ◌∙◌, ℕ, ◌+◌, ◌≤◌, ◌<◌, Bool, true, false, cond, Option, Some, None, List, [], ◌∷◌, ◌++◌, length, refl, sym, ap, subst, inl, inr, ⊎_elim, arith}
+use Rattle.std.proofs.Common.{◌≡◌, ◌∙◌, ℕ, ◌+◌, ◌≤◌, ◌<◌, Bool, true, false, cond, Option, Some, None, List, [], ◌∷◌, ◌++◌, length, refl, sym, ap, subst, inl}
+use Rattle.std.proofs.Common.{inr, ⊎_elim, arith}
 use Rattle.std.specs.Prelude.{⊤, ◌==◌, IsSome, is_some, ◌^◌, filter, map, Result, Ok, Err}
 use Rattle.std.specs.Option.{option_map_or, option_or}
 use Rattle.std.proofs.lemmas.Bool.{eqb-true, true≢false}
@@ -34,7 +35,8 @@ use Rattle.rubis_model.specs.Laws.{Sent}
 use Rattle.rubis_model.specs.Log.{Core, cores}
 use Rattle.rubis_model.specs.Meaning.{as_item, item_at, when}
 use Rattle.rubis_model.specs.Processes.{site_after}
-use Rattle.rubis_model.specs.Rebuild.{Concerns, after_inputs, ask_of, inputs_before, inputs_for, inputs_to_rebuild, is_lacking, lacking, next_token, seller_in, sent_again, sent_by, sent_here, sent_on, sent_on_inputs, token_as, token_before}
+use Rattle.rubis_model.specs.Rebuild.{Concerns, after_inputs, ask_of, inputs_before, inputs_for, inputs_to_rebuild, is_lacking, lacking, next_token, seller_in}
+use Rattle.rubis_model.specs.Rebuild.{sent_again, sent_by, sent_here, sent_on, sent_on_inputs, token_as, token_before}
 use Rattle.rubis_model.specs.RebuildRecords.{AreWritten, RecordsRebuild, input_record, is_send}
 use Rattle.rubis_model.specs.References.{IsMadeBy, Preceded}
 use Rattle.rubis_model.specs.Runs.{Input, answers, input_by, input_of, input_step}
@@ -168,7 +170,8 @@ module _ (p : Place) (top : p.sites ≤ COUNTED_MAX) where
       ∙ ap (λ r. site_after p r (k + 1) (map input_record xs)) (same_state p s k x)
       ∙ after_records xs (input_step p s 1 x).0 (k + 1) h.1
 
-  sent_by_records : (xs : List Input) (s : Replica) (k : ℕ) → AreGiven p.sites xs → filter is_send (answers p s k (map input_record xs)) ≡ send_rows (sent_on_inputs p s xs)
+  sent_by_records : (xs : List Input) (s : Replica) (k : ℕ) → AreGiven p.sites xs → filter is_send (answers p s k (map input_record xs))
+      ≡ send_rows (sent_on_inputs p s xs)
   unfolding answers
   sent_by_records [] s k h = refl
   sent_by_records (x ∷ xs) s k h =
@@ -220,7 +223,8 @@ here_sent keep w i (request.Ask a) x h = has_right x w.sent _ h
 here_sent keep w i (request.Pass to) x h = has_right x w.sent _ h
 here_sent keep w i (request.List l) x h = absurd h
 
-event_sends : (keep : ℕ) (w : World) (i : ℕ) (q : Request) (x : Packet) → i < length w.sites → Has x (sent_here keep w i q) → Has x (happens keep w (At i q)).0.sent
+event_sends : (keep : ℕ) (w : World) (i : ℕ) (q : Request) (x : Packet) → i < length w.sites → Has x (sent_here keep w i q) →
+    Has x (happens keep w (At i q)).0.sent
 event_sends keep w i q x l h =
     subst (λ (step : World × Result Happened Refusal). Has x step.0.sent) (sym (at_inside w i (requested keep w i q) l)) (here_sent keep w i q x h)
 
@@ -293,7 +297,8 @@ module _ (n keep i : ℕ) (few : keep ≤ 1000000) (w : World) (s : Sound w) (pa
           item_seller n u.0.shadow k (ap (λ (c : Core). as_item c.shadow) u.2 ∙ f.3) (limits u.0 (within u.0 u.1))
 
   can_ask : (v : Message) → Sent w v → v.stamp.id.site ≡ i → IsRequest n (request.Ask (ask_of all v.shadow))
-  can_ask v b o = ask_in_limits n all (λ k. Preceded (Sent w) v (IsMadeBy k)) (seller_is v b o) v.shadow (limits v b) (packets (packet.Msg v) b).2 (refers w s v b).0
+  can_ask v b o = ask_in_limits n all (λ k. Preceded (Sent w) v (IsMadeBy k)) (seller_is v b o) v.shadow (limits v b) (packets (packet.Msg v) b).2
+      (refers w s v b).0
 
   -- ---- and so each input
   module _ (top : n ≤ COUNTED_MAX) (tokens : List Token) (told : (t : Token) → Has t tokens → Has (packet.Token t) w.sent) where
@@ -338,7 +343,8 @@ records_rebuild n keep i events all tokens top few inside are within whole told 
     let count = start_sites n in
     let s : Sound w = sound_run n keep events some few (are_events n events are) in
     let packets : AllPackets n w.sent = subst (λ k. AllPackets k w.sent) count
-    (run_written keep few events (start n) (omega (arith, count, top)) (subst (λ k. AreWritten k events) (sym count) are) (start_sound n some) (λ x h. absurd h)) in
+    (run_written keep few events (start n) (omega (arith, count, top)) (subst (λ k. AreWritten k events) (sym count) are) (start_sound n some)
+    (λ x h. absurd h)) in
     let inputs = inputs_to_rebuild p tokens all (opening_at i) sent in
     let given : AreGiven n inputs = all_given n keep i few w s packets all within whole top tokens told (opening_at i) sent
     (λ x h. sent_in_run keep i events (start n) x (subst (λ k. i < k) (sym count) inside) h) in

@@ -1,5 +1,6 @@
 -- A site is rebuilt: it sends again what it had sent.
-use Rattle.std.proofs.Common.{◌≡◌, ◌∙◌, ℕ, ◌+◌, ◌≤◌, ◌<◌, Bool, true, false, cond, Option, Some, None, List, [], ◌∷◌, ◌++◌, length, refl, sym, ap, subst, inl, inr, ⊎_elim, arith, append-nil}
+use Rattle.std.proofs.Common.{◌≡◌, ◌∙◌, ℕ, ◌+◌, ◌≤◌, ◌<◌, Bool, true, false, cond, Option, Some, None, List, [], ◌∷◌, ◌++◌, length, refl, sym, ap, subst, inl}
+use Rattle.std.proofs.Common.{inr, ⊎_elim, arith, append-nil}
 use Rattle.std.specs.Prelude.{◌⊎◌, reverse, map, nat_lt, nat_le, slice_set, not, ◌==◌, ◌&&◌, is_some, option_map, unwrap_or, Result, Ok, Err}
 use Rattle.std.specs.List.{range_with_len}
 use Rattle.std.specs.Option.{option_map_or}
@@ -43,7 +44,9 @@ use Rattle.rubis_laws.proofs.Rows.EqualSets.{equal_sets_equal_tables}
 use Rattle.rubis_laws.proofs.Rows.FoldIsMeaning.{fold_is_meaning}
 use Rattle.rubis_laws.proofs.Order.LogsChecked.{log_checked}
 use Rattle.rubis_laws.proofs.Order.Making.{made_dep}
-use Rattle.rubis_laws.proofs.Rebuilding.TwoWorlds.{Fed, Gave, HasCaughtUp, Reached, alike_there, at_inside, at_most, at_place, caught_up, delivering, filter_has, give_all, has_filter, reach_on, room_in, same_counts, same_reds, settled_from, site_set, sites_of_run, sound_of, spot}
+use Rattle.rubis_laws.proofs.Rebuilding.TwoWorlds.{Fed, Gave, HasCaughtUp, Reached, alike_there, at_inside, at_most, at_place, caught_up, delivering}
+use Rattle.rubis_laws.proofs.Rebuilding.TwoWorlds.{filter_has, give_all, has_filter, reach_on, room_in, same_counts, same_reds, settled_from, site_set}
+use Rattle.rubis_laws.proofs.Rebuilding.TwoWorlds.{sites_of_run, sound_of, spot}
 use Rattle.rubis_laws.proofs.Runs.EveryRun.{short}
 use Rattle.rubis_laws.proofs.Order.RunsInOrder.{there, unique}
 
@@ -80,12 +83,16 @@ least_by i last t ts true e None k =
 least_by i last t ts true e (Some u) k =
     let p = and_parts (t.to == i) (nat_lt last t.turn) e in
     least_of i last t u ts (eqb-true t.to i p.0, ltb-true last t.turn p.1) k (nat_le t.turn u.turn) refl
-least_by i last t ts false e None k = λ x h a c. ⊎_elim (λ q. true≢false (sym (tested t.to i last t.turn (ap (λ (y : Token). y.to) (sym q) ∙ a) (subst (λ (y : Token). last < y.turn) q c)) ∙ e)) (λ q. k x q a c) h
+least_by i last t ts false e None k =
+    λ x h a c. ⊎_elim (λ q. true≢false (sym (tested t.to i last t.turn (ap (λ (y : Token). y.to) (sym q) ∙ a) (subst (λ (y : Token). last < y.turn) q c)) ∙ e))
+    (λ q. k x q a c) h
 least_by i last t ts false e (Some u) k = (
   inr k.0,
   k.1,
   k.2,
-  λ x h a c. ⊎_elim (λ q. absurd (true≢false (sym (tested t.to i last t.turn (ap (λ (y : Token). y.to) (sym q) ∙ a) (subst (λ (y : Token). last < y.turn) q c)) ∙ e))) (λ q. k.3 x q a c) h,
+  λ x h a c. ⊎_elim (λ q. absurd
+      (true≢false (sym (tested t.to i last t.turn (ap (λ (y : Token). y.to) (sym q) ∙ a) (subst (λ (y : Token). last < y.turn) q c)) ∙ e)))
+      (λ q. k.3 x q a c) h,
 )
 
 least : (i last : ℕ) (ts : List Token) → Least i last ts (next_token i last ts)
@@ -116,7 +123,8 @@ pub record IsBehind (i : ℕ) (r s : Replica) (sent : List Packet) (tokens : Lis
 abbrev pub TokenKept : ℕ → Replica → Replica → List Packet → List Token → Type 0
 TokenKept i r s sent tokens = ((r.held ≡ s.held) × (r.last ≡ s.last)) ⊎ IsBehind i r s sent tokens
 
-pub kept_same : (i : ℕ) (r r' s s' : Replica) (sent more : List Packet) (tokens : List Token) → r'.held ≡ r.held → r'.last ≡ r.last → s'.held ≡ s.held → s'.last ≡ s.last
+pub kept_same : (i : ℕ) (r r' s s' : Replica) (sent more : List Packet) (tokens : List Token) → r'.held ≡ r.held → r'.last ≡ r.last → s'.held ≡ s.held → s'.last
+    ≡ s.last
     → TokenKept i r s sent tokens → TokenKept i r' s' (sent ++ more) tokens
 kept_same i r r' s s' sent more tokens rh rl sh sl (inl k) = inl (rh ∙ k.0 ∙ sym sh, rl ∙ k.1 ∙ sym sl)
 kept_same i r r' s s' sent more tokens rh rl sh sl (inr b) = inr (record {
@@ -128,14 +136,18 @@ kept_same i r r' s s' sent more tokens rh rl sh sl (inr b) = inr (record {
   last = sl ∙ b.last;
 })
 
-pub kept_here : (i : ℕ) (r r' s s' : Replica) (sent : List Packet) (tokens : List Token) → r'.held ≡ r.held → r'.last ≡ r.last → s'.held ≡ s.held → s'.last ≡ s.last
+pub kept_here : (i : ℕ) (r r' s s' : Replica) (sent : List Packet) (tokens : List Token) → r'.held ≡ r.held → r'.last ≡ r.last → s'.held ≡ s.held → s'.last
+    ≡ s.last
     → TokenKept i r s sent tokens → TokenKept i r' s' sent tokens
-kept_here i r r' s s' sent tokens rh rl sh sl k = subst (λ ps. TokenKept i r' s' ps tokens) (append-nil sent) (kept_same i r r' s s' sent [] tokens rh rl sh sl k)
+kept_here i r r' s s' sent tokens rh rl sh sl k = subst (λ ps. TokenKept i r' s' ps tokens) (append-nil sent)
+    (kept_same i r r' s s' sent [] tokens rh rl sh sl k)
 
 took_new : (p : Place) (s : Replica) (t : Token) → t.to ≡ p.site → s.last < t.turn → (took p s t).0 ≡ record s { held = Some t.issued; last = t.turn }
 took_new p s t e l =
-    ap (λ b. (cond {A = Replica × Result Taken Refusal} b (s, Err NotForMe) (cond (nat_le t.turn s.last) (s, Ok taken.Repeat) (record s { held = Some t.issued; last = t.turn }, Ok taken.Holding))).0) (mine t.to p.site e)
-    ∙ ap (λ b. (cond {A = Replica × Result Taken Refusal} b (s, Ok taken.Repeat) (record s { held = Some t.issued; last = t.turn }, Ok taken.Holding)).0) (new t.turn s.last l)
+    ap (λ b. (cond {A = Replica × Result Taken Refusal} b (s, Err NotForMe)
+    (cond (nat_le t.turn s.last) (s, Ok taken.Repeat) (record s { held = Some t.issued; last = t.turn }, Ok taken.Holding))).0) (mine t.to p.site e)
+    ∙ ap (λ b. (cond {A = Replica × Result Taken Refusal} b (s, Ok taken.Repeat) (record s { held = Some t.issued; last = t.turn }, Ok taken.Holding)).0)
+    (new t.turn s.last l)
   where
     mine : (a b : ℕ) → a ≡ b → not (a == b) ≡ false
     mine a b e = grind (arith, nat_tests)
@@ -153,7 +165,8 @@ pub record Holds (n keep i : ℕ) (w v : World) (tokens : List Token) : Type 0 w
   pub held : (site next i).held ≡ (site w i).held
   pub last : (site next i).last ≡ (site w i).last
 
-module _ (n keep i : ℕ) (some : 1 ≤ n) (few : keep ≤ 1000000) (inside : i < n) (w v : World) (f : Fed n keep i w v) (tokens : List Token) (issued : ℕ) (e : (site w i).held ≡ Some issued) where
+module _ (n keep i : ℕ) (some : 1 ≤ n) (few : keep ≤ 1000000) (inside : i < n) (w v : World) (f : Fed n keep i w v) (tokens : List Token) (issued : ℕ)
+    (e : (site w i).held ≡ Some issued) where
   pub hold_token : TokenKept i (site v i) (site w i) w.sent tokens → Holds n keep i w v tokens
   hold_token (inl k) = record {
     next = v;
@@ -225,10 +238,12 @@ is_other a b e q = grind (arith, nat_tests)
 
 lacks : (a i c s d : ℕ) → (a ≡ i → ⊥) → c < s → s ≤ d → (not (a == i) && (nat_lt c s && nat_le s d)) ≡ true
 lacks a i c s d n l m =
-    and_from (not (a == i)) (nat_lt c s && nat_le s d) (grind (arith, nat_tests)) (and_from (nat_lt c s) (nat_le s d) (grind (arith, nat_tests)) (grind (arith, nat_tests)))
+    and_from (not (a == i)) (nat_lt c s && nat_le s d) (grind (arith, nat_tests))
+    (and_from (nat_lt c s) (nat_le s d) (grind (arith, nat_tests)) (grind (arith, nat_tests)))
 
 module _ (n keep i : ℕ) (some : 1 ≤ n) (few : keep ≤ 1000000) (inside : i < n) (final : World) (rf : Reached n keep final) (all : List Message)
-    (streams : ((m : Message) → Has m all → Sent final m) × ((m : Message) → Sent final m → Concerns i final m → Has m all)) (tokens : List Token) (w v : World) (rw : Reached n keep w) (k : Follows n keep i tokens w v) (later : List Packet) (grown : final.sent ≡ w.sent ++ later) where
+    (streams : ((m : Message) → Has m all → Sent final m) × ((m : Message) → Sent final m → Concerns i final m → Has m all)) (tokens : List Token) (w v : World)
+    (rw : Reached n keep w) (k : Follows n keep i tokens w v) (later : List Packet) (grown : final.sent ≡ w.sent ++ later) where
   sw : Sound w
   sw = sound_of n keep w some few rw
 
@@ -244,7 +259,8 @@ module _ (n keep i : ℕ) (some : 1 ≤ n) (few : keep ≤ 1000000) (inside : i 
   logged : (u : Message) → Has u (site w i).log → Sent w u
   logged u h = (sw.good i).log_sent u (has_back u (site w i).log h)
 
-  module _ (a : Ask) (x : Shadow) (e : decision (rows_at (site w i).log) (standing_of keep (site w i)) a ≡ Ok x) (was : Sent final (made (place keep w i) (site w i) x)) where
+  module _ (a : Ask) (x : Shadow) (e : decision (rows_at (site w i).log) (standing_of keep (site w i)) a ≡ Ok x)
+      (was : Sent final (made (place keep w i) (site w i) x)) where
     room : length (site w i).log < keep
     room = under keep (length (site w i).log) (length (site w i).waiting) (not_full (rows_at (site w i).log) (standing_of keep (site w i)) a x e)
 
@@ -266,28 +282,41 @@ module _ (n keep i : ℕ) (some : 1 ≤ n) (few : keep ≤ 1000000) (inside : i 
         (λ m h. streams.1 m (on m (logged m h)) (concerns m h))
         (λ u y a b e. unique final u y sf (streams.0 u a) (streams.0 y b) (ap (λ c. c.site) e) (ap (λ c. c.seq) e))
 
-    each : (u : Message) → Has u (lacking i (site v i).log (made (place keep w i) (site w i) x) all) → Sent w u × Has u (site w i).log × (u.stamp.id.site ≡ i → ⊥)
+    each : (u : Message) → Has u (lacking i (site v i).log (made (place keep w i) (site w i) x) all) → Sent w u × Has u (site w i).log
+        × (u.stamp.id.site ≡ i → ⊥)
     each u h =
         let f = filter_has (is_lacking i (site v i).log (made (place keep w i) (site w i) x)) u all h in
-        let p = and_parts (not (u.stamp.id.site == i)) (nat_lt (counted u.stamp.id.site (site v i).log) u.stamp.id.seq && nat_le u.stamp.id.seq (dep (made (place keep w i) (site w i) x) u.stamp.id.site)) f.1 in
-        let q = and_parts (nat_lt (counted u.stamp.id.site (site v i).log) u.stamp.id.seq) (nat_le u.stamp.id.seq (dep (made (place keep w i) (site w i) x) u.stamp.id.site)) p.1 in
-        let l : u.stamp.id.seq ≤ dep (made (place keep w i) (site w i) x) u.stamp.id.site = leb-true u.stamp.id.seq (dep (made (place keep w i) (site w i) x) u.stamp.id.site) q.1 in
-        let here : Has u (site w i).log = has_reverse u (site w i).log (there final (reverse (site w i).log) u (sound_of n keep final some few rf) (sw.good i).released (λ y c. on y ((sw.good i).log_sent y c)) (streams.0 u f.0) (omega (arith, l, dep_is u.stamp.id.site, counted_reverse u.stamp.id.site (site w i).log))) in
+        let p = and_parts (not (u.stamp.id.site == i))
+        (nat_lt (counted u.stamp.id.site (site v i).log) u.stamp.id.seq && nat_le u.stamp.id.seq (dep (made (place keep w i) (site w i) x) u.stamp.id.site))
+        f.1 in
+        let q = and_parts (nat_lt (counted u.stamp.id.site (site v i).log) u.stamp.id.seq)
+        (nat_le u.stamp.id.seq (dep (made (place keep w i) (site w i) x) u.stamp.id.site)) p.1 in
+        let l : u.stamp.id.seq ≤ dep (made (place keep w i) (site w i) x) u.stamp.id.site =
+        leb-true u.stamp.id.seq (dep (made (place keep w i) (site w i) x) u.stamp.id.site) q.1 in
+        let here : Has u (site w i).log =
+        has_reverse u (site w i).log
+        (there final (reverse (site w i).log) u (sound_of n keep final some few rf) (sw.good i).released (λ y c. on y ((sw.good i).log_sent y c))
+        (streams.0 u f.0) (omega (arith, l, dep_is u.stamp.id.site, counted_reverse u.stamp.id.site (site w i).log))) in
         (logged u here, here, is_other u.stamp.id.site i p.0)
 
     give : Gave n keep i w v (lacking i (site v i).log (made (place keep w i) (site w i) x) all)
     give = give_all n keep i some few inside w room (lacking i (site v i).log (made (place keep w i) (site w i) x) all) v k.fed each
 
     has : (u : Message) → Has u (site w i).log → Had (site give.next i) u
-    has u h = ⊎_elim new (λ l. give.had u (inr (inl (has_reverse u (site v i).log (there v (reverse (site v i).log) u sv (sv.good i).released (sv.good i).log_sent (over u (logged u h)) (omega (arith, l, counted_reverse u.stamp.id.site (site v i).log)))))))
+    has u h = ⊎_elim new (λ l. give.had u
+        (inr (inl (has_reverse u (site v i).log
+        (there v (reverse (site v i).log) u sv (sv.good i).released (sv.good i).log_sent (over u (logged u h))
+        (omega (arith, l, counted_reverse u.stamp.id.site (site v i).log)))))))
         (cases_lt (counted u.stamp.id.site (site v i).log) u.stamp.id.seq)
       where
         new : counted u.stamp.id.site (site v i).log < u.stamp.id.seq → Had (site give.next i) u
         new l = ⊎_elim
             (λ o. give.had u (inr (inl (has_reverse u (site v i).log (subst (λ q. Has u (reverse (site v q).log)) o (sv.home.home u (over u (logged u h))))))))
-            (λ o. give.had u (inl (has_filter (is_lacking i (site v i).log (made (place keep w i) (site w i) x)) u all (streams.1 u (on u (logged u h)) (concerns u h))
+            (λ o. give.had u (inl
+            (has_filter (is_lacking i (site v i).log (made (place keep w i) (site w i) x)) u all (streams.1 u (on u (logged u h)) (concerns u h))
             (lacks u.stamp.id.site i (counted u.stamp.id.site (site v i).log) u.stamp.id.seq (dep (made (place keep w i) (site w i) x) u.stamp.id.site) o l
-            (let c = (seq_within (reverse (site w i).log) u (sw.good i).released (has_back u (site w i).log h)).1 in omega (arith, c, dep_is u.stamp.id.site, counted_reverse u.stamp.id.site (site w i).log))))))
+            (let c = (seq_within (reverse (site w i).log) u (sw.good i).released (has_back u (site w i).log h)).1 in
+            omega (arith, c, dep_is u.stamp.id.site, counted_reverse u.stamp.id.site (site w i).log))))))
             (cases_eq u.stamp.id.site i)
 
     caught : HasCaughtUp i w give.next
@@ -301,7 +330,10 @@ module _ (n keep i : ℕ) (some : 1 ≤ n) (few : keep ≤ 1000000) (inside : i 
       next = give.next;
       fed = give.fed;
       caught = caught;
-      state = give.state ∙ sym (ap (λ b. cond b (holding (spot n keep i) tokens (after_all (spot n keep i) (site v i) (lacking i (site v i).log (made (place keep w i) (site w i) x) all))) (after_all (spot n keep i) (site v i) (lacking i (site v i).log (made (place keep w i) (site w i) x) all))) r);
+      state = give.state ∙ sym
+          (ap (λ b. cond b (holding (spot n keep i) tokens
+          (after_all (spot n keep i) (site v i) (lacking i (site v i).log (made (place keep w i) (site w i) x) all)))
+          (after_all (spot n keep i) (site v i) (lacking i (site v i).log (made (place keep w i) (site w i) x) all))) r);
       red = λ q. absurd (true≢false (sym q ∙ r));
       token = kept;
     }
@@ -312,7 +344,9 @@ module _ (n keep i : ℕ) (some : 1 ≤ n) (few : keep ≤ 1000000) (inside : i 
           fed = h.fed;
           caught = record { there = λ u q. subst (Has u) (sym h.log) (caught.there u q); none_waits = h.waiting ∙ caught.none_waits };
           state = h.state ∙ ap (holding (spot n keep i) tokens) give.state
-              ∙ sym (ap (λ b. cond b (holding (spot n keep i) tokens (after_all (spot n keep i) (site v i) (lacking i (site v i).log (made (place keep w i) (site w i) x) all))) (after_all (spot n keep i) (site v i) (lacking i (site v i).log (made (place keep w i) (site w i) x) all))) r);
+              ∙ sym (ap (λ b. cond b
+              (holding (spot n keep i) tokens (after_all (spot n keep i) (site v i) (lacking i (site v i).log (made (place keep w i) (site w i) x) all)))
+              (after_all (spot n keep i) (site v i) (lacking i (site v i).log (made (place keep w i) (site w i) x) all))) r);
           red = λ _. (h.held, h.last);
           token = inl (h.held, h.last);
         }
@@ -327,10 +361,16 @@ red_same x g h false r k = ap (λ b. cond b (unwrap_or g 0 + 1) 0) r ∙ sym (ap
 
 -- the site after it made this message
 abbrev pub makes : ℕ → World → ℕ → Shadow → World
-makes keep w i x = record { sites = slice_set w.sites i (after_made (place keep w i) (site w i) x); sent = w.sent ++ packet.Msg (made (place keep w i) (site w i) x) ∷ [] }
+makes keep w i x = record {
+  sites = slice_set w.sites i (after_made (place keep w i) (site w i) x);
+  sent = w.sent
+      ++ packet.Msg (made (place keep w i) (site w i) x) ∷ [];
+}
 
-module _ (n keep i : ℕ) (some : 1 ≤ n) (few : keep ≤ 1000000) (inside : i < n) (w v : World) (rw : Reached n keep w) (tokens : List Token) (all : List Message) (a : Ask) (x : Shadow)
-    (limits : IsAsk n a) (e : decision (rows_at (site w i).log) (standing_of keep (site w i)) a ≡ Ok x) (p : IsPrepared n keep i w v tokens all (made (place keep w i) (site w i) x)) (sellers : TellSellers all (rows_at (site w i).log)) where
+module _ (n keep i : ℕ) (some : 1 ≤ n) (few : keep ≤ 1000000) (inside : i < n) (w v : World) (rw : Reached n keep w) (tokens : List Token) (all : List Message)
+    (a : Ask) (x : Shadow)
+    (limits : IsAsk n a) (e : decision (rows_at (site w i).log) (standing_of keep (site w i)) a ≡ Ok x)
+    (p : IsPrepared n keep i w v tokens all (made (place keep w i) (site w i) x)) (sellers : TellSellers all (rows_at (site w i).log)) where
   sound_w : Sound w
   sound_w = sound_of n keep w some few rw
 
@@ -348,7 +388,8 @@ module _ (n keep i : ℕ) (some : 1 ≤ n) (few : keep ≤ 1000000) (inside : i 
 
   rows : rows_at (site p.next i).log ≡ rows_at (site w i).log
   rows = ap row_by_key (equal_sets_equal_tables (cores (site p.next i).log) (cores (site w i).log) (log_checked p.next i sound_p) (log_checked w i sound_w)
-      (short keep p.next i few (room_in n keep p.next some few p.fed.reached)) (short keep w i few (room_in n keep w some few rw)) (same_cores (site p.next i).log (site w i).log both))
+      (short keep p.next i few (room_in n keep p.next some few p.fed.reached)) (short keep w i few (room_in n keep w some few rw))
+      (same_cores (site p.next i).log (site w i).log both))
 
   counts_same : (j : ℕ) → counted j (site p.next i).log ≡ counted j (site w i).log
   counts_same = same_counts (site p.next i).log (site w i).log (sound_p.good i).released (sound_w.good i).released back p.caught.there
@@ -363,7 +404,8 @@ module _ (n keep i : ℕ) (some : 1 ≤ n) (few : keep ≤ 1000000) (inside : i 
       not_over keep (length (site p.next i).log) (length (site p.next i).waiting) (omega (arith, l, r, ap length p.caught.none_waits))
 
   current : is_red x ≡ true → (standing_of keep (site p.next i)).current ≡ true
-  current q = (λ j. option_map_or (λ issued. reds_are j == issued) ((p.red q).0 j) false) ∙ (red_allowed (rows_at (site w i).log) (standing_of keep (site w i)) a x e q).1
+  current q = (λ j. option_map_or (λ issued. reds_are j == issued) ((p.red q).0 j) false)
+      ∙ (red_allowed (rows_at (site w i).log) (standing_of keep (site w i)) a x e q).1
 
   decided : decision (rows_at (site p.next i).log) (standing_of keep (site p.next i)) (ask_of all x) ≡ Ok x
   decided = subst (λ t. decision t (standing_of keep (site p.next i)) (ask_of all x) ≡ Ok x) (sym rows)
@@ -372,7 +414,8 @@ module _ (n keep i : ℕ) (some : 1 ≤ n) (few : keep ≤ 1000000) (inside : i 
 
   message : made (place keep p.next i) (site p.next i) x ≡ made (place keep w i) (site w i) x
   message =
-      let q : counts (length p.next.sites) (site p.next i).log ≡ counts (length w.sites) (site w i).log = λ j. map (λ y. counts_same y j) (range_with_len 0 (p.fed.alike.sites j)) in
+      let q : counts (length p.next.sites) (site p.next i).log
+      ≡ counts (length w.sites) (site w i).log = λ j. map (λ y. counts_same y j) (range_with_len 0 (p.fed.alike.sites j)) in
       let r = red_same x (site p.next i).held (site w i).held (is_red x) refl (λ b. (p.red b).0) in
       λ j. record { stamp = record { id = record { site = i; seq = counts_same i j + 1 }; red = r j; deps = q j }; shadow = x }
 
@@ -384,7 +427,9 @@ module _ (n keep i : ℕ) (some : 1 ≤ n) (few : keep ≤ 1000000) (inside : i 
       let again = ask_of all x in
       let same : again ≡ a = asks_same (rows_at (site w i).log) (standing_of keep (site w i)) all sellers a x e in
       subst (Reached n keep)
-      (ap (λ (y : World × Result Happened Refusal). y.0) (at_inside p.next i (requested keep p.next i (request.Ask again)) (subst (λ k. i < k) (sym (sites_of_run n keep p.next some few p.fed.reached)) inside))
+      (ap (λ (y : World × Result Happened Refusal). y.0)
+      (at_inside p.next i (requested keep p.next i (request.Ask again))
+      (subst (λ k. i < k) (sym (sites_of_run n keep p.next some few p.fed.reached)) inside))
       ∙ ap (λ d. answering packet.Msg p.next i (generating (place keep p.next i) (site p.next i) d)) decided)
       (reach_on n keep p.next (At i (request.Ask again)) p.fed.reached (subst (IsAsk n) (sym same) limits))
 
@@ -396,21 +441,26 @@ module _ (n keep i : ℕ) (some : 1 ≤ n) (few : keep ≤ 1000000) (inside : i 
 
   grows : (u : Message) → Has u ((site w i).log ++ made (place keep w i) (site w i) x ∷ []) → Has u (site (makes keep w i x) i).log
   grows u h = subst (λ (s : Replica). Has u s.log) (sym here_now)
-      (has_reverse u (after_made (place keep w i) (site w i) x).log (settle_grows u (length (site w i).waiting) ((site w i).log ++ made (place keep w i) (site w i) x ∷ []) (site w i).waiting (has_back u ((site w i).log ++ made (place keep w i) (site w i) x ∷ []) h)))
+      (has_reverse u (after_made (place keep w i) (site w i) x).log
+      (settle_grows u (length (site w i).waiting) ((site w i).log ++ made (place keep w i) (site w i) x ∷ []) (site w i).waiting
+      (has_back u ((site w i).log ++ made (place keep w i) (site w i) x ∷ []) h)))
 
   -- what the site has now is what it had, or the new message
   had_now : (u : Message) → Had (site (makes keep p.next i x) i) u → Has u (site p.next i).log ⊎ (u ≡ made (place keep p.next i) (site p.next i) x)
   had_now u h =
       let s = site p.next i in
       let m = made (place keep p.next i) (site p.next i) x in
-      let q : Had (record s { log = s.log ++ m ∷ []; held = issued_after x s.held }) u = settled_from (record s { log = s.log ++ m ∷ []; held = issued_after x s.held }) u (subst (λ y. Had y u) there_now h) in
+      let q : Had (record s { log = s.log ++ m ∷ []; held = issued_after x s.held }) u =
+      settled_from (record s { log = s.log ++ m ∷ []; held = issued_after x s.held }) u (subst (λ y. Had y u) there_now h) in
       ⊎_elim (λ c. push_cases u m s.log c) (λ c. absurd (subst (Has u) p.caught.none_waits c)) q
 
   alike_now : InPlaceOf i (makes keep w i x) (makes keep p.next i x)
   alike_now = record {
     sent = λ j. p.fed.alike.sent j ++ packet.Msg (message j) ∷ [];
-    sites = length-set p.next.sites i (after_made (place keep p.next i) (site p.next i) x) ∙ p.fed.alike.sites ∙ sym (length-set w.sites i (after_made (place keep w i) (site w i) x));
-    others = λ q c. get_or-set_other p.next.sites i q (after_made (place keep p.next i) (site p.next i) x) (opening_at 1) c ∙ p.fed.alike.others q c ∙ sym (get_or-set_other w.sites i q (after_made (place keep w i) (site w i) x) (opening_at 1) c);
+    sites = length-set p.next.sites i (after_made (place keep p.next i) (site p.next i) x) ∙ p.fed.alike.sites
+        ∙ sym (length-set w.sites i (after_made (place keep w i) (site w i) x));
+    others = λ q c. get_or-set_other p.next.sites i q (after_made (place keep p.next i) (site p.next i) x) (opening_at 1) c ∙ p.fed.alike.others q c
+        ∙ sym (get_or-set_other w.sites i q (after_made (place keep w i) (site w i) x) (opening_at 1) c);
   }
 
   token_now : (b : Bool) → is_red x ≡ b → TokenKept i (site (makes keep p.next i x) i) (site (makes keep w i x) i) (makes keep w i x).sent tokens
@@ -418,7 +468,8 @@ module _ (n keep i : ℕ) (some : 1 ≤ n) (few : keep ≤ 1000000) (inside : i 
     ap (λ (s : Replica). s.held) there_now ∙ ap (issued_after x) (p.red r).0 ∙ sym (ap (λ (s : Replica). s.held) here_now),
     ap (λ (s : Replica). s.last) there_now ∙ (p.red r).1 ∙ sym (ap (λ (s : Replica). s.last) here_now),
   )
-  token_now false r = kept_same i (site p.next i) (site (makes keep p.next i x) i) (site w i) (site (makes keep w i x) i) w.sent (packet.Msg (made (place keep w i) (site w i) x) ∷ []) tokens
+  token_now false r = kept_same i (site p.next i) (site (makes keep p.next i x) i) (site w i) (site (makes keep w i x) i) w.sent
+      (packet.Msg (made (place keep w i) (site w i) x) ∷ []) tokens
       (ap (λ (s : Replica). s.held) there_now ∙ blue_stays x (site p.next i).held r) (ap (λ (s : Replica). s.last) there_now)
       (ap (λ (s : Replica). s.held) here_now ∙ blue_stays x (site w i).held r) (ap (λ (s : Replica). s.last) here_now) p.token
 
@@ -436,10 +487,12 @@ module _ (n keep i : ℕ) (some : 1 ≤ n) (few : keep ≤ 1000000) (inside : i 
         reached = reached_there;
         alike = alike_now;
         within = λ u h. ⊎_elim (λ c. grows u (has_left u (site w i).log (made (place keep w i) (site w i) x ∷ []) (back u c)))
-            (λ c. grows u (subst (λ y. Has y ((site w i).log ++ made (place keep w i) (site w i) x ∷ [])) (sym (c ∙ message)) (has_last (made (place keep w i) (site w i) x) (site w i).log)))
+            (λ c. grows u (subst (λ y. Has y ((site w i).log ++ made (place keep w i) (site w i) x ∷ [])) (sym (c ∙ message))
+            (has_last (made (place keep w i) (site w i) x) (site w i).log)))
             (had_now u h);
       };
-      none_waits = ap (λ (s : Replica). s.waiting) there_now ∙ ap (λ ws. (settle (length ws) ((site p.next i).log ++ made (place keep p.next i) (site p.next i) x ∷ []) ws).1) p.caught.none_waits;
+      none_waits = ap (λ (s : Replica). s.waiting) there_now
+          ∙ ap (λ ws. (settle (length ws) ((site p.next i).log ++ made (place keep p.next i) (site p.next i) x ∷ []) ws).1) p.caught.none_waits;
       token = token_now (is_red x) refl;
       before = λ u h. ⊎_elim
           (λ c. inr (made (place keep w i) (site w i) x, has_last (packet.Msg (made (place keep w i) (site w i) x)) w.sent, refl, precedes u (back u c)))

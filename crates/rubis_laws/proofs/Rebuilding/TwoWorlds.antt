@@ -1,5 +1,6 @@
 -- Two worlds that differ at one site, and what that site is given.
-use Rattle.std.proofs.Common.{◌≡◌, ◌∙◌, ℕ, ◌+◌, ◌≤◌, ◌<◌, Bool, true, false, cond, Option, Some, None, List, [], ◌∷◌, ◌++◌, length, get_or, set, refl, sym, ap, subst, inl, inr, ⊎_elim, arith}
+use Rattle.std.proofs.Common.{◌≡◌, ◌∙◌, ℕ, ◌+◌, ◌≤◌, ◌<◌, Bool, true, false, cond, Option, Some, None, List, [], ◌∷◌, ◌++◌, length, get_or, set, refl, sym, ap}
+use Rattle.std.proofs.Common.{subst, inl, inr, ⊎_elim, arith}
 use Rattle.std.specs.Prelude.{◌⊎◌, reverse, filter, nat_lt, slice_set, ◌==◌, Result, Ok, Err}
 use Rattle.std.proofs.lemmas.Bool.{cases_lt, cases_eq, cond_both, and_parts, eqb-true, leb-true}
 use Rattle.std.proofs.lemmas.Bool.Decides.{nat_tests}
@@ -22,7 +23,8 @@ use Rattle.rubis_model.specs.Settle.{Has, Settles, counted, reds, settle}
 use Rattle.rubis_model.specs.Settle.Settles.{Rest, Release}
 use Rattle.rubis_model.specs.Site.{Place, Replica, opening_at, settled, not_ours, is_repeat, is_full, after_came, arrived, asked, took, passed}
 use Rattle.rubis_model.specs.Sound.{Sound, Room}
-use Rattle.rubis_model.specs.System.{World, Event, IsEvent, AreEvents, site, place, with_site, packet_at, sending, at_site, requested, coming, happens, run, start}
+use Rattle.rubis_model.specs.System.{World, Event, IsEvent, AreEvents, site, place, with_site, packet_at, sending, at_site, requested, coming, happens, run}
+use Rattle.rubis_model.specs.System.{start}
 use Rattle.rubis_model.specs.System.Event.{At, Deliver}
 use Rattle.rubis_model.proofs.Lists.{has_left, has_right, has_append, push_cases, has_back, has_reverse}
 use Rattle.rubis_model.proofs.OneOutcome.{settle_settles}
@@ -56,7 +58,8 @@ both_set i j w v x y l k e q n = ⊎_elim
     (cases_eq q j)
 
 pub alike_sending : (i j : ℕ) (w v : World) (x y : Replica) (sent sent' : List Packet) → j < length w.sites → InPlaceOf i w v → y ≡ x
-    → sent' ≡ sent → InPlaceOf i (record { sites = slice_set w.sites j x; sent = w.sent ++ sent }) (record { sites = slice_set v.sites j y; sent = v.sent ++ sent' })
+    → sent' ≡ sent → InPlaceOf i (record { sites = slice_set w.sites j x; sent = w.sent ++ sent })
+    (record { sites = slice_set v.sites j y; sent = v.sent ++ sent' })
 alike_sending i j w v x y sent sent' l k e f = record {
   sent = λ q. k.sent q ++ f q;
   sites = length-set v.sites j y ∙ k.sites ∙ sym (length-set w.sites j x);
@@ -77,16 +80,21 @@ module _ (keep i j : ℕ) (w v : World) (n : j ≡ i → ⊥) (k : InPlaceOf i w
   alike_requested : (r : Request) → InPlaceOf i (requested keep w j r).0 (requested keep v j r).0
   alike_requested (request.Ask a) =
       let e : asked (place keep v j) (site v j) a ≡ asked (place keep w j) (site w j) a = λ q. asked (same_place q) (k.others j n q) a in
-      alike_sending i j w v (asked (place keep w j) (site w j) a).0 (asked (place keep v j) (site v j) a).0 (sending packet.Msg (asked (place keep w j) (site w j) a).1) (sending packet.Msg (asked (place keep v j) (site v j) a).1) l k (λ q. (e q).0) (λ q. sending packet.Msg (e q).1)
+      alike_sending i j w v (asked (place keep w j) (site w j) a).0 (asked (place keep v j) (site v j) a).0
+      (sending packet.Msg (asked (place keep w j) (site w j) a).1) (sending packet.Msg (asked (place keep v j) (site v j) a).1) l k (λ q. (e q).0)
+      (λ q. sending packet.Msg (e q).1)
   alike_requested (request.Pass to) =
       let e : passed (place keep v j) (site v j) to ≡ passed (place keep w j) (site w j) to = λ q. passed (same_place q) (k.others j n q) to in
-      alike_sending i j w v (passed (place keep w j) (site w j) to).0 (passed (place keep v j) (site v j) to).0 (sending packet.Token (passed (place keep w j) (site w j) to).1) (sending packet.Token (passed (place keep v j) (site v j) to).1) l k (λ q. (e q).0) (λ q. sending packet.Token (e q).1)
+      alike_sending i j w v (passed (place keep w j) (site w j) to).0 (passed (place keep v j) (site v j) to).0
+      (sending packet.Token (passed (place keep w j) (site w j) to).1) (sending packet.Token (passed (place keep v j) (site v j) to).1) l k (λ q. (e q).0)
+      (λ q. sending packet.Token (e q).1)
   alike_requested (request.List x) = k
 
   alike_coming : (o : Option Packet) → InPlaceOf i (coming keep w j o).0 (coming keep v j o).0
   alike_coming None = k
   alike_coming (Some (packet.Msg m)) =
-      alike_taking i j w v (arrived (place keep w j) (site w j) m).0 (arrived (place keep v j) (site v j) m).0 l k (λ q. (arrived (same_place q) (k.others j n q) m).0)
+      alike_taking i j w v (arrived (place keep w j) (site w j) m).0 (arrived (place keep v j) (site v j) m).0 l k
+      (λ q. (arrived (same_place q) (k.others j n q) m).0)
   alike_coming (Some (packet.Token t)) =
       alike_taking i j w v (took (place keep w j) (site w j) t).0 (took (place keep v j) (site v j) t).0 l k (λ q. (took (same_place q) (k.others j n q) t).0)
 
@@ -106,7 +114,8 @@ alike_at i j w v a b k h = ⊎_elim
 pub alike_event : (keep i : ℕ) (w v : World) (e : Event) → (site_of e ≡ i → ⊥) → InPlaceOf i w v → InPlaceOf i (happens keep w e).0 (happens keep v e).0
 alike_event keep i w v (At j r) n k = alike_at i j w v (requested keep w j r) (requested keep v j r) k (λ l. alike_requested keep i j w v n k l r)
 alike_event keep i w v (Deliver j q) n k = alike_at i j w v (coming keep w j (packet_at w.sent q)) (coming keep v j (packet_at v.sent q)) k
-    (λ l. subst (λ ps. InPlaceOf i (coming keep w j (packet_at w.sent q)).0 (coming keep v j (packet_at ps q)).0) (sym k.sent) (alike_coming keep i j w v n k l (packet_at w.sent q)))
+    (λ l. subst (λ ps. InPlaceOf i (coming keep w j (packet_at w.sent q)).0 (coming keep v j (packet_at ps q)).0) (sym k.sent)
+    (alike_coming keep i j w v n k l (packet_at w.sent q)))
 
 -- another state at site i
 pub alike_there : (i : ℕ) (w v : World) (y : Replica) → InPlaceOf i w v → InPlaceOf i w (with_site v i y)
@@ -204,7 +213,8 @@ settles_from m _ _ _ _ (Release log front back log' waiting' u n r s) h =
     between k = ⊎_elim (λ l. has_left m front (u ∷ back) l) (λ q. has_right m front (u ∷ back) (inr q)) (has_append m front back k)
 
 pub settled_from : (s : Replica) (m : Message) → Had (settled s) m → Had s m
-settled_from s m h = settles_from m s.log s.waiting (settle (length s.waiting) s.log s.waiting).0 (settle (length s.waiting) s.log s.waiting).1 (settle_settles (length s.waiting) s.log s.waiting (omega arith)) h
+settled_from s m h = settles_from m s.log s.waiting (settle (length s.waiting) s.log s.waiting).0 (settle (length s.waiting) s.log s.waiting).1
+    (settle_settles (length s.waiting) s.log s.waiting (omega arith)) h
 
 came_from : (s : Replica) (m u : Message) → Had (after_came s m) u → Had s u ⊎ (u ≡ m)
 came_from s m u h = ⊎_elim (λ l. inl (inl l)) (λ q. ⊎_elim (λ k. inl (inr k)) (λ e. inr e) (push_cases u m s.waiting q))
@@ -263,7 +273,8 @@ module _ (n keep i : ℕ) (some : 1 ≤ n) (few : keep ≤ 1000000) (inside : i 
   delivering v p r h =
       let k = number_of p v.sent h in
       subst (Reached n keep)
-      (ap (λ (x : World × Result Happened Refusal). x.0) (at_inside v i (coming keep v i (packet_at v.sent k.0)) (is_within v r)) ∙ ap (λ o. (coming keep v i o).0) k.1)
+      (ap (λ (x : World × Result Happened Refusal). x.0) (at_inside v i (coming keep v i (packet_at v.sent k.0)) (is_within v r))
+      ∙ ap (λ o. (coming keep v i o).0) k.1)
       (reach_on n keep v (Deliver i k.0) r tt)
 
   pub site_set : (v : World) (x : Replica) → Reached n keep v → site (with_site v i x) i ≡ x
@@ -276,9 +287,11 @@ module _ (n keep i : ℕ) (some : 1 ≤ n) (few : keep ≤ 1000000) (inside : i 
       let r = rest_of n keep v some few f.reached in
       cond_both (not_ours (place keep v i) (site v i) u) (site v i, Err NotOurs) _ (λ (q : Replica × Result Arrival Refusal). Had q.0 u)
       (λ e. absurd (not_own (eqb-true u.stamp.id.site i (and_parts (u.stamp.id.site == i) (nat_lt (counted i (site v i).log) u.stamp.id.seq) e).0)))
-      (λ _. cond_both (is_repeat (site v i) u) (site v i, Ok arrival.Repeat) _ (λ (q : Replica × Result Arrival Refusal). Had q.0 u) (λ e. repeat_had v s r i u a e)
+      (λ _. cond_both (is_repeat (site v i) u) (site v i, Ok arrival.Repeat) _ (λ (q : Replica × Result Arrival Refusal). Had q.0 u)
+      (λ e. repeat_had v s r i u a e)
       (λ new. cond_both (is_full keep (site v i)) (site v i, Err Full) _ (λ (q : Replica × Result Arrival Refusal). Had q.0 u)
-      (λ e. absurd (let k = leb-true keep (length (site v i).log + length (site v i).waiting) e in let l = fewer_than v i u (site w i).log s r f.within h new in omega (arith, k, l, room)))
+      (λ e. absurd (let k = leb-true keep (length (site v i).log + length (site v i).waiting) e in let l = fewer_than v i u (site w i).log s r f.within h new in
+      omega (arith, k, l, room)))
       (λ _. came_had (site v i) u u (inr refl))))
 
   give_one : (room : length (site w i).log < keep) (v : World) (u : Message) → Fed n keep i w v → Sent w u → Has u (site w i).log → (u.stamp.id.site ≡ i → ⊥)
@@ -291,7 +304,8 @@ module _ (n keep i : ℕ) (some : 1 ≤ n) (few : keep ≤ 1000000) (inside : i 
         fed = record {
           reached = delivering v (packet.Msg u) f.reached b;
           alike = alike_there i w v x f.alike;
-          within = λ y k. ⊎_elim (λ q. f.within y q) (λ q. subst (λ m. Has m (site w i).log) (sym q) h) (arrived_from (place keep v i) (site v i) u y (subst (λ q. Had q y) e k));
+          within = λ y k. ⊎_elim (λ q. f.within y q) (λ q. subst (λ m. Has m (site w i).log) (sym q) h)
+              (arrived_from (place keep v i) (site v i) u y (subst (λ q. Had q y) e k));
         };
         state = e ∙ ap (λ p. (arrived p (site v i) u).0) (at_place v f.reached);
         had = λ y k. subst (λ q. Had q y) (sym e) (⊎_elim
@@ -324,17 +338,22 @@ module _ (n keep i : ℕ) (some : 1 ≤ n) (few : keep ≤ 1000000) (inside : i 
     rest_there : AllRest v
     rest_there = rest_of n keep v some few f.reached
 
-    one_there : (past : List Message) (m : Message) → Released (m ∷ past) → Sent v m → ((x : Message) → Has x past → Has x (reverse (site v i).log)) → Had (site v i) m
+    one_there : (past : List Message) (m : Message) → Released (m ∷ past) → Sent v m → ((x : Message) → Has x past → Has x (reverse (site v i).log)) →
+        Had (site v i) m
         → Has m (reverse (site v i).log)
     one_there past m p a within had = ⊎_elim (λ h. has_back m (site v i).log h)
-        (λ h. absurd ((rests_at v i rest_there).unready m h (ready_forth (site v i).log m (still_ready v past (reverse (site v i).log) m sound_there p (sound_there.good i).released (sound_there.good i).log_sent a within (λ l. (rests_at v i rest_there).apart.not_logged m h (has_reverse m (site v i).log l))))))
+        (λ h. absurd ((rests_at v i rest_there).unready m h
+        (ready_forth (site v i).log m
+        (still_ready v past (reverse (site v i).log) m sound_there p (sound_there.good i).released (sound_there.good i).log_sent a within
+        (λ l. (rests_at v i rest_there).apart.not_logged m h (has_reverse m (site v i).log l))))))
         had
 
     past_there : (past : List Message) → Released past → ((x : Message) → Has x past → Sent v x) → ((x : Message) → Has x past → Had (site v i) x)
         → (x : Message) → Has x past → Has x (reverse (site v i).log)
     past_there [] p all had x h = absurd h
     past_there (m ∷ past) p all had x (inl e) =
-        subst (λ q. Has q (reverse (site v i).log)) (sym e) (one_there past m p (all m (inl refl)) (past_there past p.1 (λ y k. all y (inr k)) (λ y k. had y (inr k))) (had m (inl refl)))
+        subst (λ q. Has q (reverse (site v i).log)) (sym e)
+        (one_there past m p (all m (inl refl)) (past_there past p.1 (λ y k. all y (inr k)) (λ y k. had y (inr k))) (had m (inl refl)))
     past_there (m ∷ past) p all had x (inr h) = past_there past p.1 (λ y k. all y (inr k)) (λ y k. had y (inr k)) x h
 
     pub caught_up : Reached n keep w → ((u : Message) → Has u (site w i).log → Had (site v i) u) → HasCaughtUp i w v
@@ -347,4 +366,6 @@ module _ (n keep i : ℕ) (some : 1 ≤ n) (few : keep ≤ 1000000) (inside : i 
         sw = sound_of n keep w some few rw
 
         there : (u : Message) → Has u (site w i).log → Has u (site v i).log
-        there u h = has_reverse u (site v i).log (past_there (reverse (site w i).log) (sw.good i).released (λ x k. subst (Has (packet.Msg x)) (sym f.alike.sent) ((sw.good i).log_sent x k)) (λ x k. had x (has_reverse x (site w i).log k)) u (has_back u (site w i).log h))
+        there u h = has_reverse u (site v i).log
+            (past_there (reverse (site w i).log) (sw.good i).released (λ x k. subst (Has (packet.Msg x)) (sym f.alike.sent) ((sw.good i).log_sent x k))
+            (λ x k. had x (has_reverse x (site w i).log k)) u (has_back u (site w i).log h))

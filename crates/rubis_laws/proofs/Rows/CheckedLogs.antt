@@ -1,5 +1,6 @@
 -- What every checked log keeps: sums within the types, nothing said of a row that isn't there, red numbers that rise.
-use Rattle.std.proofs.Common.{ℕ, ◌≡◌, ◌+◌, ◌*◌, ◌≤◌, ◌<◌, List, [], ◌∷◌, ◌++◌, length, Bool, true, false, cond, refl, sym, ap, ◌∙◌, subst, arith, Option, Some, None, length-append}
+use Rattle.std.proofs.Common.{ℕ, ◌≡◌, ◌+◌, ◌*◌, ◌≤◌, ◌<◌, List, [], ◌∷◌, ◌++◌, length, Bool, true, false, cond, refl, sym, ap, ◌∙◌, subst, arith, Option, Some}
+use Rattle.std.proofs.Common.{None, length-append}
 use Rattle.std.specs.Prelude.{ℤ, pos, ◌+ℤ◌, ◌&&◌, IfSome, unsigned_abs}
 use Rattle.std.specs.Option.{option_or}
 use Rattle.std.proofs.lemmas.Int.{ints}
@@ -12,7 +13,9 @@ use Rattle.rubis_shadow.specs.declared.shadows.Shadow.{Shadow}
 use Rattle.rubis_shadow.specs.declared.shadows.Shadow.TheVariants.{User, Item, Buy, Rename}
 use Rattle.rubis_model.specs.Log.{Core}
 use Rattle.rubis_schema.specs.Keys.{same_id}
-use Rattle.rubis_model.specs.Meaning.{count, total, int_sum_by, choose, choice, user_at, item_at, as_user, as_item, lists_item_of, bought_by, rates, rating_for, sold_of, restocked_of, bids_on, closes, when, supply, best_bid, close_of, higher, earlier, later, last_rename, nick_at, renames}
+use Rattle.rubis_model.specs.Meaning.{count, total, int_sum_by, choose, choice, user_at, item_at, as_user, as_item, lists_item_of, bought_by, rates, rating_for}
+use Rattle.rubis_model.specs.Meaning.{sold_of, restocked_of, bids_on, closes, when, supply, best_bid, close_of, higher, earlier, later, last_rename, nick_at}
+use Rattle.rubis_model.specs.Meaning.{renames}
 use Rattle.rubis_shadow.specs.Shadows.{is_red}
 use Rattle.rubis_model.specs.Checks.{Follows, IsLimited}
 use Rattle.rubis_schema.specs.KeyLaws.{Decides-same_id}
@@ -75,7 +78,8 @@ if_some_both (Some x) f h k = f x h k
 -- no other item, and q pieces of this one bought
 stocked : (i : Id) (a : List Core) (m : Core) (q : ℕ) → sold_of i m.shadow ≡ q → (n : NewItem) → total (sold_of i) a + q ≤ supply a i n
     → Stocked a i n → Stocked (a ++ m ∷ []) i n
-stocked i a m q e n l h = record { enough = (let t = total_push (sold_of i) a m in let k = total_push (restocked_of i) a m in omega (arith, t, k, e, l)); opening = h.opening }
+stocked i a m q e n l h =
+    record { enough = (let t = total_push (sold_of i) a m in let k = total_push (restocked_of i) a m in omega (arith, t, k, e, l)); opening = h.opening }
 
 none_sold : (i : Id) (a : List Core) (n : NewItem) → Stocked a i n → total (sold_of i) a + 0 ≤ supply a i n
 none_sold i a n h = let e = h.enough in omega (arith, e)
@@ -113,7 +117,8 @@ abs_sum a b = grind (arith, ints)
 pub more_reds : (a : List Core) (m : Core) → m.red ≡ cond (is_red m.shadow) (count is_red a + 1) 0
     → m.red ≤ count is_red a + cond (is_red m.shadow) 1 0
 more_reds a m e =
-    elim (is_red m.shadow) as (λ b. m.red ≡ cond b (count is_red a + 1) 0 → m.red ≤ count is_red a + cond b 1 0) [ true ↦ λ h. omega arith | false ↦ λ h. omega arith ] e
+    elim (is_red m.shadow) as (λ b. m.red ≡ cond b (count is_red a + 1) 0 → m.red ≤ count is_red a + cond b 1 0)
+    [ true ↦ λ h. omega arith | false ↦ λ h. omega arith ] e
 
 choice_red : (n k : ℕ) (beats : Core → Core → Bool) (p : Core → Bool) (o : Option Core) (m : Core) → n ≤ k → m.red ≤ k → IfSome o (λ x. x.red ≤ n)
     → IfSome (choice beats p o m) (λ x. x.red ≤ k)
@@ -124,7 +129,8 @@ choice_red n k beats p (Some x) m le r h =
 
 -- ---- nicknames
 
-pub user_gives : (a : List Core) (s : Head) (k : List ℕ) → Good a → Follows a (msg s (User k)) → (v : Id) → nick_at v (a ++ msg s (User k) ∷ []) ≡ cond (same_id v s.id) (Some k) (nick_at v a)
+pub user_gives : (a : List Core) (s : Head) (k : List ℕ) → Good a → Follows a (msg s (User k)) → (v : Id) → nick_at v (a ++ msg s (User k) ∷ [])
+    ≡ cond (same_id v s.id) (Some k) (nick_at v a)
 user_gives a s k g f v =
     let none : user_at s.id a ≡ None = none_at (λ m. as_user m.shadow) s.id a f.new_id in
     nick_push_user v a s k none (g.no_user s.id none).rename
@@ -140,9 +146,11 @@ rename_gives a s r g f v =
 
 nicks_push : (a : List Core) (s : Head) (x : Shadow) → Good a → Follows a (msg s x) → Unique (λ u. nick_at u (a ++ msg s x ∷ []))
 nicks_push a s (User k) g f =
-    unique_given (λ u. nick_at u a) (λ u. nick_at u (a ++ msg s (User k) ∷ [])) s.id k (user_gives a s k g f) g.nicks (not_named k a (by_kind a (User k) f.fits))
+    unique_given (λ u. nick_at u a) (λ u. nick_at u (a ++ msg s (User k) ∷ [])) s.id k (user_gives a s k g f) g.nicks
+    (not_named k a (by_kind a (User k) f.fits))
 nicks_push a s (Rename r) g f =
-    unique_given (λ u. nick_at u a) (λ u. nick_at u (a ++ msg s (Rename r) ∷ [])) r.user r.to (rename_gives a s r g f) g.nicks (not_named r.to a (by_kind a (Rename r) f.fits).1)
+    unique_given (λ u. nick_at u a) (λ u. nick_at u (a ++ msg s (Rename r) ∷ [])) r.user r.to (rename_gives a s r g f) g.nicks
+    (not_named r.to a (by_kind a (Rename r) f.fits).1)
 nicks_push a s x g f = λ n u v p q. g.nicks n u v (sym (keeps_nicks u a (msg s x) refl) ∙ p) (sym (keeps_nicks v a (msg s x) refl) ∙ q)
 
 -- ---- one more message

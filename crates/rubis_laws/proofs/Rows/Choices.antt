@@ -32,7 +32,10 @@ above_itself a r = grind (arith, nat_tests)
 
 pub higher_ranks : Ranks higher
 higher_ranks =
-    record { keeps = λ n old m. above_keeps (amount_of n.shadow) n.red (amount_of old.shadow) old.red (amount_of m.shadow) m.red; itself = λ m. above_itself (amount_of m.shadow) m.red }
+    record {
+      keeps = λ n old m. above_keeps (amount_of n.shadow) n.red (amount_of old.shadow) old.red (amount_of m.shadow) m.red;
+      itself = λ m. above_itself (amount_of m.shadow) m.red;
+    }
 
 pub earlier_apart : (m n : Core) → earlier m n ≡ false → earlier n m ≡ false → m.red ≡ n.red
 earlier_apart m n p q = at m.red n.red p q
@@ -85,7 +88,8 @@ module _ {beats : Core → Core → Bool} (ranks : Ranks beats) (p : Core → Bo
       there = member_right a (m ∷ []) m (inl refl);
       passes = (both _ _ e).0;
       unbeaten =
-          λ n h q. last_of a m n (λ k. p k ≡ true → beats k m ≡ false) (λ l r. ranks.keeps n old m (ih.unbeaten n l r) (both _ _ e).1) (λ r. ranks.itself m) h q;
+          λ n h q. last_of a m n (λ k. p k ≡ true → beats k m ≡ false) (λ l r. ranks.keeps n old m (ih.unbeaten n l r) (both _ _ e).1)
+          (λ r. ranks.itself m) h q;
     }
     | false ↦ λ e. record {
       there = member_left a (m ∷ []) old ih.there;

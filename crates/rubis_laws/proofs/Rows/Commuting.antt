@@ -1,5 +1,6 @@
 -- A blue message and another one may follow a log in either order.
-use Rattle.std.proofs.Common.{ℕ, ◌≡◌, ◌+◌, List, [], ◌∷◌, ◌++◌, Bool, true, false, cond, length-append, refl, sym, ap, ◌∙◌, subst, arith, None, Some, inl, inr, ⊎_elim, append_assoc}
+use Rattle.std.proofs.Common.{ℕ, ◌≡◌, ◌+◌, List, [], ◌∷◌, ◌++◌, Bool, true, false, cond, length-append, refl, sym, ap, ◌∙◌, subst, arith, None, Some, inl, inr}
+use Rattle.std.proofs.Common.{⊎_elim, append_assoc}
 use Rattle.std.specs.Option.{option_or}
 use mathlib.Core.Bool.{true≢false}
 use Rattle.rubis_schema.specs.Keys.{same_id}
@@ -23,7 +24,8 @@ still_new log u v new other =
     not_same true e = absurd (other (sym ((Decides-same_id v.id u.id).0 e)))
     not_same false e = e
 
-module _ (log : List Core) (u v : Core) (checked : Checked log) (fu : Follows log u) (fv : Follows log v) (other : ¬ (u.id ≡ v.id)) (blue : is_red u.shadow ≡ false) where
+module _ (log : List Core) (u v : Core) (checked : Checked log) (fu : Follows log u) (fv : Follows log v) (other : ¬ (u.id ≡ v.id))
+    (blue : is_red u.shadow ≡ false) where
   apart : Apart log
   apart = checked_apart log checked
 
@@ -39,7 +41,8 @@ module _ (log : List Core) (u v : Core) (checked : Checked log) (fu : Follows lo
       }
     where
       back : is_red v.shadow ≡ true → (m : Core) → Member (log ++ u ∷ []) m → is_red m.shadow ≡ true → Member log m
-      back e m h red = ⊎_elim (λ k. k) (λ k. ⊎_elim (λ q. absurd (true≢false (sym red ∙ ap (λ (x : Core). is_red x.shadow) (sym q) ∙ blue))) (λ z. absurd z) k) (member_append log (u ∷ []) m h)
+      back e m h red = ⊎_elim (λ k. k) (λ k. ⊎_elim (λ q. absurd (true≢false (sym red ∙ ap (λ (x : Core). is_red x.shadow) (sym q) ∙ blue))) (λ z. absurd z) k)
+          (member_append log (u ∷ []) m h)
 
   -- and the blue one after the other one
   blue_follows : Follows (log ++ v ∷ []) u
@@ -47,7 +50,8 @@ module _ (log : List Core) (u v : Core) (checked : Checked log) (fu : Follows lo
       let after = apart_push log v apart fv in record {
         new_id = still_new log v u fu.new_id (λ e. other (sym e));
         next_red = fu.next_red ∙ (λ i. cond (blue i) (count is_red log + 1) 0) ∙ (λ i. cond (sym blue i) (count is_red (log ++ v ∷ []) + 1) 0);
-        fits = fits_on log (log ++ v ∷ []) (λ m h. member_left log (v ∷ []) m h) apart.ids after.ids after.reds u.shadow (λ e. absurd (true≢false (sym e ∙ blue))) fu.fits;
+        fits = fits_on log (log ++ v ∷ []) (λ m h. member_left log (v ∷ []) m h) apart.ids after.ids after.reds u.shadow
+            (λ e. absurd (true≢false (sym e ∙ blue))) fu.fits;
         limits = fu.limits;
       }
 
@@ -71,6 +75,7 @@ pub blue_messages_commute : BlueMessagesCommute
 blue_messages_commute log u v checked fu fv other blue few = record {
   one = one_order log u v checked fu fv other blue;
   other = other_order log u v checked fu fv other blue;
-  tables = equal_sets_equal_tables (log ++ u ∷ v ∷ []) (log ++ v ∷ u ∷ []) (one_order log u v checked fu fv other blue) (other_order log u v checked fu fv other blue)
+  tables = equal_sets_equal_tables (log ++ u ∷ v ∷ []) (log ++ v ∷ u ∷ []) (one_order log u v checked fu fv other blue)
+      (other_order log u v checked fu fv other blue)
       (omega (arith, few, length-append log (u ∷ v ∷ []))) (omega (arith, few, length-append log (v ∷ u ∷ []))) (same_members log u v);
 }

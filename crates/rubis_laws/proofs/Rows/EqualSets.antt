@@ -1,5 +1,6 @@
 -- Checked logs with the same set fold to the same tables.
-use Rattle.std.proofs.Common.{ℕ, ◌≡◌, ◌+◌, ◌^◌, ◌≤◌, List, [], ◌∷◌, ◌++◌, length, true, false, cond, refl, sym, ap, ◌∙◌, subst, arith, Option, Some, None, inl, ⊎_elim, append_assoc}
+use Rattle.std.proofs.Common.{ℕ, ◌≡◌, ◌+◌, ◌^◌, ◌≤◌, List, [], ◌∷◌, ◌++◌, length, true, false, cond, refl, sym, ap, ◌∙◌, subst, arith, Option, Some, None, inl}
+use Rattle.std.proofs.Common.{⊎_elim, append_assoc}
 use Rattle.std.specs.Prelude.{option_map, nat_lt, IsSome, pos, ◌-ℤ◌, ◌-◌, IsPermutation}
 use Rattle.std.specs.Option.{option_or}
 use mathlib.Core.Bool.{true≢false}
@@ -12,12 +13,15 @@ use Rattle.rubis_schema.specs.declared.rows.Row.TheVariants as row
 use Rattle.rubis_schema.specs.declared.row_keys.RowKey.{RowKey}
 use Rattle.rubis_schema.specs.declared.row_keys.RowKey.TheVariants as key
 use Rattle.rubis_schema.specs.Keys.{same_id}
-use Rattle.rubis_model.specs.Meaning.{when, as_user, as_item, as_bid, as_purchase, as_comment, lists_item_of, bought_by, rating_for, rates, sold_of, restocked_of, bids_on, closes, last_rename, nick_after, nick_at, renames, is_same_nick, lists_in, closes_in, higher, earlier, choose, count, user_row, item_row, best_of, sale_after, meaning_row, named}
+use Rattle.rubis_model.specs.Meaning.{when, as_user, as_item, as_bid, as_purchase, as_comment, lists_item_of, bought_by, rating_for, rates, sold_of}
+use Rattle.rubis_model.specs.Meaning.{restocked_of, bids_on, closes, last_rename, nick_after, nick_at, renames, is_same_nick, lists_in, closes_in, higher}
+use Rattle.rubis_model.specs.Meaning.{earlier, choose, count, user_row, item_row, best_of, sale_after, meaning_row, named}
 use Rattle.rubis_shadow.specs.Shadows.{is_red}
 use Rattle.rubis_model.specs.Checks.{Follows, has_id, CheckedFrom, Checked, SameSet}
 use Rattle.rubis_model.proofs.Commute.{same_tables}
 use Rattle.rubis_laws.proofs.Rows.Pushes.{count_push, at_id_push}
-use Rattle.rubis_laws.proofs.Rows.Sets.{Member, Same, OneEach, member_of, contains_of, member_append, not_member, turned, at_member, same_at, same_permutation, same_count, same_total, same_int_sum}
+use Rattle.rubis_laws.proofs.Rows.Sets.{Member, Same, OneEach, member_of, contains_of, member_append, not_member, turned, at_member, same_at, same_permutation}
+use Rattle.rubis_laws.proofs.Rows.Sets.{same_count, same_total, same_int_sum}
 use Rattle.rubis_laws.proofs.Rows.Choices.{earlier_ranks, later_ranks, higher_ranks, earlier_apart, later_apart, higher_apart, same_choice}
 use Rattle.rubis_laws.proofs.Rows.CheckedLogs.{more_reds}
 use Rattle.rubis_laws.proofs.Rows.Nicks.{nick_user}
@@ -58,9 +62,13 @@ apart_push a m u f = record {
   reds = λ k n h l p q e.
       ⊎_elim
       (λ hk. ⊎_elim (λ ln. u.reds k n hk ln p q e)
-      (λ r. ⊎_elim (λ en. absurd (let w = u.low k hk in let v = red_of_new a m f (subst (λ (z : Core). is_red z.shadow ≡ true) (sym en) q) in let y : m.red ≡ n.red = ap (λ (z : Core). z.red) en in omega (arith, w, v, y, e))) (λ z. absurd z) r) (member_append a (m ∷ []) n l))
+      (λ r. ⊎_elim (λ en. absurd
+      (let w = u.low k hk in let v = red_of_new a m f (subst (λ (z : Core). is_red z.shadow ≡ true) (sym en) q) in
+      let y : m.red ≡ n.red = ap (λ (z : Core). z.red) en in omega (arith, w, v, y, e))) (λ z. absurd z) r) (member_append a (m ∷ []) n l))
       (λ r. ⊎_elim
-      (λ ek. ⊎_elim (λ ln. absurd (let w = u.low n ln in let v = red_of_new a m f (subst (λ (z : Core). is_red z.shadow ≡ true) (sym ek) p) in let y : m.red ≡ k.red = ap (λ (z : Core). z.red) ek in omega (arith, w, v, y, e)))
+      (λ ek. ⊎_elim (λ ln. absurd
+      (let w = u.low n ln in let v = red_of_new a m f (subst (λ (z : Core). is_red z.shadow ≡ true) (sym ek) p) in
+      let y : m.red ≡ k.red = ap (λ (z : Core). z.red) ek in omega (arith, w, v, y, e)))
       (λ s. ⊎_elim (λ en. sym ek ∙ en) (λ z. absurd z) s) (member_append a (m ∷ []) n l))
       (λ z. absurd z) r) (member_append a (m ∷ []) k h);
 }
@@ -112,22 +120,26 @@ module _ (a b : List Core) (u : Apart a) (v : Apart b) (s : Same a b) where
 
   pub same_best : (i : Id) → choose higher (λ m. bids_on i m.shadow) a ≡ choose higher (λ m. bids_on i m.shadow) b
   same_best i =
-      same_choice higher_ranks (λ m. bids_on i m.shadow) a b s (λ m n h l p q f g. u.reds m n h l (bid_red i m.shadow p) (bid_red i n.shadow q) (higher_apart m n f g))
+      same_choice higher_ranks (λ m. bids_on i m.shadow) a b s
+      (λ m n h l p q f g. u.reds m n h l (bid_red i m.shadow p) (bid_red i n.shadow q) (higher_apart m n f g))
 
   pub same_close : (i : Id) → choose earlier (λ m. closes i m.shadow) a ≡ choose earlier (λ m. closes i m.shadow) b
   same_close i =
-      same_choice earlier_ranks (λ m. closes i m.shadow) a b s (λ m n h l p q f g. u.reds m n h l (close_red i m.shadow p) (close_red i n.shadow q) (earlier_apart m n f g))
+      same_choice earlier_ranks (λ m. closes i m.shadow) a b s
+      (λ m n h l p q f g. u.reds m n h l (close_red i m.shadow p) (close_red i n.shadow q) (earlier_apart m n f g))
 
   same_rename : (i : Id) → last_rename i a ≡ last_rename i b
   same_rename i =
-      same_choice later_ranks (λ m. renames i m.shadow) a b s (λ m n h l p q f g. u.reds m n h l (rename_red i m.shadow p) (rename_red i n.shadow q) (later_apart m n f g))
+      same_choice later_ranks (λ m. renames i m.shadow) a b s
+      (λ m n h l p q f g. u.reds m n h l (rename_red i m.shadow p) (rename_red i n.shadow q) (later_apart m n f g))
 
   pub same_nick : (i : Id) → nick_at i a ≡ nick_at i b
   same_nick i = λ j. option_map (nick_after (same_rename i j)) (same_at (λ m. as_user m.shadow) i a b u.ids v.ids s j)
 
   pub same_named : (k : List ℕ) → named k a ≡ named k b
   same_named k =
-      same_choice earlier_ranks (λ m. is_same_nick k (nick_at m.id a)) a b s (λ m n h l p q f g. u.reds m n h l (holder_red m h p) (holder_red n l q) (earlier_apart m n f g))
+      same_choice earlier_ranks (λ m. is_same_nick k (nick_at m.id a)) a b s
+      (λ m n h l p q f g. u.reds m n h l (holder_red m h p) (holder_red n l q) (earlier_apart m n f g))
       ∙ (λ j. choose earlier (λ m. is_same_nick k (same_nick m.id j)) b)
     where
       holder_red : (m : Core) → Member a m → is_same_nick k (nick_at m.id a) ≡ true → is_red m.shadow ≡ true
@@ -165,4 +177,5 @@ pub equal_sets_equal_tables : (a b : List Core) → Checked a → Checked b → 
     → (fold_of a).tables ≡ (fold_of b).tables
 equal_sets_equal_tables a b c d h k s =
     let same : Same a b = λ m. (λ l. member_of b m ((s m).0 (contains_of a m l)), λ l. member_of a m ((s m).1 (contains_of b m l))) in
-    same_tables _ _ (λ q. (fold_is_meaning a c h).0.rows q ∙ same_meaning a b (checked_apart a c) (checked_apart b d) same q ∙ sym ((fold_is_meaning b d k).0.rows q))
+    same_tables _ _ (λ q. (fold_is_meaning a c h).0.rows q ∙ same_meaning a b (checked_apart a c) (checked_apart b d) same q
+    ∙ sym ((fold_is_meaning b d k).0.rows q))

@@ -1,5 +1,6 @@
 -- The fold of a checked log has no misfit, and its tables are the meaning of the log's set.
-use Rattle.std.proofs.Common.{ℕ, ◌≡◌, ◌+◌, ◌-◌, ◌^◌, ◌≤◌, ◌<◌, List, [], ◌∷◌, ◌++◌, length, Bool, true, false, cond, refl, sym, ap, ◌∙◌, subst, arith, Option, Some, None, append_assoc, length-append}
+use Rattle.std.proofs.Common.{ℕ, ◌≡◌, ◌+◌, ◌-◌, ◌^◌, ◌≤◌, ◌<◌, List, [], ◌∷◌, ◌++◌, length, Bool, true, false, cond, refl, sym, ap, ◌∙◌, subst, arith, Option}
+use Rattle.std.proofs.Common.{Some, None, append_assoc, length-append}
 use Rattle.std.specs.Prelude.{ℤ, zero, suc, fold, option_map, nat_lt, nat_eq, nat_le, ◌&&◌, ◌||◌, IsSome, IfSome, ⊤}
 use Rattle.std.proofs.lemmas.Bool.Decides.{nat_tests}
 use Rattle.std.proofs.lemmas.List.Sums.{fold-append}
@@ -15,7 +16,8 @@ use Rattle.rubis_model.specs.Log.{Core, Folded, parts_of, noted, number_parts, n
 use Rattle.rubis_schema.specs.declared.offers.NewItem.{NewItem}
 use Rattle.rubis_shadow.specs.declared.keyed_change.Effect.{Effect}
 use Rattle.rubis_shadow.specs.declared.changes.Change.{Change}
-use Rattle.rubis_shadow.specs.declared.changes.Change.TheVariants.{Insert, ItemListed, Bought, Rated, CatListed, CatEnded, BidTaken, Sold, End, Restocked, Renamed}
+use Rattle.rubis_shadow.specs.declared.changes.Change.TheVariants.{Insert, ItemListed, Bought, Rated, CatListed, CatEnded, BidTaken, Sold, End, Restocked}
+use Rattle.rubis_shadow.specs.declared.changes.Change.TheVariants.{Renamed}
 use Rattle.rubis_schema.specs.declared.rows.Best.{Best}
 use Rattle.rubis_shadow.specs.declared.changes.MisfitKind.TheVariants.{StockShort}
 use Rattle.rubis_schema.specs.declared.rows.Row.{Row}
@@ -28,7 +30,8 @@ use Rattle.rubis_shadow.specs.declared.numbered.Misfit.{Misfit}
 use Rattle.rubis_shadow.specs.Changes.{change_row, after_part, doing, misfit_of, fits_as, misfits_as}
 use Rattle.rubis_shadow.specs.Shadows.{parts}
 use Rattle.rubis_shadow.specs.Tables.{opening, categories_from, new_category}
-use Rattle.rubis_model.specs.Meaning.{when, at_id, user_at, item_at, nick_at, as_user, as_item, as_bid, as_purchase, as_comment, close_of, best_bid, sold_of, bids_on, supply, total, count, user_row, item_row, category_row, meaning_row, IsMeaning}
+use Rattle.rubis_model.specs.Meaning.{when, at_id, user_at, item_at, nick_at, as_user, as_item, as_bid, as_purchase, as_comment, close_of, best_bid, sold_of}
+use Rattle.rubis_model.specs.Meaning.{bids_on, supply, total, count, user_row, item_row, category_row, meaning_row, IsMeaning}
 use Rattle.rubis_model.specs.Checks.{Follows, has_id, CheckedFrom, Checked}
 use Rattle.rubis_schema.specs.KeyLaws.{key_total, tied-key_eq}
 use Rattle.rubis_model.proofs.Commute.{same_tables, get-with_row, doing_else}
@@ -67,7 +70,8 @@ folded_fit : (t : Tables) (ms : List Misfit) (entry part : ℕ) (id : Id) (es : 
     fold_on (record { tables = t; misfits = ms }) (number_parts entry part id es) ≡ record { tables = effects_after t es; misfits = ms }
 folded_fit t ms entry part id [] h = refl
 folded_fit t ms entry part id (e ∷ es) h =
-    ap (λ w. fold_on (record { tables = after_part t e; misfits = ms ++ noted (record { entry = entry; part = part; id = id; effect = e }) w }) (number_parts entry (part + 1) id es)) h.0
+    ap (λ w. fold_on (record { tables = after_part t e; misfits = ms ++ noted (record { entry = entry; part = part; id = id; effect = e }) w })
+    (number_parts entry (part + 1) id es)) h.0
     ∙ ap (λ w. fold_on (record { tables = after_part t e; misfits = w }) (number_parts entry (part + 1) id es)) (search Rattle.std.proofs.Common.rules)
     ∙ folded_fit (after_part t e) ms entry (part + 1) id es h.1
 
@@ -121,7 +125,9 @@ unfolding change_row
 renamed_fits a u k n = refl
 
 item_fits : (a : List Core) (i : Id) (c : Change) → IsSome (item_at i a) → close_of i a ≡ None →
-    ((n : NewItem) → item_at i a ≡ Some n → (change_row c (Some (item_of (supply a i) (total (sold_of i) a) (count (bids_on i) a) (best_bid i a) None n))).misfit ≡ None) → (change_row c (meaning_row a (key.Item i))).misfit ≡ None
+    ((n : NewItem) → item_at i a ≡ Some n →
+    (change_row c (Some (item_of (supply a i) (total (sold_of i) a) (count (bids_on i) a) (best_bid i a) None n))).misfit ≡ None) →
+    (change_row c (meaning_row a (key.Item i))).misfit ≡ None
 unfolding meaning_row
 item_fits a i c s shut each =
     let n = some_of (item_at i a) s in
@@ -174,7 +180,8 @@ all_fit : (t : Tables) (a : List Core) (s : Head) (x : Shadow) → ((q : RowKey)
 unfolding meaning_row
 all_fit t a s (shadow.User n) r g f =
     fit_two t _ _ (λ e. cc)
-    (fits_at t a (key.User s.id) _ (r _) (new_row a (key.User s.id) _ (ap (option_map (user_row a s.id)) (nick_none s.id a (none_at (λ m. as_user m.shadow) s.id a f.new_id)))))
+    (fits_at t a (key.User s.id) _ (r _)
+    (new_row a (key.User s.id) _ (ap (option_map (user_row a s.id)) (nick_none s.id a (none_at (λ m. as_user m.shadow) s.id a f.new_id)))))
     (fits_at t a (key.Nick n) _ (r _) (new_row a (key.Nick n) _ (ap (option_map (λ (m : Core). row.Nick m.id)) (by_kind a (shadow.User n) f.fits))))
 all_fit t a s (shadow.Item n) r g f =
     fit_three t _ _ _ (λ e. cc) (λ e. cc) (λ e. cc)
@@ -184,15 +191,22 @@ all_fit t a s (shadow.Item n) r g f =
 all_fit t a s (shadow.Bid b) r g f =
     fit_two t _ _ (λ e. cc)
     (fits_at t a (key.Bid s.id) _ (r _) (new_row a (key.Bid s.id) _ (no_row (λ m. as_bid m.red m.shadow) row.Bid s.id a f.new_id)))
-    (fits_at t a (key.Item b.item) _ (r _) (item_fits a b.item _ (by_kind a (shadow.Bid b) f.fits).0 (by_kind a (shadow.Bid b) f.fits).2 (λ n e. bid_fits _ (supply a b.item) (total (sold_of b.item) a) (count (bids_on b.item) a) (best_bid b.item a) n)))
+    (fits_at t a (key.Item b.item) _ (r _)
+    (item_fits a b.item _ (by_kind a (shadow.Bid b) f.fits).0 (by_kind a (shadow.Bid b) f.fits).2
+    (λ n e. bid_fits _ (supply a b.item) (total (sold_of b.item) a) (count (bids_on b.item) a) (best_bid b.item a) n)))
 all_fit t a s (shadow.Buy p) r g f =
     fit_three t _ _ _ (λ e. cc) (λ e. cc) (λ e. cc)
     (fits_at t a (key.Purchase s.id) _ (r _) (new_row a (key.Purchase s.id) _ (no_row (λ m. as_purchase m.shadow) row.Purchase s.id a f.new_id)))
-    (fits_at t a (key.Item p.item) _ (r _) (item_fits a p.item _ (by_kind a (shadow.Buy p) f.fits).0 (by_kind a (shadow.Buy p) f.fits).2 (λ n e. sold_fits p.quantity (supply a p.item) (total (sold_of p.item) a) (count (bids_on p.item) a) (best_bid p.item a) n (subst (λ o. IfSome o (λ n. total (sold_of p.item) a + p.quantity ≤ supply a p.item n)) e (by_kind a (shadow.Buy p) f.fits).3))))
+    (fits_at t a (key.Item p.item) _ (r _)
+    (item_fits a p.item _ (by_kind a (shadow.Buy p) f.fits).0 (by_kind a (shadow.Buy p) f.fits).2
+    (λ n e. sold_fits p.quantity (supply a p.item) (total (sold_of p.item) a) (count (bids_on p.item) a) (best_bid p.item a) n
+    (subst (λ o. IfSome o (λ n. total (sold_of p.item) a + p.quantity ≤ supply a p.item n)) e (by_kind a (shadow.Buy p) f.fits).3))))
     (fits_at t a (key.User p.buyer) _ (r _) (user_fits a p.buyer _ (bought_fits a p.buyer p.quantity) (by_kind a (shadow.Buy p) f.fits).1))
 all_fit t a s (shadow.Close c) r g f =
     fit_two t _ _ (λ e. cc)
-    (fits_at t a (key.Item c.item) _ (r _) (item_fits a c.item _ (of_mapped _ _ _ (by_kind a (shadow.Close c) f.fits).0) (by_kind a (shadow.Close c) f.fits).1 (λ n e. end_fits c.winner (supply a c.item) (total (sold_of c.item) a) (count (bids_on c.item) a) (best_bid c.item a) n)))
+    (fits_at t a (key.Item c.item) _ (r _)
+    (item_fits a c.item _ (of_mapped _ _ _ (by_kind a (shadow.Close c) f.fits).0) (by_kind a (shadow.Close c) f.fits).1
+    (λ n e. end_fits c.winner (supply a c.item) (total (sold_of c.item) a) (count (bids_on c.item) a) (best_bid c.item a) n)))
     (fits_at t a (key.Cat c.cat) _ (r _) (cat_fits a c.cat _ f.limits.1.1 (cat_ended a c.cat)))
 all_fit t a s (shadow.Comment c) r g f =
     fit_two t _ _ (λ e. cc)
@@ -202,7 +216,8 @@ all_fit t a s (shadow.Restock k) r g f =
     (fits_at t a (key.Item k.item) _ (r _) (restocked_fits a k.item k.quantity (by_kind a (shadow.Restock k) f.fits)), tt)
 all_fit t a s (shadow.Rename k) r g f =
     fit_three t _ _ _ (λ e. cc) (λ e. cc) (λ e. f.limits.1.1 (let w : k.from ≡ k.to = cc in w))
-    (fits_at t a (key.User k.user) _ (r _) (user_fits a k.user _ (renamed_fits a k.user k.to) (some_nick k.user a k.from (by_kind a (shadow.Rename k) f.fits).0)))
+    (fits_at t a (key.User k.user) _ (r _)
+    (user_fits a k.user _ (renamed_fits a k.user k.to) (some_nick k.user a k.from (by_kind a (shadow.Rename k) f.fits).0)))
     (fits_at t a (key.Nick k.from) _ (r _) (freed_fits a s k g f))
     (fits_at t a (key.Nick k.to) _ (r _) (new_row a (key.Nick k.to) _ (ap (option_map (λ (m : Core). row.Nick m.id)) (by_kind a (shadow.Rename k) f.fits).1)))
 
@@ -290,7 +305,8 @@ right_none = record { rows = opening_rows; clean = refl; good = good_none }
 right_push : (a : List Core) (m : Core) → Right a → Follows a m → length a < 2 ^ 32 → Right (a ++ m ∷ [])
 right_push a m r f h =
     let together : fold_of (a ++ m ∷ []) ≡ record { tables = effects_after (fold_of a).tables (parts_of m); misfits = (fold_of a).misfits } =
-    fold_push_parts a m ∙ folded_fit (fold_of a).tables (fold_of a).misfits (1 + length a) 1 m.id (parts_of m) (all_fit (fold_of a).tables a (head_of m) m.shadow r.rows r.good f) in
+    fold_push_parts a m ∙ folded_fit (fold_of a).tables (fold_of a).misfits (1 + length a) 1 m.id (parts_of m)
+    (all_fit (fold_of a).tables a (head_of m) m.shadow r.rows r.good f) in
     record {
       rows = λ q. ap (λ (w : Folded). map.get w.tables q) together ∙ rows_more (fold_of a).tables a (head_of m) m.shadow r.rows r.good f h q;
       clean = ap (λ (w : Folded). w.misfits) together ∙ r.clean;

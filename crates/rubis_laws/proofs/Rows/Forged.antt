@@ -1,5 +1,6 @@
 -- In every log, forged or not, nicknames stay until their users are renamed, and stock is kept.
-use Rattle.std.proofs.Common.{ℕ, ◌≡◌, ◌+◌, ◌-◌, ◌^◌, ◌≤◌, ◌<◌, List, [], ◌∷◌, ◌++◌, length, Bool, true, false, cond, refl, sym, ap, ◌∙◌, subst, arith, Option, Some, None}
+use Rattle.std.proofs.Common.{ℕ, ◌≡◌, ◌+◌, ◌-◌, ◌^◌, ◌≤◌, ◌<◌, List, [], ◌∷◌, ◌++◌, length, Bool, true, false, cond, refl, sym, ap, ◌∙◌, subst, arith, Option}
+use Rattle.std.proofs.Common.{Some, None}
 use Rattle.std.specs.Prelude.{◌&&◌, fold, option_map, nat_le, bytes_eq, IfSome}
 use Rattle.std.specs.Option.{option_or}
 use Rattle.std.proofs.lemmas.Bool.Decides.{nat_tests}
@@ -122,7 +123,8 @@ sold_sum : (q sold stock s : ℕ) → nat_le q stock ≡ true → sold + stock �
 sold_sum q sold stock s h e l = let k : q ≤ stock = grind (arith, nat_tests) in omega (arith, k)
 
 sold_keeps : (q s : ℕ) (x : ItemRow) (z : Sale) (b : Bool) → nat_le q x.stock ≡ b → s < 2 ^ 64 → x.sold + x.stock ≡ s
-    → Has s (if_open x z (cond b (fits_as (row.Item (record x { stock = x.stock - q; sold = count_up x.sold q }))) (misfits_as StockShort (Some (row.Item x))))).row
+    → Has s (if_open x z (cond b (fits_as (row.Item (record x { stock = x.stock - q; sold = count_up x.sold q })))
+    (misfits_as StockShort (Some (row.Item x))))).row
 sold_keeps q s x Open true h l e = (record x { stock = x.stock - q; sold = count_up x.sold q }, refl, sold_sum q x.sold x.stock s h e l)
 sold_keeps q s x Open false h l e = (x, refl, e)
 sold_keeps q s x (Ended w) b h l e = (x, refl, e)
@@ -206,9 +208,12 @@ before i own x (Some s) l = omega (arith, l)
 item_after : (i : Id) (m : Core) (x : Shadow) (o : Option ℕ) (r : Option Row) → Small (supplied i (same_id i m.id) o x) → IsKept o r
     → IsKept (supplied i (same_id i m.id) o x) (fold (at_key (key.Item i)) r (parts m.id m.red x))
 item_after i m (shadow.Item k) o r l h = insert_keeps i k (same_id i m.id) o r h
-item_after i m (shadow.Bid b) o r l h = same_item i (same_id i m.id) (shadow.Bid b) o _ refl refl (change_keeps (AsBid (record { bid = m.id; amount = b.amount })) (same_id i b.item) o r (before i (same_id i m.id) (shadow.Bid b) o l) h)
-item_after i m (shadow.Buy p) o r l h = same_item i (same_id i m.id) (shadow.Buy p) o _ refl refl (change_keeps (AsSale p.quantity) (same_id i p.item) o r (before i (same_id i m.id) (shadow.Buy p) o l) h)
-item_after i m (shadow.Close c) o r l h = same_item i (same_id i m.id) (shadow.Close c) o _ refl refl (change_keeps (AsEnd c.winner) (same_id i c.item) o r (before i (same_id i m.id) (shadow.Close c) o l) h)
+item_after i m (shadow.Bid b) o r l h = same_item i (same_id i m.id) (shadow.Bid b) o _ refl refl
+    (change_keeps (AsBid (record { bid = m.id; amount = b.amount })) (same_id i b.item) o r (before i (same_id i m.id) (shadow.Bid b) o l) h)
+item_after i m (shadow.Buy p) o r l h = same_item i (same_id i m.id) (shadow.Buy p) o _ refl refl
+    (change_keeps (AsSale p.quantity) (same_id i p.item) o r (before i (same_id i m.id) (shadow.Buy p) o l) h)
+item_after i m (shadow.Close c) o r l h = same_item i (same_id i m.id) (shadow.Close c) o _ refl refl
+    (change_keeps (AsEnd c.winner) (same_id i c.item) o r (before i (same_id i m.id) (shadow.Close c) o l) h)
 item_after i m (shadow.Restock k) o r l h = restock_keeps i k (same_id i m.id) o r l h
 item_after i m x o r l h = same_item i (same_id i m.id) x o _ refl refl h
 

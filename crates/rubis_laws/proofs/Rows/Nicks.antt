@@ -153,7 +153,8 @@ has n a m = is_same_nick n (nick_at m.id a)
 pub not_named : (n : List ℕ) (a : List Core) → named n a ≡ None → Free n (λ v. nick_at v a)
 not_named n a e v h =
     let w = member_with v a (some_nick v a n h) in
-    true≢false (sym (is_nick_at n (nick_at w.0.id a) (subst (λ u. nick_at u a ≡ Some n) w.2 h)) ∙ subst (IsChoice earlier (has n a) a) e (choose_is earlier_ranks (has n a) a) w.0 w.1)
+    true≢false (sym (is_nick_at n (nick_at w.0.id a) (subst (λ u. nick_at u a ≡ Some n) w.2 h))
+    ∙ subst (IsChoice earlier (has n a) a) e (choose_is earlier_ranks (has n a) a) w.0 w.1)
 
 pub named_none : (n : List ℕ) (a : List Core) → Free n (λ v. nick_at v a) → named n a ≡ None
 named_none n a f = at (named n a) (choose_is earlier_ranks (has n a) a)

@@ -1,5 +1,6 @@
 -- What a message's parts do to the rows of bids, purchases, comments, nicknames and categories.
-use Rattle.std.proofs.Common.{ℕ, ◌≡◌, ◌+◌, ◌^◌, ◌≤◌, ◌<◌, List, [], ◌∷◌, ◌++◌, length, Bool, true, false, cond, refl, sym, ap, ◌∙◌, subst, arith, Option, Some, None}
+use Rattle.std.proofs.Common.{ℕ, ◌≡◌, ◌+◌, ◌^◌, ◌≤◌, ◌<◌, List, [], ◌∷◌, ◌++◌, length, Bool, true, false, cond, refl, sym, ap, ◌∙◌, subst, arith, Option, Some}
+use Rattle.std.proofs.Common.{None}
 use Rattle.std.specs.Prelude.{pos, negsuc, ◌+ℤ◌, ◌-ℤ◌, fold, option_map, unsigned_abs, nat_lt, nat_eq, bytes_eq}
 use Rattle.std.specs.Option.{option_or}
 use Rattle.std.proofs.lemmas.Int.{ints}
@@ -20,7 +21,8 @@ use Rattle.rubis_shadow.specs.Renames.{NewRename}
 use Rattle.rubis_schema.specs.Keys.{same_id}
 use Rattle.rubis_shadow.specs.Changes.{change_row, misfits_as, removed}
 use Rattle.rubis_shadow.specs.Shadows.{parts}
-use Rattle.rubis_model.specs.Meaning.{count, when, at_id, as_bid, as_purchase, as_comment, as_user, nick_at, is_same_nick, named, lists_in, closes_in, category_row, meaning_row}
+use Rattle.rubis_model.specs.Meaning.{count, when, at_id, as_bid, as_purchase, as_comment, as_user, nick_at, is_same_nick, named, lists_in, closes_in}
+use Rattle.rubis_model.specs.Meaning.{category_row, meaning_row}
 use Rattle.rubis_model.specs.Checks.{Follows, has_id}
 use Rattle.rubis_schema.specs.KeyLaws.{Decides-same_id}
 use Rattle.rubis_laws.proofs.Rows.Pushes.{count_push, or_none, at_id_push_not, at_id_push, none_at}
@@ -83,10 +85,14 @@ unfolding change_row
 new_nick a s k n g h f true e =
     let same : n ≡ k = (bytes_decides n k).0 e in
     ap (λ o. (change_row (Insert (row.Nick s.id)) (named_row o)).row) (subst (λ w. named w a ≡ None) (sym same) (by_kind a (shadow.User k) f.fits))
-    ∙ sym (named_is n (a ++ msg s (shadow.User k) ∷ []) s.id h.nicks (user_gives a s k g f s.id ∙ ap (λ b. cond b (Some k) (nick_at s.id a)) ((Decides-same_id s.id s.id).1 refl) ∙ ap Some (sym same)))
+    ∙ sym (named_is n (a ++ msg s (shadow.User k) ∷ []) s.id h.nicks
+    (user_gives a s k g f s.id ∙ ap (λ b. cond b (Some k) (nick_at s.id a)) ((Decides-same_id s.id s.id).1 refl) ∙ ap Some (sym same)))
 new_nick a s k n g h f false e =
     let none : nick_at s.id a ≡ None = nick_none s.id a (none_at (λ m. as_user m.shadow) s.id a f.new_id) in
-    ap named_row (sym (named_same n a (msg s (shadow.User k)) (λ v. ap (is_same_nick n) (user_gives a s k g f v) ∙ not_given n k (same_id v s.id) (nick_at v a) e (λ t. ap (is_same_nick n) (subst (λ w. nick_at w a ≡ None) (sym ((Decides-same_id v s.id).0 t)) none))) none))
+    ap named_row (sym (named_same n a (msg s (shadow.User k))
+    (λ v. ap (is_same_nick n) (user_gives a s k g f v)
+    ∙ not_given n k (same_id v s.id) (nick_at v a) e (λ t. ap (is_same_nick n) (subst (λ w. nick_at w a ≡ None) (sym ((Decides-same_id v s.id).0 t)) none)))
+    none))
 
 module _ (a : List Core) (s : Head) (r : NewRename) (g : Good a) (f : Follows a (msg s (shadow.Rename r))) where
   abbrev x : Core
@@ -119,7 +125,8 @@ module _ (a : List Core) (s : Head) (r : NewRename) (g : Good a) (f : Follows a 
 
   pub freed_fits : (change_row (NickFreed r.user) (named_row (named r.from a))).misfit ≡ None
   unfolding change_row
-  freed_fits = ap (λ o. (change_row (NickFreed r.user) o).misfit) had ∙ ap (λ b. (cond b removed (misfits_as OtherUser (Some (row.Nick r.user)))).misfit) ((Decides-same_id r.user r.user).1 refl)
+  freed_fits = ap (λ o. (change_row (NickFreed r.user) o).misfit) had
+      ∙ ap (λ b. (cond b removed (misfits_as OtherUser (Some (row.Nick r.user)))).misfit) ((Decides-same_id r.user r.user).1 refl)
 
   put : (change_row (Insert (row.Nick r.user)) None).row ≡ Some (row.Nick r.user)
   unfolding change_row
@@ -131,7 +138,8 @@ module _ (a : List Core) (s : Head) (r : NewRename) (g : Good a) (f : Follows a 
   abbrev third : Bool → Option Row → Option Row
   third b o = cond b (change_row (Insert (row.Nick r.user)) o).row o
 
-  pub renamed_nick : Good (a ++ x ∷ []) → (n : List ℕ) (b : Bool) → bytes_eq n r.from ≡ b → (c : Bool) → bytes_eq n r.to ≡ c → third c (second b (named_row (named n a))) ≡ named_row (named n (a ++ x ∷ []))
+  pub renamed_nick : Good (a ++ x ∷ []) → (n : List ℕ) (b : Bool) → bytes_eq n r.from ≡ b → (c : Bool) → bytes_eq n r.to ≡ c →
+      third c (second b (named_row (named n a))) ≡ named_row (named n (a ++ x ∷ []))
   renamed_nick h n true p true q = absurd (two_nicks (sym ((bytes_decides n r.from).0 p) ∙ (bytes_decides n r.to).0 q))
   renamed_nick h n true p false q =
       let same : n ≡ r.from = (bytes_decides n r.from).0 p in
@@ -140,10 +148,13 @@ module _ (a : List Core) (s : Head) (r : NewRename) (g : Good a) (f : Follows a 
   renamed_nick h n false p true q =
       let same : n ≡ r.to = (bytes_decides n r.to).0 q in
       ap (λ o. (change_row (Insert (row.Nick r.user)) (named_row o)).row) (subst (λ w. named w a ≡ None) (sym same) fit.1) ∙ put
-      ∙ sym (named_is n (a ++ x ∷ []) r.user h.nicks (rename_gives a s r g f r.user ∙ ap (λ b. cond b (Some r.to) (nick_at r.user a)) ((Decides-same_id r.user r.user).1 refl) ∙ ap Some (sym same)))
+      ∙ sym (named_is n (a ++ x ∷ []) r.user h.nicks
+      (rename_gives a s r g f r.user ∙ ap (λ b. cond b (Some r.to) (nick_at r.user a)) ((Decides-same_id r.user r.user).1 refl) ∙ ap Some (sym same)))
   renamed_nick h n false p false q =
       ap named_row (sym (named_same n a x
-      (λ v. ap (is_same_nick n) (rename_gives a s r g f v) ∙ not_given n r.to (same_id v r.user) (nick_at v a) q (λ t. ap (is_same_nick n) (subst (λ w. nick_at w a ≡ Some r.from) (sym ((Decides-same_id v r.user).0 t)) fit.0) ∙ p))
+      (λ v. ap (is_same_nick n) (rename_gives a s r g f v)
+      ∙ not_given n r.to (same_id v r.user) (nick_at v a) q
+      (λ t. ap (is_same_nick n) (subst (λ w. nick_at w a ≡ Some r.from) (sym ((Decides-same_id v r.user).0 t)) fit.0) ∙ p))
       (nick_none s.id a (none_at (λ m. as_user m.shadow) s.id a f.new_id))))
 
 pub row_of_nick : (a : List Core) (s : Head) (x : Shadow) → Good a → Good (a ++ msg s x ∷ []) → Follows a (msg s x) → (n : List ℕ) →

@@ -1,5 +1,6 @@
 -- What a message's parts do to an item's row is what it adds to the row's meaning.
-use Rattle.std.proofs.Common.{ℕ, ◌≡◌, ◌+◌, ◌-◌, ◌*◌, ◌^◌, ◌≤◌, ◌<◌, List, [], ◌∷◌, ◌++◌, length, Bool, true, false, cond, refl, sym, ap, ◌∙◌, subst, arith, Option, Some, None}
+use Rattle.std.proofs.Common.{ℕ, ◌≡◌, ◌+◌, ◌-◌, ◌*◌, ◌^◌, ◌≤◌, ◌<◌, List, [], ◌∷◌, ◌++◌, length, Bool, true, false, cond, refl, sym, ap, ◌∙◌, subst, arith}
+use Rattle.std.proofs.Common.{Option, Some, None}
 use Rattle.std.specs.Prelude.{fold, option_map, min, ◌&&◌, ◌||◌, nat_lt, nat_le, IfSome}
 use Rattle.std.specs.Option.{option_or}
 use Rattle.std.proofs.lemmas.Bool.Decides.{nat_tests}
@@ -21,7 +22,8 @@ use Rattle.rubis_schema.specs.Keys.{same_id}
 use Rattle.rubis_shadow.specs.Changes.{change_row, better, fits_as, misfits_as}
 use Rattle.rubis_shadow.specs.Shadows.{parts, new_item, is_red}
 use Rattle.rubis_shadow.specs.declared.changes.MisfitKind.TheVariants.{StockShort}
-use Rattle.rubis_model.specs.Meaning.{count, total, choice, when, at_id, item_at, as_item, sold_of, restocked_of, bids_on, closes, best_bid, close_of, best_of, sale_after, supply, item_row, meaning_row, higher, earlier, amount_of}
+use Rattle.rubis_model.specs.Meaning.{count, total, choice, when, at_id, item_at, as_item, sold_of, restocked_of, bids_on, closes, best_bid, close_of, best_of}
+use Rattle.rubis_model.specs.Meaning.{sale_after, supply, item_row, meaning_row, higher, earlier, amount_of}
 use Rattle.rubis_model.specs.Checks.{Follows}
 use Rattle.rubis_schema.specs.KeyLaws.{Decides-same_id}
 use Rattle.rubis_laws.proofs.Rows.Pushes.{count_push, total_push, choose_push, choice_not, or_none, at_id_push_not, at_id_push, none_at}
@@ -54,7 +56,8 @@ ends i m = closes i m.shadow
 
 abbrev grown_to : (NewItem → ℕ) → List Core → Core → Id → NewItem → Row
 grown_to w a m i =
-    item_of w (total (sold_of i) a + sold_of i m.shadow) (count (bids_on i) a + cond (bids i m) 1 0) (choice higher (bids i) (best_bid i a) m) (choice earlier (ends i) (close_of i a) m)
+    item_of w (total (sold_of i) a + sold_of i m.shadow) (count (bids_on i) a + cond (bids i m) 1 0) (choice higher (bids i) (best_bid i a) m)
+    (choice earlier (ends i) (close_of i a) m)
 
 abbrev grown : List Core → Core → Id → NewItem → Row
 grown a m i = grown_to (supply a i) a m i
@@ -77,7 +80,8 @@ item_meaning_push a m i e r = λ j. option_map (λ n. item_row_push a m i n r j)
 still : (w : NewItem → ℕ) (s b : ℕ) (best close : Option Core) (i : Id) (m : Core) (o : Option NewItem) → bids i m ≡ false → ends i m ≡ false →
     option_map (item_of w s b best close) o ≡ option_map (item_of w (s + 0) (b + 0) (choice higher (bids i) best m) (choice earlier (ends i) close m)) o
 still w s b best close i m o p q =
-    λ j. option_map (λ n. same_item w {s = s} {t = s + 0} {b = b} {c = b + 0} n (omega arith) (omega arith) (sym (choice_not higher (bids i) best m p)) (sym (choice_not earlier (ends i) close m q)) j) o
+    λ j. option_map (λ n. same_item w {s = s} {t = s + 0} {b = b} {c = b + 0} n (omega arith) (omega arith) (sym (choice_not higher (bids i) best m p))
+    (sym (choice_not earlier (ends i) close m q)) j) o
 
 -- a later message of an equal amount isn't higher
 not_before : (m old n : ℕ) → n < m → old ≤ n → nat_lt m old ≡ false
@@ -209,7 +213,8 @@ closed true w s c best close i st e (Some k) h shut =
       best = option_map best_of (sym (choice_not higher (bids i) best (msg st (shadow.Close e)) refl) j);
       sale = sale_after (cond (sym h j) (Some (msg st (shadow.Close e))) None);
     })))
-    ∙ ap (λ z. Some (item_of w (s + 0) (c + 0) (choice higher (bids i) best (msg st (shadow.Close e))) (choice earlier (ends i) z (msg st (shadow.Close e))) k)) (sym (shut refl))
+    ∙ ap (λ z. Some (item_of w (s + 0) (c + 0) (choice higher (bids i) best (msg st (shadow.Close e))) (choice earlier (ends i) z (msg st (shadow.Close e))) k))
+    (sym (shut refl))
   where
     zero_more : (x : ℕ) → x ≡ x + 0
     zero_more x = omega arith
@@ -248,7 +253,8 @@ restocked_meaning : (a : List Core) (s : Head) (r : NewRestock) (i : Id) → mea
     ≡ option_map (grown_to (λ n. supply a i n + cond (same_id i r.item) r.quantity 0) a (msg s (shadow.Restock r)) i) (item_at i a)
 unfolding meaning_row
 restocked_meaning a s r i = λ j. option_map
-    (λ n. item_row_to (λ n. supply a i n + cond (same_id i r.item) r.quantity 0) a (msg s (shadow.Restock r)) i n (λ k. let t = total_push (restocked_of i) a (msg s (shadow.Restock r)) in omega (arith, t)) j)
+    (λ n. item_row_to (λ n. supply a i n + cond (same_id i r.item) r.quantity 0) a (msg s (shadow.Restock r)) i n
+    (λ k. let t = total_push (restocked_of i) a (msg s (shadow.Restock r)) in omega (arith, t)) j)
     (at_id_push_not (λ m. as_item m.shadow) i a (msg s (shadow.Restock r)) refl j)
 
 restock_small : (l n t q : ℕ) → n ≤ 1000000 → t ≤ l * 1000000 → q ≤ 1000000 → l < 2 ^ 32 → n + t + q < 2 ^ 63
@@ -276,19 +282,25 @@ opening_supply a i k e = omega (arith, e)
 
 -- a new item's row
 inserted : (a : List Core) (s : Head) (n : NewItem) (i : Id) (b : Bool) → same_id i s.id ≡ b → Good a → Follows a (msg s (shadow.Item n)) →
-    cond b (change_row (Insert (row.Item (new_item n))) (meaning_row a (key.Item i))).row (meaning_row a (key.Item i)) ≡ meaning_row (a ++ msg s (shadow.Item n) ∷ []) (key.Item i)
+    cond b (change_row (Insert (row.Item (new_item n))) (meaning_row a (key.Item i))).row (meaning_row a (key.Item i))
+    ≡ meaning_row (a ++ msg s (shadow.Item n) ∷ []) (key.Item i)
 unfolding change_row meaning_row
 inserted a s n i true e g f =
     let none : item_at i a ≡ None = none_at (λ m. as_item m.shadow) i a (subst (λ w. at_id Some w a ≡ None) (sym ((Decides-same_id i s.id).0 e)) f.new_id) in
     let z = g.no_item i none in
-    let there : item_at i (a ++ msg s (shadow.Item n) ∷ []) ≡ Some n = at_id_push (λ m. as_item m.shadow) i a (msg s (shadow.Item n)) ∙ (λ j. option_or (none j) (when (e j) (Some n))) in
+    let there : item_at i (a ++ msg s (shadow.Item n) ∷ []) ≡ Some n = at_id_push (λ m. as_item m.shadow) i a (msg s (shadow.Item n))
+    ∙ (λ j. option_or (none j) (when (e j) (Some n))) in
     ap (λ o. (change_row (Insert (row.Item (new_item n))) (option_map (item_row a i) o)).row) none
-    ∙ ap Some (new_item_is n ∙ (λ j. item_of (λ k. opening_supply a i k z.restocked j) 0 0 None None n) ∙ same_item (supply a i) {s = 0} {b = 0} {best = None} {close = None} n (sym (ap (λ k. k + 0) z.sold)) (sym (ap (λ k. k + 0) z.bids)) (sym (choice_not higher (bids i) _ (msg s (shadow.Item n)) refl ∙ z.best)) (sym (choice_not earlier (ends i) _ (msg s (shadow.Item n)) refl ∙ z.close)) ∙ sym (item_row_push a (msg s (shadow.Item n)) i n refl))
+    ∙ ap Some (new_item_is n ∙ (λ j. item_of (λ k. opening_supply a i k z.restocked j) 0 0 None None n)
+    ∙ same_item (supply a i) {s = 0} {b = 0} {best = None} {close = None} n (sym (ap (λ k. k + 0) z.sold)) (sym (ap (λ k. k + 0) z.bids))
+    (sym (choice_not higher (bids i) _ (msg s (shadow.Item n)) refl ∙ z.best)) (sym (choice_not earlier (ends i) _ (msg s (shadow.Item n)) refl ∙ z.close))
+    ∙ sym (item_row_push a (msg s (shadow.Item n)) i n refl))
     ∙ ap (option_map (item_row (a ++ msg s (shadow.Item n) ∷ []) i)) (sym there)
 inserted a s n i false e g f =
     still _ _ _ _ _ i (msg s (shadow.Item n)) (item_at i a) refl refl
     ∙ (λ j. option_map (λ k. sym (item_row_push a (msg s (shadow.Item n)) i k refl) j) (item_at i a))
-    ∙ ap (option_map (item_row (a ++ msg s (shadow.Item n) ∷ []) i)) (sym (at_id_push (λ m. as_item m.shadow) i a (msg s (shadow.Item n)) ∙ ap (λ b. option_or (item_at i a) (when b (Some n))) e ∙ or_none _))
+    ∙ ap (option_map (item_row (a ++ msg s (shadow.Item n) ∷ []) i))
+    (sym (at_id_push (λ m. as_item m.shadow) i a (msg s (shadow.Item n)) ∙ ap (λ b. option_or (item_at i a) (when b (Some n))) e ∙ or_none _))
 
 -- a fact of the named item, at an id that is that one's
 at_named : (P : Id → Type 0) (i j : Id) → P j → same_id i j ≡ true → P i
@@ -302,18 +314,22 @@ pub row_of_item : (a : List Core) (s : Head) (x : Shadow) → Good a → Follows
 unfolding meaning_row
 row_of_item a s (shadow.Item n) g f h i = inserted a s n i _ refl g f
 row_of_item a s (shadow.Bid b) g f h i =
-    bid_taken (same_id i b.item) (count is_red a) _ _ _ _ _ i (msg s (shadow.Bid b)) (item_at i a) refl refl (at_named (λ k. close_of k a ≡ None) i b.item (by_kind a (shadow.Bid b) f.fits).2)
+    bid_taken (same_id i b.item) (count is_red a) _ _ _ _ _ i (msg s (shadow.Bid b)) (item_at i a) refl refl
+    (at_named (λ k. close_of k a ≡ None) i b.item (by_kind a (shadow.Bid b) f.fits).2)
     (let r = f.next_red in omega (arith, r)) (g.reds higher (bids i)) (count_small (bids_on i) a h)
     ∙ sym (item_meaning_push a (msg s (shadow.Bid b)) i refl refl)
 row_of_item a s (shadow.Buy p) g f h i =
-    sold_more (same_id i p.item) p.quantity _ _ _ _ _ i (msg s (shadow.Buy p)) (item_at i a) refl refl (at_named (λ k. close_of k a ≡ None) i p.item (by_kind a (shadow.Buy p) f.fits).2)
-    (at_named (λ k. IfSome (item_at k a) (λ n. total (sold_of k) a + p.quantity ≤ supply a k n)) i p.item (by_kind a (shadow.Buy p) f.fits).3) (sold_small true _ _ _ (g.sold i) f.limits.1.quantity.small h)
+    sold_more (same_id i p.item) p.quantity _ _ _ _ _ i (msg s (shadow.Buy p)) (item_at i a) refl refl
+    (at_named (λ k. close_of k a ≡ None) i p.item (by_kind a (shadow.Buy p) f.fits).2)
+    (at_named (λ k. IfSome (item_at k a) (λ n. total (sold_of k) a + p.quantity ≤ supply a k n)) i p.item (by_kind a (shadow.Buy p) f.fits).3)
+    (sold_small true _ _ _ (g.sold i) f.limits.1.quantity.small h)
     ∙ sym (item_meaning_push a (msg s (shadow.Buy p)) i refl refl)
 row_of_item a s (shadow.Close c) g f h i =
     closed (same_id i c.item) _ _ _ _ _ i s c (item_at i a) refl (at_named (λ k. close_of k a ≡ None) i c.item (by_kind a (shadow.Close c) f.fits).1)
     ∙ sym (item_meaning_push a (msg s (shadow.Close c)) i refl refl)
 row_of_item a s (shadow.Restock r) g f h i =
     restocked_more (same_id i r.item) r.quantity (supply a i) _ _ _ _ i (msg s (shadow.Restock r)) (item_at i a) refl refl
-    (λ e. if_some_map (item_at i a) (λ n k. (k.enough, restock_small (length a) n.stock (total (restocked_of i) a) r.quantity k.opening (g.restocked i) f.limits.1.1.small h)) (g.stock i))
+    (λ e. if_some_map (item_at i a)
+    (λ n k. (k.enough, restock_small (length a) n.stock (total (restocked_of i) a) r.quantity k.opening (g.restocked i) f.limits.1.1.small h)) (g.stock i))
     ∙ sym (restocked_meaning a s r i)
 row_of_item a s x g f h i = still _ _ _ _ _ i (msg s x) (item_at i a) refl refl ∙ sym (item_meaning_push a (msg s x) i refl refl)

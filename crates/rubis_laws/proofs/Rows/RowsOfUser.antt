@@ -1,5 +1,6 @@
 -- What a message's parts do to a user's row is what it adds to the row's meaning.
-use Rattle.std.proofs.Common.{ℕ, ◌≡◌, ◌+◌, ◌-◌, ◌^◌, ◌<◌, List, [], ◌∷◌, ◌++◌, length, Bool, true, false, cond, refl, sym, ap, ◌∙◌, subst, arith, Option, Some, None}
+use Rattle.std.proofs.Common.{ℕ, ◌≡◌, ◌+◌, ◌-◌, ◌^◌, ◌<◌, List, [], ◌∷◌, ◌++◌, length, Bool, true, false, cond, refl, sym, ap, ◌∙◌, subst, arith, Option, Some}
+use Rattle.std.proofs.Common.{None}
 use Rattle.std.specs.Prelude.{ℤ, pos, negsuc, ◌+ℤ◌, fold, option_map, IsSome, is_some, unsigned_abs, min}
 use Rattle.std.proofs.lemmas.Int.{ints}
 use Rattle.rubis_schema.specs.declared.ids.Id.{Id}
@@ -18,7 +19,8 @@ use Rattle.rubis_shadow.specs.declared.changes.Change.TheVariants.{Insert, ItemL
 use Rattle.rubis_schema.specs.Keys.{same_id, key_eq}
 use Rattle.rubis_shadow.specs.Changes.{change_row, saturated}
 use Rattle.rubis_shadow.specs.Shadows.{parts}
-use Rattle.rubis_model.specs.Meaning.{count, total, int_sum_by, at_id, user_at, as_user, nick_at, lists_item_of, bought_by, rates, rating_for, user_row, meaning_row}
+use Rattle.rubis_model.specs.Meaning.{count, total, int_sum_by, at_id, user_at, as_user, nick_at, lists_item_of, bought_by, rates, rating_for, user_row}
+use Rattle.rubis_model.specs.Meaning.{meaning_row}
 use Rattle.rubis_model.specs.Checks.{Follows}
 use Rattle.rubis_schema.specs.KeyLaws.{Decides-same_id}
 use Rattle.rubis_laws.proofs.Rows.Pushes.{count_push, total_push, int_sum_push, none_at}
@@ -47,7 +49,8 @@ small_int (negsuc n) h = ap negsuc (omega arith)
 
 abbrev grown : List Core → Shadow → Id → List ℕ → Row
 grown a x u =
-    user_of (count (lists_item_of u) a + cond (lists_item_of u x) 1 0) (total (bought_by u) a + bought_by u x) (int_sum_by (λ m. rating_for u m.shadow) a +ℤ rating_for u x) (count (rates u) a + cond (rates u x) 1 0)
+    user_of (count (lists_item_of u) a + cond (lists_item_of u x) 1 0) (total (bought_by u) a + bought_by u x)
+    (int_sum_by (λ m. rating_for u m.shadow) a +ℤ rating_for u x) (count (rates u) a + cond (rates u x) 1 0)
 
 user_row_push : (a : List Core) (m : Core) (u : Id) (n : List ℕ) → user_row (a ++ m ∷ []) u n ≡ grown a m.shadow u n
 user_row_push a m u n =
@@ -61,24 +64,28 @@ user_meaning_push a m u e = λ i. option_map (λ n. user_row_push a m u n i) (ke
 -- a message that says nothing of users
 still : (c s k : ℕ) (r : ℤ) (o : Option (List ℕ)) → option_map (user_of c s r k) o ≡ option_map (user_of (c + 0) (s + 0) (r +ℤ pos 0) (k + 0)) o
 still c s k r o =
-    λ i. option_map (λ n. same_user {c = c} {d = c + 0} {s = s} {t = s + 0} {k = k} {l = k + 0} n (omega arith) (omega arith) (nothing_added r) (omega arith) i) o
+    λ i. option_map (λ n. same_user {c = c} {d = c + 0} {s = s} {t = s + 0} {k = k} {l = k + 0} n (omega arith) (omega arith) (nothing_added r) (omega arith) i)
+    o
 
 listed : (b : Bool) (c s k : ℕ) (r : ℤ) (o : Option (List ℕ)) → c < 2 ^ 62
-    → cond b (change_row ItemListed (option_map (user_of c s r k) o)).row (option_map (user_of c s r k) o) ≡ option_map (user_of (c + cond b 1 0) (s + 0) (r +ℤ pos 0) (k + 0)) o
+    → cond b (change_row ItemListed (option_map (user_of c s r k) o)).row (option_map (user_of c s r k) o)
+    ≡ option_map (user_of (c + cond b 1 0) (s + 0) (r +ℤ pos 0) (k + 0)) o
 unfolding change_row
 listed true c s k r None h = refl
 listed true c s k r (Some n) h = ap Some (same_user n (small_sum c 1 (omega arith)) (omega arith) (nothing_added r) (omega arith))
 listed false c s k r o h = still c s k r o
 
 bought_more : (b : Bool) (q c s k : ℕ) (r : ℤ) (o : Option (List ℕ)) → s + q < 2 ^ 62
-    → cond b (change_row (Bought q) (option_map (user_of c s r k) o)).row (option_map (user_of c s r k) o) ≡ option_map (user_of (c + 0) (s + cond b q 0) (r +ℤ pos 0) (k + 0)) o
+    → cond b (change_row (Bought q) (option_map (user_of c s r k) o)).row (option_map (user_of c s r k) o)
+    ≡ option_map (user_of (c + 0) (s + cond b q 0) (r +ℤ pos 0) (k + 0)) o
 unfolding change_row
 bought_more true q c s k r None h = refl
 bought_more true q c s k r (Some n) h = ap Some (same_user n (omega arith) (small_sum s q (omega arith)) (nothing_added r) (omega arith))
 bought_more false q c s k r o h = still c s k r o
 
 rated : (b : Bool) (z : ℤ) (c s k : ℕ) (r : ℤ) (o : Option (List ℕ)) → k < 2 ^ 62 → unsigned_abs (r +ℤ z) < 2 ^ 63
-    → cond b (change_row (Rated z) (option_map (user_of c s r k) o)).row (option_map (user_of c s r k) o) ≡ option_map (user_of (c + 0) (s + 0) (r +ℤ cond b z (pos 0)) (k + cond b 1 0)) o
+    → cond b (change_row (Rated z) (option_map (user_of c s r k) o)).row (option_map (user_of c s r k) o)
+    ≡ option_map (user_of (c + 0) (s + 0) (r +ℤ cond b z (pos 0)) (k + cond b 1 0)) o
 unfolding change_row
 rated true z c s k r None h g = refl
 rated true z c s k r (Some n) h g = ap Some (same_user n (omega arith) (omega arith) (small_int _ g) (small_sum k 1 (omega arith)))
@@ -86,7 +93,8 @@ rated false z c s k r o h g = still c s k r o
 
 -- a rename
 renamed : (b : Bool) (n : List ℕ) (c s k : ℕ) (r : ℤ) (o : Option (List ℕ)) → (b ≡ true → IsSome o)
-    → cond b (change_row (Renamed n) (option_map (user_of c s r k) o)).row (option_map (user_of c s r k) o) ≡ option_map (user_of (c + 0) (s + 0) (r +ℤ pos 0) (k + 0)) (cond b (Some n) o)
+    → cond b (change_row (Renamed n) (option_map (user_of c s r k) o)).row (option_map (user_of c s r k) o)
+    ≡ option_map (user_of (c + 0) (s + 0) (r +ℤ pos 0) (k + 0)) (cond b (Some n) o)
 unfolding change_row
 renamed true n c s k r None h = absurd (true≢false (sym (h refl)))
 renamed true n c s k r (Some m) h = still c s k r (Some n)
@@ -94,14 +102,16 @@ renamed false n c s k r o h = still c s k r o
 
 -- a new user's row
 inserted : (a : List Core) (s : Head) (n : List ℕ) (u : Id) (b : Bool) → same_id u s.id ≡ b → Good a → Follows a (msg s (shadow.User n)) →
-    cond b (change_row (Insert (user_of 0 0 (pos 0) 0 n)) (meaning_row a (key.User u))).row (meaning_row a (key.User u)) ≡ meaning_row (a ++ msg s (shadow.User n) ∷ []) (key.User u)
+    cond b (change_row (Insert (user_of 0 0 (pos 0) 0 n)) (meaning_row a (key.User u))).row (meaning_row a (key.User u))
+    ≡ meaning_row (a ++ msg s (shadow.User n) ∷ []) (key.User u)
 unfolding change_row meaning_row
 inserted a s n u true e g f =
     let none : user_at u a ≡ None = none_at (λ m. as_user m.shadow) u a (subst (λ w. at_id Some w a ≡ None) (sym ((Decides-same_id u s.id).0 e)) f.new_id) in
     let z = g.no_user u none in
     let there : nick_at u (a ++ msg s (shadow.User n) ∷ []) ≡ Some n = user_gives a s n g f u ∙ ap (λ b. cond b (Some n) (nick_at u a)) e in
     ap (λ o. (change_row (Insert (user_of 0 0 (pos 0) 0 n)) (option_map (user_row a u) o)).row) (nick_none u a none)
-    ∙ ap Some (same_user n (sym (ap (λ k. k + 0) z.items)) (sym (ap (λ k. k + 0) z.bought)) (sym (ap (λ k. k +ℤ pos 0) z.rating)) (sym (ap (λ k. k + 0) z.comments)) ∙ sym (user_row_push a (msg s (shadow.User n)) u n))
+    ∙ ap Some (same_user n (sym (ap (λ k. k + 0) z.items)) (sym (ap (λ k. k + 0) z.bought)) (sym (ap (λ k. k +ℤ pos 0) z.rating))
+    (sym (ap (λ k. k + 0) z.comments)) ∙ sym (user_row_push a (msg s (shadow.User n)) u n))
     ∙ ap (option_map (user_row (a ++ msg s (shadow.User n) ∷ []) u)) (sym there)
 inserted a s n u false e g f =
     still _ _ _ _ (nick_at u a)
@@ -121,9 +131,11 @@ row_of_user a s (shadow.Buy p) g f h u =
     bought_more (same_id u p.buyer) p.quantity _ _ _ _ (nick_at u a) (let l = g.bought u in let q = f.limits.1.quantity.small in omega (arith, l, q, h))
     ∙ sym (user_meaning_push a (msg s (shadow.Buy p)) u refl)
 row_of_user a s (shadow.Comment c) g f h u =
-    rated (same_id u c.to) c.rating _ _ _ _ (nick_at u a) (count_small (rates u) a h) (let l = g.rating u in let q = f.limits.1.rating in let t = abs_sum (int_sum_by (λ m. rating_for u m.shadow) a) c.rating in omega (arith, l, q, t, h))
+    rated (same_id u c.to) c.rating _ _ _ _ (nick_at u a) (count_small (rates u) a h)
+    (let l = g.rating u in let q = f.limits.1.rating in let t = abs_sum (int_sum_by (λ m. rating_for u m.shadow) a) c.rating in omega (arith, l, q, t, h))
     ∙ sym (user_meaning_push a (msg s (shadow.Comment c)) u refl)
 row_of_user a s (shadow.Rename r) g f h u =
-    renamed (same_id u r.user) r.to _ _ _ _ (nick_at u a) (λ e. subst (λ w. IsSome (nick_at w a)) (sym ((Decides-same_id u r.user).0 e)) (ap is_some (by_kind a (shadow.Rename r) f.fits).0))
+    renamed (same_id u r.user) r.to _ _ _ _ (nick_at u a)
+    (λ e. subst (λ w. IsSome (nick_at w a)) (sym ((Decides-same_id u r.user).0 e)) (ap is_some (by_kind a (shadow.Rename r) f.fits).0))
     ∙ (λ i. option_map (λ k. sym (user_row_push a (msg s (shadow.Rename r)) u k) i) (sym (rename_gives a s r g f u) i))
 row_of_user a s x g f h u = still _ _ _ _ (nick_at u a) ∙ sym (user_meaning_push a (msg s x) u refl)

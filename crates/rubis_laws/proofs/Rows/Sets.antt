@@ -1,10 +1,12 @@
 -- Logs with the same set have the same meaning.
-use Rattle.std.proofs.Common.{ℕ, ◌≡◌, ◌+◌, ◌<◌, List, [], ◌∷◌, ◌++◌, length, Bool, true, false, refl, sym, ap, ◌∙◌, subst, arith, Option, Some, None, inl, inr, ⊎_elim, get_or}
+use Rattle.std.proofs.Common.{ℕ, ◌≡◌, ◌+◌, ◌<◌, List, [], ◌∷◌, ◌++◌, length, Bool, true, false, refl, sym, ap, ◌∙◌, subst, arith, Option, Some, None, inl, inr}
+use Rattle.std.proofs.Common.{⊎_elim, get_or}
 use Rattle.std.specs.Prelude.{pos, negsuc, ℤ, ◌+ℤ◌, ◌-ℤ◌, zero, suc, fold, ⊤, Contains, IsPermutation, ◌⊎◌, ◌↔◌, sum_by}
 use Rattle.std.specs.Option.{option_or}
 use Rattle.std.proofs.lemmas.Int.{ints}
 use Rattle.std.proofs.lemmas.List.Sums.{sum_by-cons}
-use Rattle.std.proofs.lemmas.List.Sorted.{IsPermutation-refl, IsPermutation-sym, IsPermutation-cons, IsPermutation-trans, IsPermutation-middle, sum_by-IsPermutation}
+use Rattle.std.proofs.lemmas.List.Sorted.{IsPermutation-refl, IsPermutation-sym, IsPermutation-cons, IsPermutation-trans, IsPermutation-middle}
+use Rattle.std.proofs.lemmas.List.Sorted.{sum_by-IsPermutation}
 use mathlib.Core.Bool.{true≢false}
 use Rattle.rubis_schema.specs.declared.ids.Id.{Id}
 use Rattle.rubis_shadow.specs.declared.shadows.Shadow.{Shadow}
@@ -136,7 +138,8 @@ one_each_without [] ys x u = (u.1, apart ys x u.0)
 one_each_without (z ∷ xs) ys x u =
     let w = one_each_without xs ys x u.1 in (
       (none_without z.id xs ys x u.0, w.0),
-      λ h. ⊎_elim (λ p. true≢false (sym (itself z.id) ∙ (λ i. same_id z.id (p i).id) ∙ not_member (xs ++ x ∷ ys) z.id x u.0 (member_right xs (x ∷ ys) x (inl refl)))) w.1 h,
+      λ h. ⊎_elim (λ p. true≢false
+          (sym (itself z.id) ∙ (λ i. same_id z.id (p i).id) ∙ not_member (xs ++ x ∷ ys) z.id x u.0 (member_right xs (x ∷ ys) x (inl refl)))) w.1 h,
     )
 
 pub split_at : (b : List Core) (x : Core) → Member b x → (xs : List Core) × (ys : List Core) × (b ≡ xs ++ x ∷ ys)
@@ -146,8 +149,10 @@ split_at (y ∷ b) x (inr h) = let w = split_at b x h in (y ∷ w.0, w.1, ap (λ
 
 pub same_without : (a xs ys : List Core) (x : Core) → has_id x.id a ≡ None → ¬ (Member (xs ++ ys) x) → Same (x ∷ a) (xs ++ x ∷ ys) → Same a (xs ++ ys)
 same_without a xs ys x e n s m = (
-  λ h. ⊎_elim (λ l. member_left xs ys m l) (λ r. ⊎_elim (λ p. absurd (apart a x e (subst (Member a) (sym p) h))) (λ q. member_right xs ys m q) r) (member_append xs (x ∷ ys) m ((s m).0 (inr h))),
-  λ h. ⊎_elim (λ p. absurd (n (subst (Member (xs ++ ys)) (sym p) h))) (λ r. r) ((s m).1 (⊎_elim (λ l. member_left xs (x ∷ ys) m l) (λ r. member_right xs (x ∷ ys) m (inr r)) (member_append xs ys m h))),
+  λ h. ⊎_elim (λ l. member_left xs ys m l) (λ r. ⊎_elim (λ p. absurd (apart a x e (subst (Member a) (sym p) h))) (λ q. member_right xs ys m q) r)
+      (member_append xs (x ∷ ys) m ((s m).0 (inr h))),
+  λ h. ⊎_elim (λ p. absurd (n (subst (Member (xs ++ ys)) (sym p) h))) (λ r. r)
+      ((s m).1 (⊎_elim (λ l. member_left xs (x ∷ ys) m l) (λ r. member_right xs (x ∷ ys) m (inr r)) (member_append xs ys m h))),
 )
 
 pub same_permutation : (a b : List Core) → OneEach a → OneEach b → Same a b → IsPermutation a b
@@ -197,5 +202,6 @@ int_sum_split f n m (x ∷ a) =
 pub same_int_sum : (f : Core → ℤ) (a b : List Core) → IsPermutation a b → int_sum_by f a ≡ int_sum_by f b
 same_int_sum f a b h =
     int_sum_split f 0 0 a
-    ∙ (λ i. pos (0 + sum_by-IsPermutation (λ x. above (f x)) b a (IsPermutation-sym a b h) i) -ℤ pos (0 + sum_by-IsPermutation (λ x. below (f x)) b a (IsPermutation-sym a b h) i))
+    ∙ (λ i. pos (0 + sum_by-IsPermutation (λ x. above (f x)) b a (IsPermutation-sym a b h) i) -ℤ pos
+    (0 + sum_by-IsPermutation (λ x. below (f x)) b a (IsPermutation-sym a b h) i))
     ∙ sym (int_sum_split f 0 0 b)

@@ -49,7 +49,8 @@ answers_by keep (e ∷ es) w = (happens_by keep w e).1 ∷ answers_by keep es (h
 
 same_request : (keep : ℕ) (w : World) (i : ℕ) (r : Request) → InRun w → requested keep w i r ≡ requested_by keep w i r
 same_request keep w i (request.Ask ask) h =
-    λ k. sends packet.Msg w i (generating (place keep w i) (site w i) (decision (λ q. (h.invariants.meaning (log_at w i) (is_log w i)).rows q k) (standing_of keep (site w i)) ask))
+    λ k. sends packet.Msg w i
+    (generating (place keep w i) (site w i) (decision (λ q. (h.invariants.meaning (log_at w i) (is_log w i)).rows q k) (standing_of keep (site w i)) ask))
 same_request keep w i (request.Pass to) h = refl
 same_request keep w i (request.List l) h = refl
 
@@ -68,5 +69,7 @@ module _ (keep : ℕ) (few : keep ≤ 1000000) where
   same_answers [] w a s r = refl
   same_answers (e ∷ es) w a s r =
       let h = in_run keep w few r s in
-      (λ k. (same_event keep w e h k).1 ∷ (same_answers es (happens keep w e).0 (subst (λ n. AreEvents n es) (sym (event_sites keep w e)) a.1) (event_keeps keep few w e a.0 s) (room_event keep w e r)
+      (λ k. (same_event keep w e h k).1 ∷
+      (same_answers es (happens keep w e).0 (subst (λ n. AreEvents n es) (sym (event_sites keep w e)) a.1) (event_keeps keep few w e a.0 s)
+      (room_event keep w e r)
       ∙ ap (λ p. answers_by keep es p.0) (same_event keep w e h)) k)

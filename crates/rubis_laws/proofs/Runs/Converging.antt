@@ -75,12 +75,16 @@ empty [] n = refl
 empty (x ∷ xs) n = absurd (n x (inl refl))
 
 -- ---- a site that has some of the messages that were sent, and with each all that were released before it
-module _ (w : World) (s : Sound w) (r : AllRest w) (i : ℕ) (These : Message → Type 0) (sent : (m : Message) → These m → Sent w m) (has : (m : Message) → These m → Has m (site w i).log ⊎ Has m (site w i).waiting) where
+module _ (w : World) (s : Sound w) (r : AllRest w) (i : ℕ) (These : Message → Type 0) (sent : (m : Message) → These m → Sent w m)
+    (has : (m : Message) → These m → Has m (site w i).log ⊎ Has m (site w i).waiting) where
   -- one that was ready after messages that are in the log is there too
   one_there : (past : List Message) (m : Message) → Released (m ∷ past) → These m → ((x : Message) → Has x past → Has x (reverse (site w i).log))
       → Has m (reverse (site w i).log)
   one_there past m p a within = ⊎_elim (λ h. has_back m (site w i).log h)
-      (λ h. absurd ((rests_at w i r).unready m h (ready_forth (site w i).log m (still_ready w past (reverse (site w i).log) m s p (s.good i).released (s.good i).log_sent (sent m a) within (λ l. (rests_at w i r).apart.not_logged m h (has_reverse m (site w i).log l))))))
+      (λ h. absurd ((rests_at w i r).unready m h
+      (ready_forth (site w i).log m
+      (still_ready w past (reverse (site w i).log) m s p (s.good i).released (s.good i).log_sent (sent m a) within
+      (λ l. (rests_at w i r).apart.not_logged m h (has_reverse m (site w i).log l))))))
       (has m a)
 
   -- so all are there that were released anywhere
@@ -94,7 +98,9 @@ module _ (w : World) (s : Sound w) (r : AllRest w) (i : ℕ) (These : Message �
 -- ---- a site that has all messages
 module _ (w : World) (s : Sound w) (r : AllRest w) (i : ℕ) (has : HasAll w i) where
   logged_all : (m : Message) → Sent w m → Has m (site w i).log
-  logged_all m a = has_reverse m (site w i).log (past_there w s r i (Sent w) (λ x h. h) has (reverse (site w m.stamp.id.site).log) (s.good m.stamp.id.site).released (s.good m.stamp.id.site).log_sent m (s.home.home m a))
+  logged_all m a = has_reverse m (site w i).log
+      (past_there w s r i (Sent w) (λ x h. h) has (reverse (site w m.stamp.id.site).log) (s.good m.stamp.id.site).released (s.good m.stamp.id.site).log_sent m
+      (s.home.home m a))
 
   pub released_all : HasReleasedAll w i
   released_all = record {

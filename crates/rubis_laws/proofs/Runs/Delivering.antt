@@ -1,5 +1,6 @@
 -- A site to which every message is delivered comes to have them all, if it keeps as many as were sent.
-use Rattle.std.proofs.Common.{◌≡◌, ◌∙◌, ℕ, ◌+◌, ◌≤◌, ◌<◌, zero, suc, Bool, true, false, Option, Some, None, List, [], ◌∷◌, ◌++◌, length, length-append, refl, sym, ap, subst, inl, inr, ⊎_elim, arith}
+use Rattle.std.proofs.Common.{◌≡◌, ◌∙◌, ℕ, ◌+◌, ◌≤◌, ◌<◌, zero, suc, Bool, true, false, Option, Some, None, List, [], ◌∷◌, ◌++◌, length, length-append, refl}
+use Rattle.std.proofs.Common.{sym, ap, subst, inl, inr, ⊎_elim, arith}
 use Rattle.std.specs.Prelude.{◌≢◌, ◌-◌, cond, ◌⊎◌, reverse, not, ◌==◌, nat_le, nat_lt, slice_get, Result, Ok, Err}
 use Rattle.std.specs.List.{list_any}
 use Rattle.std.proofs.lemmas.Bool.{cases_lt, cond_both, or_cases, or_parts, and_parts, eqb-true, ltb-true, leb-true}
@@ -18,7 +19,8 @@ use Rattle.rubis_message.specs.declared.answers.Taken.TheVariants as taken
 use Rattle.rubis_message.specs.declared.tokens.Packet.{Packet}
 use Rattle.rubis_message.specs.declared.tokens.Packet.TheVariants as packet
 use Rattle.rubis_message.specs.declared.tokens.Token.{Token}
-use Rattle.rubis_model.specs.Convergence.{HasAll, message_count, AreDeliveries, DeliversAll, DeliveredAreHad, DeliveringAllConverges, NoMessageIsRefused, AllCanBeDelivered}
+use Rattle.rubis_model.specs.Convergence.{HasAll, message_count, AreDeliveries, DeliversAll, DeliveredAreHad, DeliveringAllConverges, NoMessageIsRefused}
+use Rattle.rubis_model.specs.Convergence.{AllCanBeDelivered}
 use Rattle.rubis_model.specs.Laws.{Sent}
 use Rattle.rubis_model.specs.Order.{Released}
 use Rattle.rubis_model.specs.Settle.{Has, Settles, counted, settle}
@@ -57,7 +59,8 @@ pub no_longer : {A : Type 0} (xs ys : List A) → Singly xs → ((x : A) → Has
 no_longer [] ys s within = omega arith
 no_longer {A} (x ∷ xs) ys s within =
     let k = split_at x ys (within x (inl refl)) in
-    let rest : (y : A) → Has y xs → Has y (k.0 ++ k.1) = λ y h. without x y k.0 k.1 (subst (Has y) k.2 (within y (inr h))) (λ e. s.0 (subst (λ q. Has q xs) e h)) in
+    let rest : (y : A) → Has y xs →
+    Has y (k.0 ++ k.1) = λ y h. without x y k.0 k.1 (subst (Has y) k.2 (within y (inr h))) (λ e. s.0 (subst (λ q. Has q xs) e h)) in
     let l = no_longer xs (k.0 ++ k.1) s.1 rest in
     let c : length ys ≡ length (k.0 ++ k.1) + 1 = ap length k.2 ∙ one_longer x k.0 k.1 in
     omega arith
@@ -116,11 +119,13 @@ settles_had m _ _ _ _ (Release log front back log' waiting' u n r s) h =
         (has_append m front (u ∷ back) k)
 
 pub settled_had : (s : Replica) (m : Message) → Had s m → Had (settled s) m
-settled_had s m h = settles_had m s.log s.waiting (settle (length s.waiting) s.log s.waiting).0 (settle (length s.waiting) s.log s.waiting).1 (settle_settles (length s.waiting) s.log s.waiting (omega arith)) h
+settled_had s m h = settles_had m s.log s.waiting (settle (length s.waiting) s.log s.waiting).0 (settle (length s.waiting) s.log s.waiting).1
+    (settle_settles (length s.waiting) s.log s.waiting (omega arith)) h
 
 pub came_had : (s : Replica) (m u : Message) → Had s u ⊎ (u ≡ m) → Had (after_came s m) u
 came_had s m u h = settled_had (record s { waiting = s.waiting ++ m ∷ [] }) u
-    (⊎_elim (λ k. ⊎_elim (λ l. inl l) (λ q. inr (has_left u s.waiting (m ∷ []) q)) k) (λ e. inr (subst (λ x. Has x (s.waiting ++ m ∷ [])) (sym e) (has_last m s.waiting))) h)
+    (⊎_elim (λ k. ⊎_elim (λ l. inl l) (λ q. inr (has_left u s.waiting (m ∷ []) q)) k)
+    (λ e. inr (subst (λ x. Has x (s.waiting ++ m ∷ [])) (sym e) (has_last m s.waiting))) h)
 
 -- ---- what is had stays so
 pub arrived_keeps : (p : Place) (s : Replica) (m u : Message) → Had s u → Had (arrived p s m).0 u
@@ -166,14 +171,20 @@ pub fewer_than : (v : World) (i : ℕ) (m : Message) (xs : List Message) → Sou
     → is_repeat (site v i) m ≡ false → length (site v i).log + length (site v i).waiting < length xs
 fewer_than v i m xs s r within h e =
     let q = or_parts (list_any (λ u. same_id m.stamp.id u.stamp.id) (site v i).log) (list_any (λ u. same_id m.stamp.id u.stamp.id) (site v i).waiting) e in
-    let new : Has m (reverse (site v i).log ++ (site v i).waiting) → ⊥ = λ h. ⊎_elim (λ k. unlisted m (site v i).log q.0 (has_reverse m (site v i).log k)) (λ k. unlisted m (site v i).waiting q.1 k) (has_append m (reverse (site v i).log) (site v i).waiting h) in
-    let each : Singly (reverse (site v i).log ++ (site v i).waiting) = singly_both (reverse (site v i).log) (site v i).waiting (singly_released (reverse (site v i).log) (s.good i).released) (rests_at v i r).apart.singly (λ x h k. (rests_at v i r).apart.not_logged x k (has_reverse x (site v i).log h)) in
-    let l : length (m ∷ (reverse (site v i).log ++ (site v i).waiting)) ≤ length xs = no_longer (m ∷ (reverse (site v i).log ++ (site v i).waiting)) xs (new, each) inner in
+    let new : Has m (reverse (site v i).log ++ (site v i).waiting) →
+    ⊥ = λ h. ⊎_elim (λ k. unlisted m (site v i).log q.0 (has_reverse m (site v i).log k)) (λ k. unlisted m (site v i).waiting q.1 k)
+    (has_append m (reverse (site v i).log) (site v i).waiting h) in
+    let each : Singly (reverse (site v i).log ++ (site v i).waiting) = singly_both (reverse (site v i).log) (site v i).waiting
+    (singly_released (reverse (site v i).log) (s.good i).released) (rests_at v i r).apart.singly
+    (λ x h k. (rests_at v i r).apart.not_logged x k (has_reverse x (site v i).log h)) in
+    let l : length (m ∷ (reverse (site v i).log ++ (site v i).waiting)) ≤ length xs = no_longer (m ∷ (reverse (site v i).log ++ (site v i).waiting)) xs
+    (new, each) inner in
     omega (arith, l, length-append (reverse (site v i).log) (site v i).waiting, length-reverse (site v i).log)
   where
     inner : (x : Message) → Has x (m ∷ (reverse (site v i).log ++ (site v i).waiting)) → Has x xs
     inner x (inl e) = subst (λ y. Has y xs) (sym e) h
-    inner x (inr k) = ⊎_elim (λ a. within x (inl (has_reverse x (site v i).log a))) (λ a. within x (inr a)) (has_append x (reverse (site v i).log) (site v i).waiting k)
+    inner x (inr k) = ⊎_elim (λ a. within x (inl (has_reverse x (site v i).log a))) (λ a. within x (inr a))
+        (has_append x (reverse (site v i).log) (site v i).waiting k)
 
 -- ---- what is delivered is had
 pub by_id : (m : Message) (xs : List Message) → list_any (λ u. same_id m.stamp.id u.stamp.id) xs ≡ true
@@ -200,22 +211,26 @@ module _ (w : World) (s : Sound w) (r : AllRest w) (i : ℕ) (m : Message) (a : 
 
   pub repeat_had : is_repeat (site w i) m ≡ true → Had (site w i) m
   repeat_had e = ⊎_elim
-      (λ k. let f = by_id m (site w i).log k in inl (subst (λ x. Has x (site w i).log) (same_message f.0 ((s.good i).log_sent f.0 (has_back f.0 (site w i).log f.1)) f.2) f.1))
+      (λ k. let f = by_id m (site w i).log k in
+      inl (subst (λ x. Has x (site w i).log) (same_message f.0 ((s.good i).log_sent f.0 (has_back f.0 (site w i).log f.1)) f.2) f.1))
       (λ k. let f = by_id m (site w i).waiting k in inr (subst (λ x. Has x (site w i).waiting) (same_message f.0 ((s.good i).waiting_sent f.0 f.1) f.2) f.1))
       (or_cases (list_any (λ u. same_id m.stamp.id u.stamp.id) (site w i).log) (list_any (λ u. same_id m.stamp.id u.stamp.id) (site w i).waiting) e)
 
   -- a site that misses one has fewer than any list that has all messages that were sent
   pub fewer_among : (all : List Message) → ((x : Message) → Sent w x → Has x all) → is_repeat (site w i) m ≡ false
       → length (site w i).log + length (site w i).waiting < length all
-  fewer_among all has e = fewer_than w i m all s r (λ u h. has u (⊎_elim (λ k. (s.good i).log_sent u (has_back u (site w i).log k)) ((s.good i).waiting_sent u) h)) (has m a) e
+  fewer_among all has e =
+      fewer_than w i m all s r (λ u h. has u (⊎_elim (λ k. (s.good i).log_sent u (has_back u (site w i).log k)) ((s.good i).waiting_sent u) h)) (has m a) e
 
   pub fewer : is_repeat (site w i) m ≡ false → length (site w i).log + length (site w i).waiting < message_count w.sent
-  fewer e = subst (λ n. length (site w i).log + length (site w i).waiting < n) (messages_length w.sent) (fewer_among (messages_of w.sent) (λ x h. message_in x w.sent h) e)
+  fewer e = subst (λ n. length (site w i).log + length (site w i).waiting < n) (messages_length w.sent)
+      (fewer_among (messages_of w.sent) (λ x h. message_in x w.sent h) e)
 
   -- so it is taken in by a site that keeps as many as such a list has
   pub had_among : (keep : ℕ) (all : List Message) → ((x : Message) → Sent w x → Has x all) → length all ≤ keep → Had (arrived (place keep w i) (site w i) m).0 m
   had_among keep all has room =
-      cond_both (not_ours (place keep w i) (site w i) m) (site w i, Err NotOurs) _ (λ (p : Replica × Result Arrival Refusal). Had p.0 m) (λ e. absurd (is_ours keep e))
+      cond_both (not_ours (place keep w i) (site w i) m) (site w i, Err NotOurs) _ (λ (p : Replica × Result Arrival Refusal). Had p.0 m)
+      (λ e. absurd (is_ours keep e))
       (λ _. cond_both (is_repeat (site w i) m) (site w i, Ok arrival.Repeat) _ (λ (p : Replica × Result Arrival Refusal). Had p.0 m) (λ e. repeat_had e)
       (λ new. cond_both (is_full keep (site w i)) (site w i, Err Full) _ (λ (p : Replica × Result Arrival Refusal). Had p.0 m)
       (λ e. absurd (let k = leb-true keep (length (site w i).log + length (site w i).waiting) e in let f = fewer_among all has new in omega arith))
@@ -227,8 +242,11 @@ module _ (w : World) (s : Sound w) (r : AllRest w) (i : ℕ) (m : Message) (a : 
   delivered_now : (keep k : ℕ) → message_count w.sent ≤ keep → i < length w.sites → packet_at w.sent k ≡ Some (packet.Msg m)
       → Had (site (happens keep w (Deliver i k)).0 i) m
   delivered_now keep k room l e =
-      cond_both (nat_lt i (length w.sites)) (coming keep w i (packet_at w.sent k)) (w, Err BadEvent) (λ (p : World × Result Happened Refusal). Had (site p.0 i) m)
-      (λ _. subst (λ o. Had (site (coming keep w i o).0 i) m) (sym e) (set_at (λ q y. q ≡ i → Had y m) w.sites i (arrived (place keep w i) (site w i) m).0 (opening_at 1) l (λ _. arrived_had keep room) (λ q n p. absurd (n p)) i refl))
+      cond_both (nat_lt i (length w.sites)) (coming keep w i (packet_at w.sent k)) (w, Err BadEvent)
+      (λ (p : World × Result Happened Refusal). Had (site p.0 i) m)
+      (λ _. subst (λ o. Had (site (coming keep w i o).0 i) m) (sym e)
+      (set_at (λ q y. q ≡ i → Had y m) w.sites i (arrived (place keep w i) (site w i) m).0 (opening_at 1) l (λ _. arrived_had keep room)
+      (λ q n p. absurd (n p)) i refl))
       (λ b. absurd (outside i (length w.sites) l b))
     where
       outside : (x y : ℕ) → x < y → nat_lt x y ≡ false → ⊥
@@ -246,7 +264,8 @@ delivered keep few (Deliver j q ∷ es) w i k m d s r room l e a h =
     delivered keep few es (happens keep w (Deliver j q)).0 i k m d (event_keeps keep few w (Deliver j q) tt s) (rest_event keep w (Deliver j q) s r)
     (subst (λ ps. message_count ps ≤ keep) (sym same) room) (subst (λ n. i < n) (sym (event_sites keep w (Deliver j q))) l)
     (subst (λ ps. packet_at ps k ≡ Some (packet.Msg m)) (sym same) e) (subst (λ ps. Has (packet.Msg m) ps) (sym same) a)
-    (⊎_elim (λ c. ⊎_elim (λ p. inr (subst (λ x. Had (site (happens keep w x).0 i) m) p (delivered_now w s r i m a keep k room l e))) (λ p. inl p) c) (λ p. inr (deliver_keeps keep w j q i m p)) h)
+    (⊎_elim (λ c. ⊎_elim (λ p. inr (subst (λ x. Had (site (happens keep w x).0 i) m) p (delivered_now w s r i m a keep k room l e))) (λ p. inl p) c)
+    (λ p. inr (deliver_keeps keep w j q i m p)) h)
 
 pub deliveries_sent : (keep : ℕ) (es : List Event) (w : World) → AreDeliveries es → (run keep es w).sent ≡ w.sent
 deliveries_sent keep [] w d = refl
@@ -279,7 +298,8 @@ delivering_all_converges n keep events deliveries some few a d room i j li lj di
     let w = run keep events (start n) in
     let v = run keep deliveries w in
     let s : Sound v = run_keeps keep few deliveries w (are_events (length w.sites) deliveries d) (sound_run n keep events some few a) in
-    let r : AllRest v = rest_run keep few deliveries w (are_events (length w.sites) deliveries d) (sound_run n keep events some few a) (rests_run n keep events some few a) in
+    let r : AllRest v = rest_run keep few deliveries w (are_events (length w.sites) deliveries d) (sound_run n keep events some few a)
+    (rests_run n keep events some few a) in
     let hi = released_all v s r i (delivered_are_had n keep events deliveries some few a d room i li di) in
     let hj = released_all v s r j (delivered_are_had n keep events deliveries some few a d room j lj dj) in
     (hi, hj, same_tables keep v i j few s (room_run keep deliveries w (room_of n keep events)) hi hj)
@@ -294,7 +314,8 @@ not_refused false false false s t n r h k e = absurd cc
 
 none_refused : (keep : ℕ) (w : World) (i : ℕ) (m : Message) (r : Refusal) → Sound w → AllRest w → message_count w.sent ≤ keep → Sent w m
     → (arrived (place keep w i) (site w i) m).1 ≢ Err r
-none_refused keep w i m x s r room a = not_refused (not_ours (place keep w i) (site w i) m) (is_repeat (site w i) m) (is_full keep (site w i)) (site w i) (after_came (site w i) m) (length (after_came (site w i) m).log - length (site w i).log) x
+none_refused keep w i m x s r room a = not_refused (not_ours (place keep w i) (site w i) m) (is_repeat (site w i) m) (is_full keep (site w i)) (site w i)
+    (after_came (site w i) m) (length (after_came (site w i) m).log - length (site w i).log) x
     (is_ours w s r i m a keep)
     (λ new e. let k = leb-true keep (length (site w i).log + length (site w i).waiting) e in let f = fewer w s r i m a new in absurd (omega arith))
 
@@ -304,7 +325,8 @@ no_message_is_refused n keep events deliveries some few a d room i m x b =
     let v = run keep deliveries w in
     let same : v.sent ≡ w.sent = deliveries_sent keep deliveries w d in
     let s : Sound v = run_keeps keep few deliveries w (are_events (length w.sites) deliveries d) (sound_run n keep events some few a) in
-    let r : AllRest v = rest_run keep few deliveries w (are_events (length w.sites) deliveries d) (sound_run n keep events some few a) (rests_run n keep events some few a) in
+    let r : AllRest v = rest_run keep few deliveries w (are_events (length w.sites) deliveries d) (sound_run n keep events some few a)
+    (rests_run n keep events some few a) in
     none_refused keep v i m x s r (subst (λ ps. message_count ps ≤ keep) (sym same) room) (subst (λ ps. Has (packet.Msg m) ps) (sym same) b)
 
 -- ---- every packet to every site
@@ -339,7 +361,8 @@ unfolding to_each
 to_each_has zero count i k l h = absurd (omega arith)
 to_each_has (suc j) count i k l h = ⊎_elim
     (λ q. has_right (Deliver i (suc k)) (each_to j count) (to_each j count) (to_each_has j count i k q h))
-    (λ q. has_left (Deliver i (suc k)) (each_to j count) (to_each j count) (subst (λ x. Has (Deliver i (suc k)) (each_to x count)) (same i j l q) (each_has i count k h)))
+    (λ q. has_left (Deliver i (suc k)) (each_to j count) (to_each j count)
+    (subst (λ x. Has (Deliver i (suc k)) (each_to x count)) (same i j l q) (each_has i count k h)))
     (cases_lt i j)
   where
     same : (k c : ℕ) → k < suc c → c ≤ k → k ≡ c

@@ -49,7 +49,8 @@ module _ (w : World) (s : Sound w) where
 
   pub refers : (v : Message) → Sent w v → RefersToPast (Sent w) v v.shadow
   refers v b =
-      refers_past (Sent w) v (reverse (foundation w v s b).past) (λ u h. ((foundation w v s b).exactly u).0 (has_reverse u (foundation w v s b).past h)) v.shadow (foundation w v s b).decided.fits
+      refers_past (Sent w) v (reverse (foundation w v s b).past) (λ u h. ((foundation w v s b).exactly u).0 (has_reverse u (foundation w v s b).past h))
+      v.shadow (foundation w v s b).decided.fits
 
   pub logged : (i : ℕ) (m : Message) → Has m (site w i).log → Sent w m
   logged i m h = (s.good i).log_sent m (has_back m (site w i).log h)
@@ -118,4 +119,5 @@ pub every_packet : RunsSendDeliverables
 every_packet n keep events some small few a =
     let same = start_sites n in
     subst (λ k. AllDeliverable k (run keep events (start n)).sent) same
-    (run_deliverable keep few events (start n) (omega (arith, same, small)) (subst (λ k. AreEvents k events) (sym same) a) (start_sound n some) (λ p h. absurd h))
+    (run_deliverable keep few events (start n) (omega (arith, same, small)) (subst (λ k. AreEvents k events) (sym same) a) (start_sound n some)
+    (λ p h. absurd h))

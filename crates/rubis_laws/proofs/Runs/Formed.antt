@@ -1,5 +1,6 @@
 -- Each packet of a run can be taken in by each of its sites.
-use Rattle.std.proofs.Common.{ℕ, ◌≡◌, ◌+◌, ◌≤◌, ◌<◌, List, [], ◌∷◌, ◌++◌, length, Bool, true, false, cond, refl, sym, ap, ◌∙◌, subst, arith, Option, Some, None, ⊎_elim}
+use Rattle.std.proofs.Common.{ℕ, ◌≡◌, ◌+◌, ◌≤◌, ◌<◌, List, [], ◌∷◌, ◌++◌, length, Bool, true, false, cond, refl, sym, ap, ◌∙◌, subst, arith, Option, Some, None}
+use Rattle.std.proofs.Common.{⊎_elim}
 use Rattle.std.specs.Prelude.{All, nat_le, nat_lt, unwrap_or, is_some, ◌||◌, ◌==◌, Result, Ok, Err}
 use Rattle.std.specs.Option.{option_map_or}
 use Rattle.std.proofs.lemmas.Bool.{cond_both, eqb-true, or_parts}
@@ -28,12 +29,16 @@ use Rattle.rubis_laws.proofs.Order.Deciding.{counted_short, reds_short, in_limit
 use Rattle.rubis_laws.proofs.Runs.SoundSteps.{at_one, event_keeps, event_sites}
 use Rattle.rubis_model.proofs.Lists.{has_append, push_cases}
 
-module _ (keep : ℕ) (few : keep ≤ 1000000) (w : World) (i : ℕ) (s : Sound w) (l : i < length w.sites) (small : length w.sites ≤ 16) (ask : Ask) (limits : IsAsk (length w.sites) ask) where
+module _ (keep : ℕ) (few : keep ≤ 1000000) (w : World) (i : ℕ) (s : Sound w) (l : i < length w.sites) (small : length w.sites ≤ 16) (ask : Ask)
+    (limits : IsAsk (length w.sites) ask) where
   counts_small : (x : Shadow) → length (site w i).log < 1000000 → All (λ n. n ≤ 1000000) (made (place keep w i) (site w i) x).stamp.deps
   counts_small x h k d inside =
-      let n : length (made (place keep w i) (site w i) x).stamp.deps ≡ length w.sites = length-map-range_with_len (λ j. counted j (site w i).log) 0 (length w.sites) in
+      let n : length (made (place keep w i) (site w i) x).stamp.deps
+      ≡ length w.sites = length-map-range_with_len (λ j. counted j (site w i).log) 0 (length w.sites) in
       let c = counted_short k (site w i).log in
-      subst (λ q. q ≤ 1000000) (sym (get_or-map-range_with_len (λ j. counted j (site w i).log) 0 (length w.sites) k k d (omega (arith, inside, n)) (omega arith))) (omega (arith, c, h))
+      subst (λ q. q ≤ 1000000)
+      (sym (get_or-map-range_with_len (λ j. counted j (site w i).log) 0 (length w.sites) k k d (omega (arith, inside, n)) (omega arith)))
+      (omega (arith, c, h))
 
   room_left : (x : Shadow) → decision (rows_at (site w i).log) (standing_of keep (site w i)) ask ≡ Ok x → length (site w i).log < 1000000
   room_left x e = least keep (length (site w i).log) (length (site w i).waiting) few (not_full (rows_at (site w i).log) (standing_of keep (site w i)) ask x e)
@@ -52,7 +57,10 @@ module _ (keep : ℕ) (few : keep ≤ 1000000) (w : World) (i : ℕ) (s : Sound 
       absurd (true≢false (sym (red_allowed (rows_at (site w i).log) (standing_of keep (site w i)) ask x e r).0 ∙ ap is_some h))
   red_small x e true r (Some issued) h =
       let number : red_for x (site w i).held ≡ issued + 1 = (λ j. cond (r j) (unwrap_or (h j) 0 + 1) 0) in
-      let up : reds (site w i).log ≡ issued = eqb-true (reds (site w i).log) issued (ap (λ q. option_map_or (λ n. reds (site w i).log == n) q false) (sym h) ∙ (red_allowed (rows_at (site w i).log) (standing_of keep (site w i)) ask x e r).1) in
+      let up : reds (site w i).log
+      ≡ issued = eqb-true (reds (site w i).log) issued
+      (ap (λ q. option_map_or (λ n. reds (site w i).log == n) q false) (sym h)
+      ∙ (red_allowed (rows_at (site w i).log) (standing_of keep (site w i)) ask x e r).1) in
       let c = reds_short (site w i).log in
       let room = room_left x e in
       (omega (arith, number, up, c, room), r ∙ sym (ap (nat_lt 0) number ∙ positive issued))
@@ -63,7 +71,8 @@ module _ (keep : ℕ) (few : keep ≤ 1000000) (w : World) (i : ℕ) (s : Sound 
   pub made_deliverable : (x : Shadow) → decision (rows_at (site w i).log) (standing_of keep (site w i)) ask ≡ Ok x
       → IsDeliverable (length w.sites) (packet.Msg (made (place keep w i) (site w i) x))
   made_deliverable x e =
-      let n : length (made (place keep w i) (site w i) x).stamp.deps ≡ length w.sites = length-map-range_with_len (λ j. counted j (site w i).log) 0 (length w.sites) in
+      let n : length (made (place keep w i) (site w i) x).stamp.deps
+      ≡ length w.sites = length-map-range_with_len (λ j. counted j (site w i).log) 0 (length w.sites) in
       let room = room_left x e in
       let c = counted_short i (site w i).log in
       let d = made_dep (place keep w i) (site w i) x (λ m h. s.home.origin m ((s.good i).log_sent m h)) i in
@@ -92,8 +101,10 @@ module _ (keep : ℕ) (w : World) (i : ℕ) (f : AllDeliverable (length w.sites)
       → AllDeliverable (length w.sites) (answering packet.Token w i (passing (place keep w i) (site w i) to o)).sent
   passing_deliverable to None = none_more
   passing_deliverable to (Some issued) =
-      cond_both (nat_le (length w.sites) to || (to == i)) (site w i, Err BadTarget) _ (λ (p : Replica × Result Token Refusal). AllDeliverable (length w.sites) (answering packet.Token w i p).sent) (λ _. none_more)
-      (λ there. cond_both (nat_le 1000000000 (site w i).last) (site w i, Err LastTurn) _ (λ (p : Replica × Result Token Refusal). AllDeliverable (length w.sites) (answering packet.Token w i p).sent) (λ _. none_more)
+      cond_both (nat_le (length w.sites) to || (to == i)) (site w i, Err BadTarget) _
+      (λ (p : Replica × Result Token Refusal). AllDeliverable (length w.sites) (answering packet.Token w i p).sent) (λ _. none_more)
+      (λ there. cond_both (nat_le 1000000000 (site w i).last) (site w i, Err LastTurn) _
+      (λ (p : Replica × Result Token Refusal). AllDeliverable (length w.sites) (answering packet.Token w i p).sent) (λ _. none_more)
       (λ _. one_more (packet.Token (token_for (site w i) to issued)) (is_there (length w.sites) to (or_parts (nat_le (length w.sites) to) (to == i) there).0)))
     where
       is_there : (n to : ℕ) → nat_le n to ≡ false → to < n

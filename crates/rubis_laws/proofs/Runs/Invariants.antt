@@ -17,7 +17,8 @@ use Rattle.rubis_model.specs.Invariants.{Holds}
 
 -- ---- winners
 still : (i : Id) (a : List Core) (m : Core) → bids_on i m.shadow ≡ false → closes i m.shadow ≡ false →
-    IfSome (close_of i a) (λ c. winner_of c.shadow ≡ option_map (λ (b : Core). b.id) (best_bid i a)) → IfSome (close_of i (a ++ m ∷ [])) (λ c. winner_of c.shadow ≡ option_map (λ (b : Core). b.id) (best_bid i (a ++ m ∷ [])))
+    IfSome (close_of i a) (λ c. winner_of c.shadow ≡ option_map (λ (b : Core). b.id) (best_bid i a)) →
+    IfSome (close_of i (a ++ m ∷ [])) (λ c. winner_of c.shadow ≡ option_map (λ (b : Core). b.id) (best_bid i (a ++ m ∷ [])))
 still i a m p q h =
     let b = choose_push higher (λ n. bids_on i n.shadow) a m ∙ choice_not higher (λ n. bids_on i n.shadow) (best_bid i a) m p in
     let c = choose_push earlier (λ n. closes i n.shadow) a m ∙ choice_not earlier (λ n. closes i n.shadow) (close_of i a) m q in
@@ -33,7 +34,8 @@ winner_push a s (Bid b) f h i = at (same_id i b.item) refl
         → IfSome (close_of i (a ++ msg s (Bid b) ∷ [])) (λ m. winner_of m.shadow ≡ option_map (λ (b : Core). b.id) (best_bid i (a ++ msg s (Bid b) ∷ [])))
     at true e =
         subst (λ o. IfSome o (λ m. winner_of m.shadow ≡ option_map (λ (b : Core). b.id) (best_bid i (a ++ msg s (Bid b) ∷ []))))
-        (sym (choose_push earlier (λ n. closes i n.shadow) a (msg s (Bid b)) ∙ choice_not earlier (λ n. closes i n.shadow) (close_of i a) (msg s (Bid b)) refl ∙ subst (λ j. close_of j a ≡ None) (sym ((Decides-same_id i b.item).0 e)) f.2)) tt
+        (sym (choose_push earlier (λ n. closes i n.shadow) a (msg s (Bid b)) ∙ choice_not earlier (λ n. closes i n.shadow) (close_of i a) (msg s (Bid b)) refl
+        ∙ subst (λ j. close_of j a ≡ None) (sym ((Decides-same_id i b.item).0 e)) f.2)) tt
     at false e = still i a (msg s (Bid b)) e refl (h i)
 winner_push a s (Close c) f h i = at (same_id i c.item) refl
   where
@@ -42,10 +44,14 @@ winner_push a s (Close c) f h i = at (same_id i c.item) refl
     at true e =
         let j = (Decides-same_id i c.item).0 e in
         let gone : close_of i a ≡ None = subst (λ k. close_of k a ≡ None) (sym j) f.1 in
-        let won : c.winner ≡ option_map (λ (b : Core). b.id) (best_bid i a) = subst (λ k. c.winner ≡ option_map (λ (b : Core). b.id) (best_bid k a)) (sym j) f.2 in
+        let won : c.winner ≡ option_map (λ (b : Core). b.id) (best_bid i a) = subst (λ k. c.winner ≡ option_map (λ (b : Core). b.id) (best_bid k a))
+        (sym j) f.2 in
         subst (λ o. IfSome o (λ m. winner_of m.shadow ≡ option_map (λ (b : Core). b.id) (best_bid i (a ++ msg s (Close c) ∷ []))))
-        (sym (choose_push earlier (λ n. closes i n.shadow) a (msg s (Close c)) ∙ (λ k. choice earlier (λ n. closes i n.shadow) (gone k) (msg s (Close c))) ∙ (λ k. cond (e k) (Some (msg s (Close c))) None)))
-        (won ∙ ap (option_map (λ (b : Core). b.id)) (sym (choose_push higher (λ n. bids_on i n.shadow) a (msg s (Close c)) ∙ choice_not higher (λ n. bids_on i n.shadow) (best_bid i a) (msg s (Close c)) refl)))
+        (sym (choose_push earlier (λ n. closes i n.shadow) a (msg s (Close c)) ∙ (λ k. choice earlier (λ n. closes i n.shadow) (gone k) (msg s (Close c)))
+        ∙ (λ k. cond (e k) (Some (msg s (Close c))) None)))
+        (won ∙ ap (option_map (λ (b : Core). b.id))
+        (sym (choose_push higher (λ n. bids_on i n.shadow) a (msg s (Close c))
+        ∙ choice_not higher (λ n. bids_on i n.shadow) (best_bid i a) (msg s (Close c)) refl)))
     at false e = still i a (msg s (Close c)) refl e (h i)
 winner_push a s x f h i = still i a (msg s x) refl refl (h i)
 

@@ -1,6 +1,7 @@
 -- Along the order of the red messages of a run no nickname has two users: that order is the red part of the log of the site
 -- that made the last of them.
-use Rattle.std.proofs.Common.{◌≡◌, ◌∙◌, ℕ, ◌+◌, ◌<◌, zero, suc, Bool, true, false, cond, List, [], ◌∷◌, ◌++◌, length, length-append, refl, sym, ap, subst, inl, inr, ⊎_elim, arith, None}
+use Rattle.std.proofs.Common.{◌≡◌, ◌∙◌, ℕ, ◌+◌, ◌<◌, zero, suc, Bool, true, false, cond, List, [], ◌∷◌, ◌++◌, length, length-append, refl, sym, ap, subst, inl}
+use Rattle.std.proofs.Common.{inr, ⊎_elim, arith, None}
 use Rattle.std.specs.Prelude.{◌⊎◌, nat_lt, option_map, reverse}
 use Rattle.std.specs.Option.{option_or}
 use Rattle.std.proofs.lemmas.Bool.{ltb-true}
@@ -84,10 +85,12 @@ unfolding red_only
 only_numbered [] r = tt
 only_numbered (m ∷ past) r = at (nat_lt 0 m.stamp.red) refl (only_numbered past r.1)
   where
-    at : (b : Bool) → nat_lt 0 m.stamp.red ≡ b → AreNumberedFrom 0 (reverse (red_only past)) → AreNumberedFrom 0 (reverse (cond b (m ∷ red_only past) (red_only past)))
+    at : (b : Bool) → nat_lt 0 m.stamp.red ≡ b → AreNumberedFrom 0 (reverse (red_only past)) →
+        AreNumberedFrom 0 (reverse (cond b (m ∷ red_only past) (red_only past)))
     at true e rest =
         subst (AreNumberedFrom 0) (sym (reverse-append (m ∷ []) (red_only past)))
-        (numbered_push 0 (reverse (red_only past)) m rest (omega (arith, r.0.number (ltb-true 0 m.stamp.red e), only_many past, length-reverse (red_only past))))
+        (numbered_push 0 (reverse (red_only past)) m rest
+        (omega (arith, r.0.number (ltb-true 0 m.stamp.red e), only_many past, length-reverse (red_only past))))
     at false e rest = rest
 
 -- ---- blue ones give no nickname
@@ -112,8 +115,10 @@ record SaySame (u : Id) (a b : List Core) : Type 0 where
 
 say_push : (u : Id) (a b : List Core) (m : Core) → SaySame u a b → SaySame u (a ++ m ∷ []) (b ++ m ∷ [])
 say_push u a b m s = record {
-  given = at_id_push (λ n. as_user n.shadow) u a m ∙ ap (λ o. option_or o (when (same_id u m.id) (as_user m.shadow))) s.given ∙ sym (at_id_push (λ n. as_user n.shadow) u b m);
-  renamed = choose_push later (λ n. renames u n.shadow) a m ∙ ap (λ o. choice later (λ n. renames u n.shadow) o m) s.renamed ∙ sym (choose_push later (λ n. renames u n.shadow) b m);
+  given = at_id_push (λ n. as_user n.shadow) u a m ∙ ap (λ o. option_or o (when (same_id u m.id) (as_user m.shadow))) s.given
+      ∙ sym (at_id_push (λ n. as_user n.shadow) u b m);
+  renamed = choose_push later (λ n. renames u n.shadow) a m ∙ ap (λ o. choice later (λ n. renames u n.shadow) o m) s.renamed
+      ∙ sym (choose_push later (λ n. renames u n.shadow) b m);
 }
 
 say_skip : (u : Id) (a b : List Core) (m : Core) → gives_nick m.shadow ≡ false → SaySame u a b → SaySame u (a ++ m ∷ []) b
@@ -160,8 +165,10 @@ module _ (w : World) (s : Sound w) where
       let within : (x : Message) → Has x past → Sent w x = λ x h. all x (has_right x front past h) in
       let red : nat_lt 0 m.stamp.red ≡ true = is_positive m.stamp.red (omega (arith, e, some)) in
       let counts : reds past ≡ reds back + 1 = ap (λ b. reds back + cond b 1 0) red in
-      let many : length ms ≡ length (reverse (red_only past)) = omega (arith, e, rest.0.number (omega (arith, e, some)), counts, only_many past, length-reverse (red_only past)) in
-      let same : ms ≡ reverse (red_only past) = same_numbered w s 0 ms (reverse (red_only past)) first.sent (λ x h. within x (only_within past x (has_reverse x (red_only past) h))) first.numbered (only_numbered past rest) many in
+      let many : length ms ≡ length (reverse (red_only past)) =
+      omega (arith, e, rest.0.number (omega (arith, e, some)), counts, only_many past, length-reverse (red_only past)) in
+      let same : ms ≡ reverse (red_only past) = same_numbered w s 0 ms (reverse (red_only past)) first.sent
+      (λ x h. within x (only_within past x (has_reverse x (red_only past) h))) first.numbered (only_numbered past rest) many in
       let as_there : (z : Id) → nick_at z (cores ms) ≡ nick_at z (cores (reverse past)) = λ z. let k = reds_say w s z past within in
       ap (λ l. nick_at z (cores l)) same ∙ (λ i. option_map (nick_after (sym k.renamed i)) (sym k.given i)) in
       unique_back past rest within n u v (sym (as_there u) ∙ p) (sym (as_there v) ∙ q)
@@ -173,7 +180,8 @@ module _ (w : World) (s : Sound w) where
       let a = first.sent last.0 last.1 in
       let o = last.0.stamp.id.site in
       let at = split_at last.0 (reverse (site w o).log) (s.home.home last.0 a) in
-      unique_upto (x ∷ xs) at.0 at.1 last.0 (subst Released at.2 (s.good o).released) (λ y h. (s.good o).log_sent y (subst (Has y) (sym at.2) h)) first (omega (arith, last.2)) (omega arith)
+      unique_upto (x ∷ xs) at.0 at.1 last.0 (subst Released at.2 (s.good o).released) (λ y h. (s.good o).log_sent y (subst (Has y) (sym at.2) h)) first
+      (omega (arith, last.2)) (omega arith)
 
 pub nicknames_are_unique : NicknamesAreUnique
 nicknames_are_unique n keep events some few a ms first = unique_first (run keep events (start n)) (sound_run n keep events some few a) ms first
@@ -185,7 +193,8 @@ reds_are_in_one_order n keep events some few a (suc k) l =
     let next = (every_order n keep events some few a).numbered (suc k) (omega arith) l in (
       before.0 ++ next.0 ∷ [],
       record {
-        sent = λ m h. ⊎_elim (λ q. before.1.sent m q) (λ q. ⊎_elim (λ e. subst (λ x. Sent (run keep events (start n)) x) (sym e) next.1) (λ z. absurd z) q) (has_append m before.0 (next.0 ∷ []) h);
+        sent = λ m h. ⊎_elim (λ q. before.1.sent m q) (λ q. ⊎_elim (λ e. subst (λ x. Sent (run keep events (start n)) x) (sym e) next.1) (λ z. absurd z) q)
+            (has_append m before.0 (next.0 ∷ []) h);
         numbered = numbered_push 0 before.0 next.0 before.1.numbered (next.2 ∙ omega (arith, before.2));
       },
       length-append before.0 (next.0 ∷ []) ∙ omega (arith, before.2),

@@ -1,5 +1,6 @@
 -- The records of several sites are a run of them.
-use Rattle.std.proofs.Common.{ℕ, ◌≡◌, ◌+◌, ◌^◌, ◌<◌, ◌≤◌, List, [], ◌∷◌, ◌++◌, length, refl, sym, ap, ◌∙◌, subst, arith, Option, Some, None, ⊎_elim, append_assoc, append-nil}
+use Rattle.std.proofs.Common.{ℕ, ◌≡◌, ◌+◌, ◌^◌, ◌<◌, ◌≤◌, List, [], ◌∷◌, ◌++◌, length, refl, sym, ap, ◌∙◌, subst, arith, Option, Some, None, ⊎_elim}
+use Rattle.std.proofs.Common.{append_assoc, append-nil}
 use Rattle.std.specs.Prelude.{IfSome, codes, map, option_and_then, take, unwrap_or}
 use Rattle.std.specs.List.{range_with_len}
 use Rattle.std.specs.Option.{option_or}
@@ -19,7 +20,8 @@ use Rattle.rubis_model.specs.AuditRecords.{verdict_record}
 use Rattle.rubis_model.specs.Checks.{SameSet}
 use Rattle.rubis_model.specs.Laws.{InRun, WasLogOf, tables_at}
 use Rattle.rubis_model.specs.Logs.{Log}
-use Rattle.rubis_model.specs.RecordedRuns.{AnswersAreARun, AuditsAgree, RecordsAreARun, RecordsKeepInvariants, input_events, record_events, world_after, world_at}
+use Rattle.rubis_model.specs.RecordedRuns.{AnswersAreARun, AuditsAgree, RecordsAreARun, RecordsKeepInvariants, input_events, record_events, world_after}
+use Rattle.rubis_model.specs.RecordedRuns.{world_at}
 use Rattle.rubis_model.specs.Settle.{Has}
 use Rattle.rubis_model.specs.Sound.{Sound}
 use Rattle.rubis_model.specs.System.{AreEvents, Event, World, happens, run, site, start}
@@ -61,14 +63,16 @@ unfolding take_audit
 audit_limits sites fields rest x e =
     after_some (IsWorldInput sites) (take_word (codes "audit") fields) _ x rest (λ _ a f. given (λ y _. IsWorldInput sites y) Audit x a rest f tt) e
 
-request_limits : (sites : ℕ) → sites < 2 ^ 8 → (i : ℕ) (fields : List (List ℕ)) (o : Option Request) → request_of sites fields ≡ o → IsWorldInput sites (Asked i o)
+request_limits : (sites : ℕ) → sites < 2 ^ 8 → (i : ℕ) (fields : List (List ℕ)) (o : Option Request) → request_of sites fields ≡ o →
+    IsWorldInput sites (Asked i o)
 request_limits sites few i fields None e = tt
 request_limits sites few i fields (Some r) e = ((request_is sites few fields r).0 e).0
 
 asked_limits : (sites : ℕ) → sites < 2 ^ 8 → (i : ℕ) (fields : List (List ℕ)) (x : WorldInput) → asked_with sites i fields ≡ Some x → IsWorldInput sites x
 asked_limits sites few i [] x e = absurd cc
 asked_limits sites few i (field ∷ rest) x e =
-    subst (IsWorldInput sites) (same_Some (Asked i (request_of sites (field ∷ rest))) x e) (request_limits sites few i (field ∷ rest) (request_of sites (field ∷ rest)) refl)
+    subst (IsWorldInput sites) (same_Some (Asked i (request_of sites (field ∷ rest))) x e)
+    (request_limits sites few i (field ∷ rest) (request_of sites (field ∷ rest)) refl)
 
 some_limits : (sites : ℕ) → sites < 2 ^ 8 → (o : Option (ℕ × List (List ℕ))) (x : WorldInput) → option_and_then (λ p. asked_with sites p.0 p.1) o ≡ Some x
     → IsWorldInput sites x
@@ -109,7 +113,8 @@ event_limits sites Neither es h a = a
 
 are_events : (sites : ℕ) → sites < 2 ^ 8 → (records : List (List (List ℕ))) → AreEvents sites (record_events sites records)
 are_events sites few [] = tt
-are_events sites few (fields ∷ rest) = event_limits sites (world_input sites fields) (record_events sites rest) (input_limits sites few fields) (are_events sites few rest)
+are_events sites few (fields ∷ rest) = event_limits sites (world_input sites fields) (record_events sites rest) (input_limits sites few fields)
+    (are_events sites few rest)
 
 -- ---- the world after records is the run of their events
 
@@ -129,8 +134,11 @@ run_is keep [] w n = refl
 run_is keep (fields ∷ rest) w n = step_is keep w n rest (world_input (length w.sites) fields) (λ v. run_is keep rest v (n + 1))
 
 pub records_run : RecordsAreARun
-records_run sites keep records few =
-    (are_events sites (omega (arith, few)) records, run_is keep records (start sites) 1 ∙ ap (λ k. run keep (record_events k records) (start sites)) (start_sites sites))
+records_run sites keep records few = (
+  are_events sites (omega (arith, few)) records,
+  run_is keep records (start sites) 1
+      ∙ ap (λ k. run keep (record_events k records) (start sites)) (start_sites sites),
+)
 
 pub records_keep : RecordsKeepInvariants
 records_keep sites keep records some few small =
@@ -156,7 +164,8 @@ world_sites : (keep : ℕ) (records : List (List (List ℕ))) (sites : ℕ) → 
 world_sites keep records sites few =
     ap (λ (v : World). length v.sites) (records_run sites keep records few).1 ∙ after_sites keep (record_events sites records) (start sites) ∙ start_sites sites
 
-told_last : (keep : ℕ) (w : World) (n : ℕ) (fields : List (List ℕ)) → world_answers keep w n (fields ∷ []) ≡ (world_step keep w n (world_input (length w.sites) fields)).1
+told_last : (keep : ℕ) (w : World) (n : ℕ) (fields : List (List ℕ)) → world_answers keep w n (fields ∷ [])
+    ≡ (world_step keep w n (world_input (length w.sites) fields)).1
 unfolding world_answers
 told_last keep w n fields = append-nil _
 
@@ -181,9 +190,11 @@ answers_are_a_run sites keep records some few small = record {
       let e = records_run sites keep (take j records) few in
       let f = records_run sites keep (take k records) few in
       let same_runs = subst (λ (w : World). SameSet (site w a).log (site (world_at sites keep records k) b).log) e.1 same in
-      let same_logs = subst (λ (v : World). SameSet (site (run keep (record_events sites (take j records)) (start sites)) a).log (site v b).log) f.1 same_runs in
+      let same_logs = subst (λ (v : World). SameSet (site (run keep (record_events sites (take j records)) (start sites)) a).log (site v b).log) f.1 same_runs
+      in
       ap (λ (w : World). tables_at w a) e.1
-      ∙ equal_tables sites keep (record_events sites (take j records)) some small e.0 sites keep (record_events sites (take k records)) some small f.0 a b same_logs
+      ∙ equal_tables sites keep (record_events sites (take j records)) some small e.0 sites keep
+      (record_events sites (take k records)) some small f.0 a b same_logs
       ∙ sym (ap (λ (v : World). tables_at v b) f.1);
 }
 
@@ -213,6 +224,7 @@ audits_agree sites keep records fields some few small is =
     let r = records_run sites keep records few in
     let w = world_after keep (start sites) 1 records in
     let sound : Sound w = subst Sound (sym r.1) (sound_run sites keep (record_events sites records) some small r.0) in
-    let count : length w.sites ≡ sites = ap (λ (v : World). length v.sites) r.1 ∙ after_sites keep (record_events sites records) (start sites) ∙ start_sites sites in
+    let count : length w.sites ≡ sites = ap (λ (v : World). length v.sites) r.1 ∙ after_sites keep (record_events sites records) (start sites)
+    ∙ start_sites sites in
     answers_more keep records (fields ∷ []) (start sites) 1
     ∙ ap (λ rows. world_output_of sites keep records ++ rows) (audit_told keep w (1 + length records) fields sound (ap (λ k. world_input k fields) count ∙ is))

@@ -12,13 +12,15 @@ use Rattle.rubis_message.specs.declared.answers.Arrival.TheVariants as arrival
 use Rattle.rubis_message.specs.declared.answers.Taken.{Taken}
 use Rattle.rubis_message.specs.declared.answers.Taken.TheVariants as taken
 use Rattle.rubis_generate.specs.Decision.{decision}
-use Rattle.rubis_model.specs.Site.{Place, Replica, generating, asked, arrived, took, passing, passed, rows_at, standing_of, not_ours, is_repeat, is_full, after_came, arrival_of, token_for}
+use Rattle.rubis_model.specs.Site.{Place, Replica, generating, asked, arrived, took, passing, passed, rows_at, standing_of, not_ours, is_repeat, is_full}
+use Rattle.rubis_model.specs.Site.{after_came, arrival_of, token_for}
 use Rattle.rubis_message.specs.declared.answers.Happened.{Happened}
 use Rattle.rubis_message.specs.declared.answers.Happened.TheVariants as happened
 use Rattle.rubis_message.specs.declared.requests.Request.{Request}
 use Rattle.rubis_message.specs.declared.requests.Request.TheVariants as request
 use Rattle.rubis_message.specs.declared.tokens.Packet.{Packet}
-use Rattle.rubis_model.specs.System.{World, Event, site, place, with_site, packet_at, next_number, answering, saying, sending, sends, takes, requested, coming, at_site, happens}
+use Rattle.rubis_model.specs.System.{World, Event, site, place, with_site, packet_at, next_number, answering, saying, sending, sends, takes, requested, coming}
+use Rattle.rubis_model.specs.System.{at_site, happens}
 use Rattle.rubis_model.specs.System.Event.{At, Deliver}
 use Rattle.rubis_message.specs.declared.tokens.Packet.TheVariants as packet
 use Rattle.rubis_model.specs.Laws.{RefusalsChangeNothing}

@@ -1,5 +1,6 @@
 -- Between events nothing that waits is ready, is in the log, or waits twice.
-use Rattle.std.proofs.Common.{◌≡◌, ◌∙◌, ℕ, ◌≤◌, List, [], ◌∷◌, ◌++◌, length, false, get_or, refl, sym, subst, inl, inr, ⊎_elim, arith, Option, Some, None, true, ap}
+use Rattle.std.proofs.Common.{◌≡◌, ◌∙◌, ℕ, ◌≤◌, List, [], ◌∷◌, ◌++◌, length, false, get_or, refl, sym, subst, inl, inr, ⊎_elim, arith, Option, Some, None, true}
+use Rattle.std.proofs.Common.{ap}
 use Rattle.std.specs.Prelude.{slice_set, nat_le, not, ◌||◌, ◌==◌, Result, Ok, Err, ⊤}
 use Rattle.std.specs.List.{list_any}
 use Rattle.std.proofs.lemmas.Bool.{cases_lt, cond_both, or_parts, or_left, or_right, true≢false}
@@ -18,7 +19,8 @@ use Rattle.rubis_message.specs.declared.answers.Taken.TheVariants as taken
 use Rattle.rubis_generate.specs.Decision.{decision}
 use Rattle.rubis_model.specs.Settle.{Has, Ready, Settles, settle}
 use Rattle.rubis_model.specs.Settle.Settles.{Rest, Release}
-use Rattle.rubis_model.specs.Site.{Replica, opening_at, settled, made, after_made, issued_after, token_for, generating, rows_at, standing_of, not_ours, is_repeat, is_full, after_came, arrived, took, passing}
+use Rattle.rubis_model.specs.Site.{Replica, opening_at, settled, made, after_made, issued_after, token_for, generating, rows_at, standing_of, not_ours}
+use Rattle.rubis_model.specs.Site.{is_repeat, is_full, after_came, arrived, took, passing}
 use Rattle.rubis_message.specs.declared.requests.Request.{Request}
 use Rattle.rubis_message.specs.declared.requests.Request.TheVariants as request
 use Rattle.rubis_message.specs.declared.tokens.Packet.{Packet}
@@ -78,7 +80,8 @@ abbrev pub Rests : Replica → Type 0
 Rests s = AtRest s.log s.waiting
 
 settled_rests : (s : Replica) → Apart s.log s.waiting → Rests (settled s)
-settled_rests s a = settles_rest s.log s.waiting (settle (length s.waiting) s.log s.waiting).0 (settle (length s.waiting) s.log s.waiting).1 (settle_settles (length s.waiting) s.log s.waiting (omega arith)) a
+settled_rests s a = settles_rest s.log s.waiting (settle (length s.waiting) s.log s.waiting).0 (settle (length s.waiting) s.log s.waiting).1
+    (settle_settles (length s.waiting) s.log s.waiting (omega arith)) a
 
 -- ---- every event
 pub AllRest : World → Type 0
@@ -99,7 +102,8 @@ rest_set w i x sent r h j = ⊎_elim
 pub listed : (m : Message) (log : List Message) → Has m log → list_any (λ u. same_id m.stamp.id u.stamp.id) log ≡ true
 listed m [] h = absurd h
 listed m (x ∷ log) (inl e) =
-    or_left (same_id m.stamp.id x.stamp.id) (list_any (λ u. same_id m.stamp.id u.stamp.id) log) ((Decides-same_id m.stamp.id x.stamp.id).1 (ap (λ (u : Message). u.stamp.id) e))
+    or_left (same_id m.stamp.id x.stamp.id) (list_any (λ u. same_id m.stamp.id u.stamp.id) log)
+    ((Decides-same_id m.stamp.id x.stamp.id).1 (ap (λ (u : Message). u.stamp.id) e))
 listed m (x ∷ log) (inr h) = or_right (same_id m.stamp.id x.stamp.id) (list_any (λ u. same_id m.stamp.id u.stamp.id) log) (listed m log h)
 
 pub unlisted : (m : Message) (log : List Message) → list_any (λ u. same_id m.stamp.id u.stamp.id) log ≡ false → Has m log → ⊥
@@ -133,22 +137,29 @@ module _ (keep : ℕ) (w : World) (i : ℕ) (s : Sound w) (r : AllRest w) where
   rest_passing : (to : ℕ) (o : Option ℕ) → AllRest (answering packet.Token w i (passing (place keep w i) (site w i) to o))
   rest_passing to None = rest_set w i (site w i) (w.sent ++ []) r here
   rest_passing to (Some issued) =
-      cond_both (nat_le (length w.sites) to || (to == i)) (site w i, Err BadTarget) _ (λ (p : Replica × Result Token Refusal). AllRest (answering packet.Token w i p)) (λ _. rest_set w i (site w i) (w.sent ++ []) r here)
-      (λ _. cond_both (nat_le 1000000000 (site w i).last) (site w i, Err LastTurn) _ (λ (p : Replica × Result Token Refusal). AllRest (answering packet.Token w i p)) (λ _. rest_set w i (site w i) (w.sent ++ []) r here)
+      cond_both (nat_le (length w.sites) to || (to == i)) (site w i, Err BadTarget) _
+      (λ (p : Replica × Result Token Refusal). AllRest (answering packet.Token w i p)) (λ _. rest_set w i (site w i) (w.sent ++ []) r here)
+      (λ _. cond_both (nat_le 1000000000 (site w i).last) (site w i, Err LastTurn) _
+      (λ (p : Replica × Result Token Refusal). AllRest (answering packet.Token w i p)) (λ _. rest_set w i (site w i) (w.sent ++ []) r here)
       (λ _. rest_set w i (record (site w i) { held = None }) (w.sent ++ packet.Token (token_for (site w i) to issued) ∷ []) r here))
 
   rest_mail : (m : Message) → AllRest (with_site w i (arrived (place keep w i) (site w i) m).0)
   rest_mail m =
-      cond_both (not_ours (place keep w i) (site w i) m) (site w i, Err NotOurs) _ (λ (p : Replica × Result Arrival Refusal). AllRest (with_site w i p.0)) (λ _. rest_set w i (site w i) w.sent r here)
-      (λ _. cond_both (is_repeat (site w i) m) (site w i, Ok arrival.Repeat) _ (λ (p : Replica × Result Arrival Refusal). AllRest (with_site w i p.0)) (λ _. rest_set w i (site w i) w.sent r here)
-      (λ new. cond_both (is_full keep (site w i)) (site w i, Err Full) _ (λ (p : Replica × Result Arrival Refusal). AllRest (with_site w i p.0)) (λ _. rest_set w i (site w i) w.sent r here)
+      cond_both (not_ours (place keep w i) (site w i) m) (site w i, Err NotOurs) _ (λ (p : Replica × Result Arrival Refusal). AllRest (with_site w i p.0))
+      (λ _. rest_set w i (site w i) w.sent r here)
+      (λ _. cond_both (is_repeat (site w i) m) (site w i, Ok arrival.Repeat) _ (λ (p : Replica × Result Arrival Refusal). AllRest (with_site w i p.0))
+      (λ _. rest_set w i (site w i) w.sent r here)
+      (λ new. cond_both (is_full keep (site w i)) (site w i, Err Full) _ (λ (p : Replica × Result Arrival Refusal). AllRest (with_site w i p.0))
+      (λ _. rest_set w i (site w i) w.sent r here)
       (λ _. rest_set w i (after_came (site w i) m) w.sent r
       (settled_rests (record (site w i) { waiting = (site w i).waiting ++ m ∷ [] }) (came_apart (site w i) m new here.apart)))))
 
   rest_token : (t : Token) → AllRest (with_site w i (took (place keep w i) (site w i) t).0)
   rest_token t =
-      cond_both (not (t.to == i)) (site w i, Err NotForMe) _ (λ (p : Replica × Result Taken Refusal). AllRest (with_site w i p.0)) (λ _. rest_set w i (site w i) w.sent r here)
-      (λ _. cond_both (nat_le t.turn (site w i).last) (site w i, Ok taken.Repeat) _ (λ (p : Replica × Result Taken Refusal). AllRest (with_site w i p.0)) (λ _. rest_set w i (site w i) w.sent r here)
+      cond_both (not (t.to == i)) (site w i, Err NotForMe) _ (λ (p : Replica × Result Taken Refusal). AllRest (with_site w i p.0))
+      (λ _. rest_set w i (site w i) w.sent r here)
+      (λ _. cond_both (nat_le t.turn (site w i).last) (site w i, Ok taken.Repeat) _ (λ (p : Replica × Result Taken Refusal). AllRest (with_site w i p.0))
+      (λ _. rest_set w i (site w i) w.sent r here)
       (λ _. rest_set w i (record (site w i) { held = Some t.issued; last = t.turn }) w.sent r here))
 
   rest_coming : (o : Option Packet) → AllRest (coming keep w i o).0
@@ -169,7 +180,8 @@ rest_event keep w (Deliver i k) s r =
 pub rest_run : (keep : ℕ) → keep ≤ 1000000 → (es : List Event) (w : World) → AreEvents (length w.sites) es → Sound w → AllRest w → AllRest (run keep es w)
 rest_run keep few [] w a s r = r
 rest_run keep few (e ∷ es) w a s r =
-    rest_run keep few es (happens keep w e).0 (subst (λ n. AreEvents n es) (sym (event_sites keep w e)) a.1) (event_keeps keep few w e a.0 s) (rest_event keep w e s r)
+    rest_run keep few es (happens keep w e).0 (subst (λ n. AreEvents n es) (sym (event_sites keep w e)) a.1) (event_keeps keep few w e a.0 s)
+    (rest_event keep w e s r)
 
 none_rest : AtRest [] []
 none_rest = record { unready = λ x h. absurd h; apart = record { not_logged = λ x h. absurd h; singly = tt } }

@@ -1,5 +1,6 @@
 -- Every event keeps a world sound.
-use Rattle.std.proofs.Common.{◌≡◌, ℕ, ◌+◌, ◌<◌, ◌≤◌, zero, suc, Bool, true, false, cond, Option, Some, None, List, [], ◌∷◌, ◌++◌, length, get_or, set, refl, sym, ap, ◌∙◌, subst, inl, inr, ⊎_elim, arith}
+use Rattle.std.proofs.Common.{◌≡◌, ℕ, ◌+◌, ◌<◌, ◌≤◌, zero, suc, Bool, true, false, cond, Option, Some, None, List, [], ◌∷◌, ◌++◌, length, get_or, set, refl}
+use Rattle.std.proofs.Common.{sym, ap, ◌∙◌, subst, inl, inr, ⊎_elim, arith}
 use Rattle.std.specs.Prelude.{reverse, slice_set, slice_get, not, ◌||◌, ◌==◌, nat_lt, nat_le, Result, Ok, Err, option_map, is_some, unwrap_or}
 use Rattle.std.specs.List.{list_any}
 use Rattle.std.specs.Option.{option_map_or}
@@ -23,17 +24,20 @@ use Rattle.rubis_message.specs.declared.answers.Taken.{Taken}
 use Rattle.rubis_message.specs.declared.answers.Taken.TheVariants as taken
 use Rattle.rubis_generate.specs.Decision.{decision}
 use Rattle.rubis_model.specs.Settle.{reds, Has}
-use Rattle.rubis_model.specs.Site.{Replica, opening_at, settled, made, after_made, red_for, issued_after, generating, rows_at, standing_of, not_ours, is_repeat, is_full, after_came, arrived, took, passing}
+use Rattle.rubis_model.specs.Site.{Replica, opening_at, settled, made, after_made, red_for, issued_after, generating, rows_at, standing_of, not_ours, is_repeat}
+use Rattle.rubis_model.specs.Site.{is_full, after_came, arrived, took, passing}
 use Rattle.rubis_message.specs.declared.answers.Happened.{Happened}
 use Rattle.rubis_message.specs.declared.requests.Request.{Request}
 use Rattle.rubis_message.specs.declared.requests.Request.TheVariants as request
 use Rattle.rubis_message.specs.declared.tokens.Packet.{Packet}
-use Rattle.rubis_model.specs.System.{World, Event, IsEvent, AreEvents, site, place, with_site, packet_at, answering, requested, coming, at_site, happens, run, start}
+use Rattle.rubis_model.specs.System.{World, Event, IsEvent, AreEvents, site, place, with_site, packet_at, answering, requested, coming, at_site, happens, run}
+use Rattle.rubis_model.specs.System.{start}
 use Rattle.rubis_message.specs.declared.tokens.Packet.TheVariants as packet
 use Rattle.rubis_model.specs.System.Event.{At, Deliver}
 use Rattle.rubis_model.specs.Sound.{Good, HasOrigins, RedsInOrder, OneToken, Sound}
 use Rattle.rubis_model.proofs.Settling.{good_settle, settle_grows, reverse_push}
-use Rattle.rubis_laws.proofs.Order.Making.{set_at, good_more, good_make, IsMade, is_made, reds_blue, reds_red, reds_token, shadow_cases, not_shadow, not_right, red_count_blue, turns_shadow}
+use Rattle.rubis_laws.proofs.Order.Making.{set_at, good_more, good_make, IsMade, is_made, reds_blue, reds_red, reds_token, shadow_cases, not_shadow, not_right}
+use Rattle.rubis_laws.proofs.Order.Making.{red_count_blue, turns_shadow}
 use Rattle.rubis_laws.proofs.Order.Tokens.{held_is, token_same, token_red, token_passed, token_taken}
 use Rattle.rubis_generate.proofs.Granted.{red_allowed}
 use Rattle.rubis_laws.proofs.Order.Deciding.{decided}
@@ -61,10 +65,12 @@ after : World → ℕ → Message → Option ℕ → Replica
 after w i m held = settled (record (site w i) { log = (site w i).log ++ m ∷ []; held = held })
 
 good_after : (w : World) (i : ℕ) (m : Message) (held : Option ℕ) → i < length w.sites → Sound w → IsMade i (site w i).log m
-    → (j : ℕ) → Good (w.sent ++ packet.Msg m ∷ []) j (get_or (set w.sites i (after w i m held)) j (opening_at 1)).log (get_or (set w.sites i (after w i m held)) j (opening_at 1)).waiting
+    → (j : ℕ) → Good (w.sent ++ packet.Msg m ∷ []) j (get_or (set w.sites i (after w i m held)) j (opening_at 1)).log
+    (get_or (set w.sites i (after w i m held)) j (opening_at 1)).waiting
 unfolding after
 good_after w i m held l s k j = set_at (λ q x. Good (w.sent ++ packet.Msg m ∷ []) q x.log x.waiting) w.sites i (after w i m held) (opening_at 1) l
-    (good_settle (w.sent ++ packet.Msg m ∷ []) i (length (site w i).waiting) ((site w i).log ++ m ∷ []) (site w i).waiting (good_make w.sent i (site w i).log (site w i).waiting m k (s.good i)))
+    (good_settle (w.sent ++ packet.Msg m ∷ []) i (length (site w i).waiting) ((site w i).log ++ m ∷ []) (site w i).waiting
+    (good_make w.sent i (site w i).log (site w i).waiting m k (s.good i)))
     (λ q _. good_more w.sent (packet.Msg m) q (site w q).log (site w q).waiting (s.good q)) j
 
 -- what is in a log stays there
@@ -72,7 +78,8 @@ stays : (w : World) (i : ℕ) (m u : Message) (held : Option ℕ) → i < length
     → Has u (reverse (get_or (set w.sites i (after w i m held)) j (opening_at 1)).log)
 unfolding after
 stays w i m u held l j = set_at (λ q x. Has u (reverse (site w q).log) → Has u (reverse x.log)) w.sites i (after w i m held) (opening_at 1) l
-    (λ h. settle_grows u (length (site w i).waiting) ((site w i).log ++ m ∷ []) (site w i).waiting (subst (Has u) (sym (reverse_push (site w i).log m)) (inr h)))
+    (λ h. settle_grows u (length (site w i).waiting) ((site w i).log ++ m ∷ []) (site w i).waiting
+    (subst (Has u) (sym (reverse_push (site w i).log m)) (inr h)))
     (λ q _ h. h) j
 
 arrives : (w : World) (i : ℕ) (m : Message) (held : Option ℕ) → i < length w.sites
@@ -108,33 +115,50 @@ held_after_same w i m held l = ap (λ (x : Replica). x.held) (get_or-set_same w.
 
 sound_after : (w : World) (i : ℕ) (m : Message) (held : Option ℕ) → i < length w.sites → Sound w → IsMade i (site w i).log m
     → RedsInOrder (w.sent ++ packet.Msg m ∷ [])
-    → OneToken (length w.sites) (λ j. (get_or (set w.sites i (after w i m held)) j (opening_at 1)).held) (λ j. (get_or (set w.sites i (after w i m held)) j (opening_at 1)).last) (w.sent ++ packet.Msg m ∷ [])
+    → OneToken (length w.sites) (λ j. (get_or (set w.sites i (after w i m held)) j (opening_at 1)).held)
+    (λ j. (get_or (set w.sites i (after w i m held)) j (opening_at 1)).last) (w.sent ++ packet.Msg m ∷ [])
     → Sound (record { sites = set w.sites i (after w i m held); sent = w.sent ++ packet.Msg m ∷ [] })
 sound_after w i m held l s k r t = record {
   good = good_after w i m held l s k;
   home =
-      subst (λ n. HasOrigins n (λ j. (get_or (set w.sites i (after w i m held)) j (opening_at 1)).log) (w.sent ++ packet.Msg m ∷ [])) (sym (length-set w.sites i (after w i m held))) (home_after w i m held l s k);
+      subst (λ n. HasOrigins n (λ j. (get_or (set w.sites i (after w i m held)) j (opening_at 1)).log) (w.sent ++ packet.Msg m ∷ []))
+      (sym (length-set w.sites i (after w i m held))) (home_after w i m held l s k);
   reds = r;
   token =
-      subst (λ n. OneToken n (λ j. (get_or (set w.sites i (after w i m held)) j (opening_at 1)).held) (λ j. (get_or (set w.sites i (after w i m held)) j (opening_at 1)).last) (w.sent ++ packet.Msg m ∷ [])) (sym (length-set w.sites i (after w i m held))) t;
+      subst (λ n. OneToken n (λ j. (get_or (set w.sites i (after w i m held)) j (opening_at 1)).held)
+      (λ j. (get_or (set w.sites i (after w i m held)) j (opening_at 1)).last) (w.sent ++ packet.Msg m ∷ []))
+      (sym (length-set w.sites i (after w i m held))) t;
 }
 
 sound_blue : (keep : ℕ) (w : World) (i : ℕ) (x : Shadow) → i < length w.sites → red_for x (site w i).held ≡ 0
     → issued_after x (site w i).held ≡ (site w i).held
-    → IsMade i (site w i).log (made (place keep w i) (site w i) x) → Sound w → Sound (record { sites = set w.sites i (after_made (place keep w i) (site w i) x); sent = w.sent ++ packet.Msg (made (place keep w i) (site w i) x) ∷ [] })
+    → IsMade i (site w i).log (made (place keep w i) (site w i) x) → Sound w →
+    Sound (record {
+      sites = set w.sites i (after_made (place keep w i) (site w i) x);
+      sent = w.sent
+          ++ packet.Msg (made (place keep w i) (site w i) x) ∷ [];
+    })
 unfolding after
 sound_blue keep w i x l none same k s =
     let m = made (place keep w i) (site w i) x in
     let held = issued_after x (site w i).held in
     sound_after w i m held l s k (reds_blue w.sent m none s.reds)
-    (token_same (length w.sites) (λ j. (site w j).held) (λ j. (get_or (set w.sites i (after w i m held)) j (opening_at 1)).held) (λ j. (site w j).last) (λ j. (get_or (set w.sites i (after w i m held)) j (opening_at 1)).last) w.sent (w.sent ++ packet.Msg m ∷ [])
-    (λ j. ⊎_elim (λ e. subst (λ q. (get_or (set w.sites i (after w i m held)) q (opening_at 1)).held ≡ (site w q).held) (sym e) (held_after_same w i m held l ∙ same)) (λ e. held_after_other w i m held j e) (cases_eq j i))
+    (token_same (length w.sites) (λ j. (site w j).held) (λ j. (get_or (set w.sites i (after w i m held)) j (opening_at 1)).held) (λ j. (site w j).last)
+    (λ j. (get_or (set w.sites i (after w i m held)) j (opening_at 1)).last) w.sent (w.sent ++ packet.Msg m ∷ [])
+    (λ j. ⊎_elim (λ e. subst (λ q. (get_or (set w.sites i (after w i m held)) q (opening_at 1)).held ≡ (site w q).held) (sym e)
+    (held_after_same w i m held l ∙ same)) (λ e. held_after_other w i m held j e) (cases_eq j i))
     (last_after w i m held l)
-    (red_count_blue w.sent m none) (turns_shadow w.sent m) (λ t h. not_right t m w.sent h) (λ t h. has_left (packet.Token t) w.sent (packet.Msg m ∷ []) h) s.token)
+    (red_count_blue w.sent m none) (turns_shadow w.sent m) (λ t h. not_right t m w.sent h)
+    (λ t h. has_left (packet.Token t) w.sent (packet.Msg m ∷ []) h) s.token)
 
 sound_red : (keep : ℕ) (w : World) (i issued : ℕ) (x : Shadow) → (site w i).held ≡ Some issued → i < length w.sites → reds (site w i).log ≡ issued
     → red_for x (site w i).held ≡ issued + 1 → issued_after x (site w i).held ≡ Some (issued + 1)
-    → IsMade i (site w i).log (made (place keep w i) (site w i) x) → Sound w → Sound (record { sites = set w.sites i (after_made (place keep w i) (site w i) x); sent = w.sent ++ packet.Msg (made (place keep w i) (site w i) x) ∷ [] })
+    → IsMade i (site w i).log (made (place keep w i) (site w i) x) → Sound w →
+    Sound (record {
+      sites = set w.sites i (after_made (place keep w i) (site w i) x);
+      sent = w.sent
+          ++ packet.Msg (made (place keep w i) (site w i) x) ∷ [];
+    })
 unfolding after
 sound_red keep w i issued x e l f number next k s =
     let h = held_is (length w.sites) (λ j. (site w j).held) (λ j. (site w j).last) w.sent i issued s.token e in
@@ -145,7 +169,8 @@ sound_red keep w i issued x e l f number next k s =
     (reds_red w.sent i (site w i).log (site w i).waiting m (s.good i) (f ∙ h.1) k (number ∙ ap (λ x. x + 1) h.1) s.reds)
     (inl (
       i,
-      token_red (length w.sites) (λ j. (site w j).held) (λ j. (get_or (set w.sites i (after w i m held)) j (opening_at 1)).held) (λ j. (site w j).last) (λ j. (get_or (set w.sites i (after w i m held)) j (opening_at 1)).last) w.sent m i
+      token_red (length w.sites) (λ j. (site w j).held) (λ j. (get_or (set w.sites i (after w i m held)) j (opening_at 1)).held) (λ j. (site w j).last)
+          (λ j. (get_or (set w.sites i (after w i m held)) j (opening_at 1)).last) w.sent m i
           (held_after_same w i m held l ∙ next ∙ ap (λ x. Some (x + 1)) h.1)
           (held_after_other w i m held)
           (last_after w i m held l)
@@ -157,13 +182,16 @@ quiet : World → ℕ → Option ℕ → ℕ → Replica
 quiet w i held last = record (site w i) { held = held; last = last }
 
 quiet_site : (w : World) (i : ℕ) (held : Option ℕ) (last : ℕ) → i < length w.sites → (j : ℕ)
-    → ((get_or (set w.sites i (quiet w i held last)) j (opening_at 1)).log ≡ (site w j).log) × ((get_or (set w.sites i (quiet w i held last)) j (opening_at 1)).waiting ≡ (site w j).waiting)
+    → ((get_or (set w.sites i (quiet w i held last)) j (opening_at 1)).log ≡ (site w j).log)
+    × ((get_or (set w.sites i (quiet w i held last)) j (opening_at 1)).waiting ≡ (site w j).waiting)
 unfolding quiet
 quiet_site w i held last l j =
-    set_at (λ q x. (x.log ≡ (site w q).log) × (x.waiting ≡ (site w q).waiting)) w.sites i (quiet w i held last) (opening_at 1) l (refl, refl) (λ q _. (refl, refl)) j
+    set_at (λ q x. (x.log ≡ (site w q).log) × (x.waiting ≡ (site w q).waiting)) w.sites i (quiet w i held last) (opening_at 1) l (refl, refl)
+    (λ q _. (refl, refl)) j
 
 quiet_same : (w : World) (i : ℕ) (held : Option ℕ) (last : ℕ) → i < length w.sites
-    → ((get_or (set w.sites i (quiet w i held last)) i (opening_at 1)).held ≡ held) × ((get_or (set w.sites i (quiet w i held last)) i (opening_at 1)).last ≡ last)
+    → ((get_or (set w.sites i (quiet w i held last)) i (opening_at 1)).held ≡ held)
+    × ((get_or (set w.sites i (quiet w i held last)) i (opening_at 1)).last ≡ last)
 unfolding quiet
 quiet_same w i held last l =
     let e = get_or-set_same w.sites i (quiet w i held last) (opening_at 1) l in (ap (λ (x : Replica). x.held) e, ap (λ (x : Replica). x.last) e)
@@ -191,21 +219,30 @@ good_same sent i log waiting log' waiting' e g = subst (λ x. Good sent i x wait
 -- logs and waiting messages are the same, and at most one token more was sent
 sound_quiet : (w : World) (i : ℕ) (held : Option ℕ) (last : ℕ) (sent : List Packet) → i < length w.sites
     → ((j : ℕ) → Good sent j (site w j).log (site w j).waiting) → HasOrigins (length w.sites) (λ j. (site w j).log) sent → RedsInOrder sent
-    → OneToken (length w.sites) (λ j. (get_or (set w.sites i (quiet w i held last)) j (opening_at 1)).held) (λ j. (get_or (set w.sites i (quiet w i held last)) j (opening_at 1)).last) sent
+    → OneToken (length w.sites) (λ j. (get_or (set w.sites i (quiet w i held last)) j (opening_at 1)).held)
+    (λ j. (get_or (set w.sites i (quiet w i held last)) j (opening_at 1)).last) sent
     → Sound (record { sites = set w.sites i (quiet w i held last); sent = sent })
 sound_quiet w i held last sent l g h r t = record {
   good =
-      λ j. good_same sent j (site w j).log (site w j).waiting (get_or (set w.sites i (quiet w i held last)) j (opening_at 1)).log (get_or (set w.sites i (quiet w i held last)) j (opening_at 1)).waiting (quiet_site w i held last l j) (g j);
-  home = subst (λ n. HasOrigins n (λ j. (get_or (set w.sites i (quiet w i held last)) j (opening_at 1)).log) sent) (sym (length-set w.sites i (quiet w i held last)))
-      (home_same (length w.sites) (λ j. (site w j).log) (λ j. (get_or (set w.sites i (quiet w i held last)) j (opening_at 1)).log) sent (λ j. (quiet_site w i held last l j).0) h);
+      λ j. good_same sent j (site w j).log (site w j).waiting (get_or (set w.sites i (quiet w i held last)) j (opening_at 1)).log
+      (get_or (set w.sites i (quiet w i held last)) j (opening_at 1)).waiting (quiet_site w i held last l j) (g j);
+  home = subst (λ n. HasOrigins n (λ j. (get_or (set w.sites i (quiet w i held last)) j (opening_at 1)).log) sent)
+      (sym (length-set w.sites i (quiet w i held last)))
+      (home_same (length w.sites) (λ j. (site w j).log) (λ j. (get_or (set w.sites i (quiet w i held last)) j (opening_at 1)).log) sent
+      (λ j. (quiet_site w i held last l j).0) h);
   reds = r;
   token =
-      subst (λ n. OneToken n (λ j. (get_or (set w.sites i (quiet w i held last)) j (opening_at 1)).held) (λ j. (get_or (set w.sites i (quiet w i held last)) j (opening_at 1)).last) sent) (sym (length-set w.sites i (quiet w i held last))) t;
+      subst (λ n. OneToken n (λ j. (get_or (set w.sites i (quiet w i held last)) j (opening_at 1)).held)
+      (λ j. (get_or (set w.sites i (quiet w i held last)) j (opening_at 1)).last) sent) (sym (length-set w.sites i (quiet w i held last))) t;
 }
 
 -- ---- the token is passed
 sound_passed : (w : World) (i to issued : ℕ) → (site w i).held ≡ Some issued → i < length w.sites → to < length w.sites → Sound w
-    → Sound (record { sites = set w.sites i (quiet w i None (site w i).last); sent = w.sent ++ packet.Token (record { turn = (site w i).last + 1; to = to; issued = issued }) ∷ [] })
+    → Sound (record {
+      sites = set w.sites i (quiet w i None (site w i).last);
+      sent = w.sent
+          ++ packet.Token (record { turn = (site w i).last + 1; to = to; issued = issued }) ∷ [];
+    })
 sound_passed w i to issued e l there s =
     let h = held_is (length w.sites) (λ j. (site w j).held) (λ j. (site w j).last) w.sent i issued s.token e in
     let t : Token = record { turn = (site w i).last + 1; to = to; issued = issued } in
@@ -215,10 +252,12 @@ sound_passed w i to issued e l there s =
     (reds_token w.sent t s.reds)
     (inr (
       t,
-      token_passed (length w.sites) (λ j. (site w j).held) (λ j. (get_or (set w.sites i (quiet w i None (site w i).last)) j (opening_at 1)).held) (λ j. (site w j).last) (λ j. (get_or (set w.sites i (quiet w i None (site w i).last)) j (opening_at 1)).last) w.sent t i
+      token_passed (length w.sites) (λ j. (site w j).held) (λ j. (get_or (set w.sites i (quiet w i None (site w i).last)) j (opening_at 1)).held)
+          (λ j. (site w j).last) (λ j. (get_or (set w.sites i (quiet w i None (site w i).last)) j (opening_at 1)).last) w.sent t i
           (quiet_same w i None (site w i).last l).0
           (λ j n. (quiet_other w i (quiet w i None (site w i).last) j n).0)
-          (λ j. ⊎_elim (λ q. subst (λ x. (get_or (set w.sites i (quiet w i None (site w i).last)) x (opening_at 1)).last ≡ (site w x).last) (sym q) (quiet_same w i None (site w i).last l).1) (λ n. (quiet_other w i (quiet w i None (site w i).last) j n).1) (cases_eq j i))
+          (λ j. ⊎_elim (λ q. subst (λ x. (get_or (set w.sites i (quiet w i None (site w i).last)) x (opening_at 1)).last ≡ (site w x).last) (sym q)
+          (quiet_same w i None (site w i).last l).1) (λ n. (quiet_other w i (quiet w i None (site w i).last) j n).1) (cases_eq j i))
           refl there h.1 h.0,
     ))
 
@@ -230,10 +269,13 @@ sound_taken w i t has l e late s =
     sound_quiet w i (Some t.issued) t.turn w.sent l s.good s.home s.reds
     (inl (
       t.to,
-      token_taken (length w.sites) (λ j. (site w j).held) (λ j. (get_or (set w.sites i (quiet w i (Some t.issued) t.turn)) j (opening_at 1)).held) (λ j. (site w j).last) (λ j. (get_or (set w.sites i (quiet w i (Some t.issued) t.turn)) j (opening_at 1)).last) w.sent t
+      token_taken (length w.sites) (λ j. (site w j).held) (λ j. (get_or (set w.sites i (quiet w i (Some t.issued) t.turn)) j (opening_at 1)).held)
+          (λ j. (site w j).last) (λ j. (get_or (set w.sites i (quiet w i (Some t.issued) t.turn)) j (opening_at 1)).last) w.sent t
           has late_to
-          (subst (λ x. (get_or (set w.sites i (quiet w i (Some t.issued) t.turn)) x (opening_at 1)).held ≡ Some t.issued) (sym e) (quiet_same w i (Some t.issued) t.turn l).0)
-          (subst (λ x. (get_or (set w.sites i (quiet w i (Some t.issued) t.turn)) x (opening_at 1)).last ≡ t.turn) (sym e) (quiet_same w i (Some t.issued) t.turn l).1)
+          (subst (λ x. (get_or (set w.sites i (quiet w i (Some t.issued) t.turn)) x (opening_at 1)).held ≡ Some t.issued) (sym e)
+          (quiet_same w i (Some t.issued) t.turn l).0)
+          (subst (λ x. (get_or (set w.sites i (quiet w i (Some t.issued) t.turn)) x (opening_at 1)).last ≡ t.turn) (sym e)
+          (quiet_same w i (Some t.issued) t.turn l).1)
           (λ j n. (quiet_other w i (quiet w i (Some t.issued) t.turn) j (λ q. n (q ∙ sym e))).0)
           (λ j n. (quiet_other w i (quiet w i (Some t.issued) t.turn) j (λ q. n (q ∙ sym e))).1)
           s.token,
@@ -250,7 +292,8 @@ or_second false y e = e
 known : (m : Message) (log : List Message) → Has m log → list_any (λ u. same_id m.stamp.id u.stamp.id) log ≡ true
 known m [] h = absurd h
 known m (x ∷ log) (inl e) =
-    or_first (same_id m.stamp.id x.stamp.id) (list_any (λ u. same_id m.stamp.id u.stamp.id) log) ((Decides-same_id m.stamp.id x.stamp.id).1 (ap (λ (u : Message). u.stamp.id) e))
+    or_first (same_id m.stamp.id x.stamp.id) (list_any (λ u. same_id m.stamp.id u.stamp.id) log)
+    ((Decides-same_id m.stamp.id x.stamp.id).1 (ap (λ (u : Message). u.stamp.id) e))
 known m (x ∷ log) (inr h) = or_second (same_id m.stamp.id x.stamp.id) (list_any (λ u. same_id m.stamp.id u.stamp.id) log) (known m log h)
 
 -- what isn't released or waiting is another site's
@@ -280,13 +323,16 @@ sound_came : (w : World) (i : ℕ) (m : Message) → i < length w.sites → Has 
 unfolding came
 sound_came w i m l h n s = record {
   good = set_at (λ q x. Good w.sent q x.log x.waiting) w.sites i (came w i m) (opening_at 1) l
-      (good_settle w.sent i (length ((site w i).waiting ++ m ∷ [])) (site w i).log ((site w i).waiting ++ m ∷ []) (good_waiting w.sent i (site w i).log (site w i).waiting m h n (s.good i)))
+      (good_settle w.sent i (length ((site w i).waiting ++ m ∷ [])) (site w i).log ((site w i).waiting ++ m ∷ [])
+      (good_waiting w.sent i (site w i).log (site w i).waiting m h n (s.good i)))
       (λ q _. s.good q);
   home = subst (λ n. HasOrigins n (λ j. (get_or (set w.sites i (came w i m)) j (opening_at 1)).log) w.sent) (sym (length-set w.sites i (came w i m)))
       (record { origin = s.home.origin; home = λ u k. stay u u.stamp.id.site (s.home.home u k) });
   reds = s.reds;
-  token = subst (λ n. OneToken n (λ j. (get_or (set w.sites i (came w i m)) j (opening_at 1)).held) (λ j. (get_or (set w.sites i (came w i m)) j (opening_at 1)).last) w.sent) (sym (length-set w.sites i (came w i m)))
-      (token_same (length w.sites) (λ j. (site w j).held) (λ j. (get_or (set w.sites i (came w i m)) j (opening_at 1)).held) (λ j. (site w j).last) (λ j. (get_or (set w.sites i (came w i m)) j (opening_at 1)).last) w.sent w.sent
+  token = subst (λ n. OneToken n (λ j. (get_or (set w.sites i (came w i m)) j (opening_at 1)).held)
+      (λ j. (get_or (set w.sites i (came w i m)) j (opening_at 1)).last) w.sent) (sym (length-set w.sites i (came w i m)))
+      (token_same (length w.sites) (λ j. (site w j).held) (λ j. (get_or (set w.sites i (came w i m)) j (opening_at 1)).held) (λ j. (site w j).last)
+      (λ j. (get_or (set w.sites i (came w i m)) j (opening_at 1)).last) w.sent w.sent
       (λ j. set_at (λ q x. x.held ≡ (site w q).held) w.sites i (came w i m) (opening_at 1) l refl (λ q _. refl) j)
       (λ j. set_at (λ q x. x.last ≡ (site w q).last) w.sites i (came w i m) (opening_at 1) l refl (λ q _. refl) j)
       refl refl (λ t k. k) (λ t k. k) s.token);
@@ -310,7 +356,8 @@ module _ (keep : ℕ) (w : World) (i : ℕ) (l : i < length w.sites) (s : Sound 
   mail_keeps : (m : Message) → Has (packet.Msg m) w.sent → Sound (with_site w i (arrived (place keep w i) (site w i) m).0)
   unfolding came
   mail_keeps m h =
-      cond_both (not_ours (place keep w i) (site w i) m) (site w i, Err NotOurs) _ (λ (p : Replica × Result Arrival Refusal). Sound (with_site w i p.0)) (λ _. back)
+      cond_both (not_ours (place keep w i) (site w i) m) (site w i, Err NotOurs) _ (λ (p : Replica × Result Arrival Refusal). Sound (with_site w i p.0))
+      (λ _. back)
       (λ _. cond_both (is_repeat (site w i) m) (site w i, Ok arrival.Repeat) _ (λ (p : Replica × Result Arrival Refusal). Sound (with_site w i p.0)) (λ _. back)
       (λ new. cond_both (is_full keep (site w i)) (site w i, Err Full) _ (λ (p : Replica × Result Arrival Refusal). Sound (with_site w i p.0)) (λ _. back)
       (λ _. sound_came w i m l h (foreign w i m h new s) s)))
@@ -319,7 +366,8 @@ module _ (keep : ℕ) (w : World) (i : ℕ) (l : i < length w.sites) (s : Sound 
   unfolding quiet
   token_keeps t h =
       cond_both (not (t.to == i)) (site w i, Err NotForMe) _ (λ (p : Replica × Result Taken Refusal). Sound (with_site w i p.0)) (λ _. back)
-      (λ mine. cond_both (nat_le t.turn (site w i).last) (site w i, Ok taken.Repeat) _ (λ (p : Replica × Result Taken Refusal). Sound (with_site w i p.0)) (λ _. back)
+      (λ mine. cond_both (nat_le t.turn (site w i).last) (site w i, Ok taken.Repeat) _ (λ (p : Replica × Result Taken Refusal). Sound (with_site w i p.0))
+      (λ _. back)
       (λ late. sound_taken w i t h l (is_mine t.to i mine) (is_late t.turn (site w i).last late) s))
     where
       is_mine : (a b : ℕ) → not (a == b) ≡ false → a ≡ b
@@ -340,8 +388,10 @@ module _ (keep : ℕ) (w : World) (i : ℕ) (l : i < length w.sites) (s : Sound 
   unfolding quiet
   passing_keeps to None e = refused
   passing_keeps to (Some issued) e =
-      cond_both (nat_le (length w.sites) to || (to == i)) (site w i, Err BadTarget) _ (λ (p : Replica × Result Token Refusal). Sound (answering packet.Token w i p)) (λ _. refused)
-      (λ there. cond_both (nat_le 1000000000 (site w i).last) (site w i, Err LastTurn) _ (λ (p : Replica × Result Token Refusal). Sound (answering packet.Token w i p)) (λ _. refused)
+      cond_both (nat_le (length w.sites) to || (to == i)) (site w i, Err BadTarget) _
+      (λ (p : Replica × Result Token Refusal). Sound (answering packet.Token w i p)) (λ _. refused)
+      (λ there. cond_both (nat_le 1000000000 (site w i).last) (site w i, Err LastTurn) _
+      (λ (p : Replica × Result Token Refusal). Sound (answering packet.Token w i p)) (λ _. refused)
       (λ _. sound_passed w i to issued e l (is_there (length w.sites) to (or_parts (nat_le (length w.sites) to) (to == i) there).0) s))
     where
       is_there : (n to : ℕ) → nat_le n to ≡ false → to < n
@@ -356,7 +406,11 @@ module _ (keep : ℕ) (w : World) (i : ℕ) (l : i < length w.sites) (s : Sound 
 
     made_keeps : (x : Shadow) → decision (rows_at (site w i).log) (standing_of keep (site w i)) ask ≡ Ok x → (b : Bool) → is_red x ≡ b
         → (o : Option ℕ) → (site w i).held ≡ o
-        → Sound (record { sites = set w.sites i (after_made (place keep w i) (site w i) x); sent = w.sent ++ packet.Msg (made (place keep w i) (site w i) x) ∷ [] })
+        → Sound (record {
+          sites = set w.sites i (after_made (place keep w i) (site w i) x);
+          sent = w.sent
+              ++ packet.Msg (made (place keep w i) (site w i) x) ∷ [];
+        })
     made_keeps x e false r o h =
         let none : red_for x (site w i).held ≡ 0 = ap (λ b. cond b (unwrap_or (site w i).held 0 + 1) 0) r in
         sound_blue keep w i x l none (ap (λ b. cond b (option_map (λ issued. issued + 1) (site w i).held) (site w i).held) r)
@@ -365,7 +419,10 @@ module _ (keep : ℕ) (w : World) (i : ℕ) (l : i < length w.sites) (s : Sound 
         absurd (true≢false (sym (red_allowed (rows_at (site w i).log) (standing_of keep (site w i)) ask x e r).0 ∙ ap is_some h))
     made_keeps x e true r (Some issued) h =
         let number : red_for x (site w i).held ≡ issued + 1 = (λ j. cond (r j) (unwrap_or (h j) 0 + 1) 0) in
-        let up : reds (site w i).log ≡ issued = eqb-true (reds (site w i).log) issued (ap (λ q. option_map_or (λ n. reds (site w i).log == n) q false) (sym h) ∙ (red_allowed (rows_at (site w i).log) (standing_of keep (site w i)) ask x e r).1) in
+        let up : reds (site w i).log
+        ≡ issued = eqb-true (reds (site w i).log) issued
+        (ap (λ q. option_map_or (λ n. reds (site w i).log == n) q false) (sym h)
+        ∙ (red_allowed (rows_at (site w i).log) (standing_of keep (site w i)) ask x e r).1) in
         sound_red keep w i issued x h l up number (λ j. cond (r j) (option_map (λ issued. issued + 1) (h j)) (h j))
         (inside_made x e (r ∙ sym (ap (nat_lt 0) number ∙ positive issued)) (λ _. number ∙ ap (λ n. n + 1) (sym up))) s
       where
@@ -380,7 +437,8 @@ module _ (keep : ℕ) (w : World) (i : ℕ) (l : i < length w.sites) (s : Sound 
 -- where there is no such site, nothing happens
 pub at_one : (P : World → Type 0) (w : World) (i : ℕ) (step : World × Result Happened Refusal) → P w → (i < length w.sites → P step.0)
     → P (at_site w i step).0
-at_one P w i step old new = cond_both (nat_lt i (length w.sites)) step _ (λ (p : World × Result Happened Refusal). P p.0) (λ l. new (ltb-true i (length w.sites) l)) (λ _. old)
+at_one P w i step old new = cond_both (nat_lt i (length w.sites)) step _ (λ (p : World × Result Happened Refusal). P p.0)
+    (λ l. new (ltb-true i (length w.sites) l)) (λ _. old)
 
 pub has_packet : (sent : List Packet) (k : ℕ) (p : Packet) → packet_at sent k ≡ Some p → Has p sent
 has_packet sent zero p e = absurd (cc)

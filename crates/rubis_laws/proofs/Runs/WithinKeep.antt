@@ -1,5 +1,6 @@
 -- A site never has more messages than it keeps.
-use Rattle.std.proofs.Common.{ℕ, ◌≡◌, ◌+◌, ◌≤◌, ◌<◌, List, [], ◌∷◌, ◌++◌, length, false, refl, sym, subst, arith, Option, Some, None, ⊎_elim, get_or, length-append}
+use Rattle.std.proofs.Common.{ℕ, ◌≡◌, ◌+◌, ◌≤◌, ◌<◌, List, [], ◌∷◌, ◌++◌, length, false, refl, sym, subst, arith, Option, Some, None, ⊎_elim, get_or}
+use Rattle.std.proofs.Common.{length-append}
 use Rattle.std.specs.Prelude.{slice_set, nat_le, not, ◌||◌, ◌==◌, Result, Ok, Err}
 use Rattle.std.proofs.lemmas.Bool.{cases_lt, cond_both}
 use Rattle.std.proofs.lemmas.Bool.Decides.{nat_tests}
@@ -15,7 +16,8 @@ use Rattle.rubis_message.specs.declared.answers.Arrival.TheVariants as arrival
 use Rattle.rubis_message.specs.declared.answers.Taken.{Taken}
 use Rattle.rubis_message.specs.declared.answers.Taken.TheVariants as taken
 use Rattle.rubis_generate.specs.Decision.{decision}
-use Rattle.rubis_model.specs.Site.{Replica, opening_at, settled, made, after_made, issued_after, token_for, generating, rows_at, standing_of, not_ours, is_repeat, is_full, after_came, arrived, took, passing}
+use Rattle.rubis_model.specs.Site.{Replica, opening_at, settled, made, after_made, issued_after, token_for, generating, rows_at, standing_of, not_ours}
+use Rattle.rubis_model.specs.Site.{is_repeat, is_full, after_came, arrived, took, passing}
 use Rattle.rubis_message.specs.declared.requests.Request.{Request}
 use Rattle.rubis_message.specs.declared.requests.Request.TheVariants as request
 use Rattle.rubis_message.specs.declared.tokens.Packet.{Packet}
@@ -52,27 +54,37 @@ module _ (keep : ℕ) (w : World) (i : ℕ) (r : Room keep w) where
   room_asking ask (Err k) e = room_set keep w i (site w i) (w.sent ++ []) r (r i)
   room_asking ask (Ok x) e =
       room_set keep w i (after_made (place keep w i) (site w i) x) (w.sent ++ packet.Msg (made (place keep w i) (site w i) x) ∷ []) r
-      (holds_settled keep (record (site w i) { log = (site w i).log ++ made (place keep w i) (site w i) x ∷ []; held = issued_after x (site w i).held }) (let l = under keep (length (site w i).log) (length (site w i).waiting) (not_full (rows_at (site w i).log) (standing_of keep (site w i)) ask x e) in omega (arith, l, length-append (site w i).log (made (place keep w i) (site w i) x ∷ []))))
+      (holds_settled keep (record (site w i) { log = (site w i).log ++ made (place keep w i) (site w i) x ∷ []; held = issued_after x (site w i).held })
+      (let l = under keep (length (site w i).log) (length (site w i).waiting) (not_full (rows_at (site w i).log) (standing_of keep (site w i)) ask x e) in
+      omega (arith, l, length-append (site w i).log (made (place keep w i) (site w i) x ∷ []))))
 
   room_passing : (to : ℕ) (o : Option ℕ) → Room keep (answering packet.Token w i (passing (place keep w i) (site w i) to o))
   room_passing to None = room_set keep w i (site w i) (w.sent ++ []) r (r i)
   room_passing to (Some issued) =
-      cond_both (nat_le (length w.sites) to || (to == i)) (site w i, Err BadTarget) _ (λ (p : Replica × Result Token Refusal). Room keep (answering packet.Token w i p)) (λ _. room_set keep w i (site w i) (w.sent ++ []) r (r i))
-      (λ _. cond_both (nat_le 1000000000 (site w i).last) (site w i, Err LastTurn) _ (λ (p : Replica × Result Token Refusal). Room keep (answering packet.Token w i p)) (λ _. room_set keep w i (site w i) (w.sent ++ []) r (r i))
+      cond_both (nat_le (length w.sites) to || (to == i)) (site w i, Err BadTarget) _
+      (λ (p : Replica × Result Token Refusal). Room keep (answering packet.Token w i p)) (λ _. room_set keep w i (site w i) (w.sent ++ []) r (r i))
+      (λ _. cond_both (nat_le 1000000000 (site w i).last) (site w i, Err LastTurn) _
+      (λ (p : Replica × Result Token Refusal). Room keep (answering packet.Token w i p)) (λ _. room_set keep w i (site w i) (w.sent ++ []) r (r i))
       (λ _. room_set keep w i (record (site w i) { held = None }) (w.sent ++ packet.Token (token_for (site w i) to issued) ∷ []) r (r i)))
 
   room_mail : (m : Message) → Room keep (with_site w i (arrived (place keep w i) (site w i) m).0)
   room_mail m =
-      cond_both (not_ours (place keep w i) (site w i) m) (site w i, Err NotOurs) _ (λ (p : Replica × Result Arrival Refusal). Room keep (with_site w i p.0)) (λ _. room_set keep w i (site w i) w.sent r (r i))
-      (λ _. cond_both (is_repeat (site w i) m) (site w i, Ok arrival.Repeat) _ (λ (p : Replica × Result Arrival Refusal). Room keep (with_site w i p.0)) (λ _. room_set keep w i (site w i) w.sent r (r i))
-      (λ _. cond_both (is_full keep (site w i)) (site w i, Err Full) _ (λ (p : Replica × Result Arrival Refusal). Room keep (with_site w i p.0)) (λ _. room_set keep w i (site w i) w.sent r (r i))
+      cond_both (not_ours (place keep w i) (site w i) m) (site w i, Err NotOurs) _ (λ (p : Replica × Result Arrival Refusal). Room keep (with_site w i p.0))
+      (λ _. room_set keep w i (site w i) w.sent r (r i))
+      (λ _. cond_both (is_repeat (site w i) m) (site w i, Ok arrival.Repeat) _ (λ (p : Replica × Result Arrival Refusal). Room keep (with_site w i p.0))
+      (λ _. room_set keep w i (site w i) w.sent r (r i))
+      (λ _. cond_both (is_full keep (site w i)) (site w i, Err Full) _ (λ (p : Replica × Result Arrival Refusal). Room keep (with_site w i p.0))
+      (λ _. room_set keep w i (site w i) w.sent r (r i))
       (λ b. room_set keep w i (after_came (site w i) m) w.sent r
-      (holds_settled keep (record (site w i) { waiting = (site w i).waiting ++ m ∷ [] }) (let l = under keep (length (site w i).log) (length (site w i).waiting) b in omega (arith, l, length-append (site w i).waiting (m ∷ [])))))))
+      (holds_settled keep (record (site w i) { waiting = (site w i).waiting ++ m ∷ [] })
+      (let l = under keep (length (site w i).log) (length (site w i).waiting) b in omega (arith, l, length-append (site w i).waiting (m ∷ [])))))))
 
   room_token : (t : Token) → Room keep (with_site w i (took (place keep w i) (site w i) t).0)
   room_token t =
-      cond_both (not (t.to == i)) (site w i, Err NotForMe) _ (λ (p : Replica × Result Taken Refusal). Room keep (with_site w i p.0)) (λ _. room_set keep w i (site w i) w.sent r (r i))
-      (λ _. cond_both (nat_le t.turn (site w i).last) (site w i, Ok taken.Repeat) _ (λ (p : Replica × Result Taken Refusal). Room keep (with_site w i p.0)) (λ _. room_set keep w i (site w i) w.sent r (r i))
+      cond_both (not (t.to == i)) (site w i, Err NotForMe) _ (λ (p : Replica × Result Taken Refusal). Room keep (with_site w i p.0))
+      (λ _. room_set keep w i (site w i) w.sent r (r i))
+      (λ _. cond_both (nat_le t.turn (site w i).last) (site w i, Ok taken.Repeat) _ (λ (p : Replica × Result Taken Refusal). Room keep (with_site w i p.0))
+      (λ _. room_set keep w i (site w i) w.sent r (r i))
       (λ _. room_set keep w i (record (site w i) { held = Some t.issued; last = t.turn }) w.sent r (r i)))
 
   room_coming : (o : Option Packet) → Room keep (coming keep w i o).0

@@ -100,12 +100,14 @@ module _ (keep : ℕ) (few : keep ≤ 1000000) (w : World) (i : ℕ) (s : Sound 
       let b = least keep (length (site w i).log) (length (site w i).waiting) few (not_full (rows_at (site w i).log) (standing_of keep (site w i)) a x e) in
       let n = cores_length (site w i).log in
       let l : length (cores (site w i).log) ≤ 2 ^ 32 = omega (arith, b, n) in
-      decided_fits (rows_at (site w i).log) (cores (site w i).log) (fold_is_meaning (cores (site w i).log) c l).0.rows (standing_of keep (site w i)) a x (checked_holds (cores (site w i).log) c) e
+      decided_fits (rows_at (site w i).log) (cores (site w i).log) (fold_is_meaning (cores (site w i).log) c l).0.rows (standing_of keep (site w i)) a x
+      (checked_holds (cores (site w i).log) c) e
     where
       least : (k a b : ℕ) → k ≤ 1000000 → nat_le k (a + b) ≡ false → a ≤ 1000000
       least k a b h e = grind (arith, nat_tests)
 
-  ask_texts : (a : Ask) → HasTexts a → Fits (cores (site w i).log) (shadow_of (rows_at (site w i).log) a) → HasShadowTexts (shadow_of (rows_at (site w i).log) a)
+  ask_texts : (a : Ask) → HasTexts a → Fits (cores (site w i).log) (shadow_of (rows_at (site w i).log) a) →
+      HasShadowTexts (shadow_of (rows_at (site w i).log) a)
   ask_texts (ask.Rename r) h f =
       (nick_text (cores (site w i).log) logged_texts r.user _ (by_kind (cores (site w i).log) (renaming (rows_at (site w i).log) r) f).0, h)
   ask_texts a h f = h
@@ -135,8 +137,10 @@ module _ (keep : ℕ) (few : keep ≤ 1000000) (w : World) (i : ℕ) (s : Sound 
       → AllPackets (length w.sites) (answering packet.Token w i (passing (place keep w i) (site w i) to o)).sent
   passing_written to None h = none_more
   passing_written to (Some issued) h =
-      cond_both (nat_le (length w.sites) to || (to == i)) (site w i, Err BadTarget) _ (λ (p : Replica × Result Token Refusal). AllPackets (length w.sites) (answering packet.Token w i p).sent) (λ _. none_more)
-      (λ there. cond_both (nat_le 1000000000 (site w i).last) (site w i, Err LastTurn) _ (λ (p : Replica × Result Token Refusal). AllPackets (length w.sites) (answering packet.Token w i p).sent) (λ _. none_more)
+      cond_both (nat_le (length w.sites) to || (to == i)) (site w i, Err BadTarget) _
+      (λ (p : Replica × Result Token Refusal). AllPackets (length w.sites) (answering packet.Token w i p).sent) (λ _. none_more)
+      (λ there. cond_both (nat_le 1000000000 (site w i).last) (site w i, Err LastTurn) _
+      (λ (p : Replica × Result Token Refusal). AllPackets (length w.sites) (answering packet.Token w i p).sent) (λ _. none_more)
       (λ early. one_more (packet.Token (token_for (site w i) to issued)) (
       let e = (held_is (length w.sites) (λ j. (site w j).held) (λ j. (site w j).last) w.sent i issued s.token h).1 in
       record {
@@ -157,7 +161,8 @@ module _ (keep : ℕ) (few : keep ≤ 1000000) (w : World) (i : ℕ) (s : Sound 
   coming_written (Some (packet.Msg m)) = all
   coming_written (Some (packet.Token t)) = all
 
-requested_written : (keep : ℕ) → keep ≤ 1000000 → (w : World) (i : ℕ) (q : Request) → length w.sites ≤ 16 → IsRequest (length w.sites) q → i < length w.sites → Sound w
+requested_written : (keep : ℕ) → keep ≤ 1000000 → (w : World) (i : ℕ) (q : Request) → length w.sites ≤ 16 → IsRequest (length w.sites) q → i < length w.sites →
+    Sound w
     → AllPackets (length w.sites) w.sent → AllPackets (length w.sites) (requested keep w i q).0.sent
 requested_written keep few w i (request.Ask a) n is l s all =
     asking_written keep few w i s all (decision (rows_at (site w i).log) (standing_of keep (site w i)) a)
@@ -170,4 +175,5 @@ pub event_written : (keep : ℕ) → keep ≤ 1000000 → (w : World) (e : Event
 event_written keep few w (At i q) n is s all =
     at_one (λ v. AllPackets (length w.sites) v.sent) w i (requested keep w i q) all (λ l. requested_written keep few w i q n is l s all)
 event_written keep few w (Deliver i k) n is s all =
-    at_one (λ v. AllPackets (length w.sites) v.sent) w i (coming keep w i (packet_at w.sent k)) all (λ l. coming_written keep few w i s all (packet_at w.sent k))
+    at_one (λ v. AllPackets (length w.sites) v.sent) w i (coming keep w i (packet_at w.sent k)) all
+    (λ l. coming_written keep few w i s all (packet_at w.sent k))

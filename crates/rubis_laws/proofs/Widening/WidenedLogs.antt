@@ -1,5 +1,6 @@
 -- Logs whose messages were widened have the same meaning and the same verdict.
-use Rattle.std.proofs.Common.{ℕ, ◌≡◌, ◌+◌, ◌-◌, ◌≤◌, ◌<◌, zero, suc, List, [], ◌∷◌, ◌++◌, length, Bool, true, false, ◌&&◌, cond, Option, Some, None, refl, sym, ap, ◌∙◌, subst, inl, inr, ⊎_elim, arith, get_or, append_assoc}
+use Rattle.std.proofs.Common.{ℕ, ◌≡◌, ◌+◌, ◌-◌, ◌≤◌, ◌<◌, zero, suc, List, [], ◌∷◌, ◌++◌, length, Bool, true, false, ◌&&◌, cond, Option, Some, None, refl, sym}
+use Rattle.std.proofs.Common.{ap, ◌∙◌, subst, inl, inr, ⊎_elim, arith, get_or, append_assoc}
 use Rattle.std.specs.Prelude.{◌||◌, ◌==◌, not, nat_lt, nat_le, map, find, reverse, replicate, slice_index, option_map}
 use Rattle.std.specs.List.{list_any, range_with_len}
 use Rattle.std.specs.Option.{option_map_or, option_or}
@@ -23,7 +24,9 @@ use Rattle.rubis_model.specs.Log.{cores, core, fold_of}
 use Rattle.rubis_model.specs.Logs.{Log}
 use Rattle.rubis_model.specs.Meaning.{IsMeaning}
 use Rattle.rubis_model.specs.Settle.{Has, counted, reds}
-use Rattle.rubis_model.specs.Verdict.{comes_before, at_some_site, clashes, clash, is_not_next, is_early, miscounts, forgets, out_of_order, last_red, takes_number, red_gap, makes_row, is_known, wrong_reference, checks, first_of, same_rows, wrong_rows, first_fault, found_or, verdict_from}
+use Rattle.rubis_model.specs.Verdict.{comes_before, at_some_site, clashes, clash, is_not_next, is_early, miscounts, forgets, out_of_order, last_red}
+use Rattle.rubis_model.specs.Verdict.{takes_number, red_gap, makes_row, is_known, wrong_reference, checks, first_of, same_rows, wrong_rows, first_fault}
+use Rattle.rubis_model.specs.Verdict.{found_or, verdict_from}
 use Rattle.rubis_model.specs.Widening.{widened_log, WidenedAreAmong, MeaningStays, VerdictStays}
 use Rattle.rubis_model.proofs.Lists.{has_left, has_right, has_append}
 use Rattle.rubis_laws.proofs.Audits.EntryOrder.{counted_past, nothing_past, number_same}
@@ -42,7 +45,8 @@ none_from p a zero h = refl
 none_from p a (suc n) h = or_from (p a) (list_any p (range_with_len (a + 1) n)) (h a (omega arith)) (none_from p (a + 1) n (λ j l. h j (omega (arith, l))))
 
 -- further numbers, of which none passes, change no test
-beyond : (p : ℕ → Bool) (a few many : ℕ) → few ≤ many → ((j : ℕ) → a + few ≤ j → p j ≡ false) → list_any p (range_with_len a many) ≡ list_any p (range_with_len a few)
+beyond : (p : ℕ → Bool) (a few many : ℕ) → few ≤ many → ((j : ℕ) → a + few ≤ j → p j ≡ false) → list_any p (range_with_len a many)
+    ≡ list_any p (range_with_len a few)
 beyond p a zero many l h = none_from p a many (λ j m. h j (omega (arith, m)))
 beyond p a (suc few) zero l h = absurd (omega (arith, l))
 beyond p a (suc few) (suc many) l h = ap (λ b. p a || b) (beyond p (a + 1) few many (omega (arith, l)) (λ j m. h j (omega (arith, m))))
@@ -126,7 +130,8 @@ module _ (from to : ℕ) (up : from ≤ to) where
     clash_w : clash (map w others) (map w own) (w v) ≡ clash others own v
     clash_w =
         ap (list_any (clashes (w v))) (sym (map-append w others own))
-        ∙ any_map (clashes (w v)) (clashes v) w (others ++ own) (λ u h. ap (λ b. same_id u.stamp.id v.stamp.id && not b) (same_w u v ((among u h).counts ∙ sym this.counts)))
+        ∙ any_map (clashes (w v)) (clashes v) w (others ++ own)
+        (λ u h. ap (λ b. same_id u.stamp.id v.stamp.id && not b) (same_w u v ((among u h).counts ∙ sym this.counts)))
 
     -- ---- Order
     next_w : is_not_next (map w own) (w v) ≡ is_not_next own v
@@ -173,7 +178,8 @@ module _ (from to : ℕ) (up : from ≤ to) where
     last_w : last_red (map w own) ≡ option_map w (last_red own)
     last_w = ap (find (λ (u : Message). is_red u.shadow)) (reverse_w own) ∙ found_w (reverse own)
 
-    behind_w : (o : Option Message) → option_map_or (λ u. not (comes_before u (w v))) (option_map w o) false ≡ option_map_or (λ u. not (comes_before u v)) o false
+    behind_w : (o : Option Message) → option_map_or (λ u. not (comes_before u (w v))) (option_map w o) false
+        ≡ option_map_or (λ u. not (comes_before u v)) o false
     behind_w None = refl
     behind_w (Some u) = ap not (before_w u v)
 
@@ -229,7 +235,8 @@ module _ (from to : ℕ) (up : from ≤ to) where
       let f = fault_w others log.site [] log.messages there (here log (inl refl)) in
       let further : verdict_from (k + 1) (map w others ++ map w log.messages) (map (widened_log to) logs) ≡ verdict_from (k + 1) (others ++ log.messages) logs =
       ap (λ l. verdict_from (k + 1) l (map (widened_log to) logs)) (sym (map-append w others log.messages))
-      ∙ verdict_w (k + 1) (others ++ log.messages) logs (λ u h. ⊎_elim (there u) (here log (inl refl) u) (has_append u others log.messages h)) (λ l h. here l (inr h)) in
+      ∙ verdict_w (k + 1) (others ++ log.messages) logs (λ u h. ⊎_elim (there u) (here log (inl refl) u) (has_append u others log.messages h))
+      (λ l h. here l (inr h)) in
       λ i. found_or k (option_or (f i) (cond (rows_w log i) (Some (kind.Rows, 0)) None)) (further i)
 
 pub verdict_stays : VerdictStays

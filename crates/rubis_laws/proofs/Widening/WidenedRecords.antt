@@ -34,7 +34,8 @@ module _ (from to : ℕ) (up : from ≤ to) (few : to ≤ COUNTED_MAX) where
   with_w (log ∷ logs) (Claim row) = refl
   with_w (log ∷ logs) (Next m) = at log.rows
     where
-      at : (o : Option (List (List (List ℕ)))) → with_line (record { site = log.site; messages = map (widened to) log.messages; rows = o } ∷ ws logs) (Next (widened to m))
+      at : (o : Option (List (List (List ℕ)))) →
+          with_line (record { site = log.site; messages = map (widened to) log.messages; rows = o } ∷ ws logs) (Next (widened to m))
           ≡ option_map ws (with_line (record { site = log.site; messages = log.messages; rows = o } ∷ logs) (Next m))
       at None = λ i. Some (record { site = log.site; messages = sym (map-append (widened to) log.messages (m ∷ [])) i; rows = None } ∷ ws logs)
       at (Some rows) = refl
@@ -53,7 +54,8 @@ module _ (from to : ℕ) (up : from ≤ to) (few : to ≤ COUNTED_MAX) where
       step x None p q f ih = absurd cc
       step x (Some more) p q f ih =
           ap (λ o. logs_after to n (ws logs) (option_map_or (λ y. line_record (widened_line to y)) o fields ∷ map (widened_record from to) rest)) p
-          ∙ one_more to few (ws logs) (ws more) (widened_line to x) n (map (widened_record from to) rest) (wide_is x (line_only from (omega (arith, up, few)) fields x p).0) (with_w logs x ∙ ap (option_map ws) q)
+          ∙ one_more to few (ws logs) (ws more) (widened_line to x) n (map (widened_record from to) rest)
+          (wide_is x (line_only from (omega (arith, up, few)) fields x p).0) (with_w logs x ∙ ap (option_map ws) q)
           ∙ ih more last f
 
       line : (o : Option Line) → line_of from fields ≡ o → after_line from n rest (option_and_then (with_line logs) o) ≡ Ok last → Rest (n + 1) rest

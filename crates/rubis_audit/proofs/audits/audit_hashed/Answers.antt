@@ -13,7 +13,9 @@ loop-at-preserved c =
     (rw c.in_default.is at c.in_ok-kind.ensures)
 
 pub returns-clause-sound : goal.returns-clause-sound
-returns-clause-sound c = λ e. over_sound c.args.sites c.loop-at.seen c.loop-at.at c.args.logs.now (omega (arith, c.loop-at-test.false)) c.requires.among c.loop-at.invariant
+returns-clause-sound c = λ e. over_sound c.args.sites c.loop-at.seen c.loop-at.at c.args.logs.now
+    (omega (arith, c.loop-at-test.false)) c.requires.among c.loop-at.invariant
 
 pub returns-clause-faultless : goal.returns-clause-faultless
-returns-clause-faultless c = λ e. over_faultless c.args.sites c.loop-at.seen c.loop-at.at c.args.logs.now (omega (arith, c.loop-at-test.false)) c.requires.among c.loop-at.invariant
+returns-clause-faultless c = λ e. over_faultless c.args.sites c.loop-at.seen c.loop-at.at c.args.logs.now
+    (omega (arith, c.loop-at-test.false)) c.requires.among c.loop-at.invariant

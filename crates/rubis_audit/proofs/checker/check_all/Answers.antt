@@ -13,7 +13,9 @@ returns-then-not-branch g c =
     let goes = subst (λ found. OfEachCheck rem c.steps.check (contents c.steps.writer) (λ grammar sites old all. MatchBool found
     (HasChecked rem grammar sites new old (contents c.check_next.new.writer) all)
     (HasCheckedAll grammar sites new.checker.tally new.sink old (contents c.check_next.new.writer) all))) none c.in_ok-check_next.ensures.goes in
-    if_ok_so _ _ c.end.result (λ tally whole grammar sites old all h. whole grammar sites old all (goes grammar sites old all (c.steps.invariant.3 grammar sites old all h))) c.end.ensures
+    if_ok_so _ _ c.end.result
+    (λ tally whole grammar sites old all h. whole grammar sites old all (goes grammar sites old all (c.steps.invariant.3 grammar sites old all h)))
+    c.end.ensures
 
 pub returns : goal.returns
 returns g c =

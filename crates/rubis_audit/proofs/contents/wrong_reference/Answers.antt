@@ -15,7 +15,8 @@ returns-then-any g c =
     let v = c.args.v.now in
     let keys : c.refers.result ≡ refers_of v.shadow = c.refers.ensures ∙ ap refers_of c.shadow.ensures.value in
     let found : c.any.result ≡ list_any (λ k. not (known_in t v k)) (refers_of v.shadow) =
-    any_from_yields_List (λ (k : RowKey). not (known_in t v k)) _ _ c.any.result c.any.ensures.ran (YieldsList-from_first (λ (k : RowKey). k) (λ (left : List RowKey). left) _ keys) (λ x b q k. search (rules, tests)) in
+    any_from_yields_List (λ (k : RowKey). not (known_in t v k)) _ _ c.any.result c.any.ensures.ran
+    (YieldsList-from_first (λ (k : RowKey). k) (λ (left : List RowKey). left) _ keys) (λ x b q k. search (rules, tests)) in
     let yes : c.any.result ≡ true = search rules in
     yes ∙ ap (λ b. b || wrong_category_in t v.shadow) (sym yes ∙ found)
 
@@ -25,6 +26,7 @@ returns-else-any g c =
     let v = c.args.v.now in
     let keys : c.refers.result ≡ refers_of v.shadow = c.refers.ensures ∙ ap refers_of c.shadow.ensures.value in
     let found : c.any.result ≡ list_any (λ k. not (known_in t v k)) (refers_of v.shadow) =
-    any_from_yields_List (λ (k : RowKey). not (known_in t v k)) _ _ c.any.result c.any.ensures.ran (YieldsList-from_first (λ (k : RowKey). k) (λ (left : List RowKey). left) _ keys) (λ x b q k. search (rules, tests)) in
+    any_from_yields_List (λ (k : RowKey). not (known_in t v k)) _ _ c.any.result c.any.ensures.ran
+    (YieldsList-from_first (λ (k : RowKey). k) (λ (left : List RowKey). left) _ keys) (λ x b q k. search (rules, tests)) in
     let no : c.any.result ≡ false = search rules in
     c.wrong_category.ensures ∙ ap (wrong_category_in t) c.shadow-else-any.ensures.value ∙ ap (λ b. b || wrong_category_in t v.shadow) (sym no ∙ found)

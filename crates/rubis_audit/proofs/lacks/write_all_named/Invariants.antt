@@ -7,4 +7,5 @@ use Rattle.rubis_audit.proofs.lacks.write_all_named.Given as goal
 -- what was written, and the rows of the messages to come
 abbrev pub invariant-loop-message : goal.invariant-loop-message
 invariant-loop-message l =
-    l.sink ++ rows_text (map (lack_row l.number) (map (λ m. m.now) (drop l.message-index l.messages))) ≡ l.fn.sink ++ rows_text (map (lack_row l.number) (map (λ m. m.now) l.messages))
+    l.sink ++ rows_text (map (lack_row l.number) (map (λ m. m.now) (drop l.message-index l.messages))) ≡ l.fn.sink
+    ++ rows_text (map (lack_row l.number) (map (λ m. m.now) l.messages))

@@ -12,7 +12,8 @@ pub returns-in_err-field : goal.returns-in_err-field
 returns-in_err-field g c =
     let fields = g.F.Record.fields c.args.fields.now in
     let place = c.loop-place.place in
-    c.from_residual.ensures ∙ sym (misfit_past c.args.sites _ (drop place c.args.rules.now) fields (c.args.from + place) (sym c.in_err-field.ensures)) ∙ c.loop-place.invariant
+    c.from_residual.ensures ∙ sym (misfit_past c.args.sites _ (drop place c.args.rules.now) fields (c.args.from + place) (sym c.in_err-field.ensures))
+    ∙ c.loop-place.invariant
 
 pub returns-then-not-fits : goal.returns-then-not-fits
 returns-then-not-fits g c =
@@ -25,7 +26,8 @@ returns-then-not-fits g c =
     let within : place < length all = search rules in
     let unfit : fits c.args.sites rule field ≡ false = search rules in
     sym (ap (λ b. if b then misfit c.args.sites (n + 1) (drop (suc place) all) (drop (suc (c.args.from + place)) fields) else Some (fault n (Rule rule))) unfit)
-    ∙ sym (misfit_at c.args.sites n place (c.args.from + place) all fields rule field (drop-cons all place Nick within) (sym c.in_ok-field.ensures)) ∙ c.loop-place.invariant
+    ∙ sym (misfit_at c.args.sites n place (c.args.from + place) all fields rule field (drop-cons all place Nick within) (sym c.in_ok-field.ensures))
+    ∙ c.loop-place.invariant
 
 pub loop-place-preserved : goal.loop-place-preserved
 loop-place-preserved g c =
@@ -42,4 +44,5 @@ loop-place-preserved g c =
     let after : c.args.from + (place + 1) ≡ suc (c.args.from + place) = omega arith in
     (λ j. misfit c.args.sites (number j) (drop (next j) all) (drop (after j) fields))
     ∙ sym (ap (λ b. if b then misfit c.args.sites (n + 1) (drop (suc place) all) (drop (suc (c.args.from + place)) fields) else Some (fault n (Rule rule))) fit)
-    ∙ sym (misfit_at c.args.sites n place (c.args.from + place) all fields rule field (drop-cons all place Nick within) (sym c.in_ok-field.ensures)) ∙ c.loop-place.invariant
+    ∙ sym (misfit_at c.args.sites n place (c.args.from + place) all fields rule field (drop-cons all place Nick within) (sym c.in_ok-field.ensures))
+    ∙ c.loop-place.invariant

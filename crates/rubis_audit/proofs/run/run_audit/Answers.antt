@@ -8,7 +8,8 @@ use Rattle.rubis_audit.proofs.run.run_audit.Goals as goal
 
 pub returns-clause-run : goal.returns-clause-run
 returns-clause-run g c =
-    subst (λ (a : AuditorState). IsRun (account_from a.asked a.sites 1 a.logs) RECORDS_MAX (g.R.Read.remaining c.args.reader) (g.W.Write.contents c.args.writer.now) (g.W.Write.contents c.run_auditor.new.writer) c.run_auditor.result)
+    subst (λ (a : AuditorState). IsRun (account_from a.asked a.sites 1 a.logs) RECORDS_MAX (g.R.Read.remaining c.args.reader)
+    (g.W.Write.contents c.args.writer.now) (g.W.Write.contents c.run_auditor.new.writer) c.run_auditor.result)
     c.new-auditor.ensures c.run_auditor.ensures.run
 
 pub returns-clause-sound : goal.returns-clause-sound
@@ -17,5 +18,6 @@ returns-clause-sound g c =
     let input = g.R.Read.remaining c.args.reader in
     let old = g.W.Write.contents c.args.writer.now in
     let new = g.W.Write.contents c.run_auditor.new.writer in
-    if_ok_so _ _ c.run_auditor.result (λ count. agrees_known c.args.sites RECORDS_MAX count.records auditor false input old new c.requires c.new-auditor.ensures)
+    if_ok_so _ _ c.run_auditor.result
+    (λ count. agrees_known c.args.sites RECORDS_MAX count.records auditor false input old new c.requires c.new-auditor.ensures)
     (run_done (account_from auditor.asked auditor.sites 1 auditor.logs) RECORDS_MAX input old new c.run_auditor.result c.run_auditor.ensures.run)

@@ -11,7 +11,8 @@ returns-then-count-counts c =
     let many = ap length c.deps-mine.ensures.value in
     let mine = c.count.ensures ∙ ap (λ xs. slice_index xs j) c.deps-mine.ensures.value in
     sym (some_site v (λ k. not (dep v k == slice_index c.args.counts.now k)) j (omega (arith, many, c.sites-j-end.ensures.value, c.loop-j-test.true))
-    (other_at (dep v j) (get_or c.args.counts.now j 0) (λ (e : dep v j ≡ get_or c.args.counts.now j 0). c.if-count-counts.true (mine ∙ e ∙ ap (λ k. get_or c.args.counts.now k 0) (sym c.from.ensures)))))
+    (other_at (dep v j) (get_or c.args.counts.now j 0)
+    (λ (e : dep v j ≡ get_or c.args.counts.now j 0). c.if-count-counts.true (mine ∙ e ∙ ap (λ k. get_or c.args.counts.now k 0) (sym c.from.ensures)))))
 
 pub returns : goal.returns
 returns c =

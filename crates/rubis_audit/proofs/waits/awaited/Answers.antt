@@ -11,7 +11,8 @@ returns-then-count c log e =
     let site = c.args.site in
     let l : site < sites_of m = subst (λ n. site < n) (sym c.requires.sites) c.requires.site in
     let d : c.count.result ≡ dep m site = c.count.ensures ∙ ap (λ counts. slice_index counts site) c.deps.ensures.value in
-    awaited_some log m site c.count-count.result l (c.count-count.ensures ∙ ap (λ (k : MessageCounts). slice_index k.counts site) e) (omega (arith, d, c.if-count.true))
+    awaited_some log m site c.count-count.result l (c.count-count.ensures ∙ ap (λ (k : MessageCounts). slice_index k.counts site) e)
+    (omega (arith, d, c.if-count.true))
 
 pub returns : goal.returns
 returns c log e =
@@ -19,4 +20,5 @@ returns c log e =
     let site = c.args.site in
     let l : site < sites_of m = subst (λ n. site < n) (sym c.requires.sites) c.requires.site in
     let d : c.count.result ≡ dep m site = c.count.ensures ∙ ap (λ counts. slice_index counts site) c.deps.ensures.value in
-    awaited_none log m site c.count-count.result l (c.count-count.ensures ∙ ap (λ (k : MessageCounts). slice_index k.counts site) e) (omega (arith, d, c.if-count.false))
+    awaited_none log m site c.count-count.result l (c.count-count.ensures ∙ ap (λ (k : MessageCounts). slice_index k.counts site) e)
+    (omega (arith, d, c.if-count.false))

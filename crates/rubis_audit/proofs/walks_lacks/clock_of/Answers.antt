@@ -26,7 +26,8 @@ count_in-requires-clause-origin c =
     let log = c.args.log.now.messages in
     let v = c.message-item.result in
     subst (λ s. s.id.site < length c.loop-message.clock.counts) (sym (stamp p))
-    (subst (λ q. v.stamp.id.site < q) (sym (counts_length c.args.sites (take c.loop-message.message-index log) c.loop-message.clock c.loop-message.invariant.clock))
+    (subst (λ q. v.stamp.id.site < q)
+    (sym (counts_length c.args.sites (take c.loop-message.message-index log) c.loop-message.clock c.loop-message.invariant.clock))
     (c.requires.among v (contained log v (c.loop-message.message-index, within p, sym (entry p)))).id.site)
 
 pub count_in-requires-clause-ready : goal.count_in-requires-clause-ready
@@ -34,7 +35,8 @@ count_in-requires-clause-ready c =
     let p = (goal.at.count_in-requires-clause-ready c).After-deref in
     subst (λ s. IsReady c.loop-message.clock s) (sym (stamp p))
     (subst (λ k. IsReady k c.message-item.result.stamp) (sym c.loop-message.invariant.clock)
-    (clock_ready c.args.sites c.args.log.now.messages c.loop-message.message-index c.message-item.result c.requires.among c.requires.released (within p) (entry p)))
+    (clock_ready c.args.sites c.args.log.now.messages c.loop-message.message-index c.message-item.result c.requires.among c.requires.released (within p)
+    (entry p)))
 
 pub loop-message-preserved : goal.loop-message-preserved
 loop-message-preserved c =
@@ -42,6 +44,8 @@ loop-message-preserved c =
     record {
       items = c.loop-message.invariant.items;
       clock =
-          clock_next c.args.sites c.args.log.now.messages c.loop-message.message-index c.message-item.result c.count_in.new.clock c.requires.among (within p) (entry p)
-          (c.count_in.ensures ∙ ap (λ s. advanced c.loop-message.clock s) (stamp p) ∙ ap (λ k. advanced k c.message-item.result.stamp) c.loop-message.invariant.clock);
+          clock_next c.args.sites c.args.log.now.messages c.loop-message.message-index c.message-item.result c.count_in.new.clock c.requires.among (within p)
+          (entry p)
+          (c.count_in.ensures ∙ ap (λ s. advanced c.loop-message.clock s) (stamp p)
+          ∙ ap (λ k. advanced k c.message-item.result.stamp) c.loop-message.invariant.clock);
     }

@@ -8,7 +8,8 @@ use Rattle.rubis_audit.proofs.walks_lacks.lacked.Goals.{then-is_new+in_ok-put_la
 
 pub is_new-requires : goal.is_new-requires
 is_new-requires c =
-    (c.requires.sites c.message-item.result.now (lent c.args.all.now c.loop-message.message-index c.message-item.result c.loop-message-test.true c.message-item.is)).counts
+    (c.requires.sites c.message-item.result.now
+    (lent c.args.all.now c.loop-message.message-index c.message-item.result c.loop-message-test.true c.message-item.is)).counts
     ∙ sym (counts_length c.args.sites c.args.log.now.messages c.clock_of-clock.result c.clock_of-clock.ensures)
 
 pub loop-message-preserved : goal.loop-message-preserved
@@ -32,5 +33,6 @@ loop-message-preserved c =
 pub returns : goal.returns
 returns c logs f h same =
     c.loop-message.invariant
-    ∙ uncounted_all c.args.sites c.args.log.now (map (λ m. m.now) c.args.all.now) c.clock_of-clock.result.counts c.loop-message.message-index logs (ap (λ (q : MessageCounts). q.counts) c.clock_of-clock.ensures)
+    ∙ uncounted_all c.args.sites c.args.log.now (map (λ m. m.now) c.args.all.now) c.clock_of-clock.result.counts c.loop-message.message-index logs
+    (ap (λ (q : MessageCounts). q.counts) c.clock_of-clock.ensures)
     c.requires.sites (lent_all c.args.all.now c.loop-message.message-index (omega (arith, c.loop-message-test.false))) f h same

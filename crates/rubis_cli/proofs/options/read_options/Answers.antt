@@ -28,5 +28,9 @@ returns-clause-fits c =
 
 pub returns-clause-ok : goal.returns-clause-ok
 returns-clause-ok c =
-    let entered = entered_by _ _ _ c.in-Some.name.now _ c.in-Some.ensures.name c.in-Some.ensures.rows in
-    (c.in-Some.name.now, rows_of (found_of c.in-Some.options.now), entered_line _ _ c.in_ok-matches.matches _ c.in_ok-program.ensures c.in_ok-matches.ensures.matches entered, c.in_ok-asked_of-in-Some.ensures)
+    let entered = entered_by _ _ _ c.in-Some.name.now _ c.in-Some.ensures.name c.in-Some.ensures.rows in (
+      c.in-Some.name.now,
+      rows_of (found_of c.in-Some.options.now),
+      entered_line _ _ c.in_ok-matches.matches _ c.in_ok-program.ensures c.in_ok-matches.ensures.matches entered,
+      c.in_ok-asked_of-in-Some.ensures,
+    )

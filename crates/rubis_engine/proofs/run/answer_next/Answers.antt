@@ -19,29 +19,35 @@ returns-in_ok-close-in-Ends-clause-goes g c all old input p =
     let n = c.args.run.now.answered + 1 in
     let same = if_none c.in_ok-count.field-0 c.in_ok-count.ensures.same c.in_default.is in
     let found = if_none c.in_ok-count.field-0 c.in_ok-count.ensures.found c.in_default.is in
-    let moved = progress-moved _ c.args.run.now.records all _ (g.S.Service.account c.next_record.new.service n) old _ (g.W.Write.contents c.next_record.new.writer) _ c.next_record.new.sink n input p
+    let moved = progress-moved _ c.args.run.now.records all _ (g.S.Service.account c.next_record.new.service n) old _
+    (g.W.Write.contents c.next_record.new.writer) _ c.next_record.new.sink n input p
     (ap (λ s. g.S.Service.account s n) same.0) (ap g.W.Write.contents same.2) same.1 in
     let ends : c.in_ok-course.course ≡ course.Ends = c.in-Ends.is in
     let answered = rw (c.fields.ensures, ends) at c.in_ok-course.ensures in
-    progress-ended _ _ c.next_record.new.records all _ (g.S.Service.account c.answer.new.self (n + 1)) old _ _ _ c.answer.new.reply.sink n input moved found answered c.in_ok-close-in-Ends.ensures.ok
+    progress-ended _ _ c.next_record.new.records all _ (g.S.Service.account c.answer.new.self (n + 1)) old _ _ _ c.answer.new.reply.sink n input moved found
+    answered c.in_ok-close-in-Ends.ensures.ok
 
 pub returns-in_ok-write_out-in-GoesOn-clause-goes : goal.returns-in_ok-write_out-in-GoesOn-clause-goes
 returns-in_ok-write_out-in-GoesOn-clause-goes g c all old input p =
     let n = c.args.run.now.answered + 1 in
     let same = if_none c.in_ok-count.field-0 c.in_ok-count.ensures.same c.in_default.is in
     let found = if_none c.in_ok-count.field-0 c.in_ok-count.ensures.found c.in_default.is in
-    let moved = progress-moved _ c.args.run.now.records all _ (g.S.Service.account c.next_record.new.service n) old _ (g.W.Write.contents c.next_record.new.writer) _ c.next_record.new.sink n input p
+    let moved = progress-moved _ c.args.run.now.records all _ (g.S.Service.account c.next_record.new.service n) old _
+    (g.W.Write.contents c.next_record.new.writer) _ c.next_record.new.sink n input p
     (ap (λ s. g.S.Service.account s n) same.0) (ap g.W.Write.contents same.2) same.1 in
     let goes : c.in_ok-course.course ≡ course.GoesOn = c.in-GoesOn.is in
     let answered = rw (c.fields.ensures, goes) at c.in_ok-course.ensures in
     c.in_ok-write_out-in-GoesOn.ensures.goes all old (n + 1) input
-    (progress-step _ c.args.run.now.records c.next_record.new.records all _ (g.S.Service.account c.answer.new.self (n + 1)) old _ _ c.answer.new.reply.sink n input moved found answered)
+    (progress-step _ c.args.run.now.records c.next_record.new.records all _ (g.S.Service.account c.answer.new.self (n + 1)) old _ _ c.answer.new.reply.sink n
+    input moved found answered)
 
 pub returns-in_err-write_out-in-GoesOn-clause-memory : goal.returns-in_err-write_out-in-GoesOn-clause-memory
 returns-in_err-write_out-in-GoesOn-clause-memory g c e all old input p =
     let n = c.args.run.now.answered + 1 in
     let same = if_none c.in_ok-count.field-0 c.in_ok-count.ensures.same c.in_default.is in
-    let memory = handed_on c.from_residual-in_err-write_out-in-GoesOn.result c.in_err-write_out-in-GoesOn.field-0.0 fault.Memory c.from_residual-in_err-write_out-in-GoesOn.ensures e in
-    let moved = progress-moved _ c.args.run.now.records all _ (g.S.Service.account c.next_record.new.service n) old _ (g.W.Write.contents c.next_record.new.writer) _ c.next_record.new.sink n input p
+    let memory = handed_on c.from_residual-in_err-write_out-in-GoesOn.result c.in_err-write_out-in-GoesOn.field-0.0 fault.Memory
+    c.from_residual-in_err-write_out-in-GoesOn.ensures e in
+    let moved = progress-moved _ c.args.run.now.records all _ (g.S.Service.account c.next_record.new.service n) old _
+    (g.W.Write.contents c.next_record.new.writer) _ c.next_record.new.sink n input p
     (ap (λ s. g.S.Service.account s n) same.0) (ap g.W.Write.contents same.2) same.1 in
     progress-stays _ _ all _ old _ _ _ n input moved (c.in_err-write_out-in-GoesOn.ensures.memory (rw memory refl))

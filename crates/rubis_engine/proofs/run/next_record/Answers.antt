@@ -42,5 +42,6 @@ returns-in_ok-write_out_held-in-Err-clause-memory g c e all old input p =
 
 pub returns-in_err-write_out_held-in-Err-clause-memory : goal.returns-in_err-write_out_held-in-Err-clause-memory
 returns-in_err-write_out_held-in-Err-clause-memory g c e all old input p =
-    let memory = handed_on c.from_residual-in_err-write_out_held-in-Err.result c.in_err-write_out_held-in-Err.field-0.0 fault.Memory c.from_residual-in_err-write_out_held-in-Err.ensures e in
+    let memory = handed_on c.from_residual-in_err-write_out_held-in-Err.result c.in_err-write_out_held-in-Err.field-0.0 fault.Memory
+    c.from_residual-in_err-write_out_held-in-Err.ensures e in
     progress-stays _ _ all _ old _ _ _ _ input p (c.in_err-write_out_held-in-Err.ensures.memory (rw memory refl))

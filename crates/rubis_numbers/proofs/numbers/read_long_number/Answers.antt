@@ -20,26 +20,31 @@ pub returns-then-byte-lt48-clause-value : goal.returns-then-byte-lt48-clause-val
 returns-then-byte-lt48-clause-value c = refused (number_is c.args.max (search rules)) c.args.bytes.now (λ n h e.
     let small = fits n c.args.max (search rules) h in
     elim c.then-byte-lt48.branch [
-      | then-byte-lt48-via-then-byte-lt48 w ↦ stops_at c.args.bytes.now c.loop-byte.byte-index c.loop-byte.number n small (omega arith) c.loop-byte.invariant (inl (omega arith)) e
-      | then-byte-lt48-via-else-byte-lt48+then-byte-gt57 w ↦ stops_at c.args.bytes.now c.loop-byte.byte-index c.loop-byte.number n small (omega arith) c.loop-byte.invariant (inr (omega arith)) e
+      | then-byte-lt48-via-then-byte-lt48 w ↦ stops_at c.args.bytes.now c.loop-byte.byte-index c.loop-byte.number n small (omega arith) c.loop-byte.invariant
+          (inl (omega arith)) e
+      | then-byte-lt48-via-else-byte-lt48+then-byte-gt57 w ↦ stops_at c.args.bytes.now c.loop-byte.byte-index c.loop-byte.number n small
+          (omega arith) c.loop-byte.invariant (inr (omega arith)) e
     ])
 
 pub returns-in_err-checked_mul-clause-value : goal.returns-in_err-checked_mul-clause-value
 returns-in_err-checked_mul-clause-value c = c.from_residual.ensures ∙ refused (number_is c.args.max (search rules)) c.args.bytes.now (λ n h e.
     let small = fits n c.args.max (search rules) h in
-    overflows c.args.bytes.now c.loop-byte.byte-index c.loop-byte.number n small (omega arith) c.loop-byte.invariant (omega (arith, c.in_err-checked_mul.ensures)) e)
+    overflows c.args.bytes.now c.loop-byte.byte-index c.loop-byte.number n small (omega arith) c.loop-byte.invariant
+    (omega (arith, c.in_err-checked_mul.ensures)) e)
 
 pub returns-in_err-number-clause-value : goal.returns-in_err-number-clause-value
 returns-in_err-number-clause-value c = c.from_residual-in_err-number.ensures ∙ refused (number_is c.args.max (search rules)) c.args.bytes.now (λ n h e.
     let small = fits n c.args.max (search rules) h in
-    overflows c.args.bytes.now c.loop-byte.byte-index c.loop-byte.number n small (omega arith) c.loop-byte.invariant (omega (arith, c.in_err-number.ensures, c.in_ok-checked_mul.ensures)) e)
+    overflows c.args.bytes.now c.loop-byte.byte-index c.loop-byte.number n small (omega arith) c.loop-byte.invariant
+    (omega (arith, c.in_err-number.ensures, c.in_ok-checked_mul.ensures)) e)
 
 pub returns-then-number-max-clause-value : goal.returns-then-number-max-clause-value
 returns-then-number-max-clause-value c =
     let some : 0 < length c.args.bytes.now = omega (arith, c.requires) in
     let lone = lone_zero c.args.bytes.now some (λ front. false≢true (c.if-has_leading_zero.ensures.1 front)) in
     found (number_is c.args.max (search rules)) c.args.bytes.now c.loop-byte.number c.if-number-max.true
-    (read_all c.args.bytes.now c.loop-byte.byte-index c.loop-byte.number some lone (fits c.loop-byte.number c.args.max (search rules) c.if-number-max.true) (omega arith) c.loop-byte.invariant)
+    (read_all c.args.bytes.now c.loop-byte.byte-index c.loop-byte.number some lone (fits c.loop-byte.number c.args.max (search rules) c.if-number-max.true)
+    (omega arith) c.loop-byte.invariant)
 
 pub returns-else-number-max-clause-value : goal.returns-else-number-max-clause-value
 returns-else-number-max-clause-value c = refused (number_is c.args.max (search rules)) c.args.bytes.now (λ n h e.

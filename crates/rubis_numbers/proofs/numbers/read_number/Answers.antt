@@ -4,7 +4,8 @@ use Rattle.std.proofs.lemmas.Bool.Decides.{Decides-eqb}
 use Rattle.rubis_numbers.proofs.Digits.{no_zero_in_front, not_empty, one_more_fits, read_all, stops_at, ends_with, too_great}
 use Rattle.rubis_numbers.proofs.NumberLaws.{found, refused, number_is}
 use Rattle.rubis_numbers.proofs.numbers.read_number.Goals as goal
-use Rattle.rubis_numbers.proofs.numbers.read_number.Goals.{then-is_empty-via-then-is_empty, then-is_empty-via-else-is_empty+then-has_leading_zero, then-byte-lt48-via-then-byte-lt48, then-byte-lt48-via-else-byte-lt48+then-byte-gt57}
+use Rattle.rubis_numbers.proofs.numbers.read_number.Goals.{then-is_empty-via-then-is_empty, then-is_empty-via-else-is_empty+then-has_leading_zero}
+use Rattle.rubis_numbers.proofs.numbers.read_number.Goals.{then-byte-lt48-via-then-byte-lt48, then-byte-lt48-via-else-byte-lt48+then-byte-gt57}
 
 fits : (n m : ℕ) → m < 2 ^ 64 → n ≤ m → n < 2 ^ 64
 fits n m h l = omega arith
@@ -20,7 +21,8 @@ pub returns-then-is_empty-clause-value : goal.returns-then-is_empty-clause-value
 returns-then-is_empty-clause-value c = refused (number_is c.args.max (search rules)) c.args.bytes.now (λ n h e.
     let small = fits n c.args.max (search rules) h in
     elim c.then-is_empty.branch [
-      | then-is_empty-via-then-is_empty w ↦ not_empty c.args.bytes.now n small ((Decides-eqb (length c.args.bytes.now) 0).0 (sym c.is_empty.ensures ∙ w.if-is_empty.true)) e
+      | then-is_empty-via-then-is_empty w ↦ not_empty c.args.bytes.now n small
+          ((Decides-eqb (length c.args.bytes.now) 0).0 (sym c.is_empty.ensures ∙ w.if-is_empty.true)) e
       | then-is_empty-via-else-is_empty+then-has_leading_zero w ↦
           let front = w.if-has_leading_zero.ensures.0 refl in
           no_zero_in_front c.args.bytes.now n small front.0 front.1 e
@@ -30,8 +32,10 @@ pub returns-then-byte-lt48-clause-value : goal.returns-then-byte-lt48-clause-val
 returns-then-byte-lt48-clause-value c = refused (number_is c.args.max (search rules)) c.args.bytes.now (λ n h e.
     let small = fits n c.args.max (search rules) h in
     elim c.then-byte-lt48.branch [
-      | then-byte-lt48-via-then-byte-lt48 w ↦ stops_at c.args.bytes.now c.loop-byte.byte-index c.loop-byte.number n small (omega arith) c.loop-byte.invariant.0 (inl (omega arith)) e
-      | then-byte-lt48-via-else-byte-lt48+then-byte-gt57 w ↦ stops_at c.args.bytes.now c.loop-byte.byte-index c.loop-byte.number n small (omega arith) c.loop-byte.invariant.0 (inr (omega arith)) e
+      | then-byte-lt48-via-then-byte-lt48 w ↦ stops_at c.args.bytes.now c.loop-byte.byte-index c.loop-byte.number n small (omega arith) c.loop-byte.invariant.0
+          (inl (omega arith)) e
+      | then-byte-lt48-via-else-byte-lt48+then-byte-gt57 w ↦ stops_at c.args.bytes.now c.loop-byte.byte-index c.loop-byte.number n small
+          (omega arith) c.loop-byte.invariant.0 (inr (omega arith)) e
     ])
 
 pub returns-then-number-max-clause-value : goal.returns-then-number-max-clause-value
@@ -39,7 +43,8 @@ returns-then-number-max-clause-value c =
     let some = some_bytes (length c.args.bytes.now) (sym c.is_empty.ensures ∙ c.if-is_empty.false) in
     let lone = lone_zero c.args.bytes.now some (λ front. false≢true (c.if-has_leading_zero.ensures.1 front)) in
     found (number_is c.args.max (search rules)) c.args.bytes.now c.loop-byte.number c.if-number-max.true
-    (read_all c.args.bytes.now c.loop-byte.byte-index c.loop-byte.number some lone (fits c.loop-byte.number c.args.max (search rules) c.if-number-max.true) (omega arith) c.loop-byte.invariant.0)
+    (read_all c.args.bytes.now c.loop-byte.byte-index c.loop-byte.number some lone (fits c.loop-byte.number c.args.max (search rules) c.if-number-max.true)
+    (omega arith) c.loop-byte.invariant.0)
 
 pub returns-else-number-max-clause-value : goal.returns-else-number-max-clause-value
 returns-else-number-max-clause-value c = refused (number_is c.args.max (search rules)) c.args.bytes.now (λ n h e.
@@ -48,10 +53,12 @@ returns-else-number-max-clause-value c = refused (number_is c.args.max (search r
 
 pub overflow_mul-number : goal.overflow_mul-number
 overflow_mul-number c =
-    let next = one_more_fits c.loop-byte.number c.loop-byte.byte-index 0 c.loop-byte.invariant.1 (omega (arith, c.if-bytes-gt19.false, c.loop-byte-test.true)) (omega arith) in
+    let next = one_more_fits c.loop-byte.number c.loop-byte.byte-index 0 c.loop-byte.invariant.1 (omega (arith, c.if-bytes-gt19.false, c.loop-byte-test.true))
+    (omega arith) in
     omega (arith, next.1)
 
 pub overflow_add-number : goal.overflow_add-number
 overflow_add-number c =
-    let next = one_more_fits c.loop-byte.number c.loop-byte.byte-index c.from.result c.loop-byte.invariant.1 (omega (arith, c.if-bytes-gt19.false, c.loop-byte-test.true)) (omega (arith, c.from.ensures)) in
+    let next = one_more_fits c.loop-byte.number c.loop-byte.byte-index c.from.result c.loop-byte.invariant.1
+    (omega (arith, c.if-bytes-gt19.false, c.loop-byte-test.true)) (omega (arith, c.from.ensures)) in
     omega (arith, next.1)

@@ -9,7 +9,10 @@ pub push_middle-requires-clause-room : goal.push_middle-requires-clause-room
 push_middle-requires-clause-room t c = omega (arith, c.requires.room, four_longer c.args.number c.requires.long c.ranges.number.fits)
 
 pub push_long-requires : goal.push_long-requires
-push_long-requires t c = (omega (arith, c.decreases, c.requires.long), (c.if-front-lt10000.false, omega (arith, c.requires.room, four_longer c.args.number c.requires.long c.ranges.number.fits)))
+push_long-requires t c = (
+  omega (arith, c.decreases, c.requires.long),
+  (c.if-front-lt10000.false, omega (arith, c.requires.room, four_longer c.args.number c.requires.long c.ranges.number.fits)),
+)
 
 pub push_pair-requires-clause-room : goal.push_pair-requires-clause-room
 push_pair-requires-clause-room t c =
@@ -25,8 +28,28 @@ push_pair-requires-2-clause-room t c =
     let len = c.push_pair.ensures.len in
     let room = c.push_pair.ensures.room in
     elim c.if-front-lt10000.branch [
-      | then-front-lt10000 w ↦ omega (arith, c.requires.room, len, room, ap (λ v. vec_len v) w.text-is, ap (λ v. vec_capacity v) w.text-is, w.push_middle.ensures.len, w.push_middle.ensures.room, longer)
-      | else-front-lt10000 w ↦ omega (arith, c.requires.room, len, room, ap (λ v. vec_len v) w.text-is, ap (λ v. vec_capacity v) w.text-is, w.push_long.ensures.len, w.push_long.ensures.room, longer)
+      | then-front-lt10000 w ↦ omega (
+        arith,
+        c.requires.room,
+        len,
+        room,
+        ap (λ v. vec_len v) w.text-is,
+        ap (λ v. vec_capacity v) w.text-is,
+        w.push_middle.ensures.len,
+        w.push_middle.ensures.room,
+        longer,
+      )
+      | else-front-lt10000 w ↦ omega (
+        arith,
+        c.requires.room,
+        len,
+        room,
+        ap (λ v. vec_len v) w.text-is,
+        ap (λ v. vec_capacity v) w.text-is,
+        w.push_long.ensures.len,
+        w.push_long.ensures.room,
+        longer,
+      )
     ]
 
 pub returns : goal.returns

@@ -6,10 +6,20 @@ pub push_middle-requires-clause-room : goal.push_middle-requires-clause-room
 push_middle-requires-clause-room c = omega (arith, c.requires.room, four_longer c.args.number c.requires.long c.ranges.number.fits)
 
 pub push_pair-requires-clause-room : goal.push_pair-requires-clause-room
-push_pair-requires-clause-room c = omega (arith, c.requires.room, c.push_middle.ensures.len, c.push_middle.ensures.room, four_longer c.args.number c.requires.long c.ranges.number.fits)
+push_pair-requires-clause-room c =
+    omega (arith, c.requires.room, c.push_middle.ensures.len, c.push_middle.ensures.room, four_longer c.args.number c.requires.long c.ranges.number.fits)
 
 pub push_pair-requires-2-clause-room : goal.push_pair-requires-2-clause-room
-push_pair-requires-2-clause-room c = omega (arith, c.requires.room, c.push_middle.ensures.len, c.push_middle.ensures.room, c.push_pair.ensures.len, c.push_pair.ensures.room, four_longer c.args.number c.requires.long c.ranges.number.fits)
+push_pair-requires-2-clause-room c =
+    omega (
+      arith,
+      c.requires.room,
+      c.push_middle.ensures.len,
+      c.push_middle.ensures.room,
+      c.push_pair.ensures.len,
+      c.push_pair.ensures.room,
+      four_longer c.args.number c.requires.long c.ranges.number.fits,
+    )
 
 pub returns : goal.returns
 returns c =
@@ -20,7 +30,8 @@ returns c =
     let two : List ℕ = (48 + n / 100 % 100 / 10) ∷ (48 + n / 100 % 100 % 10) ∷ [] in
     let last : List ℕ = (48 + n % 100 / 10) ∷ (48 + n % 100 % 10) ∷ [] in
     record {
-      text = end.text ∙ ap (λ xs. xs ++ last) (pair.text ∙ ap (λ xs. xs ++ two) middle.text) ∙ four_more c.args.text.now.items n c.requires.long c.ranges.number.fits;
+      text = end.text ∙ ap (λ xs. xs ++ last) (pair.text ∙ ap (λ xs. xs ++ two) middle.text)
+          ∙ four_more c.args.text.now.items n c.requires.long c.ranges.number.fits;
       len = omega (arith, middle.len, pair.len, end.len, four_longer n c.requires.long c.ranges.number.fits);
       room = end.room ∙ pair.room ∙ middle.room;
     }

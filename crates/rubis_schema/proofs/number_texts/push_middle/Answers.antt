@@ -19,7 +19,8 @@ returns-else-number-lt100 c =
     let pair = c.push_pair.ensures in
     let two : List ℕ = (48 + n % 100 / 10) ∷ (48 + n % 100 % 10) ∷ [] in
     record {
-      text = pair.text ∙ ap (λ xs. xs ++ two) short.text ∙ append_assoc old (decimal (n / 100)) two ∙ ap (λ xs. old ++ xs) (sym (more_digits n c.if-number-lt100.false c.ranges.number.fits));
+      text = pair.text ∙ ap (λ xs. xs ++ two) short.text ∙ append_assoc old (decimal (n / 100)) two
+          ∙ ap (λ xs. old ++ xs) (sym (more_digits n c.if-number-lt100.false c.ranges.number.fits));
       len = omega (arith, pair.len, short.len, two_longer n c.if-number-lt100.false c.ranges.number.fits);
       room = pair.room ∙ short.room;
     }

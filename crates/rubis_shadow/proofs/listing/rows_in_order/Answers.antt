@@ -14,7 +14,8 @@ returns c =
     let p = λ (e : RowKey × Row). holds c.args.table e.0 in
     let es = c.args.all.now.entries in
     let gs = each deref_pair c.put_in_order.new.rows in
-    let all : filter p c.into_iter-key-iterator.result ≡ filter p es = ap (filter p) (c.into_iter-key-iterator.ensures.into_iter_gives ∙ c.iter-key-items.ensures.rest) in
+    let all : filter p c.into_iter-key-iterator.result
+    ≡ filter p es = ap (filter p) (c.into_iter-key-iterator.ensures.into_iter_gives ∙ c.iter-key-items.ensures.rest) in
     let picked : each deref_pair c.deref_mut.result.now ≡ filter p es =
     ap (each deref_pair) c.deref_mut.ensures.value
     ∙ sym (append-nil _)

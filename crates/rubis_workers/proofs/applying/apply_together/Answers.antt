@@ -24,7 +24,8 @@ again-requires g c =
     let batch = cores (slice_range c.args.batch.now.log.now c.args.batch.now.from c.args.batch.now.upto) in
     let f : AreFollowed (c.args.batch.now.from + 1) batch ss followed.shards followed.dones =
     subst (λ r. IfOk r (λ x. AreFollowed (c.args.batch.now.from + 1) batch ss x.shards x.dones)) c.in-Ok.is c.follow_by_team-result.ensures.followed in
-    set_followed (c.args.batch.now.from + 1) batch ss followed.shards followed.dones some (subst AreInOrder (sym c.take-taken.ensures.list) c.take-taken.ensures.order) f
+    set_followed (c.args.batch.now.from + 1) batch ss followed.shards followed.dones some
+    (subst AreInOrder (sym c.take-taken.ensures.list) c.take-taken.ensures.order) f
 
 pub stop_each-requires-clause-within : goal.stop_each-requires-clause-within
 stop_each-requires-clause-within g c = λ k l.

@@ -17,7 +17,8 @@ loop-place-preserved c =
       here = refl;
       some = omega (arith, many, c.loop-place.invariant.some);
       holds = λ first. next_held log c.loop-place.place m c.loop-place.tables c.apply_message.new.self inside c.index-log-place.is
-          (λ shards before count old. subst (λ (x : Core). HoldsLog shards (before ++ x ∷ []) c.apply_message.new.self) entry.core (done.log shards before (entry.number ∙ count) old))
+          (λ shards before count old. subst (λ (x : Core). HoldsLog shards (before ++ x ∷ []) c.apply_message.new.self) entry.core
+          (done.log shards before (entry.number ∙ count) old))
           (sym many) (subst (λ n. HoldsLog (length c.loop-place.tables) (cores (take n log)) c.loop-place.tables) c.loop-place.invariant.here
           (c.loop-place.invariant.holds first));
       limits = λ sites all first. next_within sites log c.loop-place.place m inside c.index-log-place.is entry.conditions all

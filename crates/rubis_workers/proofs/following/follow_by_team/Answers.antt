@@ -40,7 +40,8 @@ unreachable-requires g c =
     let ss = c.args.shards.items in
     let moved =
     IsPermutation-trans (each bare ss) c.post_bare-poster.result.posted c.fan_out-pass.result.pass.taken c.post_bare-poster.ensures.posted
-    (subst (λ l. IsPermutation l c.fan_out-pass.result.pass.taken) (ap (λ (p : PassState). p.posted) c.fan_out-pass.ensures.pass ∙ ap (λ (p : PassState). p.posted) c.open-board.ensures) c.close.ensures) in
+    (subst (λ l. IsPermutation l c.fan_out-pass.result.pass.taken)
+    (ap (λ (p : PassState). p.posted) c.fan_out-pass.ensures.pass ∙ ap (λ (p : PassState). p.posted) c.open-board.ensures) c.close.ensures) in
     let many : c.in-Ok-Ok.rooms.places ≡ length ss = search rules in
     no_fault c.args.task.now.first (cores c.args.task.now.batch.now) ss c.fan_out-pass.result.pass.taken c.fan_out-pass.result.list.items c.requires.order moved
     c.fan_out-pass.ensures.done
@@ -52,7 +53,8 @@ returns-clause-followed g c =
     let ss = c.args.shards.items in
     let moved =
     IsPermutation-trans (each bare ss) c.post_bare-poster.result.posted c.fan_out-pass.result.pass.taken c.post_bare-poster.ensures.posted
-    (subst (λ l. IsPermutation l c.fan_out-pass.result.pass.taken) (ap (λ (p : PassState). p.posted) c.fan_out-pass.ensures.pass ∙ ap (λ (p : PassState). p.posted) c.open-board.ensures) c.close.ensures) in
+    (subst (λ l. IsPermutation l c.fan_out-pass.result.pass.taken)
+    (ap (λ (p : PassState). p.posted) c.fan_out-pass.ensures.pass ∙ ap (λ (p : PassState). p.posted) c.open-board.ensures) c.close.ensures) in
     let many : c.in-Ok-Ok.rooms.places ≡ length ss = search rules in
     followed c.args.task.now.first (cores c.args.task.now.batch.now) ss c.fan_out-pass.result.pass.taken c.fan_out-pass.result.list.items c.requires.order moved
     c.fan_out-pass.ensures.done
@@ -65,7 +67,8 @@ returns-clause-others g c =
     let opened = ap (λ (p : PassState). length p.posted) c.open-board.ensures in
     let passed = ap (λ (p : PassState). length p.posted) c.fan_out-pass.ensures.pass in
     let taken = length_permutation c.fan_out-pass.result.pass.posted c.fan_out-pass.result.pass.taken c.close.ensures in
-    let worked = counts_length c.args.task.now.first (cores c.args.task.now.batch.now) c.fan_out-pass.result.pass.taken c.fan_out-pass.result.list.items c.fan_out-pass.ensures.done in
+    let worked = counts_length c.args.task.now.first (cores c.args.task.now.batch.now) c.fan_out-pass.result.pass.taken c.fan_out-pass.result.list.items
+    c.fan_out-pass.ensures.done in
     let others = c.fan_out-pass.ensures.others in
     let list_ok = c.fan_out-pass.result.list.ok in
     let shards_ok = c.args.shards.ok in

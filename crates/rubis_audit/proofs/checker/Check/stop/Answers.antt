@@ -12,7 +12,8 @@ returns g c =
     let new = c.advance.new.self in
     let contents = g.W.Write.contents in
     let kept = c.in_ok-advance.ensures.kept in
-    let takes : ReadsNext (recent rem) was.records.reader new.records.reader false new.records.row = subst (λ b. ReadsNext (recent rem) was.records.reader new.records.reader b new.records.row) c.if-branch.false c.in_ok-advance.ensures.takes in
+    let takes : ReadsNext (recent rem) was.records.reader new.records.reader false new.records.row =
+    subst (λ b. ReadsNext (recent rem) was.records.reader new.records.reader b new.records.row) c.if-branch.false c.in_ok-advance.ensures.takes in
     if_ok_so _ _ c.end.result (λ tally whole grammar sites old all h.
     whole grammar sites old all
     (subst (λ w. HasCheckedAll grammar sites new.checker.tally new.sink old (contents w) all) (sym kept.1)

@@ -17,7 +17,8 @@ returns c =
     }) c.note_red.ensures
 
 pub returns-then-is_some : goal.returns-then-is_some
-returns-then-is_some c = λ all h clear. seen_known c.args.self.now c.args.known all c.args.message.now (sym c.is_some.ensures ∙ c.if-is_some.true) c.requires.known h clear
+returns-then-is_some c = λ all h clear. seen_known c.args.self.now c.args.known all c.args.message.now
+    (sym c.is_some.ensures ∙ c.if-is_some.true) c.requires.known h clear
 
 pub note_id-requires : goal.note_id-requires
 note_id-requires c = none_known c.args.known _ (sym c.is_some.ensures ∙ c.if-is_some.false) c.requires.known

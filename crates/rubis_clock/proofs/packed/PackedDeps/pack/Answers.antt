@@ -18,6 +18,8 @@ loop-place-preserved c =
     let small : slice_index counts i / 65536 < 16 = search (rules, c.requires) in (
       length-set _ _ _ ∙ one,
       length-set _ _ _ ∙ two,
-      subst (λ x. take (i + 1) (counts_of (slice_set low i (slice_index counts i % 65536)) (slice_set pairs (i / 2) x)) ≡ take (i + 1) counts) (sym c.with_half.ensures)
-          (counts_more low pairs counts i (slice_index counts i % 65536) (slice_index counts i / 65536) (nat_eq (i % 2) 0) (λ e. search rules) (λ e. search rules) one two (omega (arith, t, few, same)) small t (omega arith) c.loop-place.invariant.2),
+      subst (λ x. take (i + 1) (counts_of (slice_set low i (slice_index counts i % 65536)) (slice_set pairs (i / 2) x)) ≡ take (i + 1) counts)
+          (sym c.with_half.ensures)
+          (counts_more low pairs counts i (slice_index counts i % 65536) (slice_index counts i / 65536) (nat_eq (i % 2) 0) (λ e. search rules)
+          (λ e. search rules) one two (omega (arith, t, few, same)) small t (omega arith) c.loop-place.invariant.2),
     )

@@ -3,4 +3,5 @@ use Rattle.rubis_schema.proofs.FieldFacts.{pieces-length}
 use Rattle.rubis_schema.proofs.field_list.Fields.is_empty.Goals as goal
 
 pub returns : goal.returns
-returns c = rw (← c.self.view_is) (c.is_empty.ensures ∙ ap (λ n. n == 0) (c.self.inside.ends.ok.0 ∙ sym (pieces-length 0 c.self.inside.ends.items c.self.inside.text.items)))
+returns c = rw (← c.self.view_is)
+    (c.is_empty.ensures ∙ ap (λ n. n == 0) (c.self.inside.ends.ok.0 ∙ sym (pieces-length 0 c.self.inside.ends.items c.self.inside.text.items)))

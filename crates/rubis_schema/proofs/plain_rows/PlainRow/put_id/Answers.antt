@@ -15,8 +15,19 @@ invariant_of-self c =
     c.put_byte-2.ensures ∙ ap (λ t. comma ∷ t) (site.text ∙ ap (λ t. decimal id.site ++ t) (c.put_byte.ensures ∙ ap (λ t. 46 ∷ t) seq.text)
     ∙ sym (append_assoc (decimal id.site) (46 ∷ decimal id.seq) c.self.inside.text)) in
     let room : length (id_text id) + 1 ≤ c.args.self.now.left =
-    omega (arith, length-append (decimal id.site) (46 ∷ decimal id.seq), seq.short, ap length seq.text, length-append (decimal id.seq) c.self.inside.text, site.short, ap length site.text, length-append (decimal id.site) c.put_byte.new.self, c.requires) in
-    (row_with_one_more PLAIN_ROW_MAX c.args.self.now c.self.inside.text _ (id_text id) c.self.view_is c.self.invariant (id_plain id site.plain seq.plain) room text).0
+    omega (
+      arith,
+      length-append (decimal id.site) (46 ∷ decimal id.seq),
+      seq.short,
+      ap length seq.text,
+      length-append (decimal id.seq) c.self.inside.text,
+      site.short,
+      ap length site.text,
+      length-append (decimal id.site) c.put_byte.new.self,
+      c.requires,
+    ) in
+    (row_with_one_more PLAIN_ROW_MAX c.args.self.now c.self.inside.text _ (id_text id) c.self.view_is c.self.invariant
+    (id_plain id site.plain seq.plain) room text).0
 
 pub returns-clause-fields : goal.returns-clause-fields
 returns-clause-fields c =
@@ -27,5 +38,16 @@ returns-clause-fields c =
     c.put_byte-2.ensures ∙ ap (λ t. comma ∷ t) (site.text ∙ ap (λ t. decimal id.site ++ t) (c.put_byte.ensures ∙ ap (λ t. 46 ∷ t) seq.text)
     ∙ sym (append_assoc (decimal id.site) (46 ∷ decimal id.seq) c.self.inside.text)) in
     let room : length (id_text id) + 1 ≤ c.args.self.now.left =
-    omega (arith, length-append (decimal id.site) (46 ∷ decimal id.seq), seq.short, ap length seq.text, length-append (decimal id.seq) c.self.inside.text, site.short, ap length site.text, length-append (decimal id.site) c.put_byte.new.self, c.requires) in
-    (row_with_one_more PLAIN_ROW_MAX c.args.self.now c.self.inside.text _ (id_text id) c.self.view_is c.self.invariant (id_plain id site.plain seq.plain) room text).1
+    omega (
+      arith,
+      length-append (decimal id.site) (46 ∷ decimal id.seq),
+      seq.short,
+      ap length seq.text,
+      length-append (decimal id.seq) c.self.inside.text,
+      site.short,
+      ap length site.text,
+      length-append (decimal id.site) c.put_byte.new.self,
+      c.requires,
+    ) in
+    (row_with_one_more PLAIN_ROW_MAX c.args.self.now c.self.inside.text _ (id_text id) c.self.view_is c.self.invariant
+    (id_plain id site.plain seq.plain) room text).1

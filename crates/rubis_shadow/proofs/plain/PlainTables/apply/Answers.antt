@@ -3,7 +3,8 @@ use Rattle.std.specs.Prelude.{Some, None}
 use Rattle.std.specs.FinMap as map
 use Rattle.rubis_schema.specs.Tables.{Tables}
 use Rattle.rubis_shadow.specs.Changes.{fits_as}
-use Rattle.rubis_shadow.proofs.Rows.{tables_of, get_tables_of, tables_of_update, after_alter, misfit_alter, after_none, misfit_none, remove_none, none_of, some_of, after_refused, misfit_refused, inserted, not_insert, put_then, put_else, row_stays, row_goes, remove_put}
+use Rattle.rubis_shadow.proofs.Rows.{tables_of, get_tables_of, tables_of_update, after_alter, misfit_alter, after_none, misfit_none, remove_none, none_of}
+use Rattle.rubis_shadow.proofs.Rows.{some_of, after_refused, misfit_refused, inserted, not_insert, put_then, put_else, row_stays, row_goes, remove_put}
 use Rattle.rubis_shadow.proofs.plain.PlainTables.apply.Goals as goal
 
 pub returns-then-branch-clause-tables : goal.returns-then-branch-clause-tables
@@ -55,7 +56,8 @@ returns-then-not-fate c =
     let g : map.get c.args.self.now k ≡ Some c.in-Some.row.now = ap (λ t. map.get t k) (sym c.self.view_is) ∙ get_tables_of _ k ∙ sym c.in-Some.ensures.value in
     record {
       tables = c.remove_row.ensures
-          ∙ ap (λ (t : Tables). map.remove t k) (tables_of_update _ _ k row ((c.get_mut.follows.holds row).3 (search rules)).0 ∙ ap (λ (t : Tables). map.insert t k row) c.self.view_is)
+          ∙ ap (λ (t : Tables). map.remove t k)
+          (tables_of_update _ _ k row ((c.get_mut.follows.holds row).3 (search rules)).0 ∙ ap (λ (t : Tables). map.insert t k row) c.self.view_is)
           ∙ remove_put c.args.self.now k row
           ∙ after_alter c.args.self.now c.args.effect.now c.in-Some.row.now None g (c.alter-fate.ensures.row ∙ row_goes _ row c.if-not-fate.true);
       misfit = misfit_alter c.args.self.now c.args.effect.now c.in-Some.row.now c.alter-fate.result.misfit g c.alter-fate.ensures.misfit;
