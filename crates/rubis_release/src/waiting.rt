@@ -281,20 +281,6 @@ fn first_among(slots: &IndexMap<Id, Option<Message>, KeyHashes>, clock: &Clock) 
     None
 }
 
-// The same where the next message of each site is looked up.
-fn first_of_sites(slots: &IndexMap<Id, Option<Message>, KeyHashes>, clock: &Clock) -> Option<usize>
-    requires among { AllAmong (length clock.now.counts) (somes slots.now.entries) }
-    requires own { HaveTheirIds slots.now.entries }
-    requires apart { AreApart slots.now.entries }
-    ensures { IsFirstOf clock.now slots.now.entries (λ j. j < length clock.now.counts) result }
-{
-    let mut first = None;
-    for site in 0..clock.deps().len() {
-        first = earlier(first, ready_of(slots, clock, site as u8));
-    }
-    first
-}
-
 // The slot of the earliest message that is ready, if one is.
 fn first_ready(slots: &IndexMap<Id, Option<Message>, KeyHashes>, clock: &Clock) -> Option<usize>
     requires among { AllAmong (length clock.now.counts) (somes slots.now.entries) }
@@ -305,5 +291,10 @@ fn first_ready(slots: &IndexMap<Id, Option<Message>, KeyHashes>, clock: &Clock) 
     if slots.len() <= FEW {
         return first_among(slots, clock);
     }
-    first_of_sites(slots, clock)
+    // The next message of each site is looked up.
+    let mut first = None;
+    for site in 0..clock.deps().len() {
+        first = earlier(first, ready_of(slots, clock, site as u8));
+    }
+    first
 }

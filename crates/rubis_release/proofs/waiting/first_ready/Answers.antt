@@ -1,7 +1,7 @@
 use Rattle.std.proofs.Common.{◌+◌, ◌<◌, length, subst, sym, ap, ◌∙◌, arith}
 use Rattle.rubis_release.specs.Waiting.{IsFirstOf}
 use Rattle.rubis_release.proofs.Slots.{first_joined, first_wider}
-use Rattle.rubis_release.proofs.waiting.first_of_sites.Goals as goal
+use Rattle.rubis_release.proofs.waiting.first_ready.Goals as goal
 
 pub loop-site-init : goal.loop-site-init
 loop-site-init c = λ i k m there ready pass. absurd (omega (arith, pass))
