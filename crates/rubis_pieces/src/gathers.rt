@@ -188,22 +188,7 @@ pub fn gather_counted(
         left: _,
     } = places;
     let mut dones = dones;
-    let list = in_order(list, &mut seen)?;
-    count_all(list, &mut shards, &mut dones);
-    Ok(Counted {
-        shards: shards.into(),
-        dones: dones.into(),
-    })
-}
-
-// Puts all shards down in turn, and how much is done of each.
-fn count_all(list: Vec<Done>, shards: &mut Vec<Shard>, dones: &mut Vec<usize>)
-    requires shards { vec_len shards.old + length list.items ≤ vec_capacity shards.old }
-    requires dones { vec_len dones.old + length list.items ≤ vec_capacity dones.old }
-    ensures shards { shards.new.items ≡ shards.old.items ++ each (λ d. d.shard) list.items }
-    ensures dones { dones.new.items ≡ dones.old.items ++ each (λ d. d.done) list.items }
-{
-    for done in list {
+    for done in in_order(list, &mut seen)? {
         let Done {
             shard,
             share: _,
@@ -212,4 +197,8 @@ fn count_all(list: Vec<Done>, shards: &mut Vec<Shard>, dones: &mut Vec<usize>)
         shards.push_reserved(shard);
         dones.push_reserved(done);
     }
+    Ok(Counted {
+        shards: shards.into(),
+        dones: dones.into(),
+    })
 }
