@@ -147,9 +147,8 @@ impl Board {
         let Pass { mut seat } = pass;
         let Pass { seat: theirs } = other;
         self.queue.absorb::<Sharing>(&mut seat, theirs);
-        let mut both = Pass { seat };
-        self.look(&mut both);
-        both
+        self.queue.learn_as::<Looking>(&mut seat);
+        Pass { seat }
     }
 
     /// The first piece on the board. None only where none is left, and then None ever after.
@@ -174,23 +173,14 @@ impl Board {
         unreachable!()
     }
 
-    /// What the pass knows by the rule.
-    fn look(&self, pass: &mut Pass)
-        requires { pass.old.board ≡ self.now }
-        ensures same { pass.new ≡ pass.old }
-        ensures part { IsPartOf pass.old.taken pass.old.posted }
-        ensures whole { pass.old.parts ≡ 16 → pass.old.seen_none ≡ true → IsPermutation pass.old.posted pass.old.taken }
-    {
-        self.queue.learn_as::<Looking>(&mut pass.seat);
-    }
-
     /// Ends the board. The pass took what was posted, each piece once.
-    pub fn close(self, mut pass: Pass)
+    pub fn close(self, pass: Pass)
         requires board { pass.board ≡ self }
         requires whole { (pass.parts ≡ 16) × (pass.seen_none ≡ true) }
         ensures { IsPermutation pass.posted pass.taken }
     {
-        self.look(&mut pass);
+        let Pass { mut seat } = pass;
+        self.queue.learn_as::<Looking>(&mut seat);
         let Board { queue: _ } = self;
     }
 }

@@ -66,7 +66,7 @@ fn put_misfit(fields: &mut Fields, misfit: &Misfit) -> Result<(), AllocError>
 }
 
 // Adds the rows of misfits, in their order.
-fn list_misfits<S: RowSink>(
+pub fn put_misfits<S: RowSink>(
     alloc: Global,
     sink: &mut S,
     misfits: &[Misfit],
@@ -79,21 +79,6 @@ fn list_misfits<S: RowSink>(
         sink.put(&record)?;
     }
     Ok(())
-}
-
-// Adds the rows of misfits from a place on, up to another.
-pub fn put_misfits<S: RowSink>(
-    alloc: Global,
-    sink: &mut S,
-    misfits: &[Misfit],
-    from: usize,
-    upto: usize,
-) -> Result<(), AllocError>
-    requires from { from ≤ upto }
-    requires upto { upto ≤ length misfits.now }
-    ensures { OnOk result (S.adds (rows_of_misfits (slice_range misfits.now from upto)) sink.old sink.new) }
-{
-    list_misfits(alloc, sink, &misfits[from..upto])
 }
 
 /// The messages of a log, in its order, with entries from 1.
@@ -110,6 +95,6 @@ pub fn misfit_rows(alloc: Global, misfits: &[Misfit]) -> Result<Items<Fields>, A
     ensures { IfOk result (λ rows. rows ≡ rows_of_misfits misfits.now) }
 {
     let mut rows = Items::new(alloc);
-    list_misfits(alloc, &mut rows, misfits)?;
+    put_misfits(alloc, &mut rows, misfits)?;
     Ok(rows)
 }

@@ -59,25 +59,6 @@ fn make_parts<S: SharedSink, R: Threads + Sync>(
     parts
 }
 
-// Adds the rows of all parts.
-fn put_parts<S: SharedSink>(
-    sink: &mut S,
-    source: &Source<'_>,
-    from: usize,
-    upto: usize,
-    parts: Vec<S>,
-) -> Result<(), AllocError>
-    requires from { from ≤ upto }
-    requires upto { upto ≤ size_of source.now }
-    requires parts { AreParts S.holds source.now from upto parts.items }
-    ensures { OnOk result (S.adds (between source.now from upto) sink.old sink.new) }
-{
-    for part in parts {
-        sink.append(part)?;
-    }
-    Ok(())
-}
-
 /// Adds the rows that are made of those from a place on, up to another. Of SHARED_MIN or more, several threads make the rows, if they
 /// may and there are several processors, and the caller's thread adds them.
 pub fn put_shared<S: SharedSink, R: Threads + Sync>(
@@ -98,6 +79,8 @@ pub fn put_shared<S: SharedSink, R: Threads + Sync>(
     if upto - from < SHARED_MIN || current_num_threads(rt) < 2 {
         return source.put(alloc, sink, from, upto);
     }
-    let parts = make_parts(rt, alloc, source, from, upto)?;
-    put_parts(sink, source, from, upto, parts)
+    for part in make_parts(rt, alloc, source, from, upto)? {
+        sink.append(part)?;
+    }
+    Ok(())
 }

@@ -62,7 +62,7 @@ impl<'a> Source<'a> {
                 put_rows_between(alloc, sink, listing, rows, from, upto)
             }
             Source::Log(log) => put_entries(alloc, sink, log, from, upto),
-            Source::Misfits(misfits) => put_misfits(alloc, sink, misfits, from, upto),
+            Source::Misfits(misfits) => put_misfits(alloc, sink, &misfits[from..upto]),
         }
     }
 }

@@ -1,9 +1,9 @@
 //! The shards of a batch put together again from what its pieces became.
 
-ghost use Rattle.std.specs.Prelude.{◌≡◌, ◌+◌, ◌<◌, ◌≤◌, ◌++◌, ◌∷◌, [], map as each, flat_map, length, IfSome, IfNone, IfOk, IfErr};
-ghost use Rattle.std.specs.Vec.{vec_len, vec_capacity};
+ghost use Rattle.std.specs.Prelude.{◌≡◌, ◌≤◌, [], length, IfSome, IfNone, IfOk, IfErr};
+ghost use Rattle.std.specs.Vec.{vec_capacity};
 ghost use Rattle.rubis_pieces.specs.Faults.{AllUnseen, IsFault, IsGatherable, numbers_of};
-ghost use Rattle.rubis_pieces.specs.Gathered.{IsCounted, IsGathered, IsInOrder, left_of};
+ghost use Rattle.rubis_pieces.specs.Gathered.{IsCounted, IsGathered, IsInOrder};
 
 use crate::pieces::{Done, Left};
 use rubis_schema::Items;
@@ -133,40 +133,17 @@ pub fn gather(list: Vec<Done>, places: Places) -> Result<Gathered, GatherFault>
         mut shards,
         mut left,
     } = places;
-    let list = in_order(list, &mut seen)?;
-    put_all(list, &mut shards, &mut left);
+    for done in in_order(list, &mut seen)? {
+        let Done { shard, share, done } = done;
+        shards.push_reserved(shard);
+        if done < share.effects.len() {
+            left.push_reserved(Left { share, done });
+        }
+    }
     Ok(Gathered {
         shards: shards.into(),
         left: left.into(),
     })
-}
-
-// Puts a shard last, and its share too where it isn't folded whole.
-fn put_down(done: Done, shards: &mut Vec<Shard>, left: &mut Vec<Left>)
-    requires shards { vec_len shards.old < vec_capacity shards.old }
-    requires left { vec_len left.old < vec_capacity left.old }
-    ensures shards { shards.new.items ≡ shards.old.items ++ done.shard ∷ [] }
-    ensures left { left.new.items ≡ left.old.items ++ left_of done }
-    ensures shard_room { vec_capacity shards.new ≡ vec_capacity shards.old }
-    ensures left_room { vec_capacity left.new ≡ vec_capacity left.old }
-{
-    let Done { shard, share, done } = done;
-    shards.push_reserved(shard);
-    if done < share.effects.len() {
-        left.push_reserved(Left { share, done });
-    }
-}
-
-// Puts all shards down in turn, with what is left of their shares.
-fn put_all(list: Vec<Done>, shards: &mut Vec<Shard>, left: &mut Vec<Left>)
-    requires shards { vec_len shards.old + length list.items ≤ vec_capacity shards.old }
-    requires left { vec_len left.old + length list.items ≤ vec_capacity left.old }
-    ensures shards { shards.new.items ≡ shards.old.items ++ each (λ d. d.shard) list.items }
-    ensures left { left.new.items ≡ left.old.items ++ flat_map left_of list.items }
-{
-    for done in list {
-        put_down(done, shards, left);
-    }
 }
 
 /// Puts each shard at its number, with the room of `places`, and how much is done of each beside it. Where the list isn't each shard
@@ -188,22 +165,7 @@ pub fn gather_counted(
         left: _,
     } = places;
     let mut dones = dones;
-    let list = in_order(list, &mut seen)?;
-    count_all(list, &mut shards, &mut dones);
-    Ok(Counted {
-        shards: shards.into(),
-        dones: dones.into(),
-    })
-}
-
-// Puts all shards down in turn, and how much is done of each.
-fn count_all(list: Vec<Done>, shards: &mut Vec<Shard>, dones: &mut Vec<usize>)
-    requires shards { vec_len shards.old + length list.items ≤ vec_capacity shards.old }
-    requires dones { vec_len dones.old + length list.items ≤ vec_capacity dones.old }
-    ensures shards { shards.new.items ≡ shards.old.items ++ each (λ d. d.shard) list.items }
-    ensures dones { dones.new.items ≡ dones.old.items ++ each (λ d. d.done) list.items }
-{
-    for done in list {
+    for done in in_order(list, &mut seen)? {
         let Done {
             shard,
             share: _,
@@ -212,4 +174,8 @@ fn count_all(list: Vec<Done>, shards: &mut Vec<Shard>, dones: &mut Vec<usize>)
         shards.push_reserved(shard);
         dones.push_reserved(done);
     }
+    Ok(Counted {
+        shards: shards.into(),
+        dones: dones.into(),
+    })
 }

@@ -21,14 +21,14 @@ use Rattle.rubis_generate.proofs.Granted.{granted, shadow_limits}
 use Rattle.rubis_generate.specs.declared.standing.Standing.{Standing}
 use Rattle.rubis_model.specs.Log.{cores, fold_of}
 use Rattle.rubis_message.specs.Message.{Message}
-use Rattle.rubis_model.specs.Site.{Place, Replica, asked, generating, standing_of}
+use Rattle.rubis_model.specs.Site.{Place, Replica, asked, generating, rows_at, standing_of}
 use Rattle.rubis_workers.specs.Shard.{union}
 use Rattle.rubis_shadow.specs.declared.numbered.Misfit.{Misfit}
 use Rattle.rubis_workers.specs.Pieces.{AreOfTheLog}
 use Rattle.rubis_release.specs.Intake.{IsIntake}
 use Rattle.rubis_replica.specs.Follow.{Follower, FollowsLog}
 use Rattle.rubis_replica.specs.Progress.{left_of, resting_at}
-use Rattle.rubis_replica.specs.State.{AnswersAsTheStep, IsDecision, SiteState, decision_at, with_all_applied}
+use Rattle.rubis_replica.specs.State.{AnswersAsTheStep, SiteState, with_all_applied}
 use Rattle.rubis_replica.specs.declared.faults.Fault.{Fault}
 use Rattle.rubis_replica.specs.declared.faults.Fault.TheVariants.{Refused, Behind, Memory}
 use Rattle.rubis_replica.proofs.Growing.{all_at, tables_of_log}
@@ -69,6 +69,10 @@ decided_fits sites t s ask x h g e =
 
 -- ---- a site's decision
 
+-- what the site decides of an ask, against the tables of its whole log
+abbrev pub decision_at : SiteState → Ask → Result Shadow Refusal
+decision_at s ask = decision (rows_at s.state.log) (standing_of s.place.keep s.state) ask
+
 -- a site whose log is all applied
 module _ (old : SiteState) (place : Place) (state : Replica) (batch : ℕ) (f : Follower)
     (same : record { place = place; state = state; progress = f.progress; batch = batch } ≡ with_all_applied old)
@@ -106,19 +110,11 @@ module _ (old : SiteState) (place : Place) (state : Replica) (batch : ℕ) (f : 
       let tables = tables_of_log state.log f follows all_applied in
       decided_fits old.place.sites (union f.tables) st ask x (subst (AllInLimits old.place.sites) (sym tables) within) asks e
 
-pub decides_err : (old : SiteState) (ask : Ask) (r : Result Shadow Fault) (refusal : Refusal) → IsErr r × IsErrAnd r (λ fault. fault ≡ Refused refusal)
-    → decision_at old ask ≡ Err refusal → IsDecision old ask r
-decides_err old ask (Ok x) refusal h e = absurd (search rules)
-decides_err old ask (Err (Refused r)) refusal h e = let same : r ≡ refusal = cc h.1 in e ∙ ap Err (sym same)
-decides_err old ask (Err Behind) refusal h e = tt
-decides_err old ask (Err Memory) refusal h e = tt
-
 -- an ask that isn't decided is refused, or nothing is said of it
-pub undecided : (old new : SiteState) (ask : Ask) (r : Result Message Fault) (fault : Fault) → IsErr r × IsErrAnd r (λ e. e ≡ fault) → new.state ≡ old.state
-    → IsDecision old ask (Err fault) → AnswersAsTheStep old new (asked old.place old.state ask) r
-undecided old new ask (Ok m) fault h same d = absurd (search rules)
-undecided old new ask (Err (Refused r)) fault h same d =
-    let refused : decision_at old ask ≡ Err r = subst (λ e. IsDecision old ask (Err e)) (sym (let e : Refused r ≡ fault = search rules in e)) d in
-    (same, ap (λ o. (generating old.place old.state o).1) refused)
-undecided old new ask (Err Behind) fault h same d = same
-undecided old new ask (Err Memory) fault h same d = same
+pub undecided : (old new : SiteState) (ask : Ask) (r : Result Message Fault) (refusal : Refusal) → IsErr r × IsErrAnd r (λ e. e ≡ Refused refusal)
+    → new.state ≡ old.state → decision_at old ask ≡ Err refusal → AnswersAsTheStep old new (asked old.place old.state ask) r
+undecided old new ask (Ok m) refusal h same d = absurd (search rules)
+undecided old new ask (Err (Refused r)) refusal h same d =
+    let is : r ≡ refusal = cc h.1 in (same, ap (λ o. (generating old.place old.state o).1) (d ∙ ap Err (sym is)))
+undecided old new ask (Err Behind) refusal h same d = same
+undecided old new ask (Err Memory) refusal h same d = same

@@ -3,12 +3,9 @@ use Rattle.std.specs.Prelude.{◌≡◌, ◌-◌, ◌<◌, ◌⊎◌, ℕ, List,
 use Rattle.rubis_schema.specs.declared.listings.Listing.{Listing}
 use Rattle.rubis_schema.specs.declared.listings.Listing.TheVariants.{Log}
 use Rattle.rubis_schema.specs.declared.refusals.Refusal.{Refusal}
-use Rattle.rubis_shadow.specs.declared.shadows.Ask.{Ask}
-use Rattle.rubis_shadow.specs.declared.shadows.Shadow.{Shadow}
-use Rattle.rubis_generate.specs.Decision.{decision}
 use Rattle.rubis_message.specs.declared.answers.Arrival.{Arrival}
 use Rattle.rubis_message.specs.declared.answers.Arrival.TheVariants.{Released, Held, Repeat}
-use Rattle.rubis_model.specs.Site.{Place, Replica, rows_at, standing_of}
+use Rattle.rubis_model.specs.Site.{Place, Replica}
 use Rattle.rubis_replica.specs.Progress.{HasBegun, IsBatched, end_of, left_of, resting_at}
 use Rattle.rubis_replica.specs.declared.progress.Progress.{Progress}
 use Rattle.rubis_replica.specs.declared.faults.Fault.{Fault}
@@ -45,16 +42,6 @@ abbrev pub AddsRows : (List (List (List ℕ)) → Type 0) → SiteState → Site
 AddsRows adds old new step (Ok u) = (new.state ≡ step.0) × MatchResult step.1 adds (λ r. ⊥)
 AddsRows adds old new step (Err (Refused r)) = (new.state ≡ old.state) × (step.1 ≡ Err r)
 AddsRows adds old new step (Err fault) = new.state ≡ old.state
-
--- what the site decides of an ask, against the tables of its whole log
-abbrev pub decision_at : SiteState → Ask → Result Shadow Refusal
-decision_at s ask = decision (rows_at s.state.log) (standing_of s.place.keep s.state) ask
-
--- the shadow, or the refusal, is what the site decides; where there is neither nothing is said
-abbrev pub IsDecision : SiteState → Ask → Result Shadow Fault → Type 0
-IsDecision s ask (Ok x) = decision_at s ask ≡ Ok x
-IsDecision s ask (Err (Refused r)) = decision_at s ask ≡ Err r
-IsDecision s ask (Err fault) = ⊤
 
 -- a site that is behind says so, and stays as it is
 abbrev pub WaitsBehind : {A : Type 0} → SiteState → SiteState → Result A Fault → Type 0

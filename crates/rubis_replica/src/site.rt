@@ -11,7 +11,7 @@ ghost use Rattle.rubis_replica.specs.Arrivals.{IsStop, TakesFirst};
 ghost use Rattle.rubis_replica.specs.Lengths.{looks_long};
 ghost use Rattle.rubis_replica.specs.Progress.{BatchGoesOn, IsAhead, IsBatched, IsProgress, end_of, is_behind, left_of, resting_at};
 ghost use Rattle.rubis_replica.specs.Setup.{setup_place};
-ghost use Rattle.rubis_replica.specs.State.{AddsRows, AnswersAsTheStep, IsDecision, IsCutFault, IsReadFault, IsReadyFor, Lists};
+ghost use Rattle.rubis_replica.specs.State.{AddsRows, AnswersAsTheStep, IsCutFault, IsReadFault, IsReadyFor, Lists};
 ghost use Rattle.rubis_replica.specs.State.{NeedsNoTables, TakesIn, WaitsBehind, pending, with_all_applied};
 
 use crate::arriving::Arrived;
@@ -128,25 +128,7 @@ impl<G: Gate> Site<G> {
         }
     }
 
-    // Decides an ask against the tables of the log, all of which is applied first.
-    #[inline(always)]
-    fn decided<R: Threads + Wait + Sync>(&mut self, rt: &R, ask: Ask) -> Result<Shadow, Fault>
-        requires { IsAsk self.old.place.sites ask }
-        ensures place { self.new.place ≡ self.old.place }
-        ensures batch { self.new.batch ≡ self.old.batch }
-        ensures state { self.new.state ≡ self.old.state }
-        ensures waits { WaitsBehind self.old self.new result }
-        ensures decides { IsDecision self.old ask result }
-        ensures limits { IfOk result (InLimits self.old.place.sites) }
-        ensures ok { OnOk result (self.new ≡ with_all_applied self.old) }
-        ensures fault { IfErr result (IsReadFault self.old self.new) }
-    {
-        self.refresh(rt)?;
-        let standing = self.intake.standing();
-        Ok(decide(ask, self.follower.tables(), &standing)?)
-    }
-
-    /// Decides an ask against the tables, and makes the message of its shadow.
+    /// Decides an ask against the tables of the log, all of which is applied first, and makes the message of its shadow.
     #[inline(always)]
     pub fn request<R: Threads + Wait + Sync>(&mut self, rt: &R, ask: Ask) -> Result<Message, Fault>
         requires { IsAsk self.old.place.sites ask }
@@ -157,7 +139,9 @@ impl<G: Gate> Site<G> {
         ensures ok { OnOk result (IsBatched self.old.batch self.new.state.log (resting_at (length self.old.state.log)) self.new.progress) }
         ensures fault { IfErr result (IsReadFault self.old self.new) }
     {
-        let shadow = self.decided(rt, ask)?;
+        self.refresh(rt)?;
+        let standing = self.intake.standing();
+        let shadow = decide(ask, self.follower.tables(), &standing)?;
         let message = self.intake.generated(shadow)?;
         self.apply_batch(rt);
         Ok(message)

@@ -3,7 +3,7 @@ use Rattle.std.specs.Vec.Iter.{into_iter_items, into_iter_len}
 use Rattle.std.proofs.lemmas.List.{nil_from_length}
 use Rattle.rubis_listing.specs.Parts.{behind, between, AreParts}
 use Rattle.rubis_listing.proofs.Ranges.{between_more, between_none}
-use Rattle.rubis_listing.proofs.shared.put_parts.Goals as goal
+use Rattle.rubis_listing.proofs.shared.put_shared.Goals as goal
 
 pub loop-part-preserved : goal.loop-part-preserved
 loop-part-preserved g c =
@@ -15,7 +15,7 @@ loop-part-preserved g c =
     let at = inv.0 in
     let before = inv.1 in
     let next = behind at upto in
-    let items : into_iter_items c.loop-part.part-iterator ≡ c.in-Some.part ∷ into_iter_items c.next.new.self = search rules in
+    let items : into_iter_items c.loop-part.part-iterator ≡ c.in-Some-part.part ∷ into_iter_items c.next.new.self = search rules in
     let parts = subst (AreParts g.S.SharedSink.holds source at upto) items inv.2 in (
       next,
       omega (arith, before),

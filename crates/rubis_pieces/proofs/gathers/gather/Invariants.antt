@@ -1,17 +1,17 @@
 use Rattle.std.proofs.Common.{◌≡◌, ◌+◌, ◌≤◌, ◌++◌, length, map as each}
 use Rattle.std.specs.Prelude.{flat_map}
 use Rattle.std.specs.Vec.{vec_len, vec_capacity}
-use Rattle.std.specs.Vec.Iter.{into_iter_items}
+use Rattle.std.specs.Vec.Iter.{into_iter_items, into_iter_len}
 use Rattle.rubis_pieces.specs.declared.pieces.Done.{Done}
 use Rattle.rubis_pieces.specs.Gathered.{left_of}
-use Rattle.rubis_pieces.proofs.gathers.put_all.Given as goal
+use Rattle.rubis_pieces.proofs.gathers.gather.Given as goal
 
 abbrev pub invariant-loop-done : goal.invariant-loop-done
 invariant-loop-done l = record {
-  shards : l.shards.items ++ each (λ (d : Done). d.shard) (into_iter_items l.done-iterator) ≡ l.fn.shards.items ++ each (λ (d :
-      Done). d.shard) (into_iter_items l.initial.done-iterator);
-  left : l.left.items ++ flat_map left_of (into_iter_items l.done-iterator) ≡ l.fn.left.items ++ flat_map left_of
+  shards : l.shards.items ++ each (λ (d : Done). d.shard) (into_iter_items l.done-iterator) ≡ each (λ (d : Done). d.shard)
       (into_iter_items l.initial.done-iterator);
+  left : l.left.items ++ flat_map left_of (into_iter_items l.done-iterator) ≡ flat_map left_of (into_iter_items l.initial.done-iterator);
+  counted : into_iter_len l.done-iterator ≡ length (into_iter_items l.done-iterator);
   shard_room : vec_len l.shards + length (into_iter_items l.done-iterator) ≤ vec_capacity l.shards;
   left_room : vec_len l.left + length (into_iter_items l.done-iterator) ≤ vec_capacity l.left;
 }

@@ -1,6 +1,6 @@
 use Rattle.std.proofs.Common.{drop}
 use Rattle.rubis_model.specs.Listings.{misfit_rows}
-use Rattle.rubis_listing.proofs.logs.list_misfits.Given as goal
+use Rattle.rubis_listing.proofs.logs.put_misfits.Given as goal
 
 -- what the misfits to come add, all misfits add to what there was
 abbrev pub invariant-loop-misfit : goal.invariant-loop-misfit

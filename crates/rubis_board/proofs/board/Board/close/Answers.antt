@@ -1,5 +1,5 @@
 use Rattle.rubis_board.proofs.Takes.{knows}
-use Rattle.rubis_board.proofs.board.Board.look.Goals as goal
+use Rattle.rubis_board.proofs.board.Board.close.Goals as goal
 
 pub learn_as-requires-clause-rule : goal.learn_as-requires-clause-rule
 learn_as-requires-clause-rule c = knows _ _ c.pass.invariant.1

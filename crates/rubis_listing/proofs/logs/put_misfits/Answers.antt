@@ -1,7 +1,7 @@
 use Rattle.std.proofs.Common.{◌∷◌, [], ◌++◌, ◌∙◌, ap, sym, subst, drop, ◌+◌, ◌<◌, length, rules}
 use Rattle.rubis_model.specs.Listings.{misfit_rows}
 use Rattle.rubis_listing.proofs.Entering.{misfit_more}
-use Rattle.rubis_listing.proofs.logs.list_misfits.Goals as goal
+use Rattle.rubis_listing.proofs.logs.put_misfits.Goals as goal
 
 pub loop-misfit-preserved : goal.loop-misfit-preserved
 loop-misfit-preserved g c s h =

@@ -1,7 +1,7 @@
 use Rattle.std.proofs.Common.{ℕ, ◌≤◌}
 use Rattle.std.specs.Vec.Iter.{into_iter_items}
 use Rattle.rubis_listing.specs.Parts.{between, AreParts}
-use Rattle.rubis_listing.proofs.shared.put_parts.Given as goal
+use Rattle.rubis_listing.proofs.shared.put_shared.Given as goal
 
 -- what the rows of the parts to come add, all rows add to what there was
 abbrev pub invariant-loop-part : goal.invariant-loop-part
