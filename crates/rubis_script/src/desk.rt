@@ -27,11 +27,11 @@ ghost use Rattle.rubis_engine.specs.declared.service.Course.TheVariants as Cours
 
 use crate::plan::Plan;
 use crate::replies::{
-    write_arrival, write_count, write_listed_text, write_passed, write_refusal, write_sent,
+    write_arrival, write_listed_text, write_number, write_passed, write_refusal, write_sent,
     write_taken,
 };
 use crate::rows_out::write_rows;
-use crate::windows::{hold, window_of, write_arrivals};
+use crate::windows::{window_of, write_arrivals};
 use rubis_engine::{InputRecord, OutOfMemory, Reply, RunFault, Service, Sink};
 use rubis_message::{Message, Packet, ReadFault, Request, Token, read_packet, read_request};
 use rubis_reading::Parsed;
@@ -213,31 +213,9 @@ impl<G: Gate + Drop> Desk<G> {
 }
 
 impl<G: Gate> Desk<G> {
-    // Answers a record that is no packet.
-    #[tactic(auto, using(crate::proofs::OneReading::asked, crate::proofs::OneReading::neither))]
-    #[inline(always)]
-    fn respond_to_request<R: Threads + Wait + Sync>(
-        &mut self,
-        rt: &R,
-        fields: &InputRecord,
-        reply: &mut Reply,
-    ) -> Result<(), OutOfMemory>
-        requires { packet_of self.old.site.place.sites fields.now ≡ None }
-        ensures place { self.new.site.place ≡ self.old.site.place }
-        ensures plan { self.new.plan ≡ self.old.plan }
-        ensures answered { OnOk result (IsAnswered reply.old.number
-            (input_of self.old.site.place.sites fields.now) self.old.site self.new.site reply.old.sink reply.new.sink) }
-    {
-        match read_request(self.alloc, fields, self.sites) {
-            Ok(request) => answer_request(rt, &mut self.site, reply, request),
-            Err(ReadFault::BadRecord) => refuse(reply, Refusal::BadRecord),
-            Err(ReadFault::Memory) => Err(OutOfMemory),
-        }
-    }
-
     // Answers a record of which it is known whether it is a packet. No record is both a request and a packet, and most records
     // of a busy site are packets.
-    #[tactic(auto, using(crate::proofs::OneReading::came))]
+    #[tactic(auto, using(crate::proofs::OneReading::came, crate::proofs::OneReading::asked, crate::proofs::OneReading::neither))]
     #[inline(always)]
     fn respond_to<R: Threads + Wait + Sync>(
         &mut self,
@@ -254,7 +232,11 @@ impl<G: Gate> Desk<G> {
     {
         match read {
             Ok(packet) => answer_packet(rt, &mut self.site, reply, packet),
-            Err(ReadFault::BadRecord) => self.respond_to_request(rt, fields, reply),
+            Err(ReadFault::BadRecord) => match read_request(self.alloc, fields, self.sites) {
+                Ok(request) => answer_request(rt, &mut self.site, reply, request),
+                Err(ReadFault::BadRecord) => refuse(reply, Refusal::BadRecord),
+                Err(ReadFault::Memory) => Err(OutOfMemory),
+            },
             Err(ReadFault::Memory) => Err(OutOfMemory),
         }
     }
@@ -273,13 +255,6 @@ impl<G: Gate> Desk<G> {
     {
         let read = read_packet(self.alloc, fields, self.sites);
         self.respond_to(rt, fields, read, reply)
-    }
-
-    // Whether one more message is held before these are taken in.
-    fn has_room(&self, window: &Vec<Message>) -> bool
-        ensures { IsTrue result → length window.now.items < self.now.plan.window }
-    {
-        window.len() < self.window
     }
 
     /// Takes in the messages that are held, the last of the records so far, and answers them, if there are any.
@@ -355,7 +330,7 @@ impl<G: Gate> Desk<G> {
             (held_by self.new.site window.new.items (answered + 1)) reply.old.sink reply.new.sink) }
         ensures leads { OnOk result (Settles self.old.site window.old.items self.new.site window.new.items) }
     {
-        if self.has_room(window) {
+        if window.len() < self.window {
             return Ok(());
         }
         self.flush(rt, answered, window, reply)
@@ -384,7 +359,10 @@ impl<G: Gate> Desk<G> {
             self.new.site window.new.items) }
     {
         self.make_room(rt, answered, window, reply)?;
-        hold(window, message)
+        if window.push(message).is_err() {
+            return Err(OutOfMemory);
+        }
+        Ok(())
     }
 
     /// Holds the next record, if it is a message and messages are held at all, at most as many as the plan says; otherwise takes
@@ -448,31 +426,6 @@ impl<G: Gate> Desk<G> {
         }
     }
 
-    // Takes in the messages that are held, and answers what the next record was read as.
-    fn answer_parsed<R: Threads + Wait + Sync>(
-        &mut self,
-        rt: &R,
-        answered: u64,
-        parsed: Parsed,
-        window: &mut Vec<Message>,
-        reply: &mut Reply,
-    ) -> Result<(), OutOfMemory>
-        requires held { AreHeld self.old.site.place window.old.items answered }
-        requires room { answered + 1 < 2 ^ 64 }
-        requires fits { FitsIn self.old.site.place.sites parsed }
-        ensures place { self.new.site.place ≡ self.old.site.place }
-        ensures plan { self.new.plan ≡ self.old.plan }
-        ensures empty { window.new.items ≡ [] }
-        ensures goes { OnOk result ((fields : List (List ℕ)) → input_of self.old.site.place.sites fields ≡ meant parsed
-            → AnswersRecord Course.GoesOn (held_by self.old.site window.old.items (answered + 1)) (held_by self.new.site window.new.items
-            (answered + 1 + 1)) reply.old.sink reply.new.sink fields) }
-        ensures leads { OnOk result (StepsOn (answered + 1) (meant parsed) self.old.site window.old.items self.new.site window.new.items) }
-    {
-        self.flush(rt, answered, window, reply)?;
-        reply.number = answered + 1;
-        self.respond_parsed(rt, parsed, reply)
-    }
-
     /// Holds what the next record was read as, if it is a message and messages are held at all, at most as many as the plan says;
     /// otherwise takes in those that are held, and answers it.
     pub fn take_parsed<R: Threads + Wait + Sync>(
@@ -495,43 +448,28 @@ impl<G: Gate> Desk<G> {
             (answered + 1 + 1)) reply.old.sink reply.new.sink fields) }
         ensures leads { OnOk result (StepsOn (answered + 1) (meant parsed) self.old.site window.old.items self.new.site window.new.items) }
     {
-        if self.window > 1 {
-            return match parsed {
-                Parsed::Came(Packet::Msg(message)) => {
-                    self.hold_next(rt, answered, message, window, reply)
-                }
-                Parsed::Came(Packet::Token(token)) => {
-                    let other = Parsed::Came(Packet::Token(token));
-                    self.answer_parsed(rt, answered, other, window, reply)
-                }
-                Parsed::Asked(request) => {
-                    self.answer_parsed(rt, answered, Parsed::Asked(request), window, reply)
-                }
-                Parsed::Neither => {
-                    self.answer_parsed(rt, answered, Parsed::Neither, window, reply)
-                }
-            };
+        match parsed {
+            Parsed::Came(Packet::Msg(message)) if self.window > 1 => {
+                self.hold_next(rt, answered, message, window, reply)
+            }
+            other => {
+                self.flush(rt, answered, window, reply)?;
+                reply.number = answered + 1;
+                self.respond_parsed(rt, other, reply)
+            }
         }
-        self.answer_parsed(rt, answered, parsed, window, reply)
     }
-}
 
-// Whether a record begins as a request for a listing does.
-#[inline(always)]
-fn begins_listing(fields: &InputRecord) -> bool {
-    match fields.field(0) {
-        Some(word) => word == b"list".as_slice(),
-        None => false,
-    }
-}
-
-impl<G: Gate> Desk<G> {
     /// The listing that a record asks for, if it asks for one and there is memory to tell.
     #[tactic(auto, using(crate::proofs::OneReading::asked))]
     pub fn listing_of(&self, fields: &InputRecord) -> Option<Listing>
         ensures { IfSome result (λ listing. input_of self.now.site.place.sites fields.now ≡ Asked (Request.List listing)) }
     {
-        if !begins_listing(fields) {
+        // Most records don't begin so, and aren't read to find out.
+        let Some(word) = fields.field(0) else {
+            return None;
+        };
+        if word != b"list".as_slice() {
             return None;
         }
         match read_request(self.alloc, fields, self.sites) {
@@ -566,7 +504,13 @@ impl<G: Gate> Desk<G> {
         }
         let mut rows = self.site.rows(listing)?;
         let count = rows.count() as u64;
-        write_count(&mut reply.draft.row, &mut reply.sink, reply.number, count)?;
+        write_number(
+            &mut reply.draft.row,
+            &mut reply.sink,
+            reply.number,
+            b"rows",
+            count,
+        )?;
         write_rows(rt, &mut rows, &mut reply.sink, writer)
     }
 }
