@@ -27,7 +27,7 @@ use Rattle.rubis_script.specs.Windows.{held_by}
 use Rattle.rubis_script.proofs.LoopFacts.{first_read, stands-answered}
 use Rattle.rubis_script.proofs.WindowFacts.{flush_goes}
 
-appends_none : (o : Option (List ℕ)) → Appends o o []
+pub appends_none : (o : Option (List ℕ)) → Appends o o []
 appends_none None = tt
 appends_none (Some text) = sym (append-nil text)
 

@@ -18,7 +18,7 @@ ghost use Rattle.rubis_replica.specs.Setup.{setup_place};
 ghost use Rattle.rubis_reading.specs.Parsed.{FitsIn, meant};
 ghost use Rattle.rubis_engine.specs.Accounts.{AnswersRecord, Keeps};
 ghost use Rattle.rubis_script.specs.Drains.{WritesFront, WritesOff, listed_behind};
-ghost use Rattle.rubis_script.specs.Inputs.{IsAnswered, IsReadOf};
+ghost use Rattle.rubis_script.specs.Inputs.{IsAnswered, IsReadOf, IsRefusedBy};
 ghost use Rattle.rubis_script.specs.Headline.{Settles, StepsOn};
 ghost use Rattle.rubis_script.specs.SiteRuns.{told_by};
 ghost use Rattle.rubis_engine.specs.Text.{rows_text};
@@ -53,6 +53,17 @@ fn refuse(reply: &mut Reply, refusal: Refusal) -> Result<(), OutOfMemory>
     Ok(())
 }
 
+// Answers what a site gave no answer to: with its refusal, or without memory, or where the site is behind, not at all.
+#[inline(always)]
+fn answer_fault(reply: &mut Reply, fault: Fault) -> Result<(), OutOfMemory>
+    ensures { OnOk result (IsRefusedBy reply.old.number fault reply.old.sink reply.new.sink) }
+{
+    match fault {
+        Fault::Refused(refusal) => refuse(reply, refusal),
+        Fault::Behind | Fault::Memory => Err(OutOfMemory),
+    }
+}
+
 // Answers an ask.
 #[inline(always)]
 fn answer_ask<G: Gate, R: Threads + Wait + Sync>(
@@ -67,8 +78,7 @@ fn answer_ask<G: Gate, R: Threads + Wait + Sync>(
 {
     match site.request(rt, ask) {
         Ok(message) => write_sent(&mut reply.draft, &mut reply.sink, reply.number, &message)?,
-        Err(Fault::Refused(refusal)) => refuse(reply, refusal)?,
-        Err(Fault::Behind) | Err(Fault::Memory) => return Err(OutOfMemory),
+        Err(fault) => answer_fault(reply, fault)?,
     }
     Ok(())
 }
@@ -80,8 +90,7 @@ fn answer_pass<G: Gate>(site: &mut Site<G>, reply: &mut Reply, to: u8) -> Result
 {
     match site.pass(to) {
         Ok(token) => write_passed(&mut reply.draft.row, &mut reply.sink, reply.number, &token)?,
-        Err(Fault::Refused(refusal)) => refuse(reply, refusal)?,
-        Err(Fault::Behind) | Err(Fault::Memory) => return Err(OutOfMemory),
+        Err(fault) => answer_fault(reply, fault)?,
     }
     Ok(())
 }
@@ -100,8 +109,7 @@ fn answer_list<G: Gate, R: Threads + Wait + Sync>(
     let mut rows = Counted::new(reply.sink.another());
     match site.list_into(rt, listing, &mut rows) {
         Ok(()) => write_listed_text(&mut reply.draft.row, &mut reply.sink, reply.number, rows)?,
-        Err(Fault::Refused(refusal)) => refuse(reply, refusal)?,
-        Err(Fault::Behind) | Err(Fault::Memory) => return Err(OutOfMemory),
+        Err(fault) => answer_fault(reply, fault)?,
     }
     Ok(())
 }
@@ -139,8 +147,7 @@ fn answer_message<G: Gate, R: Threads + Wait + Sync>(
 {
     match site.arrive(rt, message) {
         Ok(arrival) => write_arrival(&mut reply.draft.row, &mut reply.sink, reply.number, arrival)?,
-        Err(Fault::Refused(refusal)) => refuse(reply, refusal)?,
-        Err(Fault::Behind) | Err(Fault::Memory) => return Err(OutOfMemory),
+        Err(fault) => answer_fault(reply, fault)?,
     }
     Ok(())
 }
@@ -156,8 +163,7 @@ fn answer_token<G: Gate>(
 {
     match site.token(token) {
         Ok(taken) => write_taken(&mut reply.draft.row, &mut reply.sink, reply.number, taken)?,
-        Err(Fault::Refused(refusal)) => refuse(reply, refusal)?,
-        Err(Fault::Behind) | Err(Fault::Memory) => return Err(OutOfMemory),
+        Err(fault) => answer_fault(reply, fault)?,
     }
     Ok(())
 }
