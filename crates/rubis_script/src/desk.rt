@@ -49,8 +49,7 @@ use std::thread::Threads;
 fn refuse(reply: &mut Reply, refusal: Refusal) -> Result<(), OutOfMemory>
     ensures { OnOk result (reply.new.sink ≡ reply.old.sink ++ rows_text (refused_row reply.old.number refusal ∷ [])) }
 {
-    write_refusal(&mut reply.draft.row, &mut reply.sink, reply.number, refusal)?;
-    Ok(())
+    Ok(write_refusal(&mut reply.draft.row, &mut reply.sink, reply.number, refusal)?)
 }
 
 // Answers what a site gave no answer to: with its refusal, or without memory, or where the site is behind, not at all.
@@ -62,37 +61,6 @@ fn answer_fault(reply: &mut Reply, fault: Fault) -> Result<(), OutOfMemory>
         Fault::Refused(refusal) => refuse(reply, refusal),
         Fault::Behind | Fault::Memory => Err(OutOfMemory),
     }
-}
-
-// Answers an ask.
-#[inline(always)]
-fn answer_ask<G: Gate, R: Threads + Wait + Sync>(
-    rt: &R,
-    site: &mut Site<G>,
-    reply: &mut Reply,
-    ask: Ask,
-) -> Result<(), OutOfMemory>
-    requires { IsAsk site.old.place.sites ask }
-    ensures place { site.new.place ≡ site.old.place }
-    ensures answered { OnOk result (IsAnswered reply.old.number (Asked (Request.Ask ask)) site.old site.new reply.old.sink reply.new.sink) }
-{
-    match site.request(rt, ask) {
-        Ok(message) => write_sent(&mut reply.draft, &mut reply.sink, reply.number, &message)?,
-        Err(fault) => answer_fault(reply, fault)?,
-    }
-    Ok(())
-}
-
-// Answers a request to hand the token on.
-fn answer_pass<G: Gate>(site: &mut Site<G>, reply: &mut Reply, to: u8) -> Result<(), OutOfMemory>
-    ensures place { site.new.place ≡ site.old.place }
-    ensures answered { OnOk result (IsAnswered reply.old.number (Asked (Request.Pass to)) site.old site.new reply.old.sink reply.new.sink) }
-{
-    match site.pass(to) {
-        Ok(token) => write_passed(&mut reply.draft.row, &mut reply.sink, reply.number, &token)?,
-        Err(fault) => answer_fault(reply, fault)?,
-    }
-    Ok(())
 }
 
 // Answers a request for a listing. The rows are buffered: the reply line before them carries their count.
@@ -108,10 +76,9 @@ fn answer_list<G: Gate, R: Threads + Wait + Sync>(
 {
     let mut rows = Counted::new(reply.sink.another());
     match site.list_into(rt, listing, &mut rows) {
-        Ok(()) => write_listed_text(&mut reply.draft.row, &mut reply.sink, reply.number, rows)?,
-        Err(fault) => answer_fault(reply, fault)?,
+        Ok(()) => Ok(write_listed_text(&mut reply.draft.row, &mut reply.sink, reply.number, rows)?),
+        Err(fault) => answer_fault(reply, fault),
     }
-    Ok(())
 }
 
 // Answers a request.
@@ -127,45 +94,26 @@ fn answer_request<G: Gate, R: Threads + Wait + Sync>(
     ensures answered { OnOk result (IsAnswered reply.old.number (Asked request) site.old site.new reply.old.sink reply.new.sink) }
 {
     match request {
-        Request::Ask(ask) => answer_ask(rt, site, reply, ask),
-        Request::Pass(to) => answer_pass(site, reply, to),
+        Request::Ask(ask) => match site.request(rt, ask) {
+            Ok(message) => Ok(write_sent(
+                &mut reply.draft,
+                &mut reply.sink,
+                reply.number,
+                &message,
+            )?),
+            Err(fault) => answer_fault(reply, fault),
+        },
+        Request::Pass(to) => match site.pass(to) {
+            Ok(token) => Ok(write_passed(
+                &mut reply.draft.row,
+                &mut reply.sink,
+                reply.number,
+                &token,
+            )?),
+            Err(fault) => answer_fault(reply, fault),
+        },
         Request::List(listing) => answer_list(rt, site, reply, &listing),
     }
-}
-
-// Answers a message that arrives.
-#[inline(always)]
-fn answer_message<G: Gate, R: Threads + Wait + Sync>(
-    rt: &R,
-    site: &mut Site<G>,
-    reply: &mut Reply,
-    message: Message,
-) -> Result<(), OutOfMemory>
-    requires { sites_of message ≡ site.old.place.sites }
-    ensures place { site.new.place ≡ site.old.place }
-    ensures answered { OnOk result (IsAnswered reply.old.number (Came (Packet.Msg message)) site.old site.new reply.old.sink reply.new.sink) }
-{
-    match site.arrive(rt, message) {
-        Ok(arrival) => write_arrival(&mut reply.draft.row, &mut reply.sink, reply.number, arrival)?,
-        Err(fault) => answer_fault(reply, fault)?,
-    }
-    Ok(())
-}
-
-// Answers a token that arrives.
-fn answer_token<G: Gate>(
-    site: &mut Site<G>,
-    reply: &mut Reply,
-    token: Token,
-) -> Result<(), OutOfMemory>
-    ensures place { site.new.place ≡ site.old.place }
-    ensures answered { OnOk result (IsAnswered reply.old.number (Came (Packet.Token token)) site.old site.new reply.old.sink reply.new.sink) }
-{
-    match site.token(token) {
-        Ok(taken) => write_taken(&mut reply.draft.row, &mut reply.sink, reply.number, taken)?,
-        Err(fault) => answer_fault(reply, fault)?,
-    }
-    Ok(())
 }
 
 // Answers a packet.
@@ -181,8 +129,24 @@ fn answer_packet<G: Gate, R: Threads + Wait + Sync>(
     ensures answered { OnOk result (IsAnswered reply.old.number (Came packet) site.old site.new reply.old.sink reply.new.sink) }
 {
     match packet {
-        Packet::Msg(message) => answer_message(rt, site, reply, message),
-        Packet::Token(token) => answer_token(site, reply, token),
+        Packet::Msg(message) => match site.arrive(rt, message) {
+            Ok(arrival) => Ok(write_arrival(
+                &mut reply.draft.row,
+                &mut reply.sink,
+                reply.number,
+                arrival,
+            )?),
+            Err(fault) => answer_fault(reply, fault),
+        },
+        Packet::Token(token) => match site.token(token) {
+            Ok(taken) => Ok(write_taken(
+                &mut reply.draft.row,
+                &mut reply.sink,
+                reply.number,
+                taken,
+            )?),
+            Err(fault) => answer_fault(reply, fault),
+        },
     }
 }
 
