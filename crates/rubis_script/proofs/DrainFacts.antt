@@ -1,5 +1,5 @@
 -- What writing a text out in part comes to.
-use Rattle.std.proofs.Common.{◌≡◌, ◌∙◌, ◌+◌, ◌++◌, ◌∷◌, [], ℕ, List, Option, Some, None, true, ap, append-nil, append_assoc, refl, subst, sym}
+use Rattle.std.proofs.Common.{◌≡◌, ◌∙◌, ◌+◌, ◌++◌, ◌∷◌, [], ℕ, List, Option, Some, None, true, ap, append-nil, append_assoc, inl, inr, refl, subst, sym}
 use Rattle.std.specs.Io.KnownBytes.{Appends}
 use Rattle.rubis_schema.specs.declared.listings.Listing.{Listing}
 use Rattle.rubis_message.specs.Message.{Message}
@@ -9,7 +9,7 @@ use Rattle.rubis_model.specs.Runs.Input.{Asked}
 use Rattle.rubis_replica.specs.State.{SiteState}
 use Rattle.rubis_engine.specs.Accounts.{Account, AnswersRecord, Keeps}
 use Rattle.rubis_engine.specs.Accounts.Ending.{AtEnd}
-use Rattle.rubis_engine.specs.Progress.{HasComeSoFar, WrotePrefix}
+use Rattle.rubis_engine.specs.Progress.{HasComeSoFar, IsWrittenOrWaits, WrotePrefix}
 use Rattle.rubis_engine.specs.Reading.{Advances, fields_now}
 use Rattle.rubis_engine.specs.Adding.{more_written}
 use Rattle.rubis_engine.specs.Text.{input_records, rows_text}
@@ -27,7 +27,7 @@ use Rattle.rubis_script.specs.Windows.{held_by}
 use Rattle.rubis_script.proofs.LoopFacts.{first_read, stands-answered}
 use Rattle.rubis_script.proofs.WindowFacts.{flush_goes}
 
-appends_none : (o : Option (List ℕ)) → Appends o o []
+pub appends_none : (o : Option (List ℕ)) → Appends o o []
 appends_none None = tt
 appends_none (Some text) = sym (append-nil text)
 
@@ -55,6 +55,11 @@ off_all text left now now2 out none = record {
   appended = out;
   parts = sym (ap (λ l. text ++ l) none ∙ append-nil text);
 }
+
+-- it was written, or waits
+pub off_waited : (text left : List ℕ) (now now2 : Option (List ℕ)) → IsWrittenOrWaits text left now now2 → WritesOff text left now now2
+off_waited text left now now2 (inl (out, none)) = off_all text left now now2 out none
+off_waited text left now now2 (inr (same, waits)) = subst (λ l. WritesOff text l now now2) (sym waits) (off_none text now now2 same)
 
 -- more was written after it
 pub off_more : (text mid left : List ℕ) (old now now2 : Option (List ℕ)) → WritesOff text mid old now → WritesOff mid left now now2 → WritesOff text left old now2

@@ -7,6 +7,7 @@ use Rattle.rubis_script.specs.Windows.{AreHeld, FitPlan, held_by}
 use Rattle.rubis_script.proofs.LeadFacts.{SiteEnds, held_steps, led_all, led_kept, led_more, led_none, take_all, take_at}
 use Rattle.rubis_script.proofs.WindowFacts.{held_none, holds_more}
 use Rattle.rubis_engine.specs.Accounts.{AnswersRecord, Ending, Keeps}
+use Rattle.rubis_engine.specs.Progress.{IsWrittenOrWaits}
 use Rattle.rubis_engine.specs.declared.service.Course.TheVariants.{GoesOn}
 use Rattle.rubis_message.specs.Message.{Message, sites_of}
 use Rattle.rubis_message.specs.declared.tokens.Packet.TheVariants.{Msg}
@@ -165,6 +166,14 @@ stands-written s ps w first old now now2 sink sink2 answered records later out n
   text = ahead-written s.place.sites ps (told_by first 1) (held_by s w (answered + 1)) old now now2 sink sink2 (answered + 1) records later out none stands.text;
   led = stands.led;
 }
+
+-- what waited was written out, or waits on
+pub stands-waited : (s : SiteState) (ps : List Parsed) (w : List Message) (first : SiteState) (old now now2 : Option (List ℕ)) (sink sink2 : List ℕ)
+    (answered : ℕ) (records later : List (List (List ℕ))) → IsWrittenOrWaits sink sink2 now now2
+    → Stands s ps w sink answered first old now records later → Stands s ps w sink2 answered first old now2 records later
+stands-waited s ps w first old now now2 sink sink2 answered records later (inl (out, none)) stands =
+    stands-written s ps w first old now now2 sink sink2 answered records later out none stands
+stands-waited s ps w first old now now2 sink sink2 answered records later (inr (same, waits)) stands = rw (same, waits) stands
 
 -- all that was read ahead was answered, and more was read
 pub stands-read : (s : SiteState) (ps list : List Parsed) (w : List Message) (first : SiteState) (old now : Option (List ℕ)) (sink : List ℕ)

@@ -21,11 +21,8 @@ use Rattle.rubis_script.specs.Headline.{AnswersAll, AnswersFirst, AnswersJust, S
 use Rattle.rubis_script.specs.SiteRuns.{told_by}
 use Rattle.rubis_script.specs.Windows.{held_by}
 use Rattle.rubis_script.proofs.LeadFacts.{SiteEnds, led_all, led_kept, led_more, take_all}
+use Rattle.rubis_script.proofs.DrainFacts.{appends_none}
 use Rattle.rubis_script.proofs.LoopFacts.{held-end}
-
-appends_none : (o : Option (List ℕ)) → Appends o o []
-appends_none None = tt
-appends_none (Some text) = sym (append-nil text)
 
 -- nothing was answered
 pub turn_moved : {R : Type 0} (rem : R → Option (List ℕ)) (a : Records R) (s s2 : SiteState) (w w2 : List Message) (sink sink2 : List ℕ) (answered answered2 : ℕ)

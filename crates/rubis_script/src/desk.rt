@@ -18,7 +18,7 @@ ghost use Rattle.rubis_replica.specs.Setup.{setup_place};
 ghost use Rattle.rubis_reading.specs.Parsed.{FitsIn, meant};
 ghost use Rattle.rubis_engine.specs.Accounts.{AnswersRecord, Keeps};
 ghost use Rattle.rubis_script.specs.Drains.{WritesFront, WritesOff, listed_behind};
-ghost use Rattle.rubis_script.specs.Inputs.{IsAnswered, IsReadOf};
+ghost use Rattle.rubis_script.specs.Inputs.{IsAnswered, IsReadOf, IsRefusedBy};
 ghost use Rattle.rubis_script.specs.Headline.{Settles, StepsOn};
 ghost use Rattle.rubis_script.specs.SiteRuns.{told_by};
 ghost use Rattle.rubis_engine.specs.Text.{rows_text};
@@ -27,11 +27,11 @@ ghost use Rattle.rubis_engine.specs.declared.service.Course.TheVariants as Cours
 
 use crate::plan::Plan;
 use crate::replies::{
-    write_arrival, write_count, write_listed_text, write_passed, write_refusal, write_sent,
+    write_arrival, write_listed_text, write_number, write_passed, write_refusal, write_sent,
     write_taken,
 };
 use crate::rows_out::write_rows;
-use crate::windows::{hold, window_of, write_arrivals};
+use crate::windows::{window_of, write_arrivals};
 use rubis_engine::{InputRecord, OutOfMemory, Reply, RunFault, Service, Sink};
 use rubis_message::{Message, Packet, ReadFault, Request, Token, read_packet, read_request};
 use rubis_reading::Parsed;
@@ -49,41 +49,18 @@ use std::thread::Threads;
 fn refuse(reply: &mut Reply, refusal: Refusal) -> Result<(), OutOfMemory>
     ensures { OnOk result (reply.new.sink ≡ reply.old.sink ++ rows_text (refused_row reply.old.number refusal ∷ [])) }
 {
-    write_refusal(&mut reply.draft.row, &mut reply.sink, reply.number, refusal)?;
-    Ok(())
+    Ok(write_refusal(&mut reply.draft.row, &mut reply.sink, reply.number, refusal)?)
 }
 
-// Answers an ask.
+// Answers what a site gave no answer to: with its refusal, or without memory, or where the site is behind, not at all.
 #[inline(always)]
-fn answer_ask<G: Gate, R: Threads + Wait + Sync>(
-    rt: &R,
-    site: &mut Site<G>,
-    reply: &mut Reply,
-    ask: Ask,
-) -> Result<(), OutOfMemory>
-    requires { IsAsk site.old.place.sites ask }
-    ensures place { site.new.place ≡ site.old.place }
-    ensures answered { OnOk result (IsAnswered reply.old.number (Asked (Request.Ask ask)) site.old site.new reply.old.sink reply.new.sink) }
+fn answer_fault(reply: &mut Reply, fault: Fault) -> Result<(), OutOfMemory>
+    ensures { OnOk result (IsRefusedBy reply.old.number fault reply.old.sink reply.new.sink) }
 {
-    match site.request(rt, ask) {
-        Ok(message) => write_sent(&mut reply.draft, &mut reply.sink, reply.number, &message)?,
-        Err(Fault::Refused(refusal)) => refuse(reply, refusal)?,
-        Err(Fault::Behind) | Err(Fault::Memory) => return Err(OutOfMemory),
+    match fault {
+        Fault::Refused(refusal) => refuse(reply, refusal),
+        Fault::Behind | Fault::Memory => Err(OutOfMemory),
     }
-    Ok(())
-}
-
-// Answers a request to hand the token on.
-fn answer_pass<G: Gate>(site: &mut Site<G>, reply: &mut Reply, to: u8) -> Result<(), OutOfMemory>
-    ensures place { site.new.place ≡ site.old.place }
-    ensures answered { OnOk result (IsAnswered reply.old.number (Asked (Request.Pass to)) site.old site.new reply.old.sink reply.new.sink) }
-{
-    match site.pass(to) {
-        Ok(token) => write_passed(&mut reply.draft.row, &mut reply.sink, reply.number, &token)?,
-        Err(Fault::Refused(refusal)) => refuse(reply, refusal)?,
-        Err(Fault::Behind) | Err(Fault::Memory) => return Err(OutOfMemory),
-    }
-    Ok(())
 }
 
 // Answers a request for a listing. The rows are buffered: the reply line before them carries their count.
@@ -99,11 +76,9 @@ fn answer_list<G: Gate, R: Threads + Wait + Sync>(
 {
     let mut rows = Counted::new(reply.sink.another());
     match site.list_into(rt, listing, &mut rows) {
-        Ok(()) => write_listed_text(&mut reply.draft.row, &mut reply.sink, reply.number, rows)?,
-        Err(Fault::Refused(refusal)) => refuse(reply, refusal)?,
-        Err(Fault::Behind) | Err(Fault::Memory) => return Err(OutOfMemory),
+        Ok(()) => Ok(write_listed_text(&mut reply.draft.row, &mut reply.sink, reply.number, rows)?),
+        Err(fault) => answer_fault(reply, fault),
     }
-    Ok(())
 }
 
 // Answers a request.
@@ -119,47 +94,26 @@ fn answer_request<G: Gate, R: Threads + Wait + Sync>(
     ensures answered { OnOk result (IsAnswered reply.old.number (Asked request) site.old site.new reply.old.sink reply.new.sink) }
 {
     match request {
-        Request::Ask(ask) => answer_ask(rt, site, reply, ask),
-        Request::Pass(to) => answer_pass(site, reply, to),
+        Request::Ask(ask) => match site.request(rt, ask) {
+            Ok(message) => Ok(write_sent(
+                &mut reply.draft,
+                &mut reply.sink,
+                reply.number,
+                &message,
+            )?),
+            Err(fault) => answer_fault(reply, fault),
+        },
+        Request::Pass(to) => match site.pass(to) {
+            Ok(token) => Ok(write_passed(
+                &mut reply.draft.row,
+                &mut reply.sink,
+                reply.number,
+                &token,
+            )?),
+            Err(fault) => answer_fault(reply, fault),
+        },
         Request::List(listing) => answer_list(rt, site, reply, &listing),
     }
-}
-
-// Answers a message that arrives.
-#[inline(always)]
-fn answer_message<G: Gate, R: Threads + Wait + Sync>(
-    rt: &R,
-    site: &mut Site<G>,
-    reply: &mut Reply,
-    message: Message,
-) -> Result<(), OutOfMemory>
-    requires { sites_of message ≡ site.old.place.sites }
-    ensures place { site.new.place ≡ site.old.place }
-    ensures answered { OnOk result (IsAnswered reply.old.number (Came (Packet.Msg message)) site.old site.new reply.old.sink reply.new.sink) }
-{
-    match site.arrive(rt, message) {
-        Ok(arrival) => write_arrival(&mut reply.draft.row, &mut reply.sink, reply.number, arrival)?,
-        Err(Fault::Refused(refusal)) => refuse(reply, refusal)?,
-        Err(Fault::Behind) | Err(Fault::Memory) => return Err(OutOfMemory),
-    }
-    Ok(())
-}
-
-// Answers a token that arrives.
-fn answer_token<G: Gate>(
-    site: &mut Site<G>,
-    reply: &mut Reply,
-    token: Token,
-) -> Result<(), OutOfMemory>
-    ensures place { site.new.place ≡ site.old.place }
-    ensures answered { OnOk result (IsAnswered reply.old.number (Came (Packet.Token token)) site.old site.new reply.old.sink reply.new.sink) }
-{
-    match site.token(token) {
-        Ok(taken) => write_taken(&mut reply.draft.row, &mut reply.sink, reply.number, taken)?,
-        Err(Fault::Refused(refusal)) => refuse(reply, refusal)?,
-        Err(Fault::Behind) | Err(Fault::Memory) => return Err(OutOfMemory),
-    }
-    Ok(())
 }
 
 // Answers a packet.
@@ -175,8 +129,24 @@ fn answer_packet<G: Gate, R: Threads + Wait + Sync>(
     ensures answered { OnOk result (IsAnswered reply.old.number (Came packet) site.old site.new reply.old.sink reply.new.sink) }
 {
     match packet {
-        Packet::Msg(message) => answer_message(rt, site, reply, message),
-        Packet::Token(token) => answer_token(site, reply, token),
+        Packet::Msg(message) => match site.arrive(rt, message) {
+            Ok(arrival) => Ok(write_arrival(
+                &mut reply.draft.row,
+                &mut reply.sink,
+                reply.number,
+                arrival,
+            )?),
+            Err(fault) => answer_fault(reply, fault),
+        },
+        Packet::Token(token) => match site.token(token) {
+            Ok(taken) => Ok(write_taken(
+                &mut reply.draft.row,
+                &mut reply.sink,
+                reply.number,
+                taken,
+            )?),
+            Err(fault) => answer_fault(reply, fault),
+        },
     }
 }
 
@@ -213,31 +183,9 @@ impl<G: Gate + Drop> Desk<G> {
 }
 
 impl<G: Gate> Desk<G> {
-    // Answers a record that is no packet.
-    #[tactic(auto, using(crate::proofs::OneReading::asked, crate::proofs::OneReading::neither))]
-    #[inline(always)]
-    fn respond_to_request<R: Threads + Wait + Sync>(
-        &mut self,
-        rt: &R,
-        fields: &InputRecord,
-        reply: &mut Reply,
-    ) -> Result<(), OutOfMemory>
-        requires { packet_of self.old.site.place.sites fields.now ≡ None }
-        ensures place { self.new.site.place ≡ self.old.site.place }
-        ensures plan { self.new.plan ≡ self.old.plan }
-        ensures answered { OnOk result (IsAnswered reply.old.number
-            (input_of self.old.site.place.sites fields.now) self.old.site self.new.site reply.old.sink reply.new.sink) }
-    {
-        match read_request(self.alloc, fields, self.sites) {
-            Ok(request) => answer_request(rt, &mut self.site, reply, request),
-            Err(ReadFault::BadRecord) => refuse(reply, Refusal::BadRecord),
-            Err(ReadFault::Memory) => Err(OutOfMemory),
-        }
-    }
-
     // Answers a record of which it is known whether it is a packet. No record is both a request and a packet, and most records
     // of a busy site are packets.
-    #[tactic(auto, using(crate::proofs::OneReading::came))]
+    #[tactic(auto, using(crate::proofs::OneReading::came, crate::proofs::OneReading::asked, crate::proofs::OneReading::neither))]
     #[inline(always)]
     fn respond_to<R: Threads + Wait + Sync>(
         &mut self,
@@ -254,7 +202,11 @@ impl<G: Gate> Desk<G> {
     {
         match read {
             Ok(packet) => answer_packet(rt, &mut self.site, reply, packet),
-            Err(ReadFault::BadRecord) => self.respond_to_request(rt, fields, reply),
+            Err(ReadFault::BadRecord) => match read_request(self.alloc, fields, self.sites) {
+                Ok(request) => answer_request(rt, &mut self.site, reply, request),
+                Err(ReadFault::BadRecord) => refuse(reply, Refusal::BadRecord),
+                Err(ReadFault::Memory) => Err(OutOfMemory),
+            },
             Err(ReadFault::Memory) => Err(OutOfMemory),
         }
     }
@@ -273,13 +225,6 @@ impl<G: Gate> Desk<G> {
     {
         let read = read_packet(self.alloc, fields, self.sites);
         self.respond_to(rt, fields, read, reply)
-    }
-
-    // Whether one more message is held before these are taken in.
-    fn has_room(&self, window: &Vec<Message>) -> bool
-        ensures { IsTrue result → length window.now.items < self.now.plan.window }
-    {
-        window.len() < self.window
     }
 
     /// Takes in the messages that are held, the last of the records so far, and answers them, if there are any.
@@ -355,7 +300,7 @@ impl<G: Gate> Desk<G> {
             (held_by self.new.site window.new.items (answered + 1)) reply.old.sink reply.new.sink) }
         ensures leads { OnOk result (Settles self.old.site window.old.items self.new.site window.new.items) }
     {
-        if self.has_room(window) {
+        if window.len() < self.window {
             return Ok(());
         }
         self.flush(rt, answered, window, reply)
@@ -384,7 +329,10 @@ impl<G: Gate> Desk<G> {
             self.new.site window.new.items) }
     {
         self.make_room(rt, answered, window, reply)?;
-        hold(window, message)
+        if window.push(message).is_err() {
+            return Err(OutOfMemory);
+        }
+        Ok(())
     }
 
     /// Holds the next record, if it is a message and messages are held at all, at most as many as the plan says; otherwise takes
@@ -448,31 +396,6 @@ impl<G: Gate> Desk<G> {
         }
     }
 
-    // Takes in the messages that are held, and answers what the next record was read as.
-    fn answer_parsed<R: Threads + Wait + Sync>(
-        &mut self,
-        rt: &R,
-        answered: u64,
-        parsed: Parsed,
-        window: &mut Vec<Message>,
-        reply: &mut Reply,
-    ) -> Result<(), OutOfMemory>
-        requires held { AreHeld self.old.site.place window.old.items answered }
-        requires room { answered + 1 < 2 ^ 64 }
-        requires fits { FitsIn self.old.site.place.sites parsed }
-        ensures place { self.new.site.place ≡ self.old.site.place }
-        ensures plan { self.new.plan ≡ self.old.plan }
-        ensures empty { window.new.items ≡ [] }
-        ensures goes { OnOk result ((fields : List (List ℕ)) → input_of self.old.site.place.sites fields ≡ meant parsed
-            → AnswersRecord Course.GoesOn (held_by self.old.site window.old.items (answered + 1)) (held_by self.new.site window.new.items
-            (answered + 1 + 1)) reply.old.sink reply.new.sink fields) }
-        ensures leads { OnOk result (StepsOn (answered + 1) (meant parsed) self.old.site window.old.items self.new.site window.new.items) }
-    {
-        self.flush(rt, answered, window, reply)?;
-        reply.number = answered + 1;
-        self.respond_parsed(rt, parsed, reply)
-    }
-
     /// Holds what the next record was read as, if it is a message and messages are held at all, at most as many as the plan says;
     /// otherwise takes in those that are held, and answers it.
     pub fn take_parsed<R: Threads + Wait + Sync>(
@@ -495,43 +418,28 @@ impl<G: Gate> Desk<G> {
             (answered + 1 + 1)) reply.old.sink reply.new.sink fields) }
         ensures leads { OnOk result (StepsOn (answered + 1) (meant parsed) self.old.site window.old.items self.new.site window.new.items) }
     {
-        if self.window > 1 {
-            return match parsed {
-                Parsed::Came(Packet::Msg(message)) => {
-                    self.hold_next(rt, answered, message, window, reply)
-                }
-                Parsed::Came(Packet::Token(token)) => {
-                    let other = Parsed::Came(Packet::Token(token));
-                    self.answer_parsed(rt, answered, other, window, reply)
-                }
-                Parsed::Asked(request) => {
-                    self.answer_parsed(rt, answered, Parsed::Asked(request), window, reply)
-                }
-                Parsed::Neither => {
-                    self.answer_parsed(rt, answered, Parsed::Neither, window, reply)
-                }
-            };
+        match parsed {
+            Parsed::Came(Packet::Msg(message)) if self.window > 1 => {
+                self.hold_next(rt, answered, message, window, reply)
+            }
+            other => {
+                self.flush(rt, answered, window, reply)?;
+                reply.number = answered + 1;
+                self.respond_parsed(rt, other, reply)
+            }
         }
-        self.answer_parsed(rt, answered, parsed, window, reply)
     }
-}
 
-// Whether a record begins as a request for a listing does.
-#[inline(always)]
-fn begins_listing(fields: &InputRecord) -> bool {
-    match fields.field(0) {
-        Some(word) => word == b"list".as_slice(),
-        None => false,
-    }
-}
-
-impl<G: Gate> Desk<G> {
     /// The listing that a record asks for, if it asks for one and there is memory to tell.
     #[tactic(auto, using(crate::proofs::OneReading::asked))]
     pub fn listing_of(&self, fields: &InputRecord) -> Option<Listing>
         ensures { IfSome result (λ listing. input_of self.now.site.place.sites fields.now ≡ Asked (Request.List listing)) }
     {
-        if !begins_listing(fields) {
+        // Most records don't begin so, and aren't read to find out.
+        let Some(word) = fields.field(0) else {
+            return None;
+        };
+        if word != b"list".as_slice() {
             return None;
         }
         match read_request(self.alloc, fields, self.sites) {
@@ -566,7 +474,13 @@ impl<G: Gate> Desk<G> {
         }
         let mut rows = self.site.rows(listing)?;
         let count = rows.count() as u64;
-        write_count(&mut reply.draft.row, &mut reply.sink, reply.number, count)?;
+        write_number(
+            &mut reply.draft.row,
+            &mut reply.sink,
+            reply.number,
+            b"rows",
+            count,
+        )?;
         write_rows(rt, &mut rows, &mut reply.sink, writer)
     }
 }

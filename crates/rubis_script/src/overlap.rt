@@ -16,7 +16,6 @@ use rubis_engine::OutOfMemory;
 use rubis_reading::{Stretch, read_parts, read_piece};
 use rubis_replica::Gate;
 use rubis_schema::Listing;
-use std::alloc::Global;
 use std::sync::Wait;
 use std::thread::{Threads, join_mut};
 
@@ -30,11 +29,10 @@ pub struct Overlapped {
     pub stopped: Option<Listing>,
 }
 
-// Reads the records of a piece of text by other threads, while the desk answers what was read ahead on this one, all of it or up to
-// a request for a long listing.
-fn read_beside<G: Gate, T: Threads + Wait + Sync>(
+/// Answers what was read ahead, all of it or up to a request for a long listing, and reads the records of a piece of text: meanwhile,
+/// by other threads, or after it, where the piece is small.
+pub fn read_next<G: Gate, T: Threads + Wait + Sync>(
     rt: &T,
-    alloc: Global,
     piece: &[u8],
     desk: &mut Desk<G>,
     backlog: &mut Backlog,
@@ -51,8 +49,14 @@ fn read_beside<G: Gate, T: Threads + Wait + Sync>(
     ensures parsed { IfOk result (λ overlapped. AreParsed desk.old.site.place.sites (input_records piece.now) (flat overlapped.read.items)) }
     ensures windows { IfOk result (λ overlapped. FitWindow desk.old.plan.window overlapped.read.items) }
 {
+    let alloc = *backlog.window.allocator();
     let sites = desk.sites();
     let Plan { readers, window } = desk.plan;
+    if piece.len() <= SMALL {
+        let stopped = answer_ready(rt, desk, backlog)?;
+        let read = read_piece(alloc, piece, sites, window)?;
+        return Ok(Overlapped { read, stopped });
+    }
     let (list, answered) = join_mut(
         rt,
         &mut || -> Result<Vec<Stretch>, OutOfMemory>
@@ -73,36 +77,5 @@ fn read_beside<G: Gate, T: Threads + Wait + Sync>(
     );
     let stopped = answered?;
     let read = list?;
-    Ok(Overlapped { read, stopped })
-}
-
-/// Answers what was read ahead, all of it or up to a request for a long listing, and reads the records of a piece of text: meanwhile,
-/// by other threads, or after it, where the piece is small.
-pub fn read_next<G: Gate, T: Threads + Wait + Sync>(
-    rt: &T,
-    alloc: Global,
-    piece: &[u8],
-    desk: &mut Desk<G>,
-    backlog: &mut Backlog,
-) -> Result<Overlapped, OutOfMemory>
-    requires sound { IsSound desk.old.site desk.old.plan backlog.old }
-    requires room { backlog.old.answered + length (flat backlog.old.ahead) + 1 < 2 ^ 64 }
-    ensures place { OnOk result (desk.new.site.place ≡ desk.old.site.place) }
-    ensures plan { OnOk result (desk.new.plan ≡ desk.old.plan) }
-    ensures sound { OnOk result (IsSound desk.new.site desk.new.plan backlog.new) }
-    ensures all { IfOk result (λ overlapped. IfNone overlapped.stopped (backlog.new.ahead ≡ [])) }
-    ensures count { IfOk result (λ overlapped. backlog.new.answered + length (left_ahead overlapped.stopped backlog.new)
-        ≡ backlog.old.answered + length (flat backlog.old.ahead)) }
-    ensures goes { IfOk result (λ overlapped. StopsAt overlapped.stopped desk.old.site backlog.old desk.new.site backlog.new) }
-    ensures parsed { IfOk result (λ overlapped. AreParsed desk.old.site.place.sites (input_records piece.now) (flat overlapped.read.items)) }
-    ensures windows { IfOk result (λ overlapped. FitWindow desk.old.plan.window overlapped.read.items) }
-{
-    if piece.len() > SMALL {
-        return read_beside(rt, alloc, piece, desk, backlog);
-    }
-    let sites = desk.sites();
-    let window = desk.plan.window;
-    let stopped = answer_ready(rt, desk, backlog)?;
-    let read = read_piece(alloc, piece, sites, window)?;
     Ok(Overlapped { read, stopped })
 }

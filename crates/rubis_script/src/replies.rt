@@ -63,24 +63,6 @@ fn write_message<S: RowSink>(
     sink.put(fields)
 }
 
-// Sends a message.
-#[inline(always)]
-fn send_message<S: PlainSink>(
-    draft: &mut Draft,
-    sink: &mut S,
-    message: &Message,
-) -> Result<(), AllocError>
-    ensures { OnOk result (S.adds (send_row (message_record message.now) ∷ []) sink.old sink.new) }
-{
-    let row = &mut draft.row;
-    row.clear();
-    if !put_message(row, message) {
-        return write_message(&mut draft.fields, sink, message);
-    }
-    row.put_plain(b"send");
-    sink.put_plain(row)
-}
-
 /// Gives the id of an accepted ask, and sends its message.
 pub fn write_sent<S: PlainSink>(
     draft: &mut Draft,
@@ -95,7 +77,12 @@ pub fn write_sent<S: PlainSink>(
     row.put_id(message.id());
     put_reply(row, number, b"ok");
     sink.put_plain(row)?;
-    send_message(draft, sink, message)
+    row.clear();
+    if !put_message(row, message) {
+        return write_message(&mut draft.fields, sink, message);
+    }
+    row.put_plain(b"send");
+    sink.put_plain(row)
 }
 
 /// Says that the token is handed on, and sends it.
@@ -111,22 +98,6 @@ pub fn write_passed<S: PlainSink>(
     row.clear();
     put_token(row, token);
     row.put_plain(b"send");
-    sink.put_plain(row)
-}
-
-// Says how many messages were released.
-#[inline(always)]
-fn write_released<S: PlainSink>(
-    row: &mut PlainRow,
-    sink: &mut S,
-    number: u64,
-    count: u32,
-) -> Result<(), AllocError>
-    ensures { OnOk result (S.adds (arrived_rows number (Ok (Released count))) sink.old sink.new) }
-{
-    row.clear();
-    row.put_number(u64::from(count));
-    put_reply(row, number, b"released");
     sink.put_plain(row)
 }
 
@@ -146,6 +117,25 @@ fn write_word<S: PlainSink>(
     sink.put_plain(row)
 }
 
+/// Answers with one word and a number.
+#[inline(always)]
+pub(crate) fn write_number<S: PlainSink>(
+    row: &mut PlainRow,
+    sink: &mut S,
+    number: u64,
+    word: &[u8],
+    value: u64,
+) -> Result<(), AllocError>
+    requires plain { is_plain word.now ≡ true }
+    requires short { length word.now ≤ 8 }
+    ensures { OnOk result (S.adds (reply number (word.now ∷ decimal value ∷ []) ∷ []) sink.old sink.new) }
+{
+    row.clear();
+    row.put_number(value);
+    put_reply(row, number, word);
+    sink.put_plain(row)
+}
+
 /// Says what became of a message that arrived.
 pub fn write_arrival<S: PlainSink>(
     row: &mut PlainRow,
@@ -156,7 +146,7 @@ pub fn write_arrival<S: PlainSink>(
     ensures { OnOk result (S.adds (arrived_rows number (Ok arrival)) sink.old sink.new) }
 {
     match arrival {
-        Arrival::Released(count) => write_released(row, sink, number, count),
+        Arrival::Released(count) => write_number(row, sink, number, b"released", u64::from(count)),
         Arrival::Held => write_word(row, sink, number, b"held"),
         Arrival::Repeat => write_word(row, sink, number, b"repeat"),
     }
@@ -187,21 +177,6 @@ fn write_rows<S: RowSink>(sink: &mut S, rows: &[Fields]) -> Result<(), AllocErro
     Ok(())
 }
 
-/// Says how many rows a listing has.
-pub(crate) fn write_count<S: PlainSink>(
-    row: &mut PlainRow,
-    sink: &mut S,
-    number: u64,
-    count: u64,
-) -> Result<(), AllocError>
-    ensures { OnOk result (S.adds (reply number (codes "rows" ∷ decimal count ∷ []) ∷ []) sink.old sink.new) }
-{
-    row.clear();
-    row.put_number(count);
-    put_reply(row, number, b"rows");
-    sink.put_plain(row)
-}
-
 /// Says how many rows a listing has, and gives them.
 pub fn write_listed<S: PlainSink>(
     row: &mut PlainRow,
@@ -211,7 +186,7 @@ pub fn write_listed<S: PlainSink>(
 ) -> Result<(), AllocError>
     ensures { OnOk result (S.adds (listed_rows number (Ok rows.now)) sink.old sink.new) }
 {
-    write_count(row, sink, number, rows.len() as u64)?;
+    write_number(row, sink, number, b"rows", rows.len() as u64)?;
     write_rows(sink, rows.as_slice())
 }
 
@@ -224,6 +199,6 @@ pub fn write_listed_text(
 ) -> Result<(), AllocError>
     ensures { OnOk result ((rows : List (List (List ℕ))) → HasRows rows listing → sink.new ≡ sink.old ++ rows_text (listed_rows number (Ok rows))) }
 {
-    write_count(row, sink, number, listing.count)?;
+    write_number(row, sink, number, b"rows", listing.count)?;
     sink.add_text(listing.rows)
 }

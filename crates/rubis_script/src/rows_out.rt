@@ -9,17 +9,6 @@ use rubis_replica::ListingRows;
 use std::io::Write;
 use std::thread::Threads;
 
-// Writes out the text that waits, where there is much of it.
-fn drain_full<W: Write>(sink: &mut Sink, writer: &mut W) -> Result<(), RunFault>
-    ensures ok { OnOk result (WritesOff sink.old sink.new (W.contents writer.old) (W.contents writer.new)) }
-    ensures faults { IfErr result (λ e. e ≡ RunFault.Write) }
-{
-    if sink.is_full() {
-        return sink.drain(writer);
-    }
-    Ok(())
-}
-
 /// Adds the rows of a listing that are left, and writes out what comes to much: at the end the last of the text waits in the sink.
 ///
 /// # Errors
@@ -37,7 +26,7 @@ pub(crate) fn write_rows<T: Threads + Sync, W: Write>(
 {
     'parts: for _ in 0..u64::MAX {
         let more = rows.put_next(rt, sink)?;
-        drain_full(sink, writer)?;
+        sink.drain_full(writer)?;
         if !more {
             return Ok(());
         }

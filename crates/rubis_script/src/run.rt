@@ -46,24 +46,6 @@ fn chunk_of(held: usize, ahead: usize) -> usize {
         .min(CHUNK_MAX)
 }
 
-// Where the records come from.
-#[derive(Drop)]
-struct Source<R> {
-    chunks: Chunks<R>,
-    alloc: Global,
-}
-
-impl<R: Read + Drop> Source<R> {
-    fn new(alloc: Global, reader: R) -> Source<R>
-        ensures { IfSome (R.remaining reader) (λ input. HasPending R.remaining result.chunks (input_records input)) }
-    {
-        Source {
-            chunks: Chunks::new(alloc, reader, BLOCK),
-            alloc,
-        }
-    }
-}
-
 // Takes in the messages that are held, and writes the answers out.
 fn settle<G: Gate, T: Threads + Wait + Sync, W: Write>(
     rt: &T,
@@ -156,58 +138,38 @@ fn stop<G: Gate, T: Threads + Wait + Sync, W: Write>(
 // Reads a chunk while what was read ahead is answered. Long listings are written out when the chunk is read.
 fn go_on<G: Gate, T: Threads + Wait + Sync, R: Read, W: Write>(
     rt: &T,
-    source: &mut Source<R>,
+    chunks: &mut Chunks<R>,
     desk: &mut Desk<G>,
     backlog: &mut Backlog,
     writer: &mut W,
     many: usize,
 ) -> Result<(), RunFault>
     requires some { 0 < many }
-    requires text { many ≤ length (held_text source.old.chunks) }
-    requires whole { IsWhole (take many (held_text source.old.chunks)) }
+    requires text { many ≤ length (held_text chunks.old) }
+    requires whole { IsWhole (take many (held_text chunks.old)) }
     requires sound { IsSound desk.old.site desk.old.plan backlog.old }
     requires room { backlog.old.answered + length (flat backlog.old.ahead) + 1 < 2 ^ 64 }
     ensures plan { OnOk result (desk.new.plan ≡ desk.old.plan) }
     ensures sound { OnOk result (IsSound desk.new.site desk.new.plan backlog.new) }
     ensures count { OnOk result (backlog.new.answered ≡ backlog.old.answered + length (flat backlog.old.ahead)) }
-    ensures goes { OnOk result (ReadsOn R.remaining source.old.chunks desk.old.site backlog.old (W.contents writer.old) source.new.chunks
+    ensures goes { OnOk result (ReadsOn R.remaining chunks.old desk.old.site backlog.old (W.contents writer.old) chunks.new
         desk.new.site backlog.new (W.contents writer.new)) }
     ensures memory { IsErrOf result RunFault.Memory → LeavesPrefix None desk.old.site backlog.old (W.contents writer.old) (W.contents writer.new) }
     ensures faults { IfErr result (λ e. (e ≡ RunFault.Write) ⊎ (e ≡ RunFault.Memory)) }
 {
-    let (piece, _) = source.chunks.held().split_at(many);
-    let overlapped = read_next(rt, source.alloc, piece, desk, backlog)?;
+    let (piece, _) = chunks.held().split_at(many);
+    let overlapped = read_next(rt, piece, desk, backlog)?;
     finish(rt, desk, backlog, overlapped.stopped, writer)?;
-    source.chunks.pass(many);
+    chunks.pass(many);
     let ahead = Ahead::of(overlapped.read)?;
     backlog.ahead = ahead;
-    Ok(())
-}
-
-// Writes out the answers, where there is much of them.
-fn drain_full<G: Gate, R: Read, W: Write>(
-    source: &Source<R>,
-    desk: &Desk<G>,
-    backlog: &mut Backlog,
-    writer: &mut W,
-) -> Result<(), RunFault>
-    requires { IsSound desk.now.site desk.now.plan backlog.old }
-    ensures sound { OnOk result (IsSound desk.now.site desk.now.plan backlog.new) }
-    ensures count { OnOk result (backlog.new.answered ≡ backlog.old.answered) }
-    ensures goes { OnOk result (ReadsOn R.remaining source.now.chunks desk.now.site backlog.old (W.contents writer.old) source.now.chunks
-        desk.now.site backlog.new (W.contents writer.new)) }
-    ensures faults { IfErr result (λ e. e ≡ RunFault.Write) }
-{
-    if backlog.reply.sink.is_full() {
-        return backlog.reply.sink.drain(writer);
-    }
     Ok(())
 }
 
 // Reads what is held as the last of the text, answers it, and ends the run.
 fn end<G: Gate, T: Threads + Wait + Sync, R: Read, W: Write>(
     rt: &T,
-    source: &Source<R>,
+    chunks: &Chunks<R>,
     desk: &mut Desk<G>,
     backlog: &mut Backlog,
     writer: &mut W,
@@ -217,20 +179,20 @@ fn end<G: Gate, T: Threads + Wait + Sync, R: Read, W: Write>(
     requires sound { IsSound desk.old.site desk.old.plan backlog.old }
     requires within { backlog.old.answered ≤ limit }
     requires limit { limit + 1 < 2 ^ 64 }
-    requires last { (rows : List (List (List ℕ))) → HasPending R.remaining source.now.chunks rows → rows ≡ input_records (held_text source.now.chunks) }
-    ensures done { IfOk result (λ count. AnswersAllAhead limit R.remaining source.now.chunks desk.old.site backlog.old (W.contents writer.old)
+    requires last { (rows : List (List (List ℕ))) → HasPending R.remaining chunks.now rows → rows ≡ input_records (held_text chunks.now) }
+    ensures done { IfOk result (λ count. AnswersAllAhead limit R.remaining chunks.now desk.old.site backlog.old (W.contents writer.old)
         desk.new.site (W.contents writer.new) count) }
-    ensures too_long { IsErrOf result RunFault.TooLong → AnswersFirstAhead limit R.remaining source.now.chunks desk.old.site backlog.old
+    ensures too_long { IsErrOf result RunFault.TooLong → AnswersFirstAhead limit R.remaining chunks.now desk.old.site backlog.old
         (W.contents writer.old) desk.new.site (W.contents writer.new) }
-    ensures memory { IsErrOf result RunFault.Memory → WritesPrefixAhead R.remaining source.now.chunks desk.old.site backlog.old
+    ensures memory { IsErrOf result RunFault.Memory → WritesPrefixAhead R.remaining chunks.now desk.old.site backlog.old
         (W.contents writer.old) (W.contents writer.new) }
     ensures faults { IfErr result (λ e. (e ≡ RunFault.Write) ⊎ (e ≡ RunFault.Memory) ⊎ (e ≡ RunFault.TooLong)) }
 {
     let sites = desk.sites();
     let list = read_parts(
         rt,
-        source.alloc,
-        source.chunks.held(),
+        *backlog.window.allocator(),
+        chunks.held(),
         sites,
         desk.plan.readers,
         desk.plan.window,
@@ -248,49 +210,11 @@ fn end<G: Gate, T: Threads + Wait + Sync, R: Read, W: Write>(
     })
 }
 
-// Answers and writes out all that came, and only then asks the reader for more. `None` if the run goes on, otherwise how many
-// records were read.
-fn wait<G: Gate, T: Threads + Wait + Sync, R: Read, W: Write>(
-    rt: &T,
-    source: &mut Source<R>,
-    desk: &mut Desk<G>,
-    backlog: &mut Backlog,
-    writer: &mut W,
-    limit: u64,
-) -> Result<Option<Count>, RunFault>
-    requires sound { IsSound desk.old.site desk.old.plan backlog.old }
-    requires within { backlog.old.answered + length (flat backlog.old.ahead) ≤ limit }
-    requires limit { limit + 1 < 2 ^ 64 }
-    ensures plan { IfOk result (λ over. IfNone over (desk.new.plan ≡ desk.old.plan)) }
-    ensures sound { IfOk result (λ over. IfNone over (IsSound desk.new.site desk.new.plan backlog.new)) }
-    ensures within { IfOk result (λ over. IfNone over (backlog.new.answered ≤ limit)) }
-    ensures goes { IfOk result (λ over. ReadsOnOrEnds limit R.remaining source.old.chunks desk.old.site backlog.old (W.contents writer.old)
-        source.new.chunks desk.new.site backlog.new (W.contents writer.new) over) }
-    ensures too_long { IsErrOf result RunFault.TooLong → AnswersFirstAhead limit R.remaining source.old.chunks desk.old.site backlog.old
-        (W.contents writer.old) desk.new.site (W.contents writer.new) }
-    ensures cut { IsErrOf result RunFault.Read → backlog.new.answered ≡ backlog.old.answered + length (flat backlog.old.ahead) }
-    ensures read { IsErrOf result RunFault.Read → AnswersJustAhead (backlog.old.answered + length (flat backlog.old.ahead)) R.remaining
-        source.old.chunks desk.old.site backlog.old (W.contents writer.old) desk.new.site (W.contents writer.new) }
-    ensures memory { IsErrOf result RunFault.Memory → WritesPrefixAhead R.remaining source.old.chunks desk.old.site backlog.old
-        (W.contents writer.old) (W.contents writer.new) }
-{
-    catch_up(rt, desk, backlog, writer)?;
-    match source.chunks.fill() {
-        Ok(true) => Ok(None),
-        Ok(false) => {
-            let count = end(rt, source, desk, backlog, writer, limit)?;
-            Ok(Some(count))
-        }
-        Err(ChunkFault::Read) => Err(RunFault::Read),
-        Err(ChunkFault::Memory) => Err(RunFault::Memory),
-    }
-}
-
-// Goes on by a chunk, if one is at hand, and otherwise asks the reader for more. `None` if the run goes on, otherwise how many
-// records were read.
+// Goes on by a chunk, if one is at hand. Otherwise answers and writes out all that came, and only then asks the reader for more.
+// `None` if the run goes on, otherwise how many records were read.
 fn turn<G: Gate, T: Threads + Wait + Sync, R: Read, W: Write>(
     rt: &T,
-    source: &mut Source<R>,
+    chunks: &mut Chunks<R>,
     desk: &mut Desk<G>,
     backlog: &mut Backlog,
     writer: &mut W,
@@ -302,15 +226,15 @@ fn turn<G: Gate, T: Threads + Wait + Sync, R: Read, W: Write>(
     ensures plan { IfOk result (λ over. IfNone over (desk.new.plan ≡ desk.old.plan)) }
     ensures sound { IfOk result (λ over. IfNone over (IsSound desk.new.site desk.new.plan backlog.new)) }
     ensures within { IfOk result (λ over. IfNone over (backlog.new.answered ≤ limit)) }
-    ensures goes { IfOk result (λ over. ReadsOnOrEnds limit R.remaining source.old.chunks desk.old.site backlog.old (W.contents writer.old)
-        source.new.chunks desk.new.site backlog.new (W.contents writer.new) over) }
-    ensures too_long { IsErrOf result RunFault.TooLong → AnswersFirstAhead limit R.remaining source.old.chunks desk.old.site backlog.old
+    ensures goes { IfOk result (λ over. ReadsOnOrEnds limit R.remaining chunks.old desk.old.site backlog.old (W.contents writer.old)
+        chunks.new desk.new.site backlog.new (W.contents writer.new) over) }
+    ensures too_long { IsErrOf result RunFault.TooLong → AnswersFirstAhead limit R.remaining chunks.old desk.old.site backlog.old
         (W.contents writer.old) desk.new.site (W.contents writer.new) }
-    ensures left { IsErrOf result RunFault.Read → NoWholeAfter (held_text source.old.chunks) 1 }
+    ensures left { IsErrOf result RunFault.Read → NoWholeAfter (held_text chunks.old) 1 }
     ensures cut { IsErrOf result RunFault.Read → backlog.new.answered ≡ backlog.old.answered + length (flat backlog.old.ahead) }
     ensures read { IsErrOf result RunFault.Read → AnswersJustAhead (backlog.old.answered + length (flat backlog.old.ahead)) R.remaining
-        source.old.chunks desk.old.site backlog.old (W.contents writer.old) desk.new.site (W.contents writer.new) }
-    ensures memory { IsErrOf result RunFault.Memory → WritesPrefixAhead R.remaining source.old.chunks desk.old.site backlog.old
+        chunks.old desk.old.site backlog.old (W.contents writer.old) desk.new.site (W.contents writer.new) }
+    ensures memory { IsErrOf result RunFault.Memory → WritesPrefixAhead R.remaining chunks.old desk.old.site backlog.old
         (W.contents writer.old) (W.contents writer.new) }
 {
     let left = limit - backlog.answered;
@@ -318,20 +242,29 @@ fn turn<G: Gate, T: Threads + Wait + Sync, R: Read, W: Write>(
         stop(rt, desk, backlog, writer, left)?;
         return Err(RunFault::TooLong);
     }
-    let most = chunk_of(source.chunks.held().len(), backlog.ahead.len());
-    let many = source.chunks.whole(most);
+    let most = chunk_of(chunks.held().len(), backlog.ahead.len());
+    let many = chunks.whole(most);
     if many > 1 {
-        go_on(rt, source, desk, backlog, writer, many)?;
-        drain_full(source, desk, backlog, writer)?;
+        go_on(rt, chunks, desk, backlog, writer, many)?;
+        backlog.reply.sink.drain_full(writer)?;
         return Ok(None);
     }
-    wait(rt, source, desk, backlog, writer, limit)
+    catch_up(rt, desk, backlog, writer)?;
+    match chunks.fill() {
+        Ok(true) => Ok(None),
+        Ok(false) => {
+            let count = end(rt, chunks, desk, backlog, writer, limit)?;
+            Ok(Some(count))
+        }
+        Err(ChunkFault::Read) => Err(RunFault::Read),
+        Err(ChunkFault::Memory) => Err(RunFault::Memory),
+    }
 }
 
 // Answers records until there are no more, or up to `limit` of them.
 fn serve<G: Gate, T: Threads + Wait + Sync, R: Read, W: Write>(
     rt: &T,
-    source: &mut Source<R>,
+    chunks: &mut Chunks<R>,
     desk: &mut Desk<G>,
     backlog: &mut Backlog,
     writer: &mut W,
@@ -340,41 +273,21 @@ fn serve<G: Gate, T: Threads + Wait + Sync, R: Read, W: Write>(
     requires sound { IsSound desk.old.site desk.old.plan backlog.old }
     requires within { backlog.old.answered ≤ limit }
     requires limit { limit + 1 < 2 ^ 64 }
-    ensures ok { IfOk result (λ count. AnswersAllAhead limit R.remaining source.old.chunks desk.old.site backlog.old (W.contents writer.old)
+    ensures ok { IfOk result (λ count. AnswersAllAhead limit R.remaining chunks.old desk.old.site backlog.old (W.contents writer.old)
         desk.new.site (W.contents writer.new) count) }
-    ensures too_long { IsErrOf result RunFault.TooLong → AnswersFirstAhead limit R.remaining source.old.chunks desk.old.site backlog.old
+    ensures too_long { IsErrOf result RunFault.TooLong → AnswersFirstAhead limit R.remaining chunks.old desk.old.site backlog.old
         (W.contents writer.old) desk.new.site (W.contents writer.new) }
-    ensures read { IsErrOf result RunFault.Read → AnswersJustAhead backlog.new.answered R.remaining source.old.chunks desk.old.site backlog.old
+    ensures read { IsErrOf result RunFault.Read → AnswersJustAhead backlog.new.answered R.remaining chunks.old desk.old.site backlog.old
         (W.contents writer.old) desk.new.site (W.contents writer.new) }
-    ensures memory { IsErrOf result RunFault.Memory → WritesPrefixAhead R.remaining source.old.chunks desk.old.site backlog.old
+    ensures memory { IsErrOf result RunFault.Memory → WritesPrefixAhead R.remaining chunks.old desk.old.site backlog.old
         (W.contents writer.old) (W.contents writer.new) }
 {
     'steps: for _ in 0..u64::MAX {
-        if let Some(count) = turn(rt, source, desk, backlog, writer, limit)? {
+        if let Some(count) = turn(rt, chunks, desk, backlog, writer, limit)? {
             return Ok(count);
         }
     }
     Err(RunFault::Memory)
-}
-
-// Runs the desk of a site as `run_desk` does: while records are answered, those of the next chunk of text are read by other
-// threads.
-fn run_ahead<G: Gate, T: Threads + Wait + Sync, R: Read + Drop, W: Write>(
-    rt: &T,
-    alloc: Global,
-    reader: R,
-    writer: &mut W,
-    desk: &mut Desk<G>,
-    limit: u64,
-) -> Result<Count, RunFault>
-    requires { limit + 1 < 2 ^ 64 }
-    ensures run { IsRun (told_by desk.old.site 1) limit (R.remaining reader) (W.contents writer.old) (W.contents writer.new) result }
-    ensures leads { OfRead limit (R.remaining reader) result (λ records.
-        HasAnswered desk.old.site desk.new.site (W.contents writer.old) (W.contents writer.new) records) }
-{
-    let mut source = Source::new(alloc, reader);
-    let mut backlog = Backlog::new(alloc);
-    serve(rt, &mut source, desk, &mut backlog, writer, limit)
 }
 
 /// Runs the desk of a site over the records of `reader` until its end, or up to `limit` of them: appends the text of its
@@ -402,8 +315,10 @@ pub fn run_desk<G: Gate, T: Threads + Wait + Sync, R: Read + Drop, W: Write>(
         WritesAsProcess desk.old.site.place (W.contents writer.old) (W.contents writer.new) records
         × StandsAsProcess desk.old.site.place desk.new.site.state records) }
 {
-    if desk.plan.readers > 0 && limit < u64::MAX {
-        return run_ahead(rt, alloc, reader, writer, desk, limit);
+    if desk.plan.readers == 0 || limit == u64::MAX {
+        return run_in_turn(rt, alloc, reader, writer, desk, limit);
     }
-    run_in_turn(rt, alloc, reader, writer, desk, limit)
+    let mut chunks = Chunks::new(alloc, reader, BLOCK);
+    let mut backlog = Backlog::new(alloc);
+    serve(rt, &mut chunks, desk, &mut backlog, writer, limit)
 }

@@ -1,25 +1,15 @@
 //! Messages that a run holds, to take them in together.
 
-ghost use Rattle.std.specs.Prelude.{◌≡◌, ◌≤◌, ◌+◌, ◌++◌, ◌∷◌, ◌^◌, [], OnOk, length};
+ghost use Rattle.std.specs.Prelude.{◌≡◌, ◌≤◌, ◌+◌, ◌++◌, ◌^◌, OnOk, length};
 ghost use Rattle.rubis_engine.specs.Text.{rows_text};
 ghost use Rattle.rubis_script.specs.Windows.{arrivals_rows};
 
 use crate::replies::{write_arrival, write_refusal};
-use rubis_engine::{OutOfMemory, Sink};
-use rubis_message::{Arrival, Message};
+use rubis_engine::Sink;
+use rubis_message::Arrival;
 use rubis_replica::Config;
 use rubis_schema::{PlainRow, Refusal};
 use std::alloc::AllocError;
-
-/// Holds one more message.
-pub(crate) fn hold(window: &mut Vec<Message>, message: Message) -> Result<(), OutOfMemory>
-    ensures { OnOk result (window.new.items ≡ window.old.items ++ message ∷ []) }
-{
-    match window.push(message) {
-        Ok(()) => Ok(()),
-        Err(_) => Err(OutOfMemory),
-    }
-}
 
 /// How many messages are taken in together, where they are read one by one: as many as a batch has. With one worker each is taken
 /// in as it comes.

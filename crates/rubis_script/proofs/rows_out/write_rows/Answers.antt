@@ -1,23 +1,23 @@
 use Rattle.std.proofs.Common.{◌++◌}
 use Rattle.rubis_engine.specs.Text.{rows_text}
-use Rattle.rubis_script.proofs.DrainFacts.{off_more, rows_end, rows_part}
+use Rattle.rubis_script.proofs.DrainFacts.{off_more, off_waited, rows_end, rows_part}
 use Rattle.rubis_script.proofs.rows_out.write_rows.Goals as goal
 
 pub parts-preserved : goal.parts-preserved
 parts-preserved g c =
     let (first, split, added) = c.in_ok-more.ensures.next in
-    let part = rows_part c.parts.sink c.put_next.new.sink c.drain_full.new.sink c.parts.rows first c.put_next.new.self (g.W.Write.contents c.parts.writer)
-    (g.W.Write.contents c.drain_full.new.writer) split added c.in_ok-drain_full.ensures.ok in
-    off_more (c.args.sink.now ++ rows_text c.args.rows.now) (c.parts.sink ++ rows_text c.parts.rows) (c.drain_full.new.sink ++ rows_text c.put_next.new.self)
+    let part = rows_part c.parts.sink c.put_next.new.sink c.drain_full.new.self c.parts.rows first c.put_next.new.self (g.W.Write.contents c.parts.writer)
+    (g.W.Write.contents c.drain_full.new.writer) split added (off_waited _ _ _ _ c.in_ok-drain_full.ensures.ok) in
+    off_more (c.args.sink.now ++ rows_text c.args.rows.now) (c.parts.sink ++ rows_text c.parts.rows) (c.drain_full.new.self ++ rows_text c.put_next.new.self)
     (g.W.Write.contents c.args.writer.now) (g.W.Write.contents c.parts.writer) (g.W.Write.contents c.drain_full.new.writer) c.parts.invariant part
 
 pub returns-then-not-more-clause-ok : goal.returns-then-not-more-clause-ok
 returns-then-not-more-clause-ok g c =
     let (first, split, added) = c.in_ok-more.ensures.next in
     let text = c.args.sink.now ++ rows_text c.args.rows.now in
-    let part = rows_part c.parts.sink c.put_next.new.sink c.drain_full.new.sink c.parts.rows first c.put_next.new.self (g.W.Write.contents c.parts.writer)
-    (g.W.Write.contents c.drain_full.new.writer) split added c.in_ok-drain_full.ensures.ok in
-    rows_end text c.drain_full.new.sink c.put_next.new.self (g.W.Write.contents c.args.writer.now) (g.W.Write.contents c.drain_full.new.writer)
+    let part = rows_part c.parts.sink c.put_next.new.sink c.drain_full.new.self c.parts.rows first c.put_next.new.self (g.W.Write.contents c.parts.writer)
+    (g.W.Write.contents c.drain_full.new.writer) split added (off_waited _ _ _ _ c.in_ok-drain_full.ensures.ok) in
+    rows_end text c.drain_full.new.self c.put_next.new.self (g.W.Write.contents c.args.writer.now) (g.W.Write.contents c.drain_full.new.writer)
     (c.in_ok-more.ensures.last c.if-not-more.true)
-    (off_more text (c.parts.sink ++ rows_text c.parts.rows) (c.drain_full.new.sink ++ rows_text c.put_next.new.self)
+    (off_more text (c.parts.sink ++ rows_text c.parts.rows) (c.drain_full.new.self ++ rows_text c.put_next.new.self)
     (g.W.Write.contents c.args.writer.now) (g.W.Write.contents c.parts.writer) (g.W.Write.contents c.drain_full.new.writer) c.parts.invariant part)

@@ -30,7 +30,7 @@ pub returns-then-len-left-clause-too_long : goal.returns-then-len-left-clause-to
 returns-then-len-left-clause-too_long g c e first old input h =
     let site = c.args.desk.now.site in
     let b = c.args.backlog.now in
-    let held = held_text c.args.source.now.chunks in
+    let held = held_text c.args.chunks.now in
     let parsed = parsed-read site.place.sites c.sites-sites.result c.held.result.now held (flat c.in_ok-list.list.items) (flat c.in_ok-ahead.ahead) c.sites-sites.ensures.same c.held.ensures (ap flat c.in_ok-ahead.ensures) c.in_ok-list.ensures.parsed in
     let split : h.later ≡ input_records held ++ [] = c.requires.last h.later h.pending ∙ sym (append-nil (input_records held)) in
     let most : b.answered + (c.args.limit - b.answered) ≡ c.args.limit = omega (arith, c.requires.within) in
@@ -43,7 +43,7 @@ pub returns-clause-done : goal.returns-clause-done
 returns-clause-done g c first old input h =
     let site = c.args.desk.now.site in
     let b = c.args.backlog.now in
-    let held = held_text c.args.source.now.chunks in
+    let held = held_text c.args.chunks.now in
     let parsed = parsed-read site.place.sites c.sites-sites.result c.held.result.now held (flat c.in_ok-list.list.items) (flat c.in_ok-ahead.ahead) c.sites-sites.ensures.same c.held.ensures (ap flat c.in_ok-ahead.ensures) c.in_ok-list.ensures.parsed in
     let split : h.later ≡ input_records held ++ [] = c.requires.last h.later h.pending ∙ sym (append-nil (input_records held)) in
     let caught = c.in_ok-catch_up.ensures in
@@ -70,7 +70,7 @@ pub returns-in_err-catch_up-clause-memory : goal.returns-in_err-catch_up-clause-
 returns-in_err-catch_up-clause-memory g c e first old input h =
     let site = c.args.desk.now.site in
     let b = c.args.backlog.now in
-    let held = held_text c.args.source.now.chunks in
+    let held = held_text c.args.chunks.now in
     let memory = handed_on c.from_residual-in_err-catch_up.result c.in_err-catch_up.field-0.0 fault.Memory c.from_residual-in_err-catch_up.ensures e in
     let parsed = parsed-read site.place.sites c.sites-sites.result c.held.result.now held (flat c.in_ok-list.list.items) (flat c.in_ok-ahead.ahead) c.sites-sites.ensures.same c.held.ensures (ap flat c.in_ok-ahead.ensures) c.in_ok-list.ensures.parsed in
     let split : h.later ≡ input_records held ++ [] = c.requires.last h.later h.pending ∙ sym (append-nil (input_records held)) in

@@ -11,6 +11,6 @@ pub returns-in_err-rows-clause-memory : goal.returns-in_err-rows-clause-memory
 returns-in_err-rows-clause-memory g c e =
     front_none (listed_behind c.args.reply.now.sink c.args.self.now.site c.args.reply.now.number c.args.listing.now) _ _ refl
 
-pub returns-in_err-write_count-clause-memory : goal.returns-in_err-write_count-clause-memory
-returns-in_err-write_count-clause-memory g c e =
+pub returns-in_err-write_number-clause-memory : goal.returns-in_err-write_number-clause-memory
+returns-in_err-write_number-clause-memory g c e =
     front_none (listed_behind c.args.reply.now.sink c.args.self.now.site c.args.reply.now.number c.args.listing.now) _ _ refl
