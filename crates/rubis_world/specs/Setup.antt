@@ -20,6 +20,10 @@ pub record IsWorldSetup (s : WorldSetup) : Type 0 where
   pub batch : IsCount s.batch BATCH_MAX
   pub keep : IsCount s.keep KEEP_MAX
 
+-- what the setup of one of the sites says of all
+abbrev pub common_setup : Setup → WorldSetup
+common_setup s = record { sites = s.sites; shards = s.shards; workers = s.workers; batch = s.batch; keep = s.keep }
+
 -- the setup of one of the sites
 abbrev pub setup_at : WorldSetup → ℕ → Setup
 setup_at s site = record { site = site; sites = s.sites; shards = s.shards; workers = s.workers; batch = s.batch; keep = s.keep }

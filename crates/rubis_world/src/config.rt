@@ -15,22 +15,17 @@ use std::marker::Model;
 /// no answer depends on and no contract sees.
 #[derive(Drop)]
 pub struct WorldConfig {
-    sites: u8,
-    shards: u8,
-    workers: u8,
-    batch: u32,
-    keep: u32,
+    // How the first site is set up: the others are set up as it is.
+    first: Config,
     hashes: Hashes,
 }
 
 impl Model for WorldConfig {
-    ghost use Rattle.rubis_world.specs.Setup.{IsWorldSetup, WorldSetup};
+    ghost use Rattle.rubis_world.specs.Setup.{WorldSetup, common_setup};
 
     ghost Value = { WorldSetup };
 
-    ghost view = { λ c. record { sites = c.sites; shards = c.shards; workers = c.workers; batch = c.batch; keep = c.keep } };
-
-    ghost invariant = { λ c. IsWorldSetup (record { sites = c.sites; shards = c.shards; workers = c.workers; batch = c.batch; keep = c.keep }) };
+    ghost view = { λ c. common_setup c.first };
 }
 
 impl WorldConfig {
@@ -40,13 +35,8 @@ impl WorldConfig {
         ensures { let setup : WorldSetup = record { sites = sites; shards = shards; workers = workers; batch = batch; keep = keep } in SomeIff result
             (IsWorldSetup setup) setup }
     {
-        let _first = Config::new(0, sites, shards, workers, batch, keep)?;
         Some(WorldConfig {
-            sites,
-            shards,
-            workers,
-            batch,
-            keep,
+            first: Config::new(0, sites, shards, workers, batch, keep)?,
             hashes: Hashes::fixed(),
         })
     }
@@ -68,7 +58,7 @@ impl WorldConfig {
         ensures value { result ≡ self.now.sites }
         ensures limits { IsCount result SITES_MAX }
     {
-        self.sites
+        self.first.sites()
     }
 
     /// How many messages each site keeps.
@@ -76,7 +66,7 @@ impl WorldConfig {
         ensures value { result ≡ self.now.keep }
         ensures limits { IsCount result KEEP_MAX }
     {
-        self.keep
+        self.first.keep()
     }
 
     /// The configuration of one of the sites.
@@ -84,13 +74,14 @@ impl WorldConfig {
         requires { site < self.now.sites }
         ensures { result ≡ setup_at self.now site }
     {
+        let first = &self.first;
         Config::new(
             site,
-            self.sites,
-            self.shards,
-            self.workers,
-            self.batch,
-            self.keep,
+            first.sites(),
+            first.shards(),
+            first.workers(),
+            first.batch(),
+            first.keep(),
         )
         .unwrap()
         .with_hashes(self.hashes)

@@ -4,13 +4,12 @@ ghost use Rattle.std.proofs.Common.{rules};
 ghost use Rattle.std.specs.Prelude.{◌≡◌, ◌≤◌, ◌∷◌, [], IfOk, OnOk, length, refl};
 ghost use Rattle.rubis_message.specs.WorldReadings.{world_input};
 ghost use Rattle.rubis_model.specs.AuditRecords.{verdict_record};
-ghost use Rattle.rubis_model.specs.System.{IsEvent, happens};
-ghost use Rattle.rubis_model.specs.System.Event.{At, Deliver};
+ghost use Rattle.rubis_model.specs.System.{Event, happens};
 ghost use Rattle.rubis_model.specs.Verdict.{verdict};
 ghost use Rattle.rubis_model.specs.WorldRecords.{logs_of, told_at, world_step};
 ghost use Rattle.rubis_schema.specs.declared.limits.TheConstants.{KEEP_MAX, SITES_MAX};
 ghost use Rattle.rubis_script.specs.Replica.{IsCount};
-ghost use Rattle.rubis_world.specs.SitesWorlds.{opening_world};
+ghost use Rattle.rubis_world.specs.SitesWorlds.{Steps, WorldState, opening_world};
 ghost use Rattle.rubis_world.specs.Running.{IsRefused, IsTold, told_by_world};
 
 use crate::answers::{write_event, write_no_event, write_refused};
@@ -19,7 +18,7 @@ use crate::faults::WorldFault;
 use crate::world::World;
 use rubis_audit::write_verdict;
 use rubis_engine::{InputRecord, OutOfMemory, Reply, Service, Sink};
-use rubis_message::{Request, WorldInput, read_world_input};
+use rubis_message::{Happened, WorldInput, read_world_input};
 use rubis_schema::Refusal;
 use rubis_script::Fault;
 use std::alloc::{AllocError, Global};
@@ -38,43 +37,17 @@ fn refuse(reply: &mut Reply, site: u8, fault: WorldFault) -> Result<(), OutOfMem
     }
 }
 
-// Answers a request at a site.
-fn answer_request<R: Threads + Wait + Sync>(
-    rt: &R,
-    world: &mut World,
+// Says what came of an event at a site.
+fn tell(
+    world: &World,
     reply: &mut Reply,
     site: u8,
-    request: Request,
+    came: Result<Happened, WorldFault>,
 ) -> Result<(), OutOfMemory>
-    requires { IsEvent (length world.old.world.sites) (At site request) }
-    ensures { OnOk result (IsTold world.old world.new (told_at reply.old.number site
-        (happens world.old.keep world.old.world (At site request))) reply.old.sink reply.new.sink) }
+    ensures { OnOk result ((old : WorldState) (e : Event) → Steps old world.now (happens old.keep old.world e) came
+        → IsTold old world.now (told_at reply.old.number site (happens old.keep old.world e)) reply.old.sink reply.new.sink) }
 {
-    match world.at(rt, site, request) {
-        Ok(happened) => Ok(write_event(
-            &mut reply.draft,
-            &mut reply.sink,
-            reply.number,
-            site,
-            world.packets(),
-            happened,
-        )?),
-        Err(fault) => refuse(reply, site, fault),
-    }
-}
-
-// Answers the delivery of a packet to a site.
-fn answer_delivery<R: Threads + Wait + Sync>(
-    rt: &R,
-    world: &mut World,
-    reply: &mut Reply,
-    site: u8,
-    which: u64,
-) -> Result<(), OutOfMemory>
-    ensures { OnOk result (IsTold world.old world.new (told_at reply.old.number site
-        (happens world.old.keep world.old.world (Deliver site which))) reply.old.sink reply.new.sink) }
-{
-    match world.deliver(rt, site, which) {
+    match came {
         Ok(happened) => Ok(write_event(
             &mut reply.draft,
             &mut reply.sink,
@@ -139,11 +112,15 @@ impl WorldDesk {
         let input = read_world_input(self.alloc, fields, self.world.sites())?;
         let world = &mut self.world;
         match input {
-            WorldInput::Asked(site, Some(request)) => answer_request(
-                rt, world, reply, site, request,
-            ),
+            WorldInput::Asked(site, Some(request)) => {
+                let came = world.at(rt, site, request);
+                tell(world, reply, site, came)
+            }
             WorldInput::Asked(site, None) => Ok(write_refused(reply, site, Refusal::BadRecord)?),
-            WorldInput::Delivered(site, which) => answer_delivery(rt, world, reply, site, which),
+            WorldInput::Delivered(site, which) => {
+                let came = world.deliver(rt, site, which);
+                tell(world, reply, site, came)
+            }
             WorldInput::Audit => answer_audit(rt, world, reply),
             WorldInput::Neither => Ok(write_no_event(reply, Refusal::BadEvent)?),
         }

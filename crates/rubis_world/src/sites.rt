@@ -3,7 +3,6 @@
 ghost use Rattle.std.specs.Prelude.{◌≡◌, ◌<◌, ◌≤◌, IfOk, Err, None, Some, ℕ, length, nat_lt};
 ghost use Rattle.rubis_schema.specs.declared.limits.TheConstants.{KEEP_MAX, SITES_MAX};
 ghost use Rattle.rubis_shadow.specs.Shadows.{IsAsk};
-ghost use Rattle.rubis_message.specs.Message.{sites_of};
 ghost use Rattle.rubis_message.specs.declared.requests.Request.TheVariants as Request;
 ghost use Rattle.rubis_message.specs.declared.tokens.Packet.{Packet as Sent};
 ghost use Rattle.rubis_message.specs.declared.tokens.Packet.TheVariants as Packet;
@@ -19,7 +18,7 @@ ghost use Rattle.rubis_world.specs.declared.faults.WorldFault.TheVariants as Wor
 use crate::config::WorldConfig;
 use crate::faults::WorldFault;
 use crate::packets::{packet, packet_copy};
-use rubis_message::{Happened, Message, Packet, Request, Token};
+use rubis_message::{Happened, Message, Packet, Request};
 use rubis_schema::Listing;
 use rubis_script::{Fault, Free, Site};
 use rubis_shadow::Ask;
@@ -175,36 +174,6 @@ impl Sites {
         }
     }
 
-    // A message comes to a site.
-    fn arrive<R: Threads + Wait + Sync>(
-        &mut self,
-        rt: &R,
-        site: usize,
-        message: Message,
-    ) -> Result<Happened, WorldFault>
-        requires site { site < length self.old.world.sites }
-        requires ready { left_at self.old site ≡ 0 }
-        requires sites { sites_of message ≡ length self.old.world.sites }
-        ensures step { Steps self.old self.new (coming self.old.keep self.old.world site (Some (Packet.Msg message))) result }
-        ensures tables { Asks site self.old self.new result }
-        ensures never { result ≡ Err (WorldFault.Site Fault.Behind) → ⊥ }
-    {
-        let arrival = self.sites[site].arrive(rt, message)?;
-        Ok(Happened::Came(arrival))
-    }
-
-    // A token comes to a site.
-    fn take(&mut self, site: usize, token: Token) -> Result<Happened, WorldFault>
-        requires site { site < length self.old.world.sites }
-        requires ready { left_at self.old site ≡ 0 }
-        ensures step { Steps self.old self.new (coming self.old.keep self.old.world site (Some (Packet.Token token))) result }
-        ensures tables { Asks site self.old self.new result }
-        ensures never { result ≡ Err (WorldFault.Site Fault.Behind) → ⊥ }
-    {
-        let taken = self.sites[site].token(token)?;
-        Ok(Happened::Token(taken))
-    }
-
     // A packet comes to a site.
     fn bring<R: Threads + Wait + Sync>(
         &mut self,
@@ -220,8 +189,14 @@ impl Sites {
         ensures never { result ≡ Err (WorldFault.Site Fault.Behind) → ⊥ }
     {
         match packet {
-            Packet::Msg(message) => self.arrive(rt, site, message),
-            Packet::Token(token) => self.take(site, token),
+            Packet::Msg(message) => {
+                let arrival = self.sites[site].arrive(rt, message)?;
+                Ok(Happened::Came(arrival))
+            }
+            Packet::Token(token) => {
+                let taken = self.sites[site].token(token)?;
+                Ok(Happened::Token(taken))
+            }
         }
     }
 
