@@ -9,7 +9,8 @@ use Rattle.rubis_pieces.specs.declared.pieces.Piece.{Piece}
 use Rattle.rubis_board.specs.declared.rule.PassView.{PassView}
 use Rattle.rubis_board.specs.declared.rule.Item.{Item}
 use Rattle.rubis_board.specs.Rule.{spent, content, marks_in, sum_over, all_taken, AgreesWith, Ruled, split_view, new_view, both}
-use Rattle.rubis_board.proofs.Views.{swapped, without, total_at, taken_at, set_apart, at_apart, total_set, taken_set, total_snoc, taken_snoc, each_without, each_snoc, each_put}
+use Rattle.rubis_board.proofs.Views.{swapped, without, total_at, taken_at, set_apart, at_apart, total_set, taken_set, total_snoc, taken_snoc, each_without}
+use Rattle.rubis_board.proofs.Views.{each_snoc, each_put}
 use Rattle.rubis_board.proofs.Passing.{parts_of, marks_of, fits_fresh, fits_spent, Here, own, theirs, taken_by_all, marks_more, taken_now}
 
 split_after : (items : List Item) (views : List PassView) (place : ℕ) (v : PassView) → 1 < v.parts → Here items views place v

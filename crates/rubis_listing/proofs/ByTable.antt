@@ -1,5 +1,6 @@
 -- Entries in key order stand table by table.
-use Rattle.std.proofs.Common.{◌≡◌, ℕ, ◌+◌, ◌<◌, ◌≤◌, inl, inr, Bool, true, false, cond, T, List, [], ◌∷◌, ◌++◌, ◌&&◌, length, length-append, refl, sym, ap, ◌∙◌, arith}
+use Rattle.std.proofs.Common.{◌≡◌, ℕ, ◌+◌, ◌<◌, ◌≤◌, inl, inr, Bool, true, false, cond, T, List, [], ◌∷◌, ◌++◌, ◌&&◌, length, length-append, refl, sym, ap, ◌∙◌}
+use Rattle.std.proofs.Common.{arith}
 use Rattle.std.specs.Prelude.{⊤, filter, flat_map, nat_eq, nat_le, nat_lt, not, ◌==◌}
 use Rattle.std.specs.Cmp.Lexicographic.{slice_cmp}
 use Rattle.std.specs.Ordering.{nat_cmp, is_lt, ordering_then}
@@ -27,7 +28,8 @@ use Rattle.rubis_model.specs.Listings.{category_record, records_of, row_record, 
 use Rattle.rubis_shard.specs.Counted.{has_record, number_of, recorded_from}
 use Rattle.rubis_listing.specs.ByTable.{tables_of}
 use Rattle.rubis_listing.specs.LaterTables.{after, rows_after, rows_from_table}
-use Rattle.rubis_listing.proofs.Selecting.{Entries, IsWithin, bids_within, categories_within, comments_within, items_within, one_table, purchases_within, records_append, shows_none, users_within}
+use Rattle.rubis_listing.proofs.Selecting.{Entries, IsWithin, bids_within, categories_within, comments_within, items_within, one_table, purchases_within}
+use Rattle.rubis_listing.proofs.Selecting.{records_append, shows_none, users_within}
 
 -- ---- keys in order have tables in order
 

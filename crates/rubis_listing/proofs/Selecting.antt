@@ -79,7 +79,8 @@ categories_within k r e = refl
 none_of : (l : Listing) → ((k : RowKey) (r : Row) → is_of l k r ≡ false) → (es : Entries) → records_of l es ≡ []
 none_of l none [] = refl
 none_of l none (e ∷ es) =
-    ap (λ b. flat_map (λ (e : RowKey × Row). row_record e.0 e.1) (cond b (e ∷ filter (λ e. is_of l e.0 e.1) es) (filter (λ e. is_of l e.0 e.1) es))) (none e.0 e.1)
+    ap (λ b. flat_map (λ (e : RowKey × Row). row_record e.0 e.1) (cond b (e ∷ filter (λ e. is_of l e.0 e.1) es) (filter (λ e. is_of l e.0 e.1) es)))
+    (none e.0 e.1)
     ∙ none_of l none es
 
 pub shows_none : (l : Listing) (m : Tables) → (l ≡ listing.Log) ⊎ (l ≡ listing.Misfits) → table_rows l m ≡ []
@@ -172,7 +173,8 @@ one_category l e false false xs ys none same = same
 
 shown_first : (is : Bool) (e : RowKey × Row) (es : Entries)
     → filter (λ (x : RowKey × Row). holds table.Cats x.0) (cond is (e ∷ es) es)
-    ≡ cond is (cond (holds table.Cats e.0) (e ∷ filter (λ (x : RowKey × Row). holds table.Cats x.0) es) (filter (λ (x : RowKey × Row). holds table.Cats x.0) es)) (filter (λ (x : RowKey × Row). holds table.Cats x.0) es)
+    ≡ cond is (cond (holds table.Cats e.0) (e ∷ filter (λ (x : RowKey × Row). holds table.Cats x.0) es)
+    (filter (λ (x : RowKey × Row). holds table.Cats x.0) es)) (filter (λ (x : RowKey × Row). holds table.Cats x.0) es)
 shown_first true e es = refl
 shown_first false e es = refl
 

@@ -39,7 +39,8 @@ none_wait shards stops place entry part k id (e ∷ es) low none =
         → parts_at shards k (number_parts entry part id (e ∷ es)) ≡ []
     at true is long rest = absurd (omega (arith, long))
     at false is long rest =
-        ap (λ b. cond b (record { entry = entry; part = part; id = id; effect = e } ∷ parts_at shards k (number_parts entry (part + 1) id es)) (parts_at shards k (number_parts entry (part + 1) id es))) (not_equal
+        ap (λ b. cond b (record { entry = entry; part = part; id = id; effect = e } ∷ parts_at shards k (number_parts entry (part + 1) id es))
+        (parts_at shards k (number_parts entry (part + 1) id es))) (not_equal
         (home shards e.key) k (other is))
         ∙ rest long
 
@@ -72,7 +73,8 @@ all_wait shards stops place entry part k id (e ∷ es) high all =
         → (length (filter (waits shards stops place) es) ≡ length es → parts_at shards k (number_parts entry (part + 1) id es) ≡ [])
         → parts_at shards k (number_parts entry part id (e ∷ es)) ≡ []
     at true is long rest =
-        ap (λ b. cond b (record { entry = entry; part = part; id = id; effect = e } ∷ parts_at shards k (number_parts entry (part + 1) id es)) (parts_at shards k (number_parts entry (part + 1) id es))) (not_equal
+        ap (λ b. cond b (record { entry = entry; part = part; id = id; effect = e } ∷ parts_at shards k (number_parts entry (part + 1) id es))
+        (parts_at shards k (number_parts entry (part + 1) id es))) (not_equal
         (home shards e.key) k (other is))
         ∙ rest (omega (arith, long))
     at false is long rest = let few = few_wait shards stops place es in absurd (omega (arith, long, few))
@@ -180,7 +182,8 @@ shard_next shards k place log x m l got counted is =
     let long = length-take-le place (cores log) (omega (arith, inside)) in
     let z : m.number ≡ 1 + length (take place (cores log)) = omega (arith, long, counted) in
     let read : get_or (cores log) place (core_of m) ≡ core_of m = get_or-map core log place x (core_of m) l ∙ ap core (sym got) ∙ sym is in
-    ap (with_parts (shard_of_log shards (take place (cores log)) k)) (λ i. parts_at shards k (sym (append-nil (number_parts (z i) 1 m.id (parts_of (core_of m)))) i))
+    ap (with_parts (shard_of_log shards (take place (cores log)) k))
+    (λ i. parts_at shards k (sym (append-nil (number_parts (z i) 1 m.id (parts_of (core_of m)))) i))
     ∙ shard_with_share shards (take place (cores log)) (core_of m ∷ []) k
     ∙ ap (λ ms. shard_of_log shards ms k) (sym (take_more (cores log) place (core_of m) inside
     ∙ ap (λ c. take place (cores log) ++ c ∷ []) read))

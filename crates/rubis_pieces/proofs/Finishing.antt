@@ -143,7 +143,8 @@ nothing_folded old left = record { each = λ k s e. (0, e, refl) }
 pub folds_on : (ls left : List Left) (at : ℕ) (l x : Left) (old cur new : List ShardState) (shards : ℕ) → AreRests 0 shards ls
     → slice_get ls at ≡ Some l → x.share ≡ l.share → x.done ≤ length x.share.effects → l.done ≤ x.done
     → FoldsOn l.share.number (slice_range l.share.effects l.done x.done) cur new → FoldsRests old left cur ls → FoldsRests old left new (set ls at x)
-folds_on ls left at l x old cur new shards h e s d further f before = record { each = λ k t there. ⊎_elim (here k t there) (other k t there) (cases_eq l.share.number k) }
+folds_on ls left at l x old cur new shards h e s d further f before =
+    record { each = λ k t there. ⊎_elim (here k t there) (other k t there) (cases_eq l.share.number k) }
   where
     step : ℕ
     step = x.done - l.done

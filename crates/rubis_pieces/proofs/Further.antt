@@ -1,5 +1,6 @@
 -- Shards that go on from their stops.
-use Rattle.std.proofs.Common.{◌≡◌, ℕ, ◌+◌, ◌<◌, ◌≤◌, List, [], ◌∷◌, length, take, get_or, set, Bool, true, false, cond, refl, sym, ap, ◌∙◌, subst, arith, ⊎_elim}
+use Rattle.std.proofs.Common.{◌≡◌, ℕ, ◌+◌, ◌<◌, ◌≤◌, List, [], ◌∷◌, length, take, get_or, set, Bool, true, false, cond, refl, sym, ap, ◌∙◌, subst, arith}
+use Rattle.std.proofs.Common.{⊎_elim}
 use Rattle.std.specs.Prelude.{Some, nat_lt, slice_get, slice_index, filter}
 use Rattle.std.proofs.lemmas.Bool.{cases_eq}
 use Rattle.std.proofs.lemmas.Bool.Decides.{nat_tests}
@@ -67,7 +68,8 @@ fewer_wait shards old new place (e ∷ es) further =
     at : (a b : Bool) → nat_lt (slice_index new (home shards e.key)) (place + 1) ≡ a
         → nat_lt (slice_index old (home shards e.key)) (place + 1) ≡ b
         → length (filter (waits shards new place) es) ≤ length (filter (waits shards old place) es)
-        → length (cond a (e ∷ filter (waits shards new place) es) (filter (waits shards new place) es)) ≤ length (cond b (e ∷ filter (waits shards old place) es) (filter (waits shards old place) es))
+        → length (cond a (e ∷ filter (waits shards new place) es) (filter (waits shards new place) es)) ≤ length
+        (cond b (e ∷ filter (waits shards old place) es) (filter (waits shards old place) es))
     at true true p q rest = omega (arith, rest)
     at true false p q rest =
         let low : slice_index new (home shards e.key) < place + 1 = grind (arith, nat_tests) in

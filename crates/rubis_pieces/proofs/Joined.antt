@@ -1,5 +1,6 @@
 -- The shares of the parts of a batch, put together.
-use Rattle.std.proofs.Common.{ℕ, ◌≡◌, ◌+◌, ◌*◌, ◌-◌, ◌<◌, ◌≤◌, zero, suc, List, [], ◌∷◌, ◌++◌, length, drop, take, min, set, refl, sym, ap, ◌∙◌, subst, arith, length-set, ⊎_elim}
+use Rattle.std.proofs.Common.{ℕ, ◌≡◌, ◌+◌, ◌*◌, ◌-◌, ◌<◌, ◌≤◌, zero, suc, List, [], ◌∷◌, ◌++◌, length, drop, take, min, set, refl, sym, ap, ◌∙◌, subst, arith}
+use Rattle.std.proofs.Common.{length-set, ⊎_elim}
 use Rattle.std.specs.Global.{Vec}
 use Rattle.std.specs.List.{AllZip, range_with_len}
 use Rattle.std.specs.Prelude.{IfOk, Ok, Some, map, slice_get, slice_range}

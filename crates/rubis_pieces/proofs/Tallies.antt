@@ -27,7 +27,8 @@ one_more false e es = omega arith
 
 -- the parts of a message, place by place
 pub by_places : (shards : ℕ) (stops : List ℕ) (place : ℕ) (es : List Effect) → length es ≤ PARTS_MAX
-    → waits_or shards stops place (slice_get es 0) + waits_or shards stops place (slice_get es 1) + waits_or shards stops place (slice_get es 2) ≡ length (filter (waits shards stops place) es)
+    → waits_or shards stops place (slice_get es 0) + waits_or shards stops place (slice_get es 1) + waits_or shards stops place (slice_get es 2)
+    ≡ length (filter (waits shards stops place) es)
 by_places shards stops place [] few = refl
 by_places shards stops place (a ∷ []) few = omega (arith, one_more (waits shards stops place a) a [])
 by_places shards stops place (a ∷ b ∷ []) few =
@@ -42,7 +43,8 @@ by_places shards stops place (a ∷ b ∷ c ∷ []) few =
 by_places shards stops place (a ∷ b ∷ c ∷ d ∷ es) few = absurd (omega (arith, few))
 
 pub message_parts : (shards : ℕ) (stops : List ℕ) (place : ℕ) (m : Core)
-    → waits_or shards stops place (slice_get (parts_of m) 0) + waits_or shards stops place (slice_get (parts_of m) 1) + waits_or shards stops place (slice_get (parts_of m) 2) ≡ length (filter (waits shards stops place) (parts_of m))
+    → waits_or shards stops place (slice_get (parts_of m) 0) + waits_or shards stops place (slice_get (parts_of m) 1) + waits_or shards stops place
+    (slice_get (parts_of m) 2) ≡ length (filter (waits shards stops place) (parts_of m))
 message_parts shards stops place m = by_places shards stops place (parts_of m) (few_parts m.id m.red m.shadow)
 
 pub behind_turn : (shards from i : ℕ) (stops : List ℕ) (batch : List Message) (x : Message) (m : LogEntry) → i < length batch

@@ -1,5 +1,6 @@
 -- How a run that reads ahead goes on.
-use Rattle.std.proofs.Common.{◌≡◌, ◌∙◌, ◌≤◌, ◌<◌, ◌+◌, ◌++◌, ◌∷◌, [], ℕ, zero, suc, All, List, Option, ap, append-nil, append_assoc, arith, length, length-append, refl, subst, sym, take}
+use Rattle.std.proofs.Common.{◌≡◌, ◌∙◌, ◌≤◌, ◌<◌, ◌+◌, ◌++◌, ◌∷◌, [], ℕ, zero, suc, All, List, Option, ap, append-nil, append_assoc, arith, length}
+use Rattle.std.proofs.Common.{length-append, refl, subst, sym, take}
 use Rattle.std.specs.Prelude.{IfSome, MatchOption, None, Some}
 use Rattle.std.specs.Io.KnownBytes.{Appends}
 use Rattle.std.proofs.Math.Seq.{take-append_seam}
@@ -51,7 +52,8 @@ all-fit sites (r ∷ rows) (p ∷ ps) h zero d lt = h.0.fits
 all-fit sites (r ∷ rows) (p ∷ ps) h (suc k) d lt = all-fit sites rows ps h.1 k d (omega (arith, lt))
 
 -- what was read of a front, and of the rest
-pub parsed-both : (sites : ℕ) (rows more : List (List (List ℕ))) (ps qs : List Parsed) → AreParsed sites rows ps → AreParsed sites more qs → AreParsed sites (rows ++ more) (ps ++ qs)
+pub parsed-both : (sites : ℕ) (rows more : List (List (List ℕ))) (ps qs : List Parsed) → AreParsed sites rows ps → AreParsed sites more qs →
+    AreParsed sites (rows ++ more) (ps ++ qs)
 unfolding AreParsed
 parsed-both sites [] more [] qs h k = k
 parsed-both sites [] more (p ∷ ps) qs h k = absurd h
@@ -61,7 +63,8 @@ parsed-both sites (r ∷ rows) more (p ∷ ps) qs h k = (h.0, parsed-both sites 
 -- ---- a run at a place
 
 -- one more is answered
-pub ahead-answered : (sites sites2 : ℕ) (ps left : List Parsed) (p : Parsed) (all more more2 : Account) (old now : Option (List ℕ)) (sink sink2 : List ℕ) (n : ℕ)
+pub ahead-answered : (sites sites2 : ℕ) (ps left : List Parsed) (p : Parsed) (all more more2 : Account) (old now : Option (List ℕ)) (sink sink2 : List ℕ)
+    (n : ℕ)
     (records later : List (List (List ℕ))) → sites2 ≡ sites → ps ≡ p ∷ left
     → ((fields : List (List ℕ)) → input_of sites fields ≡ meant p → AnswersRecord GoesOn more more2 sink sink2 fields)
     → HasAhead sites ps all more old now sink n records later → HasAhead sites2 left all more2 old now sink2 (n + 1) records later
@@ -138,7 +141,8 @@ ahead-read sites sites2 ps list all more old now sink n records later rows rest 
 pub ahead-starts : (sites : ℕ) (ps : List Parsed) (all more : Account) (old : Option (List ℕ)) (sink : List ℕ) (n : ℕ) (records : List (List (List ℕ)))
     → ps ≡ [] → sink ≡ [] → n ≡ 1 → more ≡ all → HasAhead sites ps all more old old sink n records records
 ahead-starts sites ps all more old sink n records none empty one same =
-    let told : (ending : _) (to_come : List (List (List ℕ))) → all.text ending to_come ≡ sink ++ more.text ending to_come = λ ending to_come. rw (empty, same) refl in
+    let told : (ending : _) (to_come : List (List (List ℕ))) → all.text ending to_come ≡ sink
+    ++ more.text ending to_come = λ ending to_come. rw (empty, same) refl in
     record {
       done = [];
       next = [];
@@ -154,7 +158,8 @@ ahead-starts sites ps all more old sink n records none empty one same =
 -- ---- how it ends
 
 -- whatever happens next, a prefix of the text was written
-pub ahead-prefix : (sites : ℕ) (ps : List Parsed) (all more : Account) (old now now2 : Option (List ℕ)) (sink : List ℕ) (n : ℕ) (records later : List (List (List ℕ)))
+pub ahead-prefix : (sites : ℕ) (ps : List Parsed) (all more : Account) (old now now2 : Option (List ℕ)) (sink : List ℕ) (n : ℕ)
+    (records later : List (List (List ℕ)))
     → now2 ≡ now → HasAhead sites ps all more old now sink n records later → WrotePrefix (all.text AtEnd) old now2 records
 ahead-prefix sites ps all more old now now2 sink n records later same h = (
   h.written,
@@ -179,12 +184,14 @@ pub ahead-cut : (sites : ℕ) (ps : List Parsed) (all more : Account) (old now :
     → sink ≡ [] → more.text Cut [] ≡ [] → HasAhead sites ps all more old now sink n records later → IsCut all old now records
 ahead-cut sites ps all more old now sink n records later empty none h = (length h.done, cut-text sites ps all more old now sink n records later empty none h)
 
-some-read : (account : Account) → ((fields : List (List ℕ)) (rest : List (List (List ℕ))) → 0 < account.read (fields ∷ rest)) → (rows : List (List (List ℕ))) → 0 < length rows → 0 < account.read rows
+some-read : (account : Account) → ((fields : List (List ℕ)) (rest : List (List (List ℕ))) → 0 < account.read (fields ∷ rest)) → (rows : List (List (List ℕ))) →
+    0 < length rows → 0 < account.read rows
 some-read account some [] l = absurd (omega (arith, l))
 some-read account some (fields ∷ rest) l = some fields rest
 
 -- as many as are taken were answered, and there are more
-pub ahead-too_long : (sites : ℕ) (ps : List Parsed) (all more : Account) (old now : Option (List ℕ)) (sink : List ℕ) (n limit : ℕ) (records later : List (List (List ℕ)))
+pub ahead-too_long : (sites : ℕ) (ps : List Parsed) (all more : Account) (old now : Option (List ℕ)) (sink : List ℕ) (n limit : ℕ)
+    (records later : List (List (List ℕ)))
     → sink ≡ [] → more.text Cut [] ≡ [] → ((fields : List (List ℕ)) (rest : List (List (List ℕ))) → 0 < more.read (fields ∷ rest))
     → 0 < length ps → n ≡ limit + 1 → HasAhead sites ps all more old now sink n records later → IsTooLong all limit old now records
 ahead-too_long sites ps all more old now sink n limit records later empty none reads some last h =
@@ -201,14 +208,16 @@ ahead-too_long sites ps all more old now sink n limit records later empty none r
     )
 
 -- all is answered
-pub ahead-done : (sites : ℕ) (ps : List Parsed) (all more : Account) (old now : Option (List ℕ)) (sink : List ℕ) (n k limit : ℕ) (records later : List (List (List ℕ)))
+pub ahead-done : (sites : ℕ) (ps : List Parsed) (all more : Account) (old now : Option (List ℕ)) (sink : List ℕ) (n k limit : ℕ)
+    (records later : List (List (List ℕ)))
     → sink ≡ [] → more.text AtEnd [] ≡ [] → more.read [] ≡ 0 → ps ≡ [] → later ≡ [] → n ≡ k + 1 → k ≤ limit
     → HasAhead sites ps all more old now sink n records later → IsDone all limit old now records k
 ahead-done sites ps all more old now sink n k limit records later empty none reads answered last e within h =
     let next : h.next ≡ [] = none-of sites h.next (subst (λ l. AreParsed sites h.next l) answered h.parsed) in
     let whole : records ≡ h.done ++ [] = h.parts ∙ ap (λ r. h.done ++ (r ++ later)) next ∙ ap (λ r. h.done ++ r) last in
     let text : all.text AtEnd records ≡ h.written =
-    ap (all.text AtEnd) whole ∙ h.told AtEnd [] ∙ ap (λ t. h.written ++ (t ++ more.text AtEnd [])) empty ∙ ap (λ t. h.written ++ t) none ∙ append-nil h.written in
+    ap (all.text AtEnd) whole ∙ h.told AtEnd [] ∙ ap (λ t. h.written ++ (t ++ more.text AtEnd [])) empty ∙ ap (λ t. h.written ++ t) none
+    ∙ append-nil h.written in
     let read : all.read records ≡ length h.done + more.read [] = ap all.read whole ∙ h.counted [] in
     (subst (λ t. Appends old now t) (sym text) h.appended, omega (arith, read, reads, h.count, e), within)
 

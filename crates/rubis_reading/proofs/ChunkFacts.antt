@@ -1,5 +1,6 @@
 -- What handing a chunk on does to the records that are to come.
-use Rattle.std.proofs.Common.{◌≡◌, ◌≤◌, ◌<◌, ◌+◌, ◌-◌, ◌∷◌, [], ◌++◌, ◌∙◌, ℕ, List, length, take, drop, Option, Some, None, sym, refl, ap, arith, append_assoc, append-nil, length-append, take-append-drop}
+use Rattle.std.proofs.Common.{◌≡◌, ◌≤◌, ◌<◌, ◌+◌, ◌-◌, ◌∷◌, [], ◌++◌, ◌∙◌, ℕ, List, length, take, drop, Option, Some, None, sym, refl, ap, arith, append_assoc}
+use Rattle.std.proofs.Common.{append-nil, length-append, take-append-drop}
 use Rattle.std.proofs.Transfers.{drop-appended}
 use Rattle.std.proofs.lemmas.List.{length-take-le}
 use Rattle.std.specs.Prelude.{Bool, Err, IfOk, Ok, OnOk, Result, false}
@@ -14,7 +15,8 @@ some-is : {A : Type 0} {x y : A} → Some x ≡ Some y → x ≡ y
 some-is e = cc e
 
 -- the end of the last line of a chunk, and what follows the chunk
-pub feed-left : (held : List ℕ) (many : ℕ) → many ≤ length held → 0 < many → (whole : IsWhole (take many held)) → drop (many - 1) held ≡ whole.last ∷ drop many held
+pub feed-left : (held : List ℕ) (many : ℕ) → many ≤ length held → 0 < many → (whole : IsWhole (take many held)) → drop (many - 1) held
+    ≡ whole.last ∷ drop many held
 feed-left held many within some whole =
     let size : length (take many held) ≡ many = length-take-le many held within in
     let parts : length (take many held) ≡ length whole.front + 1 = ap length whole.is ∙ length-append whole.front (whole.last ∷ []) in
@@ -24,7 +26,8 @@ feed-left held many within some whole =
     rw (← front) (drop-appended whole.front held (whole.last ∷ drop many held) split)
 
 -- the last bytes are those that are held
-pub last-held : {R : Type 0} (rem : R → Option (List ℕ)) (c : Chunks R) (rows : List (List (List ℕ))) → IsAtEnd (rem c.reader) → HasPending rem c rows → rows ≡ input_records c.held
+pub last-held : {R : Type 0} (rem : R → Option (List ℕ)) (c : Chunks R) (rows : List (List (List ℕ))) → IsAtEnd (rem c.reader) → HasPending rem c rows → rows
+    ≡ input_records c.held
 last-held rem c rows end h = h.reads ∙ ap input_records (bytes (rem c.reader) end h.source)
   where
     bytes : (k : Option (List ℕ)) → IsAtEnd k → prepend_known c.held k ≡ Some h.bytes → h.bytes ≡ c.held

@@ -1,5 +1,6 @@
 -- How the last line of a text is found.
-use Rattle.std.proofs.Common.{◌≡◌, ◌≤◌, ◌<◌, ◌+◌, ◌∷◌, [], ◌++◌, ◌∙◌, ◌==◌, ◌||◌, ℕ, List, length, take, get_or, Bool, true, false, ◌&&◌, ◌-◌, drop, sym, refl, ap, subst, arith, get_or-drop, length-append, length-drop, take-append-drop}
+use Rattle.std.proofs.Common.{◌≡◌, ◌≤◌, ◌<◌, ◌+◌, ◌∷◌, [], ◌++◌, ◌∙◌, ◌==◌, ◌||◌, ℕ, List, length, take, get_or, Bool, true, false, ◌&&◌, ◌-◌, drop, sym, refl}
+use Rattle.std.proofs.Common.{ap, subst, arith, get_or-drop, length-append, length-drop, take-append-drop}
 use Rattle.std.proofs.lemmas.List.{take_more}
 use Rattle.std.proofs.lemmas.Bool.{eqb-true}
 use Rattle.std.proofs.Math.Seq.{take-append_seam}
@@ -31,15 +32,19 @@ IsRested st.InComment fields field = ⊥
 abbrev StaysRested : State × Action → ℕ → List (List ℕ) → List ℕ → Type 0
 StaysRested p c fields field = MatchBool (is_end p.1) (IsRested p.0 [] []) (IsRested p.0 (fields_after p.1 fields field) (field_after p.1 c field))
 
-rested-if : (b : Bool) (x y : State × Action) (c : ℕ) (fields : List (List ℕ)) (field : List ℕ) → StaysRested x c fields field → StaysRested y c fields field → StaysRested (if b then x else y) c fields field
+rested-if : (b : Bool) (x y : State × Action) (c : ℕ) (fields : List (List ℕ)) (field : List ℕ) → StaysRested x c fields field → StaysRested y c fields field →
+    StaysRested (if b then x else y) c fields field
 rested-if true x y c fields field p q = p
 rested-if false x y c fields field p q = q
 
 ended-rested : (c d : ℕ) (fields : List (List ℕ)) (field : List ℕ) → StaysRested (after_end term.CRLF c, act.EndRecord) d fields field
-ended-rested c d fields field = elim (c == 13) as (λ b. StaysRested ((if b then st.AfterCr else st.StartRecord), act.EndRecord) d fields field) [ true ↦ (refl, refl) | false ↦ (refl, refl) ]
+ended-rested c d fields field =
+    elim (c == 13) as (λ b. StaysRested ((if b then st.AfterCr else st.StartRecord), act.EndRecord) d fields field)
+    [ true ↦ (refl, refl) | false ↦ (refl, refl) ]
 
 in-field-rested : (c : ℕ) (fields : List (List ℕ)) (field : List ℕ) → StaysRested (in_field default_config c) c fields field
-in-field-rested c fields field = rested-if (c == 44) _ _ c fields field tt (rested-if ((c == 13) || (c == 10)) _ _ c fields field (ended-rested c c fields field) tt)
+in-field-rested c fields field = rested-if (c == 44) _ _ c fields field tt
+    (rested-if ((c == 13) || (c == 10)) _ _ c fields field (ended-rested c c fields field) tt)
 
 start-rested : (c : ℕ) (fields : List (List ℕ)) (field : List ℕ) → (fields ≡ []) × (field ≡ []) → StaysRested (start_record default_config c) c fields field
 start-rested c fields field rest =
@@ -87,7 +92,8 @@ unfolding stands
 stands-more s [] c = refl
 stands-more s (x ∷ xs) c = stands-more (step default_config s x).0 xs c
 
-pub stands-next : (text : List ℕ) (i : ℕ) → i < length text → stands st.StartRecord (take (i + 1) text) ≡ (step default_config (stands st.StartRecord (take i text)) (get_or text i 0)).0
+pub stands-next : (text : List ℕ) (i : ℕ) → i < length text → stands st.StartRecord (take (i + 1) text)
+    ≡ (step default_config (stands st.StartRecord (take i text)) (get_or text i 0)).0
 stands-next text i lt = ap (stands st.StartRecord) (take_more text i 0 lt) ∙ stands-more st.StartRecord (take i text) (get_or text i 0)
 
 -- ---- a byte order mark before it
@@ -110,10 +116,12 @@ unfolding strip_bom
 unmarked [] h = refl
 unmarked (x ∷ []) h = refl
 unmarked (x ∷ y ∷ []) h = refl
-unmarked (x ∷ y ∷ z ∷ rest) h = rw (and-cases (x == 239) (y == 187) (z == 191) (λ a b c. h (omega arith) (eqb-true _ _ a) (eqb-true _ _ b) (eqb-true _ _ c))) refl
+unmarked (x ∷ y ∷ z ∷ rest) h = rw (and-cases (x == 239) (y == 187) (z == 191) (λ a b c. h (omega arith) (eqb-true _ _ a) (eqb-true _ _ b) (eqb-true _ _ c)))
+    refl
 
 -- the records up to the end of a line, after the mark
-pub marked-whole : (text : List ℕ) (mark end : ℕ) → mark ≤ length text → 0 < end → strip_bom text ≡ drop mark text → EndsFrom st.StartRecord (drop mark text) end → IsWhole (take (mark + end) text)
+pub marked-whole : (text : List ℕ) (mark end : ℕ) → mark ≤ length text → 0 < end → strip_bom text ≡ drop mark text →
+    EndsFrom st.StartRecord (drop mark text) end → IsWhole (take (mark + end) text)
 marked-whole text mark end fits some strip ends =
     let n = mark + end in
     let size = length-drop mark text in

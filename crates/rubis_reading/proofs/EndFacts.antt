@@ -1,5 +1,6 @@
 -- That no later end of a record was passed over.
-use Rattle.std.proofs.Common.{◌≡◌, ◌≤◌, ◌<◌, ◌+◌, ◌-◌, ◌∷◌, [], ◌++◌, ◌∙◌, ◌==◌, ◌||◌, inl, inr, ℕ, List, length, take, get_or, drop, true, false, sym, refl, ap, subst, arith, get_or-drop, length-append, length-drop, take-append-drop}
+use Rattle.std.proofs.Common.{◌≡◌, ◌≤◌, ◌<◌, ◌+◌, ◌-◌, ◌∷◌, [], ◌++◌, ◌∙◌, ◌==◌, ◌||◌, inl, inr, ℕ, List, length, take, get_or, drop, true, false, sym, refl}
+use Rattle.std.proofs.Common.{ap, subst, arith, get_or-drop, length-append, length-drop, take-append-drop}
 use Rattle.std.proofs.lemmas.Bool.{cases_lt}
 use Rattle.std.proofs.lemmas.List.{length-take-le}
 use Rattle.std.proofs.Math.Seq.{take-append_seam}
@@ -143,7 +144,8 @@ whole-ends text mark k fits strip within whole =
     let tail = length-drop k text in
     let later : mark < k = omega (arith, lengths, size, tail, within, fits, some) in
     let long : length left ≡ k - mark = omega (arith, lengths, size, tail, within, fits, some) in
-    let is : left ≡ take (k - mark) (drop mark text) = sym (take-append_seam left rest) ∙ ap (λ j. take j (left ++ rest)) long ∙ ap (take (k - mark)) (sym parts) in
+    let is : left ≡ take (k - mark) (drop mark text) = sym (take-append_seam left rest) ∙ ap (λ j. take j (left ++ rest)) long
+    ∙ ap (take (k - mark)) (sym parts) in
     let at : mark + (k - mark - 1) ≡ k - 1 + 0 = omega (arith, later) in
     let byte : get_or (drop mark text) (k - mark - 1) 0 ≡ whole.last =
     get_or-drop mark text (k - mark - 1) 0 ∙ ap (λ j. get_or text j 0) at ∙ sym (get_or-drop (k - 1) text 0 0)

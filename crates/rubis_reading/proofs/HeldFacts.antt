@@ -1,5 +1,6 @@
 -- Bytes that are left of a buffer, as it is closed up, grows and is filled.
-use Rattle.std.proofs.Common.{◌≡◌, ◌≤◌, ◌+◌, ◌-◌, ◌++◌, ◌∙◌, ℕ, List, length, take, drop, sym, ap, arith, length-append, length-drop, length-take, length-take-le}
+use Rattle.std.proofs.Common.{◌≡◌, ◌≤◌, ◌+◌, ◌-◌, ◌++◌, ◌∙◌, ℕ, List, length, take, drop, sym, ap, arith, length-append, length-drop, length-take}
+use Rattle.std.proofs.Common.{length-take-le}
 use Rattle.std.specs.Prelude.{Bool, Option, false, slice_range}
 use Rattle.std.specs.Io.KnownBytes.{Consumes, IsAtEnd}
 use Rattle.std.proofs.lemmas.List.{drop-append-le, drop-drop, drop-take}

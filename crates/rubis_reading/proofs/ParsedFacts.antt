@@ -49,7 +49,8 @@ parsed-more sites (r ∷ rows) [] fields p all one = absurd all
 parsed-more sites (r ∷ rows) (q ∷ ps) fields p all one = (all.0, parsed-more sites rows ps fields p all.1 one)
 
 -- the records that were read, and those still to come
-pub record HasParsed {R : Type 0} (rem : R → Option (List ℕ)) (records : Records R) (sites : ℕ) (rows : List (List (List ℕ))) (list : List Parsed) : Type 0 where
+pub record HasParsed {R : Type 0} (rem : R → Option (List ℕ)) (records : Records R) (sites : ℕ) (rows : List (List (List ℕ))) (list : List Parsed) :
+    Type 0 where
   pub done : List (List (List ℕ))
   pub rest : List (List (List ℕ))
   pub parts : rows ≡ done ++ rest

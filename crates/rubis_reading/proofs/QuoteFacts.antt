@@ -1,5 +1,6 @@
 -- How a text is read from one quote to the next.
-use Rattle.std.proofs.Common.{◌≡◌, ◌≤◌, ◌<◌, ◌+◌, ◌-◌, ◌∷◌, [], ◌++◌, ◌∙◌, ◌==◌, ◌||◌, inl, inr, ℕ, zero, suc, List, length, take, get_or, Bool, true, false, drop, sym, refl, ap, subst, arith, get_or-drop, length-drop}
+use Rattle.std.proofs.Common.{◌≡◌, ◌≤◌, ◌<◌, ◌+◌, ◌-◌, ◌∷◌, [], ◌++◌, ◌∙◌, ◌==◌, ◌||◌, inl, inr, ℕ, zero, suc, List, length, take, get_or, Bool, true, false}
+use Rattle.std.proofs.Common.{drop, sym, refl, ap, subst, arith, get_or-drop, length-drop}
 use Rattle.std.proofs.lemmas.Bool.{cases_Bool, eqb-true}
 use Rattle.std.proofs.lemmas.List.{take_more}
 use Rattle.memchr.specs.Find.{IsFirstByte, is_byte}
@@ -121,7 +122,8 @@ like-outside s t like out =
     ]
 
 outside-step : (s : State) (c : ℕ) → IsOutside s → (c == 34) ≡ false → IsOutside (step default_config s c).0
-outside-step s c out none = like-outside (in_field default_config c).0 (step default_config s c).0 (like-back _ _ (outside-next s c out none)) (in_field-outside c)
+outside-step s c out none = like-outside (in_field default_config c).0 (step default_config s c).0 (like-back _ _ (outside-next s c out none))
+    (in_field-outside c)
 
 outside-run : (s : State) (xs : List ℕ) → IsOutside s → HasNoQuote xs → IsOutside (stands s xs)
 unfolding stands HasNoQuote
@@ -162,7 +164,8 @@ take-all [] = refl
 take-all (x ∷ xs) = ap (λ t. x ∷ t) (take-all xs)
 
 -- where the machine stands after some bytes with no quote, by the last of them
-pub over-run : (s : State) (xs : List ℕ) → IsOutside s → HasNoQuote xs → 0 < length xs → IsLike (in_field default_config (get_or xs (length xs - 1) 0)).0 (stands s xs)
+pub over-run : (s : State) (xs : List ℕ) → IsOutside s → HasNoQuote xs → 0 < length xs →
+    IsLike (in_field default_config (get_or xs (length xs - 1) 0)).0 (stands s xs)
 over-run s xs out none some =
     let last = get_or xs (length xs - 1) 0 in
     let more : (length xs - 1) + 1 ≡ length xs = omega (arith, some) in
@@ -185,7 +188,8 @@ line-end b e =
     ]
 
 -- the end of a line among some bytes with no quote
-pub ends-from : (s : State) (xs : List ℕ) (k : ℕ) → IsOutside s → HasNoQuote xs → k < length xs → ((get_or xs k 0 == 10) || (get_or xs k 0 == 13)) ≡ true → EndsFrom s xs (k + 1)
+pub ends-from : (s : State) (xs : List ℕ) (k : ℕ) → IsOutside s → HasNoQuote xs → k < length xs → ((get_or xs k 0 == 10) || (get_or xs k 0 == 13)) ≡ true →
+    EndsFrom s xs (k + 1)
 ends-from s xs k out none lt is =
     let c = get_or xs k 0 in
     let ends = line-end c is in

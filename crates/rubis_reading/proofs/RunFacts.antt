@@ -1,5 +1,6 @@
 -- Runs of records.
-use Rattle.std.proofs.Common.{◌≡◌, ◌∙◌, ◌<◌, ◌≤◌, ◌+◌, ◌++◌, ◌∷◌, [], ℕ, suc, List, ap, append-nil, append_assoc, arith, drop, get_or, length, length-append, length-drop, refl, sym}
+use Rattle.std.proofs.Common.{◌≡◌, ◌∙◌, ◌<◌, ◌≤◌, ◌+◌, ◌++◌, ◌∷◌, [], ℕ, suc, List, ap, append-nil, append_assoc, arith, drop, get_or, length, length-append}
+use Rattle.std.proofs.Common.{length-drop, refl, sym}
 use Rattle.std.proofs.lemmas.List.{at_drop_more, nil_from_length}
 use Rattle.rubis_message.specs.Message.{Message}
 use Rattle.rubis_message.specs.declared.tokens.Packet.TheVariants.{Msg}
@@ -50,7 +51,8 @@ pub counted-flat : (runs : List Stretch) → counted runs ≡ length (flat runs)
 counted-flat [] = refl
 counted-flat (r ∷ rest) = let more = counted-flat rest in let both = length-append (of_stretch r) (flat rest) in omega (arith, more, both)
 
-pub counted-drop : (runs : List Stretch) (i : ℕ) (r : Stretch) → i < length runs → counted (drop i runs) ≡ length (of_stretch (get_or runs i r)) + counted (drop (i + 1) runs)
+pub counted-drop : (runs : List Stretch) (i : ℕ) (r : Stretch) → i < length runs → counted (drop i runs)
+    ≡ length (of_stretch (get_or runs i r)) + counted (drop (i + 1) runs)
 counted-drop runs i r lt = at_drop_more counted runs i r lt
 
 pub ruleset run_facts = (flat-more)

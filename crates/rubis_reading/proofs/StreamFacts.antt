@@ -1,5 +1,6 @@
 -- Where a text may be cut: its records are those of the parts.
-use Rattle.std.proofs.Common.{◌≡◌, ◌≤◌, ◌+◌, ◌∷◌, [], ◌++◌, ◌∙◌, ◌==◌, ◌&&◌, ◌||◌, inl, inr, ℕ, zero, suc, List, length, Some, None, Bool, true, false, if◌then◌else◌, sym, refl, ap, subst, arith}
+use Rattle.std.proofs.Common.{◌≡◌, ◌≤◌, ◌+◌, ◌∷◌, [], ◌++◌, ◌∙◌, ◌==◌, ◌&&◌, ◌||◌, inl, inr, ℕ, zero, suc, List, length, Some, None, Bool, true, false}
+use Rattle.std.proofs.Common.{if◌then◌else◌, sym, refl, ap, subst, arith}
 use Rattle.std.proofs.lemmas.Bool.{cases_Bool}
 use Rattle.std.specs.Bool.{MatchBool}
 use Rattle.csv.specs.Machine.{carriage_return, ends_at_end, field_after, fields_after, is_end, line_feed, next_record, step}

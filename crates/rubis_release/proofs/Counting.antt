@@ -28,7 +28,8 @@ opening_counts sites = λ i. record { counts = same i; red = 0 }
   where
     same : replicate sites 0 ≡ counts sites []
     same = same_number_lists (replicate sites 0) (counts sites []) (length-replicate {A = ℕ} sites 0 ∙ sym (length_counts sites []))
-        (λ j l. let k : j < sites = (let e = length-replicate {A = ℕ} sites 0 in omega (arith, e, l)) in get_or-replicate {A = ℕ} sites j 0 0 k ∙ sym (counts_at sites [] j k))
+        (λ j l. let k : j < sites = (let e = length-replicate {A = ℕ} sites 0 in omega (arith, e, l)) in
+        get_or-replicate {A = ℕ} sites j 0 0 k ∙ sym (counts_at sites [] j k))
 
 -- a message counts nothing of sites past its own ones
 none_past : (n : ℕ) (m : Message) (j : ℕ) → IsAmong n m → n ≤ j → dep m j ≡ 0
@@ -71,7 +72,8 @@ counted_more n log m j l k = ⊎_elim here there (cases_eq m.stamp.id.site j)
         ∙ ap (λ i. i + 1) (counts_at n log m.stamp.id.site l ∙ ap (λ i. counted i log) e)
         ∙ sym (counted_push j log m ∙ counted_yes j m log e)
 
-    there : (m.stamp.id.site ≡ j → ⊥) → get_or (set (counts n log) m.stamp.id.site (get_or (counts n log) m.stamp.id.site 0 + 1)) j 0 ≡ counted j (log ++ m ∷ [])
+    there : (m.stamp.id.site ≡ j → ⊥) → get_or (set (counts n log) m.stamp.id.site (get_or (counts n log) m.stamp.id.site 0 + 1)) j 0
+        ≡ counted j (log ++ m ∷ [])
     there e =
         get_or-set_other (counts n log) m.stamp.id.site j (get_or (counts n log) m.stamp.id.site 0 + 1) 0 (λ q. e (sym q))
         ∙ counts_at n log j k
@@ -89,7 +91,8 @@ clock_more n log m l =
 
 -- ---- the messages of a site
 -- none yet
-pub none_counted : (sites : ℕ) (log : Vec Message) (waiting : List Message) (k : MessageCounts) → log.items ≡ [] → vec_len log ≡ 0 → waiting ≡ [] → k ≡ opening_clock sites → AreCounted log waiting k
+pub none_counted : (sites : ℕ) (log : Vec Message) (waiting : List Message) (k : MessageCounts) → log.items ≡ [] → vec_len log ≡ 0 → waiting ≡ [] → k
+    ≡ opening_clock sites → AreCounted log waiting k
 none_counted sites log waiting k empty size none e =
     let is : k ≡ clock_of sites [] = e ∙ opening_counts sites in
     let same : length k.counts ≡ sites = ap (λ (x : MessageCounts). length x.counts) is ∙ length_counts sites [] in
@@ -103,12 +106,14 @@ pub sites_stay : (k k' : MessageCounts) (s : Stamp) → k' ≡ advanced k s → 
 sites_stay k k' s e = ap (λ (x : MessageCounts). length x.counts) e ∙ length-set k.counts s.id.site (get_or k.counts s.id.site 0 + 1)
 
 -- one is released
-pub counted_on : (log : List Message) (log' : Vec Message) (waiting : List Message) (k k' : MessageCounts) (m : Message) (s : Stamp) → k ≡ clock_of (length k.counts) log → AllAmong (length k.counts) waiting → IsAmong (length k.counts) m
+pub counted_on : (log : List Message) (log' : Vec Message) (waiting : List Message) (k k' : MessageCounts) (m : Message) (s : Stamp) → k
+    ≡ clock_of (length k.counts) log → AllAmong (length k.counts) waiting → IsAmong (length k.counts) m
     → s ≡ m.stamp → k' ≡ advanced k s → log'.items ≡ log ++ m ∷ [] → vec_len log' + length waiting ≤ vec_capacity log' → AreCounted log' waiting k'
 counted_on log log' waiting k k' m s c all a is next more room =
     let same : length k'.counts ≡ length k.counts = sites_stay k k' s next in
     record {
       room = room;
       sites = subst (λ n. AllAmong n waiting) (sym same) all;
-      counts = next ∙ ap (advanced k) is ∙ ap (λ x. advanced x m.stamp) c ∙ clock_more (length k.counts) log m a.id.site ∙ (λ i. clock_of (sym same i) (sym more i));
+      counts = next ∙ ap (advanced k) is ∙ ap (λ x. advanced x m.stamp) c ∙ clock_more (length k.counts) log m a.id.site
+          ∙ (λ i. clock_of (sym same i) (sym more i));
     }

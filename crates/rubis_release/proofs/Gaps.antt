@@ -1,5 +1,6 @@
 -- A message is taken out of its slot, and the slots that are left empty go.
-use Rattle.std.proofs.Common.{◌≡◌, ℕ, zero, suc, ◌+◌, ◌-◌, ◌<◌, ◌≤◌, ◌||◌, Bool, true, false, cond, List, [], ◌∷◌, ◌++◌, length, get_or, refl, sym, ap, ◌∙◌, subst, inl, inr, arith, length-append, length-take}
+use Rattle.std.proofs.Common.{◌≡◌, ℕ, zero, suc, ◌+◌, ◌-◌, ◌<◌, ◌≤◌, ◌||◌, Bool, true, false, cond, List, [], ◌∷◌, ◌++◌, length, get_or, refl, sym, ap, ◌∙◌}
+use Rattle.std.proofs.Common.{subst, inl, inr, arith, length-append, length-take}
 use Rattle.std.specs.Prelude.{Option, None, Some, filter, is_some, slice_get, take, ◌⊎◌}
 use Rattle.std.specs.List.{remove, AllByRecursion, IsDistinct, list_any}
 use Rattle.std.proofs.lemmas.List.{get_or_append_left, get_or_at, nil_from_length}
@@ -9,7 +10,8 @@ use Rattle.rubis_clock.specs.Clocks.{MessageCounts, IsReady}
 use Rattle.rubis_message.specs.Message.{Message}
 use Rattle.rubis_model.specs.Settle.{Has}
 use Rattle.rubis_release.specs.Release.{AllAmong, IsFirst, NoneReady}
-use Rattle.rubis_release.specs.Waiting.{Slots, somes, put_some, IsItsSlot, HaveTheirIds, AreApart, AreSlots, IsReadySlot, IsFirstOf, NoSlotOf, TakesFirst, is_there}
+use Rattle.rubis_release.specs.Waiting.{Slots, somes, put_some, IsItsSlot, HaveTheirIds, AreApart, AreSlots, IsReadySlot, IsFirstOf, NoSlotOf, TakesFirst}
+use Rattle.rubis_release.specs.Waiting.{is_there}
 use Rattle.std.specs.Map.{keys_of, lookup, values_of}
 use mathlib.Core.Bool.{true≢false}
 use Rattle.rubis_schema.specs.Keys.{same_id}
@@ -76,7 +78,13 @@ unfolding emptied
 split_slots [] at k m there = absurd cc
 split_slots (e ∷ es) zero k m there =
     let same : e ≡ (k, Some m) = cc in
-    record { front = []; back = es; before = ap (λ (x : Id × Option Message). x ∷ es) same; place = refl; after = ap (λ (x : Id × Option Message). emptied x es) same }
+    record {
+      front = [];
+      back = es;
+      before = ap (λ (x : Id × Option Message). x ∷ es) same;
+      place = refl;
+      after = ap (λ (x : Id × Option Message). emptied x es) same;
+    }
 split_slots (e ∷ es) (suc i) k m there =
     let h = split_slots es i k m there in
     record { front = e ∷ h.front; back = h.back; before = ap (λ xs. e ∷ xs) h.before; place = ap suc h.place; after = ap (λ xs. e ∷ xs) h.after }
@@ -120,7 +128,8 @@ taken_first clock es n at k m among there first =
         first = λ j d l r.
             let x = get_or xs j d in
             let f = slot_of h.front x (has_there xs j d l) in
-            let here : slice_get es f.0 ≡ Some (f.1, Some x) = ap (λ zs. slice_get zs f.0) h.before ∙ slot_before h.front ((k, Some m) ∷ h.back) f.0 f.2 ∙ f.3 in
+            let here : slice_get es f.0 ≡ Some (f.1, Some x) = ap (λ zs. slice_get zs f.0) h.before ∙ slot_before h.front ((k, Some m) ∷ h.back) f.0 f.2
+            ∙ f.3 in
             let r' : IsReady clock x.stamp = subst (λ (y : Message). IsReady clock y.stamp) (get_or_append_left xs (m ∷ ys) d j l) r in
             let late = first.1 f.0 f.1 x here r' (among x (slot_has es f.0 f.1 x here)).id.site in
             omega (arith, late, f.2, h.place);
@@ -132,7 +141,8 @@ taken_first clock es n at k m among there first =
     one_message : (a b : Message) (i j : Id) → ◌≡◌ {A = Option (Id × Option Message)} (Some (i, Some a)) (Some (j, Some b)) → a ≡ b
     one_message a b i j e = un_some a b (same_value i j (Some a) b e)
 
-    ready_there : (clock : MessageCounts) (es : Slots) (at : ℕ) (k : Id) (m : Message) → slice_get es at ≡ Some (k, Some m) → IsReadySlot clock es at → IsReady clock m.stamp
+    ready_there : (clock : MessageCounts) (es : Slots) (at : ℕ) (k : Id) (m : Message) → slice_get es at ≡ Some (k, Some m) → IsReadySlot clock es at →
+        IsReady clock m.stamp
     ready_there clock es at k m there r = subst (λ (x : Message). IsReady clock x.stamp) (one_message r.message m r.key k (sym r.there ∙ there)) r.ready
 
 -- ---- the slots stay right
@@ -146,11 +156,14 @@ keys_stay [] at v = refl
 keys_stay (e ∷ es) zero v = refl
 keys_stay (e ∷ es) (suc i) v = ap (λ ks. e.0 ∷ ks) (keys_stay es i v)
 
-pub slots_stay : (es : Slots) (at gone : ℕ) (k : Id) (m : Message) → slice_get es at ≡ Some (k, Some m) → AreSlots es gone → AreSlots (set_value_at es at None) (gone + 1)
+pub slots_stay : (es : Slots) (at gone : ℕ) (k : Id) (m : Message) → slice_get es at ≡ Some (k, Some m) → AreSlots es gone →
+    AreSlots (set_value_at es at None) (gone + 1)
 slots_stay es at gone k m there slots =
     let h = split_slots es at k m there in
-    let old = ap (λ (zs : Slots). length (somes zs)) h.before ∙ ap length (somes_append h.front ((k, Some m) ∷ h.back)) ∙ length-append (somes h.front) (m ∷ somes h.back) in
-    let new = ap (λ (zs : Slots). length (somes zs)) h.after ∙ ap length (somes_append h.front ((k, None) ∷ h.back)) ∙ length-append (somes h.front) (somes h.back) in
+    let old = ap (λ (zs : Slots). length (somes zs)) h.before ∙ ap length (somes_append h.front ((k, Some m) ∷ h.back))
+    ∙ length-append (somes h.front) (m ∷ somes h.back) in
+    let new = ap (λ (zs : Slots). length (somes zs)) h.after ∙ ap length (somes_append h.front ((k, None) ∷ h.back))
+    ∙ length-append (somes h.front) (somes h.back) in
     let all = ap length h.before ∙ length-append h.front ((k, Some m) ∷ h.back) in
     let left = ap length h.after ∙ length-append h.front ((k, None) ∷ h.back) in
     record {
@@ -186,20 +199,26 @@ full_kept (e ∷ es) = by e.1 refl (full_kept es)
     by : (v : Option Message) → e.1 ≡ v → length (somes (filter (λ x. is_some x.1) es)) ≡ length (filter (λ x. is_some x.1) es)
         → length (somes (cond (is_some e.1) (e ∷ filter (λ x. is_some x.1) es) (filter (λ x. is_some x.1) es)))
         ≡ length (cond (is_some e.1) (e ∷ filter (λ x. is_some x.1) es) (filter (λ x. is_some x.1) es))
-    by None is h = subst (λ b. length (somes (cond b (e ∷ filter (λ x. is_some x.1) es) (filter (λ x. is_some x.1) es))) ≡ length (cond b (e ∷ filter (λ x. is_some x.1) es) (filter (λ x. is_some x.1) es))) (sym (ap is_some is)) h
-    by (Some m) is h = subst (λ b. length (somes (cond b (e ∷ filter (λ x. is_some x.1) es) (filter (λ x. is_some x.1) es))) ≡ length (cond b (e ∷ filter (λ x. is_some x.1) es) (filter (λ x. is_some x.1) es))) (sym (ap is_some is))
+    by None is h = subst (λ b. length (somes (cond b (e ∷ filter (λ x. is_some x.1) es) (filter (λ x. is_some x.1) es)))
+        ≡ length (cond b (e ∷ filter (λ x. is_some x.1) es) (filter (λ x. is_some x.1) es))) (sym (ap is_some is)) h
+    by (Some m) is h = subst
+        (λ b. length (somes (cond b (e ∷ filter (λ x. is_some x.1) es) (filter (λ x. is_some x.1) es)))
+        ≡ length (cond b (e ∷ filter (λ x. is_some x.1) es) (filter (λ x. is_some x.1) es))) (sym (ap is_some is))
         (ap (λ (v : Option Message). length (put_some v (somes (filter (λ x. is_some x.1) es)))) is ∙ ap suc h)
 
 -- ---- what is looked up
-none_other : (k : Id) (es : Slots) → HaveTheirIds es → AllByRecursion (λ y. same_id k y ≡ false) (keys_of es) → list_any (λ (m : Message). same_id k m.stamp.id) (somes es) ≡ false
+none_other : (k : Id) (es : Slots) → HaveTheirIds es → AllByRecursion (λ y. same_id k y ≡ false) (keys_of es) →
+    list_any (λ (m : Message). same_id k m.stamp.id) (somes es) ≡ false
 none_other k [] own apart = refl
 none_other k (e ∷ es) own apart = by e.1 own.0 (none_other k es own.1 apart.1) apart.0
   where
-    by : (v : Option Message) → IsItsSlot e.0 v → list_any (λ (m : Message). same_id k m.stamp.id) (somes es) ≡ false → same_id k e.0 ≡ false → list_any (λ (m : Message). same_id k m.stamp.id) (put_some v (somes es)) ≡ false
+    by : (v : Option Message) → IsItsSlot e.0 v → list_any (λ (m : Message). same_id k m.stamp.id) (somes es) ≡ false → same_id k e.0 ≡ false →
+        list_any (λ (m : Message). same_id k m.stamp.id) (put_some v (somes es)) ≡ false
     by None is h a = h
     by (Some m) is h a = ap (λ b. b || list_any (λ (m : Message). same_id k m.stamp.id) (somes es)) (ap (same_id k) is ∙ a) ∙ h
 
-pub has_told : (es : Slots) (id : Id) → HaveTheirIds es → IsDistinct same_id (keys_of es) → is_there (lookup (same_id id) es) ≡ list_any (λ (m : Message). same_id id m.stamp.id) (somes es)
+pub has_told : (es : Slots) (id : Id) → HaveTheirIds es → IsDistinct same_id (keys_of es) → is_there (lookup (same_id id) es)
+    ≡ list_any (λ (m : Message). same_id id m.stamp.id) (somes es)
 unfolding IsDistinct
 has_told [] id own d = refl
 has_told (e ∷ es) id own d = by (same_id id e.0) e.1 refl own.0 (has_told es id own.1 d.1) own.1 d.0
@@ -259,7 +278,8 @@ full_lookup t [] full none = refl
 full_lookup t (e ∷ es) full none = by (t e.0) e.1 refl full none (few_somes es) (full_lookup t es)
   where
     by : (b : Bool) (v : Option Message) → t e.0 ≡ b → length (put_some v (somes es)) ≡ suc (length es) → is_there (cond (t e.0) (Some v) (lookup t es)) ≡ false
-        → length (somes es) ≤ length es → (length (somes es) ≡ length es → is_there (lookup t es) ≡ false → lookup t es ≡ None) → cond (t e.0) (Some v) (lookup t es) ≡ None
+        → length (somes es) ≤ length es → (length (somes es) ≡ length es → is_there (lookup t es) ≡ false → lookup t es ≡ None) →
+        cond (t e.0) (Some v) (lookup t es) ≡ None
     by b None is full none few rest = absurd (omega (arith, full, few))
     by true (Some m) is full none few rest = absurd (true≢false (ap (λ b. is_there (cond b (Some (Some m)) (lookup t es))) (sym is) ∙ none))
     by false (Some m) is full none few rest = ap (λ b. cond b (Some (Some m)) (lookup t es)) is

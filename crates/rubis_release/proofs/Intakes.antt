@@ -22,7 +22,8 @@ use Rattle.rubis_release.proofs.Counting.{length_counts, counts_at}
 use Rattle.rubis_release.proofs.Keeping.{is_released, settling_keeps, coming_keeps}
 
 pub among_is : (n : ℕ) (m : Message) → IsMessage m → sites_of m ≡ n → IsAmong n m
-among_is n m h e = record { conditions = h; counts = e; id = record { site = let l = h.id.site in omega (arith, l, e); positive = h.id.positive; small = h.id.small } }
+among_is n m h e = record
+    { conditions = h; counts = e; id = record { site = let l = h.id.site in omega (arith, l, e); positive = h.id.positive; small = h.id.small } }
 
 -- ---- the clock
 pub sites_of_clock : (i : Intake) (n : ℕ) (k : MessageCounts) → IsUpToDate i n → k ≡ clock_of n i.state.log → length k.counts ≡ i.place.sites
@@ -31,31 +32,35 @@ sites_of_clock i n k h e = ap (λ (x : MessageCounts). length x.counts) e ∙ le
 pub clock_is : (i : Intake) (n : ℕ) (k : MessageCounts) → IsUpToDate i n → k ≡ clock_of n i.state.log → k ≡ clock_of i.place.sites i.state.log
 clock_is i n k h e = e ∙ ap (λ x. clock_of x i.state.log) h.sites
 
-pub count_is : (i : Intake) (n : ℕ) (k : MessageCounts) → IsUpToDate i n → k ≡ clock_of n i.state.log → (j : ℕ) → j < i.place.sites → get_or k.counts j 0 ≡ counted j i.state.log
+pub count_is : (i : Intake) (n : ℕ) (k : MessageCounts) → IsUpToDate i n → k ≡ clock_of n i.state.log → (j : ℕ) → j < i.place.sites → get_or k.counts j 0
+    ≡ counted j i.state.log
 count_is i n k h e j l = ap (λ (x : MessageCounts). get_or x.counts j 0) (clock_is i n k h e) ∙ counts_at i.place.sites i.state.log j l
 
 -- ---- the start
-pub opening_holds : (p : Place) (m : Messages) (held : Option ℕ) → p.site < p.sites → p.sites ≤ 16 → 1 ≤ p.keep → p.keep ≤ 1000000 → m ≡ record { sites = p.sites; log = []; waiting = [] }
+pub opening_holds : (p : Place) (m : Messages) (held : Option ℕ) → p.site < p.sites → p.sites ≤ 16 → 1 ≤ p.keep → p.keep ≤ 1000000 → m
+    ≡ record { sites = p.sites; log = []; waiting = [] }
     → IsUpToDate (record { place = p; state = record { log = m.log; waiting = m.waiting; held = held; last = 0 } }) m.sites
-opening_holds p m held a b some c e = subst (λ (x : Messages). IsUpToDate (record { place = p; state = record { log = x.log; waiting = x.waiting; held = held; last = 0 } }) x.sites) (sym e) (record {
-  conditions = record {
-    site = a;
-    sites = b;
-    some = some;
-    keep = c;
-    kept = record {
-      few = omega arith;
-      log_sites = λ m h. absurd h;
-      waiting_sites = λ m h. absurd h;
-      released = tt;
-      others = λ m h. absurd h;
-      unreleased = λ m h. absurd h;
-      own_ids = tt;
-    };
-  };
-  sites = refl;
-  settled = λ k d l r. absurd (omega arith);
-})
+opening_holds p m held a b some c e =
+    subst (λ (x : Messages). IsUpToDate (record { place = p; state = record { log = x.log; waiting = x.waiting; held = held; last = 0 } }) x.sites) (sym e)
+    (record {
+      conditions = record {
+        site = a;
+        sites = b;
+        some = some;
+        keep = c;
+        kept = record {
+          few = omega arith;
+          log_sites = λ m h. absurd h;
+          waiting_sites = λ m h. absurd h;
+          released = tt;
+          others = λ m h. absurd h;
+          unreleased = λ m h. absurd h;
+          own_ids = tt;
+        };
+      };
+      sites = refl;
+      settled = λ k d l r. absurd (omega arith);
+    })
 
 -- ---- the next state
 pub next_holds : (i : Intake) (n : ℕ) (m : Messages) (held : Option ℕ) → IsUpToDate i n → AreKept i.place m.log m.waiting → m.sites ≡ n → HaveSettled m
@@ -67,11 +72,13 @@ next_holds i n m held h kept e settled = record {
 }
 
 -- ---- a message comes
-pub not_ours_is : (i : Intake) (n : ℕ) (k : MessageCounts) (m : Message) → IsUpToDate i n → k ≡ clock_of n i.state.log → m.stamp.id.site ≡ i.place.site → nat_lt (get_or k.counts i.place.site 0) m.stamp.id.seq ≡ not_ours i.place i.state m
+pub not_ours_is : (i : Intake) (n : ℕ) (k : MessageCounts) (m : Message) → IsUpToDate i n → k ≡ clock_of n i.state.log → m.stamp.id.site ≡ i.place.site →
+    nat_lt (get_or k.counts i.place.site 0) m.stamp.id.seq ≡ not_ours i.place i.state m
 not_ours_is i n k m h is e = λ j. sym (eq-eqb m.stamp.id.site i.place.site e) j && nat_lt (count_is i n k h is i.place.site h.conditions.site j) m.stamp.id.seq
 
 -- its number is within the count, or its id waits
-pub is_repeat_by_count : (i : Intake) (n : ℕ) (k : MessageCounts) (m : Message) → IsUpToDate i n → k ≡ clock_of n i.state.log → IsAmong i.place.sites m → (s : Id) → s ≡ m.stamp.id → (count : ℕ) → count ≡ get_or k.counts s.site 0
+pub is_repeat_by_count : (i : Intake) (n : ℕ) (k : MessageCounts) (m : Message) → IsUpToDate i n → k ≡ clock_of n i.state.log → IsAmong i.place.sites m →
+    (s : Id) → s ≡ m.stamp.id → (count : ℕ) → count ≡ get_or k.counts s.site 0
     → (nat_le s.seq count || list_any (λ (u : Message). same_id s u.stamp.id) i.state.waiting) ≡ is_repeat i.state m
 is_repeat_by_count i n k m h is a s e count here =
     ap (λ j. nat_le s.seq j || list_any (λ (u : Message). same_id s u.stamp.id) i.state.waiting) here
@@ -106,8 +113,12 @@ some_released n more = elim (eqb_tells n 0) [
   | inr e ↦ ap (λ b. cond b arrival.Held (arrival.Released n)) (sym e.0)
 ]
 
-pub came_kept : (i : Intake) (n : ℕ) (m : Message) (log waiting : List Message) → IsUpToDate i n → IsAmong i.place.sites m → IsAdmitted i.place i.state m → Settles i.state.log (i.state.waiting ++ m ∷ []) log waiting → AreKept i.place log waiting
-came_kept i n m log waiting h a t s = settling_keeps i.place i.state.log (i.state.waiting ++ m ∷ []) log waiting (coming_keeps i.place i.state m h.conditions.kept a t) s
+pub came_kept : (i : Intake) (n : ℕ) (m : Message) (log waiting : List Message) → IsUpToDate i n → IsAmong i.place.sites m → IsAdmitted i.place i.state m →
+    Settles i.state.log (i.state.waiting ++ m ∷ []) log waiting → AreKept i.place log waiting
+came_kept i n m log waiting h a t s = settling_keeps i.place i.state.log (i.state.waiting ++ m ∷ []) log waiting
+    (coming_keeps i.place i.state m h.conditions.kept a t) s
 
-pub came_is : (s : Replica) (m : Message) (log waiting : List Message) → Settles s.log (s.waiting ++ m ∷ []) log waiting → record { log = log; waiting = waiting; held = s.held; last = s.last } ≡ after_came s m
-came_is s m log waiting h = ap (λ (q : List Message × List Message). record { log = q.0; waiting = q.1; held = s.held; last = s.last }) (sym (settles_one s.log (s.waiting ++ m ∷ []) log waiting h))
+pub came_is : (s : Replica) (m : Message) (log waiting : List Message) → Settles s.log (s.waiting ++ m ∷ []) log waiting →
+    record { log = log; waiting = waiting; held = s.held; last = s.last } ≡ after_came s m
+came_is s m log waiting h = ap (λ (q : List Message × List Message). record { log = q.0; waiting = q.1; held = s.held; last = s.last })
+    (sym (settles_one s.log (s.waiting ++ m ∷ []) log waiting h))

@@ -1,5 +1,6 @@
 -- What a site's log and waiting messages keep.
-use Rattle.std.proofs.Common.{◌≡◌, ◌≢◌, ℕ, ◌+◌, ◌<◌, ◌≤◌, ◌==◌, Bool, true, false, ◌||◌, List, [], ◌∷◌, ◌++◌, length, refl, sym, ap, ◌∙◌, subst, inl, inr, ⊎_elim, arith}
+use Rattle.std.proofs.Common.{◌≡◌, ◌≢◌, ℕ, ◌+◌, ◌<◌, ◌≤◌, ◌==◌, Bool, true, false, ◌||◌, List, [], ◌∷◌, ◌++◌, length, refl, sym, ap, ◌∙◌, subst, inl, inr}
+use Rattle.std.proofs.Common.{⊎_elim, arith}
 use Rattle.std.specs.Prelude.{reverse, nat_lt, nat_le}
 use Rattle.std.specs.List.{list_any}
 use Rattle.std.proofs.lemmas.Bool.{cases_eq, or_parts, or_cases, eq-eqb, and_from, lt-ltb, le-leb, leb-true, leb-false}
@@ -63,7 +64,8 @@ released_more log m h r = subst Released (sym (reverse_push log m)) (ready_newes
 pub among_more : (n : ℕ) (xs : List Message) (m : Message) → AllAmong n xs → IsAmong n m → AllAmong n (xs ++ m ∷ [])
 among_more n xs m all a x h = ⊎_elim (λ k. all x k) (λ e. subst (IsAmong n) (sym e) a) (push_cases x m xs h)
 
-still_unreleased : (log : List Message) (m u : Message) → Ready log m → counted u.stamp.id.site log < u.stamp.id.seq → message_id u ≢ message_id m → counted u.stamp.id.site (log ++ m ∷ []) < u.stamp.id.seq
+still_unreleased : (log : List Message) (m u : Message) → Ready log m → counted u.stamp.id.site log < u.stamp.id.seq → message_id u ≢ message_id m →
+    counted u.stamp.id.site (log ++ m ∷ []) < u.stamp.id.seq
 still_unreleased log m u r l n = ⊎_elim
     (λ e.
     let more = counted_push u.stamp.id.site log m ∙ counted_yes u.stamp.id.site m log e in
@@ -73,7 +75,8 @@ still_unreleased log m u r l n = ⊎_elim
     (cases_eq m.stamp.id.site u.stamp.id.site)
 
 -- ---- a waiting message is released
-release_keeps : (p : Place) (log front back : List Message) (m : Message) → AreKept p log (front ++ m ∷ back) → Ready log m → AreKept p (log ++ m ∷ []) (front ++ back)
+release_keeps : (p : Place) (log front back : List Message) (m : Message) → AreKept p log (front ++ m ∷ back) → Ready log m →
+    AreKept p (log ++ m ∷ []) (front ++ back)
 release_keeps p log front back m k r = record {
   few = omega (arith, k.few, length_push log m, length-append front (m ∷ back), length-append front back);
   log_sites = among_more p.sites log m k.log_sites (k.waiting_sites m (has_middle m front back));
@@ -84,16 +87,20 @@ release_keeps p log front back m k r = record {
   own_ids = own_less m front back k.own_ids;
 }
 
-pub settling_keeps : (p : Place) (log waiting log' waiting' : List Message) → AreKept p log waiting → Settles log waiting log' waiting' → AreKept p log' waiting'
+pub settling_keeps : (p : Place) (log waiting log' waiting' : List Message) → AreKept p log waiting → Settles log waiting log' waiting' →
+    AreKept p log' waiting'
 settling_keeps p _ _ _ _ k (Rest log waiting h) = k
-settling_keeps p _ _ _ _ k (Release log front back log' waiting' m h r s) = settling_keeps p (log ++ m ∷ []) (front ++ back) log' waiting' (release_keeps p log front back m k r) s
+settling_keeps p _ _ _ _ k (Release log front back log' waiting' m h r s) = settling_keeps p (log ++ m ∷ []) (front ++ back) log' waiting'
+    (release_keeps p log front back m k r) s
 
 pub settling_longer : (log waiting log' waiting' : List Message) → Settles log waiting log' waiting' → length log ≤ length log'
 settling_longer _ _ _ _ (Rest log waiting h) = omega arith
-settling_longer _ _ _ _ (Release log front back log' waiting' m h r s) = let e = settling_longer (log ++ m ∷ []) (front ++ back) log' waiting' s in omega (arith, e, length_push log m)
+settling_longer _ _ _ _ (Release log front back log' waiting' m h r s) = let e = settling_longer (log ++ m ∷ []) (front ++ back) log' waiting' s in
+    omega (arith, e, length_push log m)
 
 -- ---- a message of the site itself is released
-pub making_keeps : (p : Place) (log waiting : List Message) (m : Message) → AreKept p log waiting → length log + length waiting < p.keep → m.stamp.id.site ≡ p.site → IsAmong p.sites m → Ready log m → AreKept p (log ++ m ∷ []) waiting
+pub making_keeps : (p : Place) (log waiting : List Message) (m : Message) → AreKept p log waiting → length log + length waiting < p.keep → m.stamp.id.site
+    ≡ p.site → IsAmong p.sites m → Ready log m → AreKept p (log ++ m ∷ []) waiting
 making_keeps p log waiting m k l e a r = record {
   few = omega (arith, l, length_push log m);
   log_sites = among_more p.sites log m k.log_sites a;
@@ -124,7 +131,8 @@ same_tests false true f g = g refl
 same_tests false false f g = refl
 
 -- the log has the id if and only if the number is within the count
-pub is_released : (log : List Message) (m : Message) → Released (reverse log) → 1 ≤ m.stamp.id.seq → list_any (λ (u : Message). same_id m.stamp.id u.stamp.id) log ≡ nat_le m.stamp.id.seq (counted m.stamp.id.site log)
+pub is_released : (log : List Message) (m : Message) → Released (reverse log) → 1 ≤ m.stamp.id.seq →
+    list_any (λ (u : Message). same_id m.stamp.id u.stamp.id) log ≡ nat_le m.stamp.id.seq (counted m.stamp.id.site log)
 is_released log m r one = same_tests _ _ forth back
   where
     forth : list_any (λ (u : Message). same_id m.stamp.id u.stamp.id) log ≡ true → nat_le m.stamp.id.seq (counted m.stamp.id.site log) ≡ true
@@ -132,27 +140,36 @@ is_released log m r one = same_tests _ _ forth back
         let f = has_any (λ (u : Message). same_id m.stamp.id u.stamp.id) log e in
         let same : m.stamp.id ≡ f.0.stamp.id = (Decides-same_id m.stamp.id f.0.stamp.id).0 f.2 in
         let w = seq_within (reverse log) f.0 r (has_back f.0 log f.1) in
-        le-leb m.stamp.id.seq (counted m.stamp.id.site log) (subst (λ (i : Id). i.seq ≤ counted i.site log) (sym same) (let c = counted_reverse f.0.stamp.id.site log in omega (arith, w.1, c)))
+        le-leb m.stamp.id.seq (counted m.stamp.id.site log)
+        (subst (λ (i : Id). i.seq ≤ counted i.site log) (sym same) (let c = counted_reverse f.0.stamp.id.site log in omega (arith, w.1, c)))
 
     back : nat_le m.stamp.id.seq (counted m.stamp.id.site log) ≡ true → list_any (λ (u : Message). same_id m.stamp.id u.stamp.id) log ≡ true
     back e =
-        let l : m.stamp.id.seq ≤ counted m.stamp.id.site (reverse log) = (let c = counted_reverse m.stamp.id.site log in let k = leb-true m.stamp.id.seq (counted m.stamp.id.site log) e in omega (arith, c, k)) in
+        let l : m.stamp.id.seq ≤ counted m.stamp.id.site (reverse log) =
+        (let c = counted_reverse m.stamp.id.site log in let k = leb-true m.stamp.id.seq (counted m.stamp.id.site log) e in omega (arith, c, k)) in
         let f = found (reverse log) m.stamp.id.site m.stamp.id.seq r one l in
-        any_has (λ (u : Message). same_id m.stamp.id u.stamp.id) log f.0 (has_reverse f.0 log f.1) ((Decides-same_id m.stamp.id f.0.stamp.id).1 (same_ids m f.0 (sym f.2) (sym f.3)))
+        any_has (λ (u : Message). same_id m.stamp.id u.stamp.id) log f.0 (has_reverse f.0 log f.1)
+        ((Decides-same_id m.stamp.id f.0.stamp.id).1 (same_ids m f.0 (sym f.2) (sym f.3)))
 
-pub coming_keeps : (p : Place) (s : Replica) (m : Message) → AreKept p s.log s.waiting → IsAmong p.sites m → IsAdmitted p s m → AreKept p s.log (s.waiting ++ m ∷ [])
+pub coming_keeps : (p : Place) (s : Replica) (m : Message) → AreKept p s.log s.waiting → IsAmong p.sites m → IsAdmitted p s m →
+    AreKept p s.log (s.waiting ++ m ∷ [])
 coming_keeps p s m k a t = record {
   few = omega (arith, room, length_push s.waiting m);
   log_sites = k.log_sites;
   waiting_sites = among_more p.sites s.waiting m k.waiting_sites a;
   released = k.released;
   others = λ x h. ⊎_elim (λ l. k.others x l) (λ e. subst (λ (u : Message). u.stamp.id.site ≢ p.site) (sym e) other) (push_cases x m s.waiting h);
-  unreleased = λ x h. ⊎_elim (λ l. k.unreleased x l) (λ e. subst (λ (u : Message). counted u.stamp.id.site s.log < u.stamp.id.seq) (sym e) new) (push_cases x m s.waiting h);
-  own_ids = own_more m s.waiting k.own_ids (λ u h q. true≢false (sym (any_has (λ (x : Message). same_id m.stamp.id x.stamp.id) s.waiting u h ((Decides-same_id m.stamp.id u.stamp.id).1 q)) ∙ parts.1));
+  unreleased = λ x h. ⊎_elim (λ l. k.unreleased x l) (λ e. subst (λ (u : Message). counted u.stamp.id.site s.log < u.stamp.id.seq) (sym e) new)
+      (push_cases x m s.waiting h);
+  own_ids = own_more m s.waiting k.own_ids
+      (λ u h q. true≢false (sym (any_has (λ (x : Message). same_id m.stamp.id x.stamp.id) s.waiting u h ((Decides-same_id m.stamp.id u.stamp.id).1 q))
+      ∙ parts.1));
 }
   where
-    parts : (list_any (λ (u : Message). same_id m.stamp.id u.stamp.id) s.log ≡ false) × (list_any (λ (u : Message). same_id m.stamp.id u.stamp.id) s.waiting ≡ false)
-    parts = or_parts (list_any (λ (u : Message). same_id m.stamp.id u.stamp.id) s.log) (list_any (λ (u : Message). same_id m.stamp.id u.stamp.id) s.waiting) t.new
+    parts : (list_any (λ (u : Message). same_id m.stamp.id u.stamp.id) s.log ≡ false)
+        × (list_any (λ (u : Message). same_id m.stamp.id u.stamp.id) s.waiting ≡ false)
+    parts = or_parts (list_any (λ (u : Message). same_id m.stamp.id u.stamp.id) s.log)
+        (list_any (λ (u : Message). same_id m.stamp.id u.stamp.id) s.waiting) t.new
 
     room : length s.log + length s.waiting < p.keep
     room = leb-false p.keep (length s.log + length s.waiting) t.room
@@ -161,4 +178,6 @@ coming_keeps p s m k a t = record {
     new = leb-false m.stamp.id.seq (counted m.stamp.id.site s.log) (sym (is_released s.log m k.released a.id.positive) ∙ parts.0)
 
     other : m.stamp.id.site ≢ p.site
-    other e = true≢false (sym (and_from (m.stamp.id.site == p.site) (nat_lt (counted p.site s.log) m.stamp.id.seq) (eq-eqb m.stamp.id.site p.site e) (lt-ltb (counted p.site s.log) m.stamp.id.seq (subst (λ j. counted j s.log < m.stamp.id.seq) e new))) ∙ t.not_ours)
+    other e = true≢false (sym
+        (and_from (m.stamp.id.site == p.site) (nat_lt (counted p.site s.log) m.stamp.id.seq) (eq-eqb m.stamp.id.site p.site e)
+        (lt-ltb (counted p.site s.log) m.stamp.id.seq (subst (λ j. counted j s.log < m.stamp.id.seq) e new))) ∙ t.not_ours)

@@ -20,7 +20,8 @@ itself : (k : Id) → same_id k k ≡ true
 itself k = (Decides-same_id k k).1 refl
 
 -- a key that stands in a slot is found
-pub not_missing : (test : Id → Bool) (es : Slots) (i : ℕ) (k : Id) (v : Option Message) → lookup test es ≡ None → slice_get es i ≡ Some (k, v) → test k ≡ true → ⊥
+pub not_missing : (test : Id → Bool) (es : Slots) (i : ℕ) (k : Id) (v : Option Message) → lookup test es ≡ None → slice_get es i ≡ Some (k, v) → test k ≡ true →
+    ⊥
 not_missing test [] i k v none there passes = absurd cc
 not_missing test (e ∷ es) i k v none there passes = at (test e.0) i refl none there (λ j. not_missing test es j k v)
   where
@@ -30,13 +31,15 @@ not_missing test (e ∷ es) i k v none there passes = at (test e.0) i refl none 
     at false zero is none there rest = let same : e ≡ (k, v) = cc in true≢false (sym passes ∙ ap (λ (x : Id × Option Message). test x.0) (sym same) ∙ is)
     at false (suc j) is none there rest = rest j (ap (λ b. cond b (Some e.1) (lookup test es)) (sym is) ∙ none) there passes
 
-all_at : (x : Id) (es : Slots) (i : ℕ) (k : Id) (v : Option Message) → AllByRecursion (λ y. same_id x y ≡ false) (keys_of es) → slice_get es i ≡ Some (k, v) → same_id x k ≡ false
+all_at : (x : Id) (es : Slots) (i : ℕ) (k : Id) (v : Option Message) → AllByRecursion (λ y. same_id x y ≡ false) (keys_of es) → slice_get es i ≡ Some (k, v) →
+    same_id x k ≡ false
 all_at x [] i k v h there = absurd cc
 all_at x (e ∷ es) zero k v h there = let same : e ≡ (k, v) = cc in ap (λ (y : Id × Option Message). same_id x y.0) (sym same) ∙ h.0
 all_at x (e ∷ es) (suc i) k v h there = all_at x es i k v h.1 there
 
 -- a key stands in one slot
-pub one_place : (es : Slots) (a b : ℕ) (k : Id) (v w : Option Message) → IsDistinct same_id (keys_of es) → slice_get es a ≡ Some (k, v) → slice_get es b ≡ Some (k, w) → a ≡ b
+pub one_place : (es : Slots) (a b : ℕ) (k : Id) (v w : Option Message) → IsDistinct same_id (keys_of es) → slice_get es a ≡ Some (k, v) → slice_get es b
+    ≡ Some (k, w) → a ≡ b
 unfolding IsDistinct
 one_place [] a b k v w d here there = absurd cc
 one_place (e ∷ es) zero zero k v w d here there = refl
@@ -78,8 +81,10 @@ module _ (clock : MessageCounts) (es : Slots) (site : ℕ) where
   pub first_joined : (a b : Option ℕ) → IsFirstOf clock es (λ j. j < site) a → IsFirstOf clock es (λ j. j ≡ site) b
       → IsFirstOf clock es (λ j. j < site + 1) (first_of a b)
   first_joined None None h g = λ i k m there ready pass. ⊎_elim (λ l. h i k m there ready l) (λ e. g i k m there ready e) (below_or m.stamp.id.site site pass)
-  first_joined None (Some b) h g = (g.0, λ i k m there ready pass. ⊎_elim (λ l. absurd (h i k m there ready l)) (λ e. g.1 i k m there ready e) (below_or m.stamp.id.site site pass))
-  first_joined (Some a) None h g = (h.0, λ i k m there ready pass. ⊎_elim (λ l. h.1 i k m there ready l) (λ e. absurd (g i k m there ready e)) (below_or m.stamp.id.site site pass))
+  first_joined None (Some b) h g =
+      (g.0, λ i k m there ready pass. ⊎_elim (λ l. absurd (h i k m there ready l)) (λ e. g.1 i k m there ready e) (below_or m.stamp.id.site site pass))
+  first_joined (Some a) None h g =
+      (h.0, λ i k m there ready pass. ⊎_elim (λ l. h.1 i k m there ready l) (λ e. absurd (g i k m there ready e)) (below_or m.stamp.id.site site pass))
   first_joined (Some a) (Some b) h g = (
     one_of a b (min a b) (min_is a b) h.0 g.0,
     λ i k m there ready pass. ⊎_elim
@@ -122,7 +127,8 @@ module _ (clock : MessageCounts) (es : Slots) (id : Id) (own : HaveTheirIds es) 
   missing_none none = λ i k m there ready pass.
       not_missing (same_id id) es i k (Some m) none there ((Decides-same_id id k).1 (sym (id_of_ready i k m there ready pass)))
 
-  module _ (at : ℕ) (key : Id) (v : Option Message) (distinct : IsDistinct same_id (keys_of es)) (here : slice_get es at ≡ Some (key, v)) (passes : same_id id key ≡ true) where
+  module _ (at : ℕ) (key : Id) (v : Option Message) (distinct : IsDistinct same_id (keys_of es)) (here : slice_get es at ≡ Some (key, v))
+      (passes : same_id id key ≡ true) where
     place_is : (i : ℕ) (k : Id) (m : Message) → slice_get es i ≡ Some (k, Some m) → IsReady clock m.stamp → m.stamp.id.site ≡ id.site → at ≡ i
     place_is i k m there ready pass =
         let same : k ≡ key = id_of_ready i k m there ready pass ∙ (Decides-same_id id key).0 passes in
@@ -142,7 +148,8 @@ module _ (clock : MessageCounts) (es : Slots) (id : Id) (own : HaveTheirIds es) 
     )
 
 -- of all sites, where as many were looked at
-pub first_wider : (clock : MessageCounts) (es : Slots) (n site : ℕ) → n ≤ site → (o : Option ℕ) → IsFirstOf clock es (λ j. j < site) o → IsFirstOf clock es (λ j. j < n) o
+pub first_wider : (clock : MessageCounts) (es : Slots) (n site : ℕ) → n ≤ site → (o : Option ℕ) → IsFirstOf clock es (λ j. j < site) o →
+    IsFirstOf clock es (λ j. j < n) o
 first_wider clock es n site l None h = λ i k m there ready pass. h i k m there ready (omega (arith, pass, l))
 first_wider clock es n site l (Some at) h = (h.0, λ i k m there ready pass. h.1 i k m there ready (omega (arith, pass, l)))
 

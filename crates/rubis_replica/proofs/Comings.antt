@@ -29,7 +29,8 @@ pub takes_none : (p : Place) (s : Replica) (messages : List Message) → TakesFi
 takes_none p s messages = record { taken = []; parts = refl; state = refl; told = refl }
 
 -- the first of the rest too
-pub takes_next : (p : Place) (old now new : Replica) (messages rest : List Message) (answers : List (Result Arrival Refusal)) (m : Message) (a : Result Arrival Refusal)
+pub takes_next : (p : Place) (old now new : Replica) (messages rest : List Message) (answers : List (Result Arrival Refusal)) (m : Message)
+    (a : Result Arrival Refusal)
     → TakesFirst p old now messages answers (m ∷ rest) → (new, a) ≡ arrived p now m → TakesFirst p old new messages (answers ++ a ∷ []) rest
 takes_next p old now new messages rest answers m a h e = record {
   taken = h.taken ++ m ∷ [];

@@ -56,12 +56,14 @@ best_fits : (sites : ℕ) (o : Option Best) → IfSome o (λ b. IsId sites b.bid
 best_fits sites None h = tt
 best_fits sites (Some b) h = h
 
-winner_fits : (sites : ℕ) (o : Option ItemRow) → ItemFits sites o → IfSome (option_and_then (λ (i : ItemRow). option_map (λ (b : Best). b.bid) i.best) o) (IsId sites)
+winner_fits : (sites : ℕ) (o : Option ItemRow) → ItemFits sites o →
+    IfSome (option_and_then (λ (i : ItemRow). option_map (λ (b : Best). b.bid) i.best) o) (IsId sites)
 winner_fits sites None h = tt
 winner_fits sites (Some i) h = best_fits sites i.best h.1
 
 -- the shadow of an ask within the limits is within them
-pub decided_fits : (sites : ℕ) (t : Tables) (s : Standing) (ask : Ask) (x : Shadow) → AllInLimits sites t → IsAsk sites ask → decision (row_by_key t) s ask ≡ Ok x → InLimits sites x
+pub decided_fits : (sites : ℕ) (t : Tables) (s : Standing) (ask : Ask) (x : Shadow) → AllInLimits sites t → IsAsk sites ask → decision (row_by_key t) s ask
+    ≡ Ok x → InLimits sites x
 decided_fits sites t s ask x h g e =
     subst (InLimits sites) (granted (row_by_key t) s ask x e).1 (shadow_limits sites (row_by_key t) s ask (granted (row_by_key t) s ask x e).0 g (λ c same asks.
     let item = row_fits sites (map.get t (key.Item c.item)) (h (key.Item c.item)) in
@@ -94,7 +96,8 @@ module _ (old : SiteState) (place : Place) (state : Replica) (batch : ℕ) (f : 
   pub log_misfits : (ms : List Misfit) → AreOfTheLog f.tables ms → ms ≡ (fold_of (cores old.state.log)).misfits
   log_misfits ms h =
       let whole_log : take f.progress.applied state.log ≡ old.state.log = all_at state.log f all_applied ∙ ap (λ (r : Replica). r.log) same_state in
-      h (length f.tables) (cores (take f.progress.applied state.log)) follows.some (follows.rests (ap left_of all_applied)) ∙ ap (λ l. (fold_of (cores l)).misfits) whole_log
+      h (length f.tables) (cores (take f.progress.applied state.log)) follows.some (follows.rests (ap left_of all_applied))
+      ∙ ap (λ l. (fold_of (cores l)).misfits) whole_log
 
   -- so it decides by the model
   pub same_decision : (st : Standing) (ask : Ask) → st ≡ standing_of place.keep state → decision_at old ask ≡ decision (row_by_key (union f.tables)) st ask
@@ -106,7 +109,8 @@ module _ (old : SiteState) (place : Place) (state : Replica) (batch : ℕ) (f : 
   pub decided_limits : (st : Standing) (ask : Ask) (x : Shadow) → IsIntake (record { place = place; state = state }) → IsAsk old.place.sites ask
       → decision (row_by_key (union f.tables)) st ask ≡ Ok x → InLimits old.place.sites x
   decided_limits st ask x intake asks e =
-      let within = subst (λ (p : Place). AllInLimits p.sites (fold_of (cores state.log)).tables) same_place (log_in_limits (record { place = place; state = state }) intake) in
+      let within = subst (λ (p : Place). AllInLimits p.sites (fold_of (cores state.log)).tables) same_place
+      (log_in_limits (record { place = place; state = state }) intake) in
       let tables = tables_of_log state.log f follows all_applied in
       decided_fits old.place.sites (union f.tables) st ask x (subst (AllInLimits old.place.sites) (sym tables) within) asks e
 

@@ -15,7 +15,8 @@ Extends log new = (more : List Message) × (new ≡ log ++ more)
 pub settle_extends : (n : ℕ) (log waiting : List Message) → Extends log (settle n log waiting).0
 settle_extends zero log waiting = ([], sym (append-nil log))
 settle_extends (suc n) log waiting =
-    elim (first_ready log waiting) as (λ o. Extends log (elim o as (λ _. List Message × List Message) [ None ↦ (log, waiting) | Some p ↦ settle n (log ++ p.0 ∷ []) p.1 ]).0) [
+    elim (first_ready log waiting) as
+    (λ o. Extends log (elim o as (λ _. List Message × List Message) [ None ↦ (log, waiting) | Some p ↦ settle n (log ++ p.0 ∷ []) p.1 ]).0) [
       | None ↦ ([], sym (append-nil log))
       | Some p ↦ let r = settle_extends n (log ++ p.0 ∷ []) p.1 in (p.0 ∷ r.0, r.1 ∙ append_assoc log (p.0 ∷ []) r.0)
     ]

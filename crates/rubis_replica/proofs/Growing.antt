@@ -1,5 +1,6 @@
 -- A site's log grows at its end, and the tables that follow it follow it still.
-use Rattle.std.proofs.Common.{◌≡◌, ℕ, zero, suc, ◌<◌, Bool, true, false, cond, List, [], ◌∷◌, ◌++◌, length, take, sym, ap, ◌∙◌, subst, append_assoc, refl, arith}
+use Rattle.std.proofs.Common.{◌≡◌, ℕ, zero, suc, ◌<◌, Bool, true, false, cond, List, [], ◌∷◌, ◌++◌, length, take, sym, ap, ◌∙◌, subst, append_assoc, refl}
+use Rattle.std.proofs.Common.{arith}
 use Rattle.std.specs.Prelude.{◌==◌, ◌||◌, Option, Some, None, Result, nat_le}
 use Rattle.std.proofs.Math.Seq.{take-length}
 use Rattle.rubis_shadow.specs.declared.shadows.Shadow.{Shadow}
@@ -76,5 +77,6 @@ pub tables_so_far : (s : SiteState) (place : Place) (state : Replica) (batch : �
     → record { place = place; state = state; progress = f.progress; batch = batch } ≡ s → FollowsLog state.log f → left_of s.progress ≡ 0
     → union f.tables ≡ (fold_of (cores (take s.progress.applied s.state.log))).tables
 tables_so_far s place state batch f same h left =
-    union_of_log (length f.tables) (cores (take f.progress.applied state.log)) f.tables h.some (h.rests (ap (λ (x : SiteState). left_of x.progress) same ∙ left))
+    union_of_log (length f.tables) (cores (take f.progress.applied state.log)) f.tables h.some
+    (h.rests (ap (λ (x : SiteState). left_of x.progress) same ∙ left))
     ∙ ap (λ (x : SiteState). (fold_of (cores (take x.progress.applied x.state.log))).tables) same

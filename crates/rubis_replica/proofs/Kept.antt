@@ -39,4 +39,5 @@ log_in_limits i h = within i.state.log (log_counts i h) (all_by IsMessage i.stat
     within [] counts formed = opening_in_limits i.place.sites
     within (m ∷ log) counts formed =
         subst (λ (xs : List Message). AllInLimits i.place.sites (fold_of (cores xs)).tables) (take-length (m ∷ log))
-        (log_within (m ∷ log) 0 (length (m ∷ log)) (omega arith) (omega arith) (All-take IsMessage _ (m ∷ log) formed) i.place.sites counts (opening_in_limits i.place.sites))
+        (log_within (m ∷ log) 0 (length (m ∷ log)) (omega arith) (omega arith) (All-take IsMessage _ (m ∷ log) formed) i.place.sites counts
+        (opening_in_limits i.place.sites))

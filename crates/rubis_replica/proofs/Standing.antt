@@ -86,7 +86,8 @@ module _ (log : List Message) (from upto left : ℕ) (stops : List ℕ) (ts : Li
 pub begun_fewer : (log : List Message) (p : Progress) → IsProgress log p → 0 < left_of p → left_of p < length (parts_between log p.applied (end_of p))
 begun_fewer log p h = on p.stage h.stage
   where
-    on : (s : Stage) → IsStage log p.applied s → 0 < left_of (record p { stage = s }) → left_of (record p { stage = s }) < length (parts_between log p.applied (end_of (record p { stage = s })))
+    on : (s : Stage) → IsStage log p.applied s → 0 < left_of (record p { stage = s }) →
+        left_of (record p { stage = s }) < length (parts_between log p.applied (end_of (record p { stage = s })))
     on Level h l = absurd (omega (arith, l))
     on (Keeping upto) h l = absurd (omega (arith, l))
     on (Begun upto left) h l = h.1
@@ -127,11 +128,13 @@ follows_more log more f h =
           record {
             within = s.within;
             holds = stops_inside log more f.progress.applied (end_of f.progress) f.stops f.tables inside s.within s.holds;
-            left = s.left ∙ ap (λ xs. parts_behind (length f.tables) f.stops f.progress.applied (cores xs)) (sym (slice_inside f.progress.applied (end_of f.progress) log more on inside));
+            left = s.left ∙ ap (λ xs. parts_behind (length f.tables) f.stops f.progress.applied (cores xs))
+                (sym (slice_inside f.progress.applied (end_of f.progress) log more on inside));
           };
     }
   where
-    stage_inside : (s : Stage) → f.progress.applied ≤ end_of (record { applied = f.progress.applied; stage = s }) → end_of (record { applied = f.progress.applied; stage = s }) ≤ length log
+    stage_inside : (s : Stage) → f.progress.applied ≤ end_of (record { applied = f.progress.applied; stage = s }) →
+        end_of (record { applied = f.progress.applied; stage = s }) ≤ length log
         → IsStage log f.progress.applied s → IsStage (log ++ more) f.progress.applied s
     stage_inside Level on l h = tt
     stage_inside (Keeping upto) on l h = h

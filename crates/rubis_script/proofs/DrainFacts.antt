@@ -62,7 +62,8 @@ off_waited text left now now2 (inl (out, none)) = off_all text left now now2 out
 off_waited text left now now2 (inr (same, waits)) = subst (λ l. WritesOff text l now now2) (sym waits) (off_none text now now2 same)
 
 -- more was written after it
-pub off_more : (text mid left : List ℕ) (old now now2 : Option (List ℕ)) → WritesOff text mid old now → WritesOff mid left now now2 → WritesOff text left old now2
+pub off_more : (text mid left : List ℕ) (old now now2 : Option (List ℕ)) → WritesOff text mid old now → WritesOff mid left now now2 →
+    WritesOff text left old now2
 off_more text mid left old now now2 first second = record {
   out = first.out ++ second.out;
   appended = appends_more old now now2 first.out second.out first.appended second.appended;
@@ -103,7 +104,8 @@ listed_front old mid w n l fields sink sink2 now now2 keeps input front more =
 -- ---- a run that reads each record when those before it are answered
 
 pub progress-part : {R : Type 0} (rem : R → Option (List ℕ)) (a : Records R) (all more : Account) (old now now2 : Option (List ℕ)) (sink left : List ℕ)
-    (n : ℕ) (input : List ℕ) → WritesOff sink left now now2 → HasComeSoFar rem a all more old now sink n input → HasComeSoFar rem a all more old now2 left n input
+    (n : ℕ) (input : List ℕ) → WritesOff sink left now now2 → HasComeSoFar rem a all more old now sink n input →
+    HasComeSoFar rem a all more old now2 left n input
 progress-part rem a all more old now now2 sink left n input off p = record {
   done = p.done;
   rest = p.rest;
@@ -204,7 +206,8 @@ pub stands_listed : (s s2 : SiteState) (rest : List Parsed) (l : Listing) (w w2 
     → Stands s (stopped_at (Some l) ++ rest) w sink answered first old now records later → Stands s2 rest w2 sink2 (answered + 1) first old now2 records later
 stands_listed s s2 rest l w w2 first old now now2 sink sink2 answered records later (text, answers, off) steps stands =
     stands_part s2 rest w2 first old now now2 text sink2 (answered + 1) records later off
-    (stands-answered s s2 (stopped_at (Some l) ++ rest) rest (parsed.Asked (request.List l)) w w2 first old now sink text answered records later refl answers steps stands)
+    (stands-answered s s2 (stopped_at (Some l) ++ rest) rest (parsed.Asked (request.List l)) w w2 first old now sink text answered records later refl answers
+    steps stands)
 
 -- memory ran out in the middle of it
 pub stands_front : (s : SiteState) (rest : List Parsed) (l : Listing) (w : List Message) (first : SiteState) (old now now2 : Option (List ℕ))

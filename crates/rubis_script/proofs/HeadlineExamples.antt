@@ -76,7 +76,8 @@ both_led = λ i. (input_step there (input_step there (opening_at 1) 1 (token_is 
 
 both_told : answers there (opening_at 1) 1 both ≡ all_rows
 unfolding answers
-both_told = λ i. (input_step there (opening_at 1) 1 (token_is i)).1 ++ ((input_step there (input_step there (opening_at 1) 1 (token_is i)).0 2 (pass_is i)).1 ++ [])
+both_told = λ i. (input_step there (opening_at 1) 1 (token_is i)).1
+    ++ ((input_step there (input_step there (opening_at 1) 1 (token_is i)).0 2 (pass_is i)).1 ++ [])
 
 -- rows with the same text are the same
 abbrev HaveFirst : List (List (List ℕ)) → Type 0
@@ -96,7 +97,8 @@ same_rows rows others some mark more unmarked e = sym (rows_back rows some mark)
 
 first_is_not_all : rows_text first_rows ≡ rows_text all_rows → ⊥
 first_is_not_all e =
-    let same = same_rows first_rows all_rows (have_fields first_rows tt) (no_mark (rows_text first_rows) refl) (have_fields all_rows tt) (no_mark (rows_text all_rows) refl) e in
+    let same = same_rows first_rows all_rows (have_fields first_rows tt) (no_mark (rows_text first_rows) refl) (have_fields all_rows tt)
+    (no_mark (rows_text all_rows) refl) e in
     let many = ap length same in
     absurd (omega (arith, many))
 

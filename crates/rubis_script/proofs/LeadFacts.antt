@@ -1,5 +1,6 @@
 -- Where records lead a site, one after the other.
-use Rattle.std.proofs.Common.{◌≡◌, ◌∙◌, ◌+◌, ◌++◌, ◌∷◌, [], ℕ, List, Option, Some, None, ap, append-nil, append_assoc, arith, length, length-append, refl, subst, sym, take}
+use Rattle.std.proofs.Common.{◌≡◌, ◌∙◌, ◌+◌, ◌++◌, ◌∷◌, [], ℕ, List, Option, Some, None, ap, append-nil, append_assoc, arith, length, length-append, refl}
+use Rattle.std.proofs.Common.{subst, sym, take}
 use Rattle.std.specs.Prelude.{IfSome, Result, Ok, Err, ⊤}
 use Rattle.std.proofs.Math.Seq.{take-append_seam}
 use Rattle.std.specs.Io.KnownBytes.{Appends}
@@ -85,7 +86,8 @@ pub led_kept : (first s s2 : SiteState) (w w2 : List Message) (answered : ℕ) (
 led_kept first s s2 w w2 answered records (place, state) h = record { place = place ∙ h.place; state = state ∙ h.state }
 
 -- a record more leads on
-pub led_more : (first s s2 : SiteState) (w w2 : List Message) (done rest : List (List (List ℕ))) (fields : List (List ℕ)) (answered : ℕ) (records : List (List (List ℕ)))
+pub led_more : (first s s2 : SiteState) (w w2 : List Message) (done rest : List (List (List ℕ))) (fields : List (List ℕ)) (answered : ℕ)
+    (records : List (List (List ℕ)))
     → records ≡ done ++ (fields ∷ rest) → length done ≡ answered → StepsOn (answered + 1) (input_of s.place.sites fields) s w s2 w2
     → HasLed first s w answered records → HasLed first s2 w2 (answered + 1) records
 led_more first s s2 w w2 done rest fields answered records parts count (place, state) h =
@@ -131,7 +133,8 @@ ends_run limit first new (Some bytes) old now (Err fault.Write) h = tt
 
 -- and its records lead to where it ends
 pub ends_led : (limit : ℕ) (first new : SiteState) (input old now : Option (List ℕ)) (result : Result Count RunFault)
-    → IfSome input (λ bytes. SiteEnds limit first new old now (input_records bytes) result) → OfRead limit input result (λ records. HasAnswered first new old now records)
+    → IfSome input (λ bytes. SiteEnds limit first new old now (input_records bytes) result) →
+    OfRead limit input result (λ records. HasAnswered first new old now records)
 ends_led limit first new None old now (Ok count) h = tt
 ends_led limit first new None old now (Err fault.TooLong) h = tt
 ends_led limit first new None old now (Err fault.Read) h = tt
@@ -178,9 +181,11 @@ stands_as old new before after records opened h keep readings (kept, read) =
       λ within. record { within = within; messages = ap (λ (s : Replica). s.log) state; rows = tt },
     )
 
-pub as_process : (old new : SiteState) (limit : ℕ) (input before after : Option (List ℕ)) (result : Result Count RunFault) → old.state ≡ opening_at old.place.site
+pub as_process : (old new : SiteState) (limit : ℕ) (input before after : Option (List ℕ)) (result : Result Count RunFault) → old.state
+    ≡ opening_at old.place.site
     → OfRead limit input result (λ records. HasAnswered old new before after records)
     → OfRead limit input result (λ records. WritesAsProcess old.place before after records × StandsAsProcess old.place new.state records)
 as_process old new limit input before after result opened h =
-    of_read_so (λ records. HasAnswered old new before after records) (λ records. WritesAsProcess old.place before after records × StandsAsProcess old.place new.state records) limit input result
+    of_read_so (λ records. HasAnswered old new before after records)
+    (λ records. WritesAsProcess old.place before after records × StandsAsProcess old.place new.state records) limit input result
     (λ records done. (writes_as old new before after records opened done, stands_as old new before after records opened done)) h

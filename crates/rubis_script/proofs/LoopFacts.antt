@@ -1,5 +1,6 @@
 -- What a desk that holds nothing has still to write, how many records are answered, and where they lead.
-use Rattle.std.proofs.Common.{◌++◌, ◌∷◌, ◌∙◌, zero, suc, append-nil, append_assoc, length-append, ◌≡◌, ◌≤◌, ◌<◌, ◌+◌, ◌⊎◌, inl, inr, [], ℕ, All, List, Option, arith, length, refl, subst, sym, ap, take}
+use Rattle.std.proofs.Common.{◌++◌, ◌∷◌, ◌∙◌, zero, suc, append-nil, append_assoc, length-append, ◌≡◌, ◌≤◌, ◌<◌, ◌+◌, ◌⊎◌, inl, inr, [], ℕ, All, List, Option}
+use Rattle.std.proofs.Common.{arith, length, refl, subst, sym, ap, take}
 use Rattle.std.specs.Io.KnownBytes.{Appends}
 use Rattle.rubis_script.specs.Headline.{AnswersAll, AnswersFirst, AnswersJust, Settles, StepsOn}
 use Rattle.rubis_script.specs.SiteRuns.{told_by}
@@ -21,7 +22,8 @@ use Rattle.rubis_reading.specs.Chunked.{HasPending}
 use Rattle.rubis_reading.specs.declared.chunks.Chunks.{Chunks}
 use Rattle.rubis_reading.specs.Parsed.{AreParsed, FitsIn, meant}
 use Rattle.rubis_reading.proofs.RunFacts.{window-singles}
-use Rattle.rubis_reading.proofs.AheadFacts.{ahead-answered, ahead-done, ahead-kept, ahead-prefix, ahead-read, ahead-starts, ahead-too_long, ahead-written, all-fit}
+use Rattle.rubis_reading.proofs.AheadFacts.{ahead-answered, ahead-done, ahead-kept, ahead-prefix, ahead-read, ahead-starts, ahead-too_long, ahead-written}
+use Rattle.rubis_reading.proofs.AheadFacts.{all-fit}
 use Rattle.rubis_reading.specs.declared.parsed.Parsed.{Parsed}
 use Rattle.rubis_replica.specs.State.{SiteState}
 use Rattle.rubis_engine.specs.Accounts.Ending.{AtEnd, Cut}
@@ -64,7 +66,8 @@ sound-same s s2 plan plan2 b place same h = record {
 }
 
 -- what was read ahead is taken apart
-pub sound-single : (s : SiteState) (plan : Plan) (b b2 : Backlog) → flat b2.ahead ≡ flat b.ahead → AreSingle b2.ahead → b2.window.items ≡ b.window.items → b2.answered ≡ b.answered
+pub sound-single : (s : SiteState) (plan : Plan) (b b2 : Backlog) → flat b2.ahead ≡ flat b.ahead → AreSingle b2.ahead → b2.window.items ≡ b.window.items →
+    b2.answered ≡ b.answered
     → IsSound s plan b → IsSound s plan b2
 sound-single s plan b b2 ahead single window count h = record {
   held = subst (λ k. AreHeld s.place b2.window.items k) (sym count) (subst (λ w. AreHeld s.place w b.answered) (sym window) h.held);
@@ -74,7 +77,8 @@ sound-single s plan b b2 ahead single window count h = record {
 }
 
 -- as many were answered as were to be, and there are more
-pub stop-count : (before after left many : ℕ) (ahead : List Stretch) → (after ≡ before + left) ⊎ (ahead ≡ []) → after + length (flat ahead) ≡ before + many → left < many
+pub stop-count : (before after left many : ℕ) (ahead : List Stretch) → (after ≡ before + left) ⊎ (ahead ≡ []) → after + length (flat ahead) ≡ before + many →
+    left < many
     → after ≤ before + left → (after ≡ before + left) × (0 < length (flat ahead))
 stop-count before after left many ahead stop count more within =
     elim stop [
@@ -83,14 +87,16 @@ stop-count before after left many ahead stop count more within =
     ]
 
 -- what a list was read from, as its reader and its owner name them
-pub fits-read : (sites s : ℕ) (rows : List (List (List ℕ))) (items list : List Parsed) → s ≡ sites → list ≡ items → AreParsed s rows items → All (λ p. FitsIn sites p) list
+pub fits-read : (sites s : ℕ) (rows : List (List (List ℕ))) (items list : List Parsed) → s ≡ sites → list ≡ items → AreParsed s rows items →
+    All (λ p. FitsIn sites p) list
 fits-read sites s rows items list same is h =
     subst (λ l. All (λ p. FitsIn sites p) l) (sym is) (all-fit sites rows items (subst (λ k. AreParsed k rows items) same h))
 
 pub parsed-read : (sites s : ℕ) (text text2 : List ℕ) (items list : List Parsed) → s ≡ sites → text ≡ text2 → list ≡ items
     → AreParsed s (input_records text) items → AreParsed sites (input_records text2) list
 parsed-read sites s text text2 items list same shown is h =
-    subst (λ l. AreParsed sites (input_records text2) l) (sym is) (subst (λ t. AreParsed sites (input_records t) items) shown (subst (λ k. AreParsed k (input_records text) items) same h))
+    subst (λ l. AreParsed sites (input_records text2) l) (sym is)
+    (subst (λ t. AreParsed sites (input_records t) items) shown (subst (λ k. AreParsed k (input_records text) items) same h))
 
 -- what holds of a call that went well
 pub at_ok : {T E P : Type 0} (r : Result T E) (v : T) → OnOk r P → r ≡ Ok v → P
@@ -103,11 +109,13 @@ at_if_ok P (Err x) v h e = absurd cc
 
 -- nothing was read or answered yet
 pub starts : {R : Type 0} (rem : R → Option (List ℕ)) (chunks : Chunks R) (s : SiteState) (b : Backlog) (old : Option (List ℕ)) (input : List ℕ)
-    → b.ahead ≡ [] → b.window.items ≡ [] → b.reply.sink ≡ [] → b.answered ≡ 0 → HasPending rem chunks (input_records input) → HasReadAhead rem chunks s b s old old input
+    → b.ahead ≡ [] → b.window.items ≡ [] → b.reply.sink ≡ [] → b.answered ≡ 0 → HasPending rem chunks (input_records input) →
+    HasReadAhead rem chunks s b s old old input
 starts rem chunks s b old input ahead window sink none pending = record {
   later = input_records input;
   stands = record {
-    text = ahead-starts s.place.sites (flat b.ahead) (told_by s 1) (held_by s b.window.items (b.answered + 1)) old b.reply.sink (b.answered + 1) (input_records input) (ap flat ahead) sink (omega (arith, none))
+    text = ahead-starts s.place.sites (flat b.ahead) (told_by s 1) (held_by s b.window.items (b.answered + 1)) old b.reply.sink (b.answered + 1)
+        (input_records input) (ap flat ahead) sink (omega (arith, none))
         (held-told s b.window.items (b.answered + 1) window (omega (arith, none)));
     led = led_none s b.window.items b.answered (input_records input) window none;
   };
@@ -133,7 +141,8 @@ first_read sites [] p left h = absurd h
 first_read sites (fields ∷ more) p left h = (fields, more, refl, h.0.means)
 
 -- one more is answered or held
-pub stands-answered : (s s2 : SiteState) (ps left : List Parsed) (p : Parsed) (w w2 : List Message) (first : SiteState) (old now : Option (List ℕ)) (sink sink2 : List ℕ)
+pub stands-answered : (s s2 : SiteState) (ps left : List Parsed) (p : Parsed) (w w2 : List Message) (first : SiteState) (old now : Option (List ℕ))
+    (sink sink2 : List ℕ)
     (answered : ℕ) (records later : List (List (List ℕ))) → ps ≡ p ∷ left
     → ((fields : List (List ℕ)) → input_of s.place.sites fields ≡ meant p
     → AnswersRecord GoesOn (held_by s w (answered + 1)) (held_by s2 w2 (answered + 1 + 1)) sink sink2 fields)
@@ -143,9 +152,11 @@ stands-answered s s2 ps left p w w2 first old now sink sink2 answered records la
     let h = stands.text in
     let (fields, more, rows, means) = first_read s.place.sites h.next p left (subst (λ l. AreParsed s.place.sites h.next l) e h.parsed) in
     let on : StepsOn (answered + 1) (input_of s.place.sites fields) s w s2 w2 = subst (λ i. StepsOn (answered + 1) i s w s2 w2) (sym means) steps in record {
-      text = ahead-answered s.place.sites s2.place.sites ps left p (told_by first 1) (held_by s w (answered + 1)) (held_by s2 w2 (answered + 1 + 1)) old now sink sink2 (answered + 1) records later
+      text = ahead-answered s.place.sites s2.place.sites ps left p (told_by first 1) (held_by s w (answered + 1))
+          (held_by s2 w2 (answered + 1 + 1)) old now sink sink2 (answered + 1) records later
           (ap (λ p. p.sites) steps.0) e answers h;
-      led = led_more first s s2 w w2 h.done (more ++ later) fields answered records (h.parts ∙ ap (λ r. h.done ++ (r ++ later)) rows) (omega (arith, h.count)) on stands.led;
+      led = led_more first s s2 w w2 h.done (more ++ later) fields answered records (h.parts ∙ ap (λ r. h.done ++ (r ++ later)) rows)
+          (omega (arith, h.count)) on stands.led;
     }
 
 -- messages that were held are taken in
@@ -153,7 +164,8 @@ pub stands-kept : (s s2 : SiteState) (ps : List Parsed) (w w2 : List Message) (f
     (answered : ℕ) (records later : List (List (List ℕ))) → Keeps (held_by s w (answered + 1)) (held_by s2 w2 (answered + 1)) sink sink2 → Settles s w s2 w2
     → Stands s ps w sink answered first old now records later → Stands s2 ps w2 sink2 answered first old now records later
 stands-kept s s2 ps w w2 first old now sink sink2 answered records later keeps settles stands = record {
-  text = ahead-kept s.place.sites s2.place.sites ps (told_by first 1) (held_by s w (answered + 1)) (held_by s2 w2 (answered + 1)) old now sink sink2 (answered + 1) records later
+  text = ahead-kept s.place.sites s2.place.sites ps (told_by first 1) (held_by s w (answered + 1)) (held_by s2 w2 (answered + 1)) old now sink sink2
+      (answered + 1) records later
       (ap (λ p. p.sites) settles.0) keeps stands.text;
   led = led_kept first s s2 w w2 answered records settles stands.led;
 }
@@ -163,7 +175,8 @@ pub stands-written : (s : SiteState) (ps : List Parsed) (w : List Message) (firs
     (answered : ℕ) (records later : List (List (List ℕ))) → Appends now now2 sink → sink2 ≡ []
     → Stands s ps w sink answered first old now records later → Stands s ps w sink2 answered first old now2 records later
 stands-written s ps w first old now now2 sink sink2 answered records later out none stands = record {
-  text = ahead-written s.place.sites ps (told_by first 1) (held_by s w (answered + 1)) old now now2 sink sink2 (answered + 1) records later out none stands.text;
+  text = ahead-written s.place.sites ps (told_by first 1) (held_by s w (answered + 1)) old now now2 sink sink2
+      (answered + 1) records later out none stands.text;
   led = stands.led;
 }
 
@@ -180,7 +193,8 @@ pub stands-read : (s : SiteState) (ps list : List Parsed) (w : List Message) (fi
     (answered : ℕ) (records later rows rest : List (List (List ℕ))) → ps ≡ [] → later ≡ rows ++ rest → AreParsed s.place.sites rows list
     → Stands s ps w sink answered first old now records later → Stands s list w sink answered first old now records rest
 stands-read s ps list w first old now sink answered records later rows rest none split parsed stands = record {
-  text = ahead-read s.place.sites s.place.sites ps list (told_by first 1) (held_by s w (answered + 1)) old now sink (answered + 1) records later rows rest refl none split parsed stands.text;
+  text = ahead-read s.place.sites s.place.sites ps list (told_by first 1) (held_by s w (answered + 1)) old now sink
+      (answered + 1) records later rows rest refl none split parsed stands.text;
   led = stands.led;
 }
 
@@ -244,11 +258,13 @@ pub all-back : (sites : ℕ) (xs ys : List Parsed) → All (λ p. FitsIn sites p
 all-back sites [] ys h = h
 all-back sites (x ∷ xs) ys h = all-back sites xs ys (λ j e l. h (suc j) e (omega (arith, l)))
 
-pub all-held : (p : Place) (ms : List Message) (answered many : ℕ) → many ≡ length ms → All (λ x. FitsIn p.sites x) (all_came ms) → AreHeld p ms (answered + many)
+pub all-held : (p : Place) (ms : List Message) (answered many : ℕ) → many ≡ length ms → All (λ x. FitsIn p.sites x) (all_came ms) →
+    AreHeld p ms (answered + many)
 all-held p ms answered many size fits = record { sites = all-sites p.sites ms fits; few = omega (arith, size) }
 
 -- they are held, after those that are
-holds-run : (s : SiteState) (ms w : List Message) (left : List Parsed) (first : SiteState) (old now : Option (List ℕ)) (sink : List ℕ) (answered : ℕ) (records later : List (List (List ℕ)))
+holds-run : (s : SiteState) (ms w : List Message) (left : List Parsed) (first : SiteState) (old now : Option (List ℕ)) (sink : List ℕ) (answered : ℕ)
+    (records later : List (List (List ℕ)))
     → length w ≤ answered + 1 → Stands s (all_came ms ++ left) w sink answered first old now records later
     → Stands s left (w ++ ms) sink (answered + length ms) first old now records later
 holds-run s [] w left first old now sink answered records later few h =
@@ -265,7 +281,8 @@ holds-run s (m ∷ ms) w left first old now sink answered records later few h =
     (subst (λ v. Stands s left v sink (answered + 1 + length ms) first old now records later) (append_assoc w (m ∷ []) ms) more)
 
 -- those that were held were taken in, and these are held
-pub run-held : (old_site site : SiteState) (w w2 ms : List Message) (left : List Parsed) (first : SiteState) (old now : Option (List ℕ)) (sink sink2 : List ℕ) (answered many : ℕ)
+pub run-held : (old_site site : SiteState) (w w2 ms : List Message) (left : List Parsed) (first : SiteState) (old now : Option (List ℕ)) (sink sink2 : List ℕ)
+    (answered many : ℕ)
     (records later : List (List (List ℕ))) → many ≡ length ms → Settles old_site w site w2 → w2 ≡ []
     → Keeps (held_by old_site w (answered + 1)) (told_by site (answered + 1)) sink sink2
     → Stands old_site (all_came ms ++ left) w sink answered first old now records later
@@ -290,7 +307,10 @@ pub ends_ahead : {R : Type 0} (rem : R → Option (List ℕ)) (chunks : Chunks R
     → IfSome input (λ bytes. SiteEnds limit s new old now (input_records bytes) result)
 ends_ahead rem chunks s b new limit answered None old now result pending starts done long cut prefix = tt
 ends_ahead rem chunks s b new limit answered (Some bytes) old now (Ok count) pending starts done long cut prefix = done s old bytes (starts bytes pending)
-ends_ahead rem chunks s b new limit answered (Some bytes) old now (Err fault.TooLong) pending starts done long cut prefix = long refl s old bytes (starts bytes pending)
-ends_ahead rem chunks s b new limit answered (Some bytes) old now (Err fault.Read) pending starts done long cut prefix = (answered, (cut refl s old bytes (starts bytes pending)).0)
-ends_ahead rem chunks s b new limit answered (Some bytes) old now (Err fault.Memory) pending starts done long cut prefix = prefix refl s old bytes (starts bytes pending)
+ends_ahead rem chunks s b new limit answered (Some bytes) old now (Err fault.TooLong) pending starts done long cut prefix =
+    long refl s old bytes (starts bytes pending)
+ends_ahead rem chunks s b new limit answered (Some bytes) old now (Err fault.Read) pending starts done long cut prefix =
+    (answered, (cut refl s old bytes (starts bytes pending)).0)
+ends_ahead rem chunks s b new limit answered (Some bytes) old now (Err fault.Memory) pending starts done long cut prefix =
+    prefix refl s old bytes (starts bytes pending)
 ends_ahead rem chunks s b new limit answered (Some bytes) old now (Err fault.Write) pending starts done long cut prefix = tt

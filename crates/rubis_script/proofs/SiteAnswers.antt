@@ -24,7 +24,8 @@ goes_on p s n fields more = refl
 
 pub site_goes : (old new : SiteState) (n : ℕ) (fields : List (List ℕ)) (sink sink2 : List ℕ)
     → new.place ≡ old.place → IsAnswered n (input_of old.place.sites fields) old new sink sink2
-    → (more : List (List (List ℕ))) → sink ++ rows_text (answers old.place old.state n (fields ∷ more)) ≡ sink2 ++ rows_text (answers new.place new.state (n + 1) more)
+    → (more : List (List (List ℕ))) → sink ++ rows_text (answers old.place old.state n (fields ∷ more)) ≡ sink2
+    ++ rows_text (answers new.place new.state (n + 1) more)
 site_goes old new n fields sink sink2 place answered more =
     let step = input_step old.place old.state n (input_of old.place.sites fields) in
     ap (λ rows. sink ++ rows_text rows) (goes_on old.place old.state n fields more)
@@ -49,6 +50,7 @@ arrived_refused old new n m fault before after step (r, is, text) =
     let p = old.place in
     let s = old.state in
     let told : (new.state ≡ s) × ((arrived p s m).1 ≡ Err r) = subst (λ f. AnswersAsTheStep old new (arrived p s m) (Err f)) is step in (
-      told.0 ∙ sym (arrived_stays (not_ours p s m) (is_repeat s m) (is_full p.keep s) s (after_came s m) (arrival_of (length (after_came s m).log - length s.log)) r told.1),
+      told.0 ∙ sym (arrived_stays (not_ours p s m) (is_repeat s m) (is_full p.keep s) s (after_came s m)
+          (arrival_of (length (after_came s m).log - length s.log)) r told.1),
       text ∙ ap (λ a. before ++ rows_text (arrived_rows n a)) (sym told.1),
     )

@@ -1,5 +1,6 @@
 -- A run that reads each record when those before it are answered, and where these lead its site.
-use Rattle.std.proofs.Common.{◌≡◌, ◌∙◌, ◌+◌, ◌++◌, [], ℕ, List, Option, Some, None, true, false, ap, append-nil, arith, length, length-append, refl, subst, sym, take}
+use Rattle.std.proofs.Common.{◌≡◌, ◌∙◌, ◌+◌, ◌++◌, [], ℕ, List, Option, Some, None, true, false, ap, append-nil, arith, length, length-append, refl, subst, sym}
+use Rattle.std.proofs.Common.{take}
 use Rattle.std.specs.Prelude.{IfOk, IfSome, IsErrOf, Result, Ok, Err}
 use Rattle.std.specs.Io.KnownBytes.{Appends}
 use Rattle.rubis_message.specs.Message.{Message}
@@ -25,7 +26,8 @@ use Rattle.rubis_script.proofs.DrainFacts.{appends_none}
 use Rattle.rubis_script.proofs.LoopFacts.{held-end}
 
 -- nothing was answered
-pub turn_moved : {R : Type 0} (rem : R → Option (List ℕ)) (a : Records R) (s s2 : SiteState) (w w2 : List Message) (sink sink2 : List ℕ) (answered answered2 : ℕ)
+pub turn_moved : {R : Type 0} (rem : R → Option (List ℕ)) (a : Records R) (s s2 : SiteState) (w w2 : List Message) (sink sink2 : List ℕ)
+    (answered answered2 : ℕ)
     (first : SiteState) (old now now2 : Option (List ℕ)) (input : List ℕ) → s2 ≡ s → w2 ≡ w → sink2 ≡ sink → answered2 ≡ answered → now2 ≡ now
     → StandsFrom rem a s w sink answered first old now input → StandsFrom rem a s2 w2 sink2 answered2 first old now2 input
 turn_moved rem a s s2 w w2 sink sink2 answered answered2 first old now now2 input site held text count written h =
@@ -44,13 +46,16 @@ pub turn_step : {R : Type 0} (rem : R → Option (List ℕ)) (a b : Records R) (
 turn_step rem a b s s2 w w2 sink sink2 answered first old now input takes answers steps stands =
     let p = stands.text in
     let (left, same, gives) = takes p.rest p.gives in record {
-      text = progress-step rem a b (told_by first 1) (held_by s w (answered + 1)) (held_by s2 w2 (answered + 1 + 1)) old now sink sink2 (answered + 1) input p takes answers;
-      led = led_more first s s2 w w2 p.done left (fields_now b) answered (input_records input) (p.parts ∙ ap (λ t. p.done ++ t) same) (omega (arith, p.count)) steps stands.led;
+      text = progress-step rem a b (told_by first 1) (held_by s w (answered + 1)) (held_by s2 w2 (answered + 1 + 1)) old now sink sink2
+          (answered + 1) input p takes answers;
+      led = led_more first s s2 w w2 p.done left (fields_now b) answered (input_records input) (p.parts ∙ ap (λ t. p.done ++ t) same)
+          (omega (arith, p.count)) steps stands.led;
     }
 
 -- ---- what is held is taken in and written out
 
-pub drains : (held new : Account) (sink sink2 : List ℕ) (before after : Option (List ℕ)) → Keeps held new sink sink2 → Appends before after sink2 → Drained held new sink before after
+pub drains : (held new : Account) (sink sink2 : List ℕ) (before after : Option (List ℕ)) → Keeps held new sink sink2 → Appends before after sink2 →
+    Drained held new sink before after
 drains held new sink sink2 before after keeps out = record {
   out = sink2;
   appended = out;
@@ -70,7 +75,11 @@ turn_done rem a b s s2 w sink answered count first old now now2 input takes drai
     let q = progress-drained rem a (told_by first 1) (held_by s w (answered + 1)) more old now now2 sink (answered + 1) input p drained in
     let none : Appends now2 now2 (more.text AtEnd []) = subst (λ t. Appends now2 now2 t) (sym (held-end s2 [] (answered + 1) AtEnd refl)) (appends_none now2) in
     let done = progress-end rem a b (told_by first 1) more old now2 now2 [] (answered + 1) answered answered input q takes none refl refl (omega arith) in (
-      (done.0, led_all first s2 [] answered records records refl (take_all records answered done.1) (led_kept first s s2 w [] answered records settles stands.led)),
+      (
+        done.0,
+        led_all first s2 [] answered records records refl (take_all records answered done.1)
+            (led_kept first s s2 w [] answered records settles stands.led),
+      ),
       same ∙ done.1,
       omega (arith, same),
     )
@@ -112,7 +121,8 @@ turn_too_long rem a b s s2 w sink answered first old now now2 input takes draine
     )
 
 -- a run from the first record of its input on ends so
-pub ends_in_turn : {R : Type 0} (rem : R → Option (List ℕ)) (run : Run R) (first new : SiteState) (limit answered : ℕ) (input old now : Option (List ℕ)) (result : Result Count RunFault)
+pub ends_in_turn : {R : Type 0} (rem : R → Option (List ℕ)) (run : Run R) (first new : SiteState) (limit answered : ℕ) (input old now : Option (List ℕ))
+    (result : Result Count RunFault)
     → IfSome input (λ bytes. Gives rem run.records (input_records bytes)) → run.reply.sink ≡ []
     → IfOk result (λ count. FromStart rem run (λ records. AnswersAll limit first new old now records count.records))
     → (IsErrOf result fault.TooLong → FromStart rem run (λ records. AnswersFirst limit first new old now records))
@@ -122,6 +132,7 @@ pub ends_in_turn : {R : Type 0} (rem : R → Option (List ℕ)) (run : Run R) (f
 ends_in_turn rem run first new limit answered None old now result gives empty done long cut prefix = tt
 ends_in_turn rem run first new limit answered (Some bytes) old now (Ok count) gives empty done long cut prefix = done bytes gives empty
 ends_in_turn rem run first new limit answered (Some bytes) old now (Err fault.TooLong) gives empty done long cut prefix = long refl bytes gives empty
-ends_in_turn rem run first new limit answered (Some bytes) old now (Err fault.Read) gives empty done long cut prefix = (answered, (cut refl bytes gives empty).0)
+ends_in_turn rem run first new limit answered (Some bytes) old now (Err fault.Read) gives empty done long cut prefix =
+    (answered, (cut refl bytes gives empty).0)
 ends_in_turn rem run first new limit answered (Some bytes) old now (Err fault.Memory) gives empty done long cut prefix = prefix refl bytes gives empty
 ends_in_turn rem run first new limit answered (Some bytes) old now (Err fault.Write) gives empty done long cut prefix = tt

@@ -92,7 +92,8 @@ answers-length p s [] = refl
 answers-length p s (m ∷ ms) = let rest = answers-length p (arrived p s m).0 ms in omega (arith, rest)
 
 -- no more are answered than were handed in
-pub answers-few : (p : Place) (old new : Replica) (ms rest : List Message) (answers : List _) → TakesFirst p old new ms answers rest → length answers ≤ length ms
+pub answers-few : (p : Place) (old new : Replica) (ms rest : List Message) (answers : List _) → TakesFirst p old new ms answers rest →
+    length answers ≤ length ms
 answers-few p old new ms rest answers t =
     let told : length answers ≡ length t.taken = ap length t.told ∙ answers-length p old t.taken in
     let whole : length ms ≡ length t.taken + length rest = ap length t.parts ∙ length-append t.taken rest in

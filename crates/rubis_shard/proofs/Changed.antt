@@ -83,7 +83,11 @@ if_open_stays i (sale.Ended w) d e = refl
 row_kept : (k : RowKey) → ¬ IsNick k → (r : Row) (c : Change) → FreesOnlyNicks k c → IsSome (change_row c (Some r)).row
 unfolding change_row
 row_kept k other (row.Item i) (change.BidTaken b) frees = if_open_stays i i.sale _ refl
-row_kept k other (row.Item i) (change.Sold q) frees = if_open_stays i i.sale _ (elim (nat_le q i.stock) as (λ b. IsSome (cond b (fits_as (row.Item (record i { stock = i.stock - q; sold = count_up i.sold q }))) (misfits_as StockShort (Some (row.Item i)))).row) [ true ↦ refl | false ↦ refl ])
+row_kept k other (row.Item i) (change.Sold q) frees =
+    if_open_stays i i.sale _
+    (elim (nat_le q i.stock) as
+    (λ b. IsSome (cond b (fits_as (row.Item (record i { stock = i.stock - q; sold = count_up i.sold q }))) (misfits_as StockShort (Some (row.Item i)))).row)
+    [ true ↦ refl | false ↦ refl ])
 row_kept k other (row.Item i) (change.End w) frees = if_open_stays i i.sale _ refl
 row_kept k other (row.Nick i) (change.NickFreed u) frees = absurd (other frees)
 row_kept k other (row.User u) (change.Insert x) frees = refl

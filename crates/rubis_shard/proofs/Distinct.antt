@@ -73,14 +73,16 @@ module _ (r : Rows) where
       (all_append _ (keys_of cs) [] (others key.Cat (row_key k) (cat_of_key k) r.cats.entries) tt)
 
   behind_users : (es : List (IdKey × Row)) → AreUsers es
-      → AllByRecursion (λ e. AllByRecursion (λ y. key_eq (row_key e.0) y ≡ false) (keys_of (written row_key r.others.rows.entries) ++ (keys_of ns ++ (keys_of cs ++ [])))) es
+      → AllByRecursion (λ e. AllByRecursion (λ y. key_eq (row_key e.0) y ≡ false)
+      (keys_of (written row_key r.others.rows.entries) ++ (keys_of ns ++ (keys_of cs ++ [])))) es
   behind_users [] all = tt
   behind_users (e ∷ es) all = (
     all_append _ (keys_of (written row_key r.others.rows.entries)) _ (no_other (row_key e.0) all.0 r.others.rows.entries r.are_others) (others_behind e.0),
     behind_users es all.1,
   )
 
-  keys_in_order : keys_of (entries_of r) ≡ keys_of (written row_key r.users.rows.entries) ++ (keys_of (written row_key r.others.rows.entries) ++ (keys_of ns ++ (keys_of cs ++ [])))
+  keys_in_order : keys_of (entries_of r) ≡ keys_of (written row_key r.users.rows.entries)
+      ++ (keys_of (written row_key r.others.rows.entries) ++ (keys_of ns ++ (keys_of cs ++ [])))
   unfolding ns cs
   keys_in_order =
       let ss = written row_key r.users.rows.entries in
@@ -92,11 +94,13 @@ module _ (r : Rows) where
       → IsDistinct bytes_eq (keys_of r.nicks.entries) → IsDistinct nat_eq (keys_of r.cats.entries) → IsDistinct key_eq (keys_of (entries_of r))
   unfolding IsDistinct ns cs
   keys_differ users rest nicks cats =
-      let last : IsDistinct key_eq (keys_of cs ++ []) = distinct_written key.Cat nat_eq (λ k l. refl) [] tt r.cats.entries (each_of _ (λ e. tt) r.cats.entries) cats in
+      let last : IsDistinct key_eq (keys_of cs ++ []) = distinct_written key.Cat nat_eq (λ k l. refl) [] tt r.cats.entries
+      (each_of _ (λ e. tt) r.cats.entries) cats in
       let next : IsDistinct key_eq (keys_of ns ++ (keys_of cs ++ [])) = distinct_written key.Nick bytes_eq (λ k l. refl) (keys_of cs ++ []) last r.nicks.entries
       (each_of _ (λ e. all_append _ (keys_of cs) [] (others key.Cat (key.Nick e.0) (λ k. refl) r.cats.entries) tt) r.nicks.entries) nicks in
       let more = distinct_written row_key same_id_key same_as_row_keys (keys_of ns ++ (keys_of cs ++ [])) next r.others.rows.entries
       (each_of _ (λ e. others_behind e.0) r.others.rows.entries) rest in
-      let all = distinct_written row_key same_id_key same_as_row_keys (keys_of (written row_key r.others.rows.entries) ++ (keys_of ns ++ (keys_of cs ++ []))) more
+      let all = distinct_written row_key same_id_key same_as_row_keys (keys_of (written row_key r.others.rows.entries) ++ (keys_of ns ++ (keys_of cs ++ [])))
+      more
       r.users.rows.entries (behind_users r.users.rows.entries r.are_users) users in
       subst (IsDistinct key_eq) (sym keys_in_order) all

@@ -62,7 +62,8 @@ keys_passing g t get (e ∷ es) h = at (is_of (listing_of g) e.0 e.1) (holds t e
         ap (λ b. keys_of (filter (λ x. holds t x.0) (cond b (e ∷ picked_by (listing_of g) es) (picked_by (listing_of g) es)))) is
         ∙ ap (λ b. keys_of (cond b (e ∷ filter (λ x. holds t x.0) (picked_by (listing_of g) es)) (filter (λ x. holds t x.0) (picked_by (listing_of g) es)))) has
         ∙ ap (λ ks. e.0 ∷ ks) rest
-        ∙ ap (λ b. cond b (e.0 ∷ filter (λ k. is_of_row g k (get k)) (keys_of (filter (λ x. holds t x.0) es))) (filter (λ k. is_of_row g k (get k)) (keys_of (filter (λ x. holds t x.0) es)))) (sym (row ∙ is))
+        ∙ ap (λ b. cond b (e.0 ∷ filter (λ k. is_of_row g k (get k)) (keys_of (filter (λ x. holds t x.0) es)))
+        (filter (λ k. is_of_row g k (get k)) (keys_of (filter (λ x. holds t x.0) es)))) (sym (row ∙ is))
         ∙ ap (λ b. filter (λ k. is_of_row g k (get k)) (keys_of (cond b (e ∷ filter (λ x. holds t x.0) es) (filter (λ x. holds t x.0) es)))) (sym has)
     at true false is not rest =
         ap (λ b. keys_of (filter (λ x. holds t x.0) (cond b (e ∷ picked_by (listing_of g) es) (picked_by (listing_of g) es)))) is
@@ -72,7 +73,8 @@ keys_passing g t get (e ∷ es) h = at (is_of (listing_of g) e.0 e.1) (holds t e
     at false true none has rest =
         ap (λ b. keys_of (filter (λ x. holds t x.0) (cond b (e ∷ picked_by (listing_of g) es) (picked_by (listing_of g) es)))) none
         ∙ rest
-        ∙ ap (λ b. cond b (e.0 ∷ filter (λ k. is_of_row g k (get k)) (keys_of (filter (λ x. holds t x.0) es))) (filter (λ k. is_of_row g k (get k)) (keys_of (filter (λ x. holds t x.0) es)))) (sym (row ∙ none))
+        ∙ ap (λ b. cond b (e.0 ∷ filter (λ k. is_of_row g k (get k)) (keys_of (filter (λ x. holds t x.0) es)))
+        (filter (λ k. is_of_row g k (get k)) (keys_of (filter (λ x. holds t x.0) es)))) (sym (row ∙ none))
         ∙ ap (λ b. filter (λ k. is_of_row g k (get k)) (keys_of (cond b (e ∷ filter (λ x. holds t x.0) es) (filter (λ x. holds t x.0) es)))) (sym has)
     at false false none not rest =
         ap (λ b. keys_of (filter (λ x. holds t x.0) (cond b (e ∷ picked_by (listing_of g) es) (picked_by (listing_of g) es)))) none

@@ -69,21 +69,25 @@ no_user q not_user (e ∷ es) all =
 
 -- all of a map are of its kind when one was put after, and when one was changed where it stands
 module _ (P : IdKey → Type 0) where
-  pub all_set : (test : IdKey → Bool) (es : List (IdKey × Row)) (row : Row) → AllByRecursion (λ e. P e.0) es → AllByRecursion (λ e. P e.0) (set_value test es row)
+  pub all_set : (test : IdKey → Bool) (es : List (IdKey × Row)) (row : Row) → AllByRecursion (λ e. P e.0) es →
+      AllByRecursion (λ e. P e.0) (set_value test es row)
   all_set test [] row all = tt
   all_set test (e ∷ es) row all = elim (test e.0) as (λ b. AllByRecursion (λ x. P x.0) (cond b ((e.0, row) ∷ es) (e ∷ set_value test es row))) [
     | true ↦ (all.0, all.1)
     | false ↦ (all.0, all_set test es row all.1)
   ]
 
-  all_put : (es : List (IdKey × Row)) (k : IdKey) (row : Row) → P k → AllByRecursion (λ e. P e.0) es → AllByRecursion (λ e. P e.0) (insert_entry same_id_key es k row)
+  all_put : (es : List (IdKey × Row)) (k : IdKey) (row : Row) → P k → AllByRecursion (λ e. P e.0) es →
+      AllByRecursion (λ e. P e.0) (insert_entry same_id_key es k row)
   all_put [] k row own all = (own, tt)
-  all_put (e ∷ es) k row own all = elim (same_id_key k e.0) as (λ b. AllByRecursion (λ x. P x.0) (cond b ((e.0, row) ∷ es) (e ∷ insert_entry same_id_key es k row))) [
-    | true ↦ (all.0, all.1)
-    | false ↦ (all.0, all_put es k row own all.1)
-  ]
+  all_put (e ∷ es) k row own all =
+      elim (same_id_key k e.0) as (λ b. AllByRecursion (λ x. P x.0) (cond b ((e.0, row) ∷ es) (e ∷ insert_entry same_id_key es k row))) [
+        | true ↦ (all.0, all.1)
+        | false ↦ (all.0, all_put es k row own all.1)
+      ]
 
-  pub all_put_in : (put : Bool) (es fs : List (IdKey × Row)) (k : IdKey) (row : Row) → (put ≡ true → fs ≡ insert_entry same_id_key es k row) → (put ≡ false → fs ≡ es)
+  pub all_put_in : (put : Bool) (es fs : List (IdKey × Row)) (k : IdKey) (row : Row) → (put ≡ true → fs ≡ insert_entry same_id_key es k row) →
+      (put ≡ false → fs ≡ es)
       → P k → AllByRecursion (λ e. P e.0) es → AllByRecursion (λ e. P e.0) fs
   all_put_in true es fs k row put same own all = subst (AllByRecursion (λ (e : IdKey × Row). P e.0)) (sym (put refl)) (all_put es k row own all)
   all_put_in false es fs k row put same own all = subst (AllByRecursion (λ (e : IdKey × Row). P e.0)) (sym (same refl)) all
@@ -255,7 +259,8 @@ placed_for (key.Comment i) = refl
 placed_for (key.Nick n) = tt
 placed_for (key.Cat k) = tt
 
-tables_with : (es fs : Entries) (k : RowKey) (v : Option Row) → ((q : RowKey) → lookup (key_eq q) fs ≡ cond (key_eq k q) v (lookup (key_eq q) es)) → tables_of fs ≡ with_row (tables_of es) k v
+tables_with : (es fs : Entries) (k : RowKey) (v : Option Row) → ((q : RowKey) → lookup (key_eq q) fs ≡ cond (key_eq k q) v (lookup (key_eq q) es)) →
+    tables_of fs ≡ with_row (tables_of es) k v
 tables_with es fs k None h = tables_of_remove es fs k h
 tables_with es fs k (Some v) h = tables_of_update es fs k v h
 
@@ -329,7 +334,8 @@ module _ (old new : Four) (users : new.users ≡ old.users) (others : new.others
   same_entries = λ i. written row_key (users i) ++ (written row_key (others i) ++ (written key.Nick (nicks i) ++ written key.Cat (cats i)))
 
 -- a key that isn't there comes last
-pub new_last : {K : Type 0} (same : K → K → Bool) (k : K) (v : Row) (es : List (K × Row)) → lookup (same k) es ≡ None → insert_entry same es k v ≡ es ++ (k, v) ∷ []
+pub new_last : {K : Type 0} (same : K → K → Bool) (k : K) (v : Row) (es : List (K × Row)) → lookup (same k) es ≡ None → insert_entry same es k v ≡ es
+    ++ (k, v) ∷ []
 new_last same k v [] none = refl
 new_last same k v (e ∷ es) none = at (same k e.0) refl none (new_last same k v es)
   where

@@ -1,5 +1,6 @@
 -- Rows in chains: one more row, and that no row of a chain stands between two that are linked.
-use Rattle.std.proofs.Common.{◌≡◌, ℕ, zero, suc, ◌+◌, ◌-◌, ◌<◌, ◌≤◌, Bool, true, false, cond, List, [], ◌∷◌, ◌++◌, length, take, get_or, refl, sym, ap, ◌∙◌, subst, arith, length-append}
+use Rattle.std.proofs.Common.{◌≡◌, ℕ, zero, suc, ◌+◌, ◌-◌, ◌<◌, ◌≤◌, Bool, true, false, cond, List, [], ◌∷◌, ◌++◌, length, take, get_or, refl, sym, ap, ◌∙◌}
+use Rattle.std.proofs.Common.{subst, arith, length-append}
 use Rattle.std.specs.Prelude.{option_map, slice_get, slice_index}
 use Rattle.std.specs.Option.{unwrap_or}
 use Rattle.std.proofs.Common.{inl, inr}
@@ -78,7 +79,8 @@ noted_before : (chain : Option IdKey) (cs : List (Option IdKey)) (c : Chains) �
 noted_before None cs c links = refl
 noted_before (Some k) cs c links = links.last k
 
-links_before : (cs : List (Option IdKey)) (before : List ℕ) (chain : Option IdKey) (last : ℕ) → length before ≡ length cs → last ≡ last_before chain cs (length cs)
+links_before : (cs : List (Option IdKey)) (before : List ℕ) (chain : Option IdKey) (last : ℕ) → length before ≡ length cs → last
+    ≡ last_before chain cs (length cs)
     → ((i : ℕ) → i < length cs → slice_index before i ≡ last_before (get_or cs i None) cs i)
     → (i : ℕ) → i < length cs + 1
     → slice_index (before ++ last ∷ []) i ≡ last_before (get_or (cs ++ chain ∷ []) i None) (cs ++ chain ∷ []) i
@@ -97,7 +99,8 @@ links_before cs before chain last many ends held i inside = elim (cases_lt i (le
 
 pub links_push : (cs : List (Option IdKey)) (chain : Option IdKey) (last : ℕ) (old new : Chains) → last ≡ last_noted chain old.last.entries
     → new.before.items ≡ old.before.items ++ last ∷ []
-    → ((k : IdKey) → lookup (same_id_key k) new.last.entries ≡ cond (is_in chain k) (Some (length old.before.items + 1)) (lookup (same_id_key k) old.last.entries))
+    → ((k : IdKey) → lookup (same_id_key k) new.last.entries
+    ≡ cond (is_in chain k) (Some (length old.before.items + 1)) (lookup (same_id_key k) old.last.entries))
     → Links cs old → Links (cs ++ chain ∷ []) new
 links_push cs chain last old new noted before more links =
     let size = length-append cs (chain ∷ []) in
@@ -106,7 +109,8 @@ links_push cs chain last old new noted before more links =
     let all : suc (length cs) ≡ length (cs ++ chain ∷ []) = omega (arith, size) in
     record {
       many = omega (arith, size, grown, ap length before, links.many);
-      last = λ k. ap (λ (o : Option ℕ). unwrap_or o 0) (more k) ∙ noted_or (is_in chain k) (length old.before.items + 1) (lookup (same_id_key k) old.last.entries)
+      last = λ k. ap (λ (o : Option ℕ). unwrap_or o 0) (more k)
+          ∙ noted_or (is_in chain k) (length old.before.items + 1) (lookup (same_id_key k) old.last.entries)
           ∙ (λ i. cond (is_in chain k) (place i) (links.last k i)) ∙ sym (last_pushed k cs chain) ∙ ap (last_among k (cs ++ chain ∷ [])) all;
       before = λ i within. ap (λ xs. slice_index xs i) before
           ∙ links_before cs old.before.items chain last links.many (noted ∙ noted_before chain cs old links) links.before i (omega (arith, size, within));
@@ -168,9 +172,14 @@ if_open_kept i (sale.Ended w) d e = refl
 stays : (r : Row) (c : Change) → chain_or (change_row c (Some r)).row ≡ chain_of_row r
 unfolding change_row chain_or
 stays (row.Item i) (change.BidTaken b) = if_open_kept i i.sale _ refl
-stays (row.Item i) (change.Sold q) = if_open_kept i i.sale _ (elim (nat_le q i.stock) as (λ b. chain_or (cond b (fits_as (row.Item (record i { stock = i.stock - q; sold = count_up i.sold q }))) (misfits_as StockShort (Some (row.Item i)))).row ≡ chain_of_row (row.Item i)) [ true ↦ refl | false ↦ refl ])
+stays (row.Item i) (change.Sold q) =
+    if_open_kept i i.sale _
+    (elim (nat_le q i.stock) as
+    (λ b. chain_or (cond b (fits_as (row.Item (record i { stock = i.stock - q; sold = count_up i.sold q }))) (misfits_as StockShort (Some (row.Item i)))).row
+    ≡ chain_of_row (row.Item i)) [ true ↦ refl | false ↦ refl ])
 stays (row.Item i) (change.End w) = if_open_kept i i.sale _ refl
-stays (row.Nick i) (change.NickFreed u) = elim (same_id u i) as (λ b. chain_or (cond b removed (misfits_as OtherUser (Some (row.Nick i)))).row ≡ None) [ true ↦ refl | false ↦ refl ]
+stays (row.Nick i) (change.NickFreed u) =
+    elim (same_id u i) as (λ b. chain_or (cond b removed (misfits_as OtherUser (Some (row.Nick i)))).row ≡ None) [ true ↦ refl | false ↦ refl ]
 stays (row.User u) (change.Insert x) = refl
 stays (row.Cat k) (change.Insert x) = refl
 stays (row.Bid b) (change.Insert x) = refl
@@ -192,7 +201,8 @@ chain_there k None = None
 chain_there k (Some row) = chain_of k row
 
 -- a row in the place of one that is in the same chain
-pub chains_set : {K : Type 0} (f : K → RowKey) (test : K → Bool) (es : List (K × Row)) (old new : Row) → lookup test es ≡ Some old → ((k : RowKey) → chain_of k new ≡ chain_of k old)
+pub chains_set : {K : Type 0} (f : K → RowKey) (test : K → Bool) (es : List (K × Row)) (old new : Row) → lookup test es ≡ Some old →
+    ((k : RowKey) → chain_of k new ≡ chain_of k old)
     → chains_of (written f (set_value test es new)) ≡ chains_of (written f es)
 unfolding chain_there
 chains_set f test [] old new found same = refl
@@ -217,10 +227,11 @@ pub chain_of_user : (k : IdKey) (row : Row) → k.table ≡ table.User → chain
 chain_of_user k row is = ap (λ t. chain_of (row_key (record { seq = k.seq; site = k.site; table = t })) row) is
 
 pub chain_of_other : (k : IdKey) (row : Row) → (k.table ≡ table.User → ⊥) → chain_of (row_key k) row ≡ chain_of_row row
-chain_of_other k row = elim k.table as (λ t. (t ≡ table.User → ⊥) → chain_of (row_key (record { seq = k.seq; site = k.site; table = t })) row ≡ chain_of_row row) [
-  | table.User ↦ λ other. absurd (other refl)
-  | table.Item ↦ λ other. refl
-  | table.Bid ↦ λ other. refl
-  | table.Purchase ↦ λ other. refl
-  | table.Comment ↦ λ other. refl
-]
+chain_of_other k row =
+    elim k.table as (λ t. (t ≡ table.User → ⊥) → chain_of (row_key (record { seq = k.seq; site = k.site; table = t })) row ≡ chain_of_row row) [
+      | table.User ↦ λ other. absurd (other refl)
+      | table.Item ↦ λ other. refl
+      | table.Bid ↦ λ other. refl
+      | table.Purchase ↦ λ other. refl
+      | table.Comment ↦ λ other. refl
+    ]

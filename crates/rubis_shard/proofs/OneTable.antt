@@ -59,20 +59,24 @@ module _ (l : Listing) (t : Table) where
       at : (b c : Bool) → is_of l e.0 e.1 ≡ b → holds t e.0 ≡ c
           → listed_among l t (e ∷ es) ≡ cond (is_of l e.0 e.1 && holds t e.0) (e ∷ []) [] ++ listed_among l t es
       at true c is has =
-          ap (λ b. filter (λ (x : RowKey × Row). holds t x.0) (cond b (e ∷ filter (λ (x : RowKey × Row). is_of l x.0 x.1) es) (filter (λ (x : RowKey × Row). is_of l x.0 x.1) es))) is
+          ap (λ b. filter (λ (x : RowKey × Row). holds t x.0)
+          (cond b (e ∷ filter (λ (x : RowKey × Row). is_of l x.0 x.1) es) (filter (λ (x : RowKey × Row). is_of l x.0 x.1) es))) is
           ∙ one c has ∙ ap (λ b. cond (b && holds t e.0) (e ∷ []) [] ++ listed_among l t es) (sym is)
         where
-          one : (c : Bool) → holds t e.0 ≡ c → cond (holds t e.0) (e ∷ listed_among l t es) (listed_among l t es) ≡ cond (holds t e.0) (e ∷ []) [] ++ listed_among l t es
+          one : (c : Bool) → holds t e.0 ≡ c → cond (holds t e.0) (e ∷ listed_among l t es) (listed_among l t es) ≡ cond (holds t e.0) (e ∷ []) []
+              ++ listed_among l t es
           one true has = ap (λ b. cond b (e ∷ listed_among l t es) (listed_among l t es)) has ∙ ap (λ b. cond b (e ∷ []) [] ++ listed_among l t es) (sym has)
           one false has = ap (λ b. cond b (e ∷ listed_among l t es) (listed_among l t es)) has ∙ ap (λ b. cond b (e ∷ []) [] ++ listed_among l t es) (sym has)
       at false c is has =
-          ap (λ b. filter (λ (x : RowKey × Row). holds t x.0) (cond b (e ∷ filter (λ (x : RowKey × Row). is_of l x.0 x.1) es) (filter (λ (x : RowKey × Row). is_of l x.0 x.1) es))) is
+          ap (λ b. filter (λ (x : RowKey × Row). holds t x.0)
+          (cond b (e ∷ filter (λ (x : RowKey × Row). is_of l x.0 x.1) es) (filter (λ (x : RowKey × Row). is_of l x.0 x.1) es))) is
           ∙ ap (λ b. cond (b && holds t e.0) (e ∷ []) [] ++ listed_among l t es) (sym is)
 
   pub listed_append : (es fs : Entries) → listed_among l t (es ++ fs) ≡ listed_among l t es ++ listed_among l t fs
   listed_append es fs =
       ap (filter (λ (x : RowKey × Row). holds t x.0)) (filter-append (λ (x : RowKey × Row). is_of l x.0 x.1) es fs)
-      ∙ filter-append (λ (x : RowKey × Row). holds t x.0) (filter (λ (x : RowKey × Row). is_of l x.0 x.1) es) (filter (λ (x : RowKey × Row). is_of l x.0 x.1) fs)
+      ∙ filter-append (λ (x : RowKey × Row). holds t x.0) (filter (λ (x : RowKey × Row). is_of l x.0 x.1) es)
+      (filter (λ (x : RowKey × Row). is_of l x.0 x.1) fs)
 
   none_listed : {K : Type 0} (f : K → RowKey) → ((k : K) (v : Row) → picked (f k) v ≡ false) → (es : List (K × Row)) → listed_among l t (written f es) ≡ []
   none_listed f none [] = refl
@@ -211,7 +215,8 @@ module _ (l : Listing) (r : Rows) where
 pub listed_one : (l : Listing) (t : Table) (k : RowKey) (v : Row) (b : Bool) → b ≡ (is_of l k v && holds t k)
     → listed_among l t ((k, v) ∷ []) ≡ cond b ((k, v) ∷ []) []
 unfolding picked
-listed_one l t k v b test = listed_cons l t (k, v) [] ∙ append-nil (cond (is_of l k v && holds t k) ((k, v) ∷ []) []) ∙ ap (λ c. cond c ((k, v) ∷ []) []) (sym test)
+listed_one l t k v b test = listed_cons l t (k, v) [] ∙ append-nil (cond (is_of l k v && holds t k) ((k, v) ∷ []) [])
+    ∙ ap (λ c. cond c ((k, v) ∷ []) []) (sym test)
 
 drop_here : (es : Entries) (n : ℕ) (e : RowKey × Row) → slice_get es n ≡ Some e → drop n es ≡ e ∷ drop (suc n) es
 drop_here [] n e h = absurd cc
@@ -252,7 +257,8 @@ taken_at [] (suc n) i low = refl
 taken_at (e ∷ es) (suc n) zero low = refl
 taken_at (e ∷ es) (suc n) (suc i) low = taken_at es n i (omega arith)
 
-pub written_at : {K : Type 0} (f : K → RowKey) (es : List (K × Row)) (i : ℕ) (k : K) (v : Row) → slice_get es i ≡ Some (k, v) → slice_get (written f es) i ≡ Some (f k, v)
+pub written_at : {K : Type 0} (f : K → RowKey) (es : List (K × Row)) (i : ℕ) (k : K) (v : Row) → slice_get es i ≡ Some (k, v) → slice_get (written f es) i
+    ≡ Some (f k, v)
 written_at f [] i k v e = absurd cc
 written_at f (x ∷ es) zero k v e = ap (option_map (λ y. (f y.0, y.1))) e
 written_at f (x ∷ es) (suc i) k v e = written_at f es i k v e

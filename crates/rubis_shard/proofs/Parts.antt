@@ -19,7 +19,8 @@ use Rattle.rubis_shard.proofs.Openings.{part_twice}
 
 -- at most three parts, place by place
 by_place : (entry : ℕ) (id : Id) (es : List Effect) → length es ≤ PARTS_MAX → number_parts entry 1 id es
-    ≡ number_parts entry 1 id (list_of (slice_get es 0)) ++ (number_parts entry 2 id (list_of (slice_get es 1)) ++ number_parts entry 3 id (list_of (slice_get es 2)))
+    ≡ number_parts entry 1 id (list_of (slice_get es 0))
+    ++ (number_parts entry 2 id (list_of (slice_get es 1)) ++ number_parts entry 3 id (list_of (slice_get es 2)))
 by_place entry id [] few = refl
 by_place entry id (a ∷ []) few = refl
 by_place entry id (a ∷ b ∷ []) few = refl

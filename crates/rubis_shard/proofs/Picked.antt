@@ -162,14 +162,16 @@ pub listed_behind : (l : Listing) (t : IdTable) (r : Rows) (before after : Entri
 listed_behind l t r before after distinct moved =
     let found = listed_among l (table_with t) (entries_in r) in
     IsPermutation-trans _ (before ++ found) _
-    (IsPermutation-append_right before _ found (IsPermutation-sym found _ (passing_shuffled (λ (e : RowKey × Row). is_of l e.0 e.1) (table_with t) (entries_in r) distinct)))
+    (IsPermutation-append_right before _ found
+    (IsPermutation-sym found _ (passing_shuffled (λ (e : RowKey × Row). is_of l e.0 e.1) (table_with t) (entries_in r) distinct)))
     (subst (λ es. IsPermutation (before ++ es) after) (ids_listed l r t) moved)
 
 pub categories_behind : (r : Rows) (before : Entries) → IsDistinct key_eq (keys_of (entries_in r))
     → IsPermutation (before ++ categories_of (tables_in r)) (before ++ categories_among (entries_in r))
 categories_behind r before distinct =
     let found = categories_among (entries_in r) in
-    IsPermutation-append_right before _ found (IsPermutation-sym found _ (passing_shuffled (λ (e : RowKey × Row). shows e.1) table.Cats (entries_in r) distinct))
+    IsPermutation-append_right before _ found
+    (IsPermutation-sym found _ (passing_shuffled (λ (e : RowKey × Row). shows e.1) table.Cats (entries_in r) distinct))
 
 -- the entries of a map make it
 remade : (m : Tables) → tables_of (map.entries m) ≡ m

@@ -20,14 +20,16 @@ Entries = List (RowKey × Row)
 
 all_without : (P : RowKey → Type 0) (test : RowKey → Bool) (es : Entries) → AllByRecursion P (keys_of es) → AllByRecursion P (keys_of (remove_entry test es))
 all_without P test [] a = tt
-all_without P test (e ∷ es) a = cond_both (test e.0) es (e ∷ remove_entry test es) (λ l. AllByRecursion P (keys_of l)) (λ _. a.1) (λ _. (a.0, all_without P test es a.1))
+all_without P test (e ∷ es) a = cond_both (test e.0) es (e ∷ remove_entry test es) (λ l. AllByRecursion P (keys_of l)) (λ _. a.1)
+    (λ _. (a.0, all_without P test es a.1))
 
 distinct_without : (test : RowKey → Bool) (es : Entries) → IsDistinct key_eq (keys_of es) → IsDistinct key_eq (keys_of (remove_entry test es))
 distinct_without test [] d = d
 distinct_without test (e ∷ es) d =
     let rest = IsDistinct-tail key_eq e.0 (keys_of es) d in
     cond_both (test e.0) es (e ∷ remove_entry test es) (λ l. IsDistinct key_eq (keys_of l)) (λ _. rest)
-    (λ _. IsDistinct-cons key_eq e.0 _ (all_without (λ y. key_eq e.0 y ≡ false) test es (IsDistinct-head key_eq e.0 (keys_of es) d)) (distinct_without test es rest))
+    (λ _. IsDistinct-cons key_eq e.0 _ (all_without (λ y. key_eq e.0 y ≡ false) test es (IsDistinct-head key_eq e.0 (keys_of es) d))
+    (distinct_without test es rest))
 
 -- what is found, put in front
 pulled : (q : RowKey) (v : Row) (es : Entries) → lookup (key_eq q) es ≡ Some v → IsPermutation es ((q, v) ∷ remove_entry (key_eq q) es)
@@ -37,10 +39,12 @@ pulled q v (e ∷ es) h =
     ⊎_elim
     (λ y.
     let value : v ≡ e.1 = ap (λ u. unwrap_or u v) (sym h ∙ lookup_head (key_eq q) e es y) in
-    let whole : (q, v) ∷ cond (key_eq q e.0) es (e ∷ more) ≡ e ∷ es = λ j. ((Decides-key_eq q e.0).0 y j, value j) ∷ cond-true (key_eq q e.0) es (e ∷ more) y j in
+    let whole : (q, v) ∷ cond (key_eq q e.0) es (e ∷ more)
+    ≡ e ∷ es = λ j. ((Decides-key_eq q e.0).0 y j, value j) ∷ cond-true (key_eq q e.0) es (e ∷ more) y j in
     subst (IsPermutation (e ∷ es)) (sym whole) (IsPermutation-refl (e ∷ es)))
     (λ n.
-    let turned = IsPermutation-trans _ _ _ (IsPermutation-cons e _ _ (pulled q v es (sym (lookup_tail (key_eq q) e es n) ∙ h))) (IsPermutation-swap (e ∷ (q, v) ∷ more) ((q, v) ∷ e ∷ more) 0 1 (omega arith) (omega arith) refl) in
+    let turned = IsPermutation-trans _ _ _ (IsPermutation-cons e _ _ (pulled q v es (sym (lookup_tail (key_eq q) e es n) ∙ h)))
+    (IsPermutation-swap (e ∷ (q, v) ∷ more) ((q, v) ∷ e ∷ more) 0 1 (omega arith) (omega arith) refl) in
     subst (λ l. IsPermutation (e ∷ es) ((q, v) ∷ l)) (sym (cond-false (key_eq q e.0) es (e ∷ more) n)) turned)
     (cases_Bool (key_eq q e.0))
 

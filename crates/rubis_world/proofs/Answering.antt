@@ -18,13 +18,15 @@ use Rattle.rubis_world.specs.declared.faults.WorldFault.TheVariants.{BadEvent, N
 use Rattle.rubis_world.specs.Running.{IsRefused, IsTold}
 
 goes_on : (keep : ℕ) (w : World) (n : ℕ) (fields : List (List ℕ)) (more : List (List (List ℕ)))
-    → let step = world_step keep w n (world_input (length w.sites) fields) in world_answers keep w n (fields ∷ more) ≡ step.1 ++ world_answers keep step.0 (n + 1) more
+    → let step = world_step keep w n (world_input (length w.sites) fields) in world_answers keep w n (fields ∷ more) ≡ step.1
+    ++ world_answers keep step.0 (n + 1) more
 unfolding world_answers
 goes_on keep w n fields more = refl
 
 pub world_goes : (old new : WorldState) (n : ℕ) (fields : List (List ℕ)) (sink sink2 : List ℕ)
     → IsTold old new (world_step old.keep old.world n (world_input (length old.world.sites) fields)) sink sink2
-    → (more : List (List (List ℕ))) → sink ++ rows_text (world_answers old.keep old.world n (fields ∷ more)) ≡ sink2 ++ rows_text (world_answers new.keep new.world (n + 1) more)
+    → (more : List (List (List ℕ))) → sink ++ rows_text (world_answers old.keep old.world n (fields ∷ more)) ≡ sink2
+    ++ rows_text (world_answers new.keep new.world (n + 1) more)
 world_goes old new n fields sink sink2 told more =
     let step = world_step old.keep old.world n (world_input (length old.world.sites) fields) in
     ap (λ rows. sink ++ rows_text rows) (goes_on old.keep old.world n fields more)

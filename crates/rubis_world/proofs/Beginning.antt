@@ -29,7 +29,8 @@ states : (setup : WorldSetup) (a n : ℕ) → map (λ (y : SiteState). y.state) 
 states setup a zero = refl
 states setup a (suc n) = ap (λ q. opening_at a ∷ q) (states setup (a + 1) n)
 
-lefts : (setup : WorldSetup) (a n : ℕ) → map (λ (y : SiteState). left_of y.progress) (map (fresh setup) (range_with_len a n)) ≡ map (λ i. 0) (range_with_len a n)
+lefts : (setup : WorldSetup) (a n : ℕ) → map (λ (y : SiteState). left_of y.progress) (map (fresh setup) (range_with_len a n))
+    ≡ map (λ i. 0) (range_with_len a n)
 lefts setup a zero = refl
 lefts setup a (suc n) = ap (λ q. 0 ∷ q) (lefts setup (a + 1) n)
 
@@ -43,7 +44,8 @@ starts setup sites e =
 fresh_at_places : (setup : WorldSetup) → AreAtPlaces setup.keep (fresh_sites setup setup.sites)
 fresh_at_places setup i =
     let long = length-map-range_with_len (fresh setup) 0 setup.sites in
-    subst (λ n. IfSome (slice_get (fresh_sites setup setup.sites) i) (λ (s : SiteState). s.place ≡ record { site = i; sites = n; keep = setup.keep })) (sym long)
+    subst (λ n. IfSome (slice_get (fresh_sites setup setup.sites) i) (λ (s : SiteState). s.place ≡ record { site = i; sites = n; keep = setup.keep }))
+    (sym long)
     (⊎_elim
     (λ l. subst (λ o. IfSome o (λ (s : SiteState). s.place ≡ record { site = i; sites = setup.sites; keep = setup.keep }))
     (sym (slice_get-get_or (fresh_sites setup setup.sites) i (fresh setup i) (omega (arith, l, long))))

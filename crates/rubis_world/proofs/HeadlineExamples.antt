@@ -1,5 +1,6 @@
 -- What a run of several sites says of them, worked out on two records: site 0 passes the token to site 1, which then takes it.
-use Rattle.std.proofs.Common.{◌≡◌, ◌∙◌, ◌+◌, ◌^◌, ◌≤◌, ◌<◌, ◌++◌, ◌∷◌, [], ℕ, zero, suc, List, Option, Some, None, ap, arith, inl, inr, length, refl, subst, sym, take}
+use Rattle.std.proofs.Common.{◌≡◌, ◌∙◌, ◌+◌, ◌^◌, ◌≤◌, ◌<◌, ◌++◌, ◌∷◌, [], ℕ, zero, suc, List, Option, Some, None, ap, arith, inl, inr, length, refl, subst}
+use Rattle.std.proofs.Common.{sym, take}
 use Rattle.std.specs.Prelude.{codes, decimal, is_some, map, nat_lt, option_and_then, unwrap_or, Ok, Err, ⊤}
 use Rattle.std.specs.Option.{option_or}
 use mathlib.Core.Bool.{true≢false}
@@ -178,7 +179,8 @@ fewer_kept_since h = let kept = h.0 in absurd (omega (arith, kept))
 -- ---- the next record
 
 next_leads : {R : Type 0} (rem : R → Option (List ℕ)) (run after : Run R) → run.answered ≡ 0 → fields_now after.records ≡ passes_on
-    → ((rows : List (List (List ℕ))) → Gives rem run.records rows → rows ≡ passes_on ∷ []) → Gives rem after.records [] → LeadsOn rem run after opened passed None
+    → ((rows : List (List (List ℕ))) → Gives rem run.records rows → rows ≡ passes_on ∷ []) → Gives rem after.records [] →
+    LeadsOn rem run after opened passed None
 next_leads rem run after none is one end rows gives = (
   [],
   end,
@@ -223,7 +225,8 @@ both_are_text : IsTextOfARun 2 1000000 both all_rows
 both_are_text = subst (IsTextOfARun 2 1000000 both) both_told (answers_are_a_run 2 1000000 both (omega arith) (omega arith) (omega arith))
 
 first_is_text : IsTextOfARun 2 1000000 (passes_on ∷ []) first_rows
-first_is_text = subst (IsTextOfARun 2 1000000 (passes_on ∷ [])) first_told (answers_are_a_run 2 1000000 (passes_on ∷ []) (omega arith) (omega arith) (omega arith))
+first_is_text = subst (IsTextOfARun 2 1000000 (passes_on ∷ [])) first_told
+    (answers_are_a_run 2 1000000 (passes_on ∷ []) (omega arith) (omega arith) (omega arith))
 
 -- not with an answer too few or too many, nor that of another number of sites
 too_few_are_no_text : IsTextOfARun 2 1000000 both first_rows → ⊥
@@ -233,7 +236,8 @@ too_many_are_no_text : IsTextOfARun 2 1000000 (passes_on ∷ []) all_rows → �
 too_many_are_no_text h = let many = ap length (h.text ∙ first_told) in absurd (omega (arith, many))
 
 alone_is_text : IsTextOfARun 1 1000000 (passes_on ∷ []) refused_rows
-alone_is_text = subst (IsTextOfARun 1 1000000 (passes_on ∷ [])) alone_told (answers_are_a_run 1 1000000 (passes_on ∷ []) (omega arith) (omega arith) (omega arith))
+alone_is_text = subst (IsTextOfARun 1 1000000 (passes_on ∷ [])) alone_told
+    (answers_are_a_run 1 1000000 (passes_on ∷ []) (omega arith) (omega arith) (omega arith))
 
 other_sites_are_no_text : IsTextOfARun 1 1000000 (passes_on ∷ []) first_rows → ⊥
 other_sites_are_no_text h = let many = ap length (h.text ∙ alone_told) in absurd (omega (arith, many))
@@ -262,7 +266,8 @@ written records rows told one two is (others, appended, run) = same_rows rows to
 too_few_at_end : (bytes : List ℕ) (count : Count) → input_records bytes ≡ both
     → TellsARun 2 1000000 5 (Some bytes) (Some []) (Some (rows_text first_rows)) (Ok count) → ⊥
 too_few_at_end bytes count is h =
-    let many = ap length (written both first_rows all_rows first_readable all_readable both_told (subst (AppendsARun 2 1000000 (Some []) (Some (rows_text first_rows))) is h)) in
+    let many = ap length (written both first_rows all_rows first_readable all_readable both_told
+    (subst (AppendsARun 2 1000000 (Some []) (Some (rows_text first_rows))) is h)) in
     absurd (omega (arith, many))
 
 too_many_where_too_long : (bytes : List ℕ) → input_records bytes ≡ both
@@ -287,7 +292,8 @@ last_alone_where_read_fails bytes is (k, h) = at k (subst (λ r. AppendsARun 2 1
   where
     at : (k : ℕ) → AppendsARun 2 1000000 (Some []) (Some (rows_text last_rows)) (take k both) → ⊥
     at zero h = let many = ap length (written [] last_rows [] last_readable none_readable none_told h) in absurd (omega (arith, many))
-    at (suc zero) h = let many = ap length (written (passes_on ∷ []) last_rows first_rows last_readable first_readable first_told h) in absurd (omega (arith, many))
+    at (suc zero) h = let many = ap length (written (passes_on ∷ []) last_rows first_rows last_readable first_readable first_told h) in
+        absurd (omega (arith, many))
     at (suc (suc k)) h =
         let all = subst (λ r. AppendsARun 2 1000000 (Some []) (Some (rows_text last_rows)) (passes_on ∷ is_delivered ∷ r)) (take_none k) h in
         let many = ap length (written both last_rows all_rows last_readable all_readable both_told all) in

@@ -36,7 +36,8 @@ kept s e a h = let same = event_sites s.keep s.world e in record {
   keep = h.keep;
   sound = event_keeps s.keep h.keep s.world e a h.sound;
   room = room_event s.keep s.world e h.room;
-  deliverable = subst (λ n. AllDeliverable n (happens s.keep s.world e).0.sent) (sym same) (event_deliverable s.keep h.keep s.world e (omega (arith, h.sites)) a h.sound h.deliverable);
+  deliverable = subst (λ n. AllDeliverable n (happens s.keep s.world e).0.sent) (sym same)
+      (event_deliverable s.keep h.keep s.world e (omega (arith, h.sites)) a h.sound h.deliverable);
 }
 
 -- a call that stays at the world keeps it

@@ -1,5 +1,6 @@
 -- Where records lead, one after the other.
-use Rattle.std.proofs.Common.{◌≡◌, ◌≤◌, ◌+◌, ◌++◌, ◌∷◌, ◌∙◌, [], ℕ, List, Option, Some, None, length, take, refl, sym, ap, arith, subst, append_assoc, append-nil, length-append}
+use Rattle.std.proofs.Common.{◌≡◌, ◌≤◌, ◌+◌, ◌++◌, ◌∷◌, ◌∙◌, [], ℕ, List, Option, Some, None, length, take, refl, sym, ap, arith, subst, append_assoc}
+use Rattle.std.proofs.Common.{append-nil, length-append}
 use Rattle.std.specs.Prelude.{IfOk, IfSome, IfNone, Result, Ok, Err, IsErrOf}
 use Rattle.std.specs.Io.KnownBytes.{Appends}
 use Rattle.rubis_schema.specs.declared.limits.TheConstants.{COUNTED_MAX, KEEP_MAX}
@@ -37,7 +38,8 @@ steps_on old before after new n fields same step last =
     (ap (λ (s : WorldState). s.keep) last ∙ step.0, ap (λ (s : WorldState). s.world) last ∙ step.1)
 
 -- before its first record a run has led nowhere
-pub led_none : {R : Type 0} (rem : R → Option (List ℕ)) (run : Run R) (s : WorldState) (rows : List (List (List ℕ))) → run.answered ≡ 0 → Gives rem run.records rows
+pub led_none : {R : Type 0} (rem : R → Option (List ℕ)) (run : Run R) (s : WorldState) (rows : List (List (List ℕ))) → run.answered ≡ 0 →
+    Gives rem run.records rows
     → HasLed rem run s s rows
 led_none rem run s rows none gives = ([], rows, refl, gives, sym none, (refl, refl))
 
@@ -59,7 +61,8 @@ led_more rem run after first old new rows (done, rest, split, gives, many, (keep
         same ∙ keep,
         stepped
             ∙ ap (λ (w : World). (world_step first.keep w (run.answered + 1) (world_input (length w.sites) fields)).0) led
-            ∙ ap (λ k. (world_step first.keep (world_after first.keep first.world 1 done) k (world_input (length (world_after first.keep first.world 1 done).sites) fields)).0) (omega (arith, many))
+            ∙ ap (λ k. (world_step first.keep (world_after first.keep first.world 1 done) k
+            (world_input (length (world_after first.keep first.world 1 done).sites) fields)).0) (omega (arith, many))
             ∙ sym (after_one_more first.keep done fields first.world 1),
       ),
     )
@@ -81,7 +84,8 @@ appends_a_run sites keep some few small old new records appended =
     (world_output_of sites keep records, appended, answers_are_a_run sites keep records some few small)
 
 -- what a run over an input leaves in its writer is the text of a run of the sites
-pub tells_a_run : (sites keep : ℕ) → 1 ≤ sites → sites ≤ COUNTED_MAX → keep ≤ KEEP_MAX → (limit : ℕ) (input old new : Option (List ℕ)) (result : Result Count RunFault)
+pub tells_a_run : (sites keep : ℕ) → 1 ≤ sites → sites ≤ COUNTED_MAX → keep ≤ KEEP_MAX →
+    (limit : ℕ) (input old new : Option (List ℕ)) (result : Result Count RunFault)
     → IsRun (answers_of_world sites keep) limit input old new result → TellsARun sites keep limit input old new result
 tells_a_run sites keep some few small limit None old new (Ok count) h = tt
 tells_a_run sites keep some few small limit None old new (Err fault.TooLong) h = tt
@@ -89,7 +93,8 @@ tells_a_run sites keep some few small limit None old new (Err fault.Read) h = tt
 tells_a_run sites keep some few small limit None old new (Err fault.Memory) h = tt
 tells_a_run sites keep some few small limit None old new (Err fault.Write) h = tt
 tells_a_run sites keep some few small limit (Some bytes) old new (Ok count) h = appends_a_run sites keep some few small old new (input_records bytes) h.0
-tells_a_run sites keep some few small limit (Some bytes) old new (Err fault.TooLong) h = appends_a_run sites keep some few small old new (take limit (input_records bytes)) h.0
+tells_a_run sites keep some few small limit (Some bytes) old new (Err fault.TooLong) h = appends_a_run sites keep some few small old new
+    (take limit (input_records bytes)) h.0
 tells_a_run sites keep some few small limit (Some bytes) old new (Err fault.Read) h =
     (h.0, appends_a_run sites keep some few small old new (take h.0 (input_records bytes)) h.1)
 tells_a_run sites keep some few small limit (Some bytes) old new (Err fault.Memory) h = tt

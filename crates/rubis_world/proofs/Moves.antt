@@ -45,7 +45,8 @@ then_place : (keep n : ℕ) (sites : List SiteState) (j : ℕ) (d : SiteState) �
 then_place keep n sites j d l h =
     subst (λ o. IfSome o (λ (s : SiteState). s.place ≡ record { site = j; sites = n; keep = keep })) (sym (slice_get-get_or sites j d l)) h
 
-module _ (keep : ℕ) (sites : List SiteState) (sent : List Packet) (i : ℕ) (s x : SiteState) (l : i < length sites) (read : s ≡ get_or sites i s) (at : AreAtPlaces keep sites) where
+module _ (keep : ℕ) (sites : List SiteState) (sent : List Packet) (i : ℕ) (s x : SiteState) (l : i < length sites) (read : s ≡ get_or sites i s)
+    (at : AreAtPlaces keep sites) where
   -- the site that is read is that of the world
   state_is : site (world_of sites sent) i ≡ s.state
   state_is = get_or-map (λ (y : SiteState). y.state) sites i s (opening_at 1) l ∙ sym (ap (λ (y : SiteState). y.state) read)
@@ -58,9 +59,11 @@ module _ (keep : ℕ) (sites : List SiteState) (sent : List Packet) (i : ℕ) (s
 
   pub stay_at_places : x.place ≡ s.place → AreAtPlaces keep (set sites i x)
   stay_at_places e j = ⊎_elim
-      (λ b. subst (λ n. IfSome (slice_get (set sites i x) j) (λ (y : SiteState). y.place ≡ record { site = j; sites = n; keep = keep })) (sym (length-set sites i x))
+      (λ b. subst (λ n. IfSome (slice_get (set sites i x) j) (λ (y : SiteState). y.place ≡ record { site = j; sites = n; keep = keep }))
+      (sym (length-set sites i x))
       (then_place keep (length sites) (set sites i x) j s (subst (λ n. j < n) (sym (length-set sites i x)) b) (⊎_elim (here b) (there b) (cases_eq j i))))
-      (λ b. subst (λ o. IfSome o (λ (y : SiteState). y.place ≡ record { site = j; sites = length (set sites i x); keep = keep })) (sym (slice_get_past (set sites i x) j (subst (λ n. n ≤ j) (sym (length-set sites i x)) b))) tt)
+      (λ b. subst (λ o. IfSome o (λ (y : SiteState). y.place ≡ record { site = j; sites = length (set sites i x); keep = keep }))
+      (sym (slice_get_past (set sites i x) j (subst (λ n. n ≤ j) (sym (length-set sites i x)) b))) tt)
       (cases_lt j (length sites))
     where
       here : j < length sites → j ≡ i → (get_or (set sites i x) j s).place ≡ record { site = j; sites = length sites; keep = keep }
@@ -81,7 +84,8 @@ module _ (keep : ℕ) (sites : List SiteState) (sent : List Packet) (i : ℕ) (s
       (refl, (λ k. record { sites = f k; sent = sent }))
 
   -- the step of the site that is read is its step in the world
-  step_is : {A : Type 0} (step : Place → Replica → Replica × Result A Refusal) → step (place keep (world_of sites sent) i) (site (world_of sites sent) i) ≡ step s.place s.state
+  step_is : {A : Type 0} (step : Place → Replica → Replica × Result A Refusal) → step (place keep (world_of sites sent) i) (site (world_of sites sent) i)
+      ≡ step s.place s.state
   step_is step = λ k. step (place_is k) (state_is k)
 
   -- a site that gives no answer
@@ -104,11 +108,13 @@ module _ (keep : ℕ) (sites : List SiteState) (sent : List Packet) (i : ℕ) (s
     said_there answer a = ap (λ p. p.1) (step_is step) ∙ a.1
 
     come_to : (answer : A) → AnswersAsTheStep s x (step s.place s.state) (Ok answer)
-        → map (λ (y : SiteState). y.state) (set sites i x) ≡ slice_set (map (λ (y : SiteState). y.state) sites) i (step (place keep (world_of sites sent) i) (site (world_of sites sent) i)).0
+        → map (λ (y : SiteState). y.state) (set sites i x)
+        ≡ slice_set (map (λ (y : SiteState). y.state) sites) i (step (place keep (world_of sites sent) i) (site (world_of sites sent) i)).0
     come_to answer a = changed (step (place keep (world_of sites sent) i) (site (world_of sites sent) i)).0 (a.0 ∙ sym (ap (λ p. p.0) (step_is step)))
 
 -- ---- the same, of the world that is seen
-module _ (keep : ℕ) (sites : List SiteState) (sent : List Packet) (i : ℕ) (s x : SiteState) (old : WorldState) (view : state_of keep sites sent ≡ old) (within : i < length old.world.sites) (read : s ≡ get_or sites i s) (at : AreAtPlaces keep sites) where
+module _ (keep : ℕ) (sites : List SiteState) (sent : List Packet) (i : ℕ) (s x : SiteState) (old : WorldState) (view : state_of keep sites sent ≡ old)
+    (within : i < length old.world.sites) (read : s ≡ get_or sites i s) (at : AreAtPlaces keep sites) where
   inside : i < length sites
   inside = subst (λ n. i < n) (length-map sites (λ (y : SiteState). y.state)) (subst (λ (w : WorldState). i < length w.world.sites) (sym view) within)
 
@@ -152,20 +158,29 @@ module _ (keep : ℕ) (sites : List SiteState) (sent : List Packet) (i : ℕ) (s
         → AnswersAsTheStep s x (step s.place s.state) (Err f) → sent' ≡ sent
         → Steps old (state_of keep (set sites i x) sent') (sends pack old.world i (step (place old.keep old.world i) (site old.world i))) result
     sends_fault f result e a same =
-        subst (λ (w : WorldState). Steps w (state_of keep (set sites i x) sent') (sends pack w.world i (step (place w.keep w.world i) (site w.world i))) result) view
-        (subst (λ q. Steps (state_of keep sites sent) (state_of keep (set sites i x) q) (sends pack (world_of sites sent) i (step (place keep (world_of sites sent) i) (site (world_of sites sent) i))) result) (sym same)
+        subst (λ (w : WorldState). Steps w (state_of keep (set sites i x) sent') (sends pack w.world i (step (place w.keep w.world i) (site w.world i))) result)
+        view
+        (subst (λ q. Steps (state_of keep sites sent) (state_of keep (set sites i x) q)
+        (sends pack (world_of sites sent) i (step (place keep (world_of sites sent) i) (site (world_of sites sent) i))) result) (sym same)
         (refused keep sites sent i s x inside read at (step s.place s.state) _ f result e a
         (λ r h. ap (saying (λ _. happened.Sent (next_number (world_of sites sent)))) (ap (λ p. p.1) (step_is keep sites sent i s x inside read at step) ∙ h))))
 
-    pub sends_on : (answer : A) (number : ℕ) → AnswersAsTheStep s x (step s.place s.state) (Ok answer) → sent' ≡ sent ++ pack answer ∷ [] → number ≡ length sent'
-        → Steps old (state_of keep (set sites i x) sent') (sends pack old.world i (step (place old.keep old.world i) (site old.world i))) (Ok (happened.Sent number))
+    pub sends_on : (answer : A) (number : ℕ) → AnswersAsTheStep s x (step s.place s.state) (Ok answer) → sent' ≡ sent ++ pack answer ∷ [] → number
+        ≡ length sent'
+        → Steps old (state_of keep (set sites i x) sent') (sends pack old.world i (step (place old.keep old.world i) (site old.world i)))
+        (Ok (happened.Sent number))
     sends_on answer number a e n =
         let said = said_there keep sites sent i s x inside read at step answer a in
         let come = come_to keep sites sent i s x inside read at step answer a in
-        let more : sent' ≡ sent ++ sending pack (step (place keep (world_of sites sent) i) (site (world_of sites sent) i)).1 = e ∙ ap (λ o. sent ++ sending pack o) (sym said) in
+        let more : sent' ≡ sent ++ sending pack (step (place keep (world_of sites sent) i) (site (world_of sites sent) i)).1 = e
+        ∙ ap (λ o. sent ++ sending pack o) (sym said) in
         let next : number ≡ next_number (world_of sites sent) = n ∙ ap length e ∙ length-append sent (pack answer ∷ []) in
-        subst (λ (w : WorldState). Steps w (state_of keep (set sites i x) sent') (sends pack w.world i (step (place w.keep w.world i) (site w.world i))) (Ok (happened.Sent number))) view
-        ((refl, (λ k. record { sites = come k; sent = more k })), ap (saying (λ _. happened.Sent (next_number (world_of sites sent)))) said ∙ ap (λ m. Ok (happened.Sent m)) (sym next))
+        subst (λ (w : WorldState). Steps w (state_of keep (set sites i x) sent') (sends pack w.world i (step (place w.keep w.world i) (site w.world i)))
+        (Ok (happened.Sent number))) view (
+          (refl, (λ k. record { sites = come k; sent = more k })),
+          ap (saying (λ _. happened.Sent (next_number (world_of sites sent)))) said
+              ∙ ap (λ m. Ok (happened.Sent m)) (sym next),
+        )
 
   -- ---- rows
   pub shows_fault : (l : Listing) (f : Fault) (result : Result Happened WorldFault) → IsErr result × IsErrAnd result (λ g. g ≡ fault_at_site f)
@@ -178,8 +193,11 @@ module _ (keep : ℕ) (sites : List SiteState) (sent : List Packet) (i : ℕ) (s
   pub shows_on : (l : Listing) (rows : List (List (List ℕ))) → AnswersAsTheStep s x (listed s.state l) (Ok rows)
       → Steps old (state_of keep (set sites i x) sent) (shown old.world i l) (Ok (happened.Rows rows))
   shows_on l rows a =
-      subst (λ (w : WorldState). Steps w (state_of keep (set sites i x) sent) (shown w.world i l) (Ok (happened.Rows rows))) view
-      (unchanged keep sites sent i s x inside read at a.0, ap (λ (q : Replica). Ok (happened.Rows (listing_rows q.log (fold_of (cores q.log)) l))) (state_is keep sites sent i s x inside read at) ∙ ap (saying happened.Rows) a.1)
+      subst (λ (w : WorldState). Steps w (state_of keep (set sites i x) sent) (shown w.world i l) (Ok (happened.Rows rows))) view (
+        unchanged keep sites sent i s x inside read at a.0,
+        ap (λ (q : Replica). Ok (happened.Rows (listing_rows q.log (fold_of (cores q.log)) l))) (state_is keep sites sent i s x inside read at)
+            ∙ ap (saying happened.Rows) a.1,
+      )
 
   -- ---- what is taken in
   module _ {A : Type 0} (word : A → Happened) (step : Place → Replica → Replica × Result A Refusal) where
@@ -187,7 +205,8 @@ module _ (keep : ℕ) (sites : List SiteState) (sent : List Packet) (i : ℕ) (s
         → AnswersAsTheStep s x (step s.place s.state) (Err f)
         → Steps old (state_of keep (set sites i x) sent) (takes word old.world i (step (place old.keep old.world i) (site old.world i))) result
     takes_fault f result e a =
-        subst (λ (w : WorldState). Steps w (state_of keep (set sites i x) sent) (takes word w.world i (step (place w.keep w.world i) (site w.world i))) result) view
+        subst (λ (w : WorldState). Steps w (state_of keep (set sites i x) sent) (takes word w.world i (step (place w.keep w.world i) (site w.world i))) result)
+        view
         (refused keep sites sent i s x inside read at (step s.place s.state) _ f result e a
         (λ r h. ap (saying word) (ap (λ p. p.1) (step_is keep sites sent i s x inside read at step) ∙ h)))
 
@@ -195,7 +214,8 @@ module _ (keep : ℕ) (sites : List SiteState) (sent : List Packet) (i : ℕ) (s
         → Steps old (state_of keep (set sites i x) sent) (takes word old.world i (step (place old.keep old.world i) (site old.world i))) (Ok (word answer))
     takes_on answer a =
         let come = come_to keep sites sent i s x inside read at step answer a in
-        subst (λ (w : WorldState). Steps w (state_of keep (set sites i x) sent) (takes word w.world i (step (place w.keep w.world i) (site w.world i))) (Ok (word answer))) view
+        subst (λ (w : WorldState). Steps w (state_of keep (set sites i x) sent) (takes word w.world i (step (place w.keep w.world i) (site w.world i)))
+        (Ok (word answer))) view
         ((refl, (λ k. record { sites = come k; sent = sent })), ap (saying word) (said_there keep sites sent i s x inside read at step answer a))
 
 -- ---- what comes by a packet
@@ -223,7 +243,8 @@ module _ (s x : SiteState) (f : Fault) (result : Result Happened WorldFault) (sa
   told_behind : {P : Type 0} → (f ≡ fault.Behind → left_of s.progress ≡ 0 → P) → left_of s.progress ≡ 0 → result ≡ Err (world.Site fault.Behind) → P
   told_behind so none e = so (is_behind f (fault_is result e said)) none
     where
-      fault_is : (r : Result Happened WorldFault) → r ≡ Err (world.Site fault.Behind) → IsErr r × IsErrAnd r (λ g. g ≡ fault_at_site f) → fault_at_site f ≡ world.Site fault.Behind
+      fault_is : (r : Result Happened WorldFault) → r ≡ Err (world.Site fault.Behind) → IsErr r × IsErrAnd r (λ g. g ≡ fault_at_site f) → fault_at_site f
+          ≡ world.Site fault.Behind
       fault_is (Ok h) e said = absurd cc
       fault_is (Err g) e said = sym said.1 ∙ cc e
 
@@ -242,14 +263,17 @@ module _ (s x : SiteState) (f : Fault) (result : Result Happened WorldFault) (sa
   pub takes_in_never : TakesIn s x (Err f) → left_of s.progress ≡ 0 → result ≡ Err (world.Site fault.Behind) → ⊥
   takes_in_never h = told_behind (λ e none. let some = subst (λ g. TakesIn s x (Err g)) e h in omega (arith, some, none))
 
-  pub needs_none_behind : (A : Type 0) → NeedsNoTables {A = A} s x (Err f) → left_of s.progress ≡ 0 → result ≡ Err (world.Site fault.Behind) → 0 < left_of x.progress
+  pub needs_none_behind : (A : Type 0) → NeedsNoTables {A = A} s x (Err f) → left_of s.progress ≡ 0 → result ≡ Err (world.Site fault.Behind) →
+      0 < left_of x.progress
   needs_none_behind A h none e = absurd (needs_none_never A h none e)
 
   pub takes_in_behind : TakesIn s x (Err f) → left_of s.progress ≡ 0 → result ≡ Err (world.Site fault.Behind) → 0 < left_of x.progress
   takes_in_behind h none e = absurd (takes_in_never h none e)
 
-  pub lists_behind : (A : Type 0) (l : Listing) → Lists {A = A} l s x (Err f) → left_of s.progress ≡ 0 → result ≡ Err (world.Site fault.Behind) → 0 < left_of x.progress
-  lists_behind A shown_listing.Log h = told_behind (λ e none. let some = (subst (λ g. ListsTheLog {A = A} s x (Err g)) e h).0 in absurd (omega (arith, some, none)))
+  pub lists_behind : (A : Type 0) (l : Listing) → Lists {A = A} l s x (Err f) → left_of s.progress ≡ 0 → result ≡ Err (world.Site fault.Behind) →
+      0 < left_of x.progress
+  lists_behind A shown_listing.Log h =
+      told_behind (λ e none. let some = (subst (λ g. ListsTheLog {A = A} s x (Err g)) e h).0 in absurd (omega (arith, some, none)))
   lists_behind A shown_listing.Users h = read_behind h
   lists_behind A (shown_listing.Items c) h = read_behind h
   lists_behind A (shown_listing.Bids b) h = read_behind h
@@ -260,5 +284,6 @@ module _ (s x : SiteState) (f : Fault) (result : Result Happened WorldFault) (sa
   lists_behind A shown_listing.Tables h = read_behind h
 
 -- a packet of the list can be taken in
-pub is_deliverable : (sites : ℕ) (sent : List Packet) (k : ℕ) (p q : Packet) → AllDeliverable sites sent → packet_at sent k ≡ Some p → q ≡ p → IsDeliverable sites q
+pub is_deliverable : (sites : ℕ) (sent : List Packet) (k : ℕ) (p q : Packet) → AllDeliverable sites sent → packet_at sent k ≡ Some p → q ≡ p →
+    IsDeliverable sites q
 is_deliverable sites sent k p q all e f = subst (IsDeliverable sites) (sym f) (all p (has_packet sent k p e))

@@ -9,5 +9,6 @@ use Rattle.rubis_world.specs.Waiting.{waiting_at, waiting_text}
 -- a record was taken in, and nothing was written
 pub waiting_goes : (old new : SiteState) (n : ℕ) (fields : List (List ℕ)) (sink : List ℕ) → new.place ≡ old.place
     → new.state ≡ (input_step old.place old.state n (input_of old.place.sites fields)).0
-    → (ending : Ending) (more : List (List (List ℕ))) → sink ++ (waiting_at old n).text ending (fields ∷ more) ≡ sink ++ (waiting_at new (n + 1)).text ending more
+    → (ending : Ending) (more : List (List (List ℕ))) → sink ++ (waiting_at old n).text ending (fields ∷ more) ≡ sink
+    ++ (waiting_at new (n + 1)).text ending more
 waiting_goes old new n fields sink place state ending more i = sink ++ waiting_text ending (site_after (sym place i) (sym state i) (n + 1) more)

@@ -28,4 +28,5 @@ returns g c =
     let at = c.loop-place.place in
     let outside : c.args.upto ≤ at = search rules in
     c.loop-place.invariant c.loop-place.sink
-    (subst (λ rs. g.S.RowSink.adds rs c.loop-place.sink c.loop-place.sink) (sym (entries_end at c.args.upto log outside)) (g.met.S.RowSink.adds_none c.loop-place.sink))
+    (subst (λ rs. g.S.RowSink.adds rs c.loop-place.sink c.loop-place.sink) (sym (entries_end at c.args.upto log outside))
+    (g.met.S.RowSink.adds_none c.loop-place.sink))

@@ -19,7 +19,8 @@ collect-requires-clause-ready g c κs within =
     let ordered = c.requires.from in
     let inside = nat_range-All (λ at. (from + at * 512 ≤ upto) × (upto ≤ size_of c.args.source.now)) 0 ((upto - from) / 512 + 1)
     (λ at low high. (omega (arith, ordered), c.requires.upto)) in
-    rw (c.map.ensures.base, c.map.ensures.f, c.with_min_len.ensures.base, ends.0, ends.1) (λ k d lt. ((inside k d lt, param_send _ _ (arg_send _ no _ c.type_bounds.send-S)), λ y p. tt))
+    rw (c.map.ensures.base, c.map.ensures.f, c.with_min_len.ensures.base, ends.0, ends.1)
+    (λ k d lt. ((inside k d lt, param_send _ _ (arg_send _ no _ c.type_bounds.send-S)), λ y p. tt))
 
 pub returns : goal.returns
 returns g c =

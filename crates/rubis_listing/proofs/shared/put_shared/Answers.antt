@@ -37,4 +37,5 @@ returns g c =
     let gone : into_iter_len c.loop-part.part-iterator ≡ 0 = search rules in
     let none : into_iter_items c.loop-part.part-iterator ≡ [] = nil_from_length _ (sym many ∙ gone) in
     let ended : inv.0 ≡ c.args.upto = subst (AreParts g.S.SharedSink.holds source inv.0 c.args.upto) none inv.2 in
-    inv.3 sink (subst (λ rs. g.S.RowSink.adds rs sink sink) (sym (ap (λ n. between source n c.args.upto) ended ∙ between_none source c.args.upto)) (laws.adds_none sink))
+    inv.3 sink (subst (λ rs. g.S.RowSink.adds rs sink sink) (sym (ap (λ n. between source n c.args.upto) ended ∙ between_none source c.args.upto))
+    (laws.adds_none sink))

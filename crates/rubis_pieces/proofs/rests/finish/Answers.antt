@@ -80,7 +80,8 @@ returns-clause-folded c =
     filter_from_retain _ is_unfinished (λ p x b q r. search rules) _ c.loop-at.left.items c.retain.new.self.items
     c.retain.ensures.filtered in
     subst (FoldsRests c.args.tables.now c.args.left.now.items c.loop-at.tables) (sym kept)
-    (folds_filtered c.loop-at.left.items c.args.left.now.items c.args.tables.now c.loop-at.tables (length c.args.tables.now) c.loop-at.invariant.rests c.loop-at.invariant.folded)
+    (folds_filtered c.loop-at.left.items c.args.left.now.items c.args.tables.now c.loop-at.tables
+    (length c.args.tables.now) c.loop-at.invariant.rests c.loop-at.invariant.folded)
 
 pub returns-clause-fewer : goal.returns-clause-fewer
 returns-clause-fewer c =

@@ -1,4 +1,5 @@
-use Rattle.std.proofs.Common.{rules, arith, ◌≡◌, ◌∷◌, ◌+◌, ◌++◌, ◌∙◌, [], List, ap, drop, length, length-append, subst, sym, refl, take, append_assoc, take-append-drop}
+use Rattle.std.proofs.Common.{rules, arith, ◌≡◌, ◌∷◌, ◌+◌, ◌++◌, ◌∙◌, [], List, ap, drop, length, length-append, subst, sym, refl, take, append_assoc}
+use Rattle.std.proofs.Common.{take-append-drop}
 use Rattle.std.specs.Vec.Iter.{into_iter_items, into_iter_len}
 use Rattle.std.proofs.lemmas.List.{append-nil, nil_from_length}
 use Rattle.rubis_model.specs.Log.{Core, cores, numbered_from}

@@ -10,7 +10,8 @@ use Rattle.rubis_reading.proofs.ahead.add_singles.Goals as goal
 
 pub returns-in-One-clause-single : goal.returns-in-One-clause-single
 returns-in-One-clause-single c =
-    on_ok_weaker c.push_stretch.result (λ is. subst AreSingle (sym is) (singles-more c.args.list.now.items (One c.in-One.parsed) c.requires tt)) c.push_stretch.ensures.last
+    on_ok_weaker c.push_stretch.result (λ is. subst AreSingle (sym is) (singles-more c.args.list.now.items (One c.in-One.parsed) c.requires tt))
+    c.push_stretch.ensures.last
 
 pub messages-preserved : goal.messages-preserved
 messages-preserved c =
@@ -19,6 +20,7 @@ messages-preserved c =
     let left = all_came (into_iter_items c.next.new.self) in
     let pushed = c.in_ok-push_stretch.ensures in
     record {
-      same = ap (λ t. t ++ left) pushed.records ∙ append_assoc here (message ∷ []) left ∙ ap (λ l. here ++ all_came l) (sym c.in-Some.ensures.items) ∙ c.messages.invariant.same;
+      same = ap (λ t. t ++ left) pushed.records ∙ append_assoc here (message ∷ []) left ∙ ap (λ l. here ++ all_came l) (sym c.in-Some.ensures.items)
+          ∙ c.messages.invariant.same;
       single = subst AreSingle (sym pushed.last) (singles-more c.messages.list.items (One message) c.messages.invariant.single tt);
     }

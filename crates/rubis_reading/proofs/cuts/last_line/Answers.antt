@@ -8,7 +8,8 @@ pub returns-then-is_quoted-clause-last : goal.returns-then-is_quoted-clause-last
 returns-then-is_quoted-clause-last c = quoted-none (state_of c.args.at) c.args.run.now _ c.if-is_quoted.ensures c.requires
 
 pub returns-in-Some-clause-ends : goal.returns-in-Some-clause-ends
-returns-in-Some-clause-ends c some = ends-from (state_of c.args.at) c.args.run.now c.in-Some.last c.if-is_quoted.ensures c.requires c.in-Some.ensures.0.high c.in-Some.ensures.1
+returns-in-Some-clause-ends c some =
+    ends-from (state_of c.args.at) c.args.run.now c.in-Some.last c.if-is_quoted.ensures c.requires c.in-Some.ensures.0.high c.in-Some.ensures.1
 
 pub returns-in-Some-clause-last : goal.returns-in-Some-clause-last
 returns-in-Some-clause-last c = none-after (state_of c.args.at) c.args.run.now (c.in-Some.last + 1) c.in-Some.ensures.0.after

@@ -1,6 +1,8 @@
 use Rattle.std.proofs.Common.{arith}
 use Rattle.rubis_reading.proofs.CutFacts.{marked, unmarked}
-use Rattle.rubis_reading.proofs.cuts.mark_len.Goals.{else-text-ge3-via-then-text-ge3+then-text+then-text-2+else-text-3, else-text-ge3-via-then-text-ge3+then-text+else-text-2, else-text-ge3-via-then-text-ge3+else-text, else-text-ge3-via-else-text-ge3}
+use Rattle.rubis_reading.proofs.cuts.mark_len.Goals.{else-text-ge3-via-then-text-ge3+then-text+then-text-2+else-text-3}
+use Rattle.rubis_reading.proofs.cuts.mark_len.Goals.{else-text-ge3-via-then-text-ge3+then-text+else-text-2, else-text-ge3-via-then-text-ge3+else-text}
+use Rattle.rubis_reading.proofs.cuts.mark_len.Goals.{else-text-ge3-via-else-text-ge3}
 use Rattle.rubis_reading.proofs.cuts.mark_len.Goals as goal
 
 pub returns-then-text-3-clause-rest : goal.returns-then-text-3-clause-rest

@@ -11,4 +11,5 @@ pub returns-then-is_empty : goal.returns-then-is_empty
 returns-then-is_empty c = over-none (state_of c.args.at) c.args.run.now (none-length c.args.run.now c.if-is_empty.ensures)
 
 pub returns : goal.returns
-returns c = subst (λ s. IsLike s (stands (state_of c.args.at) c.args.run.now)) (sym c.in_field.ensures) (over-run (state_of c.args.at) c.args.run.now c.if-is_quoted.ensures c.requires (some-length c.args.run.now c.if-is_empty.ensures))
+returns c = subst (λ s. IsLike s (stands (state_of c.args.at) c.args.run.now)) (sym c.in_field.ensures)
+    (over-run (state_of c.args.at) c.args.run.now c.if-is_quoted.ensures c.requires (some-length c.args.run.now c.if-is_empty.ensures))

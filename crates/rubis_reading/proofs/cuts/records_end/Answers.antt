@@ -28,7 +28,8 @@ pub last_line-line-requires : goal.last_line-line-requires
 last_line-line-requires c = if_none c.memchr.result (first-none c.memchr.result c.split_at.result.1.now c.memchr.ensures) c.in_default.is
 
 pub last_line-line-requires-in-quotes : goal.last_line-line-requires-in-quotes
-last_line-line-requires-in-quotes c = subst HasNoQuote (sym c.split_at-in-quotes.ensures.front) (first-some (Some c.in-Some.quote) c.split_at.result.1.now c.in-Some.ensures).1
+last_line-line-requires-in-quotes c = subst HasNoQuote (sym c.split_at-in-quotes.ensures.front)
+    (first-some (Some c.in-Some.quote) c.split_at.result.1.now c.in-Some.ensures).1
 
 pub over-requires : goal.over-requires
 over-requires c = subst HasNoQuote (sym c.split_at-in-quotes.ensures.front) (first-some (Some c.in-Some.quote) c.split_at.result.1.now c.in-Some.ensures).1
@@ -64,10 +65,12 @@ quotes-preserved c =
           elim c.if-line-gt0-2.branch [
             | then-line-gt0-2 w ↦
                 none-between s text place quote line (place + line) c.quotes.invariant.within c.quotes.invariant.like lt is last
-                (λ j after within e. absurd (omega (arith, after, within))) (λ j after past. omega (arith, after, past)) k (subst (λ e. e < k) w.end-is later) (omega (arith, upto)) h
+                (λ j after within e. absurd (omega (arith, after, within))) (λ j after past. omega (arith, after, past)) k (subst (λ e. e < k) w.end-is later)
+                (omega (arith, upto)) h
             | else-line-gt0-2 w ↦
                 none-between s text place quote line c.quotes.end c.quotes.invariant.within c.quotes.invariant.like lt is last
-                c.quotes.invariant.none (λ j after past. omega (arith, w.if-line-gt0-2.false, past)) k (subst (λ e. e < k) w.end-is later) (omega (arith, upto)) h
+                c.quotes.invariant.none (λ j after past. omega (arith, w.if-line-gt0-2.false, past)) k (subst (λ e. e < k) w.end-is later)
+                (omega (arith, upto)) h
           ];
     }
 

@@ -22,4 +22,5 @@ returns-else-end-gt0-clause-last c =
     let mark = c.mark_len-mark.result in
     let end = c.records_end-end.result in
     no-whole c.args.text.now mark end 0 c.mark_len-mark.ensures.within c.mark_len-mark.ensures.rest
-    (subst (λ rest. NoEndAfter st.StartRecord rest end) c.split_at.ensures.back c.records_end-end.ensures.last) (λ k after past. omega (arith, c.if-end-gt0.false, past))
+    (subst (λ rest. NoEndAfter st.StartRecord rest end) c.split_at.ensures.back c.records_end-end.ensures.last)
+    (λ k after past. omega (arith, c.if-end-gt0.false, past))

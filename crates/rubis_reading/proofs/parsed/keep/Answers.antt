@@ -39,7 +39,8 @@ returns-else-is_err-clause-window c =
     elim c.if-len-window.branch [
       | then-len-window+in_ok-keep_messages-in-Came-Msg w ↦ (
         subst (λ l. FitWindow window l.items) (sym w.list-is)
-            (w.in_ok-keep_messages-in-Came-Msg.ensures.window window (subst (λ m. HaveWindow window list m.items) (sym w.replace-full.ensures.value) c.requires.window)),
+            (w.in_ok-keep_messages-in-Came-Msg.ensures.window window
+            (subst (λ m. HaveWindow window list m.items) (sym w.replace-full.ensures.value) c.requires.window)),
         λ some.
             let none = ap (λ v. length v.items) (w.messages-is ∙ w.replace-full.ensures.after) in
             let empty = ap length w.new.ensures.items in

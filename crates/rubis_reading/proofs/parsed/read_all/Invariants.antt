@@ -7,6 +7,7 @@ use Rattle.rubis_reading.proofs.parsed.read_all.Given as goal
 
 abbrev pub invariant-steps : goal.invariant-steps
 invariant-steps g l = record {
-  parsed : (rows : List (List (List ℕ))) → Gives g.R.Read.remaining l.fn.records rows → HasParsed g.R.Read.remaining l.records l.sites rows (flat l.list.items ++ all_came l.messages.items);
+  parsed : (rows : List (List (List ℕ))) → Gives g.R.Read.remaining l.fn.records rows →
+      HasParsed g.R.Read.remaining l.records l.sites rows (flat l.list.items ++ all_came l.messages.items);
   window : HaveWindow l.window l.list.items l.messages.items;
 }

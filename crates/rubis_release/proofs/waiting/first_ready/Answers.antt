@@ -13,4 +13,5 @@ loop-site-preserved c = subst (IsFirstOf c.args.clock.now c.args.slots.now.entri
 pub returns : goal.returns
 returns c =
     let many = c.len-site-end.ensures.value ∙ ap length c.deps.ensures in
-    first_wider c.args.clock.now c.args.slots.now.entries (length c.args.clock.now.counts) c.loop-site.site (omega (arith, many, c.loop-site-test.false)) c.loop-site.first c.loop-site.invariant
+    first_wider c.args.clock.now c.args.slots.now.entries (length c.args.clock.now.counts) c.loop-site.site
+    (omega (arith, many, c.loop-site-test.false)) c.loop-site.first c.loop-site.invariant

@@ -27,7 +27,8 @@ returns-in_default-slot c =
 pub is_ready-requires : goal.is_ready-requires
 is_ready-requires c =
     (c.requires.among c.in-Some-slot.message
-    (slot_has c.args.slots.now.entries c.in-Some.at c.in-Some._key.now c.in-Some-slot.message (c.in-Some.ensures.entry ∙ ap (λ x. Some (c.in-Some._key.now, x)) c.in-Some-slot.is))).counts
+    (slot_has c.args.slots.now.entries c.in-Some.at c.in-Some._key.now c.in-Some-slot.message
+    (c.in-Some.ensures.entry ∙ ap (λ x. Some (c.in-Some._key.now, x)) c.in-Some-slot.is))).counts
 
 pub returns-then-not-is_ready : goal.returns-then-not-is_ready
 returns-then-not-is_ready c =

@@ -8,7 +8,8 @@ use Rattle.rubis_script.proofs.answering.answer_ready.Goals as goal
 pub answer_run-requires-clause-fits : goal.answer_run-requires-clause-fits
 answer_run-requires-clause-fits g c κs within =
     let sites = c.runs.desk.site.place.sites in
-    all-front sites (of_stretch c.in-Some.run') (flat c.next_stretch.new.self) (subst (λ l. All (λ p. FitsIn sites p) (flat l)) c.in-Some.ensures.parts c.runs.invariant.fits)
+    all-front sites (of_stretch c.in-Some.run') (flat c.next_stretch.new.self)
+    (subst (λ l. All (λ p. FitsIn sites p) (flat l)) c.in-Some.ensures.parts c.runs.invariant.fits)
 
 pub answer_run-requires-clause-window : goal.answer_run-requires-clause-window
 answer_run-requires-clause-window g c κs within = (subst (λ l. FitWindow c.runs.desk.plan.window l) c.in-Some.ensures.parts c.runs.invariant.windows).0
@@ -35,7 +36,8 @@ runs-preserved g c =
       held = ensured.held;
       few = ensured.few;
       fits = subst (λ l. All (λ x. FitsIn c.answer_run.new.desk.site.place.sites x) (flat l)) (sym same)
-          (subst (λ p. All (λ x. FitsIn p.sites x) (flat left)) (sym ensured.place) (all-back site.place.sites run (flat left) (subst (λ l. All (λ p. FitsIn site.place.sites p) l) parts i.fits)));
+          (subst (λ p. All (λ x. FitsIn p.sites x) (flat left)) (sym ensured.place)
+          (all-back site.place.sites run (flat left) (subst (λ l. All (λ p. FitsIn site.place.sites p) l) parts i.fits)));
       windows = subst (λ l. FitWindow c.answer_run.new.desk.plan.window l) (sym same)
           (subst (λ p. FitWindow p.window left) (sym ensured.plan) (subst (λ l. FitWindow c.runs.desk.plan.window l) c.in-Some.ensures.parts i.windows).1);
       count = omega (arith, long, size, ensured.count, i.count);

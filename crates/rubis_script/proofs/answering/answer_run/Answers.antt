@@ -17,7 +17,8 @@ returns-in_ok-flush-in-Messages-clause-held g c =
 pub returns-in_ok-flush-in-Messages-clause-few : goal.returns-in_ok-flush-in-Messages-clause-few
 returns-in_ok-flush-in-Messages-clause-few g c =
     let list = c.in-Messages.list in
-    subst (λ p. FitPlan p list.items) (sym c.in_ok-flush-in-Messages.ensures.plan) (subst (λ r. FitsWindow c.args.desk.now.plan.window r) c.in-Messages.is c.requires.window c.args.desk.now.some)
+    subst (λ p. FitPlan p list.items) (sym c.in_ok-flush-in-Messages.ensures.plan)
+    (subst (λ r. FitsWindow c.args.desk.now.plan.window r) c.in-Messages.is c.requires.window c.args.desk.now.some)
 
 pub returns-in_ok-flush-in-Messages-clause-count : goal.returns-in_ok-flush-in-Messages-clause-count
 returns-in_ok-flush-in-Messages-clause-count g c =
@@ -32,7 +33,8 @@ returns-in_ok-flush-in-Messages-clause-goes g c =
     let b = c.args.backlog.now in
     let flushed = c.in_ok-flush-in-Messages.ensures in
     rw c.in-Messages.is (λ first old now records later h.
-    run-held c.args.desk.now.site c.flush.new.self.site b.window.items c.flush.new.window.items list.items (flat b.ahead) first old now b.reply.sink c.flush.new.reply.sink b.answered c.len-many.result
+    run-held c.args.desk.now.site c.flush.new.self.site b.window.items c.flush.new.window.items list.items
+    (flat b.ahead) first old now b.reply.sink c.flush.new.reply.sink b.answered c.len-many.result
     records later size flushed.leads flushed.empty flushed.flushed h)
 
 pub returns-in_ok-take_parsed-in-One-clause-goes : goal.returns-in_ok-take_parsed-in-One-clause-goes
@@ -40,7 +42,8 @@ returns-in_ok-take_parsed-in-One-clause-goes g c =
     let left = flat c.args.backlog.now.ahead in
     let took = c.in_ok-take_parsed-in-One.ensures in
     rw c.in-One.is (λ first before now records later h.
-    stands-answered c.args.desk.now.site c.take_parsed.new.self.site (c.in-One.parsed ∷ left) left c.in-One.parsed c.args.backlog.now.window.items c.take_parsed.new.window.items first before now
+    stands-answered c.args.desk.now.site c.take_parsed.new.self.site
+    (c.in-One.parsed ∷ left) left c.in-One.parsed c.args.backlog.now.window.items c.take_parsed.new.window.items first before now
     c.args.backlog.now.reply.sink c.take_parsed.new.reply.sink c.args.backlog.now.answered records later refl took.goes took.leads h)
 
 pub overflow_add-backlog : goal.overflow_add-backlog

@@ -16,6 +16,7 @@ invariant-steps g l = record {
   windows : FitWindow l.desk.plan.window l.ahead;
   number : l.answered ≡ l.fn.backlog.answered + l._taken;
   size : length (flat l.ahead) + l._taken ≡ length (flat l.fn.backlog.ahead);
-  goes : (first : SiteState) (old now : Option (List ℕ)) (records later : List (List (List ℕ))) → StandsWith l.fn.desk.site l.fn.backlog first old now records later
+  goes : (first : SiteState) (old now : Option (List ℕ)) (records later : List (List (List ℕ))) →
+      StandsWith l.fn.desk.site l.fn.backlog first old now records later
       → Stands l.desk.site (flat l.ahead) l.window.items l.reply.sink l.answered first old now records later;
 }

@@ -39,7 +39,8 @@ listings-preserved g c =
 pub returns-in_default-clause-goes : goal.returns-in_default-clause-goes
 returns-in_default-clause-goes g c first old records later h =
     let b = c.listings.backlog in
-    subst (λ n. Stands c.listings.desk.site (left_ahead n b) b.window.items b.reply.sink b.answered first old (g.W.Write.contents c.listings.writer) records later)
+    subst (λ n. Stands c.listings.desk.site (left_ahead n b) b.window.items b.reply.sink b.answered first old
+    (g.W.Write.contents c.listings.writer) records later)
     c.in_default.is (c.listings.invariant.goes first old records later h)
 
 pub returns-in_err-list_one-clause-memory : goal.returns-in_err-list_one-clause-memory
@@ -50,7 +51,8 @@ returns-in_err-list_one-clause-memory g c e first old records later h =
     let memory = handed_on c.from_residual.result c.in_err-list_one.field-0.0 fault.Memory c.from_residual.ensures e in
     let before = subst (λ n. Stands site (left_ahead n b) b.window.items b.reply.sink b.answered first old now records later) c.in-Some.is
     (c.listings.invariant.goes first old records later h) in
-    stands_front site (flat b.ahead) c.in-Some.listing b.window.items first old now (g.W.Write.contents c.list_one.new.writer) b.reply.sink b.answered records later
+    stands_front site (flat b.ahead) c.in-Some.listing b.window.items first old now
+    (g.W.Write.contents c.list_one.new.writer) b.reply.sink b.answered records later
     (c.in_err-list_one.ensures.memory (rw memory refl)) before
 
 pub returns-in_err-next-clause-memory : goal.returns-in_err-next-clause-memory
@@ -65,7 +67,8 @@ returns-in_err-next-clause-memory g c e first old records later h =
     let before = subst (λ n. Stands site (left_ahead n b) b.window.items b.reply.sink b.answered first old now records later) c.in-Some.is
     (c.listings.invariant.goes first old records later h) in
     stands-prefix new (flat b.ahead) b2.window.items first old now2 now2 b2.reply.sink (b.answered + 1) records later refl
-    (stands_listed site new (flat b.ahead) c.in-Some.listing b.window.items b2.window.items first old now now2 b.reply.sink b2.reply.sink b.answered records later
+    (stands_listed site new (flat b.ahead) c.in-Some.listing b.window.items b2.window.items first old now now2 b.reply.sink b2.reply.sink b.answered records
+    later
     listed.goes listed.leads before)
 
 pub returns-clause-memory : goal.returns-clause-memory

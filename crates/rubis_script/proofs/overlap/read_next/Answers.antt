@@ -11,4 +11,5 @@ returns-clause-goes g c =
     let desk : c.join_mut-list.new.g.1.now ≡ c.desk-1.given.0 = search rules in
     let backlog : c.join_mut-list.new.g.2.now ≡ c.backlog-1.given.0 = search rules in
     let answered = at_if_ok _ c.join_mut-list.result.1 stopped c.join_mut-list.ensures.1.met.1 c.in_ok-stopped-2.was in
-    subst (λ d. StopsAt stopped old before d.site c.backlog-1.given.0) desk (subst (λ b. StopsAt stopped old before c.join_mut-list.new.g.1.now.site b) backlog answered.4)
+    subst (λ d. StopsAt stopped old before d.site c.backlog-1.given.0) desk
+    (subst (λ b. StopsAt stopped old before c.join_mut-list.new.g.1.now.site b) backlog answered.4)

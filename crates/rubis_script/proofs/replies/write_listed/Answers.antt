@@ -10,4 +10,5 @@ returns g c =
     let count : c.len.result ≡ length rows = search rules in
     let one = subst (λ n. g.S.RowSink.adds (reply c.args.number (codes "rows" ∷ decimal n ∷ []) ∷ []) c.args.sink.now c.write_number.new.sink) count c.in_ok-write_number.ensures in
     on_ok c.write_rows.result (λ two. g.met.S.RowSink.adds_more (reply c.args.number (codes "rows" ∷ decimal (length rows) ∷ []) ∷ []) rows
-    c.args.sink.now c.write_number.new.sink c.write_rows.new.sink one (subst (λ rs. g.S.RowSink.adds rs c.write_number.new.sink c.write_rows.new.sink) c.as_slice.ensures two)) c.write_rows.ensures
+    c.args.sink.now c.write_number.new.sink c.write_rows.new.sink one
+    (subst (λ rs. g.S.RowSink.adds rs c.write_number.new.sink c.write_rows.new.sink) c.as_slice.ensures two)) c.write_rows.ensures

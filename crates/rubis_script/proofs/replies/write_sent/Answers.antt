@@ -21,4 +21,5 @@ returns g c =
     let sent : c.put_plain-2.new.self.fields ≡ send_row (message_record c.args.message.now) = search rules in
     let one = subst (λ r. g.S.RowSink.adds (r ∷ []) c.args.sink.now c.put_plain.new.self) told c.in_ok-put_plain.ensures in
     on_ok c.put_plain-3.result (λ two. g.met.S.RowSink.adds_more (accepted ∷ []) (send_row (message_record c.args.message.now) ∷ [])
-    c.args.sink.now c.put_plain.new.self c.put_plain-3.new.self one (subst (λ r. g.S.RowSink.adds (r ∷ []) c.put_plain.new.self c.put_plain-3.new.self) sent two)) c.put_plain-3.ensures
+    c.args.sink.now c.put_plain.new.self c.put_plain-3.new.self one
+    (subst (λ r. g.S.RowSink.adds (r ∷ []) c.put_plain.new.self c.put_plain-3.new.self) sent two)) c.put_plain-3.ensures

@@ -37,9 +37,11 @@ returns-clause-goes g c first old input h =
     let place = c.in_ok-finish.ensures.place ∙ c.in_ok-overlapped.ensures.place in
     let parsed = subst (λ p. AreParsed p.sites (input_records c.split_at.result.0.now) (flat read)) (sym place) c.in_ok-overlapped.ensures.parsed in
     let shown : AreParsed site.place.sites (input_records chunk) (flat c.in_ok-ahead.ahead) =
-    subst (λ l. AreParsed site.place.sites (input_records chunk) (flat l)) (sym c.in_ok-ahead.ensures) (subst (λ t. AreParsed site.place.sites (input_records t) (flat read)) piece parsed) in
+    subst (λ l. AreParsed site.place.sites (input_records chunk) (flat l)) (sym c.in_ok-ahead.ensures)
+    (subst (λ t. AreParsed site.place.sites (input_records t) (flat read)) piece parsed) in
     let (more, split, pending) = c.pass.ensures h.later h.pending in
-    let finished = c.in_ok-finish.ensures.goes first old (input_records input) h.later (c.in_ok-overlapped.ensures.goes first old now (input_records input) h.later h.stands) in
+    let finished = c.in_ok-finish.ensures.goes first old (input_records input) h.later
+    (c.in_ok-overlapped.ensures.goes first old now (input_records input) h.later h.stands) in
     record {
       later = more;
       stands = stands-read site (flat b.ahead) (flat c.in_ok-ahead.ahead) b.window.items first old now2 b.reply.sink b.answered

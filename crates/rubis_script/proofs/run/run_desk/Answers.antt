@@ -3,7 +3,8 @@ use Rattle.rubis_script.proofs.LoopFacts.{ends_ahead, sound-none, starts}
 use Rattle.rubis_script.proofs.run.run_desk.Goals as goal
 
 pub serve-requires-clause-sound : goal.serve-requires-clause-sound
-serve-requires-clause-sound g c κs within = sound-none c.args.desk.now.site c.args.desk.now.plan c.new-backlog.result c.new-backlog.ensures.ahead c.new-backlog.ensures.window
+serve-requires-clause-sound g c κs within =
+    sound-none c.args.desk.now.site c.args.desk.now.plan c.new-backlog.result c.new-backlog.ensures.ahead c.new-backlog.ensures.window
 
 pub returns-clause-run : goal.returns-clause-run
 returns-clause-run g c =
@@ -39,10 +40,12 @@ returns-clause-leads g c =
 
 pub returns-clause-process : goal.returns-clause-process
 returns-clause-process g c opened =
-    as_process c.args.desk.now.site c.serve.new.desk.site c.args.limit (g.R.Read.remaining c.args.reader) (g.W.Write.contents c.args.writer.now) (g.W.Write.contents c.serve.new.writer)
+    as_process c.args.desk.now.site c.serve.new.desk.site c.args.limit (g.R.Read.remaining c.args.reader) (g.W.Write.contents c.args.writer.now)
+    (g.W.Write.contents c.serve.new.writer)
     c.serve.result opened (returns-clause-leads g c)
 
 pub returns-then-desk-eq0-clause-process : goal.returns-then-desk-eq0-clause-process
 returns-then-desk-eq0-clause-process g c opened =
-    as_process c.args.desk.now.site c.run_in_turn.new.desk.site c.args.limit (g.R.Read.remaining c.args.reader) (g.W.Write.contents c.args.writer.now) (g.W.Write.contents c.run_in_turn.new.writer)
+    as_process c.args.desk.now.site c.run_in_turn.new.desk.site c.args.limit (g.R.Read.remaining c.args.reader) (g.W.Write.contents c.args.writer.now)
+    (g.W.Write.contents c.run_in_turn.new.writer)
     c.run_in_turn.result opened c.run_in_turn.ensures.leads

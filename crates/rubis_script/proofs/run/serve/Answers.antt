@@ -15,7 +15,8 @@ returns-in_err-count-clause-too_long g c e first old input h =
 pub returns-in_err-count-clause-read : goal.returns-in_err-count-clause-read
 returns-in_err-count-clause-read g c e first old input h =
     let same = handed_on c.from_residual.result c.in_err-count.field-0.0 fault.Read c.from_residual.ensures e in
-    subst (λ k. AnswersJust k first c.turn.new.desk.site old (g.W.Write.contents c.turn.new.writer) (input_records input)) (sym (c.in_err-count.ensures.cut (rw same refl)))
+    subst (λ k. AnswersJust k first c.turn.new.desk.site old (g.W.Write.contents c.turn.new.writer) (input_records input))
+    (sym (c.in_err-count.ensures.cut (rw same refl)))
     (c.in_err-count.ensures.read (rw same refl) first old input (c.steps.invariant.stands first old input h))
 
 pub returns-in_err-count-clause-memory : goal.returns-in_err-count-clause-memory

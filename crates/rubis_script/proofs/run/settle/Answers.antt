@@ -28,4 +28,5 @@ returns-clause-goes g c =
     c.flush.new.reply.sink c.close.new.self b.answered records later out c.close.ensures.empty
     (stands-kept old new (flat b.ahead) b.window.items c.flush.new.window.items first before (g.W.Write.contents c.args.writer.now)
     b.reply.sink c.flush.new.reply.sink b.answered records later
-    (told-kept old new b.window.items c.flush.new.window.items (b.answered + 1) b.reply.sink c.flush.new.reply.sink flushed.empty flushed.flushed) flushed.leads h)) c.close.ensures.ok
+    (told-kept old new b.window.items c.flush.new.window.items (b.answered + 1) b.reply.sink c.flush.new.reply.sink flushed.empty flushed.flushed) flushed.leads
+    h)) c.close.ensures.ok

@@ -53,7 +53,8 @@ returns-in-Ok-true-clause-goes g c first old input h = record {
 
 pub returns-in_err-count-in-Ok-false-clause-too_long : goal.returns-in_err-count-in-Ok-false-clause-too_long
 returns-in_err-count-in-Ok-false-clause-too_long g c e first old input h =
-    let same = handed_on c.from_residual-in_err-count-in-Ok-false.result c.in_err-count-in-Ok-false.field-0.0 fault.TooLong c.from_residual-in_err-count-in-Ok-false.ensures e in
+    let same = handed_on c.from_residual-in_err-count-in-Ok-false.result c.in_err-count-in-Ok-false.field-0.0 fault.TooLong
+    c.from_residual-in_err-count-in-Ok-false.ensures e in
     c.in_err-count-in-Ok-false.ensures.too_long (rw same refl) first old input (record {
       later = h.later;
       stands = c.in_ok-catch_up.ensures.goes first old (input_records input) h.later h.stands;
@@ -62,7 +63,8 @@ returns-in_err-count-in-Ok-false-clause-too_long g c e first old input h =
 
 pub returns-in_err-count-in-Ok-false-clause-memory : goal.returns-in_err-count-in-Ok-false-clause-memory
 returns-in_err-count-in-Ok-false-clause-memory g c e first old input h =
-    let same = handed_on c.from_residual-in_err-count-in-Ok-false.result c.in_err-count-in-Ok-false.field-0.0 fault.Memory c.from_residual-in_err-count-in-Ok-false.ensures e in
+    let same = handed_on c.from_residual-in_err-count-in-Ok-false.result c.in_err-count-in-Ok-false.field-0.0 fault.Memory
+    c.from_residual-in_err-count-in-Ok-false.ensures e in
     c.in_err-count-in-Ok-false.ensures.memory (rw same refl) first old input (record {
       later = h.later;
       stands = c.in_ok-catch_up.ensures.goes first old (input_records input) h.later h.stands;

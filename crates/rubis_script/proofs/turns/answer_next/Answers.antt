@@ -8,7 +8,8 @@ use Rattle.rubis_script.proofs.turns.answer_next.Goals as goal
 pub returns-in_err-take-clause-memory : goal.returns-in_err-take-clause-memory
 returns-in_err-take-clause-memory g c e more =
     let run = c.args.site_run.now.run in
-    front_none (run.reply.sink ++ (held_by c.args.desk.now.site c.args.site_run.now.window.items (run.answered + 1)).text AtEnd (fields_now run.records ∷ more)) _ _ refl
+    front_none (run.reply.sink ++ (held_by c.args.desk.now.site c.args.site_run.now.window.items (run.answered + 1)).text AtEnd (fields_now run.records ∷ more))
+    _ _ refl
 
 pub returns-clause-goes : goal.returns-clause-goes
 returns-clause-goes g c = (

@@ -12,7 +12,8 @@ use Rattle.rubis_script.proofs.turns.list_next.Goals as goal
 pub returns-in_err-flush-clause-memory : goal.returns-in_err-flush-clause-memory
 returns-in_err-flush-clause-memory g c e more =
     let run = c.args.site_run.now.run in
-    front_none (run.reply.sink ++ (held_by c.args.desk.now.site c.args.site_run.now.window.items (run.answered + 1)).text AtEnd (fields_now run.records ∷ more)) _ _ refl
+    front_none (run.reply.sink ++ (held_by c.args.desk.now.site c.args.site_run.now.window.items (run.answered + 1)).text AtEnd (fields_now run.records ∷ more))
+    _ _ refl
 
 pub returns-in_err-list_out-clause-memory : goal.returns-in_err-list_out-clause-memory
 returns-in_err-list_out-clause-memory g c e =

@@ -18,7 +18,8 @@ returns-clause-goes g c =
     let held = c.args.site_run.now.window.items in
     let left = c.flush.new.window.items in
     let flushed = c.in_ok-flush.ensures in
-    on_ok_both {Q = (new ≡ c.flush.new.self.site) × (c.write_out.new.service.plan ≡ c.flush.new.self.plan)} c.write_out.result (λ goes stays first old input p. record {
+    on_ok_both {Q = (new ≡ c.flush.new.self.site) × (c.write_out.new.service.plan ≡ c.flush.new.self.plan)} c.write_out.result
+    (λ goes stays first old input p. record {
       text = progress-told _ _ (told_by first 1) new _ old _ _ n input flushed.empty (goes (told_by first 1) old n input
           (progress-kept _ _ (told_by first 1) (held_by site held n) (told_by c.flush.new.self.site n) old _ _ _ n input p.text flushed.flushed));
       led = led_kept first site new held left answered (input_records input)

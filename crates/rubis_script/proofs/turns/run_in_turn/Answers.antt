@@ -12,7 +12,8 @@ returns-clause-run g c =
     let old = g.W.Write.contents c.args.writer.now in
     let now = g.W.Write.contents c.serve.new.writer in
     ends_run c.args.limit site new input old now c.serve.result
-    (ends_in_turn g.R.Read.remaining c.new-run.result site new c.args.limit c.serve.new.site_run.run.answered input old now c.serve.result run.gives run.empty said.ok said.too_long said.read said.memory)
+    (ends_in_turn g.R.Read.remaining c.new-run.result site new c.args.limit c.serve.new.site_run.run.answered input old now c.serve.result run.gives run.empty
+    said.ok said.too_long said.read said.memory)
 
 pub returns-clause-leads : goal.returns-clause-leads
 returns-clause-leads g c =
@@ -24,4 +25,5 @@ returns-clause-leads g c =
     let old = g.W.Write.contents c.args.writer.now in
     let now = g.W.Write.contents c.serve.new.writer in
     ends_led c.args.limit site new input old now c.serve.result
-    (ends_in_turn g.R.Read.remaining c.new-run.result site new c.args.limit c.serve.new.site_run.run.answered input old now c.serve.result run.gives run.empty said.ok said.too_long said.read said.memory)
+    (ends_in_turn g.R.Read.remaining c.new-run.result site new c.args.limit c.serve.new.site_run.run.answered input old now c.serve.result run.gives run.empty
+    said.ok said.too_long said.read said.memory)

@@ -30,25 +30,29 @@ returns-in_err-count-clause-memory g c e input gives empty =
 pub returns-in_err-count-clause-read : goal.returns-in_err-count-clause-read
 returns-in_err-count-clause-read g c e input gives empty =
     let read = handed_on c.from_residual.result c.in_err-count.field-0.0 fault.Read c.from_residual.ensures e in
-    subst (λ k. AnswersJust k c.args.desk.now.site c.take_next.new.desk.site (g.W.Write.contents c.args.writer.now) (g.W.Write.contents c.take_next.new.writer) (input_records input))
+    subst (λ k. AnswersJust k c.args.desk.now.site c.take_next.new.desk.site (g.W.Write.contents c.args.writer.now) (g.W.Write.contents c.take_next.new.writer)
+    (input_records input))
     (sym (c.in_err-count.ensures.cut (rw read refl))) (c.in_err-count.ensures.read (rw read refl) _ _ input (c.steps.invariant.2 input gives empty))
 
 pub returns-clause-ok : goal.returns-clause-ok
 returns-clause-ok g c =
     let limit : c.steps.site_run.run.answered ≡ c.args.limit = omega (arith, c.steps.invariant.0, c.steps-test.false, c.steps.auto._answered-end) in
     if_ok_so _ _ c.stop_at.result (λ count done input gives empty.
-    subst (λ k. AnswersAll k c.args.desk.now.site c.stop_at.new.desk.site (g.W.Write.contents c.args.writer.now) (g.W.Write.contents c.stop_at.new.writer) (input_records input) count.records) limit
+    subst (λ k. AnswersAll k c.args.desk.now.site c.stop_at.new.desk.site (g.W.Write.contents c.args.writer.now) (g.W.Write.contents c.stop_at.new.writer)
+    (input_records input) count.records) limit
     (done _ _ input (c.steps.invariant.2 input gives empty))) c.stop_at.ensures.ok
 
 pub returns-clause-too_long : goal.returns-clause-too_long
 returns-clause-too_long g c e input gives empty =
     let limit : c.steps.site_run.run.answered ≡ c.args.limit = omega (arith, c.steps.invariant.0, c.steps-test.false, c.steps.auto._answered-end) in
-    subst (λ k. AnswersFirst k c.args.desk.now.site c.stop_at.new.desk.site (g.W.Write.contents c.args.writer.now) (g.W.Write.contents c.stop_at.new.writer) (input_records input)) limit
+    subst (λ k. AnswersFirst k c.args.desk.now.site c.stop_at.new.desk.site (g.W.Write.contents c.args.writer.now) (g.W.Write.contents c.stop_at.new.writer)
+    (input_records input)) limit
     (c.stop_at.ensures.too_long e _ _ input (c.steps.invariant.2 input gives empty))
 
 pub returns-clause-read : goal.returns-clause-read
 returns-clause-read g c e input gives empty =
-    subst (λ k. AnswersJust k c.args.desk.now.site c.stop_at.new.desk.site (g.W.Write.contents c.args.writer.now) (g.W.Write.contents c.stop_at.new.writer) (input_records input))
+    subst (λ k. AnswersJust k c.args.desk.now.site c.stop_at.new.desk.site (g.W.Write.contents c.args.writer.now) (g.W.Write.contents c.stop_at.new.writer)
+    (input_records input))
     (sym (c.stop_at.ensures.cut e)) (c.stop_at.ensures.read e _ _ input (c.steps.invariant.2 input gives empty))
 
 pub returns-clause-memory : goal.returns-clause-memory

@@ -33,9 +33,11 @@ returns-clause-too_long g c e first old input p =
     let same = if_none c.in_ok-count.field-0 c.in_ok-count.ensures.same c.in_default.is in
     let found = if_none c.in_ok-count.field-0 c.in_ok-count.ensures.found c.in_default.is in
     let written = g.W.Write.contents c.next_or_end.new.writer in
-    let moved = turn_moved g.R.Read.remaining start.run.records c.args.desk.now.site site start.window.items before.window.items start.run.reply.sink before.run.reply.sink
+    let moved = turn_moved g.R.Read.remaining start.run.records c.args.desk.now.site site start.window.items before.window.items start.run.reply.sink
+    before.run.reply.sink
     start.run.answered before.run.answered first old (g.W.Write.contents c.args.writer.now) written input
     (λ i. (same.0 i).site) (λ i. (same.1 i).items) (λ i. (same.2 i).sink) same.3 (ap g.W.Write.contents same.4) p in
     subst (λ k. AnswersFirst k first c.settle.new.desk.site old (g.W.Write.contents c.settle.new.writer) (input_records input)) same.3
-    (turn_too_long g.R.Read.remaining start.run.records before.run.records site c.settle.new.desk.site before.window.items before.run.reply.sink before.run.answered
+    (turn_too_long g.R.Read.remaining start.run.records before.run.records site c.settle.new.desk.site before.window.items before.run.reply.sink
+    before.run.answered
     first old written (g.W.Write.contents c.settle.new.writer) input found c.in_ok-settle.ensures.drains c.in_ok-settle.ensures.leads moved)

@@ -36,7 +36,8 @@ returns-in_err-answer_next-clause-memory g c e all old input p =
     before.run.reply.sink start.run.answered before.run.answered old (g.W.Write.contents c.args.writer.now) (g.W.Write.contents c.next_or_end.new.writer) input
     (λ i. (same.0 i).site) (λ i. (same.1 i).items) (λ i. (same.2 i).sink) same.3 (ap g.W.Write.contents same.4) p in
     turn_front g.R.Read.remaining start.run.records before.run.records all site before.window.items before.run.reply.sink (before.run.answered + 1) old
-    (g.W.Write.contents c.next_or_end.new.writer) (g.W.Write.contents c.answer_next.new.writer) input found (c.in_err-answer_next.ensures.memory (rw memory refl)) moved
+    (g.W.Write.contents c.next_or_end.new.writer) (g.W.Write.contents c.answer_next.new.writer) input found
+    (c.in_err-answer_next.ensures.memory (rw memory refl)) moved
 
 pub returns-clause-goes : goal.returns-clause-goes
 returns-clause-goes g c first old input p =
@@ -49,17 +50,20 @@ returns-clause-goes g c first old input p =
     let now2 = g.W.Write.contents c.answer_next.new.writer in
     let same = if_none c.in_ok-count.field-0 c.in_ok-count.ensures.same c.in_default.is in
     let found = if_none c.in_ok-count.field-0 c.in_ok-count.ensures.found c.in_default.is in
-    let moved = turn_moved g.R.Read.remaining start.run.records c.args.desk.now.site site start.window.items before.window.items start.run.reply.sink before.run.reply.sink
+    let moved = turn_moved g.R.Read.remaining start.run.records c.args.desk.now.site site start.window.items before.window.items start.run.reply.sink
+    before.run.reply.sink
     start.run.answered before.run.answered first old (g.W.Write.contents c.args.writer.now) now input
     (λ i. (same.0 i).site) (λ i. (same.1 i).items) (λ i. (same.2 i).sink) same.3 (ap g.W.Write.contents same.4) p in
     let answered = c.in_ok-answer_next.ensures in
     let (text, answers, off) = answered.goes in
     let stepped = turn_step g.R.Read.remaining start.run.records before.run.records site new before.window.items after.window.items before.run.reply.sink text
     before.run.answered first old now input found answers answered.leads moved in
-    let part = turn_part g.R.Read.remaining before.run.records new after.window.items text after.run.reply.sink (before.run.answered + 1) first old now now2 input off stepped in
+    let part = turn_part g.R.Read.remaining before.run.records new after.window.items text after.run.reply.sink
+    (before.run.answered + 1) first old now now2 input off stepped in
     c.in_ok-pass_on.ensures.goes first old input
     (subst (λ r. StandsFrom g.R.Read.remaining r new after.window.items after.run.reply.sink after.run.answered first old now2 input) (sym answered.records)
-    (subst (λ k. StandsFrom g.R.Read.remaining before.run.records new after.window.items after.run.reply.sink k first old now2 input) (sym answered.counted) part))
+    (subst (λ k. StandsFrom g.R.Read.remaining before.run.records new after.window.items after.run.reply.sink k first old now2 input)
+    (sym answered.counted) part))
 
 pub returns-in_err-pass_on-clause-memory : goal.returns-in_err-pass_on-clause-memory
 returns-in_err-pass_on-clause-memory g c e all old input p =
@@ -79,11 +83,13 @@ returns-in_err-pass_on-clause-memory g c e all old input p =
     (λ i. (same.0 i).site) (λ i. (same.1 i).items) (λ i. (same.2 i).sink) same.3 (ap g.W.Write.contents same.4) p in
     let (text, answers, off) = c.in_ok-answer_next.ensures.goes in
     let more = held_by new after.window.items (n + 1) in
-    let stepped = progress-step g.R.Read.remaining start.run.records before.run.records all (held_by site before.window.items n) more old now before.run.reply.sink text n
+    let stepped = progress-step g.R.Read.remaining start.run.records before.run.records all
+    (held_by site before.window.items n) more old now before.run.reply.sink text n
     input moved found answers in
     let part = progress-part g.R.Read.remaining before.run.records all more old now now2 text after.run.reply.sink (n + 1) input off stepped in
     prefix-same (all.text AtEnd) old now2 (g.W.Write.contents c.pass_on.new.writer) (input_records input)
-    (progress-prefix g.R.Read.remaining before.run.records all more old now2 after.run.reply.sink (n + 1) input part) (c.in_err-pass_on.ensures.memory (rw memory refl))
+    (progress-prefix g.R.Read.remaining before.run.records all more old now2 after.run.reply.sink (n + 1) input part)
+    (c.in_err-pass_on.ensures.memory (rw memory refl))
 
 pub returns-clause-few : goal.returns-clause-few
 returns-clause-few g c =

@@ -45,7 +45,8 @@ put_store-requires-2 t c =
     let rows : HoldsOwnRows x = search rules in
     let hollow = set ts at c.take_store.new.self in
     own_back ts mid c.args.message.now.shards at ns x c.take_store.new.self s there c.requires.order c.requires.shards left
-    (folds_sooner (at + 1) c.next_home-next.result c.args.message.now.shards hollow mid ns (c.requires.shards ∙ sym (length-set ts at c.take_store.new.self)) c.next_home-next.ensures.from c.next_home-next.ensures.none c.in_default.ensures.ok)
+    (folds_sooner (at + 1) c.next_home-next.result c.args.message.now.shards hollow mid ns
+    (c.requires.shards ∙ sym (length-set ts at c.take_store.new.self)) c.next_home-next.ensures.from c.next_home-next.ensures.none c.in_default.ensures.ok)
     (ap (get_or mid at) c.index-list-at-3.is)
     (held_by c.get_mut.result.now) (held_by c.fold_at.new.store) rows taken c.fold_at.ensures
 
@@ -62,7 +63,8 @@ returns-clause-ok t c =
     let taken : held_by c.get_mut.result.now ≡ x.folded = search rules in
     let hollow = set ts at c.take_store.new.self in
     ended_ok ts mid c.args.message.now.shards at ns x c.take_store.new.self s there c.requires.order c.requires.shards left
-    (folds_sooner (at + 1) c.next_home-next.result c.args.message.now.shards hollow mid ns (c.requires.shards ∙ sym (length-set ts at c.take_store.new.self)) c.next_home-next.ensures.from c.next_home-next.ensures.none c.in_default.ensures.ok)
+    (folds_sooner (at + 1) c.next_home-next.result c.args.message.now.shards hollow mid ns
+    (c.requires.shards ∙ sym (length-set ts at c.take_store.new.self)) c.next_home-next.ensures.from c.next_home-next.ensures.none c.in_default.ensures.ok)
     (ap (get_or mid at) c.index-list-at-3.is)
     c.put_store-2.new.self (held_by c.get_mut.result.now) (held_by c.fold_at.new.store) c.put_store-2.ensures taken c.fold_at.ensures
 

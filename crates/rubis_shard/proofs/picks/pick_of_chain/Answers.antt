@@ -25,7 +25,8 @@ loop-place-init c =
     let cs = chains_of es in
     let is : c.last-place.result ≡ last_among c.args.chain.now cs (length cs) =
     c.last-place.ensures ∙ (linked_chains c.args.rows.now).last c.args.chain.now in
-    let within : c.last-place.result ≤ length es = omega (arith, is, last_small c.args.chain.now cs (length cs), length-map es (λ (e : RowKey × Row). chain_of e.0 e.1)) in
+    let within : c.last-place.result ≤ length es =
+    omega (arith, is, last_small c.args.chain.now cs (length cs), length-map es (λ (e : RowKey × Row). chain_of e.0 e.1)) in
     record {
       within = within;
       inside = omega (arith, within, linked_length c.args.rows.now, linked_few c.args.rows.now);
@@ -63,7 +64,8 @@ loop-place-preserved c =
     let k = row_key c.in-Some.key.now in
     let row = c.in-Some.row.now in
     let e : RowKey × Row = (k, row) in
-    let here : slice_get es at ≡ Some e = taken_at (kept_of c.args.rows.now) (length c.args.rows.now.chains.before.items) at (omega (arith, inside, linked_length c.args.rows.now)) ∙
+    let here : slice_get es at
+    ≡ Some e = taken_at (kept_of c.args.rows.now) (length c.args.rows.now.chains.before.items) at (omega (arith, inside, linked_length c.args.rows.now)) ∙
     written_at row_key c.args.rows.now.rows.entries at c.in-Some.key.now row (sym c.get_index.ensures.entry ∙ ap (option_map deref_pair) c.in-Some.is) in
     let b = is_of l k row && holds t k in
     let one : List (RowKey × Row) = cond b (e ∷ []) [] in

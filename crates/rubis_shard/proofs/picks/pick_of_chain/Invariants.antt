@@ -15,7 +15,8 @@ invariant-loop-place l = record {
   inside : l.place ≤ length (kept_of l.rows);
   own : 0 < l.place → get_or (chains_of (linked_of l.rows)) (l.place - 1) None ≡ Some l.chain;
   walked : (added : List (RowKey × Row)) × (l.picked.items ≡ l.fn.picked.items ++ added)
-      × (listed_among l.listing (table_with l.table) (take l.place (linked_of l.rows)) ++ reverse added ≡ listed_among l.listing (table_with l.table) (linked_of l.rows));
+      × (listed_among l.listing (table_with l.table) (take l.place (linked_of l.rows)) ++ reverse added
+      ≡ listed_among l.listing (table_with l.table) (linked_of l.rows));
 }
 
 abbrev pub decreases-loop-place : goal.decreases-loop-place

@@ -24,7 +24,8 @@ loop-cat-preserved c =
     let high : c.loop-cat.cat ≤ 1000 = omega arith in
     let here : nat_eq (home c.args.shards (key.Cat (c.loop-cat.cat - 1))) c.args.number ≡ true =
     (Decides-eqb _ _).1 (sym c.shard_of.ensures.home ∙ c.if-shard_of-number.false) in
-    let before : tables_in c.make_room.new.self ≡ part_of c.args.shards c.args.number (map.from_entries (categories_from c.loop-cat.cat (1000 - c.loop-cat.cat))) =
+    let before : tables_in c.make_room.new.self
+    ≡ part_of c.args.shards c.args.number (map.from_entries (categories_from c.loop-cat.cat (1000 - c.loop-cat.cat))) =
     ap map.from_entries c.in_ok-make_room.ensures.same ∙ c.loop-cat.invariant in
     let free : map.get (tables_in c.make_room.new.self) (key.Cat (c.loop-cat.cat - 1)) ≡ None =
     ap (λ (t : Tables). map.get t (key.Cat (c.loop-cat.cat - 1))) before ∙ not_open c.args.shards c.args.number c.loop-cat.cat _ _ (omega arith) in

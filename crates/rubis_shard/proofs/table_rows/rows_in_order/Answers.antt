@@ -14,7 +14,8 @@ returns c =
     let gs = each shown c.put_rows_in_order.new.rows in
     let found : each shown c.deref_mut.result.now ≡ listed_among listing.Tables c.args.table es =
     ap (each shown) c.deref_mut.ensures.value ∙ c.in_ok-found.ensures in
-    let moved : IsPermutation (listed_among listing.Tables c.args.table es) gs = subst (λ fs. IsPermutation fs gs) found c.put_rows_in_order.ensures.permutation in
+    let moved : IsPermutation (listed_among listing.Tables c.args.table es) gs =
+    subst (λ fs. IsPermutation fs gs) found c.put_rows_in_order.ensures.permutation in
     let whole = take_at c.put_rows_in_order.new.rows _ c.in_ok-found.found.len (c.put_rows_in_order.ensures.len ∙ c.deref_mut.ensures.len) in
     ap (each shown) whole
     ∙ picked_listed listing.Tables c.args.table es gs c.lens-lens.ensures moved c.in_ok-put_rows_in_order.ensures.sorted

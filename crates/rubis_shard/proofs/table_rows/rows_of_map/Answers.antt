@@ -15,7 +15,8 @@ returns-in-Nicks c =
     let l = listing.Tables in
     let r = c.args.rows.now in
     subst (λ (es : Entries). IfOk c.rows_among.result (λ rows. each shown rows.items ≡ es))
-    (ap (λ (t : Table). listed_among l t (written key.Nick r.nicks.entries)) c.in-Nicks.is ∙ nicks_listed l r ∙ ap (λ (t : Table). listed_among l t (entries_of r)) (sym c.in-Nicks.is))
+    (ap (λ (t : Table). listed_among l t (written key.Nick r.nicks.entries)) c.in-Nicks.is ∙ nicks_listed l r
+    ∙ ap (λ (t : Table). listed_among l t (entries_of r)) (sym c.in-Nicks.is))
     c.rows_among.ensures
 
 pub returns-in-Cats : goal.returns-in-Cats
@@ -23,7 +24,8 @@ returns-in-Cats c =
     let l = listing.Tables in
     let r = c.args.rows.now in
     subst (λ (es : Entries). IfOk c.rows_among-in-Cats.result (λ rows. each shown rows.items ≡ es))
-    (ap (λ (t : Table). listed_among l t (written key.Cat r.cats.entries)) c.in-Cats.is ∙ cats_listed l r ∙ ap (λ (t : Table). listed_among l t (entries_of r)) (sym c.in-Cats.is))
+    (ap (λ (t : Table). listed_among l t (written key.Cat r.cats.entries)) c.in-Cats.is ∙ cats_listed l r
+    ∙ ap (λ (t : Table). listed_among l t (entries_of r)) (sym c.in-Cats.is))
     c.rows_among-in-Cats.ensures
 
 pub returns-in-Users : goal.returns-in-Users
@@ -31,7 +33,8 @@ returns-in-Users c =
     let l = listing.Tables in
     let r = c.args.rows.now in
     subst (λ (es : Entries). IfOk c.rows_among-in-Users.result (λ rows. each shown rows.items ≡ es))
-    (ap (λ (t : Table). listed_among l t (kept_of r.users)) c.in-Users.is ∙ users_listed l r ∙ ap (λ (t : Table). listed_among l t (entries_of r)) (sym c.in-Users.is))
+    (ap (λ (t : Table). listed_among l t (kept_of r.users)) c.in-Users.is ∙ users_listed l r
+    ∙ ap (λ (t : Table). listed_among l t (entries_of r)) (sym c.in-Users.is))
     c.rows_among-in-Users.ensures
 
 pub returns-in_default : goal.returns-in_default

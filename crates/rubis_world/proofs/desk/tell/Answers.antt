@@ -9,5 +9,7 @@ returns-in_ok-write_event-in-Ok c = λ old e step.
 
 pub returns-in-Err : goal.returns-in-Err
 returns-in-Err c =
-    on_ok_weaker c.refuse.result (λ told old e step. event_refused old c.args.world.now c.args.reply.now.number c.args.site e c.in-Err.fault c.args.reply.now.sink c.refuse.new.reply.sink
+    on_ok_weaker c.refuse.result
+    (λ told old e step. event_refused old c.args.world.now c.args.reply.now.number c.args.site e c.in-Err.fault c.args.reply.now.sink
+    c.refuse.new.reply.sink
     (rw c.in-Err.is at step) told) c.refuse.ensures

@@ -24,7 +24,8 @@ returns-clause-goes g c all old input p =
     let found = if_none c.in_ok-count.field-0 c.in_ok-count.ensures.found c.in_default.is in
     let before = c.next_record.new.service.world in
     let after = c.respond.new.self.world in
-    let moved = progress-moved _ c.args.run.now.records all _ (told_by_world before n) old _ (g.W.Write.contents c.next_record.new.writer) _ c.next_record.new.sink n input p
+    let moved = progress-moved _ c.args.run.now.records all _ (told_by_world before n) old _
+    (g.W.Write.contents c.next_record.new.writer) _ c.next_record.new.sink n input p
     (ap (λ s. told_by_world s.world n) same.0) (ap g.W.Write.contents same.2) same.1 in
     let answered = rw (c.fields.ensures) at c.in_ok-respond.ensures in
     c.in_ok-write_out.ensures.goes all old (n + 1) input
@@ -53,6 +54,7 @@ returns-clause-leads g c rows gives =
     let found = if_none c.in_ok-count.field-0 c.in_ok-count.ensures.found c.in_default.is in
     let answered = rw (c.fields.ensures) at c.in_ok-respond.ensures in
     let (left, took, more) = found rows gives in
-    let (keep, world) = steps_on c.args.desk.now.world c.next_record.new.service.world c.respond.new.self.world c.write_out.new.service.world n (fields_now c.next_record.new.records)
+    let (keep, world) = steps_on c.args.desk.now.world c.next_record.new.service.world c.respond.new.self.world c.write_out.new.service.world n
+    (fields_now c.next_record.new.records)
     (ap (λ s. s.world) same.0) answered.0 c.in_ok-write_out.ensures.stays in
     (left, more, took, keep, world)

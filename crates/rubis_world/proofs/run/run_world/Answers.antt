@@ -7,7 +7,8 @@ use Rattle.rubis_world.proofs.run.run_world.Goals as goal
 
 pub returns-clause-run : goal.returns-clause-run
 returns-clause-run g c =
-    subst (λ (s : WorldState). IsRun (told_by_world s 1) RECORDS_MAX (g.R.Read.remaining c.args.reader) (g.W.Write.contents c.args.writer.now) (g.W.Write.contents c.run_world_desk.new.writer) c.run_world_desk.result)
+    subst (λ (s : WorldState). IsRun (told_by_world s 1) RECORDS_MAX (g.R.Read.remaining c.args.reader) (g.W.Write.contents c.args.writer.now)
+    (g.W.Write.contents c.run_world_desk.new.writer) c.run_world_desk.result)
     c.in_ok-desk.ensures.start c.run_world_desk.ensures.run
 
 pub returns-clause-text : goal.returns-clause-text

@@ -12,7 +12,8 @@ pub returns-clause-ok : goal.returns-clause-ok
 returns-clause-ok g c =
     let limit : c.steps.run.answered ≡ c.args.limit = omega (arith, c.steps.invariant.0, c.steps-test.false, c.steps.auto._taken-end) in
     if_ok_so _ _ c.stop.result (λ count done input gives empty.
-    subst (λ k. IsDone (waiting_at c.args.waiting.now.desk.site 1) k (g.W.Write.contents c.args.writer.now) (g.W.Write.contents c.stop.new.writer) (input_records input) count.records) limit
+    subst (λ k. IsDone (waiting_at c.args.waiting.now.desk.site 1) k (g.W.Write.contents c.args.writer.now) (g.W.Write.contents c.stop.new.writer)
+    (input_records input) count.records) limit
     (done _ _ input (c.steps.invariant.1 input gives empty))) c.stop.ensures.ok
 
 pub returns-clause-read : goal.returns-clause-read

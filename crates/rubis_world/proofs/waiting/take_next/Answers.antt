@@ -21,7 +21,8 @@ returns-clause-goes g c all old input p =
     let found = if_none c.in_ok-count.field-0 c.in_ok-count.ensures.found c.in_default.is in
     let before = c.next_record.new.service.desk.site in
     let after = c.take.new.self.desk.site in
-    let moved = progress-moved _ c.args.run.now.records all _ (waiting_at before n) old _ (g.W.Write.contents c.next_record.new.writer) _ c.next_record.new.sink n input p
+    let moved = progress-moved _ c.args.run.now.records all _ (waiting_at before n) old _
+    (g.W.Write.contents c.next_record.new.writer) _ c.next_record.new.sink n input p
     (ap (λ s. waiting_at s.desk.site n) same.0) (ap g.W.Write.contents same.2) same.1 in
     let taken = rw (c.fields.ensures) at c.in_ok-take.ensures.state in
     progress-step _ c.args.run.now.records c.next_record.new.records all _ (waiting_at after (n + 1)) old _ _ c.next_record.new.sink n input moved found

@@ -20,7 +20,9 @@ returns g c =
     let none : nat_lt 0 given ≡ false → given ≡ 0 = λ e. grind (arith, nat_tests) in
     let past : List ℕ = drop (length xs - end) (drop end xs) in
     let written : List ℕ = take end xs ++ (c.read_through_signals.new.buf ++ past) in
-    let back = with_items_is c.self.inside.buffer written (written-length xs c.read_through_signals.new.buf end within (search rules) ∙ (let ok = c.self.inside.buffer.ok in let len = c.deref_mut.ensures.len in omega arith)) in
+    let back = with_items_is c.self.inside.buffer written
+    (written-length xs c.read_through_signals.new.buf end within (search rules)
+    ∙ (let ok = c.self.inside.buffer.ok in let len = c.deref_mut.ensures.len in omega arith)) in
     filled before after xs (c.read_through_signals.new.buf ++ past) c.self.inside.start end given c.args.self.now _ (nat_lt 0 given) c.self.inside.on within was
     (ap (λ ys. slice_range ys c.self.inside.start (end + given)) back)
     (subst (Consumes before after) (sym (take-append-le given c.read_through_signals.new.buf past few)) c.in-Ok.ensures.bytes.0)

@@ -5,5 +5,6 @@ use Rattle.rubis_reading.proofs.held.Held.pass.Goals as goal
 pub returns : goal.returns
 returns c =
     let is = c.self.view_is in
-    range-passed c.self.inside.buffer.items c.self.inside.start c.self.inside.end c.args.many (subst (λ (l : List ℕ). c.args.many ≤ length l) (sym is) c.requires)
+    range-passed c.self.inside.buffer.items c.self.inside.start c.self.inside.end c.args.many
+    (subst (λ (l : List ℕ). c.args.many ≤ length l) (sym is) c.requires)
     ∙ ap (drop c.args.many) is

@@ -10,12 +10,19 @@ use Rattle.rubis_release.proofs.intake.Intake.arrive.Goals as goal
 use Rattle.rubis_release.proofs.intake.Intake.arrive.Goals.{After-log}
 
 pub take_in-requires-clause-site : goal.take_in-requires-clause-site
-take_in-requires-clause-site c = subst (λ n. IsAmong n c.args.message) (ap (λ (i : Intake). i.place.sites) (sym c.self.view_is) ∙ sym c.self.invariant.sites) c.is_repeat.ensures.site
+take_in-requires-clause-site c = subst (λ n. IsAmong n c.args.message) (ap (λ (i : Intake). i.place.sites) (sym c.self.view_is) ∙ sym c.self.invariant.sites)
+    c.is_repeat.ensures.site
 
 admitted : (c : After-log) → IsAdmitted c.args.self.now.place c.args.self.now.state c.args.message
-admitted c = record { not_ours = sym c.is_not_ours.ensures ∙ c.if-is_not_ours.false; new = sym c.is_repeat.ensures.value ∙ c.if-is_repeat.false; room = sym c.is_full.ensures ∙ c.if-is_full.false }
+admitted c = record {
+  not_ours = sym c.is_not_ours.ensures ∙ c.if-is_not_ours.false;
+  new = sym c.is_repeat.ensures.value
+      ∙ c.if-is_repeat.false;
+  room = sym c.is_full.ensures ∙ c.if-is_full.false;
+}
 
-kept : (c : After-log) → AreKept (record { site = c.self.inside.site; sites = c.self.inside.sites; keep = c.self.inside.keep }) c.take_in.new.self.log c.take_in.new.self.waiting
+kept : (c : After-log) →
+    AreKept (record { site = c.self.inside.site; sites = c.self.inside.sites; keep = c.self.inside.keep }) c.take_in.new.self.log c.take_in.new.self.waiting
 kept c =
     came_kept _ _ c.args.message c.take_in.new.self.log c.take_in.new.self.waiting c.self.invariant
     (subst (λ (i : Intake). IsAmong i.place.sites c.args.message) (sym c.self.view_is) c.is_repeat.ensures.site)
@@ -42,9 +49,11 @@ invariant_of-self-2 c =
     let p = (goal.at.invariant_of-self-2 c).After-log in
     next_holds _ _ c.take_in.new.self c.self.inside.held c.self.invariant (kept p) c.take_in.ensures.sites c.take_in.ensures.settled
 
-state : (c : After-log) → record { log = c.take_in.new.self.log; waiting = c.take_in.new.self.waiting; held = c.self.inside.held; last = c.self.inside.last } ≡ after_came c.args.self.now.state c.args.message
+state : (c : After-log) → record { log = c.take_in.new.self.log; waiting = c.take_in.new.self.waiting; held = c.self.inside.held; last = c.self.inside.last }
+    ≡ after_came c.args.self.now.state c.args.message
 state c =
-    came_is (record { log = c.self.inside.messages.log; waiting = c.self.inside.messages.waiting; held = c.self.inside.held; last = c.self.inside.last }) c.args.message c.take_in.new.self.log c.take_in.new.self.waiting c.in_ok-take_in.ensures.settles
+    came_is (record { log = c.self.inside.messages.log; waiting = c.self.inside.messages.waiting; held = c.self.inside.held; last = c.self.inside.last })
+    c.args.message c.take_in.new.self.log c.take_in.new.self.waiting c.in_ok-take_in.ensures.settles
     ∙ ap (λ (i : Intake). after_came i.state c.args.message) c.self.view_is
 
 -- how many were released

@@ -13,7 +13,8 @@ use Rattle.rubis_release.proofs.intake.Intake.generated.Goals.{then-red-eq0, els
 pub new-message-requires : goal.new-message-requires
 new-message-requires c =
     subst IsMessage (λ j. record { stamp = sym c.next_stamp.ensures j; shadow = c.args.shadow })
-    (made_is_message c.args.self.now c.args.shadow (subst IsIntake c.self.view_is c.self.invariant.conditions) c.requires.room c.requires.right c.requires.limits)
+    (made_is_message c.args.self.now c.args.shadow (subst IsIntake c.self.view_is c.self.invariant.conditions) c.requires.room c.requires.right
+    c.requires.limits)
 
 pub invariant_of-self-2 : goal.invariant_of-self-2
 invariant_of-self-2 c =
@@ -27,17 +28,21 @@ invariant_of-self-2 c =
     c.release.ensures.sites c.release.ensures.settled
 
 red : (c : goal.After-self-2-1) → c.red-red.result ≡ (made c.args.self.now.place c.args.self.now.state c.args.shadow).stamp.red
-red c = c.red-red.ensures.value ∙ ap (λ (m : Message). m.stamp.red) (c.in_ok-copy.ensures ∙ c.new-message.ensures) ∙ ap (λ (s : Stamp). s.red) c.next_stamp.ensures
+red c = c.red-red.ensures.value ∙ ap (λ (m : Message). m.stamp.red) (c.in_ok-copy.ensures ∙ c.new-message.ensures)
+    ∙ ap (λ (s : Stamp). s.red) c.next_stamp.ensures
 
 held : (c : goal.After-self-2-1) → c.if-red-eq0.self ≡ issued_after c.args.shadow c.args.self.now.state.held
 held c = elim c.if-red-eq0.branch [
-  | then-red-eq0 w ↦ w.self-is ∙ ap (λ (i : Intake). i.state.held) c.self.view_is ∙ held_for_blue c.args.self.now.state c.args.shadow c.red-red.result c.requires.right (red c) w.if-red-eq0.true
+  | then-red-eq0 w ↦ w.self-is ∙ ap (λ (i : Intake). i.state.held) c.self.view_is
+      ∙ held_for_blue c.args.self.now.state c.args.shadow c.red-red.result c.requires.right (red c) w.if-red-eq0.true
   | else-red-eq0 w ↦ w.self-is ∙ held_for_red c.args.self.now.state c.args.shadow c.red-red.result c.requires.right (red c) w.if-red-eq0.false
 ]
 
 pub returns-clause-state : goal.returns-clause-state
 returns-clause-state c =
-    made_is (record { site = c.self.inside.site; sites = c.self.inside.sites; keep = c.self.inside.keep }) (record { log = c.self.inside.messages.log; waiting = c.self.inside.messages.waiting; held = c.self.inside.held; last = c.self.inside.last }) c.args.shadow
+    made_is (record { site = c.self.inside.site; sites = c.self.inside.sites; keep = c.self.inside.keep })
+    (record { log = c.self.inside.messages.log; waiting = c.self.inside.messages.waiting; held = c.self.inside.held; last = c.self.inside.last })
+    c.args.shadow
     c.new-message.result c.release.new.self.log c.release.new.self.waiting c.if-red-eq0.self
     (made_of _ c.args.self.now c.args.shadow c.next_stamp.result c.new-message.result c.self.view_is c.next_stamp.ensures c.new-message.ensures)
     (held c ∙ ap (λ (i : Intake). issued_after c.args.shadow i.state.held) (sym c.self.view_is))

@@ -13,7 +13,12 @@ use Rattle.rubis_replica.proofs.follower.Follower.finish.Goals.{After-count_behi
 
 -- each shard stands at its stop, which is no less than it was
 stopped : (g : given.Over) (c : After-count_behind-left g)
-    → HasStops c.args.log.now (record { progress = record { applied = c.self.inside.progress.applied; stage = Begun c.end-upto.result c.count_behind-left.result }; stops = c.follow_rest.new.stops; tables = c.follow_rest.new.tables })
+    → HasStops c.args.log.now
+    (record {
+      progress = record { applied = c.self.inside.progress.applied; stage = Begun c.end-upto.result c.count_behind-left.result };
+      stops = c.follow_rest.new.stops;
+      tables = c.follow_rest.new.tables;
+    })
 stopped g c =
     let log = c.args.log.now in
     let from = c.self.inside.progress.applied in
@@ -27,12 +32,15 @@ stopped g c =
     let before : c.deref_mut.result.now ≡ c.self.inside.stops.items = c.deref_mut.ensures.value in
     let stand = went.holds (length tables) (subst (λ xs. HoldsTo (length tables) (cores log) xs tables) (sym before) was.holds) in
     let holds = subst (λ n. HoldsTo n (cores log) stops ts) (sym went.many) stand in
-    let back = written_back c.self.inside.stops.len stops c.self.inside.stops.items (went.counts ∙ ap length before) (let ok = c.self.inside.stops.ok in omega arith) in
+    let back = written_back c.self.inside.stops.len stops c.self.inside.stops.items (went.counts ∙ ap length before)
+    (let ok = c.self.inside.stops.ok in omega arith) in
     record {
       within = stops_further from upto c.self.inside.stops.items stops (went.counts ∙ ap length before)
-          (subst (λ n. StopWithin from n c.self.inside.stops.items) (sym c.end-upto.ensures) was.within) (subst (λ xs. AreFurther xs stops) before went.on) went.upto;
+          (subst (λ n. StopWithin from n c.self.inside.stops.items) (sym c.end-upto.ensures) was.within)
+          (subst (λ xs. AreFurther xs stops) before went.on) went.upto;
       holds = holds;
-      left = counted_by (length ts) from c.count_behind-left.result (cores (slice_range log from upto)) c.deref.result.now stops (c.deref.ensures.value ∙ back) holds.counts c.count_behind-left.ensures;
+      left = counted_by (length ts) from c.count_behind-left.result (cores (slice_range log from upto)) c.deref.result.now stops
+          (c.deref.ensures.value ∙ back) holds.counts c.count_behind-left.ensures;
     }
 
 pub returns-then-left-eq0 : goal.returns-then-left-eq0
@@ -42,7 +50,8 @@ returns-then-left-eq0 g c =
     let went = c.follow_rest.ensures in
     let stops = c.follow_rest.new.stops in
     let ts = c.follow_rest.new.tables in
-    let back = written_back c.self.inside.stops.len stops c.self.inside.stops.items (went.counts ∙ ap length c.deref_mut.ensures.value) (let ok = c.self.inside.stops.ok in omega arith) in
+    let back = written_back c.self.inside.stops.len stops c.self.inside.stops.items (went.counts ∙ ap length c.deref_mut.ensures.value)
+    (let ok = c.self.inside.stops.ok in omega arith) in
     let is = c.resting_at-self-inside.ensures in
     record {
       follows = subst (FollowsLog log) (λ i. record { progress = sym is i; stops = sym back i; tables = ts })
@@ -65,7 +74,8 @@ returns g c =
     let stops = c.follow_rest.new.stops in
     let ts = c.follow_rest.new.tables in
     let old : Follower = record { progress = c.self.inside.progress; stops = c.self.inside.stops.items; tables = c.self.inside.tables } in
-    let back = written_back c.self.inside.stops.len stops c.self.inside.stops.items (went.counts ∙ ap length c.deref_mut.ensures.value) (let ok = c.self.inside.stops.ok in omega arith) in
+    let back = written_back c.self.inside.stops.len stops c.self.inside.stops.items (went.counts ∙ ap length c.deref_mut.ensures.value)
+    (let ok = c.self.inside.stops.ok in omega arith) in
     let now = stopped g (goal.at.returns g c).After-count_behind-left in
     let fewer : left ≤ left_of c.self.inside.progress =
     left_fewer log old upto left stops ts was c.end-upto.ensures now (subst (λ xs. AreFurther xs stops) c.deref_mut.ensures.value went.on) went.many in
@@ -76,9 +86,15 @@ returns g c =
     let follows = follows_begun log from upto left stops ts (let inside = h.progress.inside in omega (arith, inside, c.end-upto.ensures))
     (let some = h.some in omega (arith, some, went.many)) now (let on = h.progress.on in omega (arith, on, c.end-upto.ensures)) more
     (λ e. absurd (omega (arith, e, fewer, most))) in
-    subst (λ (f : Follower). GoesOnTo log f (record { progress = record { applied = from; stage = Begun upto left }; stops = take c.self.inside.stops.len (stops ++ drop (length stops) c.self.inside.stops.items); tables = ts }) (Err (record {}))) c.self.view_is
+    subst (λ (f : Follower). GoesOnTo log f
     (record {
-      follows = subst (λ xs. FollowsLog log (record { progress = record { applied = from; stage = Begun upto left }; stops = xs; tables = ts })) (sym back) follows;
+      progress = record { applied = from; stage = Begun upto left };
+      stops = take c.self.inside.stops.len (stops ++ drop (length stops) c.self.inside.stops.items);
+      tables = ts;
+    }) (Err (record {}))) c.self.view_is
+    (record {
+      follows = subst (λ xs. FollowsLog log (record { progress = record { applied = from; stage = Begun upto left }; stops = xs; tables = ts }))
+          (sym back) follows;
       ok = tt;
       err = record { batch = λ i. record { applied = from; stage = Begun (c.end-upto.ensures i) left }; some_left = more; fewer = fewer };
     })

@@ -13,7 +13,12 @@ use Rattle.rubis_replica.proofs.follower.Follower.follow_upto.Goals.{After-count
 
 -- each shard stands at its stop
 stopped : (g : given.Over) (c : After-count_behind-left g)
-    → HasStops c.args.log.now (record { progress = record { applied = c.self.inside.progress.applied; stage = Begun c.args.upto c.count_behind-left.result }; stops = c.apply_batch-ended.new.stops.items; tables = c.apply_batch-ended.new.tables })
+    → HasStops c.args.log.now
+    (record {
+      progress = record { applied = c.self.inside.progress.applied; stage = Begun c.args.upto c.count_behind-left.result };
+      stops = c.apply_batch-ended.new.stops.items;
+      tables = c.apply_batch-ended.new.tables;
+    })
 stopped g c =
     let log = c.args.log.now in
     let h = subst (FollowsLog log) (sym c.self.view_is) c.requires.follows in
@@ -25,7 +30,9 @@ stopped g c =
     record {
       within = to.within;
       holds = holds;
-      left = counted_by (length ts) c.self.inside.progress.applied c.count_behind-left.result (cores (slice_range log c.self.inside.progress.applied c.args.upto)) c.deref.result.now stops c.deref.ensures.value holds.counts c.count_behind-left.ensures;
+      left = counted_by (length ts) c.self.inside.progress.applied c.count_behind-left.result
+          (cores (slice_range log c.self.inside.progress.applied c.args.upto)) c.deref.result.now stops c.deref.ensures.value holds.counts
+          c.count_behind-left.ensures;
     }
 
 pub returns-then-left-eq0 : goal.returns-then-left-eq0
@@ -38,7 +45,8 @@ returns-then-left-eq0 g c =
     let is = c.resting_at-self-inside-then-left-eq0.ensures in
     record {
       follows = subst (λ (p : Progress). FollowsLog log (record { progress = p; stops = stops; tables = ts })) (sym is)
-          (follows_whole log c.self.inside.progress.applied c.args.upto c.count_behind-left.result stops ts c.requires.within (let some = h.some in omega (arith, some, to.many))
+          (follows_whole log c.self.inside.progress.applied c.args.upto c.count_behind-left.result stops ts c.requires.within
+          (let some = h.some in omega (arith, some, to.many))
           (stopped g (goal.at.returns-then-left-eq0 g c).After-count_behind-left) c.if-left-eq0.true);
       ok = is;
       err = tt;
@@ -53,7 +61,8 @@ returns-then-left-count_parts g c =
     let ts = c.apply_batch-ended.new.tables in
     let to = err_of _ c.apply_batch-ended.result (search rules) c.apply_batch-ended.ensures.err in
     record {
-      follows = follows_none log c.self.inside.progress.applied c.args.upto c.count_behind-left.result stops ts c.requires.within (let some = h.some in omega (arith, some, to.many))
+      follows = follows_none log c.self.inside.progress.applied c.args.upto c.count_behind-left.result stops ts c.requires.within
+          (let some = h.some in omega (arith, some, to.many))
           (stopped g (goal.at.returns-then-left-count_parts g c).After-count_behind-left) c.self.inside.progress refl h.progress rests
           (c.if-left-count_parts.true ∙ c.count_parts.ensures.count);
       ok = tt;

@@ -14,7 +14,8 @@ use Rattle.rubis_replica.proofs.follower.Follower.take_in.Goals.{After-take_all-
 taken : (g : given.Over) (c : After-take_all-arrived g) → FollowsLog c.take_all-arrived.new.intake.state.log c.follow.new.self
 taken g c =
     let old = c.args.intake.now in
-    follows_taken old.place old.state c.take_all-arrived.new.intake.state c.args.messages.items c.take_all-arrived.result.answers c.take_all-arrived.result.rest c.follow.new.self c.take_all-arrived.ensures.first
+    follows_taken old.place old.state c.take_all-arrived.new.intake.state c.args.messages.items c.take_all-arrived.result.answers c.take_all-arrived.result.rest
+    c.follow.new.self c.take_all-arrived.ensures.first
     (subst (λ (l : List Message). FollowsLog l c.follow.new.self) c.log.ensures.value c.follow.ensures.follows)
 
 pub returns-then-eq-clause-follows : goal.returns-then-eq-clause-follows
@@ -27,7 +28,8 @@ returns-then-eq-clause-follows g c =
     let at : site.progress ≡ resting_at (length c.log-before.result.now) = search rules in
     subst (λ n. FollowsLog log (record f { progress = record { applied = site.progress.applied; stage = Keeping n } })) (sym many)
     (subst (λ n. FollowsLog log (record f { progress = record { applied = n; stage = Keeping (length log) } })) (sym (ap (λ (p : Progress). p.applied) at))
-    (keeps log (length c.log-before.result.now) f (subst (FollowsLog log) (sym c.self.view_is) t) at (let less = c.if-before-upto.true in omega (arith, less, many))))
+    (keeps log (length c.log-before.result.now) f (subst (FollowsLog log) (sym c.self.view_is) t) at
+    (let less = c.if-before-upto.true in omega (arith, less, many))))
 
 pub returns-else-before-upto-clause-follows : goal.returns-else-before-upto-clause-follows
 returns-else-before-upto-clause-follows g c = taken g (goal.at.returns-else-before-upto-clause-follows g c).After-take_all-arrived

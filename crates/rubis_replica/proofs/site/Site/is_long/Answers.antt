@@ -11,6 +11,7 @@ pub returns : goal.returns
 returns g c left =
     let site = c.self.inside in
     let now = c.args.self.now in
-    let tables = ap union c.tables.ensures ∙ tables_so_far now site.intake.place site.intake.state site.batch site.follower c.self.view_is c.self.invariant left in
+    let tables = ap union c.tables.ensures
+    ∙ tables_so_far now site.intake.place site.intake.state site.batch site.follower c.self.view_is c.self.invariant left in
     let log = c.log.ensures.value ∙ ap (λ (s : SiteState). s.state.log) c.self.view_is in
     c.is_long.ensures ∙ (λ i. looks_long (row_by_key (tables i)) (length (log i)) c.args.listing.now)

@@ -18,5 +18,7 @@ returns-then-is_empty-clause-leads g c = (refl, refl)
 
 pub returns-clause-leads : goal.returns-clause-leads
 returns-clause-leads g c =
-    on_ok_weaker c.take_in.result (λ state. settles_all c.args.self.now.site c.take_in.new.self.site c.args.window.now.items c.take_in.new.window.items c.take_in.ensures.place state c.take_in.ensures.empty)
+    on_ok_weaker c.take_in.result
+    (λ state. settles_all c.args.self.now.site c.take_in.new.self.site c.args.window.now.items c.take_in.new.window.items c.take_in.ensures.place state
+    c.take_in.ensures.empty)
     c.take_in.ensures.leads

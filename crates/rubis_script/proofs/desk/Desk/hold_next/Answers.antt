@@ -25,11 +25,13 @@ returns-clause-goes g c fields is =
     let n = c.args.answered + 1 in
     let made = c.make_room.ensures in
     let items : c.push.new.self.items ≡ left ++ c.args.message ∷ [] = rw c.if-is_err.ensures.negation at c.push.ensures.items in
-    kept_answers (held_by old c.args.window.now.items n) (held_by mid left n) _ c.args.reply.now.sink c.make_room.new.reply.sink c.make_room.new.reply.sink fields c.in_ok-make_room.ensures.kept
+    kept_answers (held_by old c.args.window.now.items n) (held_by mid left n) _ c.args.reply.now.sink c.make_room.new.reply.sink c.make_room.new.reply.sink
+    fields c.in_ok-make_room.ensures.kept
     (rw items (holds_more mid n left c.args.message fields c.make_room.new.reply.sink (omega (arith, made.held.few)) (rw made.place is)))
 
 pub returns-clause-leads : goal.returns-clause-leads
 returns-clause-leads g c =
     let items : c.push.new.self.items ≡ c.make_room.new.window.items ++ c.args.message ∷ [] = rw c.if-is_err.ensures.negation at c.push.ensures.items in
-    settled_steps c.args.self.now.site c.make_room.new.self.site (c.args.answered + 1) c.args.window.now.items c.make_room.new.window.items c.push.new.self.items c.args.message
+    settled_steps c.args.self.now.site c.make_room.new.self.site
+    (c.args.answered + 1) c.args.window.now.items c.make_room.new.window.items c.push.new.self.items c.args.message
     c.in_ok-make_room.ensures.leads items

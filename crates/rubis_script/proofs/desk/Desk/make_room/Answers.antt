@@ -9,5 +9,7 @@ returns-clause-held g c = held_none c.flush.new.self.site.place c.flush.new.wind
 pub returns-clause-kept : goal.returns-clause-kept
 returns-clause-kept g c =
     let n = c.args.answered + 1 in
-    on_ok_both c.flush.result (λ flushed none. told-kept c.args.self.now.site c.flush.new.self.site c.args.window.now.items c.flush.new.window.items n c.args.reply.now.sink c.flush.new.reply.sink none flushed)
+    on_ok_both c.flush.result
+    (λ flushed none. told-kept c.args.self.now.site c.flush.new.self.site c.args.window.now.items c.flush.new.window.items n c.args.reply.now.sink
+    c.flush.new.reply.sink none flushed)
     c.flush.ensures.flushed (on_ok c.flush.result c.flush.ensures.empty)

@@ -25,6 +25,7 @@ returns-in_ok-flush-in_default-clause-goes g c =
     let sink2 = c.respond_parsed.new.reply.sink in
     let answered : OnOk c.respond_parsed.result (IsAnswered n (meant c.args.parsed) mid new sink sink2) = search rules in
     on_ok_both c.respond_parsed.result (λ answer empty fields is.
-    flush_goes old mid new c.args.window.now.items c.flush.new.window.items n fields c.args.reply.now.sink sink sink2 c.in_ok-flush-in_default.ensures.flushed c.respond_parsed.ensures.place
+    flush_goes old mid new c.args.window.now.items c.flush.new.window.items n fields c.args.reply.now.sink sink sink2 c.in_ok-flush-in_default.ensures.flushed
+    c.respond_parsed.ensures.place
     (subst (λ i. IsAnswered n i mid new sink sink2) (sym (ap (λ p. input_of p.sites fields) c.flush.ensures.place ∙ is)) answer) empty)
     answered (on_ok c.respond_parsed.result c.flush.ensures.empty)

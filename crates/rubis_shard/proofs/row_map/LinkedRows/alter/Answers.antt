@@ -11,7 +11,8 @@ invariant_of-self c =
     let key = c.args.key.now in
     record {
       linked = subst (λ cs. IsLinkedSoFar cs s.chains)
-          (sym (altered_chains same_id_key s.rows.entries c.alter_in.new.rows.entries key c.args.change.now c.alter_in.result c.alter_in.ensures.none c.alter_in.ensures.some
+          (sym (altered_chains same_id_key s.rows.entries c.alter_in.new.rows.entries key c.args.change.now c.alter_in.result c.alter_in.ensures.none
+          c.alter_in.ensures.some
           (λ was. row_stays_at (row_key key) c.args.change.now was (kept_is_no_nick key) c.requires) row_key))
           s.linked;
     }

@@ -22,4 +22,5 @@ returns-in-None-clause-rows c =
     sym (sym (none_listed l t)
     ∙ ap (λ (o : Option Store). listed_of l t (held_in o).tables) (sym c.in-None.is)
     ∙ ap (λ (s : ShardState). listed_of l t s.folded.tables) c.self.view_is) in
-    subst (λ (xs : List (RowKey × Row)). IsPermutation xs before) (sym (ap (λ (xs : List (RowKey × Row)). before ++ xs) none ∙ append-nil before)) (IsPermutation-refl before)
+    subst (λ (xs : List (RowKey × Row)). IsPermutation xs before) (sym (ap (λ (xs : List (RowKey × Row)). before ++ xs) none ∙ append-nil before))
+    (IsPermutation-refl before)

@@ -19,4 +19,5 @@ returns-in-None-clause-rows c =
     sym (sym no_categories
     ∙ ap (λ (o : Option Store). categories_of (held_in o).tables) (sym c.in-None.is)
     ∙ ap (λ (s : ShardState). categories_of s.folded.tables) c.self.view_is) in
-    subst (λ (xs : List (RowKey × Row)). IsPermutation xs before) (sym (ap (λ (xs : List (RowKey × Row)). before ++ xs) none ∙ append-nil before)) (IsPermutation-refl before)
+    subst (λ (xs : List (RowKey × Row)). IsPermutation xs before) (sym (ap (λ (xs : List (RowKey × Row)). before ++ xs) none ∙ append-nil before))
+    (IsPermutation-refl before)

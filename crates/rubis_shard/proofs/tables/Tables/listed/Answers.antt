@@ -32,7 +32,8 @@ returns c =
     let l = c.args.listing.now in
     let gs : List (RowKey × Row) = c.put_in_order.new.rows in
     let found : IsPermutation (listed_by_shard l (table_with c.args.table) ts) c.deref_mut.result.now =
-    subst (λ xs. IsPermutation xs c.deref_mut.result.now) (ap (listed_by_shard l (table_with c.args.table)) (take_all _ _ (omega arith) ∙ c.deref-shard-items.ensures.value))
+    subst (λ xs. IsPermutation xs c.deref_mut.result.now)
+    (ap (listed_by_shard l (table_with c.args.table)) (take_all _ _ (omega arith) ∙ c.deref-shard-items.ensures.value))
     (subst (IsPermutation _) (sym c.deref_mut.ensures.value) c.loop-shard.invariant) in
     let moved = IsPermutation-trans _ c.deref_mut.result.now gs found c.put_in_order.ensures.permutation in
     let whole = take_at c.put_in_order.new.rows _ c.loop-shard.picked.len (c.put_in_order.ensures.len ∙ c.deref_mut.ensures.len) in

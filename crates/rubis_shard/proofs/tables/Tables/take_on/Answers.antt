@@ -15,7 +15,8 @@ invariant_of-self c =
     let there : slice_get ts c.args.number ≡ Some x = slice_get_read ts (length ts) c.args.number x refl (search rules) (search
     rules) in
     let order : AreInOrder ts = c.self.invariant in
-    let kept = one_kept c.take_on.result x c.take_on.new.self (parts_at x.shards x.number (numbered_of c.args.entry.now)) c.take_on.ensures.ok c.take_on.ensures.err in
+    let kept = one_kept c.take_on.result x c.take_on.new.self (parts_at x.shards x.number (numbered_of c.args.entry.now)) c.take_on.ensures.ok
+    c.take_on.ensures.err in
     order_set ts c.args.number x c.take_on.new.self order there kept.0 kept.1
 
 pub returns-clause-ok : goal.returns-clause-ok
@@ -25,7 +26,8 @@ returns-clause-ok c =
     let there : slice_get ts c.args.number ≡ Some x = slice_get_read ts (length ts) c.args.number x refl (search rules) (search
     rules) in
     let order : AreInOrder ts = c.self.invariant in
-    subst (λ xs. OnOk c.take_on.result (FoldsOn c.args.number (parts_at (length xs) c.args.number (numbered_of c.args.entry.now)) xs (set ts c.args.number c.take_on.new.self))) c.self.view_is
+    subst (λ xs. OnOk c.take_on.result
+    (FoldsOn c.args.number (parts_at (length xs) c.args.number (numbered_of c.args.entry.now)) xs (set ts c.args.number c.take_on.new.self))) c.self.view_is
     (folds_one_ok c.take_on.result ts c.args.number x c.take_on.new.self (numbered_of c.args.entry.now) order there c.take_on.ensures.ok)
 
 pub take_on-requires-clause-homes : goal.take_on-requires-clause-homes

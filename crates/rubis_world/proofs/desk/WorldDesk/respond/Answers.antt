@@ -17,4 +17,5 @@ returns-in-Delivered g c =
     let site = c.in-Delivered.site in
     let which = c.in-Delivered.which in
     let read : world_input (length c.args.self.now.world.world.sites) c.args.fields.now ≡ Delivered site which = search rules in
-    rw read (on_ok_weaker c.tell-in-Delivered.result (λ told. told c.args.self.now.world (Deliver site which) c.deliver-came.ensures.answers.step) c.tell-in-Delivered.ensures)
+    rw read (on_ok_weaker c.tell-in-Delivered.result (λ told. told c.args.self.now.world (Deliver site which) c.deliver-came.ensures.answers.step)
+    c.tell-in-Delivered.ensures)

@@ -8,24 +8,33 @@ use Rattle.rubis_world.proofs.sites.Sites.ask.Goals as goal
 
 pub returns-in_err-message-clause-step : goal.returns-in_err-message-clause-step
 returns-in_err-message-clause-step g c =
-    sends_fault c.self.inside.keep c.self.inside.sites.items c.self.inside.packets.items c.args.site c.index_mut.result.now c.request.new.self c.args.self.now c.self.view_is c.requires.site c.index_mut.ensures.value c.self.invariant
-    packet.Msg (λ p s. asked p s c.args.ask) c.reserve.new.self.items c.in_err-message.field-0.0 c.from_residual-in_err-message.result c.from_residual-in_err-message.ensures c.in_err-message.ensures.step c.reserve.ensures.items
+    sends_fault c.self.inside.keep c.self.inside.sites.items c.self.inside.packets.items c.args.site c.index_mut.result.now c.request.new.self c.args.self.now
+    c.self.view_is c.requires.site c.index_mut.ensures.value c.self.invariant
+    packet.Msg (λ p s. asked p s c.args.ask) c.reserve.new.self.items c.in_err-message.field-0.0 c.from_residual-in_err-message.result
+    c.from_residual-in_err-message.ensures c.in_err-message.ensures.step c.reserve.ensures.items
 
 pub invariant_of-self-2 : goal.invariant_of-self-2
 invariant_of-self-2 g c =
-    are_at_places c.self.inside.keep c.self.inside.sites.items c.self.inside.packets.items c.args.site c.index_mut.result.now c.request.new.self c.args.self.now c.self.view_is c.requires.site c.index_mut.ensures.value c.self.invariant c.request.ensures.place
+    are_at_places c.self.inside.keep c.self.inside.sites.items c.self.inside.packets.items c.args.site c.index_mut.result.now c.request.new.self c.args.self.now
+    c.self.view_is c.requires.site c.index_mut.ensures.value c.self.invariant c.request.ensures.place
 
 pub returns-clause-step : goal.returns-clause-step
 returns-clause-step g c =
-    sends_on c.self.inside.keep c.self.inside.sites.items c.self.inside.packets.items c.args.site c.index_mut.result.now c.request.new.self c.args.self.now c.self.view_is c.requires.site c.index_mut.ensures.value c.self.invariant
-    packet.Msg (λ p s. asked p s c.args.ask) c.push_reserved.new.self.items c.in_ok-message.message c.len.result c.in_ok-message.ensures.step (cc) (search rules)
+    sends_on c.self.inside.keep c.self.inside.sites.items c.self.inside.packets.items c.args.site c.index_mut.result.now c.request.new.self c.args.self.now
+    c.self.view_is c.requires.site c.index_mut.ensures.value c.self.invariant
+    packet.Msg (λ p s. asked p s c.args.ask) c.push_reserved.new.self.items c.in_ok-message.message c.len.result c.in_ok-message.ensures.step (cc)
+    (search rules)
 
 pub returns-in_err-message-clause-tables : goal.returns-in_err-message-clause-tables
 returns-in_err-message-clause-tables g c =
-    asked_alone c.self.inside.keep c.self.inside.sites.items c.self.inside.packets.items c.args.site c.index_mut.result.now c.request.new.self c.args.self.now c.self.view_is c.requires.site c.index_mut.ensures.value c.self.invariant
-    c.reserve.new.self.items c.from_residual-in_err-message.result c.requires.ready (read_behind c.index_mut.result.now c.request.new.self c.in_err-message.field-0.0 c.from_residual-in_err-message.result c.from_residual-in_err-message.ensures c.in_err-message.ensures.fault)
+    asked_alone c.self.inside.keep c.self.inside.sites.items c.self.inside.packets.items c.args.site c.index_mut.result.now c.request.new.self c.args.self.now
+    c.self.view_is c.requires.site c.index_mut.ensures.value c.self.invariant
+    c.reserve.new.self.items c.from_residual-in_err-message.result c.requires.ready
+    (read_behind c.index_mut.result.now c.request.new.self c.in_err-message.field-0.0 c.from_residual-in_err-message.result
+    c.from_residual-in_err-message.ensures c.in_err-message.ensures.fault)
 
 pub returns-clause-tables : goal.returns-clause-tables
 returns-clause-tables g c =
-    asked_alone c.self.inside.keep c.self.inside.sites.items c.self.inside.packets.items c.args.site c.index_mut.result.now c.request.new.self c.args.self.now c.self.view_is c.requires.site c.index_mut.ensures.value c.self.invariant
+    asked_alone c.self.inside.keep c.self.inside.sites.items c.self.inside.packets.items c.args.site c.index_mut.result.now c.request.new.self c.args.self.now
+    c.self.view_is c.requires.site c.index_mut.ensures.value c.self.invariant
     c.push_reserved.new.self.items (Ok (happened.Sent c.len.result)) c.requires.ready (λ none e. absurd cc)

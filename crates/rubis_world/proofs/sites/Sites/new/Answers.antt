@@ -23,4 +23,5 @@ invariant_of-result c =
 pub returns-clause-start : goal.returns-clause-start
 returns-clause-start c =
     (λ k. state_of (c.keep.ensures.value k) c.sites.sites.items (c.new-2.ensures.items k))
-    ∙ starts c.args.config.now c.sites.sites.items (c.sites.invariant ∙ ap (fresh_sites c.args.config.now) (let e : c.sites.site ≡ c.args.config.now.sites = search rules in e))
+    ∙ starts c.args.config.now c.sites.sites.items
+    (c.sites.invariant ∙ ap (fresh_sites c.args.config.now) (let e : c.sites.site ≡ c.args.config.now.sites = search rules in e))

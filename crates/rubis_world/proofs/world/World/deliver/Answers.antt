@@ -8,4 +8,5 @@ invariant_of-self g c =
 
 pub returns-clause-run : goal.returns-clause-run
 returns-clause-run g c =
-    told c.deliver.new.self (answered c.self.inside.sites c.deliver.new.self (Deliver c.args.site c.args.number) c.deliver.result tt c.deliver.ensures.step c.self.invariant)
+    told c.deliver.new.self
+    (answered c.self.inside.sites c.deliver.new.self (Deliver c.args.site c.args.number) c.deliver.result tt c.deliver.ensures.step c.self.invariant)
