@@ -1,4 +1,4 @@
--- Where records lead, one after the other.
+-- Where records of several sites lead, one after the other.
 use Rattle.std.proofs.Common.{◌≡◌, ◌≤◌, ◌+◌, ◌++◌, ◌∷◌, ◌∙◌, [], ℕ, List, Option, Some, None, length, take, refl, sym, ap, arith, subst, append_assoc}
 use Rattle.std.proofs.Common.{append-nil, length-append}
 use Rattle.std.specs.Prelude.{IfOk, IfSome, IfNone, Result, Ok, Err, IsErrOf}

@@ -1,4 +1,4 @@
-//! The records that answer an event.
+//! The records that answer what happens at one of several sites.
 
 ghost use Rattle.std.specs.Prelude.{◌≡◌, ◌++◌, ◌∷◌, [], OnOk, Some, map};
 ghost use Rattle.rubis_model.specs.Answers.{refused_row};
