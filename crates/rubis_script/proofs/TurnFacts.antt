@@ -1,6 +1,5 @@
 -- A run that reads each record when those before it are answered, and where these lead its site.
-use Rattle.std.proofs.Common.{◌≡◌, ◌∙◌, ◌+◌, ◌++◌, [], ℕ, List, Option, Some, None, true, false, ap, append-nil, arith, length, length-append, refl, subst, sym}
-use Rattle.std.proofs.Common.{take}
+use Rattle.std.proofs.Common.{◌≡◌, ◌∙◌, ◌+◌, ◌++◌, [], ℕ, List, Option, Some, None, true, false, ap, arith, length, length-append, refl, subst, sym, take}
 use Rattle.std.specs.Prelude.{IfOk, IfSome, IsErrOf, Result, Ok, Err}
 use Rattle.std.specs.Io.KnownBytes.{Appends}
 use Rattle.rubis_message.specs.Message.{Message}
