@@ -3,8 +3,6 @@
 use crate::failing_streams::{FailingReader, FailingWriter};
 use rubis_audit::run_audit;
 use rubis_engine::{Count, RunFault};
-use std::alloc::Global;
-use std::process::Abort;
 
 // The smallest log with a fault of each kind, and its verdict; and one that agrees.
 const LOGS: [(&[u8], &[u8]); 10] = [
@@ -81,20 +79,17 @@ fn a_failing_reader(rt: HostRuntime) {
     }
 }
 
-// The writer that fails at one of its calls, and whether the run ended well.
-fn write_until<R: Abort>(rt: &R, alloc: Global, bad: usize) -> (FailingWriter, bool) {
-    let mut writer = FailingWriter::new(alloc, bad);
-    let end = run_audit(alloc, SALE, &mut writer, 2);
-    assert!(rt; end.is_ok() || end == Err(RunFault::Write));
-    (writer, end.is_ok())
-}
-
 #[test]
 fn a_failing_writer(rt: HostRuntime) {
     for bad in 1..20 {
-        let (writer, ended) = write_until(&rt, rt.alloc(), bad);
+        let mut writer = FailingWriter::new(rt.alloc(), bad);
+        let end = run_audit(rt.alloc(), SALE, &mut writer, 2);
+        assert!(rt; end.is_ok() || end == Err(RunFault::Write));
         assert!(rt; SALE_AUDITED.starts_with(writer.taken()), "at call {bad}");
-        assert!(rt; ended == (writer.calls() < bad), "at call {bad}");
-        assert!(rt; !ended || writer.taken() == SALE_AUDITED, "at call {bad}");
+        assert!(rt; end.is_ok() == (writer.calls() < bad), "at call {bad}");
+        assert!(rt;
+            end.is_err() || writer.taken() == SALE_AUDITED,
+            "at call {bad}"
+        );
     }
 }

@@ -3,22 +3,27 @@
 use crate::echoes::Echo;
 use crate::failing_streams::{FailingReader, FailingWriter};
 use rubis_engine::{Count, RunFault, run_upto};
+use std::alloc::Global;
+use std::io::{Read, Write};
 
 const INPUT: &[u8; 25] = b"ann,1\r\nbob\n\n\"c\"\"d\"\n,\nlast";
 
 const WANT: &[u8; 44] = b"got,ann,1\ngot,bob\ngot,\"c\"\"d\"\ngot,,\ngot,last\n";
 
+// Runs an echo.
+fn echo<R: Read + Drop, W: Write>(
+    alloc: Global,
+    reader: R,
+    writer: &mut W,
+    limit: u64,
+) -> Result<Count, RunFault> {
+    run_upto(&(), alloc, reader, writer, &mut Echo::new(alloc), limit)
+}
+
 #[test]
 fn answers_in_order(rt: HostRuntime) {
     let mut out = Vec::new(rt.alloc());
-    let end = run_upto(
-        &(),
-        rt.alloc(),
-        INPUT.as_slice(),
-        &mut out,
-        &mut Echo::new(rt.alloc()),
-        5,
-    );
+    let end = echo(rt.alloc(), INPUT.as_slice(), &mut out, 5);
     assert!(rt; end == Ok(Count { records: 5 }));
     assert!(rt; out.as_slice() == WANT.as_slice());
 }
@@ -26,14 +31,7 @@ fn answers_in_order(rt: HostRuntime) {
 #[test]
 fn stops_at_the_limit(rt: HostRuntime) {
     let mut out = Vec::new(rt.alloc());
-    let end = run_upto(
-        &(),
-        rt.alloc(),
-        INPUT.as_slice(),
-        &mut out,
-        &mut Echo::new(rt.alloc()),
-        1,
-    );
+    let end = echo(rt.alloc(), INPUT.as_slice(), &mut out, 1);
     assert!(rt; end == Err(RunFault::TooLong));
     assert!(rt; out.as_slice() == b"got,ann,1\n".as_slice());
 }
@@ -42,14 +40,8 @@ fn stops_at_the_limit(rt: HostRuntime) {
 fn a_failing_reader(rt: HostRuntime) {
     for cut in 0..INPUT.len() {
         let mut out = Vec::new(rt.alloc());
-        let end = run_upto(
-            &(),
-            rt.alloc(),
-            FailingReader::new(&INPUT[..cut]),
-            &mut out,
-            &mut Echo::new(rt.alloc()),
-            9,
-        );
+        let reader = FailingReader::new(&INPUT[..cut]);
+        let end = echo(rt.alloc(), reader, &mut out, 9);
         assert!(rt; end == Err(RunFault::Read), "after {cut} bytes");
         assert!(rt;
             WANT.as_slice().starts_with(out.as_slice()),
@@ -67,14 +59,7 @@ fn a_failing_writer(rt: HostRuntime) {
     let calls = WANT.len().div_ceil(3) + 1;
     for bad in 1..calls + 1 {
         let mut writer = FailingWriter::new(rt.alloc(), bad);
-        let end = run_upto(
-            &(),
-            rt.alloc(),
-            INPUT.as_slice(),
-            &mut writer,
-            &mut Echo::new(rt.alloc()),
-            9,
-        );
+        let end = echo(rt.alloc(), INPUT.as_slice(), &mut writer, 9);
         assert!(rt; end == Err(RunFault::Write), "at call {bad}");
         assert!(rt;
             WANT.as_slice().starts_with(writer.taken()),

@@ -1,7 +1,7 @@
 //! A site on readers and writers that fail.
 
 use crate::failing_streams::{FailingDelivery, FailingReader, FailingWriter};
-use crate::transcripts::{Talk, take_apart, usual};
+use crate::transcripts::{take_apart, usual};
 use rubis_world::{Config, Free, RunFault, run_site, run_site_upto};
 use std::process::Abort;
 use std::sync::Wait;
@@ -95,9 +95,10 @@ const CALLS_MAX: usize = 1000;
 // prefix of the answers: all of them once it has read all records.
 fn read_until_each_byte<R: Abort + AllocGlobal + Threads + Wait + Sync>(
     rt: &R,
-    talk: &Talk,
+    transcript: &str,
     sites: u8,
 ) {
+    let talk = take_apart(rt.alloc(), transcript).expect(rt, "memory");
     let config = usual(rt, 0, sites);
     let (said, heard) = (talk.said.as_bytes(), talk.heard.as_bytes());
     for cut in 0..said.len() + 1 {
@@ -112,10 +113,8 @@ fn read_until_each_byte<R: Abort + AllocGlobal + Threads + Wait + Sync>(
 
 #[test]
 fn a_reader_that_fails_after_any_byte(rt: HostRuntime) {
-    for (transcript, sites) in [(EVERYTHING, 2), (AUCTION, 1)] {
-        let talk = take_apart(rt.alloc(), transcript).expect(&rt, "memory");
-        read_until_each_byte(&rt, &talk, sites);
-    }
+    read_until_each_byte(&rt, EVERYTHING, 2);
+    read_until_each_byte(&rt, AUCTION, 1);
 }
 
 // A window is held when the reader fails: all of it is answered, since it was read whole before.
@@ -135,35 +134,25 @@ fn what_was_read_before_a_fault_is_answered(rt: HostRuntime) {
     }
 }
 
-// The writer that fails at one of its calls, and how the run ended.
-fn write_until<R: Abort + AllocGlobal + Threads + Wait + Sync>(
-    rt: &R,
-    said: &[u8],
-    sites: u8,
-    bad: usize,
-) -> (FailingWriter, Option<RunFault>) {
-    let config = usual(rt, 0, sites);
-    let mut writer = FailingWriter::new(rt.alloc(), bad);
-    let end = run_site(rt, rt.alloc(), said, &mut writer, &config);
-    (writer, end.err())
-}
-
 // Runs a site with a writer that fails at its first call, at its second, and so on, until a run ends well. Each run before
 // ends with Write, and has written a prefix of the answers.
 fn write_until_each_call<R: Abort + AllocGlobal + Threads + Wait + Sync>(
     rt: &R,
-    talk: &Talk,
+    transcript: &str,
     sites: u8,
 ) {
-    let heard = talk.heard.as_bytes();
+    let talk = take_apart(rt.alloc(), transcript).expect(rt, "memory");
+    let config = usual(rt, 0, sites);
+    let (said, heard) = (talk.said.as_bytes(), talk.heard.as_bytes());
     for bad in 1..CALLS_MAX {
-        let (writer, fault) = write_until(rt, talk.said.as_bytes(), sites, bad);
-        if fault.is_none() {
+        let mut writer = FailingWriter::new(rt.alloc(), bad);
+        let end = run_site(rt, rt.alloc(), said, &mut writer, &config);
+        if end.is_ok() {
             assert!(rt; writer.calls() < bad);
             assert!(rt; writer.taken() == heard);
             return;
         }
-        assert_eq!(rt; fault, Some(RunFault::Write), "at call {bad}");
+        assert_eq!(rt; end.err(), Some(RunFault::Write), "at call {bad}");
         assert!(rt; heard.starts_with(writer.taken()), "at call {bad}");
     }
     assert!(rt; false, "no run ended well");
@@ -171,10 +160,8 @@ fn write_until_each_call<R: Abort + AllocGlobal + Threads + Wait + Sync>(
 
 #[test]
 fn a_writer_that_fails_at_any_call(rt: HostRuntime) {
-    for (transcript, sites) in [(EVERYTHING, 2), (AUCTION, 1)] {
-        let talk = take_apart(rt.alloc(), transcript).expect(&rt, "memory");
-        write_until_each_call(&rt, &talk, sites);
-    }
+    write_until_each_call(&rt, EVERYTHING, 2);
+    write_until_each_call(&rt, AUCTION, 1);
 }
 
 #[test]

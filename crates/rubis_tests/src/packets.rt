@@ -16,11 +16,11 @@ use std::thread::Threads;
 
 const ONE: Arrival = Arrival::Released(1);
 
-// Site 1 of 2, which keeps `keep` messages.
-fn second_of_two(alloc: Global, keep: u32) -> Result<Site, Fail>
-    ensures { IfOk result (λ site. site.place.sites ≡ 2) }
+// A site of two that applies batches of `batch` messages and keeps `keep`.
+fn site_of_two(alloc: Global, site: u8, batch: u32, keep: u32) -> Result<Site, Fail>
+    ensures { IfOk result (λ made. made.place.sites ≡ 2) }
 {
-    let config = Config::new(1, 2, 4, 2, 64, keep).ok_or("a configuration")?;
+    let config = Config::new(site, 2, 4, 2, batch, keep).ok_or("a configuration")?;
     Ok(Site::new(alloc, &config, Free)?)
 }
 
@@ -48,7 +48,7 @@ fn cut_twice<R: Threads + Wait + Sync>(rt: &R, site: &mut Site) -> Result<(u32, 
 
 #[test]
 fn three_messages_are_cut_at_once(rt: HostRuntime) -> Result<(), Fail> {
-    let mut site = second_of_two(rt.alloc(), 1_000_000)?;
+    let mut site = site_of_two(rt.alloc(), 1, 64, 1_000_000)?;
     release_three(&rt, &mut site, rt.alloc())?;
     assert_eq!(rt; cut_twice(&rt, &mut site)?, (3, 0, 0));
     Ok(())
@@ -85,7 +85,7 @@ fn take_four_and_cut<R: Threads + Wait + Sync>(
 
 #[test]
 fn four_messages_arrive_together_where_two_are_kept(rt: HostRuntime) -> Result<(), Fail> {
-    let mut site = second_of_two(rt.alloc(), 2)?;
+    let mut site = site_of_two(rt.alloc(), 1, 64, 2)?;
     let (arrived, pending) = take_four_and_cut(&rt, &mut site, rt.alloc())?;
     let answers = [
         Ok(Arrival::Held),
@@ -99,17 +99,9 @@ fn four_messages_arrive_together_where_two_are_kept(rt: HostRuntime) -> Result<(
     Ok(())
 }
 
-// A site of two that keeps many messages and applies batches of three.
-fn site_with_batches_of_three(alloc: Global, site: u8) -> Result<Site, Fail>
-    ensures { IfOk result (λ made. made.place.sites ≡ 2) }
-{
-    let config = Config::new(site, 2, 4, 2, 3, 1_000_000).ok_or("a configuration")?;
-    Ok(Site::new(alloc, &config, Free)?)
-}
-
 #[test]
 fn a_batch_is_applied_at_the_third_arrival(rt: HostRuntime) -> Result<(), Fail> {
-    let mut site = site_with_batches_of_three(rt.alloc(), 1)?;
+    let mut site = site_of_two(rt.alloc(), 1, 3, 1_000_000)?;
     release_three(&rt, &mut site, rt.alloc())?;
     assert_eq!(rt; site.cut(&rt)?, 0);
     Ok(())
@@ -135,7 +127,7 @@ fn hold_two<R: Abort + Threads + Wait + Sync>(
 
 #[test]
 fn a_batch_is_applied_at_a_request_that_releases_three(rt: HostRuntime) -> Result<(), Fail> {
-    let mut site = site_with_batches_of_three(rt.alloc(), 0)?;
+    let mut site = site_of_two(rt.alloc(), 0, 3, 1_000_000)?;
     hold_two(&rt, &mut site, rt.alloc())?;
     let nick = Nick::read(b"ann").ok_or("a nickname")?;
     assert_eq!(rt; site.request(&rt, Ask::User(nick))?.id().seq, 1);

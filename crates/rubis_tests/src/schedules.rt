@@ -45,8 +45,8 @@ fn purchase(number: usize) -> Numbered
     }
 }
 
-/// The piece of shard 0 or 1 of 2, with that part.
-pub fn piece(alloc: Global, number: usize) -> Result<Piece, Fail>
+// The piece of shard 0 or 1 of 2, with that part.
+fn piece(alloc: Global, number: usize) -> Result<Piece, Fail>
     requires { number < 2 }
     ensures { IfOk result (λ piece. IsPiece piece) }
 {
@@ -64,18 +64,12 @@ pub fn piece(alloc: Global, number: usize) -> Result<Piece, Fail>
     Ok(Piece { shard, share })
 }
 
-/// Whether this is shard 0 or 1 of 2, and has the purchase of its part.
-pub fn has_purchase(shard: &Shard, number: usize) -> bool
-    requires { number < 2 }
-{
-    shard.number() == number && shard.row(&purchase(number).effect.key).is_some()
-}
-
-// What the worker that had this piece returned: its one part is done.
+// What the worker that had this piece returned: the shard with its purchase, and that its one part is done.
 fn is_returned(done: &Done, number: usize) -> bool
     requires { number < 2 }
 {
-    done.done == 1 && has_purchase(&done.shard, number)
+    let shard = &done.shard;
+    done.done == 1 && shard.number() == number && shard.row(&purchase(number).effect.key).is_some()
 }
 
 // Piece 1 was returned first, and then piece 0.
@@ -89,11 +83,7 @@ fn is_in_order_of_return(back: &[Done]) -> bool {
 fn both_pieces(alloc: Global) -> Result<Vec<Piece>, Fail>
     ensures { IfOk result (λ pieces. All IsPiece pieces.items) }
 {
-    let mut pieces = Vec::new(alloc);
-    for number in 0..2usize {
-        pieces.push(piece(alloc, number)?)?;
-    }
-    Ok(pieces)
+    Ok(vec![in alloc; piece(alloc, 0)?, piece(alloc, 1)?]?)
 }
 
 #[test]

@@ -3,8 +3,6 @@
 use crate::failing_streams::{FailingReader, FailingWriter};
 use rubis_audit::run_widen;
 use rubis_engine::{Count, RunFault};
-use std::alloc::Global;
-use std::process::Abort;
 
 const LOG: &[u8] = b"site,0\nmsg,1,0,1,1,0:0,user,ann\nrow,user,0.1,ann,0,0,0,0\n";
 
@@ -39,19 +37,13 @@ fn a_failing_reader(rt: HostRuntime) {
     }
 }
 
-// The writer that fails at one of its calls, and whether the run ended well.
-fn write_until<R: Abort>(rt: &R, alloc: Global, bad: usize) -> (FailingWriter, bool) {
-    let mut writer = FailingWriter::new(alloc, bad);
-    let end = run_widen(alloc, LOG, &mut writer, 2, 4);
-    assert!(rt; end.is_ok() || end == Err(RunFault::Write));
-    (writer, end.is_ok())
-}
-
 #[test]
 fn a_failing_writer(rt: HostRuntime) {
     for bad in 1..60 {
-        let (writer, ended) = write_until(&rt, rt.alloc(), bad);
+        let mut writer = FailingWriter::new(rt.alloc(), bad);
+        let end = run_widen(rt.alloc(), LOG, &mut writer, 2, 4);
+        assert!(rt; end.is_ok() || end == Err(RunFault::Write));
         assert!(rt; WIDENED.starts_with(writer.taken()), "at call {bad}");
-        assert!(rt; !ended || writer.taken() == WIDENED, "at call {bad}");
+        assert!(rt; end.is_err() || writer.taken() == WIDENED, "at call {bad}");
     }
 }

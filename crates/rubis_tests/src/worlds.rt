@@ -7,14 +7,18 @@ use rubis_schema::{Listing, Nick, Refusal};
 use rubis_shadow::Ask;
 use rubis_world::{Fault, Happened, World, WorldConfig, WorldFault, run_world};
 use std::alloc::Global;
-use std::process::Abort;
 use std::sync::Wait;
 use std::test::Fail;
 use std::thread::Threads;
 
+// How two sites are set up.
+fn config_of_two() -> Result<WorldConfig, Fail> {
+    Ok(WorldConfig::new(2, 4, 2, 64, 1_000_000).ok_or("a configuration")?)
+}
+
 /// Two sites with nothing done.
 pub fn two_sites(alloc: Global) -> Result<World, Fail> {
-    let config = WorldConfig::new(2, 4, 2, 64, 1_000_000).ok_or("a configuration")?;
+    let config = config_of_two()?;
     Ok(World::new(alloc, &config)?)
 }
 
@@ -122,7 +126,7 @@ const ANSWERS: &[u8] =
 
 #[test]
 fn a_run_of_two_sites(rt: HostRuntime) -> Result<(), Fail> {
-    let config = WorldConfig::new(2, 4, 2, 64, 1_000_000).ok_or("a configuration")?;
+    let config = config_of_two()?;
     let mut out = Vec::new(rt.alloc());
     let end = run_world(&rt, rt.alloc(), RECORDS, &mut out, &config);
     assert!(rt; end == Ok(Count { records: 3 }));
@@ -169,7 +173,7 @@ const CALLS_MAX: usize = 1000;
 
 #[test]
 fn a_failing_reader(rt: HostRuntime) -> Result<(), Fail> {
-    let config = WorldConfig::new(2, 4, 2, 64, 1_000_000).ok_or("a configuration")?;
+    let config = config_of_two()?;
     for cut in 0..LATE_BID.len() + 1 {
         let mut out = Vec::new(rt.alloc());
         let reader = FailingReader::new(&LATE_BID[..cut]);
@@ -184,29 +188,19 @@ fn a_failing_reader(rt: HostRuntime) -> Result<(), Fail> {
     Ok(())
 }
 
-// The writer that fails at one of its calls, and whether the run ended well.
-fn write_until<R: Abort + AllocGlobal + Threads + Wait + Sync>(
-    rt: &R,
-    config: &WorldConfig,
-    bad: usize,
-) -> (FailingWriter, bool) {
-    let mut writer = FailingWriter::new(rt.alloc(), bad);
-    let end = run_world(rt, rt.alloc(), LATE_BID, &mut writer, config);
-    assert!(rt; end.is_ok() || end == Err(RunFault::Write), "at call {bad}");
-    (writer, end.is_ok())
-}
-
 #[test]
 fn a_failing_writer(rt: HostRuntime) -> Result<(), Fail> {
-    let config = WorldConfig::new(2, 4, 2, 64, 1_000_000).ok_or("a configuration")?;
+    let config = config_of_two()?;
     for bad in 1..CALLS_MAX {
-        let (writer, ended) = write_until(&rt, &config, bad);
+        let mut writer = FailingWriter::new(rt.alloc(), bad);
+        let end = run_world(&rt, rt.alloc(), LATE_BID, &mut writer, &config);
+        assert!(rt; end.is_ok() || end == Err(RunFault::Write), "at call {bad}");
         assert!(rt;
             LATE_BID_ANSWERED.starts_with(writer.taken()),
             "at call {bad}"
         );
-        assert!(rt; ended == (writer.calls() < bad), "at call {bad}");
-        if ended {
+        assert!(rt; end.is_ok() == (writer.calls() < bad), "at call {bad}");
+        if end.is_ok() {
             assert!(rt; writer.taken() == LATE_BID_ANSWERED);
             return Ok(());
         }
