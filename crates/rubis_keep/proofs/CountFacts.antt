@@ -11,5 +11,6 @@ pub counted_drop : (site : ℕ) (log : List Message) (i : ℕ) (m : Message) →
 counted_drop site log i m h is =
     at_drop_more (counted site) log i m h ∙ ap (λ (n : Message). counted site (drop (i + 1) log) + cond (eqb n.stamp.id.site site) 1 0) (sym is)
 
-pub counts_more : (log : List Message) (site : ℕ) → map (λ i. counted i log) (range_with_len 0 (site + 1)) ≡ map (λ i. counted i log) (range_with_len 0 site) ++ counted site log ∷ []
+pub counts_more : (log : List Message) (site : ℕ) → map (λ i. counted i log) (range_with_len 0 (site + 1)) ≡ map (λ i. counted i log) (range_with_len 0 site)
+    ++ counted site log ∷ []
 counts_more log site = map-range_with_len_more (λ i. counted i log) 0 site site (omega arith)

@@ -4,7 +4,8 @@ use Rattle.std.proofs.lemmas.List.{append-nil, take-append-drop}
 use Rattle.rubis_engine.specs.Accounts.{Account}
 use Rattle.rubis_engine.specs.Accounts.Ending.{AtEnd, Cut}
 use Rattle.rubis_engine.specs.Text.{input_records}
-use Rattle.rubis_keep.specs.Crashes.{ComesBack, DifferencesAreFound, EditsAreFound, EndsLeft, Files, IsLeft, IsRefused, Life, LivesLeft, after_life, after_lives, files_of, goes_on}
+use Rattle.rubis_keep.specs.Crashes.{ComesBack, DifferencesAreFound, EditsAreFound, EndsLeft, Files, IsLeft, IsRefused, Life, LivesLeft, after_life}
+use Rattle.rubis_keep.specs.Crashes.{after_lives, files_of, goes_on}
 use Rattle.rubis_keep.specs.Kept.{Ended, IsFrontOf}
 use Rattle.rubis_keep.specs.Lines.{AreSound, begun_after, kept_of, whole_lines}
 use Rattle.rubis_keep.proofs.LineFacts.{begun-append}
@@ -26,7 +27,8 @@ lives-left : (text : List (List (List ℕ)) → List ℕ) (files : Files) (lives
 lives-left text files [] h = h
 lives-left text files (life ∷ lives) h = lives-left text (after_life text files life) lives (life-left text files life h)
 
-same-files : (text : List (List (List ℕ)) → List ℕ) (files : Files) (input : List ℕ) → AreSound [] files.log → goes_on text files input ≡ files_of text (whole_lines files.log ++ input)
+same-files : (text : List (List (List ℕ)) → List ℕ) (files : Files) (input : List ℕ) → AreSound [] files.log → goes_on text files input
+    ≡ files_of text (whole_lines files.log ++ input)
 same-files text files input h = ap (λ (l : List ℕ). record { log = l; out = text (input_records l) }) (sym (kept-goes-on files.log input h))
 
 pub comes-back : ComesBack
@@ -37,7 +39,8 @@ comes-back text files lives input h =
 -- how a run ended
 abbrev IsEnd : (all : Account) (files : Files) (kept told : List ℕ) → Type 0
 IsEnd all files kept told = ((kept ≡ files.log) × (told ≡ files.out))
-    ⊎ (AreSound [] files.log × IsFrontOf files.out (all.text AtEnd (input_records (whole_lines files.log))) × ((more : List (List (List ℕ))) → IsFrontOf told (all.text AtEnd (input_records (whole_lines kept) ++ more))))
+    ⊎ (AreSound [] files.log × IsFrontOf files.out (all.text AtEnd (input_records (whole_lines files.log)))
+    × ((more : List (List (List ℕ))) → IsFrontOf told (all.text AtEnd (input_records (whole_lines kept) ++ more))))
 
 pub ends-left : EndsLeft
 ends-left all files input later log out h e = go e.answers
@@ -45,11 +48,13 @@ ends-left all files input later log out h e = go e.answers
     whole-front : IsFrontOf (whole_lines files.log) files.log
     whole-front = (begun_after [] files.log, whole-rest [] files.log)
 
-    grown : (e.kept ≡ files.log) ⊎ (IsFrontOf (whole_lines files.log) e.kept × IsFrontOf e.kept (whole_lines files.log ++ kept_of e.bytes)) → IsFrontOf (whole_lines files.log) e.kept
+    grown : (e.kept ≡ files.log) ⊎ (IsFrontOf (whole_lines files.log) e.kept × IsFrontOf e.kept (whole_lines files.log ++ kept_of e.bytes)) →
+        IsFrontOf (whole_lines files.log) e.kept
     grown (inl same) = subst (IsFrontOf (whole_lines files.log)) (sym same) whole-front
     grown (inr (front, more)) = front
 
-    go : IsEnd all files e.kept e.told → (next : Files) × IsLeft (all.text AtEnd) next × IsFrontOf (whole_lines files.log) next.log × (log ≡ Some next.log) × (out ≡ Some next.out)
+    go : IsEnd all files e.kept e.told → (next : Files) × IsLeft (all.text AtEnd) next × IsFrontOf (whole_lines files.log) next.log × (log ≡ Some next.log)
+        × (out ≡ Some next.out)
     go (inl same) = (files, h, whole-front, e.log_is ∙ ap (λ t. Some t) same.0, e.out_is ∙ ap (λ t. Some t) same.1)
     go (inr (sound, found, begins)) = (
       record { log = e.kept; out = e.told },
@@ -61,8 +66,10 @@ ends-left all files input later log out h e = go e.answers
 
 lines-whole : (log input : List ℕ) → AreSound [] log → whole_lines (whole_lines log ++ kept_of input) ≡ whole_lines log ++ kept_of input
 lines-whole log input h =
-    let end : begun_after [] (whole_lines log ++ kept_of input) ≡ [] = begun-append [] (whole_lines log) (kept_of input) ∙ ap (λ s. begun_after s (kept_of input)) (whole-ends log h) ∙ kept-ends input in
-    sym (append-nil (whole_lines (whole_lines log ++ kept_of input))) ∙ ap (λ t. whole_lines (whole_lines log ++ kept_of input) ++ t) (sym end) ∙ whole-rest [] (whole_lines log ++ kept_of input)
+    let end : begun_after [] (whole_lines log ++ kept_of input) ≡ [] = begun-append [] (whole_lines log) (kept_of input)
+    ∙ ap (λ s. begun_after s (kept_of input)) (whole-ends log h) ∙ kept-ends input in
+    sym (append-nil (whole_lines (whole_lines log ++ kept_of input))) ∙ ap (λ t. whole_lines (whole_lines log ++ kept_of input) ++ t) (sym end)
+    ∙ whole-rest [] (whole_lines log ++ kept_of input)
 
 pub lives-left-too : LivesLeft
 lives-left-too all files input later log out h l =
@@ -79,7 +86,8 @@ lives-left-too all files input later log out h l =
       l.out_is,
     )
 
-refused : (all : Account) (files : Files) → (AreSound [] files.log → IsFrontOf files.out (all.text AtEnd (input_records (whole_lines files.log))) → ⊥) → IsRefused all files
+refused : (all : Account) (files : Files) → (AreSound [] files.log → IsFrontOf files.out (all.text AtEnd (input_records (whole_lines files.log))) → ⊥) →
+    IsRefused all files
 refused all files never input later log out = (λ l. never l.sound l.found, λ e. go e e.answers)
   where
     go : (e : Ended all files.log files.out input later log out) → IsEnd all files e.kept e.told → (log ≡ Some files.log) × (out ≡ Some files.out)

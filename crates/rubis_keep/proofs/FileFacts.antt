@@ -1,8 +1,10 @@
 -- Bytes that a writer took and a reader gave, one part after the other.
-use Rattle.std.proofs.Common.{◌≡◌, ◌∙◌, ◌≤◌, ◌+◌, ◌-◌, ◌++◌, ◌∷◌, [], ◌&&◌, ℕ, suc, true, false, List, Option, Some, None, IfSome, drop, eqb, get_or, length, take, refl, sym, ap, subst, arith, append_assoc, length-append}
+use Rattle.std.proofs.Common.{◌≡◌, ◌∙◌, ◌≤◌, ◌+◌, ◌-◌, ◌++◌, ◌∷◌, [], ◌&&◌, ℕ, suc, true, false, List, Option, Some, None, IfSome, drop, eqb, get_or, length}
+use Rattle.std.proofs.Common.{take, refl, sym, ap, subst, arith, append_assoc, length-append}
 use lib.Pointwise.{pointwise}
 use Rattle.std.proofs.lemmas.Bool.{eqb-false}
-use Rattle.std.proofs.lemmas.List.{drop-take, get_or-append-add, get_or_append_left, get_or-drop, get_or-take, length-drop, length-take, length-take-le, take-append-drop, take-take, take_rest}
+use Rattle.std.proofs.lemmas.List.{drop-take, get_or-append-add, get_or_append_left, get_or-drop, get_or-take, length-drop, length-take, length-take-le}
+use Rattle.std.proofs.lemmas.List.{take-append-drop, take-take, take_rest}
 use Rattle.rubis_keep.specs.Files.{DiffersFrom, IfDiffers}
 use Rattle.rubis_keep.specs.declared.fault.KeepFault.{KeepFault}
 use Rattle.rubis_keep.specs.declared.fault.KeepFault.TheVariants as fault

@@ -1,5 +1,6 @@
 -- A run that goes on where an earlier one was cut off.
-use Rattle.std.proofs.Common.{◌≡◌, ◌∙◌, ◌+◌, ◌⊎◌, inl, inr, ◌++◌, ◌∷◌, [], ℕ, List, Option, Some, None, IfSome, false, length, take, refl, sym, ap, subst, arith, append_assoc}
+use Rattle.std.proofs.Common.{◌≡◌, ◌∙◌, ◌+◌, ◌⊎◌, inl, inr, ◌++◌, ◌∷◌, [], ℕ, List, Option, Some, None, IfSome, false, length, take, refl, sym, ap, subst}
+use Rattle.std.proofs.Common.{arith, append_assoc}
 use Rattle.std.proofs.lemmas.List.{append-nil}
 use Rattle.std.proofs.Math.Seq.{take-append_seam}
 use Rattle.csv.specs.Machine.{next_record}
@@ -16,7 +17,8 @@ use Rattle.rubis_keep.proofs.FileFacts.{consumes-none}
 use Rattle.rubis_keep.proofs.LineFacts.{begun-append, kept-append}
 use Rattle.rubis_keep.proofs.RecordFacts.{records-append, none-whole}
 use Rattle.rubis_keep.proofs.StandFacts.{HaveFailed, HaveGone, each-stops, gone-failed}
-use Rattle.rubis_keep.proofs.SoundFacts.{kept-ends, kept-sound, sound-append, sound-back, sound-front, sound-kept, whole-append-after, whole-ends, whole-rest, whole-sound}
+use Rattle.rubis_keep.proofs.SoundFacts.{kept-ends, kept-sound, sound-append, sound-back, sound-front, sound-kept, whole-append-after, whole-ends, whole-rest}
+use Rattle.rubis_keep.proofs.SoundFacts.{whole-sound}
 use Rattle.rubis_keep.proofs.WholeFacts.{kept-whole, whole-append}
 
 -- a run over an input begins
@@ -30,7 +32,8 @@ stands-start all more told old base input log out begun number len h e = record 
   counted = omega arith;
   rests = record {
     since = [];
-    answered = subst (λ k. HasAnswered all more (told ++ []) number k) (sym (append-nil base)) (subst (λ t. HasAnswered all more t number base) (sym (append-nil told)) h);
+    answered = subst (λ k. HasAnswered all more (told ++ []) number k) (sym (append-nil base))
+        (subst (λ t. HasAnswered all more t number base) (sym (append-nil told)) h);
     wrote = record { added = []; left = old; unread = refl; appended = appends-none out; same = append-nil old; one = inl refl };
   };
 }
@@ -62,7 +65,8 @@ known xs (Some ys) added a = ap (λ t. Some t) a
 
 -- what was kept is answered, and all answers of before were found
 pub replayed : (all more : Account) (kept old : List ℕ) (later before out log : Option (List ℕ)) (begun : List ℕ) (number len : ℕ) → AreSound [] kept
-    → Stands all more [] old [] [] (Some kept) later log log before (Some old) out begun number 0 len → IsAtEnd later → (ended : Option (List ℕ)) → IsAtEnd ended → Keeps before ended
+    → Stands all more [] old [] [] (Some kept) later log log before (Some old) out begun number 0 len → IsAtEnd later → (ended : Option (List ℕ)) →
+    IsAtEnd ended → Keeps before ended
     → Replayed all more kept old ended out number len
 replayed all more kept old later before out log begun number len sound s e ended at same =
     let r = s.rests in
@@ -93,10 +97,12 @@ replayed all more kept old later before out log begun number len sound s e ended
     still left (Some xs) k = ap (λ t. Some t) k
 
 -- the log is cut back to its whole lines
-pub cut-back : (kept : List ℕ) (log log2 : Option (List ℕ)) (len : ℕ) → log ≡ Some kept → len ≡ length (whole_lines kept) → CutsTo log log2 len → log2 ≡ Some (whole_lines kept)
+pub cut-back : (kept : List ℕ) (log log2 : Option (List ℕ)) (len : ℕ) → log ≡ Some kept → len ≡ length (whole_lines kept) → CutsTo log log2 len → log2
+    ≡ Some (whole_lines kept)
 cut-back kept log log2 len e f c =
     let cut : log2 ≡ Some (take len kept) = rw e at c in
-    cut ∙ ap (λ n. Some (take n kept)) f ∙ ap (λ t. Some (take (length (whole_lines kept)) t)) (sym (whole-rest [] kept)) ∙ ap (λ t. Some t) (take-append_seam (whole_lines kept) (begun_after [] kept))
+    cut ∙ ap (λ n. Some (take n kept)) f ∙ ap (λ t. Some (take (length (whole_lines kept)) t)) (sym (whole-rest [] kept))
+    ∙ ap (λ t. Some t) (take-append_seam (whole_lines kept) (begun_after [] kept))
 
 none-right : (xs ys : List ℕ) → xs ++ ys ≡ [] → ys ≡ []
 none-right [] ys h = h
@@ -104,7 +110,8 @@ none-right (x ∷ xs) ys h = absurd (cc h)
 
 -- the input ends
 pub lived : (all more : Account) (kept old told : List ℕ) (input later log log2 before out : Option (List ℕ)) (begun : List ℕ) (number len0 len : ℕ)
-    → AreSound [] kept → log ≡ Some (whole_lines kept) → Stands all more told [] (whole_lines kept) [] input later log log2 before (Some told) out begun number len0 len
+    → AreSound [] kept → log ≡ Some (whole_lines kept) →
+    Stands all more told [] (whole_lines kept) [] input later log log2 before (Some told) out begun number len0 len
     → IsAtEnd later → IsFrontOf old (all.text AtEnd (input_records (whole_lines kept))) → Lived all kept old input later log2 out
 lived all more kept old told input later log log2 before out begun number len0 len sound e s end found =
     let r = s.rests in
@@ -151,23 +158,35 @@ pub replay-fails : (all : Account) (kept old : List ℕ) (input past log log2 ou
     → Fails all [] old [] [] (Some kept) past log log2 (Some old) out → Ended all kept old input input (Some kept) out
 replay-fails all kept old input past log log2 out sound f = go past f.taken f.out_ends
   where
-    with_found : (added : List ℕ) → Beginning all kept (old ++ added) → AreSound [] kept × IsFrontOf old (all.text AtEnd (input_records (whole_lines kept))) × Beginning all kept (old ++ added)
-    with_found added h = (sound, (added ++ (h []).0, sym (append_assoc old added (h []).0) ∙ (h []).1 ∙ ap (all.text AtEnd) (append-nil (input_records (whole_lines kept)))), h)
+    with_found : (added : List ℕ) → Beginning all kept (old ++ added) → AreSound [] kept × IsFrontOf old (all.text AtEnd (input_records (whole_lines kept)))
+        × Beginning all kept (old ++ added)
+    with_found added h = (
+      sound,
+      (added ++ (h []).0, sym (append_assoc old added (h []).0) ∙ (h []).1 ∙ ap (all.text AtEnd) (append-nil (input_records (whole_lines kept)))),
+      h,
+    )
 
-    go : (later : Option (List ℕ)) → Consumes (Some kept) later (f.bytes ++ f.next) → OutEnds all [] old (Some old) out (kept_after [] f.bytes) → Ended all kept old input input (Some kept) out
+    go : (later : Option (List ℕ)) → Consumes (Some kept) later (f.bytes ++ f.next) → OutEnds all [] old (Some old) out (kept_after [] f.bytes) →
+        Ended all kept old input input (Some kept) out
     go None c o = absurd c
-    go (Some rest) c (added, a, inl unread) = still all kept old (old ++ added) input out (known old out added a) (inl (refl, ap (λ t. old ++ t) unread.0 ∙ append-nil old))
+    go (Some rest) c (added, a, inl unread) = still all kept old (old ++ added) input out (known old out added a)
+        (inl (refl, ap (λ t. old ++ t) unread.0 ∙ append-nil old))
     go (Some rest) c (added, a, inr begins) = still all kept old (old ++ added) input out (known old out added a) (inr (with_found added (λ more.
         let left = f.next ++ rest in
         let lines : whole_lines kept ≡ kept_after [] f.bytes ++ kept_after (begun_after [] f.bytes) left =
         sym (sound-kept [] kept sound) ∙ ap kept_of (c ∙ append_assoc f.bytes f.next rest) ∙ kept-append [] f.bytes left in
         let later_lines = kept_after (begun_after [] f.bytes) left in
-        let records = ap input_records lines ∙ records-append (kept_after [] f.bytes) later_lines (kept-whole [] f.bytes) (kept-whole (begun_after [] f.bytes) left).unmarked in
-        let b = begins (input_records later_lines ++ more) in
-        (b.0, b.1 ∙ ap (all.text AtEnd) (sym (append_assoc (input_records (kept_after [] f.bytes)) (input_records later_lines) more) ∙ ap (λ t. t ++ more) (sym records))))))
+        let records = ap input_records lines
+        ∙ records-append (kept_after [] f.bytes) later_lines (kept-whole [] f.bytes) (kept-whole (begun_after [] f.bytes) left).unmarked in
+        let b = begins (input_records later_lines ++ more) in (
+          b.0,
+          b.1 ∙ ap (all.text AtEnd)
+              (sym (append_assoc (input_records (kept_after [] f.bytes)) (input_records later_lines) more) ∙ ap (λ t. t ++ more) (sym records)),
+        ))))
 
 -- the log could not be cut back
-pub uncut : (all more : Account) (kept old : List ℕ) (input before out : Option (List ℕ)) (number len : ℕ) → AreSound [] kept → Replayed all more kept old before out number len
+pub uncut : (all more : Account) (kept old : List ℕ) (input before out : Option (List ℕ)) (number len : ℕ) → AreSound [] kept →
+    Replayed all more kept old before out number len
     → Ended all kept old input input (Some kept) out
 uncut all more kept old input before out number len sound r =
     still all kept old r.told input out r.out_is (inr (sound, r.found, λ m. (more.text AtEnd m, sym (r.answered.text AtEnd m))))
@@ -201,7 +220,8 @@ live-fails all kept old told input later log log2 out sound e f found = go f.out
     front_ends = begun-append [] (whole_lines kept) (kept_of f.bytes) ∙ ap (λ s. begun_after s (kept_of f.bytes)) (whole-ends kept sound) ∙ kept-ends f.bytes
 
     front_lines : whole_lines (whole_lines kept ++ kept_of f.bytes) ≡ whole_lines kept ++ kept_of f.bytes
-    front_lines = sym (append-nil (whole_lines (whole_lines kept ++ kept_of f.bytes))) ∙ ap (λ t. whole_lines (whole_lines kept ++ kept_of f.bytes) ++ t) (sym front_ends)
+    front_lines = sym (append-nil (whole_lines (whole_lines kept ++ kept_of f.bytes)))
+        ∙ ap (λ t. whole_lines (whole_lines kept ++ kept_of f.bytes) ++ t) (sym front_ends)
         ∙ whole-rest [] (whole_lines kept ++ kept_of f.bytes)
 
     lines : whole_lines (whole_lines kept ++ (kept_of f.bytes ++ f.torn)) ≡ (whole_lines kept ++ kept_of f.bytes) ++ whole_lines f.torn
@@ -213,7 +233,8 @@ live-fails all kept old told input later log log2 out sound e f found = go f.out
     torn_unmarked : is_marked (whole_lines f.torn) ≡ false
     torn_unmarked = subst (λ t. is_marked t ≡ false) (sound-kept [] f.torn torn_sound) (kept-whole [] f.torn).unmarked
 
-    records : input_records (whole_lines (whole_lines kept ++ (kept_of f.bytes ++ f.torn))) ≡ input_records (whole_lines kept ++ kept_of f.bytes) ++ input_records (whole_lines f.torn)
+    records : input_records (whole_lines (whole_lines kept ++ (kept_of f.bytes ++ f.torn))) ≡ input_records (whole_lines kept ++ kept_of f.bytes)
+        ++ input_records (whole_lines f.torn)
     records = ap input_records lines ∙ records-append (whole_lines kept ++ kept_of f.bytes) (whole_lines f.torn) front_whole torn_unmarked
 
     go : OutEnds all told [] (Some told) out (whole_lines kept ++ kept_of f.bytes) → Ended all kept old input later log2 out
@@ -234,8 +255,12 @@ live-fails all kept old told input later log log2 out sound e f found = go f.out
         sound,
         found,
         λ more.
-            let b = begins (input_records (whole_lines f.torn) ++ more) in
-            (b.0, b.1 ∙ ap (all.text AtEnd) (sym (append_assoc (input_records (whole_lines kept ++ kept_of f.bytes)) (input_records (whole_lines f.torn)) more) ∙ ap (λ t. t ++ more) (sym records))),
+            let b = begins (input_records (whole_lines f.torn) ++ more) in (
+              b.0,
+              b.1 ∙ ap (all.text AtEnd)
+                  (sym (append_assoc (input_records (whole_lines kept ++ kept_of f.bytes)) (input_records (whole_lines f.torn)) more)
+                  ∙ ap (λ t. t ++ more) (sym records)),
+            ),
       );
     }
 
@@ -245,7 +270,8 @@ pub replay-starts : (account : ℕ → Account) (kept old : List ℕ) (past befo
     → (account 1).text Cut [] ≡ [] → begun ≡ [] → answered ≡ 0 → len ≡ 0 → Begins kept old past (Some kept) before out
     → Stands (account 1) (account (answered + 1)) [] old [] [] (Some kept) past log log before (Some old) out begun (answered + 1) 0 len
 replay-starts account kept old past before out log begun answered len none e f k b =
-    rw (f, k, b.past_is, b.before_is, b.out_is) (stands-start (account 1) (account 1) [] old [] (Some kept) log (Some old) begun 1 0 (answered-none (account 1) none) e)
+    rw (f, k, b.past_is, b.before_is, b.out_is)
+    (stands-start (account 1) (account 1) [] old [] (Some kept) log (Some old) begun 1 0 (answered-none (account 1) none) e)
 
 pub replay-err : (account : ℕ → Account) (past past2 log log2 before out out2 : Option (List ℕ)) (begun : List ℕ) (answered len : ℕ)
     → (account 1).text Cut [] ≡ [] → begun ≡ [] → answered ≡ 0 → len ≡ 0
@@ -255,35 +281,44 @@ replay-err account past past2 log log2 before out out2 begun answered len none e
     replay-fails (account 1) kept old input past2 log log2 out2 b.sound
     (h (account 1) [] old [] [] (Some kept) log (Some old) 0 (replay-starts account kept old past before out log begun answered len none e f k b))
 
-pub replay-ok : (account account2 : ℕ → Account) (past past2 before before2 ended out out2 : Option (List ℕ)) (begun begun2 : List ℕ) (answered answered2 len len2 : ℕ)
+pub replay-ok : (account account2 : ℕ → Account) (past past2 before before2 ended out out2 : Option (List ℕ)) (begun begun2 : List ℕ)
+    (answered answered2 len len2 : ℕ)
     → (account 1).text Cut [] ≡ [] → begun ≡ [] → answered ≡ 0 → len ≡ 0
-    → HaveGone (account (answered + 1)) past None before out begun (answered + 1) len (account2 (answered2 + 1)) past2 None before2 out2 begun2 (answered2 + 1) len2
+    → HaveGone (account (answered + 1)) past None before out begun (answered + 1) len (account2 (answered2 + 1)) past2 None before2 out2 begun2
+    (answered2 + 1) len2
     → IsAtEnd past2 → IsAtEnd ended → Keeps before2 ended
-    → (kept old : List ℕ) → Begins kept old past (Some kept) before out → Replayed (account 1) (account2 (answered2 + 1)) kept old ended out2 (answered2 + 1) len2
+    → (kept old : List ℕ) → Begins kept old past (Some kept) before out →
+    Replayed (account 1) (account2 (answered2 + 1)) kept old ended out2 (answered2 + 1) len2
 replay-ok account account2 past past2 before before2 ended out out2 begun begun2 answered answered2 len len2 none e f k h end at same kept old b =
     replayed (account 1) (account2 (answered2 + 1)) kept old past2 before2 out2 None begun2 (answered2 + 1) len2 b.sound
-    (h (account 1) [] old [] [] (Some kept) None (Some old) 0 (replay-starts account kept old past before out None begun answered len none e f k b)) end ended at same
+    (h (account 1) [] old [] [] (Some kept) None (Some old) 0 (replay-starts account kept old past before out None begun answered len none e f k b)) end ended
+    at same
 
 -- some answer of before was not found
-pub replay-unfound : (account account2 : ℕ → Account) (past past2 before before2 out out2 out3 : Option (List ℕ)) (begun begun2 : List ℕ) (answered answered2 len len2 : ℕ)
+pub replay-unfound : (account account2 : ℕ → Account) (past past2 before before2 out out2 out3 : Option (List ℕ)) (begun begun2 : List ℕ)
+    (answered answered2 len len2 : ℕ)
     → (account 1).text Cut [] ≡ [] → begun ≡ [] → answered ≡ 0 → len ≡ 0 → out3 ≡ out2
-    → HaveGone (account (answered + 1)) past None before out begun (answered + 1) len (account2 (answered2 + 1)) past2 None before2 out2 begun2 (answered2 + 1) len2
+    → HaveGone (account (answered + 1)) past None before out begun (answered + 1) len (account2 (answered2 + 1)) past2 None before2 out2 begun2
+    (answered2 + 1) len2
     → (kept old : List ℕ) (input : Option (List ℕ)) → Begins kept old past (Some kept) before out → Ended (account 1) kept old input input (Some kept) out3
 replay-unfound account account2 past past2 before before2 out out2 out3 begun begun2 answered answered2 len len2 none e f k same h kept old input b =
     subst (Ended (account 1) kept old input input (Some kept)) (sym same)
     (replay-err account past past2 None None before out out2 begun answered len none e f k
-    (gone-failed (account (answered + 1)) (account2 (answered2 + 1)) past past2 past2 None None None before before2 out out2 out2 begun begun2 (answered + 1) (answered2 + 1) len len2 h
+    (gone-failed (account (answered + 1)) (account2 (answered2 + 1)) past past2 past2 None None None before before2 out out2 out2 begun begun2 (answered + 1)
+    (answered2 + 1) len len2 h
     (each-stops (account2 (answered2 + 1)) past2 None before2 out2 begun2 (answered2 + 1) len2)) kept old input b)
 
 -- ---- a whole run
 
 -- the log that was read through is one of lines that are kept as they are
-begins : (kept old : List ℕ) (first past log before out : Option (List ℕ)) → Opens kept old first past log before out → IfSome first (λ text. AreSound [] text) → Begins kept old past (Some kept) before out
+begins : (kept old : List ℕ) (first past log before out : Option (List ℕ)) → Opens kept old first past log before out →
+    IfSome first (λ text. AreSound [] text) → Begins kept old past (Some kept) before out
 begins kept old first past log before out o sound =
     record { past_is = o.past_is; log_is = refl; before_is = o.before_is; out_is = o.out_is; sound = rw o.first_is at sound }
 
 -- it ended before anything was answered
-pub run-unread : (all : Account) (first past log before input out : Option (List ℕ)) (kept old : List ℕ) → Opens kept old first past log before out → Ended all kept old input input log out
+pub run-unread : (all : Account) (first past log before input out : Option (List ℕ)) (kept old : List ℕ) → Opens kept old first past log before out →
+    Ended all kept old input input log out
 run-unread all first past log before input out kept old o = rw (o.log_is, o.out_is) (unread all kept old input)
 
 pub run-unreplayed : (all : Account) (first past log before input out out2 : Option (List ℕ)) → IfSome first (λ text. AreSound [] text)
@@ -291,17 +326,21 @@ pub run-unreplayed : (all : Account) (first past log before input out out2 : Opt
     → (kept old : List ℕ) → Opens kept old first past log before out → Ended all kept old input input log out2
 run-unreplayed all first past log before input out out2 sound h kept old o = rw o.log_is (h kept old input (begins kept old first past log before out o sound))
 
-pub run-lived : (all more : Account) (first past log log2 before before2 input input2 out out2 out3 : Option (List ℕ)) (number len : ℕ) → IfSome first (λ text. AreSound [] text)
+pub run-lived : (all more : Account) (first past log log2 before before2 input input2 out out2 out3 : Option (List ℕ)) (number len : ℕ) →
+    IfSome first (λ text. AreSound [] text)
     → ((kept old : List ℕ) → Begins kept old past (Some kept) before out → Replayed all more kept old before2 out2 number len)
-    → ((all : Account) (kept old : List ℕ) → AreSound [] kept → log ≡ Some kept → Replayed all more kept old before2 out2 number len → Lived all kept old input input2 log2 out3)
+    → ((all : Account) (kept old : List ℕ) → AreSound [] kept → log ≡ Some kept → Replayed all more kept old before2 out2 number len →
+    Lived all kept old input input2 log2 out3)
     → (kept old : List ℕ) → Opens kept old first past log before out → Lived all kept old input input2 log2 out3
 run-lived all more first past log log2 before before2 input input2 out out2 out3 number len sound r h kept old o =
     let b = begins kept old first past log before out o sound in
     h all kept old b.sound o.log_is (r kept old b)
 
-pub run-ended : (all more : Account) (first past log log2 before before2 input input2 out out2 out3 : Option (List ℕ)) (number len : ℕ) → IfSome first (λ text. AreSound [] text)
+pub run-ended : (all more : Account) (first past log log2 before before2 input input2 out out2 out3 : Option (List ℕ)) (number len : ℕ) →
+    IfSome first (λ text. AreSound [] text)
     → ((kept old : List ℕ) → Begins kept old past (Some kept) before out → Replayed all more kept old before2 out2 number len)
-    → ((all : Account) (kept old : List ℕ) → AreSound [] kept → log ≡ Some kept → Replayed all more kept old before2 out2 number len → Ended all kept old input input2 log2 out3)
+    → ((all : Account) (kept old : List ℕ) → AreSound [] kept → log ≡ Some kept → Replayed all more kept old before2 out2 number len →
+    Ended all kept old input input2 log2 out3)
     → (kept old : List ℕ) → Opens kept old first past log before out → Ended all kept old input input2 log2 out3
 run-ended all more first past log log2 before before2 input input2 out out2 out3 number len sound r h kept old o =
     let b = begins kept old first past log before out o sound in
@@ -315,10 +354,13 @@ kept-known kept (Some xs) None e k = absurd k
 kept-known kept (Some xs) (Some ys) e k = ap (λ t. Some t) k ∙ e
 
 pub go-uncut : (more : Account) (input log log2 before out : Option (List ℕ)) (number len : ℕ) → Keeps log log2
-    → (all : Account) (kept old : List ℕ) → AreSound [] kept → log ≡ Some kept → Replayed all more kept old before out number len → Ended all kept old input input log2 out
-go-uncut more input log log2 before out number len keeps all kept old sound e r = rw (kept-known kept log log2 e keeps) (uncut all more kept old input before out number len sound r)
+    → (all : Account) (kept old : List ℕ) → AreSound [] kept → log ≡ Some kept → Replayed all more kept old before out number len →
+    Ended all kept old input input log2 out
+go-uncut more input log log2 before out number len keeps all kept old sound e r =
+    rw (kept-known kept log log2 e keeps) (uncut all more kept old input before out number len sound r)
 
-live-starts : (all more : Account) (kept old : List ℕ) (input log before out : Option (List ℕ)) (begun : List ℕ) (number len : ℕ) → (r : Replayed all more kept old before out number len) → begun ≡ []
+live-starts : (all more : Account) (kept old : List ℕ) (input log before out : Option (List ℕ)) (begun : List ℕ) (number len : ℕ) →
+    (r : Replayed all more kept old before out number len) → begun ≡ []
     → Stands all more r.told [] (whole_lines kept) [] input input log log before (Some r.told) out begun number len len
 live-starts all more kept old input log before out begun number len r e =
     subst (λ b. Stands all more r.told [] (whole_lines kept) [] input input log log b (Some r.told) out begun number len len) (sym r.before_is)
@@ -326,12 +368,15 @@ live-starts all more kept old input log before out begun number len r e =
     (stands-start all more r.told [] (whole_lines kept) input log (Some r.told) begun number len r.answered e))
 
 -- the same where `out` was told of the replay meanwhile
-told-of : (all more : Account) (kept old : List ℕ) (before out out1 : Option (List ℕ)) (number len : ℕ) → out1 ≡ out → Replayed all more kept old before out number len → Replayed all more kept old before out1 number len
+told-of : (all more : Account) (kept old : List ℕ) (before out out1 : Option (List ℕ)) (number len : ℕ) → out1 ≡ out →
+    Replayed all more kept old before out number len → Replayed all more kept old before out1 number len
 told-of all more kept old before out out1 number len same r = subst (λ o. Replayed all more kept old before o number len) (sym same) r
 
-pub go-err : (more : Account) (input input2 log log2 log3 before out out1 out2 : Option (List ℕ)) (begun : List ℕ) (number len : ℕ) → CutsTo log log2 len → begun ≡ [] → out1 ≡ out
+pub go-err : (more : Account) (input input2 log log2 log3 before out out1 out2 : Option (List ℕ)) (begun : List ℕ) (number len : ℕ) → CutsTo log log2 len →
+    begun ≡ [] → out1 ≡ out
     → HaveFailed more input log2 before out1 begun number len input2 log3 out2
-    → (all : Account) (kept old : List ℕ) → AreSound [] kept → log ≡ Some kept → Replayed all more kept old before out number len → Ended all kept old input input2 log3 out2
+    → (all : Account) (kept old : List ℕ) → AreSound [] kept → log ≡ Some kept → Replayed all more kept old before out number len →
+    Ended all kept old input input2 log3 out2
 go-err more input input2 log log2 log3 before out out1 out2 begun number len cuts e same f all kept old sound known replayed =
     let r = told-of all more kept old before out out1 number len same replayed in
     live-fails all kept old r.told input input2 log2 log3 out2 sound (cut-back kept log log2 len known r.length_is cuts)
@@ -339,14 +384,18 @@ go-err more input input2 log log2 log3 before out out1 out2 begun number len cut
 
 -- it ended before the first new record
 pub go-untold : (more : Account) (input log log2 before out out1 : Option (List ℕ)) (number len : ℕ) → CutsTo log log2 len → out1 ≡ out
-    → (all : Account) (kept old : List ℕ) → AreSound [] kept → log ≡ Some kept → Replayed all more kept old before out number len → Ended all kept old input input log2 out1
+    → (all : Account) (kept old : List ℕ) → AreSound [] kept → log ≡ Some kept → Replayed all more kept old before out number len →
+    Ended all kept old input input log2 out1
 go-untold more input log log2 before out out1 number len cuts same =
     go-err more input input log log2 log2 before out out1 out1 [] number len cuts refl same (each-stops more input log2 before out1 [] number len)
 
-pub go-ok : (more more2 : Account) (input input2 log log2 log3 before before2 out out1 out2 : Option (List ℕ)) (begun begun2 : List ℕ) (number number2 len len2 : ℕ) → CutsTo log log2 len → begun ≡ [] → out1 ≡ out
+pub go-ok : (more more2 : Account) (input input2 log log2 log3 before before2 out out1 out2 : Option (List ℕ)) (begun begun2 : List ℕ)
+    (number number2 len len2 : ℕ) → CutsTo log log2 len → begun ≡ [] → out1 ≡ out
     → HaveGone more input log2 before out1 begun number len more2 input2 log3 before2 out2 begun2 number2 len2 → IsAtEnd input2
-    → (all : Account) (kept old : List ℕ) → AreSound [] kept → log ≡ Some kept → Replayed all more kept old before out number len → Lived all kept old input input2 log3 out2
-go-ok more more2 input input2 log log2 log3 before before2 out out1 out2 begun begun2 number number2 len len2 cuts e same g end all kept old sound known replayed =
+    → (all : Account) (kept old : List ℕ) → AreSound [] kept → log ≡ Some kept → Replayed all more kept old before out number len →
+    Lived all kept old input input2 log3 out2
+go-ok more more2 input input2 log log2 log3 before before2 out out1 out2 begun begun2 number number2 len len2 cuts e same g end all kept old sound known
+    replayed =
     let r = told-of all more kept old before out out1 number len same replayed in
     lived all more2 kept old r.told input input2 log2 log3 before2 out2 begun2 number2 len len2 sound (cut-back kept log log2 len known r.length_is cuts)
     (g all r.told [] (whole_lines kept) [] input log2 (Some r.told) len (live-starts all more kept old input log2 before out1 begun number len r e)) end r.found

@@ -1,5 +1,6 @@
 -- How the lines of an input go on.
-use Rattle.std.proofs.Common.{◌&&◌, ◌≡◌, ◌∙◌, ◌++◌, ◌∷◌, ◌+◌, ◌≤◌, ◌<◌, [], ℕ, List, Bool, true, false, cond, eqb, leb, get_or, length, take, refl, ap, sym, arith, append_assoc, length-append}
+use Rattle.std.proofs.Common.{◌&&◌, ◌≡◌, ◌∙◌, ◌++◌, ◌∷◌, ◌+◌, ◌≤◌, ◌<◌, [], ℕ, List, Bool, true, false, cond, eqb, leb, get_or, length, take, refl, ap, sym}
+use Rattle.std.proofs.Common.{arith, append_assoc, length-append}
 use Rattle.std.proofs.lemmas.Bool.{leb-true, leb-false, lt-leb}
 use Rattle.std.proofs.lemmas.List.{length-take, length-take-le, take_all, take_more, take-append-le}
 use Rattle.rubis_keep.specs.Places.{begun_bytes}
@@ -12,7 +13,8 @@ pub kept-append : (line xs ys : List ℕ) → kept_after line (xs ++ ys) ≡ kep
 kept-append line [] ys = refl
 kept-append line (b ∷ xs) ys =
     elim (eqb b 10) as (λ t. cond t (kept_line line ++ kept_after [] (xs ++ ys)) (kept_after (line ++ b ∷ []) (xs ++ ys))
-    ≡ cond t (kept_line line ++ kept_after [] xs) (kept_after (line ++ b ∷ []) xs) ++ kept_after (cond t (begun_after [] xs) (begun_after (line ++ b ∷ []) xs)) ys) [
+    ≡ cond t (kept_line line ++ kept_after [] xs) (kept_after (line ++ b ∷ []) xs)
+    ++ kept_after (cond t (begun_after [] xs) (begun_after (line ++ b ∷ []) xs)) ys) [
       | true ↦ ap (λ r. kept_line line ++ r) (kept-append [] xs ys) ∙ sym (append_assoc (kept_line line) (kept_after [] xs) (kept_after (begun_after [] xs) ys))
       | false ↦ kept-append (line ++ b ∷ []) xs ys
     ]
@@ -86,7 +88,8 @@ begun_full line b h =
     let size = length-take 4097 line in
     take-append-le 4097 line (b ∷ []) (omega (arith, size, h))
 
-pub begun-pushed : (line begun new : List ℕ) (b : ℕ) → begun ≡ begun_bytes line → length begun ≤ 4096 → new ≡ begun ++ b ∷ [] → new ≡ begun_bytes (line ++ b ∷ [])
+pub begun-pushed : (line begun new : List ℕ) (b : ℕ) → begun ≡ begun_bytes line → length begun ≤ 4096 → new ≡ begun ++ b ∷ [] → new
+    ≡ begun_bytes (line ++ b ∷ [])
 begun-pushed line begun new b h l e = e ∙ ap (λ t. t ++ b ∷ []) h ∙ sym (begun_more line b (rw h at l))
 
 pub begun-stays : (line begun : List ℕ) (b : ℕ) → begun ≡ begun_bytes line → 4096 < length begun → begun ≡ begun_bytes (line ++ b ∷ [])

@@ -1,5 +1,6 @@
 -- Texts that were put one after the other.
-use Rattle.std.proofs.Common.{◌≡◌, ◌∙◌, ◌≤◌, ◌+◌, ◌-◌, ◌⊎◌, inl, inr, ◌++◌, ◌∷◌, [], ℕ, List, Option, Some, None, drop, length, take, refl, sym, ap, subst, arith, append_assoc}
+use Rattle.std.proofs.Common.{◌≡◌, ◌∙◌, ◌≤◌, ◌+◌, ◌-◌, ◌⊎◌, inl, inr, ◌++◌, ◌∷◌, [], ℕ, List, Option, Some, None, drop, length, take, refl, sym, ap, subst}
+use Rattle.std.proofs.Common.{arith, append_assoc}
 use Rattle.std.proofs.lemmas.Bool.{cases_lt}
 use Rattle.std.proofs.lemmas.List.{append-nil, drop-take, drop_all, length-take, take-append-drop, take-take, take_all, take_rest}
 use Rattle.std.specs.Io.KnownBytes.{Appends, Consumes}
@@ -30,7 +31,8 @@ puts-front before before2 out out2 n text f a =
 
 -- a text that was put is a prefix of itself that was put
 pub puts-all : (before before2 out out2 : Option (List ℕ)) (text : List ℕ) → Puts before before2 out out2 text → PutsFront before before2 out out2 text
-puts-all before before2 out out2 text p = inr (length text, omega arith, subst (Puts before before2 out out2) (sym (take_all (length text) text (omega arith))) p)
+puts-all before before2 out out2 text p =
+    inr (length text, omega arith, subst (Puts before before2 out out2) (sym (take_all (length text) text (omega arith))) p)
 
 none-behind : (xs ys : List ℕ) → xs ++ ys ≡ [] → ys ≡ []
 none-behind [] ys e = e
@@ -96,13 +98,22 @@ pub put-ends : (all : Account) (told old : List ℕ) (before before2 out0 out ou
     → ((more : List (List (List ℕ))) → (rest : List ℕ) × ((told ++ (since ++ text)) ++ rest ≡ all.text AtEnd (input_records kept ++ more)))
     → OutEnds all told old out0 out2 kept
 put-ends all told old before before2 out0 out out2 since text kept w (inl same) begins =
-    wrote-ends all told old before out0 out2 since kept (record { added = w.added; left = w.left; unread = w.unread; appended = appends-kept out0 out out2 w.added w.appended same; same = w.same; one = w.one })
+    wrote-ends all told old before out0 out2 since kept
+    (record {
+      added = w.added;
+      left = w.left;
+      unread = w.unread;
+      appended = appends-kept out0 out out2 w.added w.appended same;
+      same = w.same;
+      one = w.one;
+    })
     (λ more. let b = begins more in (text ++ b.0, sym (append_assoc (told ++ since) text b.0) ∙ ap (λ t. t ++ b.0) (append_assoc told since text) ∙ b.1))
 put-ends all told old before before2 out0 out out2 since text kept w (inr p) begins =
     wrote-ends all told old before2 out0 out2 (since ++ take p.0 text) kept (wrote-more old before before2 out0 out out2 since (take p.0 text) w p.2)
     (λ more. let b = begins more in (
       drop p.0 text ++ b.0,
       sym (append_assoc (told ++ (since ++ take p.0 text)) (drop p.0 text) b.0)
-          ∙ ap (λ t. t ++ b.0) (append_assoc told (since ++ take p.0 text) (drop p.0 text) ∙ ap (λ t. told ++ t) (append_assoc since (take p.0 text) (drop p.0 text) ∙ ap (λ t. since ++ t) (take-append-drop p.0 text)))
+          ∙ ap (λ t. t ++ b.0) (append_assoc told (since ++ take p.0 text) (drop p.0 text)
+          ∙ ap (λ t. told ++ t) (append_assoc since (take p.0 text) (drop p.0 text) ∙ ap (λ t. since ++ t) (take-append-drop p.0 text)))
           ∙ b.1,
     ))

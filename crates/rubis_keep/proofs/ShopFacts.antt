@@ -1,5 +1,6 @@
 -- Shops of sites that keep their records.
-use Rattle.std.proofs.Common.{◌≡◌, ◌∙◌, ◌≤◌, ◌++◌, ◌∷◌, [], ℕ, Bool, true, false, cond, eqb, List, length, refl, sym, ap, subst, arith, append_assoc, append-nil, length-append}
+use Rattle.std.proofs.Common.{◌≡◌, ◌∙◌, ◌≤◌, ◌++◌, ◌∷◌, [], ℕ, Bool, true, false, cond, eqb, List, length, refl, sym, ap, subst, arith, append_assoc}
+use Rattle.std.proofs.Common.{append-nil, length-append}
 use Rattle.std.proofs.lemmas.Bool.{eqb-true}
 use Rattle.rubis_model.specs.Processes.{read_by}
 use Rattle.rubis_model.specs.Restarts.{AreReplayed, Moment, has_read, read_on, recorded}
@@ -49,7 +50,8 @@ prefix-same xs ys zs p q l =
 
 -- ---- what is kept grows record by record
 
-records-grow : (a b : List ℕ) → AreSound [] a → AreSound [] b → IsFrontOf (whole_lines a) b → IsPrefix (input_records (whole_lines a)) (input_records (whole_lines b))
+records-grow : (a b : List ℕ) → AreSound [] a → AreSound [] b → IsFrontOf (whole_lines a) b →
+    IsPrefix (input_records (whole_lines a)) (input_records (whole_lines b))
 records-grow a b sa sb (rest, e) =
     let lines : whole_lines b ≡ whole_lines a ++ whole_lines rest =
     ap whole_lines (sym e) ∙ whole-append-after [] (whole_lines a) rest ∙ ap (λ t. t ++ whole_after (begun_after [] (whole_lines a)) rest) (whole-whole a sa)
@@ -82,7 +84,8 @@ record Come (files : ℕ → List Moment → Files) (i : ℕ) (before : List Mom
   fewer : length (has_read i before) ≤ length (read_by i (recorded before))
 
 module _ (sites : ℕ) (keep : ℕ → ℕ) (files : ℕ → List Moment → Files) (moments : List Moment) (k : AreKept sites keep files moments) where
-  grows : (i : ℕ) (before later : List Moment) (m : Moment) → moments ≡ before ++ m ∷ later → IsPrefix (records_of (files i before)) (records_of (files i (before ++ m ∷ [])))
+  grows : (i : ℕ) (before later : List Moment) (m : Moment) → moments ≡ before ++ m ∷ later →
+      IsPrefix (records_of (files i before)) (records_of (files i (before ++ m ∷ [])))
   grows i before later m e =
       records-grow (files i before).log (files i (before ++ m ∷ [])).log (k.left i before (m ∷ later) e).sound
       (k.left i (before ++ m ∷ []) later (e ∙ sym (append_assoc before (m ∷ []) later))).sound (k.stays i before later m e)
@@ -95,7 +98,8 @@ module _ (sites : ℕ) (keep : ℕ → ℕ) (files : ℕ → List Moment → Fil
       read_by_more i before (m ∷ []) ∙ ap (λ t. read_by i (recorded before) ++ t) none ∙ append-nil (read_by i (recorded before)) in
       record {
         kept = subst (λ t. IsPrefix t (records_of (files i (before ++ m ∷ [])))) (sym same)
-            (prefix-more (read_by i (recorded before)) (records_of (files i before)) (records_of (files i (before ++ m ∷ []))) c.kept (grows i before later m e));
+            (prefix-more (read_by i (recorded before)) (records_of (files i before)) (records_of (files i (before ++ m ∷ []))) c.kept
+            (grows i before later m e));
         fewer = subst (λ t. length (has_read i (before ++ m ∷ [])) ≤ length t) (sym same) l;
       }
 
@@ -104,7 +108,8 @@ module _ (sites : ℕ) (keep : ℕ → ℕ) (files : ℕ → List Moment → Fil
       → read_by i (recorded (Reads i fields ∷ [])) ≡ fields ∷ [] → read_on i (has_read i before) (Reads i fields ∷ []) ≡ has_read i before ++ fields ∷ []
       → Come files i (before ++ Reads i fields ∷ [])
   anew i fields before later e c one two =
-      let all = prefix-same (has_read i before) (read_by i (recorded before)) (records_of (files i before)) (k.ahead i before (Reads i fields ∷ later) e) c.kept (k.anew i fields before later e) in
+      let all = prefix-same (has_read i before) (read_by i (recorded before)) (records_of (files i before)) (k.ahead i before (Reads i fields ∷ later) e) c.kept
+      (k.anew i fields before later e) in
       let same : has_read i (before ++ Reads i fields ∷ []) ≡ read_by i (recorded (before ++ Reads i fields ∷ [])) =
       read_on_more i [] before (Reads i fields ∷ []) ∙ two ∙ ap (λ t. t ++ fields ∷ []) all
       ∙ ap (λ t. read_by i (recorded before) ++ t) (sym one) ∙ sym (read_by_more i before (Reads i fields ∷ [])) in
@@ -151,7 +156,8 @@ module _ (sites : ℕ) (keep : ℕ → ℕ) (files : ℕ → List Moment → Fil
             (sym (read_on_more i [] before (Replays j fields ∷ []) ∙ ap (λ b. cond b (has_read i before ++ fields ∷ []) (has_read i before)) there)) c.fewer)
       ] refl
 
-  walk : (i : ℕ) (left done : List Moment) → moments ≡ done ++ left → Come files i done → (before later : List Moment) → left ≡ before ++ later → Come files i (done ++ before)
+  walk : (i : ℕ) (left done : List Moment) → moments ≡ done ++ left → Come files i done → (before later : List Moment) → left ≡ before ++ later →
+      Come files i (done ++ before)
   walk i left done e c [] later f = subst (Come files i) (sym (append-nil done)) c
   walk i [] done e c (x ∷ before) later f = absurd (cc f)
   walk i (m ∷ left) done e c (x ∷ before) later f =
@@ -173,7 +179,8 @@ module _ (sites : ℕ) (keep : ℕ → ℕ) (files : ℕ → List Moment → Fil
         rest = inner.0;
         parts = sym inner.1;
         again = nothing_left_out (process sites keep i) (opening_at i) (has_read i before);
-        whole = λ fields more f. none-left (has_read i before) inner.0 (read_by i (recorded before)) inner.1 (k.anew i fields before more (e ∙ ap (λ t. before ++ t) f));
+        whole = λ fields more f. none-left (has_read i before) inner.0 (read_by i (recorded before)) inner.1
+            (k.anew i fields before more (e ∙ ap (λ t. before ++ t) f));
       }
 
 pub kept-shops : KeptShopsAreRuns

@@ -1,5 +1,6 @@
 -- Records that change nothing where they are read.
-use Rattle.std.proofs.Common.{◌≡◌, ◌∙◌, ◌++◌, ◌∷◌, [], ℕ, Bool, true, false, cond, drop, eqb, get_or, length, take, ◌<◌, ◌+◌, List, Option, inl, inr, refl, sym, ap, subst, append_assoc, append-nil}
+use Rattle.std.proofs.Common.{◌≡◌, ◌∙◌, ◌++◌, ◌∷◌, [], ℕ, Bool, true, false, cond, drop, eqb, get_or, length, take, ◌<◌, ◌+◌, List, Option, inl, inr, refl, sym}
+use Rattle.std.proofs.Common.{ap, subst, append_assoc, append-nil}
 use Rattle.rubis_engine.specs.Text.{input_records}
 use Rattle.rubis_engine.specs.Reading.{Advances, Gives, fields_now}
 use Rattle.rubis_engine.specs.declared.record_list.Records.{Records}
@@ -13,7 +14,8 @@ use Rattle.rubis_keep.specs.Shortened.{IsShort, Shortens, TakesRecord, TakesReco
 use Rattle.rubis_keep.specs.Whole.{IsWhole}
 use Rattle.rubis_keep.proofs.LineFacts.{begun-append}
 use Rattle.rubis_keep.proofs.RecordFacts.{records-append}
-use Rattle.rubis_keep.proofs.SoundFacts.{begun-line, begun-no-end, sound-append, sound-back, sound-front, sound-kept, sound-line, whole-append-after, whole-rest}
+use Rattle.rubis_keep.proofs.SoundFacts.{begun-line, begun-no-end, sound-append, sound-back, sound-front, sound-kept, sound-line, whole-append-after}
+use Rattle.rubis_keep.proofs.SoundFacts.{whole-rest}
 use Rattle.rubis_keep.proofs.WholeFacts.{kept-whole, sound-whole}
 use Rattle.csv.specs.Machine.{next_record}
 use Rattle.csv.specs.Reading.{records_from, strip_bom}
@@ -24,7 +26,8 @@ use Rattle.std.proofs.lemmas.List.{take-append-drop, take_more}
 pub took-changed : (old new : SiteState) (input : Input) → new.state ≡ (input_step old.place old.state 1 input).0 → TakesRecord old new input true
 took-changed old new input e = (e, λ no. absurd (cc no))
 
-pub took-nothing : (old new : SiteState) (input : Input) (changed : Bool) → new.state ≡ old.state → (input_step old.place old.state 1 input).0 ≡ old.state → TakesRecord old new input changed
+pub took-nothing : (old new : SiteState) (input : Input) (changed : Bool) → new.state ≡ old.state → (input_step old.place old.state 1 input).0 ≡ old.state →
+    TakesRecord old new input changed
 took-nothing old new input changed e f = (e ∙ sym f, λ no. f)
 
 -- ---- record after record
@@ -46,7 +49,8 @@ shortened-more p s (d ∷ done) fields (inl h) e = inl (h.0, shortened-more p s 
 shortened-more p s (d ∷ done) fields (inr h) e = absurd (cc h.1)
 
 -- the records of a line so far
-pub record SoFar {R : Type 0} (rem : R → Option (List ℕ)) (records : Records R) (all : List (List (List ℕ))) (old new : SiteState) (changed : Bool) : Type 0 where
+pub record SoFar {R : Type 0} (rem : R → Option (List ℕ)) (records : Records R) (all : List (List (List ℕ))) (old new : SiteState) (changed : Bool) :
+    Type 0 where
   pub done : List (List (List ℕ))
   pub rest : List (List (List ℕ))
   pub parts : all ≡ done ++ rest
@@ -54,7 +58,8 @@ pub record SoFar {R : Type 0} (rem : R → Option (List ℕ)) (records : Records
   pub place : new.place ≡ old.place
   pub takes : TakesRecords old new done changed
 
-pub line-starts : {R : Type 0} (rem : R → Option (List ℕ)) (records : Records R) (all : List (List (List ℕ))) (old : SiteState) → Gives rem records all → SoFar rem records all old old false
+pub line-starts : {R : Type 0} (rem : R → Option (List ℕ)) (records : Records R) (all : List (List (List ℕ))) (old : SiteState) → Gives rem records all →
+    SoFar rem records all old old false
 line-starts rem records all old gives = record { done = []; rest = all; parts = refl; gives = gives; place = refl; takes = (refl, λ same. refl) }
 
 pub line-ends : {R : Type 0} (rem : R → Option (List ℕ)) (a b : Records R) (all : List (List (List ℕ))) (old new : SiteState) (changed : Bool)
@@ -94,7 +99,8 @@ line-more rem a b all old mid new before now after s takes place took f g =
 
 -- ---- line after line
 
-pub shortened-append : (p : Place) (s : Replica) (a b xs ys : List (List (List ℕ))) → IsShortened p s a xs → IsShortened p (state_after p s xs) b ys → IsShortened p s (a ++ b) (xs ++ ys)
+pub shortened-append : (p : Place) (s : Replica) (a b xs ys : List (List (List ℕ))) → IsShortened p s a xs → IsShortened p (state_after p s xs) b ys →
+    IsShortened p s (a ++ b) (xs ++ ys)
 shortened-append p s a b [] ys h k = subst (λ t. IsShortened p s (t ++ b) ys) (sym h) k
 shortened-append p s a b (x ∷ xs) ys (inl h) k =
     inl (h.0, shortened-append p s a b xs ys h.1 (subst (λ t. IsShortened p (state_after p t xs) b ys) h.0 k))
@@ -122,7 +128,8 @@ line-sound line done e s =
     (sound-line [] (begun_after [] done) [] (begun-no-end [] done tt) (subst (λ l. IsTrue (is_sound l)) e s) tt)
 
 -- a byte that ends no line
-short-byte : (p : Place) (s state : Replica) (done line text : List ℕ) (b : ℕ) → eqb b 10 ≡ false → IsShort p s done line text state → IsShort p s (done ++ b ∷ []) (line ++ b ∷ []) text state
+short-byte : (p : Place) (s state : Replica) (done line text : List ℕ) (b : ℕ) → eqb b 10 ≡ false → IsShort p s done line text state →
+    IsShort p s (done ++ b ∷ []) (line ++ b ∷ []) text state
 short-byte p s state done line text b e h =
     let lines : whole_lines (done ++ b ∷ []) ≡ whole_lines done =
     whole-append-after [] done (b ∷ []) ∙ ap (λ t. whole_lines done ++ cond t ((begun_after [] done ++ 10 ∷ []) ++ []) []) e ∙ append-nil (whole_lines done) in
@@ -135,7 +142,8 @@ short-byte p s state done line text b e h =
     }
 
 -- a line ends, whose records were taken
-short-line : (p : Place) (s state state2 : Replica) (done line text : List ℕ) (changed : Bool) → AreSound [] (done ++ 10 ∷ []) → IsShort p s done line text state
+short-line : (p : Place) (s state state2 : Replica) (done line text : List ℕ) (changed : Bool) → AreSound [] (done ++ 10 ∷ []) →
+    IsShort p s done line text state
     → state2 ≡ state_after p state (input_records (line ++ 10 ∷ [])) → (changed ≡ false → IsShortened p state [] (input_records (line ++ 10 ∷ [])))
     → IsShort p s (done ++ 10 ∷ []) [] (cond changed (text ++ (line ++ 10 ∷ [])) text) state2
 short-line p s state state2 done line text changed all h after same =
@@ -143,21 +151,24 @@ short-line p s state state2 done line text changed all h after same =
     let last : AreSound line (10 ∷ []) = subst (λ l. AreSound l (10 ∷ [])) (sym h.begun) (sound-back [] done (10 ∷ []) all) in
     let whole = sound-whole line last.0 in
     let lines : whole_lines (done ++ 10 ∷ []) ≡ whole_lines done ++ (line ++ 10 ∷ []) =
-    whole-append-after [] done (10 ∷ []) ∙ ap (λ t. whole_lines done ++ t) (append-nil (begun_after [] done ++ 10 ∷ []) ∙ ap (λ t. t ++ 10 ∷ []) (sym h.begun)) in
+    whole-append-after [] done (10 ∷ [])
+    ∙ ap (λ t. whole_lines done ++ t) (append-nil (begun_after [] done ++ 10 ∷ []) ∙ ap (λ t. t ++ 10 ∷ []) (sym h.begun)) in
     let records : input_records (whole_lines (done ++ 10 ∷ [])) ≡ input_records (whole_lines done) ++ input_records (line ++ 10 ∷ []) =
     ap input_records lines ∙ records-append (whole_lines done) (line ++ 10 ∷ []) (whole-of done front) whole.unmarked in
     let reached : state2 ≡ state_after p s (input_records (whole_lines (done ++ 10 ∷ []))) =
     after ∙ ap (λ t. state_after p t (input_records (line ++ 10 ∷ []))) h.reached
     ∙ sym (after-append p s (input_records (whole_lines done)) (input_records (line ++ 10 ∷ []))) ∙ ap (state_after p s) (sym records) in
     let begun : [] ≡ begun_after [] (done ++ 10 ∷ []) = sym (begun-append [] done (10 ∷ [])) in
-    elim changed as (λ c. (c ≡ false → IsShortened p state [] (input_records (line ++ 10 ∷ []))) → IsShort p s (done ++ 10 ∷ []) [] (cond c (text ++ (line ++ 10 ∷ [])) text) state2) [
+    elim changed as (λ c. (c ≡ false → IsShortened p state [] (input_records (line ++ 10 ∷ []))) →
+    IsShort p s (done ++ 10 ∷ []) [] (cond c (text ++ (line ++ 10 ∷ [])) text) state2) [
       | true ↦ λ f. record {
         begun = begun;
         reached = reached;
         short = subst (IsShortened p s (input_records (text ++ (line ++ 10 ∷ [])))) (sym records)
             (subst (λ t. IsShortened p s t (input_records (whole_lines done) ++ input_records (line ++ 10 ∷ [])))
             (sym (records-append text (line ++ 10 ∷ []) (text-whole text h.sound h.ends) whole.unmarked))
-            (shortened-append p s (input_records text) (input_records (line ++ 10 ∷ [])) (input_records (whole_lines done)) (input_records (line ++ 10 ∷ [])) h.short
+            (shortened-append p s (input_records text) (input_records (line ++ 10 ∷ [])) (input_records (whole_lines done))
+            (input_records (line ++ 10 ∷ [])) h.short
             (nothing_left_out p (state_after p s (input_records (whole_lines done))) (input_records (line ++ 10 ∷ [])))));
         sound = sound-append [] text (line ++ 10 ∷ []) h.sound (subst (λ l. AreSound l (line ++ 10 ∷ [])) (sym h.ends) (line-sound line done h.begun last.0));
         ends = begun-append [] text (line ++ 10 ∷ []) ∙ ap (λ l. begun_after l (line ++ 10 ∷ [])) h.ends ∙ line-ended line done h.begun;
@@ -178,14 +189,16 @@ told-more : (changed : Bool) (told text line : List ℕ) → cond changed ((told
 told-more true told text line = append_assoc told text line
 told-more false told text line = refl
 
-pub next-line : (p : Place) (s state state2 : Replica) (done told line text text2 : List ℕ) (changed : Bool) → AreSound [] (done ++ 10 ∷ []) → IsShort p s done line (told ++ text) state
+pub next-line : (p : Place) (s state state2 : Replica) (done told line text text2 : List ℕ) (changed : Bool) → AreSound [] (done ++ 10 ∷ []) →
+    IsShort p s done line (told ++ text) state
     → state2 ≡ state_after p state (input_records (line ++ 10 ∷ [])) → (changed ≡ false → IsShortened p state [] (input_records (line ++ 10 ∷ [])))
     → text2 ≡ cond changed (text ++ (line ++ 10 ∷ [])) text → IsShort p s (done ++ 10 ∷ []) [] (told ++ text2) state2
 next-line p s state state2 done told line text text2 changed all h after same e =
     subst (λ t. IsShort p s (done ++ 10 ∷ []) [] t state2) (told-more changed told text (line ++ 10 ∷ []) ∙ ap (λ t. told ++ t) (sym e))
     (short-line p s state state2 done line (told ++ text) changed all h after same)
 
-pub next-byte : (p : Place) (s state : Replica) (done line line2 text : List ℕ) (b : ℕ) → eqb b 10 ≡ false → line2 ≡ line ++ b ∷ [] → IsShort p s done line text state → IsShort p s (done ++ b ∷ []) line2 text state
+pub next-byte : (p : Place) (s state : Replica) (done line line2 text : List ℕ) (b : ℕ) → eqb b 10 ≡ false → line2 ≡ line ++ b ∷ [] →
+    IsShort p s done line text state → IsShort p s (done ++ b ∷ []) line2 text state
 next-byte p s state done line line2 text b e f h = subst (λ l. IsShort p s (done ++ b ∷ []) l text state) (sym f) (short-byte p s state done line text b e h)
 
 pub short-starts : (p : Place) (s : Replica) → IsShort p s [] [] [] s
@@ -199,14 +212,16 @@ pub short-more : (p : Place) (s state state2 : Replica) (bytes more line line2 t
 short-more p s state state2 bytes more line line2 told text h k sound =
     k bytes told sound (subst (λ t. IsShort p s bytes line t state) (sym (append-nil told)) (h (sound-front [] bytes more sound)))
 
-pub short-ends : (p : Place) (s state : Replica) (past mid past2 fresh fresh2 : Option (List ℕ)) (bytes last line told : List ℕ) → Consumes past mid bytes → Consumes mid past2 last → last ≡ [] → IsAtEnd past2
+pub short-ends : (p : Place) (s state : Replica) (past mid past2 fresh fresh2 : Option (List ℕ)) (bytes last line told : List ℕ) → Consumes past mid bytes →
+    Consumes mid past2 last → last ≡ [] → IsAtEnd past2
     → Appends fresh fresh2 told → (AreSound [] bytes → IsShort p s bytes line told state) → Shortens p s past fresh fresh2
 short-ends p s state past mid past2 fresh fresh2 bytes last line told c d none end a h kept is sound =
     let all : kept ≡ bytes = read-all past mid past2 bytes last kept c d none end is in
     let short = h (subst (AreSound []) all sound) in
     (told, a, subst (λ t. IsShortened p s (input_records told) (input_records (whole_lines t))) (sym all) short.short, short.sound, short.ends)
   where
-    read-all : (past mid past2 : Option (List ℕ)) (bytes last kept : List ℕ) → Consumes past mid bytes → Consumes mid past2 last → last ≡ [] → IsAtEnd past2 → past ≡ Some kept → kept ≡ bytes
+    read-all : (past mid past2 : Option (List ℕ)) (bytes last kept : List ℕ) → Consumes past mid bytes → Consumes mid past2 last → last ≡ [] → IsAtEnd past2 →
+        past ≡ Some kept → kept ≡ bytes
     read-all None mid past2 bytes last kept c d none end is = absurd (cc is)
     read-all (Some x) None past2 bytes last kept c d none end is = absurd c
     read-all (Some x) (Some y) None bytes last kept c d none end is = absurd d
@@ -233,14 +248,16 @@ at-place p p2 s state state2 done done2 line line2 text text2 e k h =
     subst (λ q. IsShort q s done2 line2 text2 state2) e (k (subst (λ q. IsShort q s done line text state) (sym e) h))
 
 pub piece-taken : (p p2 : Place) (s state state2 : Replica) (line line2 start text more : List ℕ) → p2 ≡ p → start ≡ []
-    → ((s2 : Replica) (done told : List ℕ) → AreSound [] (done ++ more) → IsShort p2 s2 done line (told ++ start) state → IsShort p2 s2 (done ++ more) line2 (told ++ text) state2)
+    → ((s2 : Replica) (done told : List ℕ) → AreSound [] (done ++ more) → IsShort p2 s2 done line (told ++ start) state →
+    IsShort p2 s2 (done ++ more) line2 (told ++ text) state2)
     → (done told : List ℕ) → AreSound [] (done ++ more) → IsShort p s done line (told ++ []) state → IsShort p s (done ++ more) line2 (told ++ text) state2
 piece-taken p p2 s state state2 line line2 start text more e none k done told sound h =
     at-place p p2 s state state2 done (done ++ more) line line2 (told ++ start) (told ++ text) e (k s done told sound)
     (subst (λ t. IsShort p s done line (told ++ t) state) (sym none) h)
 
 -- a line ends with this byte, and its records were taken
-pub line-taken : (old new : SiteState) (s : Replica) (done told line pushed seen line2 text text2 : List ℕ) (byte : ℕ) (changed : Bool) → byte ≡ 10 → AreSound [] (done ++ byte ∷ [])
+pub line-taken : (old new : SiteState) (s : Replica) (done told line pushed seen line2 text text2 : List ℕ) (byte : ℕ) (changed : Bool) → byte ≡ 10 →
+    AreSound [] (done ++ byte ∷ [])
     → IsShort old.place s done line (told ++ text) old.state → pushed ≡ line ++ byte ∷ [] → seen ≡ pushed → TakesRecords old new (input_records seen) changed
     → text2 ≡ cond changed (text ++ seen) text → line2 ≡ [] → IsShort old.place s (done ++ byte ∷ []) line2 (told ++ text2) new.state
 line-taken old new s done told line pushed seen line2 text text2 byte changed end sound h one two takes add none =

@@ -1,5 +1,6 @@
 -- Texts of lines that are kept as they are, cut off anywhere and gone on with.
-use Rattle.std.proofs.Common.{◌≡◌, ◌∙◌, ◌&&◌, ◌++◌, ◌∷◌, [], ℕ, Bool, true, false, cond, drop, eqb, get_or, length, take, ◌<◌, ◌+◌, List, Option, Some, None, IfSome, refl, sym, ap, subst, append_assoc}
+use Rattle.std.proofs.Common.{◌≡◌, ◌∙◌, ◌&&◌, ◌++◌, ◌∷◌, [], ℕ, Bool, true, false, cond, drop, eqb, get_or, length, take, ◌<◌, ◌+◌, List, Option, Some, None}
+use Rattle.std.proofs.Common.{IfSome, refl, sym, ap, subst, append_assoc}
 use Rattle.std.specs.Io.KnownBytes.{Consumes, IsAtEnd}
 use Rattle.std.specs.Prelude.{IsTrue, MatchBool}
 use Rattle.std.proofs.lemmas.List.{append-nil, take-append-drop, take_more}
@@ -46,7 +47,8 @@ are-sound-append : (line xs ys : List ℕ) → are_sound line (xs ++ ys) ≡ (ar
 are-sound-append line [] ys = refl
 are-sound-append line (b ∷ xs) ys =
     elim (eqb b 10) as (λ t. cond t (is_sound line && are_sound [] (xs ++ ys)) (are_sound (line ++ b ∷ []) (xs ++ ys))
-    ≡ (cond t (is_sound line && are_sound [] xs) (are_sound (line ++ b ∷ []) xs) && are_sound (cond t (begun_after [] xs) (begun_after (line ++ b ∷ []) xs)) ys)) [
+    ≡ (cond t (is_sound line && are_sound [] xs) (are_sound (line ++ b ∷ []) xs) && are_sound
+    (cond t (begun_after [] xs) (begun_after (line ++ b ∷ []) xs)) ys)) [
       | true ↦ ap (λ t. is_sound line && t) (are-sound-append [] xs ys) ∙ and_assoc (is_sound line) (are_sound [] xs) (are_sound (begun_after [] xs) ys)
       | false ↦ are-sound-append (line ++ b ∷ []) xs ys
     ]
@@ -61,7 +63,8 @@ sound_more line xs ys e f = are-sound-append line xs ys ∙ ap (λ t. t && are_s
 -- a text is not sound whose beginning isn't
 pub unsound-front : (line xs : List ℕ) (n : ℕ) → are_sound line (take n xs) ≡ false → are_sound line xs ≡ false
 unsound-front line xs n e =
-    ap (are_sound line) (sym (take-append-drop n xs)) ∙ are-sound-append line (take n xs) (drop n xs) ∙ ap (λ t. t && are_sound (begun_after line (take n xs)) (drop n xs)) e
+    ap (are_sound line) (sym (take-append-drop n xs)) ∙ are-sound-append line (take n xs) (drop n xs)
+    ∙ ap (λ t. t && are_sound (begun_after line (take n xs)) (drop n xs)) e
 
 pub are-sound : (line t : List ℕ) → are_sound line t ≡ true → AreSound line t
 are-sound line [] e = tt
@@ -76,10 +79,12 @@ are-sound line (b ∷ t) e =
 pub unsound-at : (line xs : List ℕ) (i : ℕ) (sound : Bool) → i < length xs → are_sound line (take i xs) ≡ true
     → sound ≡ are_sound (begun_after line (take i xs)) (get_or xs i 0 ∷ []) → sound ≡ false → false ≡ are_sound line xs
 unsound-at line xs i sound h before at no_more =
-    sym (unsound-front line xs (i + 1) (sound_take_more line xs i h ∙ ap (λ t. t && are_sound (begun_after line (take i xs)) (get_or xs i 0 ∷ [])) before ∙ sym at ∙ no_more))
+    sym (unsound-front line xs (i + 1)
+    (sound_take_more line xs i h ∙ ap (λ t. t && are_sound (begun_after line (take i xs)) (get_or xs i 0 ∷ [])) before ∙ sym at ∙ no_more))
 
 -- all that a reader gave is sound
-pub sound-end : (old mid new : Option (List ℕ)) (bytes more : List ℕ) → Consumes old mid bytes → are_sound [] bytes ≡ true → Consumes mid new more → more ≡ [] → IsAtEnd new
+pub sound-end : (old mid new : Option (List ℕ)) (bytes more : List ℕ) → Consumes old mid bytes → are_sound [] bytes ≡ true → Consumes mid new more → more ≡ [] →
+    IsAtEnd new
     → IfSome old (λ text. AreSound [] text)
 sound-end None mid new bytes more f s g none end = tt
 sound-end (Some x) None new bytes more f s g none end = absurd f
@@ -94,7 +99,8 @@ pub sound-kept : (line t : List ℕ) → AreSound line t → kept_after line t �
 sound-kept line [] h = refl
 sound-kept line (b ∷ t) h =
     elim (eqb b 10) as (λ v. MatchBool v (IsTrue (is_sound line) × AreSound [] t) (AreSound (line ++ b ∷ []) t)
-    → cond v (kept_line line ++ kept_after [] t) (kept_after (line ++ b ∷ []) t) ≡ cond v ((line ++ 10 ∷ []) ++ whole_after [] t) (whole_after (line ++ b ∷ []) t)) [
+    → cond v (kept_line line ++ kept_after [] t) (kept_after (line ++ b ∷ []) t)
+    ≡ cond v ((line ++ 10 ∷ []) ++ whole_after [] t) (whole_after (line ++ b ∷ []) t)) [
       | true ↦ λ s. ap (λ k. k ++ kept_after [] t) (sound s.0) ∙ ap (λ k. (line ++ 10 ∷ []) ++ k) (sound-kept [] t s.1)
       | false ↦ λ s. sound-kept (line ++ b ∷ []) t s
     ] h
@@ -106,7 +112,8 @@ sound-kept line (b ∷ t) h =
 pub whole-rest : (line t : List ℕ) → whole_after line t ++ begun_after line t ≡ line ++ t
 whole-rest line [] = sym (append-nil line)
 whole-rest line (b ∷ t) =
-    elim (eqb b 10) as (λ v. eqb b 10 ≡ v → cond v ((line ++ 10 ∷ []) ++ whole_after [] t) (whole_after (line ++ b ∷ []) t) ++ cond v (begun_after [] t) (begun_after (line ++ b ∷ []) t) ≡ line ++ b ∷ t) [
+    elim (eqb b 10) as (λ v. eqb b 10 ≡ v → cond v ((line ++ 10 ∷ []) ++ whole_after [] t) (whole_after (line ++ b ∷ []) t)
+    ++ cond v (begun_after [] t) (begun_after (line ++ b ∷ []) t) ≡ line ++ b ∷ t) [
       | true ↦ λ e.
           append_assoc (line ++ 10 ∷ []) (whole_after [] t) (begun_after [] t)
           ∙ ap (λ k. (line ++ 10 ∷ []) ++ k) (whole-rest [] t)
@@ -172,7 +179,8 @@ kept-begun-after : (line bytes : List ℕ) → HasNoEnd line → begun_after [] 
 kept-begun-after line [] h = refl
 kept-begun-after line (b ∷ rest) h =
     elim (eqb b 10) as (λ v. eqb b 10 ≡ v → begun_after [] (cond v (kept_line line ++ kept_after [] rest) (kept_after (line ++ b ∷ []) rest)) ≡ []) [
-      | true ↦ λ e. begun-append [] (kept_line line) (kept_after [] rest) ∙ ap (λ s. begun_after s (kept_after [] rest)) (kept-line-begun line h) ∙ kept-begun-after [] rest tt
+      | true ↦ λ e. begun-append [] (kept_line line) (kept_after [] rest) ∙ ap (λ s. begun_after s (kept_after [] rest)) (kept-line-begun line h)
+          ∙ kept-begun-after [] rest tt
       | false ↦ λ e. kept-begun-after (line ++ b ∷ []) rest (no-end-more line b h e)
     ] refl
 
@@ -185,8 +193,10 @@ pub whole-append-after : (line xs ys : List ℕ) → whole_after line (xs ++ ys)
 whole-append-after line [] ys = refl
 whole-append-after line (b ∷ xs) ys =
     elim (eqb b 10) as (λ t. cond t ((line ++ 10 ∷ []) ++ whole_after [] (xs ++ ys)) (whole_after (line ++ b ∷ []) (xs ++ ys))
-    ≡ cond t ((line ++ 10 ∷ []) ++ whole_after [] xs) (whole_after (line ++ b ∷ []) xs) ++ whole_after (cond t (begun_after [] xs) (begun_after (line ++ b ∷ []) xs)) ys) [
-      | true ↦ ap (λ r. (line ++ 10 ∷ []) ++ r) (whole-append-after [] xs ys) ∙ sym (append_assoc (line ++ 10 ∷ []) (whole_after [] xs) (whole_after (begun_after [] xs) ys))
+    ≡ cond t ((line ++ 10 ∷ []) ++ whole_after [] xs) (whole_after (line ++ b ∷ []) xs)
+    ++ whole_after (cond t (begun_after [] xs) (begun_after (line ++ b ∷ []) xs)) ys) [
+      | true ↦ ap (λ r. (line ++ 10 ∷ []) ++ r) (whole-append-after [] xs ys)
+          ∙ sym (append_assoc (line ++ 10 ∷ []) (whole_after [] xs) (whole_after (begun_after [] xs) ys))
       | false ↦ whole-append-after (line ++ b ∷ []) xs ys
     ]
 

@@ -14,16 +14,19 @@ use Rattle.rubis_keep.proofs.RestFacts.{keeps-same, rests-ends}
 use Rattle.rubis_keep.proofs.WholeFacts.{kept-whole}
 
 -- the next piece was kept and answered
-pub stands-more : (all more more2 : Account) (told old base line : List ℕ) (input0 input input2 log0 log log2 before before2 out0 out out2 : Option (List ℕ)) (begun begun2 chunk : List ℕ) (number number2 len0 len len2 : ℕ) (goes : Bool)
+pub stands-more : (all more more2 : Account) (told old base line : List ℕ) (input0 input input2 log0 log log2 before before2 out0 out out2 : Option (List ℕ))
+    (begun begun2 chunk : List ℕ) (number number2 len0 len len2 : ℕ) (goes : Bool)
     → Stands all more told old base line input0 input log0 log before out0 out begun number len0 len
     → ((line2 : List ℕ) → begun ≡ begun_bytes line2 → TookPiece line2 input input2 log log2 chunk begun2 goes)
     → InEachRest more before out number (λ all told old out0 kept. Rests all more2 told old before2 out0 out2 number2 (kept ++ chunk))
     → len2 ≡ len + length chunk
     → Stands all more2 told old base line input0 input2 log0 log2 before2 out0 out2 begun2 number2 len0 len2
-stands-more all more more2 told old base line input0 input input2 log0 log log2 before before2 out0 out out2 begun begun2 chunk number number2 len0 len len2 goes s takes answers e =
+stands-more all more more2 told old base line input0 input input2 log0 log log2 before before2 out0 out out2 begun begun2 chunk number number2 len0 len len2
+    goes s takes answers e =
     let line2 = begun_after line s.bytes in
     let t = takes line2 s.begins in
-    let all_kept : kept_after line s.bytes ++ chunk ≡ kept_after line (s.bytes ++ t.bytes) = ap (λ k. kept_after line s.bytes ++ k) t.holds ∙ sym (kept-append line s.bytes t.bytes) in
+    let all_kept : kept_after line s.bytes ++ chunk ≡ kept_after line (s.bytes ++ t.bytes) = ap (λ k. kept_after line s.bytes ++ k) t.holds
+    ∙ sym (kept-append line s.bytes t.bytes) in
     let size = length-append (kept_after line s.bytes) chunk in
     let size2 = ap length all_kept in
     record {
@@ -32,12 +35,14 @@ stands-more all more more2 told old base line input0 input input2 log0 log log2 
       logged = subst (Appends log0 log2) all_kept (appends-more log0 log log2 _ _ s.logged t.kept);
       begins = t.begun ∙ ap begun_bytes (sym (begun-append line s.bytes t.bytes));
       counted = omega (arith, e, s.counted, size, size2);
-      rests = subst (λ k. Rests all more2 told old before2 out0 out2 number2 k) (append_assoc base (kept_after line s.bytes) chunk ∙ ap (λ k. base ++ k) all_kept)
+      rests = subst (λ k. Rests all more2 told old before2 out0 out2 number2 k)
+          (append_assoc base (kept_after line s.bytes) chunk ∙ ap (λ k. base ++ k) all_kept)
           (answers all told old out0 (base ++ kept_after line s.bytes) s.rests);
     }
 
 -- the next piece could not be read or kept
-pub stands-unkept : (all more : Account) (told old base line : List ℕ) (input0 input input2 log0 log log2 before out0 out : Option (List ℕ)) (begun : List ℕ) (number len0 len : ℕ)
+pub stands-unkept : (all more : Account) (told old base line : List ℕ) (input0 input input2 log0 log log2 before out0 out : Option (List ℕ)) (begun : List ℕ)
+    (number len0 len : ℕ)
     → Stands all more told old base line input0 input log0 log before out0 out begun number len0 len
     → ((line2 : List ℕ) → begun ≡ begun_bytes line2 → KeptFront line2 input input2 log log2)
     → Fails all told old base line input0 input2 log0 log2 out0 out
@@ -56,11 +61,13 @@ stands-unkept all more told old base line input0 input input2 log0 log log2 befo
       parts = sym (take-append-drop n next);
       logged = appends-more log0 log log2 _ _ s.logged f.2.2;
       out_ends = subst (OutEnds all told old out0 out) none
-          (rests-ends all more told old before out0 out out number (base ++ kept_after line s.bytes) [] s.rests (record { closed = refl; unmarked = refl }) (keeps-same out));
+          (rests-ends all more told old before out0 out out number (base ++ kept_after line s.bytes) [] s.rests (record { closed = refl; unmarked = refl })
+          (keeps-same out));
     }
 
 -- it was kept, and could not be answered
-pub stands-unanswered : (all more : Account) (told old base line : List ℕ) (input0 input input2 log0 log log2 before out0 out out2 : Option (List ℕ)) (begun begun2 chunk : List ℕ) (number len0 len : ℕ) (goes : Bool)
+pub stands-unanswered : (all more : Account) (told old base line : List ℕ) (input0 input input2 log0 log log2 before out0 out out2 : Option (List ℕ))
+    (begun begun2 chunk : List ℕ) (number len0 len : ℕ) (goes : Bool)
     → Stands all more told old base line input0 input log0 log before out0 out begun number len0 len
     → ((line2 : List ℕ) → begun ≡ begun_bytes line2 → TookPiece line2 input input2 log log2 chunk begun2 goes)
     → InEachRest more before out number (λ all told old out0 kept. OutEnds all told old out0 out2 (kept ++ chunk))
@@ -68,7 +75,8 @@ pub stands-unanswered : (all more : Account) (told old base line : List ℕ) (in
 stands-unanswered all more told old base line input0 input input2 log0 log log2 before out0 out out2 begun begun2 chunk number len0 len goes s takes answers =
     let line2 = begun_after line s.bytes in
     let t = takes line2 s.begins in
-    let all_kept : kept_after line s.bytes ++ chunk ≡ kept_after line (s.bytes ++ t.bytes) = ap (λ k. kept_after line s.bytes ++ k) t.holds ∙ sym (kept-append line s.bytes t.bytes) in
+    let all_kept : kept_after line s.bytes ++ chunk ≡ kept_after line (s.bytes ++ t.bytes) = ap (λ k. kept_after line s.bytes ++ k) t.holds
+    ∙ sym (kept-append line s.bytes t.bytes) in
     record {
       bytes = s.bytes ++ t.bytes;
       next = [];
@@ -84,24 +92,30 @@ stands-unanswered all more told old base line input0 input input2 log0 log log2 
 -- it was kept, and nothing of it was answered
 pub unanswered-same : (more : Account) (before out : Option (List ℕ)) (number : ℕ) (chunk : List ℕ) → IsWhole chunk
     → InEachRest more before out number (λ all told old out0 kept. OutEnds all told old out0 out (kept ++ chunk))
-unanswered-same more before out number chunk w all told old out0 kept r = rests-ends all more told old before out0 out out number kept chunk r w (keeps-same out)
+unanswered-same more before out number chunk w all told old out0 kept r = rests-ends all more told old before out0 out out number kept chunk r w
+    (keeps-same out)
 
-pub took-whole : (line input_begun : List ℕ) (input input2 log log2 : Option (List ℕ)) (chunk begun2 : List ℕ) (goes : Bool) → TookPiece line input input2 log log2 chunk begun2 goes → IsWhole chunk
+pub took-whole : (line input_begun : List ℕ) (input input2 log log2 : Option (List ℕ)) (chunk begun2 : List ℕ) (goes : Bool) →
+    TookPiece line input input2 log log2 chunk begun2 goes → IsWhole chunk
 took-whole line input_begun input input2 log log2 chunk begun2 goes t = subst IsWhole (sym t.holds) (kept-whole line t.bytes)
 
 -- ---- of each run that stands there
 
-abbrev pub HaveFailed : Account → Option (List ℕ) → Option (List ℕ) → Option (List ℕ) → Option (List ℕ) → List ℕ → ℕ → ℕ → Option (List ℕ) → Option (List ℕ) → Option (List ℕ) → Type 0
+abbrev pub HaveFailed : Account → Option (List ℕ) → Option (List ℕ) → Option (List ℕ) → Option (List ℕ) → List ℕ → ℕ → ℕ → Option (List ℕ) → Option (List ℕ) →
+    Option (List ℕ) → Type 0
 HaveFailed more input log before out begun number len input2 log2 out2 =
-    InEachStand more input log before out begun number len (λ all told old base line input0 log0 out0 len0. Fails all told old base line input0 input2 log0 log2 out0 out2)
+    InEachStand more input log before out begun number len
+    (λ all told old base line input0 log0 out0 len0. Fails all told old base line input0 input2 log0 log2 out0 out2)
 
 abbrev pub HaveGone : Account → Option (List ℕ) → Option (List ℕ) → Option (List ℕ) → Option (List ℕ) → List ℕ → ℕ → ℕ
     → Account → Option (List ℕ) → Option (List ℕ) → Option (List ℕ) → Option (List ℕ) → List ℕ → ℕ → ℕ → Type 0
 HaveGone more input log before out begun number len more2 input2 log2 before2 out2 begun2 number2 len2 =
-    InEachStand more input log before out begun number len (λ all told old base line input0 log0 out0 len0. Stands all more2 told old base line input0 input2 log0 log2 before2 out0 out2 begun2 number2 len0 len2)
+    InEachStand more input log before out begun number len
+    (λ all told old base line input0 log0 out0 len0. Stands all more2 told old base line input0 input2 log0 log2 before2 out0 out2 begun2 number2 len0 len2)
 
 pub each-unkept : (more : Account) (input input2 log log2 before out : Option (List ℕ)) (begun : List ℕ) (number len : ℕ)
-    → ((line2 : List ℕ) → begun ≡ begun_bytes line2 → KeptFront line2 input input2 log log2) → HaveFailed more input log before out begun number len input2 log2 out
+    → ((line2 : List ℕ) → begun ≡ begun_bytes line2 → KeptFront line2 input input2 log log2) →
+    HaveFailed more input log before out begun number len input2 log2 out
 each-unkept more input input2 log log2 before out begun number len h all told old base line input0 log0 out0 len0 s =
     stands-unkept all more told old base line input0 input input2 log0 log log2 before out0 out begun number len0 len s h
 
@@ -112,29 +126,37 @@ pub each-unanswered : (more : Account) (input input2 log log2 before out out2 : 
 each-unanswered more input input2 log log2 before out out2 begun begun2 chunk number len goes takes answers all told old base line input0 log0 out0 len0 s =
     stands-unanswered all more told old base line input0 input input2 log0 log log2 before out0 out out2 begun begun2 chunk number len0 len goes s takes answers
 
-pub each-more : (more more2 : Account) (input input2 log log2 before before2 out out2 : Option (List ℕ)) (begun begun2 chunk : List ℕ) (number number2 len len2 : ℕ) (goes : Bool)
+pub each-more : (more more2 : Account) (input input2 log log2 before before2 out out2 : Option (List ℕ)) (begun begun2 chunk : List ℕ)
+    (number number2 len len2 : ℕ) (goes : Bool)
     → ((line2 : List ℕ) → begun ≡ begun_bytes line2 → TookPiece line2 input input2 log log2 chunk begun2 goes)
     → InEachRest more before out number (λ all told old out0 kept. Rests all more2 told old before2 out0 out2 number2 (kept ++ chunk))
     → len2 ≡ len + length chunk
     → HaveGone more input log before out begun number len more2 input2 log2 before2 out2 begun2 number2 len2
-each-more more more2 input input2 log log2 before before2 out out2 begun begun2 chunk number number2 len len2 goes takes answers e all told old base line input0 log0 out0 len0 s =
-    stands-more all more more2 told old base line input0 input input2 log0 log log2 before before2 out0 out out2 begun begun2 chunk number number2 len0 len len2 goes s takes answers e
+each-more more more2 input input2 log log2 before before2 out out2 begun begun2 chunk number number2 len len2 goes takes answers e all told old base line input0
+    log0 out0 len0 s =
+    stands-more all more more2 told old base line input0 input input2 log0 log log2 before before2 out0 out out2 begun begun2 chunk number number2 len0 len len2
+    goes s takes answers e
 
-pub gone-failed : (more more2 : Account) (input input2 input3 log log2 log3 before before2 out out2 out3 : Option (List ℕ)) (begun begun2 : List ℕ) (number number2 len len2 : ℕ)
+pub gone-failed : (more more2 : Account) (input input2 input3 log log2 log3 before before2 out out2 out3 : Option (List ℕ)) (begun begun2 : List ℕ)
+    (number number2 len len2 : ℕ)
     → HaveGone more input log before out begun number len more2 input2 log2 before2 out2 begun2 number2 len2
     → HaveFailed more2 input2 log2 before2 out2 begun2 number2 len2 input3 log3 out3
     → HaveFailed more input log before out begun number len input3 log3 out3
-gone-failed more more2 input input2 input3 log log2 log3 before before2 out out2 out3 begun begun2 number number2 len len2 g f all told old base line input0 log0 out0 len0 s =
+gone-failed more more2 input input2 input3 log log2 log3 before before2 out out2 out3 begun begun2 number number2 len len2 g f all told old base line input0
+    log0 out0 len0 s =
     f all told old base line input0 log0 out0 len0 (g all told old base line input0 log0 out0 len0 s)
 
-pub gone-gone : (more more2 more3 : Account) (input input2 input3 log log2 log3 before before2 before3 out out2 out3 : Option (List ℕ)) (begun begun2 begun3 : List ℕ) (number number2 number3 len len2 len3 : ℕ)
+pub gone-gone : (more more2 more3 : Account) (input input2 input3 log log2 log3 before before2 before3 out out2 out3 : Option (List ℕ))
+    (begun begun2 begun3 : List ℕ) (number number2 number3 len len2 len3 : ℕ)
     → HaveGone more input log before out begun number len more2 input2 log2 before2 out2 begun2 number2 len2
     → HaveGone more2 input2 log2 before2 out2 begun2 number2 len2 more3 input3 log3 before3 out3 begun3 number3 len3
     → HaveGone more input log before out begun number len more3 input3 log3 before3 out3 begun3 number3 len3
-gone-gone more more2 more3 input input2 input3 log log2 log3 before before2 before3 out out2 out3 begun begun2 begun3 number number2 number3 len len2 len3 g f all told old base line input0 log0 out0 len0 s =
+gone-gone more more2 more3 input input2 input3 log log2 log3 before before2 before3 out out2 out3 begun begun2 begun3 number number2 number3 len len2 len3 g f
+    all told old base line input0 log0 out0 len0 s =
     f all told old base line input0 log0 out0 len0 (g all told old base line input0 log0 out0 len0 s)
 
 -- a run that stands somewhere may stop there
-pub each-stops : (more : Account) (input log before out : Option (List ℕ)) (begun : List ℕ) (number len : ℕ) → HaveFailed more input log before out begun number len input log out
+pub each-stops : (more : Account) (input log before out : Option (List ℕ)) (begun : List ℕ) (number len : ℕ) →
+    HaveFailed more input log before out begun number len input log out
 each-stops more input log before out begun number len =
     each-unkept more input input log log before out begun number len (λ line e. ([], consumes-none input, (0, omega arith, appends-none log)))

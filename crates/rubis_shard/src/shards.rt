@@ -341,6 +341,21 @@ impl Shard {
         self.fold_message(&message, row)
     }
 
+    // What is held, or an empty store where it is out. It is apart from `take_store`, in which the room of the empty store would be
+    // cleared at every call.
+    #[inline(always)]
+    fn store_or_empty(&mut self) -> Result<Boxed<Store>, AllocError>
+        ensures taken { IfOk result (λ store. held_by store ≡ self.old.folded) }
+        ensures own { HoldsOwnRows self.old }
+        ensures left { OnOk result (self.new ≡ emptied self.old) }
+        ensures err { OnErr result (self.new ≡ self.old) }
+    {
+        match self.store.take() {
+            Some(store) => Ok(store),
+            None => Boxed::new(self.alloc, Store::new(self.alloc, self.hashes)),
+        }
+    }
+
     // Takes the rows and misfits out, with room for `parts` more parts, and leaves none.
     #[inline(always)]
     pub(crate) fn take_store(&mut self, parts: usize) -> Result<Boxed<Store>, AllocError>
@@ -350,10 +365,7 @@ impl Shard {
         ensures left { OnOk result (self.new ≡ emptied self.old) }
         ensures err { OnErr result (self.new ≡ self.old) }
     {
-        let mut store = match self.store.take() {
-            Some(store) => store,
-            None => Boxed::new(self.alloc, Store::new(self.alloc, self.hashes))?,
-        };
+        let mut store = self.store_or_empty()?;
         if let Err(refused) = store.get_mut().make_room(parts) {
             self.put_store(store);
             return Err(refused);

@@ -41,6 +41,8 @@ mod records;
 #[cfg(test)]
 mod schedules;
 #[cfg(test)]
+mod shares;
+#[cfg(test)]
 mod tables;
 #[cfg(test)]
 mod threads;

@@ -45,8 +45,8 @@ fn purchase(number: usize) -> Numbered
     }
 }
 
-// The piece of shard 0 or 1 of 2, with that part.
-fn piece(alloc: Global, number: usize) -> Result<Piece, Fail>
+/// The piece of shard 0 or 1 of 2, with that part.
+pub fn piece(alloc: Global, number: usize) -> Result<Piece, Fail>
     requires { number < 2 }
     ensures { IfOk result (λ piece. IsPiece piece) }
 {
@@ -64,12 +64,18 @@ fn piece(alloc: Global, number: usize) -> Result<Piece, Fail>
     Ok(Piece { shard, share })
 }
 
-// What the worker that had this piece returned: the shard with its purchase, and that its one part is done.
+/// Whether this is shard 0 or 1 of 2, and has the purchase of its part.
+pub fn has_purchase(shard: &Shard, number: usize) -> bool
+    requires { number < 2 }
+{
+    shard.number() == number && shard.row(&purchase(number).effect.key).is_some()
+}
+
+// What the worker that had this piece returned: its one part is done.
 fn is_returned(done: &Done, number: usize) -> bool
     requires { number < 2 }
 {
-    let shard = &done.shard;
-    done.done == 1 && shard.number() == number && shard.row(&purchase(number).effect.key).is_some()
+    done.done == 1 && has_purchase(&done.shard, number)
 }
 
 // Piece 1 was returned first, and then piece 0.

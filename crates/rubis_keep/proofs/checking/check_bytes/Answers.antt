@@ -9,7 +9,8 @@ returns-then-not-branch-clause-sound c line h =
     let i = c.loop-byte.byte-index in
     let piece = c.args.piece.now in
     let before = c.loop-byte.invariant line h in
-    unsound-at line piece i c.in_ok-check_byte.field-0 (search rules) before.0 (c.in_ok-check_byte.ensures.sound (begun_after line (take i piece)) before.1) c.if-not-branch.true
+    unsound-at line piece i c.in_ok-check_byte.field-0 (search rules) before.0
+    (c.in_ok-check_byte.ensures.sound (begun_after line (take i piece)) before.1) c.if-not-branch.true
 
 pub returns-clause-begun : goal.returns-clause-begun
 returns-clause-begun c e line h =

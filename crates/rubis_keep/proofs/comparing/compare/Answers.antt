@@ -10,7 +10,8 @@ differs-front n found more text l d = subst (λ t. DiffersFrom t text) (take-app
 
 pub returns-then-not-is_same-clause-differs : goal.returns-then-not-is_same-clause-differs
 returns-then-not-is_same-clause-differs g c =
-    if-differs c.differ.result _ (differs-later _ _ _ c.loop-turn.at c.in-Ok.given c.args.text.now _ c.loop-turn.invariant.0 c.loop-turn.invariant.1 c.in-Ok.ensures.bytes.0
+    if-differs c.differ.result _
+    (differs-later _ _ _ c.loop-turn.at c.in-Ok.given c.args.text.now _ c.loop-turn.invariant.0 c.loop-turn.invariant.1 c.in-Ok.ensures.bytes.0
     (differs-front _ _ _ _ c.in-Ok.ensures.bound.0 (c.is_same.ensures.differ c.if-not-is_same.true)))
 
 pub loop-turn-preserved : goal.loop-turn-preserved

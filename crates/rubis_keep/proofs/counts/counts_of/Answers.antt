@@ -4,4 +4,5 @@ use Rattle.rubis_keep.proofs.counts.counts_of.Goals as goal
 
 pub loop-site-preserved : goal.loop-site-preserved
 loop-site-preserved c =
-    c.in_ok-push.ensures.items ∙ ap₂ (λ counts n. counts ++ n ∷ []) c.loop-site.invariant c.count_of.ensures ∙ sym (counts_more c.args.messages.now c.loop-site.site)
+    c.in_ok-push.ensures.items ∙ ap₂ (λ counts n. counts ++ n ∷ []) c.loop-site.invariant c.count_of.ensures
+    ∙ sym (counts_more c.args.messages.now c.loop-site.site)

@@ -14,7 +14,8 @@ returns-clause-next g c =
     let n = c.args.clerk.now.answered in (
       takes-at _ c.args.records.now c.advance.new.self _ true c.if-not-branch.false c.in_ok-advance.ensures.takes,
       answers-kept (held_by c.args.clerk.now.desk.site c.args.clerk.now.window.items (n + 1)) (held_by c.take.new.self.site c.take.new.window.items (n + 1 + 1))
-          (held_by c.make_room.new.self.site c.make_room.new.window.items (n + 1 + 1)) c.args.clerk.now.reply.sink c.take.new.reply.sink c.make_room.new.reply.sink (fields_now c.advance.new.self)
+          (held_by c.make_room.new.self.site c.make_room.new.window.items (n + 1 + 1)) c.args.clerk.now.reply.sink c.take.new.reply.sink
+          c.make_room.new.reply.sink (fields_now c.advance.new.self)
           (rw c.fields.ensures at c.in_ok-take.ensures.goes) c.in_ok-make_room.ensures.kept,
       refl,
     )

@@ -12,10 +12,12 @@ returns-in_err-feed_records-clause-err g c =
 pub returns-clause-err : goal.returns-clause-err
 returns-clause-err g c =
     on_err_weaker c.finish.result (λ f. rests-told c.args.clerk.now.desk.site c.args.clerk.now.window.items _ _ _ _ _ c.requires.window
-    (chunk-finish-ends _ _ c.feed_records.new.records _ _ _ _ _ _ _ _ _ _ _ _ _ c.args.chunk.now c.in_ok-feed_records.ensures.ok c.requires.empty c.new-records.ensures c.requires.whole f)) c.finish.ensures.err
+    (chunk-finish-ends _ _ c.feed_records.new.records _ _ _ _ _ _ _ _ _ _ _ _ _ c.args.chunk.now c.in_ok-feed_records.ensures.ok c.requires.empty
+    c.new-records.ensures c.requires.whole f)) c.finish.ensures.err
 
 pub returns-clause-ok : goal.returns-clause-ok
 returns-clause-ok g c =
     on_ok_weaker c.finish.result (λ f. rw c.finish.ensures.same (rests-told c.args.clerk.now.desk.site c.args.clerk.now.window.items _ _ _ _ _ c.requires.window
-    (chunk-rest _ _ c.feed_records.new.records _ _ _ _ _ _ _ _ _ _ _ _ _ c.args.chunk.now c.in_ok-feed_records.ensures.ok c.requires.empty c.new-records.ensures c.requires.whole
+    (chunk-rest _ _ c.feed_records.new.records _ _ _ _ _ _ _ _ _ _ _ _ _ c.args.chunk.now c.in_ok-feed_records.ensures.ok c.requires.empty c.new-records.ensures
+    c.requires.whole
     f (none-told c.finish.new.clerk.desk.site (c.feed_records.new.clerk.answered + 1))))) c.finish.ensures.ok

@@ -12,10 +12,12 @@ returns-clause-err g c = each-ends _ _ _ _ _ _ _ _ _ _ _ _ _ c.loop-turn.invaria
 
 pub returns-then-clerk-clause-ok : goal.returns-then-clerk-clause-ok
 returns-then-clerk-clause-ok g c =
-    ok_then c.stop.result c.stop.ensures.ok (λ s. rw (s.1, s.2) (each-end _ _ c.loop-turn.records c.stop.new.records _ _ _ _ _ _ _ _ _ _ _ _ c.loop-turn.invariant.feeds s.0 refl refl))
+    ok_then c.stop.result c.stop.ensures.ok
+    (λ s. rw (s.1, s.2) (each-end _ _ c.loop-turn.records c.stop.new.records _ _ _ _ _ _ _ _ _ _ _ _ c.loop-turn.invariant.feeds s.0 refl refl))
 
 pub returns-then-clerk-clause-err : goal.returns-then-clerk-clause-err
-returns-then-clerk-clause-err g c = on_err_weaker c.stop.result (each-finish-ends _ _ _ _ _ _ _ _ _ _ _ _ _ _ _ _ c.loop-turn.invariant.feeds) c.stop.ensures.err
+returns-then-clerk-clause-err g c =
+    on_err_weaker c.stop.result (each-finish-ends _ _ _ _ _ _ _ _ _ _ _ _ _ _ _ _ c.loop-turn.invariant.feeds) c.stop.ensures.err
 
 pub returns-then-not-branch-clause-ok : goal.returns-then-not-branch-clause-ok
 returns-then-not-branch-clause-ok g c =
@@ -26,7 +28,8 @@ pub returns-in_err-put_sink-clause-err : goal.returns-in_err-put_sink-clause-err
 returns-in_err-put_sink-clause-err g c =
     let found = MatchBool-at_true _ _ c.if-not-branch.false c.in_ok-answer_next.ensures.next in
     on_err _ (each-put-ends _ _ _ _ _ _ _ _ _ _ _ _ _ _ _
-    (each-step _ _ c.loop-turn.records c.answer_next.new.records _ _ _ _ _ _ _ _ _ _ _ _ c.loop-turn.invariant.feeds found.0 found.1) c.in_err-put_sink.ensures.err)
+    (each-step _ _ c.loop-turn.records c.answer_next.new.records _ _ _ _ _ _ _ _ _ _ _ _ c.loop-turn.invariant.feeds found.0 found.1)
+    c.in_err-put_sink.ensures.err)
 
 pub loop-turn-preserved : goal.loop-turn-preserved
 loop-turn-preserved g c =

@@ -12,6 +12,8 @@ invariant-loop-turn g l =
     let new = l.clerk in
     record {
       held : AreHeld new.desk.site.place new.window.items new.answered;
-      feeds : InEachFeed rem l.fn.records (held_by old.desk.site old.window.items (old.answered + 1)) (before l.fn.answers.before) (out l.fn.answers.out) old.reply.sink (old.answered + 1)
-          (λ all told old out0 kept. Feeds rem l.records all (held_by new.desk.site new.window.items (new.answered + 1)) told old (before l.answers.before) out0 (out l.answers.out) new.reply.sink (new.answered + 1) kept);
+      feeds : InEachFeed rem l.fn.records (held_by old.desk.site old.window.items (old.answered + 1)) (before l.fn.answers.before)
+          (out l.fn.answers.out) old.reply.sink (old.answered + 1)
+          (λ all told old out0 kept. Feeds rem l.records all (held_by new.desk.site new.window.items (new.answered + 1)) told old (before l.answers.before) out0
+          (out l.answers.out) new.reply.sink (new.answered + 1) kept);
     }

@@ -20,11 +20,13 @@ feed_chunk-requires-clause-whole g c κs within =
 
 pub returns-in_err-feed_chunk-clause-err : goal.returns-in_err-feed_chunk-clause-err
 returns-in_err-feed_chunk-clause-err g c =
-    on_err _ (each-unanswered _ _ _ _ _ _ _ _ _ _ c.keep_next.new.chunk.items _ _ _ c.in_ok-more.ensures.ok (rw c.deref.ensures.value at c.in_err-feed_chunk.ensures.err))
+    on_err _ (each-unanswered _ _ _ _ _ _ _ _ _ _ c.keep_next.new.chunk.items _ _ _ c.in_ok-more.ensures.ok
+    (rw c.deref.ensures.value at c.in_err-feed_chunk.ensures.err))
 
 pub returns-clause-ok : goal.returns-clause-ok
 returns-clause-ok g c =
-    each-more _ _ _ _ _ _ _ _ _ _ _ _ c.keep_next.new.chunk.items _ _ _ _ _ c.in_ok-more.ensures.ok (rw c.deref.ensures.value at c.in_ok-feed_chunk.ensures.ok) (search rules)
+    each-more _ _ _ _ _ _ _ _ _ _ _ _ c.keep_next.new.chunk.items _ _ _ _ _ c.in_ok-more.ensures.ok (rw c.deref.ensures.value at c.in_ok-feed_chunk.ensures.ok)
+    (search rules)
 
 pub returns-clause-end : goal.returns-clause-end
 returns-clause-end g c e =

@@ -10,8 +10,10 @@ returns-in_err-tell_replayed-clause-err g c = on_err _ (go-untold _ _ _ _ _ _ _ 
 
 pub returns-clause-ok : goal.returns-clause-ok
 returns-clause-ok g c =
-    on_ok_both c.answer_pieces.result (go-ok _ _ _ _ _ _ _ _ _ _ _ _ _ _ _ _ _ _ c.in-Ok.ensures.ok c.new.ensures c.in_ok-tell_replayed.ensures) c.answer_pieces.ensures.ok c.answer_pieces.ensures.end
+    on_ok_both c.answer_pieces.result (go-ok _ _ _ _ _ _ _ _ _ _ _ _ _ _ _ _ _ _ c.in-Ok.ensures.ok c.new.ensures c.in_ok-tell_replayed.ensures)
+    c.answer_pieces.ensures.ok c.answer_pieces.ensures.end
 
 pub returns-clause-err : goal.returns-clause-err
 returns-clause-err g c =
-    on_err_weaker c.answer_pieces.result (go-err _ _ _ _ _ _ _ _ _ _ _ _ _ c.in-Ok.ensures.ok c.new.ensures c.in_ok-tell_replayed.ensures) c.answer_pieces.ensures.err
+    on_err_weaker c.answer_pieces.result (go-err _ _ _ _ _ _ _ _ _ _ _ _ _ c.in-Ok.ensures.ok c.new.ensures c.in_ok-tell_replayed.ensures)
+    c.answer_pieces.ensures.err

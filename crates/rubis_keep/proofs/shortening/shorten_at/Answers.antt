@@ -16,7 +16,8 @@ pub returns-in-Ok-eq0 : goal.returns-in-Ok-eq0
 returns-in-Ok-eq0 g c =
     let come = c.loop-turn.invariant.come in
     let none : c.in-Ok-eq0.field-0 ≡ 0 = search rules in
-    short-ends c.args.desk.now.site.place c.args.desk.now.site.state c.loop-turn.desk.site.state _ _ _ _ _ come.0 _ c.loop-turn.line.items come.1 come.2 c.in-Ok-eq0.ensures.bytes.0
+    short-ends c.args.desk.now.site.place c.args.desk.now.site.state c.loop-turn.desk.site.state _ _ _ _ _ come.0 _ c.loop-turn.line.items come.1 come.2
+    c.in-Ok-eq0.ensures.bytes.0
     (ap (λ n. take n c.read.new.buf) none) (c.in-Ok-eq0.ensures.bytes.1 none (search rules)) come.3 come.4
 
 pub loop-turn-preserved : goal.loop-turn-preserved
@@ -33,9 +34,12 @@ loop-turn-preserved g c =
               come.1 ++ w.take_piece.new.text.items,
               consumes-more _ _ _ come.0 more come.2 w.in-Ok.ensures.bytes.0,
               appends-more _ _ _ come.1 w.take_piece.new.text.items come.3 (subst (Appends _ _) w.deref.ensures.value w.in_default.ensures.ok),
-              short-more c.args.desk.now.site.place c.args.desk.now.site.state c.loop-turn.desk.site.state w.take_piece.new.desk.site.state come.0 more c.loop-turn.line.items w.take_piece.new.line.items come.1 w.take_piece.new.text.items come.4
-                  (piece-taken c.args.desk.now.site.place c.loop-turn.desk.site.place c.args.desk.now.site.state c.loop-turn.desk.site.state w.take_piece.new.desk.site.state
-                  c.loop-turn.line.items w.take_piece.new.line.items w.clear.new.self.items w.take_piece.new.text.items more before.place w.clear.ensures.items w.in_ok-take_piece-in-Ok.ensures.short),
+              short-more c.args.desk.now.site.place c.args.desk.now.site.state c.loop-turn.desk.site.state w.take_piece.new.desk.site.state come.0 more
+                  c.loop-turn.line.items w.take_piece.new.line.items come.1 w.take_piece.new.text.items come.4
+                  (piece-taken c.args.desk.now.site.place c.loop-turn.desk.site.place c.args.desk.now.site.state c.loop-turn.desk.site.state
+                  w.take_piece.new.desk.site.state
+                  c.loop-turn.line.items w.take_piece.new.line.items w.clear.new.self.items w.take_piece.new.text.items more before.place w.clear.ensures.items
+                  w.in_ok-take_piece-in-Ok.ensures.short),
             );
           })
       | in-Err+else-ne w ↦

@@ -7,6 +7,7 @@ use Rattle.rubis_keep.proofs.shortening.shorten_at.Given as goal
 abbrev pub invariant-loop-turn : goal.invariant-loop-turn
 invariant-loop-turn g l = record {
   place : l.desk.site.place ≡ l.fn.desk.site.place;
-  come : (bytes told : List ℕ) × Consumes (g.P.Read.remaining l.fn.past) (g.P.Read.remaining l.past) bytes × Appends (g.W.Write.contents l.fn.fresh) (g.W.Write.contents l.fresh) told
+  come : (bytes told : List ℕ) × Consumes (g.P.Read.remaining l.fn.past) (g.P.Read.remaining l.past) bytes
+      × Appends (g.W.Write.contents l.fn.fresh) (g.W.Write.contents l.fresh) told
       × (AreSound [] bytes → IsShort l.fn.desk.site.place l.fn.desk.site.state bytes l.line.items told l.desk.site.state);
 }

@@ -7,6 +7,9 @@ returns-then-byte-ne10-clause-short g c s done told sound h = next-byte _ s _ do
 
 pub returns-clause-short : goal.returns-clause-short
 returns-clause-short g c s done told sound h =
-    line-taken c.args.desk.now.site c.take_line.new.desk.site s done told c.args.line.now.items c.push.new.line.items c.deref.result.now c.clear.new.self.items c.args.text.now.items c.add_if.new.text.items c.args.byte
+    line-taken c.args.desk.now.site c.take_line.new.desk.site s done told c.args.line.now.items c.push.new.line.items c.deref.result.now c.clear.new.self.items
+    c.args.text.now.items c.add_if.new.text.items c.args.byte
     c.in_ok-changed.changed (search rules) sound h c.in_ok-push.ensures c.deref.ensures.value c.in_ok-changed.ensures.takes
-    (c.in_ok-add_if.ensures ∙ ap (λ l. cond c.in_ok-changed.changed (c.args.text.now.items ++ l) c.args.text.now.items) (c.deref-2.ensures.value ∙ sym c.deref.ensures.value)) c.clear.ensures.items
+    (c.in_ok-add_if.ensures
+    ∙ ap (λ l. cond c.in_ok-changed.changed (c.args.text.now.items ++ l) c.args.text.now.items) (c.deref-2.ensures.value ∙ sym c.deref.ensures.value))
+    c.clear.ensures.items

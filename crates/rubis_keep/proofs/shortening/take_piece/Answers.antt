@@ -8,7 +8,8 @@ use Rattle.rubis_keep.proofs.shortening.take_piece.Goals as goal
 pub loop-byte-init : goal.loop-byte-init
 loop-byte-init g c = record {
   place = refl;
-  short = λ s done told sound h. subst (λ d. IsShort c.args.desk.now.site.place s d c.args.line.now.items (told ++ c.args.text.now.items) c.args.desk.now.site.state) (sym (append-nil done)) h;
+  short = λ s done told sound h. subst
+      (λ d. IsShort c.args.desk.now.site.place s d c.args.line.now.items (told ++ c.args.text.now.items) c.args.desk.now.site.state) (sym (append-nil done)) h;
 }
 
 pub loop-byte-preserved : goal.loop-byte-preserved
@@ -19,7 +20,8 @@ loop-byte-preserved g c =
       place = c.in_ok-take_next.ensures.place ∙ c.loop-byte.invariant.place;
       short = λ s done told sound h.
           let more = done_more done piece i (search rules) in
-          subst (λ d. IsShort c.args.desk.now.site.place s d c.take_next.new.line.items (told ++ c.take_next.new.text.items) c.take_next.new.desk.site.state) (sym more)
+          subst (λ d. IsShort c.args.desk.now.site.place s d c.take_next.new.line.items (told ++ c.take_next.new.text.items) c.take_next.new.desk.site.state)
+          (sym more)
           (at-place c.args.desk.now.site.place c.loop-byte.desk.site.place s _ _ (done ++ take i piece) _ _ _ _ _ c.loop-byte.invariant.place
           (c.in_ok-take_next.ensures.short s (done ++ take i piece) told (subst (AreSound []) more (front-sound done piece (i + 1) sound)))
           (c.loop-byte.invariant.short s done told sound h));
@@ -28,4 +30,5 @@ loop-byte-preserved g c =
 pub returns-clause-short : goal.returns-clause-short
 returns-clause-short g c s done told sound h =
     let all = take_all c.loop-byte.byte-index c.args.piece.now (omega arith) in
-    subst (λ t. IsShort c.args.desk.now.site.place s (done ++ t) c.loop-byte.line.items (told ++ c.loop-byte.text.items) c.loop-byte.desk.site.state) all (c.loop-byte.invariant.short s done told sound h)
+    subst (λ t. IsShort c.args.desk.now.site.place s (done ++ t) c.loop-byte.line.items (told ++ c.loop-byte.text.items) c.loop-byte.desk.site.state) all
+    (c.loop-byte.invariant.short s done told sound h)
