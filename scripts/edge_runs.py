@@ -6,6 +6,7 @@
 - Input that fails: at once (it is a folder), and after four messages (a terminal that is gone); and a read that a signal
   interrupts, which is made again.
 - Output that fails, and more records than a run may have: the greatest number, and one more.
+- A long listing, which is written out while it is made: so it adds little to the memory of the run.
 - Options at their greatest and least value and beyond, and the two faults of a command line that are the program's own.
 
 Each run has to write exactly what is said here, on standard output and on standard error, and to end with that status. Each
@@ -16,11 +17,13 @@ import dataclasses
 import os
 import pathlib
 import pty
+import re
 import signal
 import socket
 import struct
 import subprocess
 import sys
+import threading
 import time
 import tty
 
@@ -234,11 +237,40 @@ def failed_writes(program: str) -> list[str | None]:
         return wrong + [told(program, Expected(words, b"", b""), stdout=full) for words in ("site", "world", "lack --waiting", "widen")]
 
 
+def peak(program: str, text: bytes, lines: int) -> int:
+    """The most memory, in bytes, that site 1 of 2 with one worker takes for this input until it has written so many lines."""
+    words = [program, "site", "--site", "1", "--sites", "2", "--workers", "1"]
+    with subprocess.Popen(words, stdin=subprocess.PIPE, stdout=subprocess.PIPE) as site:
+        assert site.stdin and site.stdout
+        feeder = threading.Thread(target=site.stdin.write, args=(text,))
+        feeder.start()
+        while lines > 0 and (read := os.read(site.stdout.fileno(), 1 << 20)):
+            lines -= read.count(b"\n")
+        status = pathlib.Path(f"/proc/{site.pid}/status").read_text()
+        feeder.join()
+        site.stdin.close()
+    most = re.search(r"VmHWM:\s*(\d+) kB", status)
+    return int(most[1]) * 1024 if most else 0
+
+
+def long_listing(program: str) -> str | None:
+    """A listing of 100,000 comments, which is written out while it is made: it adds less to the memory than half of its text has."""
+    comments, words = 100_000, b"x" * 200
+    text = b"msg,1,0,1,1,0:0,user,ann\nmsg,1,0,2,2,1:0,user,bob\nmsg,1,0,3,0,2:0,item,0.1,cup,9,3,50,80\n"
+    text += b"".join(b"msg,1,0,%d,0,%d:0,comment,0.3,0.2,0.1,1,%s\n" % (n, n - 1, words) for n in range(4, comments + 4))
+    before = peak(program, text, comments + 3)
+    more = peak(program, text + b"list,comments,0.1\n", 2 * comments + 4) - before
+    if before and more < comments * len(words) // 2:
+        return None
+    return f"a listing of {comments} comments takes {more} bytes more than the {before} before it"
+
+
 def main() -> int:
     program = str(pathlib.Path(sys.argv[1]).resolve())
     answers = [told(program, expected) for expected in odd_bytes() + cut_off() + command_lines()]
     answers += failed_reads(program) + lost_terminals(program) + failed_writes(program)
     answers += [interrupted_read(program, options) for options in ("--workers 1", "--workers 2", "--workers 4 --batch 3")]
+    answers += [long_listing(program)]
     answers += [told(program, expected) for expected in too_long()]
     faults = [answer for answer in answers if answer]
     return report("edge runs", len(answers), faults)
