@@ -238,7 +238,7 @@ def failed_writes(program: str) -> list[str | None]:
 
 
 def peak(program: str, text: bytes, lines: int) -> int:
-    """The most memory, in bytes, that site 1 of 2 with one worker takes for this input until it has written so many lines."""
+    """The most memory, in bytes, that site 1 of 2 with one worker takes for this input until it has written that many lines."""
     words = [program, "site", "--site", "1", "--sites", "2", "--workers", "1"]
     with subprocess.Popen(words, stdin=subprocess.PIPE, stdout=subprocess.PIPE) as site:
         assert site.stdin and site.stdout
