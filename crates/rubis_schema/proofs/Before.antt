@@ -234,6 +234,24 @@ found_at mark bytes at number within fits h here some lone =
     sym (take-append-drop at bytes) ∙ (λ i. whole i ++ drop at bytes)
     ∙ ap (λ l. decimal number ++ l) (drop_more bytes at 0 within ∙ (λ i. here i ∷ drop (at + 1) bytes))
 
+-- what begins with no digit has no number in front of the mark
+pub no_first_digit : (mark n : ℕ) (bytes back : List ℕ) → n < 2 ^ 64 → (get_or bytes 0 0 < 48) ⊎ (57 < get_or bytes 0 0)
+    → bytes ≡ decimal n ++ mark ∷ back → ⊥
+no_first_digit mark n bytes back fits other is = by other (byte_of mark n bytes back 0 fits is (omega (arith, decimal_nonempty n fits)))
+  where
+    by : (get_or bytes 0 0 < 48) ⊎ (57 < get_or bytes 0 0) → IsInRange 48 57 (get_or bytes 0 0) → ⊥
+    by (inl low) digit = absurd (omega (arith, low, digit.0))
+    by (inr high) digit = absurd (omega (arith, high, digit.1))
+
+-- the digit in front of a mark that is the second byte
+pub one_digit : (mark number : ℕ) (bytes : List ℕ) → 1 < length bytes → get_or bytes 1 0 ≡ mark → (mark < 48) ⊎ (57 < mark)
+    → 48 ≤ get_or bytes 0 0 → get_or bytes 0 0 ≤ 57 → number ≡ get_or bytes 0 0 - 48 → bytes ≡ decimal number ++ mark ∷ drop 2 bytes
+one_digit mark number bytes many here other low high is =
+    let free : get_or bytes 0 0 ≢ mark = λ same. no_digit mark other (subst (λ b. IsInRange 48 57 b) same (low, high)) in
+    found_at mark bytes 1 number many (omega (arith, is, high))
+    (front_more mark bytes 0 0 number (omega (arith, many)) (omega arith) (front_starts mark bytes) free low high (omega (arith, is)))
+    here (omega arith) (λ zero. refl)
+
 -- ---- ids
 by_seq : ℕ → ℕ × List ℕ → Option Id
 by_seq sites first =

@@ -4,11 +4,11 @@ use Rattle.std.proofs.lemmas.Bool.Decides.{Decides-eqb, Decides-ltb}
 use Rattle.std.proofs.lemmas.List.{take_rest}
 use Rattle.rubis_numbers.proofs.Digits.{one_more_fits}
 use Rattle.rubis_schema.proofs.Before.{front_starts, front_more, no_digit, not_before, is_before, no_mark, stops, ends_empty, ends_zero, ends_great, found_at}
-use Rattle.rubis_schema.proofs.splits.read_number_before.Goals as goal
-use Rattle.rubis_schema.proofs.splits.read_number_before.Goals.{then-at-eq0-via-then-at-eq0, then-at-eq0-via-else-at-eq0+then-number-max}
-use Rattle.rubis_schema.proofs.splits.read_number_before.Goals.{then-at-eq0-via-else-at-eq0+else-number-max+then-bytes-eq48, then-at-gt1, else-at-gt1}
-use Rattle.rubis_schema.proofs.splits.read_number_before.Goals.{then-byte-lt48-via-then-byte-lt48, then-byte-lt48-via-else-byte-lt48+then-byte-gt57}
-use Rattle.rubis_schema.proofs.splits.read_number_before.Goals.{then-byte-lt48-via-else-byte-lt48+else-byte-gt57+then-at-ge19}
+use Rattle.rubis_schema.proofs.splits.read_digits_before.Goals as goal
+use Rattle.rubis_schema.proofs.splits.read_digits_before.Goals.{then-at-eq0-via-then-at-eq0, then-at-eq0-via-else-at-eq0+then-number-max}
+use Rattle.rubis_schema.proofs.splits.read_digits_before.Goals.{then-at-eq0-via-else-at-eq0+else-number-max+then-bytes-eq48, then-at-gt1, else-at-gt1}
+use Rattle.rubis_schema.proofs.splits.read_digits_before.Goals.{then-byte-lt48-via-then-byte-lt48, then-byte-lt48-via-else-byte-lt48+then-byte-gt57}
+use Rattle.rubis_schema.proofs.splits.read_digits_before.Goals.{then-byte-lt48-via-else-byte-lt48+else-byte-gt57+then-at-ge19}
 
 pub loop-at-init : goal.loop-at-init
 loop-at-init c = front_starts c.args.mark c.args.bytes.now
