@@ -155,9 +155,30 @@ def command_lines() -> list[Expected]:
     fault = b"fault: site must be below sites\n"
     own = [Expected(words, b"", b"", 2, fault) for words in ("site --site 1", "site --site 2 --sites 2", "site --site 7 --sites 3 --keep 5", "lack --waiting --site 2 --sites 2")]
     own += [Expected("audit --status", b"", b"audit,Agree\n"), Expected("audit --status", b"x\n", b"audit,BadRecord,1\n", 1), Expected("audit", b"x\n", b"audit,BadRecord,1\n")]
+    own += [Expected(words, b"", b"", 2, b"fault: --site and --keep are of the site that --waiting reads\n") for words in ("lack --site 0", "lack --keep 5", "lack --site 1 --sites 2")]
+    own += [Expected("keep /dev/null/none --shorten", b"", b"", 1, None), Expected("keep /nowhere --shorten", b"", b"", 2, b"fault: there is no site in /nowhere\n")]
     own += [Expected("check lack", b"", b"", 2, b"fault: only records of site, world or audit are checked\n")]
     own += [Expected(words, b"", b"", 2, b"fault: to must not be below sites\n") for words in ("widen --sites 3 --to 2", "widen --sites 16 --to 15")]
     return [Expected(words, b"", b"") for words in good] + [Expected(words, b"", b"", 2, None) for words in beyond + wrong] + own
+
+
+def lines_of_records() -> list[Expected]:
+    """Checks of records outside the grammar whose quotes close, or not, at the end of the input, behind either line end."""
+    quote = "a quote that opened at line {} closes at line {}".format
+    other = "no record begins with {}".format
+    rows = {
+        b'x\r\ny,"\n': [(1, other("x")), (2, other("y"))],
+        b'x\n"\n': [(1, other("x")), (2, quote(2, 2))],
+        b'x\n"\n"\n': [(1, other("x")), (2, quote(2, 3))],
+        b'x\r\n"\n"\r\nz\n': [(1, other("x")), (2, quote(2, 3)), (4, other("z"))],
+        b'x\ny,"a""\n': [(1, other("x")), (2, other("y"))],
+        b'x\ny,"a""\n"\nz\n': [(1, other("x")), (2, other("y")), (4, other("z"))],
+        b"\x1b[31mx\x00\xff,1\n": [(1, other("?[31mx??"))],
+    }
+    return [
+        Expected("check", text, "".join(f"bad,{at},{line},1,{reason}\n" for at, (line, reason) in enumerate(bad, 1)).encode() + b"checked,%d,%d\n" % (len(bad), len(bad)), 1)
+        for text, bad in rows.items()
+    ]
 
 
 def difference(expected: Expected, status: int, wrote: bytes, said: bytes) -> str | None:
@@ -177,6 +198,13 @@ def told(program: str, expected: Expected, **streams) -> str | None:
     done = subprocess.run([program, *expected.words.split()], **{"stdout": subprocess.PIPE, "stderr": subprocess.PIPE, "timeout": SECONDS, **given, **streams})
     wrong = difference(expected, done.returncode, done.stdout or b"", done.stderr)
     return wrong and f"rubis {expected.words} < {expected.text[-60:]!r}: {wrong}"
+
+
+def nameless_folder(program: str) -> str | None:
+    """A site in a folder without a name: nothing is written, where the root of the file system would be taken."""
+    done = subprocess.run([program, "keep", ""], stdin=subprocess.DEVNULL, capture_output=True, timeout=SECONDS)
+    wrong = difference(Expected("keep ''", b"", b"", 2, b"fault: the folder has no name\n"), done.returncode, done.stdout, done.stderr)
+    return wrong and f"rubis keep '': {wrong}"
 
 
 def failed_reads(program: str) -> list[str | None]:
@@ -267,7 +295,8 @@ def long_listing(program: str) -> str | None:
 
 def main() -> int:
     program = str(pathlib.Path(sys.argv[1]).resolve())
-    answers = [told(program, expected) for expected in odd_bytes() + cut_off() + command_lines()]
+    answers = [told(program, expected) for expected in odd_bytes() + cut_off() + command_lines() + lines_of_records()]
+    answers += [nameless_folder(program)]
     answers += failed_reads(program) + lost_terminals(program) + failed_writes(program)
     answers += [interrupted_read(program, options) for options in ("--workers 1", "--workers 2", "--workers 4 --batch 3")]
     answers += [long_listing(program)]

@@ -1,4 +1,6 @@
 -- The configurations that a command line asks for.
+use Rattle.std.specs.Prelude.{Bool, not, is_some, unwrap_or, ◌&&◌, ◌||◌}
+use Rattle.rubis_schema.specs.declared.limits.TheConstants.{KEEP_MAX}
 use Rattle.rubis_world.specs.Script.{Setup}
 use Rattle.rubis_cli.specs.declared.options.LackOptions.{LackOptions}
 use Rattle.rubis_cli.specs.declared.options.Options.{Options}
@@ -9,9 +11,16 @@ use Rattle.rubis_world.specs.Setup.{WorldSetup}
 abbrev pub setup_of : Options → Setup
 setup_of o = record { site = o.site; sites = o.setup.sites; shards = o.setup.shards; workers = o.setup.workers; batch = o.setup.batch; keep = o.setup.keep }
 
--- the options of a site whose input is read for what waits
+-- the options of a site whose input is read for what waits: site 0, which keeps as many messages as a site can, where nothing else is said
 abbrev pub waiting_options : LackOptions → Options
-waiting_options l = record { site = l.site; setup = record { sites = l.sites; shards = 4; workers = 1; batch = 64; keep = l.keep } }
+waiting_options l = record {
+  site = unwrap_or l.site 0;
+  setup = record { sites = l.sites; shards = 4; workers = 1; batch = 64; keep = unwrap_or l.keep KEEP_MAX };
+}
+
+-- it is said which site it is, or how many messages it keeps, and that is of no use for logs
+abbrev pub names_a_site : LackOptions → Bool
+names_a_site l = not l.waiting && (is_some l.site || is_some l.keep)
 
 -- the configuration of several sites
 abbrev pub world_setup_of : Numbers → WorldSetup

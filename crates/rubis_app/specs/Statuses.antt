@@ -14,9 +14,11 @@ status_by DisplayHelp = 0
 status_by DisplayVersion = 0
 status_by k = 2
 
--- the status of a site in a folder that isn't run, or ended early: a folder of another site than was asked for is a mistake, and all
--- else a fault of the run
+-- the status of a site in a folder that isn't run, or ended early: a folder without a name, without a site to shorten, or of another
+-- site than was asked for is a mistake, and all else a fault of the run
 abbrev pub status_of : FolderFault → ℕ
+status_of folder.NoName = 2
+status_of folder.NoSite = 2
 status_of folder.NotBelow = 2
 status_of (folder.IsOther setup) = 2
 status_of (folder.IsOld version) = 2
@@ -36,6 +38,7 @@ IsStatusAmong [] s = ⊥
 IsStatusAmong (k ∷ ks) s = (s ≡ status_by k) ⊎ IsStatusAmong ks s
 
 -- the status for these words: 1, since a fault may end any run; that of one of the reasons to refuse them; or, if there is
--- none, 0 for a run that went well, or 2 for a site that isn't below `sites`, a `to` that is, or a folder of another site
+-- none, 0 for a run that went well, or 2 for a site that isn't below `sites`, a `to` that is, an option without its flag, or a folder that
+-- isn't the one that is asked for
 abbrev pub IsStatusOf : List Text → ℕ → Type 0
 IsStatusOf words s = (s ≡ 1) ⊎ IsStatusAmong (fault_of command_line words) s ⊎ ((fault_of command_line words ≡ []) × ((s ≡ 0) ⊎ (s ≡ 2)))

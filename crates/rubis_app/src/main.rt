@@ -2,13 +2,13 @@
 //! site, or what widens them, over standard input and output.
 #![tactic(auto)]
 
-ghost use Rattle.std.specs.Prelude.{◌≡◌, ◌⊎◌, ◌<◌, ◌≤◌, ◌==◌, ◌&&◌, IfErr, IfOk, cond, is_ok, map, string_bytes};
+ghost use Rattle.std.specs.Prelude.{◌≡◌, ◌⊎◌, ◌<◌, ◌≤◌, ◌==◌, ◌&&◌, IfErr, IfOk, cond, is_ok, map, string_bytes, true};
 ghost use Rattle.rubis_schema.specs.declared.limits.TheConstants.{SITES_MAX};
 ghost use Rattle.std.specs.Option.{SomeIff};
 ghost use Rattle.std.specs.Process.{exit_status};
 ghost use Rattle.clap.specs.Words.{kind_of};
 ghost use Rattle.rubis_world.specs.Script.{IsSetup};
-ghost use Rattle.rubis_app.specs.Setups.{setup_of, waiting_options, world_setup_of};
+ghost use Rattle.rubis_app.specs.Setups.{names_a_site, setup_of, waiting_options, world_setup_of};
 ghost use Rattle.rubis_world.specs.Setup.{IsWorldSetup};
 ghost use Rattle.rubis_app.specs.Statuses.{IsRunStatus, IsStatus, IsStatusOf, status_by, status_of};
 
@@ -19,7 +19,7 @@ use rubis_cli::{
     Reading, Setup, Widening, read_options,
 };
 use rubis_keep::{FolderFault, Setup as Place, Wanted, keep_folder};
-use rubis_schema::{Hashes, RECORDS_MAX, SITES_MAX};
+use rubis_schema::{Hashes, KEEP_MAX, RECORDS_MAX, SITES_MAX};
 use rubis_world::{
     Config, Count, Desk, Free, RunFault, WorldConfig, WorldDesk, run_desk, run_waiting,
     run_world_desk,
@@ -218,13 +218,13 @@ fn waiting_options(options: &LackOptions) -> Options
     ensures { result ≡ waiting_options options.now }
 {
     Options {
-        site: options.site,
+        site: options.site.unwrap_or(0),
         setup: Setup {
             sites: options.sites,
             shards: 4,
             workers: 1,
             batch: 64,
-            keep: options.keep,
+            keep: options.keep.unwrap_or(KEEP_MAX),
         },
     }
 }
@@ -254,10 +254,14 @@ fn run_lack<R: Print + Eprint + Input + AllocGlobal + RandomSource + Threads + W
     rt: &R,
     options: &LackOptions,
 ) -> ExitCode
-    ensures { IsStatus (exit_status result) }
+    ensures misuse { names_a_site options.now ≡ true → exit_status result ≡ 2 }
+    ensures status { IsStatus (exit_status result) }
 {
     if options.waiting {
         return run_waits(rt, options);
+    }
+    if options.site.is_some() || options.keep.is_some() {
+        return misuse(rt, "--site and --keep are of the site that --waiting reads");
     }
     audit_logs(rt, options.sites, Question::Lacks, true)
 }
@@ -344,6 +348,8 @@ fn failed_part<'a>(folder: &'a str, fault: &'a FolderFault) -> Option<(&'a str, 
 // Says that something else was asked for than what the folder has, if that is so.
 fn tell_misuse<R: Eprint>(rt: &R, folder: &str, fault: &FolderFault) -> io::Result<()> {
     match fault {
+        FolderFault::NoName => eprintln!(rt; "fault: the folder has no name"),
+        FolderFault::NoSite => eprintln!(rt; "fault: there is no site in {folder}"),
         FolderFault::NotBelow => eprintln!(rt; "fault: site must be below sites"),
         FolderFault::IsOther(
             Place {
@@ -381,7 +387,11 @@ fn status_of(fault: &FolderFault) -> u8
     ensures either { (result ≡ 1) ⊎ (result ≡ 2) }
 {
     match fault {
-        FolderFault::NotBelow | FolderFault::IsOther(_) | FolderFault::IsOld(_) => MISUSE,
+        FolderFault::NoName
+        | FolderFault::NoSite
+        | FolderFault::NotBelow
+        | FolderFault::IsOther(_)
+        | FolderFault::IsOld(_) => MISUSE,
         _ => FAULT,
     }
 }

@@ -1,5 +1,5 @@
 -- Why a record is outside the grammar, in words.
-use Rattle.std.specs.Prelude.{ℕ, ◌+◌, ◌==◌, ◌&&◌, Bool, not, if◌then◌else◌, bytes_eq, codes, decimal, filter, length, min, nat_lt}
+use Rattle.std.specs.Prelude.{ℕ, ◌+◌, ◌==◌, ◌&&◌, Bool, not, if◌then◌else◌, bytes_eq, codes, decimal, filter, length, map, min, nat_le, nat_lt}
 use Rattle.std.specs.Prelude.{slice_index, take, List, [], ◌++◌}
 use Rattle.std.specs.List.{list_all}
 use Rattle.rubis_schema.specs.Texts.{is_digit}
@@ -19,9 +19,13 @@ use Rattle.rubis_audit.specs.declared.shapes.Shape.{Shape}
 abbrev pub limited_text : List ℕ → ℕ → List ℕ
 limited_text words number = words ++ decimal number
 
+-- a byte from space to ~ is shown as it is, and any other as a question mark
+abbrev pub shown_byte : ℕ → ℕ
+shown_byte byte = if nat_le 32 byte && nat_le byte 126 then byte else 63
+
 -- at most 20 bytes of a word are shown
 abbrev pub named_text : List ℕ → List ℕ → List ℕ
-named_text words word = words ++ take (min (length word) 20) word
+named_text words word = words ++ map shown_byte (take (min (length word) 20) word)
 
 abbrev pub has_digits : List ℕ → Bool
 has_digits field = nat_lt 0 (length field) && list_all is_digit field

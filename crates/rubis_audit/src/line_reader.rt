@@ -13,7 +13,10 @@ use std::alloc::Global;
 use std::io;
 use std::io::Read;
 
-/// A reader that remembers the bytes that it gave last.
+// How many of the bytes before those that it gave last a reader still remembers: as many as tell whether a quote was closed.
+const TAIL: usize = 4;
+
+/// A reader that remembers the bytes that it gave last, and a few before them.
 #[derive(Drop)]
 pub struct Recent<R> {
     inner: R,
@@ -33,7 +36,8 @@ impl<R> Recent<R> {
             return;
         }
         self.given = self.given.saturating_add(bytes.len() as u64);
-        self.last.clear();
+        let old = self.last.len().saturating_sub(TAIL);
+        self.last.drain(..old);
         if self.last.extend_from_slice(bytes).is_err() {
             self.is_refused = true;
         }
@@ -63,8 +67,9 @@ pub struct LineReader<R> {
     reader: Reader<Recent<R>>,
     // The one that was read last.
     row: InputRecord,
-    // The line in which the reader stood before it.
+    // The line in which the reader stood before it, and how many bytes it had read.
     before: u64,
+    start: u64,
 }
 
 // How many line feeds there are.
@@ -91,6 +96,7 @@ impl<R: Read> LineReader<R> {
             reader,
             row: InputRecord::new(alloc),
             before: 1,
+            start: 0,
         }
     }
 
@@ -103,7 +109,9 @@ impl<R: Read> LineReader<R> {
         ensures takes { IfOk result (λ found. ReadsNext (recent R.remaining) self.old.reader self.new.reader found self.new.row) }
         ensures faults { IfErr result (λ e. (e ≡ RunFault.Read) ⊎ (e ≡ RunFault.Memory)) }
     {
-        self.before = self.reader.position().line();
+        let position = self.reader.position();
+        self.before = position.line();
+        self.start = position.byte();
         let found = self.row.read_from(&mut self.reader)?;
         if self.reader.get_ref().is_refused {
             return Err(RunFault::Memory);
@@ -129,16 +137,32 @@ impl<R: Read> LineReader<R> {
         feeds
     }
 
+    // The byte before the last `behind` that were read, if it is remembered.
+    fn byte_behind(&self, behind: u64) -> Option<u8> {
+        let end = self.reader.position().byte();
+        self.reader.get_ref().byte_before(end.checked_sub(behind)?)
+    }
+
+    // Whether the last field, which ends in a line feed, is in a quote that was closed: then that quote and the line end of the
+    // record follow the line feed. A quote that follows another byte belongs to the field; before a field that is a line feed
+    // alone it opened the field, which is closed only if a second one of this record stands two bytes further.
+    fn is_closed(&self, field: &[u8]) -> bool {
+        if self.byte_behind(0) != Some(b'\n') {
+            return true;
+        }
+        if self.byte_behind(1) != Some(b'"') || self.byte_behind(2) != Some(b'\n') {
+            return false;
+        }
+        let read = self.reader.position().byte().saturating_sub(self.start);
+        field.len() > 1 || (read > 3 && self.byte_behind(3) == Some(b'"'))
+    }
+
     // Whether the last field is in a quote that the end of the input left open behind a line feed.
     fn is_left_open(&self) -> bool {
-        let end = self.reader.position().byte();
-        let bytes = self.reader.get_ref();
-        let Some(field) = self.row.field(self.row.len().saturating_sub(1)) else {
-            return false;
-        };
-        field.last() == Some(&b'\n')
-            && bytes.byte_before(end) == Some(b'\n')
-            && bytes.byte_before(end.saturating_sub(1)) != Some(b'"')
+        match self.row.field(self.row.len().saturating_sub(1)) {
+            Some(field) => field.last() == Some(&b'\n') && !self.is_closed(field),
+            None => false,
+        }
     }
 
     // The line in which the record that was read last begins.

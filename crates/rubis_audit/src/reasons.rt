@@ -4,7 +4,7 @@ ghost use Rattle.std.specs.Prelude.{◌≡◌, ◌≤◌, ◌++◌, IfOk, OnOk, 
 ghost use Rattle.std.specs.List.{list_all};
 ghost use Rattle.rubis_schema.specs.Texts.{is_digit};
 ghost use Rattle.rubis_audit.specs.Reasons.{count_text, counts_text, has_digits, has_leading_zero, limited_text, id_text, marks};
-ghost use Rattle.rubis_audit.specs.Reasons.{named_text, number_text, quote_text, reason_text, rule_text, site_text, words_of};
+ghost use Rattle.rubis_audit.specs.Reasons.{named_text, number_text, quote_text, reason_text, rule_text, shown_byte, site_text, words_of};
 
 use crate::field_rules::FieldRule;
 use crate::record_faults::{Fault, Reason, field_at};
@@ -41,12 +41,26 @@ fn limited(alloc: Global, words: &[u8], number: u64) -> Result<Vec<u8>, AllocErr
     Ok(text)
 }
 
+// A byte of the record as a reason shows it: none that a terminal would obey.
+fn shown_byte(byte: u8) -> u8
+    ensures { result ≡ shown_byte byte }
+{
+    if byte >= b' ' && byte <= b'~' {
+        byte
+    } else {
+        b'?'
+    }
+}
+
 // A text, and then the first bytes of a word of the record.
 fn named(alloc: Global, words: &[u8], word: &[u8]) -> Result<Vec<u8>, AllocError>
     ensures { IfOk result (λ text. text.items ≡ named_text words.now word.now) }
 {
     let mut text = Vec::from_slice(alloc, words)?;
-    text.extend_from_slice(&word[..word.len().min(SHOWN)])?;
+    let shown = &word[..word.len().min(SHOWN)];
+    for byte in shown {
+        text.push(shown_byte(*byte))?;
+    }
     Ok(text)
 }
 

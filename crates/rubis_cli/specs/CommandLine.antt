@@ -65,13 +65,6 @@ world_command = with_setup (new_app (codes "world"))
 abbrev pub audit_command : App
 audit_command = with_rule (with_rule (new_app (codes "audit")) sites_option) (flag_option (codes "status"))
 
--- the options that say that a site's input is read for what waits, and which site it is
-abbrev pub with_input : App → App
-with_input a = with_rule (with_rule (with_rule a (flag_option (codes "waiting"))) site_option) keep_option
-
-abbrev pub lack_command : App
-lack_command = with_input (with_rule (new_app (codes "lack")) sites_option)
-
 -- the name of the command that reads the records
 abbrev pub reading_option : Rule
 reading_option = record (new_rule (codes "reading")) { value_names = 1; defaults = codes "site" ∷ [] }
@@ -85,6 +78,14 @@ widen_command = with_rule (with_rule (new_app (codes "widen")) sites_option) (nu
 -- an option that takes a number from `low` to `high`, and that has no value where it isn't given
 abbrev pub given_option : Text → ℕ → ℕ → Rule
 given_option name low high = record (new_rule name) { long = Some name; value_names = 1; parser = Some (Unsigned low high) }
+
+-- the options that say that a site's input is read for what waits, and which site it is
+abbrev pub with_input : App → App
+with_input a = with_rule (with_rule (with_rule a (flag_option (codes "waiting"))) (given_option (codes "site") 0 (SITES_MAX - 1)))
+    (given_option (codes "keep") 1 KEEP_MAX)
+
+abbrev pub lack_command : App
+lack_command = with_input (with_rule (new_app (codes "lack")) sites_option)
 
 abbrev pub folder_option : Rule
 folder_option = record (new_rule (codes "folder")) { value_names = 1; required = true }
@@ -139,12 +140,6 @@ pub record AreAuditOptionsIn (rows : List Row) (a : AuditOptions) : Type 0 where
   pub sites : IsNumberOf 8 (one_of (codes "sites") rows) a.sites
   pub status : IsFlag (one_of (codes "status") rows) a.status
 
-pub record AreLackOptionsIn (rows : List Row) (l : LackOptions) : Type 0 where
-  pub sites : IsNumberOf 8 (one_of (codes "sites") rows) l.sites
-  pub waiting : IsFlag (one_of (codes "waiting") rows) l.waiting
-  pub site : IsNumberOf 8 (one_of (codes "site") rows) l.site
-  pub keep : IsNumberOf 32 (one_of (codes "keep") rows) l.keep
-
 pub record AreCountsIn (rows : List Row) (w : Widening) : Type 0 where
   pub sites : IsNumberOf 8 (one_of (codes "sites") rows) w.sites
   pub to : IsNumberOf 8 (one_of (codes "to") rows) w.to
@@ -154,6 +149,12 @@ abbrev pub IsGivenNumber : ℕ → Option Text → Option ℕ → Type 0
 IsGivenNumber bits text n = (text ≡ None → n ≡ None)
     × ((t : Text) → text ≡ Some t → IsNumeral 10 (without_leading_plus t) → digits_value 10 (without_leading_plus t) < 2 ^ bits
     → n ≡ Some (digits_value 10 (without_leading_plus t)))
+
+pub record AreLackOptionsIn (rows : List Row) (l : LackOptions) : Type 0 where
+  pub sites : IsNumberOf 8 (one_of (codes "sites") rows) l.sites
+  pub waiting : IsFlag (one_of (codes "waiting") rows) l.waiting
+  pub site : IsGivenNumber 8 (one_of (codes "site") rows) l.site
+  pub keep : IsGivenNumber 32 (one_of (codes "keep") rows) l.keep
 
 abbrev pub reading_named : Text → Option Reading
 reading_named name =

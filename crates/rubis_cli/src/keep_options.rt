@@ -117,15 +117,15 @@ pub(crate) fn keep_command<'a>(alloc: Global) -> Result<Command<'a>, AllocError>
     with_flags(alloc, keep)
 }
 
-// A number of an option that may not be given.
-fn given_byte(matches: &ArgMatches<'_>, name: &str) -> Option<u8>
+/// A number of an option that may not be given.
+pub(crate) fn given_byte(matches: &ArgMatches<'_>, name: &str) -> Option<u8>
     ensures { IsGivenNumber 8 (one_of name.now (rows_of (found_of matches.now))) result }
 {
     matches.get_one::<u8>(name)
 }
 
-// A longer one.
-fn given_word(matches: &ArgMatches<'_>, name: &str) -> Option<u32>
+/// A longer one.
+pub(crate) fn given_word(matches: &ArgMatches<'_>, name: &str) -> Option<u32>
     ensures { IsGivenNumber 32 (one_of name.now (rows_of (found_of matches.now))) result }
 {
     matches.get_one::<u32>(name)

@@ -10,7 +10,9 @@ ghost use Rattle.rubis_cli.specs.CommandLine.{program_alone, reading_named, read
 ghost use Rattle.rubis_cli.specs.CommandLine.{with_input, with_setup, with_work, world_command};
 ghost use Rattle.rubis_cli.specs.declared.options.OptionFault.TheVariants.{Memory};
 
-use crate::keep_options::{KeepOptions, flag, is_given, keep_command, read_keep};
+use crate::keep_options::{
+    KeepOptions, flag, given_byte, given_word, is_given, keep_command, read_keep,
+};
 use clap::builder::ValueParser;
 use clap::error::ErrorKind;
 use clap::{Arg, ArgMatches, Command, Error};
@@ -93,15 +95,15 @@ pub struct AuditOptions {
     pub status: bool,
 }
 
-/// Of how many sites the logs are, and whether it is asked instead what waits at a site once its input ends; and then which site it
-/// is, and how many messages it keeps.
+/// Of how many sites the logs are, and whether it is asked instead what waits at a site once its input ends. Only then it may be said
+/// which site it is, and how many messages it keeps: `None` where it isn't said.
 #[derive(Clone, Copy)]
 pub struct LackOptions {
     pub sites: u8,
     /// A site's input is read, and no logs.
     pub waiting: bool,
-    pub site: u8,
-    pub keep: u32,
+    pub site: Option<u8>,
+    pub keep: Option<u32>,
 }
 
 /// As what records are read.
@@ -256,8 +258,20 @@ fn with_input<'a>(alloc: Global, command: Command<'a>) -> Result<Command<'a>, Al
             "waiting",
             "Reads the input of one site in place of logs, and writes what each message that waits at its end waits for",
         ))?
-        .arg(site_number(alloc))?
-        .arg(keep_number(alloc))
+        .arg(given(
+            alloc,
+            "site",
+            0,
+            SITES_MAX as u64 - 1,
+            "Which site this is, 0 to 15 and below --sites, with --waiting; by default 0",
+        ))?
+        .arg(given(
+            alloc,
+            "keep",
+            1,
+            KEEP_MAX as u64,
+            "How many messages the site keeps, released and held, 1 to 1000000, with --waiting; by default 1000000",
+        ))
 }
 
 // The command that widens the records of an audit.
@@ -446,8 +460,8 @@ fn lack_options(matches: &ArgMatches<'_>) -> LackOptions
     LackOptions {
         sites: byte(matches, "sites"),
         waiting: is_given(matches, "waiting"),
-        site: byte(matches, "site"),
-        keep: word(matches, "keep"),
+        site: given_byte(matches, "site"),
+        keep: given_word(matches, "keep"),
     }
 }
 

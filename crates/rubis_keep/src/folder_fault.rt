@@ -7,6 +7,10 @@ use std::io;
 /// Why a site in a folder isn't run, or ended early. A fault of a file has the reason that the system gave.
 #[derive(Drop)]
 pub enum FolderFault {
+    /// The folder's name is empty.
+    NoName,
+    /// There is no site in the folder, or no such folder, and what a site kept was to be shortened.
+    NoSite,
     /// A site that isn't below the number of sites was asked for.
     NotBelow,
     /// The folder is that of a site that is set up so, and something else was asked for.

@@ -226,12 +226,31 @@ fn run<R: Files<File = File> + Print + Input + AllocGlobal + Threads + Wait + Sy
     }
 }
 
+// Makes the folder, if there is none. Where a site's records are to be shortened nothing is made: there has to be a site.
+fn make_folder<R: Files<File = File> + AllocGlobal>(
+    rt: &R,
+    folder: &str,
+    shortens: bool,
+) -> Result<(), FolderFault> {
+    if folder.is_empty() {
+        return Err(FolderFault::NoName);
+    }
+    if !shortens {
+        return fs::create_dir_all(rt, folder).map_err(FolderFault::Folder);
+    }
+    match read_setup(rt, folder) {
+        Ok(Some(_)) => Ok(()),
+        Ok(None) => Err(FolderFault::NoSite),
+        Err(e) => Err(FolderFault::Setup(e)),
+    }
+}
+
 /// Runs the site in a folder over standard input and output, until the input ends: it is made, if there is none, and otherwise goes
 /// on where the last run was cut off.
 ///
 /// # Errors
 ///
-/// `NotBelow`, `IsOther` and `IsOld` if something was asked for that isn't of this folder: nothing was changed then. Others say what
+/// `NoName`, `NoSite`, `NotBelow`, `IsOther` and `IsOld` if something was asked for that isn't of this folder: nothing was changed then. Others say what
 /// failed.
 pub fn keep_folder<
     R: Files<File = File>
@@ -244,7 +263,7 @@ pub fn keep_folder<
         + Wait
         + Sync,
 >(rt: &R, folder: &str, wanted: &Wanted) -> Result<(), FolderFault> {
-    fs::create_dir_all(rt, folder).map_err(FolderFault::Folder)?;
+    make_folder(rt, folder, wanted.shortens)?;
     let _lock = take_lock(rt, folder)?;
     let setup = settled(rt, folder, wanted)?;
     let Some(asked) = wanted.goes_on(setup) else {
