@@ -83,15 +83,6 @@ module _ {R : Type 0} (rem : R → Option (List ℕ)) (grammar : Grammar) (sites
         counted = so_far.counted ∙ ap (tally_from grammar sites a.checker.place a.checker.tally) none;
       }
 
--- the last row is written out
-pub checked_whole : (grammar : Grammar) (sites : ℕ) (tally : Tally) (sink sink2 : List ℕ) (old now now2 : Option (List ℕ)) (all : List (List (List ℕ)))
-    → HasCheckedAll grammar sites tally sink old now all → sink2 ≡ sink ++ rows_text (checked_row tally ∷ []) → Appends now now2 sink2
-    → IsChecked grammar sites old now2 all tally
-checked_whole grammar sites tally sink sink2 old now now2 all h wrote out = (
-  (h.lines, subst (Appends old now2) (sym (h.told ∙ ap (λ t. h.out ++ t) (sym wrote))) (appends-more old now now2 h.out sink2 h.appended out)),
-  sym h.counted,
-)
-
 -- a check before its first record
 pub begun : {R : Type 0} (rem : R → Option (List ℕ)) (check : Check R) (old : Option (List ℕ)) (all : List (List (List ℕ)))
     → HasToGive (recent rem) check.records.reader all → check.checker.place ≡ BeforeLogs → check.checker.tally ≡ none_so_far → check.sink ≡ []

@@ -164,9 +164,6 @@ known_push others site own v k f l = record {
         parts true x y z e h = (or_parts _ _ (or_parts _ _ h).1).0
         parts false x y z e h = absurd (true≢false (sym e))
 
-pub known_none : IsFaultless [] []
-known_none = record { formed = λ m h. absurd h; one_id = λ m h. absurd h; one_red = λ m h p. absurd h; released = tt; checked = tt }
-
 -- a whole log is among the earlier ones
 pub known_log : (others own : List Message) → IsFaultless others own → IsFaultless (others ++ own) []
 known_log others own k = record {

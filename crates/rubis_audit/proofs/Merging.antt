@@ -99,12 +99,6 @@ merges_end sites logs at log n messages clock l m = record {
 pub merged_start : (sites : ℕ) (logs : List Log) (clock : MessageCounts) → clock ≡ opening_clock sites → IsMerged sites logs 0 [] clock
 merged_start sites logs clock e = record { rest = refl; released = tt; members = λ x h. absurd h; among = λ x h. absurd h; counts = e ∙ opening_counts sites }
 
-pub merged_end : (sites : ℕ) (logs : List Log) (at : ℕ) (messages : List Message) (clock : MessageCounts) → length logs ≤ at →
-    IsMerged sites logs at messages clock
-    → messages ≡ merged logs
-merged_end sites logs at messages clock l m =
-    sym (append-nil messages) ∙ ap (λ q. messages ++ firsts messages (messages_of_logs q)) (sym (drop_all at logs l)) ∙ m.rest
-
 -- ---- what the clock doesn't count
 pub counts_length : (sites : ℕ) (messages : List Message) (clock : MessageCounts) → clock ≡ clock_of sites messages → length clock.counts ≡ sites
 counts_length sites messages clock e = ap (λ (k : MessageCounts). length k.counts) e ∙ length_counts sites messages

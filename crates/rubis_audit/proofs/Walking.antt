@@ -157,9 +157,6 @@ pub record Over (seen : Seen) (k : ℕ) (logs : List Log) : Type 0 where
   pub walked : Walked seen (take k logs)
   pub rest : verdict logs ≡ verdict_from (k + 1) (messages_of_logs (take k logs)) (drop k logs)
 
-pub over_none : (seen : Seen) (logs : List Log) → Sees seen [] → Over seen 0 logs
-over_none seen logs s = record { walked = record { known = known_none; sees = s }; rest = refl }
-
 log_at : (logs : List Log) (k : ℕ) → k < length logs → (log : Log) × (slice_get logs k ≡ Some log)
 log_at [] k l = absurd (omega (arith, l))
 log_at (x ∷ logs) zero l = (x, refl)

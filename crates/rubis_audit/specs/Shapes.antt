@@ -168,9 +168,6 @@ tail_of At = rule.Site ∷ []
 tail_of Deliver = rule.Site ∷ rule.Number RECORDS_MAX ∷ []
 tail_of shape = []
 
-abbrev pub rules_of : Shape → List FieldRule
-rules_of shape = head_of shape ++ tail_of shape
-
 -- more fields may follow these: what a row claims, a request at a site, or what no word names
 abbrev pub is_open : Shape → Bool
 is_open ListOther = true

@@ -6,11 +6,6 @@ use Rattle.std.specs.List.{range_with_len}
 use Rattle.rubis_message.specs.Message.{Message}
 use Rattle.rubis_model.specs.Settle.{counted}
 
-pub counted_drop : (site : ℕ) (log : List Message) (i : ℕ) (m : Message) → i < length log → m ≡ get_or log i m
-    → counted site (drop i log) ≡ counted site (drop (i + 1) log) + cond (eqb m.stamp.id.site site) 1 0
-counted_drop site log i m h is =
-    at_drop_more (counted site) log i m h ∙ ap (λ (n : Message). counted site (drop (i + 1) log) + cond (eqb n.stamp.id.site site) 1 0) (sym is)
-
 pub counts_more : (log : List Message) (site : ℕ) → map (λ i. counted i log) (range_with_len 0 (site + 1)) ≡ map (λ i. counted i log) (range_with_len 0 site)
     ++ counted site log ∷ []
 counts_more log site = map-range_with_len_more (λ i. counted i log) 0 site site (omega arith)

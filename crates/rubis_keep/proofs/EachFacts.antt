@@ -79,13 +79,6 @@ pub each-put-ends : {R : Type 0} (rem : R → Option (List ℕ)) (records record
 each-put-ends rem records records2 more more2 before before2 before3 out out2 out3 sink sink2 number number2 h puts all told old out0 kept p =
     feeds-put-ends rem records2 all more2 told old before2 before3 out0 out2 out3 sink2 number2 kept (h all told old out0 kept p) puts
 
-pub each-finish : {R : Type 0} (rem : R → Option (List ℕ)) (records records2 : Records R) (more more2 more3 : Account)
-    (before before2 before3 out out2 out3 : Option (List ℕ)) (sink sink2 : List ℕ) (number number2 : ℕ)
-    → HaveCome rem records more before out sink number records2 more2 before2 out2 sink2 number2 → Finished more2 more3 sink2 before2 before3 out2 out3
-    → HaveCome rem records more before out sink number records2 more3 before3 out3 [] number2
-each-finish rem records records2 more more2 more3 before before2 before3 out out2 out3 sink sink2 number number2 h f all told old out0 kept p =
-    feeds-finish rem records2 all more2 more3 told old before2 before3 out0 out2 out3 sink2 number2 kept (h all told old out0 kept p) f
-
 pub each-finish-ends : {R : Type 0} (rem : R → Option (List ℕ)) (records records2 : Records R) (more more2 more3 : Account)
     (before before2 before3 out out2 out3 : Option (List ℕ)) (sink sink2 : List ℕ) (number number2 : ℕ)
     → HaveCome rem records more before out sink number records2 more2 before2 out2 sink2 number2 → FinishedFront more2 more3 sink2 before2 before3 out2 out3

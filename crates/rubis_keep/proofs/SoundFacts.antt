@@ -200,10 +200,6 @@ whole-append-after line (b ∷ xs) ys =
       | false ↦ whole-append-after (line ++ b ∷ []) xs ys
     ]
 
--- the whole lines of a text of such lines are kept, and are such a text of whole lines
-pub sound-whole-lines : (t : List ℕ) → AreSound [] t → kept_of t ≡ whole_lines t
-sound-whole-lines t h = sound-kept [] t h
-
 -- what is kept of whole lines and then of more
 pub kept-goes-on : (t more : List ℕ) → AreSound [] t → kept_of (whole_lines t ++ more) ≡ whole_lines t ++ kept_of more
 kept-goes-on t more h =

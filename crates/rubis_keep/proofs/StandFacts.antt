@@ -146,15 +146,6 @@ gone-failed more more2 input input2 input3 log log2 log3 before before2 out out2
     log0 out0 len0 s =
     f all told old base line input0 log0 out0 len0 (g all told old base line input0 log0 out0 len0 s)
 
-pub gone-gone : (more more2 more3 : Account) (input input2 input3 log log2 log3 before before2 before3 out out2 out3 : Option (List ℕ))
-    (begun begun2 begun3 : List ℕ) (number number2 number3 len len2 len3 : ℕ)
-    → HaveGone more input log before out begun number len more2 input2 log2 before2 out2 begun2 number2 len2
-    → HaveGone more2 input2 log2 before2 out2 begun2 number2 len2 more3 input3 log3 before3 out3 begun3 number3 len3
-    → HaveGone more input log before out begun number len more3 input3 log3 before3 out3 begun3 number3 len3
-gone-gone more more2 more3 input input2 input3 log log2 log3 before before2 before3 out out2 out3 begun begun2 begun3 number number2 number3 len len2 len3 g f
-    all told old base line input0 log0 out0 len0 s =
-    f all told old base line input0 log0 out0 len0 (g all told old base line input0 log0 out0 len0 s)
-
 -- a run that stands somewhere may stop there
 pub each-stops : (more : Account) (input log before out : Option (List ℕ)) (begun : List ℕ) (number len : ℕ) →
     HaveFailed more input log before out begun number len input log out

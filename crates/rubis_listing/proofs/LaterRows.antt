@@ -31,14 +31,6 @@ pub countable_none : (rows : Records) (o : Option Later) → AreCountable rows o
 countable_none rows None h = tt
 countable_none rows (Some l) h = let none : length {A = List (List ℕ)} [] ≡ 0 = refl in omega (arith, none, h)
 
-pub countable_next : (rows : Records) (o : Option Later) (l : Later) (first : Records) (rest : Option Later) → o ≡ Some l
-    → rows_of_later l ≡ first ++ later_rows rest → AreCountable rows o → AreCountable first rest
-countable_next rows o l first None is split h = tt
-countable_next rows o l first (Some k) is split h =
-    let whole : length rows + length (rows_of_later l) ≤ 18446744073709551615 = subst (AreCountable rows) is h in
-    let sum = ap length split ∙ length-append first (rows_of_later k) in
-    omega (arith, whole, sum)
-
 pub countable_some : (rows : Records) (o : Option Later) (l : Later) → o ≡ Some l → AreCountable rows o
     → length rows + length (rows_of_later l) ≤ 18446744073709551615
 countable_some rows o l is h = subst (AreCountable rows) is h

@@ -3,7 +3,7 @@ use Rattle.std.proofs.Common.{◌≡◌, ℕ, zero, suc, ◌+◌, ◌*◌, ◌-�
 use Rattle.std.specs.List.{AllZip, range_with_len}
 use Rattle.std.specs.Prelude.{slice_range}
 use Rattle.std.proofs.lemmas.Grind.{flat_map-append}
-use Rattle.std.proofs.lemmas.List.{length-drop, length-take-le, take_all}
+use Rattle.std.proofs.lemmas.List.{length-drop, length-take-le}
 use Rattle.std.proofs.lemmas.List.Folds.{drop_split}
 use Rattle.rubis_message.specs.Message.{Message}
 use Rattle.rubis_shadow.specs.declared.numbered.Misfit.{Misfit}
@@ -15,9 +15,6 @@ use Rattle.rubis_listing.proofs.Entering.{none}
 use Rattle.rubis_listing.proofs.Selecting.{records_append}
 
 -- ---- ranges of a list
-pub range_whole : {X : Type 0} (xs : List X) (n : ℕ) → n ≡ length xs → slice_range xs 0 n ≡ xs
-range_whole xs n is = take_all (n - 0) xs (omega (arith, is))
-
 pub range_none : {X : Type 0} (xs : List X) (a : ℕ) → slice_range xs a a ≡ []
 range_none xs a = let many : a - a ≡ 0 = omega arith in ap (λ n. take n (drop a xs)) many
 

@@ -24,10 +24,6 @@ answers_more : (p : Place) (s : Replica) (ms : List Message) (m : Message)
 answers_more p s [] m = refl
 answers_more p s (x ∷ ms) m = ap (λ l. (arrived p s x).1 ∷ l) (answers_more p (arrived p s x).0 ms m)
 
--- nothing is taken in
-pub takes_none : (p : Place) (s : Replica) (messages : List Message) → TakesFirst p s s messages [] messages
-takes_none p s messages = record { taken = []; parts = refl; state = refl; told = refl }
-
 -- the first of the rest too
 pub takes_next : (p : Place) (old now new : Replica) (messages rest : List Message) (answers : List (Result Arrival Refusal)) (m : Message)
     (a : Result Arrival Refusal)

@@ -24,13 +24,6 @@ all_by P (x ∷ log) h = All-from_get_or P (x ∷ log) x (λ i l. h (get_or (x �
 pub log_counts : (i : Intake) → IsIntake i → All (λ m. sites_of m ≡ i.place.sites) i.state.log
 log_counts i h = all_by (λ m. sites_of m ≡ i.place.sites) i.state.log (λ m k. (h.kept.log_sites m k).counts)
 
--- there are no more of them than the site keeps
-pub log_few : (i : Intake) → IsIntake i → length i.state.log ≤ i.place.keep
-log_few i h = omega (arith, h.kept.few)
-
-pub log_fits : (i : Intake) → IsIntake i → length i.state.log ≤ 1000000
-log_fits i h = omega (arith, h.kept.few, h.keep)
-
 -- the tables of a site's log are within its limits
 pub log_in_limits : (i : Intake) → IsIntake i → AllInLimits i.place.sites (fold_of (cores i.state.log)).tables
 log_in_limits i h = within i.state.log (log_counts i h) (all_by IsMessage i.state.log (λ m k. (h.kept.log_sites m k).conditions))

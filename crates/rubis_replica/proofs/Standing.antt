@@ -23,10 +23,6 @@ use Rattle.rubis_replica.specs.declared.progress.Progress.{Progress}
 use Rattle.rubis_replica.specs.declared.progress.Stage.{Stage}
 use Rattle.rubis_replica.specs.declared.progress.Stage.TheVariants.{Level, Keeping, Begun}
 
-pub zero_or : (n : ℕ) → (n ≡ 0) ⊎ (0 < n)
-zero_or ℕ.zero = inl refl
-zero_or (ℕ.suc n) = inr (omega arith)
-
 -- ---- all is applied up to a message
 pub rests_follow : (log : List Message) (upto : ℕ) (f : Follower) → upto ≤ length log → 0 < length f.tables
     → HoldsLog (length f.tables) (cores (take upto log)) f.tables → FollowsLog log (record f { progress = resting_at upto })

@@ -1,9 +1,9 @@
 -- A batch of a log that was applied, whole or as far as memory went.
 use Rattle.std.proofs.Common.{◌≡◌, ℕ, zero, suc, ◌+◌, ◌-◌, ◌<◌, ◌≤◌, List, [], ◌∷◌, ◌++◌, length, take, drop, refl, sym, ap, ◌∙◌, subst, arith, ⊎_elim}
-use Rattle.std.specs.Prelude.{Some, map, slice_get, slice_index, slice_range, Result, Ok, Err, OnOk, OnErr, true}
+use Rattle.std.specs.Prelude.{Some, map, slice_index, slice_range, Result, Ok, Err, OnOk, OnErr, true}
 use Rattle.std.specs.Result.{is_ok}
 use Rattle.std.proofs.lemmas.Bool.{cases_lt}
-use Rattle.std.proofs.lemmas.List.{drop-map, get_or-map, length-map, length-take, map-append, take-map, take_more}
+use Rattle.std.proofs.lemmas.List.{drop-map, get_or-map, length-map, length-take, take-map}
 use Rattle.std.proofs.lemmas.Option.{slice_get_cases, slice_get_within}
 use Rattle.rubis_message.specs.Message.{Message}
 use Rattle.rubis_model.specs.Log.{Core, core, cores}
@@ -30,14 +30,6 @@ index_more xs ys x n pushed many each k l = ⊎_elim
     (λ more.
     let last : k ≡ length xs = omega (arith, l, more, many) in
     ap (λ zs. slice_index zs k) pushed ∙ ap (slice_index (xs ++ x ∷ [])) last ∙ index_last xs x) (cases_lt k n)
-
-pub stops_more : (dones before after : List ℕ) (from at : ℕ) → at < length dones
-    → before ≡ map (λ d. from + d) (take at dones) → after ≡ before ++ (from + slice_index dones at) ∷ []
-    → after ≡ map (λ d. from + d) (take (at + 1) dones)
-stops_more dones before after from at l inv pushed =
-    pushed ∙ ap (λ xs. xs ++ (from + slice_index dones at) ∷ []) inv
-    ∙ sym (map-append (λ d. from + d) (take at dones) (slice_index dones at ∷ []))
-    ∙ ap (map (λ d. from + d)) (sym (take_more dones at 0 l))
 
 pub done_more : (dones : List ℕ) (at messages : ℕ) → slice_index dones at ≡ messages
     → ((k : ℕ) → k < at → slice_index dones k ≡ messages) → (k : ℕ) → k < at + 1 → slice_index dones k ≡ messages

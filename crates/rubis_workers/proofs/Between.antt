@@ -1,9 +1,9 @@
 -- The messages of a log between two places, and their parts.
-use Rattle.std.proofs.Common.{◌≡◌, ℕ, zero, suc, ◌+◌, ◌-◌, ◌*◌, ◌<◌, ◌≤◌, List, [], ◌∷◌, ◌++◌, length, length-append, length-drop, length-take, get_or, take}
+use Rattle.std.proofs.Common.{◌≡◌, ℕ, zero, suc, ◌+◌, ◌-◌, ◌*◌, ◌<◌, ◌≤◌, List, [], ◌∷◌, ◌++◌, length, length-append, length-drop, get_or, take}
 use Rattle.std.proofs.Common.{drop, sym, ap, ◌∙◌, arith, inl, inr}
 use Rattle.std.specs.Prelude.{slice_range, ◌⊎◌}
 use Rattle.std.specs.List.{flat_map}
-use Rattle.std.proofs.Math.Seq.{take-add, take-length}
+use Rattle.std.proofs.Math.Seq.{take-add}
 use Rattle.std.proofs.lemmas.Grind.{flat_map-append}
 use Rattle.std.proofs.lemmas.List.{drop-append-le, drop-drop, take-append-le, take_more}
 use Rattle.rubis_schema.specs.declared.ids.Id.{Id}
@@ -15,9 +15,6 @@ use Rattle.rubis_message.specs.Message.{Message}
 use Rattle.rubis_model.specs.Log.{core, cores, parts_of}
 use Rattle.rubis_model.proofs.CoreLists.{cores_append}
 use Rattle.rubis_workers.specs.Logs.{parts_between}
-
-pub effects_append : (a b : List Message) → flat_map parts_of (cores (a ++ b)) ≡ flat_map parts_of (cores a) ++ flat_map parts_of (cores b)
-effects_append a b = ap (flat_map parts_of) (cores_append a b) ∙ flat_map-append parts_of (cores a) (cores b)
 
 -- ---- one message and the next
 
@@ -37,9 +34,6 @@ below_or a zero = inr (omega arith)
 below_or zero (suc b) = inl (omega arith)
 below_or (suc a) (suc b) = elim (below_or a b) [ inl h ↦ inl (omega (arith, h)) | inr h ↦ inr (omega (arith, h)) ]
 
-pub nothing_between : (log : List Message) (a b : ℕ) → b ≤ a → parts_between log a b ≡ []
-nothing_between log a b h = ap (λ n. flat_map parts_of (cores (take n (drop a log)))) (let e : b - a ≡ 0 = omega (arith, h) in e)
-
 slices_meet : (log : List Message) (a b c : ℕ) → a ≤ b → b ≤ c → slice_range log a c ≡ slice_range log a b ++ slice_range log b c
 slices_meet log a b c h g =
     let far : c - a ≡ (b - a) + (c - b) = omega (arith, h, g) in
@@ -48,24 +42,12 @@ slices_meet log a b c h g =
     ∙ take-add (b - a) (c - b) (drop a log)
     ∙ ap (λ xs. take (b - a) (drop a log) ++ take (c - b) xs) (drop-drop (b - a) a log ∙ ap (λ n. drop n log) near)
 
--- what stands before a place, and what is between it and another
-pub front_meets : (log : List Message) (a b : ℕ) → a ≤ b → take b log ≡ take a log ++ slice_range log a b
-front_meets log a b h = ap (λ n. take n log) (let e : b ≡ a + (b - a) = omega (arith, h) in e) ∙ take-add a (b - a) log
-
-pub between_meets : (log : List Message) (a b c : ℕ) → a ≤ b → b ≤ c → parts_between log a c ≡ parts_between log a b ++ parts_between log b c
-between_meets log a b c h g =
-    ap (λ xs. flat_map parts_of (cores xs)) (slices_meet log a b c h g) ∙ effects_append (slice_range log a b) (slice_range log b c)
-
 first_of : (xs : List Message) (n : ℕ) → 0 < length xs → 0 < n → 0 < length (flat_map parts_of (cores (take n xs)))
 first_of [] n h g = absurd (omega (arith, h))
 first_of (m ∷ xs) zero h g = absurd (omega (arith, g))
 first_of (m ∷ xs) (suc n) h g =
     let rest = flat_map parts_of (cores (take n xs)) in
     omega (arith, some_parts m.stamp.id m.stamp.red m.shadow, length-append (parts_of (core m)) rest)
-
--- where there are messages there are parts
-pub some_between : (log : List Message) (a b : ℕ) → a < b → b ≤ length log → 0 < length (parts_between log a b)
-some_between log a b h g = first_of (drop a log) (b - a) (omega (arith, h, g, length-drop a log)) (omega (arith, h))
 
 -- ---- a log that grows
 
@@ -104,8 +86,3 @@ few_parts [] = omega arith
 few_parts (m ∷ xs) =
     let rest = flat_map parts_of (cores xs) in
     omega (arith, three_parts m.stamp.id m.stamp.red m.shadow, few_parts xs, length-append (parts_of (core m)) rest)
-
--- no more than three for each message of the log
-pub few_between : (log : List Message) (a b : ℕ) → length log ≤ 1000000 → length (parts_between log a b) ≤ 3000000
-few_between log a b few =
-    omega (arith, few, few_parts (take (b - a) (drop a log)), length-take (b - a) (drop a log), length-drop a log)

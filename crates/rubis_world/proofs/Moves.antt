@@ -219,19 +219,6 @@ module _ (keep : ℕ) (sites : List SiteState) (sent : List Packet) (i : ℕ) (s
         ((refl, (λ k. record { sites = come k; sent = sent })), ap (saying word) (said_there keep sites sent i s x inside read at step answer a))
 
 -- ---- what comes by a packet
-pub at_there : (old new : WorldState) (i : ℕ) (step : World × Result Happened Refusal) (result : Result Happened WorldFault) → i < length old.world.sites
-    → Steps old new step result → Steps old new (at_site old.world i step) result
-at_there old new i step result l h =
-    subst (λ q. Steps old new q result) (sym (cond-true (nat_lt i (length old.world.sites)) step _ (lt-ltb i (length old.world.sites) l))) h
-
-pub by_packet : (old new : WorldState) (i j k : ℕ) (p q : Packet) (result : Result Happened WorldFault) → i < length old.world.sites → j ≡ i
-    → packet_at old.world.sent k ≡ Some p → p ≡ q → Steps old new (coming old.keep old.world j (Some q)) result
-    → Steps old new (at_site old.world i (coming old.keep old.world i (packet_at old.world.sent k))) result
-by_packet old new i j k p q result l same e f h =
-    at_there old new i (coming old.keep old.world i (packet_at old.world.sent k)) result l
-    (subst (λ o. Steps old new (coming old.keep old.world i o) result) (sym (e ∙ ap (λ x. Some x) f))
-    (subst (λ n. Steps old new (coming old.keep old.world n (Some q)) result) same h))
-
 pub is_below : (keep : ℕ) (sites : List SiteState) (sent : List Packet) (old : WorldState) → state_of keep sites sent ≡ old → (i j n : ℕ) → j < n → j ≡ i
     → n ≡ length sites → i < length old.world.sites
 is_below keep sites sent old view i j n l e f = let g = length-map sites (λ (y : SiteState). y.state) in

@@ -1,4 +1,4 @@
-use Rattle.std.proofs.Common.{rules, ◌≡◌, ◌∙◌, length, take, subst, arith}
+use Rattle.std.proofs.Common.{rules, ◌∙◌, length, take, subst, arith}
 use Rattle.rubis_model.specs.Log.{cores}
 use Rattle.rubis_shard.specs.Holdings.{HoldsLog}
 use Rattle.rubis_workers.specs.Logs.{StaysWithin}

@@ -1,4 +1,4 @@
-use Rattle.std.proofs.Common.{rules, ◌≡◌, ◌∙◌, arith}
+use Rattle.std.proofs.Common.{rules}
 use Rattle.rubis_workers.proofs.Applied.{index_more}
 use Rattle.rubis_workers.proofs.applying.stop_all.Goals as goal
 

@@ -1,4 +1,4 @@
-use Rattle.std.proofs.Common.{◌++◌, length, ap, arith}
+use Rattle.std.proofs.Common.{length, ap, arith}
 use Rattle.std.proofs.lemmas.List.{length-append}
 use Rattle.rubis_board.specs.Passes.{PassState}
 use Rattle.rubis_workers.proofs.Lists.{part_length}

@@ -1,4 +1,4 @@
-use Rattle.std.proofs.Common.{rules, ℕ, ◌≡◌, ◌+◌, ◌≤◌, ◌++◌, [], ap, length, refl, ◌∙◌, arith}
+use Rattle.std.proofs.Common.{rules, ◌≡◌, ◌≤◌, ◌++◌, [], ap, length, ◌∙◌, arith}
 use Rattle.std.specs.FinMap as map
 use Rattle.rubis_model.specs.Listings.{log_from}
 use Rattle.rubis_shard.specs.Counted.{recorded_from}
