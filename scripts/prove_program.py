@@ -1,16 +1,17 @@
 #!/usr/bin/env python3
 """Proves the crates that the program is made of and builds it, on all processors: this is what `./rubis` calls where a source is newer.
 
-Each crate is proved as soon as those below it are, the longest chain first (scripts/rt_lanes.py). If the toolchain's `rt ci` keeps each
-crate that passed beside the toolchain, one `rt ci` proves them on a copy, without the wrong bodies, which are the gate's: what it keeps is
-there for the next run, if this one is interrupted, and for the gate. With another toolchain they are proved where they stand, and what is
-kept stands in each crate's folder `out` (scripts/rt_libraries.py).
+Each crate is built by `rattle build`, as its help says, once those below it are, the longest chain first. What is proved stays in the
+crate's folder `out`, function by function, where `rt check` keeps the same: a run that was interrupted goes on where it was, and after an
+edit only what changed is proved. Standard error tells how far it is, on a terminal in one line that is written over. The first crate that
+isn't proved ends the run, with its errors and no others', and status 1.
 
-Standard error tells how far it is, on a terminal in one line that is written over. The first crate that isn't proved ends the run,
-with its errors and no others', and status 1.
+The gate takes nothing from here: `rt ci` proves every crate on its own.
 """
 from __future__ import annotations
 
+import fcntl
+import hashlib
 import os
 import re
 import shutil
@@ -19,82 +20,195 @@ import subprocess
 import sys
 import tempfile
 import time
-from collections.abc import Iterable
-from typing import Dict, List
-
-from rt_lanes import PARTS, keeps_nothing, weight
+from collections.abc import Iterator
 
 TOP = os.path.dirname(os.path.dirname(os.path.abspath(__file__)))
 APP = "rubis_app"
-
-# Crates, each with those that it stands on.
-Below = Dict[str, List[str]]
-
-
-def crates_below(app: str) -> Below:
-    """Returns the program's crates, each after those that it stands on, with the repository's crates that it lists."""
-    with open(f"{TOP}/crates.txt", encoding="utf-8") as lines:
-        listed = dict(line.split("#")[0].split(":", 1) for line in lines if re.match(r"\w", line))
-    found: Below = {}
-
-    def visit(name: str) -> None:
-        if name not in found:
-            ours = [it for it in listed[name].split() if it in listed]
-            for below in ours:
-                visit(below)
-            found[name] = ours
-
-    visit(app)
-    return found
-
-
-def copy_crates(crates: Iterable[str], to: str) -> None:
-    """Makes a repository of these crates alone, with what their proofs read."""
-    os.makedirs(f"{to}/.git")
-    shutil.copyfile(f"{TOP}/HANDLES", f"{to}/HANDLES")
-    with open(f"{TOP}/crates.txt", encoding="utf-8") as lines, open(f"{to}/crates.txt", "w", encoding="utf-8") as kept:
-        kept.writelines(line for line in lines if line.split(":")[0] in crates)
-    for name in crates:
-        os.makedirs(f"{to}/crates/{name}")
-        for part in sorted(os.listdir(f"{TOP}/crates/{name}")):
-            inside = f"crates/{name}/{part}"
-            if part in PARTS:
-                shutil.copytree(f"{TOP}/{inside}", f"{to}/{inside}")
-            elif name == APP and os.path.isfile(f"{TOP}/{inside}"):
-                shutil.copyfile(f"{TOP}/{inside}", f"{to}/{inside}")
+# The folders of a crate that its proof reads.
+PARTS = ("src", "specs", "proofs")
+# What a crate costs beside its functions, in functions: its libraries are loaded, and it is compiled. And how many lines of its specs and
+# proofs cost as much as a function.
+FIXED, OF_PROOFS = 8, 500
+# How many jobs a proof can use, and how many there are at once for each processor: a proof has steps that one job does.
+MOST, CROWDED = 4, 1.5
+# How many bytes a proof with one job was seen to take at most, and each job more; and how much of the free memory is used.
+OF_ONE, OF_MORE, USED = 3_000_000_000, 700_000_000, 0.85
+# How much a proof beside the longest chain gives way to it.
+BEHIND = 10
 
 
 class Unproved(Exception):
     """A crate that isn't proved, or a program that isn't built, and what the toolchain says of it."""
 
 
-class Call:
-    """The call that proves the crates, and its log."""
+class Kit:
+    """The toolchain, found by its command `rt`."""
 
-    def __init__(self, repository: str, command: List[str], log: str) -> None:
-        self.repository, self.log = repository, log
-        words = {name: value for name, value in os.environ.items() if name != "CI"}
-        with open(log, "wb") as out:
-            self.run = subprocess.Popen(
-                [sys.executable, *command], cwd=repository, env=words, stdin=subprocess.DEVNULL, stdout=out, stderr=out, start_new_session=True
-            )
+    def __init__(self) -> None:
+        page = subprocess.run(["rt", "doc"], stdout=subprocess.PIPE, text=True, check=True).stdout.strip()
+        self.folder = os.path.dirname(page)
+        self.version = subprocess.run(["rt", "version"], stdout=subprocess.PIPE, text=True, check=True).stdout
+
+    def build(self, crate: Crate, to: str, jobs: int) -> list[str]:
+        """Returns the command that proves a crate and builds it."""
+        at = self.folder
+        words = [f"{at}/bin/rattle", "build", "--crate-name", crate.name, crate.root]
+        for name in ("std", *crate.of_kit):
+            words += ["--extern", f"{name}={at}/rlibs/{name}.rlib"]
+        words += ["-L", f"dependency={at}/rlibs"]
+        for below in crate.uses:
+            words += ["--extern", f"{below.name}={below.library}"]
+        for below in crate.below():
+            words += ["-L", f"dependency={os.path.dirname(below.library)}"]
+        words += ["--antt-project", f"{at}/rattle/logic/antt-project.json", "--logic-built", f"{at}/logic_built"]
+        words += ["--incremental", "out/incremental", "--progress", "--jobs", str(jobs), "-o", to]
+        return words + (["--toolchain", f"{at}/toolchain", "--backend", "llvm"] if crate.is_program else [])
+
+    def link(self, program: str, to: str) -> list[str]:
+        """Returns the command that makes a program of what was built."""
+        words = [f"{self.folder}/bin/rattle-link", "--target", "x86_64-unknown-linux-gnu", "--toolchain", f"{self.folder}/toolchain"]
+        return [*words, "-o", to, program, f"{self.folder}/c/libos_c.a", f"{self.folder}/c/liblibc_c.a"]
+
+
+class Crate:
+    """A crate of crates.txt."""
+
+    def __init__(self, name: str, uses: list[Crate], of_kit: list[str]) -> None:
+        self.name, self.uses, self.of_kit = name, uses, of_kit
+        self.folder = f"{TOP}/crates/{name}"
+        self.is_program = os.path.isfile(f"{self.folder}/src/main.rt")
+        self.root = "src/main.rt" if self.is_program else "src/lib.rt"
+        self.library = f"{self.folder}/out/rlib/{name}.rlib"
+        self.program = f"{self.folder}/out/{name}"
+        # How many functions are proved, and how many there are: a guess until the proof has begun.
+        self.proved, self.functions = 0, self.count(r"^\s*(?:pub(?:\(\w+\))? )?(?:const )?fn ", "src")
+        self.weight = FIXED + self.functions + self.count(r"\n", "specs", "proofs") // OF_PROOFS
+
+    def below(self) -> list[Crate]:
+        """Returns the crates that it stands on, each after those that it stands on itself."""
+        found: dict[str, Crate] = {}
+        for it in self.uses:
+            found.update({below.name: below for below in [*it.below(), it]})
+        return [*found.values()]
+
+    def files(self, *parts: str) -> Iterator[str]:
+        for part in parts:
+            for at, folders, names in os.walk(f"{self.folder}/{part}"):
+                folders.sort()
+                yield from (f"{at}/{name}" for name in sorted(names))
+
+    def count(self, pattern: str, *parts: str) -> int:
+        found = 0
+        for file in self.files(*parts):
+            with open(file, encoding="utf-8") as text:
+                found += len(re.findall(pattern, text.read(), re.M))
+        return found
+
+    def sum(self, kit: Kit) -> str:
+        """Returns a sum of all that its proof reads."""
+        made = hashlib.sha256(kit.version.encode())
+        for crate in [*self.below(), self]:
+            made.update(f"{crate.name}: {' '.join([*crate.of_kit, *(it.name for it in crate.uses)])}\n".encode())
+            for file in crate.files(*PARTS):
+                with open(file, "rb") as text:
+                    made.update(f"{file[len(TOP) :]} {hashlib.sha256(text.read()).hexdigest()}\n".encode())
+        return made.hexdigest()
+
+    def mark(self, kit: Kit) -> tuple[str, str]:
+        """Returns the file that says of what its library or its program was built, and what it has to say."""
+        if not self.is_program:
+            return f"{os.path.dirname(self.library)}/sum", self.sum(kit)
+        with open(self.program, "rb") as made:
+            return f"{self.program}.sum", f"{self.sum(kit)} {hashlib.sha256(made.read()).hexdigest()}"
+
+    def is_built(self, kit: Kit) -> bool:
+        """Returns whether its library or its program is that of these sources."""
+        try:
+            file, says = self.mark(kit)
+            with open(file, encoding="ascii") as kept:
+                return kept.read() == says and (self.is_program or os.path.isdir(self.library))
+        except FileNotFoundError:
+            return False
+
+
+def program_crates() -> list[Crate]:
+    """Returns the crates of the program, each after those that it stands on."""
+    with open(f"{TOP}/crates.txt", encoding="utf-8") as lines:
+        listed = dict(line.split("#")[0].split(":", 1) for line in lines if re.match(r"\w", line))
+    found: dict[str, Crate] = {}
+
+    def crate(name: str) -> Crate:
+        if name not in found:
+            deps = listed[name].split()
+            uses = [crate(it) for it in deps if it in listed]
+            found[name] = Crate(name, uses, [it for it in deps if it not in listed])
+        return found[name]
+
+    crate(APP)
+    return [*found.values()]
+
+
+def free_memory() -> int:
+    """Returns how many bytes of memory are free."""
+    with open("/proc/meminfo", encoding="ascii") as lines:
+        found = re.search(r"^MemAvailable:\s+(\d+) kB", lines.read(), re.M)
+    return int(found[1]) * 1024 if found else OF_ONE
+
+
+class Proof:
+    """A crate's proof that is under way."""
+
+    def __init__(self, kit: Kit, crate: Crate, jobs: int, way: int, room: str) -> None:
+        self.kit, self.crate, self.jobs = kit, crate, jobs
+        self.sum, self.log = crate.sum(kit), f"{room}/{crate.name}.log"
+        self.made = f"{room}/{crate.name}.o" if crate.is_program else crate.library
+        os.makedirs(f"{crate.folder}/out", exist_ok=True)
+        if not crate.is_program:
+            shutil.rmtree(os.path.dirname(crate.library), ignore_errors=True)
+            os.makedirs(os.path.dirname(crate.library))
+        self.read = 0
+        self.run = self.start(kit.build(crate, self.made, jobs), way)
+
+    def start(self, words: list[str], way: int = 0) -> subprocess.Popen[bytes]:
+        with open(self.log, "ab") as out:
+            return subprocess.Popen(["nice", "-n", str(way), *words], cwd=self.crate.folder, stdin=subprocess.DEVNULL, stdout=out, stderr=out, start_new_session=True)
 
     def said(self) -> str:
         with open(self.log, encoding="utf-8", errors="replace") as text:
             return text.read()
 
-    def proved(self) -> list[str]:
-        return re.findall(r"^rt: (\w+) (?:proved|is kept)", self.said(), re.M)
+    def look(self) -> None:
+        """Looks how many functions are proved."""
+        with open(self.log, "rb") as text:
+            text.seek(self.read)
+            more = text.read()
+        self.read += more.rfind(b"\n") + 1
+        for done, all_of in re.findall(rb"^(?:checked .*, |so far: )(\d+) of (\d+)", more, re.M):
+            self.crate.proved, self.crate.functions = int(done), int(all_of)
 
-    def is_over(self) -> bool:
-        """Returns whether it ended well. Where it didn't, or a crate isn't proved, that is raised."""
-        ended, said = self.run.poll(), self.said()
-        failed = re.search(r"^rt: (\w+) NOT PROVED", said, re.M)
-        if failed:
-            raise Unproved(f"{said[max(said.rfind(f'== {failed[1]}'), 0) : failed.start()]}rubis: {failed[1]} isn't proved, so nothing is run\n")
-        if ended:
-            raise Unproved(f"{said[-4000:]}rubis: the program isn't built, so nothing is run\n")
-        return ended == 0
+    def end(self) -> None:
+        """Takes what was built, once the command has ended. A crate that isn't proved is raised."""
+        if self.run.returncode == -signal.SIGKILL and self.jobs > 1:
+            # It was killed, most likely for memory.
+            self.jobs = 1
+            self.run = self.start(self.kit.build(self.crate, self.made, 1))
+            self.run.wait()
+        if self.run.returncode:
+            raise Unproved(f"{self.said()[-20000:]}rubis: {self.crate.name} isn't proved, so nothing is run\n")
+        if self.crate.is_program:
+            self.link()
+        if self.sum == self.crate.sum(self.kit):
+            file, says = self.crate.mark(self.kit)
+            with open(file, "w", encoding="ascii") as kept:
+                kept.write(says)
+        self.crate.proved = self.crate.functions
+
+    def link(self) -> None:
+        """Makes the program of what was built."""
+        made = f"{self.crate.program}.new"
+        if self.start(self.kit.link(self.made, made)).wait():
+            raise Unproved(f"{self.said()[-4000:]}rubis: the program isn't built, so nothing is run\n")
+        os.replace(made, self.crate.program)
 
     def stop(self) -> None:
         if self.run.poll() is None:
@@ -103,86 +217,112 @@ class Call:
 
 
 class Progress:
-    """How far the proofs are."""
+    """How far the proofs are, by functions."""
 
-    def __init__(self, crates: Below) -> None:
-        self.crates, self.shown, self.began = crates, -1, time.monotonic()
-        self.proved: set[str] = set()
-        self.weights = {name: weight(f"{TOP}/crates/{name}") for name in crates}
-        self.whole = self.left()
-
-    def behind(self) -> dict[str, int]:
-        """Returns for each crate how much work the longest chain is that begins with it."""
-        behind: dict[str, int] = {}
-        for name in reversed([*self.crates]):
-            above = [it for it, below in self.crates.items() if name in below]
-            behind[name] = self.weights[name] + max((behind[it] for it in above), default=0)
-        return behind
-
-    def left(self) -> float:
-        """Returns the work that no number of processors makes shorter, or that of all processors, whichever is more."""
-        behind = self.behind()
-        still = [name for name in self.crates if name not in self.proved]
-        shared = sum(self.weights[name] for name in still) / len(os.sched_getaffinity(0))
-        return max([shared, *(behind[name] for name in still)])
+    def __init__(self, crates: list[Crate]) -> None:
+        self.crates, self.shown, self.began = crates, "", time.monotonic()
+        self.first = sum(crate.proved for crate in crates)
 
     def show(self) -> None:
         """Writes how far it is: over the last line on a terminal, and else where a crate more is proved."""
-        gone, done = time.monotonic() - self.began, self.whole - self.left()
-        left = f"about {gone * self.left() / done / 60 + 1:.0f} min left" if done and gone > 60 else "some 15 to 30 min in all on four processors"
-        text = f"rubis: {len(self.proved)} of {len(self.crates)} crates proved, {gone / 60:.0f} min gone, {left}"
+        gone = time.monotonic() - self.began
+        proved, all_of = (sum(count) for count in zip(*((it.proved, it.functions) for it in self.crates)))
+        crates = sum(crate.proved == crate.functions for crate in self.crates)
+        pace = (proved - self.first) / gone
+        left = f"about {(all_of - proved) / pace / 60 + 1:.0f} min left" if pace and gone > 60 else "some 15 to 30 min in all on four processors"
+        text = f"rubis: {proved} of {all_of} functions proved, {crates} of {len(self.crates)} crates, {gone / 60:.0f} min gone, {left}"
         if sys.stderr.isatty():
             sys.stderr.write(f"\r{text}\x1b[K")
-        elif self.shown != len(self.proved):
+        elif self.shown != str(crates):
             sys.stderr.write(f"{text}\n")
         sys.stderr.flush()
-        self.shown = len(self.proved)
+        self.shown = str(crates)
 
 
-def prove(room: str) -> None:
-    """Proves and builds the program, and leaves it where `./rubis` starts it. What is needed meanwhile is in that folder."""
-    crates = crates_below(APP)
-    if keeps_nothing(os.path.realpath(shutil.which("rt") or "rt")):
-        call = Call(TOP, [f"{TOP}/scripts/rt_libraries.py", APP], f"{room}/log")
-    else:
-        copy_crates(crates, f"{room}/rubis")
-        call = Call(f"{room}/rubis", [f"{TOP}/scripts/rt_lanes.py"], f"{room}/log")
-    wait_for(call, Progress(crates))
-    built, made = f"{call.repository}/crates/{APP}/out/{APP}", f"{TOP}/crates/{APP}/out"
-    if not os.path.isfile(built):
-        raise Unproved(f"{call.said()[-4000:]}rubis: the program isn't built, so nothing is run\n")
-    if call.repository == TOP:
-        # It is newer than its sources now, also if nothing in them had changed.
-        os.utime(built)
-        return
-    os.makedirs(made, exist_ok=True)
-    shutil.copy(built, f"{made}/{APP}.new")
-    os.replace(f"{made}/{APP}.new", f"{made}/{APP}")
+class Lanes:
+    """The proofs, as many side by side as there are processors and memory."""
+
+    def __init__(self, kit: Kit, crates: list[Crate], room: str) -> None:
+        self.kit, self.room, self.processors, self.memory = kit, room, len(os.sched_getaffinity(0)), int(USED * free_memory())
+        self.behind: dict[str, int] = {}
+        for it in reversed(crates):
+            self.behind[it.name] = it.weight + max((self.behind[above.name] for above in crates if it in above.uses), default=0)
+        self.left = [it for it in crates if not it.is_built(kit)]
+        for it in crates:
+            if it not in self.left:
+                it.proved = it.functions
+        self.running: list[Proof] = []
+
+    def longest(self) -> Crate:
+        """Returns the crate, of those that aren't proved, with which the longest chain begins."""
+        return max([*self.left, *(it.crate for it in self.running)], key=lambda it: self.behind[it.name])
+
+    def jobs_for(self, crate: Crate) -> int:
+        """Returns how many jobs its proof gets now, or none if it has to wait. The longest chain waits for nothing but memory."""
+        crowd = sum(it.jobs for it in self.running)
+        memory = self.memory - sum(OF_ONE + OF_MORE * (it.jobs - 1) for it in self.running)
+        if self.running and (crowd >= CROWDED * self.processors or memory < OF_ONE):
+            return 0
+        wanted = min(MOST, self.processors) if crate is self.longest() else max(1, self.processors // 2)
+        return max(1, min(wanted, 1 + max(memory - OF_ONE, 0) // OF_MORE))
+
+    def start(self) -> None:
+        """Starts what can run, the longest chain first."""
+        waited = {it.name for it in [*self.left, *(proof.crate for proof in self.running)]}
+        ready = [it for it in self.left if not waited.intersection(below.name for below in it.below())]
+        for crate in sorted(ready, key=lambda it: -self.behind[it.name]):
+            jobs = self.jobs_for(crate)
+            if jobs:
+                way = 0 if crate is self.longest() else BEHIND
+                self.running.append(Proof(self.kit, crate, jobs, way, self.room))
+                self.left.remove(crate)
+
+    def run(self, progress: Progress) -> None:
+        """Proves all crates, and says how far that is."""
+        try:
+            while self.left or self.running:
+                self.start()
+                for proof in [*self.running]:
+                    is_over = proof.run.poll() is not None
+                    proof.look()
+                    if is_over:
+                        proof.end()
+                        self.running.remove(proof)
+                progress.show()
+                time.sleep(0.2)
+        finally:
+            for proof in self.running:
+                proof.stop()
+            if sys.stderr.isatty():
+                sys.stderr.write("\n")
 
 
-def wait_for(call: Call, progress: Progress) -> None:
-    """Waits until all crates are proved, and says how far that is."""
-    try:
-        while not call.is_over():
-            progress.proved.update(it for it in call.proved() if it in progress.crates)
-            progress.show()
-            time.sleep(0.5)
-        progress.proved.update(progress.crates)
-        progress.show()
-    finally:
-        call.stop()
-        if sys.stderr.isatty():
-            sys.stderr.write("\n")
+def lock(crates: list[Crate]) -> list[int]:
+    """Waits until no `rt` works in these crates' folders, and keeps others out until the run ends."""
+    held = [os.open(folder, os.O_RDONLY) for folder in sorted(os.path.realpath(it.folder) for it in crates)]
+    for folder in held:
+        try:
+            fcntl.flock(folder, fcntl.LOCK_EX)
+        except OSError:
+            pass        # some file systems have no locks
+    return held
 
 
 def main() -> int:
     sys.stderr.write("rubis: proving the program, once: later runs start at once. For a look without proofs: ./rubis --try\n")
     signal.signal(signal.SIGTERM, lambda *_: sys.exit(1))
+    crates = program_crates()
     try:
+        kit, _held = Kit(), lock(crates)
         with tempfile.TemporaryDirectory(prefix="rubis-proving-") as room:
-            prove(room)
+            Lanes(kit, crates, room).run(Progress(crates))
+        # It is newer than its sources now, also if nothing in them had changed.
+        os.utime(crates[-1].program)
     except Unproved as fault:
-        sys.stderr.write(str(fault).replace(f"{room}/rubis", TOP))
+        sys.stderr.write(str(fault))
+        return 1
+    except (OSError, subprocess.SubprocessError) as fault:
+        sys.stderr.write(f"rubis: the toolchain can't be called: {fault}\n")
         return 1
     except KeyboardInterrupt:
         sys.stderr.write("\nrubis: interrupted: the next run goes on where this one was\n")
