@@ -18,8 +18,7 @@ use crate::counts::number_of;
 use crate::entries::LogEntry;
 use crate::groups::Group;
 use crate::listed_rows::ListedRow;
-use crate::message_parts::MessageParts;
-use crate::messages::fold_homes;
+use crate::messages::fold_parts;
 use crate::orders::{put_in_order, put_rows_in_order};
 use crate::part_homes::PartHomes;
 use crate::picks::with_room;
@@ -292,13 +291,8 @@ impl Tables {
         ensures log { OnOk result (TakesOn (core_of entry.now) entry.now.number self.old self.new) }
         ensures err { OnErr result (self.new ≡ self.old) }
     {
-        let message = MessageParts::new(entry, self.shards.len());
         let alloc = *self.shards.allocator();
-        let first = message.next_home(0);
-        if first == self.shards.len() {
-            return Ok(());
-        }
-        fold_homes(alloc, &mut self.shards, &message, first)
+        fold_parts(alloc, &mut self.shards, entry)
     }
 }
 
