@@ -13,7 +13,7 @@ use Rattle.rubis_model.proofs.Commute.{same_tables}
 use Rattle.rubis_model.proofs.Shares.{get-part_of}
 use Rattle.rubis_shard.specs.Holdings.{parts_at}
 
-home_of_one : (k : RowKey) → home 1 k ≡ 0
+pub home_of_one : (k : RowKey) → home 1 k ≡ 0
 unfolding home
 home_of_one (key.User i) = mod-one _
 home_of_one (key.Item i) = mod-one _

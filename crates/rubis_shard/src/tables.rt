@@ -72,6 +72,19 @@ fn is_set(shards: &[Shard]) -> bool
     !shards.is_empty()
 }
 
+// The home shard of a key, among `shards` shards. Where there is one, nothing of the key is looked at.
+#[inline(always)]
+fn home_of(key: &RowKey, shards: usize) -> usize
+    requires { 0 < shards }
+    ensures home { result ≡ home shards key.now }
+    ensures below { result < shards }
+{
+    if shards == 1 {
+        return 0;
+    }
+    shard_of(key, shards)
+}
+
 // Links the rows of each shard that came since the last call, in the map that has the table's.
 fn link_all(shards: &mut [Shard], table: IdTable) -> Result<(), AllocError>
     ensures { shards.new ≡ shards.old }
@@ -305,7 +318,7 @@ impl View for Tables {
         if self.shards.is_empty() {
             return None;
         }
-        let at = shard_of(key, self.shards.len());
+        let at = home_of(key, self.shards.len());
         self.shards[at].row(key)
     }
 }
