@@ -6,6 +6,7 @@ pub mod Logs
 pub mod Unions
 pub mod Parts
 pub mod Homes
+pub mod Single
 pub mod Listing
 pub mod Picked
 pub mod Counting

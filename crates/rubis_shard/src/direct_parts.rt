@@ -1,33 +1,17 @@
-//! The parts of bids and purchases, each folded as what it is.
+//! The parts of bids and purchases that are a shard's own, each folded as what it is.
 
-ghost use Rattle.std.specs.Prelude.{◌≡◌, ℕ, ◌+◌, ◌<◌};
+ghost use Rattle.std.specs.Prelude.{◌≡◌, ◌<◌};
 ghost use Rattle.rubis_shadow.specs.declared.shadows.Shadow.TheVariants as Shadow;
-ghost use Rattle.rubis_model.specs.Log.{fold_on, step};
+ghost use Rattle.rubis_model.specs.Log.{fold_on};
 ghost use Rattle.rubis_shard.specs.Entries.{numbered_of};
 ghost use Rattle.rubis_shard.specs.Holdings.{parts_at};
 ghost use Rattle.rubis_shard.specs.Stores.{held_by, HasRoom};
 
-use crate::entries::LogEntry;
+use crate::effects::{bought, sold};
 use crate::message_parts::MessageParts;
 use crate::shard_store::Store;
-use rubis_schema::{Best, BidRow, PackedBid, PurchaseRow, Row, RowKey};
-use rubis_shadow::{Change, Effect, NewBid, Numbered};
-
-// Folds part number `part` of an entry on, from 1, for which there is room.
-#[inline(always)]
-fn fold_part(store: &mut Store, entry: &LogEntry<'_>, part: u8, effect: Effect)
-    requires { HasRoom store.old 1 }
-    ensures folded { held_by store.new ≡ step (held_by store.old)
-        (record { entry = entry.now.number; part = part; id = entry.now.id; effect = effect }) }
-    ensures room { (n : ℕ) → HasRoom store.old (n + 1) → HasRoom store.new n }
-{
-    store.fold(Numbered {
-        entry: entry.number,
-        part,
-        id: entry.id,
-        effect,
-    });
-}
+use rubis_schema::PurchaseRow;
+use rubis_shadow::NewBid;
 
 impl<'a> MessageParts<'a> {
     /// Folds the parts of a bid on whose home is the shard.
@@ -40,28 +24,10 @@ impl<'a> MessageParts<'a> {
     {
         let entry = &self.entry;
         if self.first == at {
-            let row = Row::Bid(PackedBid::new(BidRow {
-                item: bid.item,
-                bidder: bid.bidder,
-                amount: bid.amount,
-                red: entry.red,
-            }));
-            let effect = Effect {
-                key: RowKey::Bid(entry.id),
-                change: Change::Insert(row),
-            };
-            fold_part(store, entry, 1, effect);
+            store.fold_part(entry, 1, entry.bid_row(bid));
         }
         if self.second == at {
-            let best = Best {
-                bid: entry.id,
-                amount: bid.amount,
-            };
-            let effect = Effect {
-                key: RowKey::Item(bid.item),
-                change: Change::BidTaken(best),
-            };
-            fold_part(store, entry, 2, effect);
+            store.fold_part(entry, 2, entry.bid_taken(bid));
         }
     }
 
@@ -75,25 +41,13 @@ impl<'a> MessageParts<'a> {
     {
         let entry = &self.entry;
         if self.first == at {
-            let effect = Effect {
-                key: RowKey::Purchase(entry.id),
-                change: Change::Insert(Row::Purchase(*purchase)),
-            };
-            fold_part(store, entry, 1, effect);
+            store.fold_part(entry, 1, entry.purchase_row(purchase));
         }
         if self.second == at {
-            let effect = Effect {
-                key: RowKey::Item(purchase.item),
-                change: Change::Sold(purchase.quantity),
-            };
-            fold_part(store, entry, 2, effect);
+            store.fold_part(entry, 2, sold(purchase));
         }
         if self.third == at {
-            let effect = Effect {
-                key: RowKey::User(purchase.buyer),
-                change: Change::Bought(purchase.quantity),
-            };
-            fold_part(store, entry, 3, effect);
+            store.fold_part(entry, 3, bought(purchase));
         }
     }
 }

@@ -4,6 +4,7 @@
 mod chains;
 mod counts;
 mod direct_parts;
+mod effects;
 mod entries;
 mod groups;
 mod laws;
@@ -25,6 +26,7 @@ mod shares;
 mod stores;
 mod table_rows;
 mod tables;
+mod whole;
 
 pub use entries::LogEntry;
 pub use groups::Group;

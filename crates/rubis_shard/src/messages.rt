@@ -15,7 +15,7 @@ use crate::part_homes::PartHomes;
 use crate::shard_store::Store;
 use crate::shards::Shard;
 use rubis_schema::{Row, shard_of};
-use rubis_shadow::{Numbered, Shadow};
+use rubis_shadow::Shadow;
 use std::alloc::{AllocError, Global};
 
 // The home of the entry's part at this place, or the number of shards where there is none.
@@ -137,12 +137,7 @@ impl<'a> MessageParts<'a> {
         let Some(effect) = entry.shadow.effect(entry.id, entry.red, place) else {
             return;
         };
-        store.fold(Numbered {
-            entry: entry.number,
-            part: place + 1,
-            id: entry.id,
-            effect: effect.own_with(row),
-        });
+        store.fold_part(entry, place + 1, effect.own_with(row));
     }
 
     // Folds the parts on whose home is the shard, whatever the shadow is, with that row for the first. It is long, and one copy
@@ -176,8 +171,8 @@ impl<'a> MessageParts<'a> {
     }
 }
 
-/// Folds the parts whose home is the shard `at` or one after it. No shard changes before each has room.
-pub fn fold_homes(
+// Folds the parts whose home is the shard `at` or one after it. No shard changes before each has room.
+fn fold_homes(
     alloc: Global,
     list: &mut [Shard],
     message: &MessageParts<'_>,
@@ -202,4 +197,23 @@ pub fn fold_homes(
     message.fold_at(store.get_mut(), at, row);
     list[at].put_store(store);
     Ok(())
+}
+
+/// Folds all parts of a message, each on its home shard, or none of them when out of memory.
+#[inline(always)]
+pub fn fold_parts(alloc: Global, list: &mut [Shard], entry: &LogEntry<'_>) -> Result<(), AllocError>
+    requires order { AreInOrder list.old }
+    requires some { 0 < length list.old }
+    ensures ok { OnOk result (FoldsFrom 0 list.old (numbered_of entry.now) list.new) }
+    ensures err { OnErr result (list.new ≡ list.old) }
+{
+    if list.len() == 1 {
+        return list[0].fold_whole(entry);
+    }
+    let message = MessageParts::new(entry, list.len());
+    let first = message.next_home(0);
+    if first == list.len() {
+        return Ok(());
+    }
+    fold_homes(alloc, list, &message, first)
 }

@@ -323,6 +323,20 @@ impl Shard {
         Ok(())
     }
 
+    // Folds all parts of an entry of the log, as the only shard. Without memory nothing changes.
+    #[inline(always)]
+    pub(crate) fn fold_whole(&mut self, entry: &LogEntry<'_>) -> Result<(), AllocError>
+        requires number { self.old.number ≡ 0 }
+        requires shards { self.old.shards ≡ 1 }
+        ensures ok { OnOk result (self.new ≡ with_parts self.old (numbered_of entry.now)) }
+        ensures err { OnErr result (self.new ≡ self.old) }
+    {
+        let mut store = self.take_store(3)?;
+        let folded = store.get_mut().fold_whole(self.alloc, entry);
+        self.put_store(store);
+        folded
+    }
+
     /// Folds those parts of an entry of the log whose home is this shard; `homes` are the homes of all its parts. Without memory
     /// nothing changes.
     #[inline(always)]

@@ -6,10 +6,11 @@ ghost use Rattle.rubis_shard.specs.Rows.{tables_in};
 ghost use Rattle.rubis_shard.specs.Stores.{held_by, HasRoom};
 ghost use Rattle.std.specs.FinMap as map;
 
+use crate::entries::LogEntry;
 use crate::row_map::Rows;
 use crate::shard_store::Store;
 use rubis_schema::{Hashes, IdTable};
-use rubis_shadow::{Misfit, Numbered};
+use rubis_shadow::{Effect, Misfit, Numbered};
 use std::alloc::{AllocError, Global};
 
 // For how many parts a store makes room at a time, so that it seldom has to.
@@ -75,6 +76,22 @@ impl Store {
         ensures { held_by self.new ≡ held_by self.old }
     {
         self.rows.link(table)
+    }
+
+    /// Folds part number `part` of an entry on, from 1, for which there is room.
+    #[inline(always)]
+    pub fn fold_part(&mut self, entry: &LogEntry<'_>, part: u8, effect: Effect)
+        requires { HasRoom self.old 1 }
+        ensures folded { held_by self.new ≡ step (held_by self.old)
+            (record { entry = entry.now.number; part = part; id = entry.now.id; effect = effect }) }
+        ensures room { (n : ℕ) → HasRoom self.old (n + 1) → HasRoom self.new n }
+    {
+        self.fold(Numbered {
+            entry: entry.number,
+            part,
+            id: entry.id,
+            effect,
+        });
     }
 
     /// Folds a part on, for which there is room.

@@ -18,8 +18,7 @@ use crate::counts::number_of;
 use crate::entries::LogEntry;
 use crate::groups::Group;
 use crate::listed_rows::ListedRow;
-use crate::message_parts::MessageParts;
-use crate::messages::fold_homes;
+use crate::messages::fold_parts;
 use crate::orders::{put_in_order, put_rows_in_order};
 use crate::part_homes::PartHomes;
 use crate::picks::with_room;
@@ -71,6 +70,19 @@ fn is_set(shards: &[Shard]) -> bool
         }
     }
     !shards.is_empty()
+}
+
+// The home shard of a key, among `shards` shards. Where there is one, nothing of the key is looked at.
+#[inline(always)]
+fn home_of(key: &RowKey, shards: usize) -> usize
+    requires { 0 < shards }
+    ensures home { result ≡ home shards key.now }
+    ensures below { result < shards }
+{
+    if shards == 1 {
+        return 0;
+    }
+    shard_of(key, shards)
 }
 
 // Links the rows of each shard that came since the last call, in the map that has the table's.
@@ -292,13 +304,8 @@ impl Tables {
         ensures log { OnOk result (TakesOn (core_of entry.now) entry.now.number self.old self.new) }
         ensures err { OnErr result (self.new ≡ self.old) }
     {
-        let message = MessageParts::new(entry, self.shards.len());
         let alloc = *self.shards.allocator();
-        let first = message.next_home(0);
-        if first == self.shards.len() {
-            return Ok(());
-        }
-        fold_homes(alloc, &mut self.shards, &message, first)
+        fold_parts(alloc, &mut self.shards, entry)
     }
 }
 
@@ -311,7 +318,7 @@ impl View for Tables {
         if self.shards.is_empty() {
             return None;
         }
-        let at = shard_of(key, self.shards.len());
+        let at = home_of(key, self.shards.len());
         self.shards[at].row(key)
     }
 }

@@ -19,9 +19,9 @@ pub returns : goal.returns
 returns c =
     let ts : List ShardState = c.self.inside.shards.items in
     let q = c.args.key.now in
-    let at : slice_get ts c.shard_of-at.result ≡ Some c.index.result.now =
-    slice_get_read ts c.len.result c.shard_of-at.result c.index.result.now (search rules) c.shard_of-at.ensures.below (search
+    let at : slice_get ts c.home_of-at.result ≡ Some c.index.result.now =
+    slice_get_read ts c.len.result c.home_of-at.result c.index.result.now (search rules) c.home_of-at.ensures.below (search
     rules) in
-    let place : home (length ts) q ≡ c.shard_of-at.result = search rules in
+    let place : home (length ts) q ≡ c.home_of-at.result = search rules in
     c.row.ensures.row ∙ sym (get-union ts q c.index.result.now c.self.invariant (ap (slice_get ts) place ∙ at))
     ∙ ap (λ (us : List ShardState). map.get (union us) q) c.self.view_is
