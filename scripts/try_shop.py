@@ -485,6 +485,58 @@ def test_others_append(at: Folder) -> None:
     at.shop("audit", folder="b")
 
 
+def begin_again(server: Server, site: int, count: int) -> None:
+    """The server loses all of a site's stream but its first entries."""
+    entries = server.say(f"xrange auction:{site} - +").split("\n")
+    server.say(f"del auction:{site}")
+    for name, packet in list(zip(entries[0::3], entries[2::3]))[:count]:
+        server.say(f"xadd auction:{site} {name} p '{packet}'")
+
+
+def token_comes_back(at: Folder, left: int, loses_again: bool = False) -> None:
+    """The token was passed to a stopped site, and a message followed. The server has lost all but the first entries of the sender's
+    stream, and a third site has put the messages back; the recipient has read them before the sender comes back, with its pass."""
+    server = Server(at)
+    for site, folder in enumerate("abc"):
+        at.run(f"./shop start {folder} --sites 3 --here {site} --over {server.over}")
+    at.shop(f"ask 0 {SALE}", folder="a")
+    for folder, site in (("b", 1), ("c", 2)):
+        at.shop(f"wait {site}", folder=folder)
+    at.run("./shop stop c")
+    at.shop("pass 0 2", folder="a")
+    at.shop("ask 0 restock,0.3,0.1,2", folder="a")
+    at.shop("wait 1", folder="b")
+    at.run("./shop stop a")
+    expect(server.say("xlen auction:0") == "5\n", "four messages, and the token between the last two")
+    begin_again(server, 0, left)
+    at.wait("the messages again", lambda: server.say("xlen auction:0") == "4\n")
+    at.run(f"./shop start c --sites 3 --here 2 --over {server.over}")
+    at.shop("wait 2", folder="c")
+    if loses_again:
+        at.run("./shop stop b")
+        server.say("flushall")
+    at.run("./shop start a")
+    expect(at.shop("ask 2 bid,0.3,0.2,500", folder="c") == "ok,2.1\n", "the token is where it was passed to")
+    at.run("./shop start b")
+    expect(at.shop("ask 0 user,eve", folder="b").startswith("ok,0."), "it goes on from there")
+    at.shop("audit", folder="b")
+
+
+def test_token_to_a_stopped_site(at: Folder) -> None:
+    """A token that was passed to a stopped site comes there, though the server lost all, and others put back what they had."""
+    token_comes_back(at, 0)
+
+
+def test_token_behind_a_lost_end(at: Folder) -> None:
+    """The same where the server lost the end of the stream."""
+    token_comes_back(at, 2)
+
+
+def test_token_behind_a_reader(at: Folder) -> None:
+    """The same where the server then loses all once more, and the sender begins its stream behind the recipient's place."""
+    token_comes_back(at, 0, True)
+
+
 def test_deleted(at: Folder) -> None:
     """Entries that were deleted by hand are published again, at the end of a stream and within it."""
     server = Server(at).start_shop()

@@ -3,6 +3,7 @@
 | key | what it has |
 |---|---|
 | NAME:SITE | a stream: the site's packets in the order in which it sent them; message n is n-0, and the t-th token after it n-t |
+| NAME:mark:SITE | a random number that is drawn whenever the site's stream is begun or written anew |
 | NAME:owner:SITE | which folder on which machine runs the site |
 | NAME:status:SITE | how the site is; it expires when its supervisor has gone |
 | NAME:wants | a stream: wants of the token, and requests to other supervisors |
@@ -28,13 +29,24 @@ ANSWER_SECONDS = 60
 WANTS = 1000                # how many entries the stream of wants keeps, about
 PAGE = 5000
 
-# Appends packets, if the last entry is the one that the caller knows; else returns the last id.
+# Appends packets, if the last entry is the one that the caller knows; else returns the last id. A stream that it begins gets a mark.
 APPEND = b"""
 local last = redis.call('XREVRANGE', KEYS[1], '+', '-', 'COUNT', 1)
 local id = last[1] and last[1][1] or '0-0'
 if id ~= ARGV[1] then return id end
-for at = 2, #ARGV, 2 do redis.call('XADD', KEYS[1], ARGV[at], 'p', ARGV[at + 1]) end
+if id == '0-0' then redis.call('SET', KEYS[2], ARGV[2]) end
+for at = 3, #ARGV, 2 do redis.call('XADD', KEYS[1], ARGV[at], 'p', ARGV[at + 1]) end
 return 'ok'
+"""
+
+# A page of a stream: how many entries, the last id, the hash of ids and packets, and the tokens among them.
+PAGE_OF = b"""
+local found, text, tokens = redis.call('XRANGE', KEYS[1], ARGV[1], ARGV[2], 'COUNT', ARGV[3]), {}, {}
+for at, entry in ipairs(found) do
+  text[at] = entry[1] .. ' ' .. entry[2][2] .. '\\n'
+  if string.sub(entry[2][2], 1, 6) == 'token,' then tokens[#tokens + 1] = entry[2][2] end
+end
+return {#found, #found > 0 and found[#found][1] or '0-0', redis.sha1hex(table.concat(text)), tokens}
 """
 
 # How many entries a stream has, its last one, and the greatest id that it ever had.
@@ -54,6 +66,15 @@ class StreamState(NamedTuple):
     last: Place
     packet: bytes
     greatest: Place
+
+
+class Page(NamedTuple):
+    """Some entries of a stream, one behind the other."""
+
+    entries: int
+    last: Place
+    hash: bytes
+    tokens: list[bytes]
 
 
 def id_of(place: Place) -> bytes:
@@ -86,8 +107,10 @@ class Streams:
         url, self.name = settings.server
         self.sites = settings.sites
         self.redis: Any = redis.asyncio.Redis.from_url(url, socket_timeout=10, socket_connect_timeout=3, socket_keepalive=True)
+        self._mark_keys = [self.key(f"mark:{site}") for site in range(self.sites)]
         self._append = self.redis.register_script(APPEND)
         self._state = self.redis.register_script(STATE)
+        self._page = self.redis.register_script(PAGE_OF)
 
     async def __aenter__(self) -> "Streams":
         return self
@@ -107,8 +130,8 @@ class Streams:
 
     async def append(self, site: int, last: Place, packets: list[tuple[Place, bytes]]) -> bool:
         """Appends packets behind the entry `last`; False if that isn't the last one."""
-        words = [id_of(last)] + [word for place, text in packets for word in (id_of(place), text)]
-        return bool(await self._append(keys=[self.key(site)], args=words) == b"ok")
+        words = [id_of(last), new_mark()] + [word for place, text in packets for word in (id_of(place), text)]
+        return bool(await self._append(keys=[self.key(site), self.key(f"mark:{site}")], args=words) == b"ok")
 
     async def rewrite(self, site: int, packets: Iterable[tuple[Place, bytes]]) -> None:
         """Puts a stream with these packets in place of the site's stream, at once."""
@@ -122,7 +145,30 @@ class Streams:
                 await pipe.execute()
         await pipe.execute()
         if count:
-            await self.redis.rename(new, self.key(site))
+            step = self.redis.pipeline()
+            step.rename(new, self.key(site))
+            step.set(self.key(f"mark:{site}"), new_mark())
+            await step.execute()
+
+    async def marks(self) -> list[bytes | None]:
+        """The mark of each stream: while it is the same, entries came in at the end only."""
+        found: list[bytes | None] = await self.redis.mget(self._mark_keys)
+        return found
+
+    async def page(self, site: int, after: Place, upto: Place | None = None) -> Page:
+        """The next entries after a place, up to another one or the end."""
+        last = id_of(upto) if upto else b"+"
+        entries, name, digest, tokens = await self._page(keys=[self.key(site)], args=[b"(" + id_of(after), last, PAGE])
+        return Page(entries, place_of(name), digest, tokens)
+
+    async def tokens(self, site: int, upto: Place) -> list[bytes]:
+        """The tokens that stand in a stream up to a place."""
+        tokens: list[bytes] = []
+        after = NOWHERE
+        while after < upto and (page := await self.page(site, after, upto)).entries:
+            tokens += page.tokens
+            after = page.last
+        return tokens
 
     async def read(self, after: dict[int, Place], count: int, block: int) -> dict[int, list[tuple[Place, bytes]]]:
         """What sites sent after these places; waits up to that many milliseconds if there is nothing."""
@@ -157,15 +203,16 @@ class Streams:
     async def adopt(self, site: int, folder: str) -> None:
         await self.redis.set(self.key(f"owner:{site}"), owner_text(folder))
 
-    async def tell(self, statuses: dict[int, dict[str, Any]]) -> list[int]:
-        """Writes statuses of sites; how many messages each stream has."""
+    async def tell(self, statuses: dict[int, dict[str, Any]]) -> tuple[list[int], list[bytes | None]]:
+        """Writes statuses of sites; how many messages each stream has, and its mark."""
         pipe = self.redis.pipeline(transaction=False)
         for site in range(self.sites):
             pipe.xrevrange(self.key(site), count=1)
+        pipe.mget(self._mark_keys)
         for site, status in statuses.items():
             pipe.set(self.key(f"status:{site}"), json.dumps(status), px=int(1000 * STATUS_SECONDS))
         found = await pipe.execute()
-        return [place_of(last[0][0])[0] if last else 0 for last in found[:self.sites]]
+        return [place_of(last[0][0])[0] if last else 0 for last in found[:self.sites]], found[self.sites]
 
     async def forget(self, sites: Iterable[int]) -> None:
         """Takes back the statuses of sites that are stopped."""
@@ -204,6 +251,10 @@ class Streams:
         pipe.rpush(self.key(f"answer:{name}"), zlib.compress(json.dumps(answers).encode(), 1))
         pipe.expire(self.key(f"answer:{name}"), ANSWER_SECONDS)
         await pipe.execute()
+
+
+def new_mark() -> bytes:
+    return os.urandom(8).hex().encode()
 
 
 def owner_text(folder: str) -> str:
