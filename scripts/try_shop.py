@@ -598,15 +598,21 @@ def test_access(at: Folder) -> None:
     expect("other" not in at.text("a/events"), "what is written down")
 
 
-def test_tls(at: Folder) -> None:
-    """Over TLS: a certificate that the machine, or SSL_CERT_FILE, doesn't vouch for is refused, and another is taken."""
+def tls_server(at: Folder, host: str) -> tuple[Server, str]:
+    """A server with a certificate of some host, and the URL of a shop over it at this one."""
     if not shutil.which("openssl"):
         raise Skipped("no openssl on this machine")
-    at.run("openssl req -x509 -newkey rsa:2048 -nodes -keyout key -out certificate -days 2 -subj /CN=localhost "
-           "-addext subjectAltName=DNS:localhost 2> told")
+    at.run(f"openssl req -x509 -newkey rsa:2048 -nodes -keyout key -out certificate -days 2 -subj /CN={host} "
+           f"-addext subjectAltName=DNS:{host} 2> told")
     port = free_port()
-    Server(at, f"--tls-port {port} --tls-cert-file certificate --tls-key-file key --tls-ca-cert-file certificate --tls-auth-clients no")
-    over = f"rediss://localhost:{port}/auction"
+    server = Server(at, f"--tls-port {port} --tls-cert-file certificate --tls-key-file key --tls-ca-cert-file certificate "
+                    "--tls-auth-clients no")
+    return server, f"rediss://localhost:{port}/auction"
+
+
+def test_tls(at: Folder) -> None:
+    """Over TLS: a certificate that the machine, or SSL_CERT_FILE, doesn't vouch for is refused, and another is taken."""
+    _, over = tls_server(at, "localhost")
     at.run(f"./shop start a --sites 2 --here 0 --over {over}", 3, "certificate verify failed")
     at.run("./shop stop a")
     at.run(f"SSL_CERT_FILE=certificate ./shop start a --sites 2 --here 0 --over {over}")
@@ -614,6 +620,67 @@ def test_tls(at: Folder) -> None:
     at.shop(f"ask 0 {SALE}", folder="a")
     expect(at.shop("ask 1 bid,0.3,0.2,500", folder="b") == "ok,1.1\n", "a bid at the other site")
     at.shop("audit", folder="a")
+
+
+SWALLOWS = """
+import asyncio, redis.asyncio.connection as connection, redis.exceptions
+read = connection.Connection.read_response
+
+async def read_response(*words, **named):
+    try:
+        return await read(*words, **named)
+    except asyncio.CancelledError:
+        for _ in range(10):
+            try:
+                await asyncio.sleep(0.02)
+            except asyncio.CancelledError:
+                pass
+        raise redis.exceptions.TimeoutError("a time-out that swallowed a cancel") from None
+connection.Connection.read_response = read_response
+"""
+
+
+def test_stop_without_its_server(at: Folder) -> None:
+    """A stop ends though the server hangs, and though its client swallows cancels, as redis-py 4.3.4 does where one meets a time-out."""
+    server = Server(at)
+    (at.path / "sitecustomize.py").write_text(SWALLOWS)
+    at.run(f"PYTHONPATH={at.path} ./shop start a --sites 2 --here 0 --over {server.over}")
+    at.shop("ask 0 user,ann", folder="a")
+    process = at.status("a")["pid"]
+    server.process.send_signal(signal.SIGSTOP)
+    at.run("./shop stop a")
+    at.wait("the end of the supervisor", lambda: not os.path.exists(f"/proc/{process}"))
+    at.run("./shop stop a", 0, "a is not running")
+    server.process.send_signal(signal.SIGCONT)
+    at.run("./shop start a")
+    expect(at.shop("ask 0 user,bob", folder="a") == "ok,0.2\n", "it goes on")
+
+
+def test_held(at: Folder) -> None:
+    """Where a process holds the folder and takes no requests, commands say so, and don't say that it isn't running."""
+    at.run("./shop start auction; ./shop stop auction")
+    held = at.start("flock auction/lock sleep 100")
+    at.wait("the lock", lambda: subprocess.run(["flock", "-n", at.path / "auction/lock", "true"]).returncode)
+    for command in ("./shop stop auction", "./shop start auction", "./shop -C auction status"):
+        at.run(command, 3, "takes no requests")
+    os.killpg(held.pid, signal.SIGKILL)
+    at.run("./shop stop auction", 0, "auction is not running")
+
+
+def test_stop_by_signals(at: Folder) -> None:
+    """A second signal ends a supervisor that waits for a site that hangs."""
+    run = at.start("./shop run auction")
+    at.wait("the shop", lambda: (at.path / "auction/sock").exists())
+    at.shop("ask 0 user,ann")
+    os.kill(at.site(0)["pid"], signal.SIGSTOP)
+    at.shop("ask 0 user,bob --timeout 1", 3, "it may still be accepted")
+    run.terminate()
+    at.wait("the stop", lambda: "supervisor: SIGTERM" in at.text("auction/events"))
+    expect(run.poll() is None, "it waits for the site")
+    run.terminate()
+    expect(run.wait(SECONDS) == 1, "its status")
+    at.run("./shop start auction")
+    expect(at.shop("ask 0 user,cat").startswith("ok,0."), "it goes on")
 
 
 def test_limits(at: Folder) -> None:

@@ -47,7 +47,7 @@ class Link(abc.ABC):
         """How many messages of a site are where the others find them."""
 
     async def finish(self) -> None:
-        """What is to be done when the sites here have stopped."""
+        """What is to be done when the sites here have stopped. Nothing is carried after that."""
 
     async def look(self) -> None:
         """Brings `sent` up to date."""

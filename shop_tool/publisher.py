@@ -28,7 +28,7 @@ class Publisher:
     async def run(self, server: Streams) -> None:
         await self.site.known.wait()
         try:
-            while not self.site.fenced_by:
+            while not self.site.fenced_by and not self.link.is_over:
                 await self._append_until(server, await self._compare(server), time.monotonic() + COMPARE_SECONDS)
         except Fenced as why:
             self.site.fence(str(why))

@@ -50,7 +50,7 @@ class Reader:
         await site.opened.wait()
         await site.up.wait()
         at, self.marks = self.start(), None
-        while at and not site.fenced_by:
+        while at and not site.fenced_by and not self.link.is_over:
             await site.up.wait()
             try:
                 if self.marks != self.link.marks:

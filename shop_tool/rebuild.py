@@ -22,10 +22,10 @@ from . import program, settings
 from .answers import AnswerReader
 from .ends import Fault, Status
 from .ledger import Place, packets_of, sends_of, tokens_of
+from .lock import stopped_shop
 from .records import Message, Token, ask_of, bytes_of, packet_of
 from .site import keep_command
 from .streams import STATUS_SECONDS, Streams, faults, reason_of
-from .supervisor import stopped_shop
 
 CALL_SECONDS = 30.0
 UNCHANGED = "nothing was changed"

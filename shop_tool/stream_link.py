@@ -25,6 +25,7 @@ class StreamLink(Link):
     def __init__(self, shop: Supervisor) -> None:
         self.shop, self.settings = shop, shop.settings
         self.is_reached = False                     # the server has answered once
+        self.is_over = False                        # nothing is carried any more; a cancel alone may be swallowed by a connection
         self.down: dict[str, str] = {}              # what of the link doesn't work, since when and why
         self.tops = [0] * self.settings.sites       # how many messages the stream of each site has
         self.marks: list[bytes | None] = []         # of the streams, as they were seen last
@@ -46,9 +47,9 @@ class StreamLink(Link):
         await asyncio.gather(*works)
 
     async def _forever(self, name: str, work: Callable[[Streams], Awaitable[None]]) -> None:
-        """Works over a connection of its own, which is made again whenever it fails. Returns when the work is over."""
+        """Works over a connection of its own, which is made again whenever it fails. Returns when the work is over, or the link is."""
         wait = FIRST_WAIT
-        while True:
+        while not self.is_over:
             began = time.monotonic()
             try:
                 async with Streams(self.settings) as server:
@@ -74,7 +75,7 @@ class StreamLink(Link):
     # Statuses.
 
     async def _tell(self, server: Streams) -> None:
-        while True:
+        while not self.is_over:
             await self._look(server)
             self.works("tell")
             for origin in range(self.settings.sites):
@@ -92,6 +93,7 @@ class StreamLink(Link):
             if all(site.fenced_by or self.published(site) >= len(site.ledger.sends) for site in self.shop.sites.values()):
                 break
             await asyncio.sleep(0.02)
+        self.is_over = True
         try:
             await self.main.forget([number for number, site in self.shop.sites.items() if not site.fenced_by])
         except faults():
@@ -128,7 +130,7 @@ class StreamLink(Link):
 
     async def _hear(self, server: Streams) -> None:
         after = b"$"
-        while True:
+        while not self.is_over:
             for after, fields in await server.hear(after):
                 try:
                     self._heard(fields)

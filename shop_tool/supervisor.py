@@ -1,8 +1,6 @@
 """The supervisor of a shop: runs the sites of one folder, has their packets carried, and hands the token on. One thread, by asyncio."""
 
-import argparse
 import asyncio
-import fcntl
 import os
 import signal
 import socket
@@ -10,13 +8,14 @@ import time
 from collections.abc import Coroutine
 from typing import TYPE_CHECKING, Any
 
-from .ends import Fault, Status
+from .ends import Status
 from .folders import ran_since_boot
 from .grid import waits_of
 from .ledger import Prefix
 from .records import RECORDS_OF_A_RUN, Message, Token, packet_of, text_of
-from .settings import FILES, Settings, existing
-from .signals import Signal
+from .lock import take_lock
+from .settings import FILES, Settings
+from .signals import Signal, is_over_within
 from .site import Site, State
 from .times import changed, stamp
 from .turns import SAY_AGAIN, Wants
@@ -26,11 +25,11 @@ if TYPE_CHECKING:
 
 EVENTS_BYTES = 16 << 20     # a start puts the events aside when there are more
 FOLLOWED_LINES = 10_000     # how many lines a follower may be behind before it is cut off
-LOCK_SECONDS = 5.0
 LOOK_SECONDS = 1.0          # how often it looks whether its folder is still there
 COMPARE_SECONDS = 10.0      # how long a start waits until its sites are compared with their streams
 SHOWN_WAITS = 20            # how many messages that wait a status names
 STOP_SECONDS = 30.0         # how long a stop waits for what sites were given to be answered
+END_SECONDS = 3.0           # how long it then waits for each of: sites that are killed, the link, the clients, its tasks
 
 
 class Follower:
@@ -256,10 +255,19 @@ class Supervisor:
             for site in self.sites.values():
                 site.stop()
 
+    def _signalled(self, name: str) -> None:
+        """A signal stops the shop; a further one ends this process at once, whatever it waits for."""
+        if not self.stopping.is_set():
+            return self.stop(name)
+        self.event(f"supervisor: {name} again, ended at once")
+        for site in self.sites.values():
+            site.kill()
+        os._exit(Status.REFUSED)
+
     async def run(self) -> None:
         loop = asyncio.get_running_loop()
         for number in (signal.SIGTERM, signal.SIGINT):
-            loop.add_signal_handler(number, self.stop, signal.Signals(number).name)
+            loop.add_signal_handler(number, self._signalled, signal.Signals(number).name)
         here = ", ".join(map(str, self.sites))
         self.event(f"supervisor: started, process {os.getpid()}, sites {here} of {self.settings.sites} over {self.settings.shown_over}")
         await self.server.listen()
@@ -272,11 +280,12 @@ class Supervisor:
         await asyncio.wait(sites, timeout=STOP_SECONDS)
         for site in self.sites.values():
             site.kill()         # what it was given and hasn't answered is answered after the next start
-        await asyncio.gather(*sites, return_exceptions=True)
-        await self.link.finish()
-        await self.server.close()
+        await asyncio.wait(sites, timeout=END_SECONDS)
+        await is_over_within(END_SECONDS, self.link.finish())
+        await is_over_within(END_SECONDS, self.server.close())
         for task in others:
             task.cancel()
+        await asyncio.wait(others, timeout=END_SECONDS)
         self.event("supervisor: ended")
 
     async def _compared(self) -> None:
@@ -331,29 +340,6 @@ class Supervisor:
                 return
 
 
-def take_lock(folder: str, advice: str = "it may be about to end") -> int:
-    """Holds the shop's folder for this process. The supervisor before may be about to end, so it is given some seconds."""
-    lock = os.open(f"{folder}/lock", os.O_WRONLY | os.O_CREAT, 0o600)
-    until = time.monotonic() + LOCK_SECONDS
-    while True:
-        try:
-            fcntl.flock(lock, fcntl.LOCK_EX | fcntl.LOCK_NB)
-            return lock
-        except OSError:
-            if time.monotonic() > until:
-                raise Fault(Status.REFUSED, f"{folder} is running; {advice}") from None
-            time.sleep(0.05)
-
-
-def stopped_shop(args: argparse.Namespace) -> Settings:
-    """The settings of a shop that isn't running, nor is started before this process ends, for a command about one of its sites."""
-    now = existing(args.folder)
-    if args.site not in now.here:
-        raise Fault(Status.MISUSE, f"site {args.site} isn't one of {args.folder}: it has --here {','.join(map(str, now.here))}")
-    take_lock(args.folder, "stop it first")
-    return now
-
-
 def run(folder: str, settings: Settings, program: str) -> None:
     """Runs the shop until it is stopped."""
     os.umask(0o077)
@@ -361,4 +347,5 @@ def run(folder: str, settings: Settings, program: str) -> None:
 
     async def main() -> None:
         await Supervisor(folder, settings, program).run()
+        os._exit(Status.WELL)       # what a broken connection holds up doesn't hold up the end; all records are in files
     asyncio.run(main())
