@@ -622,6 +622,15 @@ def test_tls(at: Folder) -> None:
     at.shop("audit", folder="a")
 
 
+def test_tls_of_another_host(at: Folder) -> None:
+    """A certificate that the machine vouches for, and that is another host's, is refused, and the refusal says so."""
+    _, over = tls_server(at, "elsewhere.example")
+    start = f"SSL_CERT_FILE=certificate ./shop start a --sites 2 --here 0 --over {over}"
+    at.run(start, 3, "certificate verify failed: Hostname mismatch, certificate is not valid for 'localhost'")
+    at.run("./shop stop a")
+    at.run(start.replace("localhost:", "localhost?ssl_check_hostname=no:"), 2, "--over is files or redis://HOST:PORT/NAME")
+
+
 SWALLOWS = """
 import asyncio, redis.asyncio.connection as connection, redis.exceptions
 read = connection.Connection.read_response

@@ -96,7 +96,14 @@ def reason_of(fault: BaseException) -> str:
     """What went wrong; over TLS with the reason, which the library leaves out."""
     cause = fault.__cause__ or fault.__context__
     why = str(fault) or type(fault).__name__
+    if isinstance(cause, ssl.SSLCertVerificationError):
+        return f"certificate verify failed: {cause.verify_message}"
     return f"{why} {cause}" if isinstance(cause, ssl.SSLError) else why
+
+
+def tls_options(url: str) -> dict[str, Any]:
+    """Over TLS: the server has a certificate that the machine vouches for, and it is one of the host in the URL."""
+    return {"ssl_cert_reqs": "required", "ssl_check_hostname": True} if url.startswith("rediss:") else {}
 
 
 class Streams:
@@ -106,7 +113,8 @@ class Streams:
         import redis.asyncio        # type: ignore[import]
         url, self.name = settings.server
         self.sites = settings.sites
-        self.redis: Any = redis.asyncio.Redis.from_url(url, socket_timeout=10, socket_connect_timeout=3, socket_keepalive=True)
+        self.redis: Any = redis.asyncio.Redis.from_url(
+            url, socket_timeout=10, socket_connect_timeout=3, socket_keepalive=True, **tls_options(url))
         self._mark_keys = [self.key(f"mark:{site}") for site in range(self.sites)]
         self._append = self.redis.register_script(APPEND)
         self._state = self.redis.register_script(STATE)
