@@ -458,12 +458,11 @@ def test_lost_over_files(at: Folder) -> None:
     at.run("./shop start auction")
     expect(at.shop("ask 0 user,cat") == "ok,0.5\n", "it goes on")
     at.shop("audit")
-    # Its files lost their ends with the power; `boot` is of another start of the machine.
+    # Its files lost their ends with the power.
     at.shop("stop")
     for name, lines in (("kept", 2), ("out", 4)):
         path = at.path / "auction/0" / name
         path.write_text("".join(path.read_text().splitlines(keepends=True)[:lines]))
-    (at.path / "auction/boot").unlink()
     at.run("./shop start auction", 3, "site 1 has 5 messages of it, and its folder has 2 (shop rebuild 0)")
     at.shop("stop")
     expect("what was there is auction/0.lost.1" in at.shop("rebuild 0"), "the old folder is kept")
@@ -535,6 +534,123 @@ def test_token_behind_a_lost_end(at: Folder) -> None:
 def test_token_behind_a_reader(at: Folder) -> None:
     """The same where the server then loses all once more, and the sender begins its stream behind the recipient's place."""
     token_comes_back(at, 0, True)
+
+
+def put_back(at: Folder, folder: str, copy: str) -> None:
+    """Puts the files of a site's folder back to a copy; the folder itself stays the same one."""
+    at.run(f"rm -f {folder}/* && cp -a {copy}/. {folder}/")
+
+
+def test_older_copy(at: Folder, options: str = "") -> None:
+    """Over files a site's folder is put back to an older copy, in the same boot, made before its last start or after it: it accepts
+    nothing, also where the others have no more of it, and goes on once it is rebuilt."""
+    at.run(f"./shop start auction --sites 2 {options}")
+    at.shop(f"ask 0 {SALE} --published")
+    at.run("cp -a auction/0 while_it_runs; ./shop stop auction; cp -a auction/0 stopped; ./shop start auction")
+    at.shop("stop")
+    put_back(at, "auction/0", "stopped")
+    at.run("./shop start auction", 3, "its folder is a copy, or was put back to an earlier state")
+    at.run("./shop stop auction; ./shop -C auction rebuild 0; ./shop start auction; cp -a auction/0 while_it_runs")
+    expect(at.shop("ask 0 user,cat --published") == "ok,0.4\n", "it goes on, and accepts more")
+    at.shop("stop")
+    put_back(at, "auction/0", "while_it_runs")
+    at.run("./shop start auction", 3, "site 1 has 4 messages of it, and its folder has 3 (shop rebuild 0)")
+    at.shop("ask 0 user,eve --timeout 1", 3, "nothing was given to it")
+    at.run("./shop stop auction; ./shop -C auction rebuild 0; ./shop start auction")
+    expect(at.shop("ask 0 user,eve") == "ok,0.5\n", "no number is given twice")
+    at.shop("wait 1")
+    at.shop("audit")
+
+
+def test_older_copy_with_sync(at: Folder) -> None:
+    """The same with --sync."""
+    test_older_copy(at, "--sync")
+
+
+def test_older_copy_without_its_server(at: Folder) -> None:
+    """Over a server that is away a folder that was put back to an older copy accepts nothing, until it is known what the others have;
+    one that has all it answered goes on at once, though its supervisor was killed. --alone takes the risk."""
+    server = Server(at).start_shop()
+    at.shop(f"ask 0 {SALE} --published", folder="a")
+    at.run("./shop stop b; ./shop stop a; cp -a a/0 older; ./shop start a")
+    at.shop("ask 0 user,cat --published", folder="a")
+    server.kill()
+    expect(at.shop("ask 0 user,dan", folder="a") == "ok,0.5\n", "a site that was opened goes on without the server")
+    at.kill(at.status("a")["pid"])
+    at.run("cp -a a/0 newest; ./shop start a", 3, "link: down")
+    expect(at.shop("ask 0 user,eve", folder="a") == "ok,0.6\n", "it has all that it answered")
+    at.kill(at.status("a")["pid"])
+    put_back(at, "a/0", "newest")
+    at.run("./shop start a", 3, "site 0: takes no asks until it is known what the others have of it (or --alone)")
+    at.shop("ask 0 user,fay --timeout 1", 3, "nothing was given to it", folder="a")
+    at.run("./shop stop a; ./shop start a --alone", 3, "link: down")
+    expect(at.shop("ask 0 user,fay", folder="a") == "ok,0.6\n", "at the operator's risk a number is given twice")
+    at.run("./shop stop a")
+    put_back(at, "a/0", "older")
+    at.run("./shop start a", 3, "takes no asks")
+    at.shop("ask 0 user,gus --timeout 1", 3, "nothing was given to it", folder="a")
+    server.start()
+    at.wait("the fence", lambda: at.site(0, "a")["state"] == "fenced")
+    expect("had its packet 4-0" in at.site(0, "a")["fault"], "what it says")
+    at.run("./shop stop a; ./shop -C a rebuild 0 --anyway; ./shop start a; ./shop start b")
+    expect(at.shop("ask 0 user,gus", folder="a") == "ok,0.5\n", "it goes on")
+    at.shop("audit", folder="b")
+
+
+def test_copy_with_the_same_end(at: Folder) -> None:
+    """An older copy whose last packet is the last one of its stream is fenced: it lacks an ask that was told ok, and may give its number
+    again."""
+    server = Server(at).start_shop()
+    at.shop(f"ask 0 {SALE} --published", folder="a")
+    at.run("./shop stop a; cp -a a/0 older; ./shop start a")
+    server.kill()
+    expect(at.shop("ask 0 user,cat", folder="a") == "ok,0.4\n", "an ask without the server")
+    at.run("./shop stop a")
+    put_back(at, "a/0", "older")
+    server.start()
+    at.run("./shop start a", 3, "its folder is a copy, or was put back to an earlier state: this is its start 2")
+    at.shop("ask 0 user,dan --timeout 1", 3, "nothing was given to it", folder="a")
+
+
+def test_other_past(at: Folder) -> None:
+    """A folder that went on at its operator's risk is compared packet by packet with what the others have, though its last one is equal."""
+    server = Server(at).start_shop()
+    at.shop(f"ask 0 {SALE} --published", folder="a")
+    at.run("cp -a a/0 older")
+    at.shop("ask 0 user,cat restock,0.3,0.1,1 --published", folder="a")
+    server.kill()
+    at.run("./shop stop a")
+    put_back(at, "a/0", "older")
+    at.run("./shop start a --alone", 3, "link: down")
+    expect(at.shop("ask 0 user,eve restock,0.3,0.1,1", folder="a") == "ok,0.4\nok,0.5\n", "numbers that are given twice")
+    server.start()
+    at.wait("the fence", lambda: at.site(0, "a")["state"] == "fenced")
+    expect("has another packet 4-0 of it: two processes were this site" in at.site(0, "a")["fault"], at.site(0, "a")["fault"])
+
+
+CLONE = """
+import os
+stat = os.stat
+os.stat = lambda path, *words, **named: stat(path.replace("/c/2", "/b/2") if isinstance(path, str) else path, *words, **named)
+"""
+
+
+def test_cloned_image(at: Folder) -> None:
+    """A clone of a machine's disk, whose folder has the name of the original: it is fenced while that runs, and once it has run since."""
+    Server(at).start_shop()
+    at.shop(f"ask 0 {SALE}", folder="a")
+    at.shop("wait 2", folder="b")
+    (at.path / "sitecustomize.py").write_text(CLONE)
+    start = f"PYTHONPATH={at.path} ./shop start c"
+    at.run(f"cp -a b c; {start}", 3, "runs it (shop adopt 2, if that is gone for good)")
+    at.run("./shop stop c; ./shop stop b; rm -r c; cp -a b c; ./shop start b")
+    expect(at.shop("ask 2 comment,0.3,0.2,0.1,5,good", folder="b") == "ok,2.1\n", "the original goes on")
+    at.run("./shop stop b")
+    at.run(start, 3, "shop rebuild 2")
+    at.shop("ask 2 comment,0.3,0.2,0.1,1,bad --timeout 1", 3, "nothing was given to it", folder="c")
+    at.run("./shop stop c; rm -r c; cp -a b c")
+    at.run(f"{start}; ./shop stop c")
+    at.run("./shop start b", 3, "its folder is a copy, or was put back to an earlier state")
 
 
 def test_deleted(at: Folder) -> None:

@@ -45,13 +45,13 @@ def start(args: argparse.Namespace) -> int:
         return Status.WELL
     found = program.checked_path()
     settings.write(args.folder, now)
-    said = _started(args.folder, found, args.timeout)
+    said = _started(args.folder, found, args.timeout, ["--alone"] if args.alone else [])
     if said == "ready":
         return Status.WELL
     raise Fault(Status.AWAY, f"{said or 'the supervisor is starting still, or has ended'} (shop log)")
 
 
-def _started(folder: str, found: str, seconds: float) -> str:
+def _started(folder: str, found: str, seconds: float, options: list[str]) -> str:
     """Runs `shop run` in a session of its own; what it says once each site is up, or isn't."""
     get, put = os.pipe()
     if os.fork() == 0:
@@ -63,7 +63,7 @@ def _started(folder: str, found: str, seconds: float) -> str:
         for number, file in enumerate((nothing, events, events)):
             os.dup2(file, number)
         environment = os.environ | {"SHOP_READY": str(put), "RUBIS": found}
-        os.execve(sys.executable, [sys.executable, os.path.realpath(sys.argv[0]), "run", folder], environment)
+        os.execve(sys.executable, [sys.executable, os.path.realpath(sys.argv[0]), "run", folder, *options], environment)
     os.close(put)
     said = b""
     while not said.endswith(b"\n") and select.select([get], [], [], seconds)[0]:
@@ -80,7 +80,7 @@ def run(args: argparse.Namespace) -> int:
     found = program.checked_path()
     settings.write(args.folder, now)
     from . import supervisor
-    supervisor.run(args.folder, now, found)
+    supervisor.run(args.folder, now, found, args.alone)
     return Status.WELL
 
 

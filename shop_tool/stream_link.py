@@ -12,7 +12,7 @@ from .link import BATCH, FULL_WAIT, STARTING, UP, Link, Request
 from .publisher import COMPARE_SECONDS, Publisher
 from .reader import Reader
 from .site import Site
-from .streams import Streams, faults, reason_of
+from .streams import Streams, faults, reason_of, run_by
 from .supervisor import Supervisor
 from .times import stamp
 
@@ -23,7 +23,8 @@ CALM = 5.0
 
 class StreamLink(Link):
     def __init__(self, shop: Supervisor) -> None:
-        self.shop, self.settings = shop, shop.settings
+        super().__init__(shop)
+        self.settings = shop.settings
         self.is_reached = False                     # the server has answered once
         self.is_over = False                        # nothing is carried any more; a cancel alone may be swallowed by a connection
         self.down: dict[str, str] = {}              # what of the link doesn't work, since when and why
@@ -37,9 +38,6 @@ class StreamLink(Link):
         return next(iter(self.down.values()), UP if self.is_reached else STARTING)
 
     async def run(self) -> None:
-        for site in self.shop.sites.values():
-            if self.shop.has_lost_nothing(site):
-                site.opened.set()       # it needn't wait until it is compared with its stream
         works = [self._forever("tell", self._tell), self._forever("hear", self._hear)]
         for site in self.shop.sites.values():
             publisher = Publisher(self, site)
@@ -95,15 +93,19 @@ class StreamLink(Link):
             await asyncio.sleep(0.02)
         self.is_over = True
         try:
-            await self.main.forget([number for number, site in self.shop.sites.items() if not site.fenced_by])
+            await self.main.forget([site.number for site in self._own_sites()])
         except faults():
             pass        # they expire
 
     async def _look(self, server: Streams) -> None:
-        # Another folder may tell how a site is that is fenced here.
-        statuses = {number: self.shop.status_of(site) for number, site in self.shop.sites.items() if not site.fenced_by}
+        said = {"told": time.time_ns()}
+        statuses = {site.number: self.shop.status_of(site) | said | {"by": run_by(site.folder)} for site in self._own_sites()}
         self.tops, self.marks = await server.tell(statuses)
         self.shop.progress.tell()
+
+    def _own_sites(self) -> list[Site]:
+        """The sites that are this folder's: how another one is may another supervisor tell."""
+        return [site for site in self.shop.sites.values() if site.compared.is_set() and not site.fenced_by]
 
     async def look(self) -> None:
         try:

@@ -4,6 +4,7 @@
 |---|---|
 | NAME:SITE | a stream: the site's packets in the order in which it sent them; message n is n-0, and the t-th token after it n-t |
 | NAME:mark:SITE | a random number that is drawn whenever the site's stream is begun or written anew |
+| NAME:life:SITE | the life of the site's folder that was compared with its stream last |
 | NAME:owner:SITE | which folder on which machine runs the site |
 | NAME:status:SITE | how the site is; it expires when its supervisor has gone |
 | NAME:wants | a stream: wants of the token, and requests to other supervisors |
@@ -11,6 +12,7 @@
 """
 
 import asyncio
+import hashlib
 import json
 import os
 import socket
@@ -20,7 +22,7 @@ import zlib
 from collections.abc import Iterable
 from typing import Any, NamedTuple
 
-from .folders import identity
+from .folders import boot, identity
 from .ledger import NOWHERE, Place
 from .settings import Settings
 
@@ -49,13 +51,21 @@ end
 return {#found, #found > 0 and found[#found][1] or '0-0', redis.sha1hex(table.concat(text)), tokens}
 """
 
-# How many entries a stream has, its last one, and the greatest id that it ever had.
+# How many entries a stream has, its last one, and the greatest id that it ever had; and the life of its site.
 STATE = b"""
-if redis.call('EXISTS', KEYS[1]) == 0 then return {0, '0-0', '', '0-0'} end
+local life = redis.call('GET', KEYS[2]) or ''
+if redis.call('EXISTS', KEYS[1]) == 0 then return {0, '0-0', '', '0-0', life} end
 local last = redis.call('XREVRANGE', KEYS[1], '+', '-', 'COUNT', 1)
 local info, greatest = redis.call('XINFO', 'STREAM', KEYS[1]), '0-0'
 for at = 1, #info, 2 do if info[at] == 'last-generated-id' then greatest = info[at + 1] end end
-return {redis.call('XLEN', KEYS[1]), last[1] and last[1][1] or '0-0', last[1] and last[1][2][2] or '', greatest}
+return {redis.call('XLEN', KEYS[1]), last[1] and last[1][1] or '0-0', last[1] and last[1][2][2] or '', greatest, life}
+"""
+
+# Sets a key, if it still has what the caller knows.
+CHANGE = b"""
+if (redis.call('GET', KEYS[1]) or '') ~= ARGV[1] then return 0 end
+redis.call('SET', KEYS[1], ARGV[2])
+return 1
 """
 
 
@@ -66,6 +76,7 @@ class StreamState(NamedTuple):
     last: Place
     packet: bytes
     greatest: Place
+    life: str
 
 
 class Page(NamedTuple):
@@ -118,6 +129,7 @@ class Streams:
         self._mark_keys = [self.key(f"mark:{site}") for site in range(self.sites)]
         self._append = self.redis.register_script(APPEND)
         self._state = self.redis.register_script(STATE)
+        self._change = self.redis.register_script(CHANGE)
         self._page = self.redis.register_script(PAGE_OF)
 
     async def __aenter__(self) -> "Streams":
@@ -133,8 +145,12 @@ class Streams:
     # A site's stream.
 
     async def state(self, site: int) -> StreamState:
-        entries, last, packet, greatest = await self._state(keys=[self.key(site)])
-        return StreamState(entries, place_of(last), packet, place_of(greatest))
+        entries, last, packet, greatest, life = await self._state(keys=[self.key(site), self.key(f"life:{site}")])
+        return StreamState(entries, place_of(last), packet, place_of(greatest), life.decode("utf-8", "replace"))
+
+    async def see_life(self, site: int, before: str, life: str) -> bool:
+        """Writes down the life of a site's folder; False if another one was since `before` was."""
+        return bool(await self._change(keys=[self.key(f"life:{site}")], args=[before, life]))
 
     async def append(self, site: int, last: Place, packets: list[tuple[Place, bytes]]) -> bool:
         """Appends packets behind the entry `last`; False if that isn't the last one."""
@@ -188,11 +204,14 @@ class Streams:
 
     async def read_all(self, site: int) -> list[tuple[Place, bytes]]:
         packets: list[tuple[Place, bytes]] = []
-        after = NOWHERE
-        while page := (await self.redis.xrange(self.key(site), b"(" + id_of(after), b"+", count=PAGE)):
-            packets += [(place_of(name), fields.get(b"p", b"")) for name, fields in page]
-            after = packets[-1][0]
+        while page := await self.entries(site, packets[-1][0] if packets else NOWHERE):
+            packets += page
         return packets
+
+    async def entries(self, site: int, after: Place, upto: Place | None = None) -> list[tuple[Place, bytes]]:
+        """The next entries after a place, up to another one or the end, as many as a page has."""
+        found = await self.redis.xrange(self.key(site), b"(" + id_of(after), id_of(upto) if upto else b"+", count=PAGE)
+        return [(place_of(name), fields.get(b"p", b"")) for name, fields in found]
 
     async def message(self, site: int, number: int) -> bytes | None:
         found = await self.redis.xrange(self.key(site), id_of((number, 0)), id_of((number, 0)))
@@ -209,7 +228,11 @@ class Streams:
         return None if owner.split(" ", 1)[0] == identity(folder) else owner.split(" ", 1)[-1]
 
     async def adopt(self, site: int, folder: str) -> None:
-        await self.redis.set(self.key(f"owner:{site}"), owner_text(folder))
+        """Gives a site to this folder, whichever life of it this is; its next start compares all of it."""
+        step = self.redis.pipeline()
+        step.set(self.key(f"owner:{site}"), owner_text(folder))
+        step.delete(self.key(f"life:{site}"))
+        await step.execute()
 
     async def tell(self, statuses: dict[int, dict[str, Any]]) -> tuple[list[int], list[bytes | None]]:
         """Writes statuses of sites; how many messages each stream has, and its mark."""
@@ -261,9 +284,19 @@ class Streams:
         await pipe.execute()
 
 
+def hash_of(packets: list[tuple[Place, bytes]]) -> bytes:
+    """The hash of a page that has these entries."""
+    return hashlib.sha1(b"".join(b"%b %b\n" % (id_of(place), text) for place, text in packets)).hexdigest().encode()
+
+
 def new_mark() -> bytes:
     return os.urandom(8).hex().encode()
 
 
 def owner_text(folder: str) -> str:
     return f"{identity(folder)} {socket.gethostname()}:{folder}"
+
+
+def run_by(folder: str) -> str:
+    """Names the supervisors that run a folder since this start of its machine."""
+    return f"{boot()} {owner_text(folder)}"
