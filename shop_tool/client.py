@@ -7,6 +7,7 @@ from collections.abc import Iterator
 from typing import Any
 
 from .ends import Fault, Status
+from .lock import holder_of
 
 
 def connect(folder: str) -> socket.socket | None:
@@ -31,8 +32,11 @@ def call(folder: str, request: dict[str, Any], seconds: float | None = None) -> 
     """The supervisor's answers to one request; the last one has `end`. A Fault if there is no supervisor, or it ends meanwhile."""
     line = connect(folder)
     if line is None:
-        what = "is not running" if os.path.isdir(folder) else "there is no shop"
-        raise Fault(Status.AWAY, f"{folder}{':' if what.startswith('there') else ''} {what} (shop start)")
+        if not os.path.isdir(folder):
+            raise Fault(Status.AWAY, f"{folder}: there is no shop (shop start)")
+        holder = holder_of(folder)
+        why = f"takes no requests: {holder} holds it, which is about to begin or to end" if holder else "is not running (shop start)"
+        raise Fault(Status.AWAY, f"{folder} {why}")
     with line, line.makefile("rb") as answers:
         line.settimeout(seconds)
         try:

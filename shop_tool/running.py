@@ -5,10 +5,12 @@ import collections
 import json
 import os
 import select
+import socket
 import sys
+import time
 from typing import Any
 
-from . import client, program, settings
+from . import client, lock, program, settings
 from .answers import AnswerReader
 from .ends import Fault, Status
 from .grid import grid_of_status, grid_text
@@ -23,23 +25,33 @@ def said_settings(args: argparse.Namespace) -> dict[str, Any]:
     return {name: value for name in STARTED_BY_OPTIONS if (value := getattr(args, name)) is not None}
 
 
+def reached(folder: str) -> socket.socket | None:
+    """A connection to the shop's supervisor, or None if there is none. One that begins or ends is given some seconds."""
+    until = time.monotonic() + lock.SECONDS
+    while not (line := client.connect(folder)) and (holder := lock.holder_of(folder)):
+        if time.monotonic() > until:
+            raise Fault(Status.AWAY, f"{folder}: {holder} holds it, and takes no requests; if it hangs, kill it")
+        time.sleep(0.05)
+    return line
+
+
 def start(args: argparse.Namespace) -> int:
     """Starts the supervisor in the background, and returns once the sites are up."""
     now = settings.changed(args.folder, said_settings(args))
-    if client.connect(args.folder):
+    if reached(args.folder):
         if said_settings(args) and now != settings.read(args.folder):
             raise Fault(Status.MISUSE, f"{args.folder} is running with other settings; stop it first")
         print(f"shop: {args.folder} is running", file=sys.stderr)
         return Status.WELL
     found = program.checked_path()
     settings.write(args.folder, now)
-    said = _started(args.folder, found, args.timeout)
+    said = _started(args.folder, found, args.timeout, ["--alone"] if args.alone else [])
     if said == "ready":
         return Status.WELL
     raise Fault(Status.AWAY, f"{said or 'the supervisor is starting still, or has ended'} (shop log)")
 
 
-def _started(folder: str, found: str, seconds: float) -> str:
+def _started(folder: str, found: str, seconds: float, options: list[str]) -> str:
     """Runs `shop run` in a session of its own; what it says once each site is up, or isn't."""
     get, put = os.pipe()
     if os.fork() == 0:
@@ -51,7 +63,7 @@ def _started(folder: str, found: str, seconds: float) -> str:
         for number, file in enumerate((nothing, events, events)):
             os.dup2(file, number)
         environment = os.environ | {"SHOP_READY": str(put), "RUBIS": found}
-        os.execve(sys.executable, [sys.executable, os.path.realpath(sys.argv[0]), "run", folder], environment)
+        os.execve(sys.executable, [sys.executable, os.path.realpath(sys.argv[0]), "run", folder, *options], environment)
     os.close(put)
     said = b""
     while not said.endswith(b"\n") and select.select([get], [], [], seconds)[0]:
@@ -68,7 +80,7 @@ def run(args: argparse.Namespace) -> int:
     found = program.checked_path()
     settings.write(args.folder, now)
     from . import supervisor
-    supervisor.run(args.folder, now, found)
+    supervisor.run(args.folder, now, found, args.alone)
     return Status.WELL
 
 
@@ -76,20 +88,23 @@ def stop(args: argparse.Namespace) -> int:
     """Stops the sites, once what they were given is answered, and then the supervisor."""
     if not os.path.isdir(args.folder):
         raise Fault(Status.MISUSE, f"{args.folder}: there is no shop")
-    line = client.connect(args.folder)
+    line = reached(args.folder)
     if not line:
         print(f"shop: {args.folder} is not running", file=sys.stderr)
         return Status.WELL
+    holder, until = lock.holder_of(args.folder), time.monotonic() + STOP_SECONDS
     with line:
         line.settimeout(STOP_SECONDS)
         try:
             line.sendall(b'{"op": "stop"}\n')
             while line.recv(4096):
                 pass
-        except TimeoutError:
-            raise Fault(Status.AWAY, f"{args.folder} has not ended within {STOP_SECONDS:g} s") from None
         except OSError:
             pass
+    while holder and lock.holder_of(args.folder) == holder:
+        if time.monotonic() > until:
+            raise Fault(Status.AWAY, f"{args.folder} has not ended within {STOP_SECONDS:g} s: {holder} holds it")
+        time.sleep(0.01)
     return Status.WELL
 
 
