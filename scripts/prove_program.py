@@ -61,7 +61,7 @@ class Kit:
         for below in crate.below():
             words += ["-L", f"dependency={os.path.dirname(below.library)}"]
         words += ["--antt-project", f"{at}/rattle/logic/antt-project.json", "--logic-built", f"{at}/logic_built"]
-        words += ["--incremental", "out/incremental", "--progress", "--jobs", str(jobs), "-o", to]
+        words += ["--incremental", "out/incremental", "--jobs", str(jobs), "-o", to]
         return words + (["--toolchain", f"{at}/toolchain", "--backend", "llvm"] if crate.is_program else [])
 
     def link(self, program: str, to: str) -> list[str]:
@@ -183,7 +183,7 @@ class Proof:
             text.seek(self.read)
             more = text.read()
         self.read += more.rfind(b"\n") + 1
-        for done, all_of in re.findall(rb"^(?:checked .*, |so far: )(\d+) of (\d+)", more, re.M):
+        for done, all_of in re.findall(rb"^so far: (\d+) of (\d+) functions checked", more, re.M):
             self.crate.proved, self.crate.functions = int(done), int(all_of)
 
     def end(self) -> None:

@@ -45,7 +45,7 @@ top = os.path.dirname(os.path.dirname(os.getcwd()))
 says = lambda name: os.path.exists(f"{top}/{name}") and crate in open(f"{top}/{name}").read().split()
 with open(f"{top}/made", "a") as made:
     made.write(f"{crate} ")
-print(f"checked {crate}::a, 1 of 2", flush=True)
+print("so far: 1 of 2 functions checked", flush=True)
 if says("slow"):
     with open(f"{top}/pid", "w") as pid:
         pid.write(str(os.getpid()))
@@ -53,7 +53,7 @@ if says("slow"):
 if says("broken"):
     print(f"error: src/lib.rt:1: {crate} isn't so", flush=True)
     sys.exit(1)
-print(f"checked {crate}::b, 2 of 2", flush=True)
+print("so far: 2 of 2 functions checked", flush=True)
 if "--toolchain" in words:
     open(to, "w").close()
 else:
