@@ -220,7 +220,7 @@ pub(crate) fn with_work<'a>(alloc: Global, command: Command<'a>) -> Result<Comma
             1,
             SHARDS_MAX as u64,
             "4",
-            "How many shards the tables have, 1 to 64; changes no answer",
+            "How many shards several workers share, 1 to 64; changes no answer",
         ))?
         .arg(number(
             alloc,

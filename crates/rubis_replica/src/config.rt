@@ -8,7 +8,7 @@ ghost use Rattle.rubis_replica.specs.Setup.{IsSetup, Setup};
 use rubis_schema::{BATCH_MAX, Hashes, KEEP_MAX, SHARDS_MAX, SITES_MAX, WORKERS_MAX};
 use std::marker::Model;
 
-/// How a site is set up: which one it is, of how many; how many shards its tables have, how many workers may apply
+/// How a site is set up: which one it is, of how many; how many shards its workers share, how many workers may apply
 /// messages to them, and how many messages make a batch; how many messages it keeps; and what its maps hash by, which no answer
 /// depends on and no contract sees.
 #[derive(Drop)]
@@ -101,12 +101,19 @@ impl Config {
         self.sites
     }
 
-    /// How many shards the tables have.
+    /// How many shards several workers share.
     pub fn shards(&self) -> u8
         ensures value { result ≡ self.now.shards }
         ensures limits { IsCount result SHARDS_MAX }
     {
         self.shards
+    }
+
+    /// How many shards the tables have: one worker needs one.
+    pub(crate) fn shards_needed(&self) -> u8
+        ensures { IsCount result SHARDS_MAX }
+    {
+        if self.workers == 1 { 1 } else { self.shards }
     }
 
     /// How many workers may apply shadows.

@@ -81,7 +81,7 @@ impl<G: Gate + Drop> Site<G> {
             )?,
             follower: Follower::new(
                 alloc,
-                config.shards(),
+                config.shards_needed(),
                 config.hashes(),
                 config.workers(),
                 gate,

@@ -1,10 +1,9 @@
 //! A message folded whole, on the store that is the home of all its parts.
 
-ghost use Rattle.std.specs.Prelude.{◌≡◌, slice_get, OnOk, OnErr};
-ghost use Rattle.rubis_shadow.specs.BoxedRows.{HasBoxedRow};
+ghost use Rattle.std.specs.Prelude.{◌≡◌, OnOk, OnErr};
 ghost use Rattle.rubis_shadow.specs.declared.shadows.Shadow.TheVariants as Shadow;
-ghost use Rattle.rubis_model.specs.Log.{fold_on, parts_of};
-ghost use Rattle.rubis_shard.specs.Entries.{core_of, numbered_of};
+ghost use Rattle.rubis_model.specs.Log.{fold_on};
+ghost use Rattle.rubis_shard.specs.Entries.{numbered_of};
 ghost use Rattle.rubis_shard.specs.Stores.{held_by, HasRoom};
 
 use crate::effects::{bought, sold};
@@ -15,7 +14,8 @@ use rubis_shadow::{Change, Effect, NewBid, NewClose, NewRename, NewRestock, Shad
 use std::alloc::{AllocError, Global};
 
 impl Store {
-    /// Folds all parts of a message on, for which there is room. When out of memory, nothing changes.
+    /// Folds all parts of a message on, for which there is room. When out of memory, nothing changes. Each kind is a call of its
+    /// own: inlined here, the values of every kind would have their room cleared for each message.
     #[inline(always)]
     pub fn fold_whole(&mut self, alloc: Global, entry: &LogEntry<'_>) -> Result<(), AllocError>
         requires { HasRoom self.old 3 }
@@ -28,25 +28,15 @@ impl Store {
             Shadow::Close(close) => self.fold_close(entry, close),
             Shadow::Restock(restock) => self.fold_restock(entry, restock),
             Shadow::Rename(rename) => self.fold_rename(entry, rename),
-            Shadow::User(nick) => {
-                let row = entry.shadow.boxed_row(alloc)?;
-                self.fold_user(entry, *nick, row);
-            }
-            Shadow::Item(item) => {
-                let row = entry.shadow.boxed_row(alloc)?;
-                self.fold_item(entry, item, row);
-            }
-            Shadow::Comment(comment) => {
-                let row = entry.shadow.boxed_row(alloc)?;
-                self.fold_comment(entry, comment, row);
-            }
+            Shadow::User(nick) => return self.fold_user(alloc, entry, *nick),
+            Shadow::Item(item) => return self.fold_item(alloc, entry, item),
+            Shadow::Comment(comment) => return self.fold_comment(alloc, entry, comment),
         }
         Ok(())
     }
 
-    // Folds both parts of a bid on. Bids and purchases, of which there are most, are folded in place, as are the small kinds; a
-    // kind whose row is made in memory of its own is a call, so that the code of the others stays together.
-    #[inline(always)]
+    // Folds both parts of a bid on.
+    #[inline(never)]
     fn fold_bid(&mut self, entry: &LogEntry<'_>, bid: &NewBid)
         requires bid { entry.now.shadow.now ≡ Shadow.Bid bid.now }
         requires room { HasRoom self.old 2 }
@@ -57,7 +47,7 @@ impl Store {
     }
 
     // Folds the three parts of a purchase on.
-    #[inline(always)]
+    #[inline(never)]
     fn fold_purchase(&mut self, entry: &LogEntry<'_>, purchase: &PurchaseRow)
         requires purchase { entry.now.shadow.now ≡ Shadow.Buy purchase.now }
         requires room { HasRoom self.old 3 }
@@ -68,8 +58,8 @@ impl Store {
         self.fold_part(entry, 3, bought(purchase));
     }
 
-    // Folds both parts of a close on: the item ends, and its category has a live item less.
-    #[inline(always)]
+    // Folds both parts of a close on.
+    #[inline(never)]
     fn fold_close(&mut self, entry: &LogEntry<'_>, close: &NewClose)
         requires close { entry.now.shadow.now ≡ Shadow.Close close.now }
         requires room { HasRoom self.old 2 }
@@ -87,8 +77,8 @@ impl Store {
         self.fold_part(entry, 2, left);
     }
 
-    // Folds the one part of a restock on.
-    #[inline(always)]
+    // Folds the only part of a restock on.
+    #[inline(never)]
     fn fold_restock(&mut self, entry: &LogEntry<'_>, restock: &NewRestock)
         requires restock { entry.now.shadow.now ≡ Shadow.Restock restock.now }
         requires room { HasRoom self.old 1 }
@@ -101,7 +91,7 @@ impl Store {
         self.fold_part(entry, 1, restocked);
     }
 
-    // Folds the three parts of a rename on: the user has the new nickname, the old one is free, and the new one is taken.
+    // Folds the three parts of a rename on.
     #[inline(never)]
     fn fold_rename(&mut self, entry: &LogEntry<'_>, rename: &NewRename)
         requires rename { entry.now.shadow.now ≡ Shadow.Rename rename.now }
@@ -125,15 +115,22 @@ impl Store {
         self.fold_part(entry, 3, taken);
     }
 
-    // Folds both parts of a new user on, with the user's row.
+    // Folds both parts of a new user on.
     #[inline(never)]
-    fn fold_user(&mut self, entry: &LogEntry<'_>, nick: Nick, row: Option<Row>)
+    fn fold_user(
+        &mut self,
+        alloc: Global,
+        entry: &LogEntry<'_>,
+        nick: Nick,
+    ) -> Result<(), AllocError>
         requires user { entry.now.shadow.now ≡ Shadow.User nick }
         requires room { HasRoom self.old 2 }
-        requires row { HasBoxedRow (slice_get (parts_of (core_of entry.now)) 0) row }
-        ensures { held_by self.new ≡ fold_on (held_by self.old) (numbered_of entry.now) }
+        ensures ok { OnOk result (held_by self.new ≡ fold_on (held_by self.old) (numbered_of entry.now)) }
+        ensures err { OnErr result (held_by self.new ≡ held_by self.old) }
     {
-        let Some(row) = row else { unreachable!() };
+        let Some(row) = entry.shadow.boxed_row(alloc)? else {
+            unreachable!()
+        };
         let user = Effect {
             key: RowKey::User(entry.id),
             change: Change::Insert(row),
@@ -144,17 +141,25 @@ impl Store {
             change: Change::Insert(Row::Nick(entry.id)),
         };
         self.fold_part(entry, 2, taken);
+        Ok(())
     }
 
-    // Folds the three parts of an item on, with the item's row.
+    // Folds the three parts of an item on.
     #[inline(never)]
-    fn fold_item(&mut self, entry: &LogEntry<'_>, item: &Shared<NewItem>, row: Option<Row>)
+    fn fold_item(
+        &mut self,
+        alloc: Global,
+        entry: &LogEntry<'_>,
+        item: &Shared<NewItem>,
+    ) -> Result<(), AllocError>
         requires item { entry.now.shadow.now ≡ Shadow.Item item.now }
         requires room { HasRoom self.old 3 }
-        requires row { HasBoxedRow (slice_get (parts_of (core_of entry.now)) 0) row }
-        ensures { held_by self.new ≡ fold_on (held_by self.old) (numbered_of entry.now) }
+        ensures ok { OnOk result (held_by self.new ≡ fold_on (held_by self.old) (numbered_of entry.now)) }
+        ensures err { OnErr result (held_by self.new ≡ held_by self.old) }
     {
-        let Some(row) = row else { unreachable!() };
+        let Some(row) = entry.shadow.boxed_row(alloc)? else {
+            unreachable!()
+        };
         let offered = Effect {
             key: RowKey::Item(entry.id),
             change: Change::Insert(row),
@@ -170,17 +175,25 @@ impl Store {
             change: Change::CatListed,
         };
         self.fold_part(entry, 3, counted);
+        Ok(())
     }
 
-    // Folds both parts of a comment on, with the comment's row.
+    // Folds both parts of a comment on.
     #[inline(never)]
-    fn fold_comment(&mut self, entry: &LogEntry<'_>, comment: &Shared<CommentRow>, row: Option<Row>)
+    fn fold_comment(
+        &mut self,
+        alloc: Global,
+        entry: &LogEntry<'_>,
+        comment: &Shared<CommentRow>,
+    ) -> Result<(), AllocError>
         requires comment { entry.now.shadow.now ≡ Shadow.Comment comment.now }
         requires room { HasRoom self.old 2 }
-        requires row { HasBoxedRow (slice_get (parts_of (core_of entry.now)) 0) row }
-        ensures { held_by self.new ≡ fold_on (held_by self.old) (numbered_of entry.now) }
+        ensures ok { OnOk result (held_by self.new ≡ fold_on (held_by self.old) (numbered_of entry.now)) }
+        ensures err { OnErr result (held_by self.new ≡ held_by self.old) }
     {
-        let Some(row) = row else { unreachable!() };
+        let Some(row) = entry.shadow.boxed_row(alloc)? else {
+            unreachable!()
+        };
         let written = Effect {
             key: RowKey::Comment(entry.id),
             change: Change::Insert(row),
@@ -191,5 +204,6 @@ impl Store {
             change: Change::Rated(comment.rating),
         };
         self.fold_part(entry, 2, rated);
+        Ok(())
     }
 }

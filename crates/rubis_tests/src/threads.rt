@@ -30,7 +30,8 @@ fn messages_and_listing(alloc: Global) -> Result<String, Fail> {
     Ok(text)
 }
 
-// How often the gate is called for each of five shards in a run over these records, as `Counting` counts.
+// How often the gate is called for each shard in a run over these records, as `Counting` counts. Several workers share five
+// shards; one worker has one.
 fn count_calls<R: Threads + Wait + Sync>(
     rt: &R,
     alloc: Global,
@@ -66,13 +67,13 @@ fn count_calls_of_workers<R: Threads + Wait + Sync>(
 #[test]
 fn the_gate_is_called_for_each_shard_in_every_application(rt: HostRuntime) -> Result<(), Fail> {
     let records = messages_and_listing(rt.alloc())?;
-    for (batch, calls) in [
-        (1, 600_600_600_600_600),
-        (3, 200_200_200_200_200),
-        (200, 3_003_003_003_003),
+    for (batch, one_shard, five_shards) in [
+        (1, 600, 600_600_600_600_600),
+        (3, 200, 200_200_200_200_200),
+        (200, 3, 3_003_003_003_003),
     ] {
         let counts = count_calls_of_workers(&rt, rt.alloc(), &records, batch)?;
-        assert_eq!(rt; counts, [calls, calls, calls], "batches of {batch}");
+        assert_eq!(rt; counts, [one_shard, five_shards, five_shards], "batches of {batch}");
     }
     Ok(())
 }
@@ -101,17 +102,16 @@ fn count_calls_of_a_window<G: Gate, R: Threads + Wait + Sync>(
     ))
 }
 
-// Three messages are pending when a window of two comes, so these are applied then: five shards are taken. The window stays
+// Three messages are pending when a window of two comes, so these are applied then: each shard is taken once. The window stays
 // pending as a batch of its own, and the message after it is another: the cut applies both, and tells the sum. So the gate is
-// called fifteen times; where a follower forgot where the window ends, it would be ten.
+// called three times for each shard; where a follower forgot where the window ends, it would be twice.
 #[test]
 fn a_window_is_a_batch_of_its_own(rt: HostRuntime) -> Result<(), Fail> {
-    for workers in [1, 4] {
+    for (workers, once, thrice) in [(1, 1, 3), (4, 1_001_001_001_001, 3_003_003_003_003)] {
         let taken = AtomicU64::new(0);
         let config = Config::new(1, 2, 5, workers, 64, 100).ok_or("a configuration")?;
         let mut site = Site::new(rt.alloc(), &config, Counting { taken: &taken })?;
         let (counts, cut) = count_calls_of_a_window(&rt, &mut site, rt.alloc(), &taken)?;
-        let (once, thrice) = (1_001_001_001_001, 3_003_003_003_003);
         assert_eq!(rt; counts, [0, once, once, thrice], "{workers} workers");
         assert_eq!(rt; cut, 3, "{workers} workers");
     }
