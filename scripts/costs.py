@@ -64,12 +64,16 @@ def in_file(text: bytes) -> Iterator[str]:
         yield file.name
 
 
-def measured(program: str, work: Work, more: list[str]) -> Cost:
-    """One run. /usr/bin/time starts it, since the peak memory of a process begins with that of what started it."""
+def measured(program: str, work: Work, more: list[str], pipe: bool = False) -> Cost:
+    """One run over a file, or over a pipe, which hands over less at once. /usr/bin/time starts it, since the peak memory of a process
+    begins with that of what started it."""
     with in_file(work.text) as records, tempfile.NamedTemporaryFile("r") as note, open(records, "rb") as source:
         command = ["/usr/bin/time", "-f", "%U %S %M", "-o", note.name, program, *work.command, *more]
         began = time.perf_counter()
-        done = subprocess.run(command, stdin=source, capture_output=True, timeout=PATIENCE)
+        if pipe:
+            done = subprocess.run(command, input=work.text, capture_output=True, timeout=PATIENCE)
+        else:
+            done = subprocess.run(command, stdin=source, capture_output=True, timeout=PATIENCE)
         took = time.perf_counter() - began
         user, system, memory = note.read().split("\n")[-2].split()
         return Cost(float(user) + float(system), took, int(memory) / 1024, done.stdout)
@@ -185,12 +189,14 @@ def busiest_threads(programs: Programs) -> None:
 
 @dataclasses.dataclass
 class Hostile:
-    """An input that somebody may send; `memory` says that memory counts, and not time."""
+    """An input that somebody may send; `memory` says that memory counts, and not time, and `pipe` that it comes over a pipe."""
 
     what: str
     many: int
     make: Callable[[int], Work]
     memory: bool = False
+    settings: str = "--workers 1"
+    pipe: bool = False
 
 
 EMPTY_WORLD = ["world", "--sites", "16"]
@@ -208,15 +214,18 @@ HOSTILE = [
     Hostile("n comments of 200 quotes, listed", 50_000, workloads.quotes, True),
     Hostile("a line of n bytes without an end", 10_000_000, workloads.endless_line, True),
     Hostile("n commas", 2_500_000, workloads.commas, True),
+    Hostile("a line of n bytes without an end, over a pipe", 10_000_000, workloads.endless_line, pipe=True),
+    Hostile("the same with 2 workers", 10_000_000, workloads.endless_line, settings="", pipe=True),
+    Hostile("a quote and n bytes, over a pipe, with 2 workers", 10_000_000, workloads.endless_quote, settings="", pipe=True),
 ]
 
 
-def figure(program: str, work: Work, memory: bool, settings: str) -> tuple[float, bytes]:
+def figure(program: str, work: Work, one: Hostile, settings: str) -> tuple[float, bytes]:
     try:
-        cost = measured(program, work, workers(work, settings))
+        cost = measured(program, work, workers(work, settings), one.pipe)
     except subprocess.TimeoutExpired:
         return float(PATIENCE), b""
-    return (cost.memory if memory else cost.processor), cost.output
+    return (cost.memory if one.memory else cost.processor), cost.output
 
 
 def hostile(programs: Programs) -> None:
@@ -228,8 +237,8 @@ def hostile(programs: Programs) -> None:
         same = ""
         for times in (1, 2, 4):
             work = one.make(times * many)
-            rubis, output = figure(programs.rubis, work, one.memory, "--workers 1")
-            plain, expected = figure(programs.plain, work, one.memory, "")
+            rubis, output = figure(programs.rubis, work, one, one.settings)
+            plain, expected = figure(programs.plain, work, one, "")
             ours.append(rubis)
             theirs.append(plain)
             same = same or programs.same(output, expected)

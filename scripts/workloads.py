@@ -298,5 +298,9 @@ def endless_line(many: int) -> Work:
     return Work(["site"], b"x" * many)
 
 
+def endless_quote(many: int) -> Work:
+    return Work(["site"], b'"' + b"x" * many)
+
+
 def commas(many: int) -> Work:
     return Work(["site"], b"," * many)

@@ -179,11 +179,6 @@ cut-text sites ps all more old now sink n records later empty none h =
     ap (all.text Cut) taken ∙ h.told Cut [] ∙ ap (λ t. h.written ++ (t ++ more.text Cut [])) empty ∙ ap (λ t. h.written ++ t) none ∙ append-nil h.written in
     subst (λ t. Appends old now t) (sym text) h.appended
 
--- the run is cut short where nothing is held
-pub ahead-cut : (sites : ℕ) (ps : List Parsed) (all more : Account) (old now : Option (List ℕ)) (sink : List ℕ) (n : ℕ) (records later : List (List (List ℕ)))
-    → sink ≡ [] → more.text Cut [] ≡ [] → HasAhead sites ps all more old now sink n records later → IsCut all old now records
-ahead-cut sites ps all more old now sink n records later empty none h = (length h.done, cut-text sites ps all more old now sink n records later empty none h)
-
 some-read : (account : Account) → ((fields : List (List ℕ)) (rest : List (List (List ℕ))) → 0 < account.read (fields ∷ rest)) → (rows : List (List (List ℕ))) →
     0 < length rows → 0 < account.read rows
 some-read account some [] l = absurd (omega (arith, l))
@@ -226,10 +221,6 @@ ahead-done sites ps all more old now sink n k limit records later empty none rea
 pub match-some : {A : Type 0} (o : Option A) (P : Type 0) (Q : A → Type 0) (x : A) → MatchOption o P Q → o ≡ Some x → Q x
 match-some None P Q x h e = absurd cc
 match-some (Some y) P Q x h e = let same : y ≡ x = cc in subst Q same h
-
-pub match-none : {A : Type 0} (o : Option A) (P : Type 0) (Q : A → Type 0) → MatchOption o P Q → o ≡ None → P
-match-none None P Q h e = h
-match-none (Some y) P Q h e = absurd cc
 
 pub if_some_so : {A : Type 0} (P Q : A → Type 0) (o : Option A) → ((x : A) → P x → Q x) → IfSome o P → IfSome o Q
 if_some_so P Q None f h = tt

@@ -25,19 +25,6 @@ feed-left held many within some whole =
     sym (take-append-drop many held) ∙ ap (λ t. t ++ drop many held) whole.is ∙ append_assoc whole.front (whole.last ∷ []) (drop many held) in
     rw (← front) (drop-appended whole.front held (whole.last ∷ drop many held) split)
 
--- the last bytes are those that are held
-pub last-held : {R : Type 0} (rem : R → Option (List ℕ)) (c : Chunks R) (rows : List (List (List ℕ))) → IsAtEnd (rem c.reader) → HasPending rem c rows → rows
-    ≡ input_records c.held
-last-held rem c rows end h = h.reads ∙ ap input_records (bytes (rem c.reader) end h.source)
-  where
-    bytes : (k : Option (List ℕ)) → IsAtEnd k → prepend_known c.held k ≡ Some h.bytes → h.bytes ≡ c.held
-    bytes None end e = absurd cc
-    bytes (Some xs) end e = sym (some-is e) ∙ ap (λ t. c.held ++ t) end ∙ append-nil c.held
-
-pub ok-alike : {A E Q : Type 0} {P : A → Type 0} (r : Result A E) → ((x : A) → P x → Q) → IfOk r P → OnOk r Q
-ok-alike (Ok x) f h = f x h
-ok-alike (Err e) f h = tt
-
 -- bytes that come are behind those that are held
 pub filled-keeps : {R : Type 0} (rem : R → Option (List ℕ)) (old new : Chunks R) (more : Bool)
     → IsFilled (rem old.reader) (rem new.reader) old.held new.held more → KeepsPending rem old new
@@ -53,11 +40,6 @@ filled-keeps rem old new more f rows h = record {
     same (Some xs) None taken e = absurd taken
     same (Some xs) (Some ys) taken e =
         ap (λ t. Some (t ++ ys)) f.behind ∙ ap Some (append_assoc old.held f.bytes ys) ∙ ap (λ t. Some (old.held ++ t)) (sym taken) ∙ e
-
-pub filled-last : {R : Type 0} (rem : R → Option (List ℕ)) (old new : Chunks R) (more : Bool)
-    → IsFilled (rem old.reader) (rem new.reader) old.held new.held more → more ≡ false
-    → (rows : List (List (List ℕ))) → HasPending rem new rows → rows ≡ input_records new.held
-filled-last rem old new more f none rows h = last-held rem new rows (f.last none) h
 
 -- a chunk is taken off
 pub taken : (held bytes : List ℕ) (known : Option (List ℕ)) (many : ℕ) → 0 < many → many ≤ length held → IsWhole (take many held)

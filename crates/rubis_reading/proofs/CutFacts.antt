@@ -92,10 +92,6 @@ unfolding stands
 stands-more s [] c = refl
 stands-more s (x ∷ xs) c = stands-more (step default_config s x).0 xs c
 
-pub stands-next : (text : List ℕ) (i : ℕ) → i < length text → stands st.StartRecord (take (i + 1) text)
-    ≡ (step default_config (stands st.StartRecord (take i text)) (get_or text i 0)).0
-stands-next text i lt = ap (stands st.StartRecord) (take_more text i 0 lt) ∙ stands-more st.StartRecord (take i text) (get_or text i 0)
-
 -- ---- a byte order mark before it
 
 pub marked : (text : List ℕ) → 3 ≤ length text → get_or text 0 0 ≡ 239 → get_or text 1 0 ≡ 187 → get_or text 2 0 ≡ 191 → strip_bom text ≡ drop 3 text

@@ -35,7 +35,7 @@ none-after s xs n nowhere k lt h = nowhere (k - 1) (omega (arith, lt)) (omega (a
 
 -- ---- from one quote to the next
 
-front-back : (s : State) (room n : ℕ) (xs : List ℕ) → room ≤ length xs → n ≤ room → EndsFrom s xs n → EndsFrom s (take room xs) n
+pub front-back : (s : State) (room n : ℕ) (xs : List ℕ) → room ≤ length xs → n ≤ room → EndsFrom s xs n → EndsFrom s (take room xs) n
 front-back s room n xs fits within h =
     let size : length (take room xs) ≡ room = length-take-le room xs fits in
     let inside : n ≤ length (take room xs) = omega (arith, size, within) in

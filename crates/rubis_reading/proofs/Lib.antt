@@ -8,3 +8,4 @@ pub mod PartFacts
 pub mod RunFacts
 mod HeldFacts
 pub mod EndFacts
+pub mod LookFacts

@@ -59,7 +59,7 @@ like-back s t like =
       | inr both ↦ inr (both.1, both.0)
     ]
 
-like-then : (s t u : State) → IsLike s t → IsLike t u → IsLike s u
+pub like-then : (s t u : State) → IsLike s t → IsLike t u → IsLike s u
 like-then s t u like more =
     elim like [
       | inl e ↦ subst (λ x. IsLike x u) (sym e) more
@@ -159,7 +159,7 @@ run-like s xs c out none =
     subst (λ t. IsLike (in_field default_config c).0 t) (sym (stands-more s xs c))
     (like-back _ _ (outside-next (stands s xs) c (outside-run s xs out (no-quote-front xs (c ∷ []) none)) (no-quote-last xs c none)))
 
-take-all : (xs : List ℕ) → take (length xs) xs ≡ xs
+pub take-all : (xs : List ℕ) → take (length xs) xs ≡ xs
 take-all [] = refl
 take-all (x ∷ xs) = ap (λ t. x ∷ t) (take-all xs)
 

@@ -1,6 +1,7 @@
 pub mod Streams
 pub mod Chunked
 pub mod Standings
+pub mod Looks
 pub mod Parsed
 pub mod Steps
 pub mod Runs

@@ -5,10 +5,13 @@ ghost use Rattle.rubis_reading.specs.Streams.{IsWhole, NoWholeAfter};
 ghost use Rattle.rubis_engine.specs.Text.{input_records};
 ghost use Rattle.rubis_reading.specs.Chunked.{HasPending, KeepsPending, TakesOff, held_text, pending_text};
 
-use crate::cuts::whole_end;
+use crate::cuts::{Looked, look_for_end, whole_end};
 use crate::held::{ChunkFault, Held};
 use std::alloc::Global;
 use std::io::Read;
+
+// Of fewer bytes it isn't known whether they begin with a byte order mark.
+const MARKED: usize = 3;
 
 /// The text of a reader, by chunks.
 #[derive(Drop)]
@@ -42,13 +45,28 @@ impl<R: Read> Chunks<R> {
         self.held.bytes()
     }
 
-    /// Asks the reader once for more, and says whether there was any. Where there was none the bytes that are held are the rest.
+    /// Asks the reader for more until a record ends in what is held, and says whether there was any. Where there was none the bytes that
+    /// are held are the rest. No byte is looked at again when more come, however long a record is.
     pub fn fill(&mut self) -> Result<bool, ChunkFault>
         ensures keeps { OnOk result (KeepsPending R.remaining self.old self.new) }
         ensures last { IfOk result (λ more. more ≡ false → (rows : List (List (List ℕ))) → HasPending R.remaining self.new rows
             → rows ≡ input_records (held_text self.new)) }
     {
-        self.held.fill(&mut self.reader, self.size)
+        let mut looked = Looked::none();
+        'asks: for _ in 0..u64::MAX {
+            if !self.held.fill(&mut self.reader, self.size)? {
+                return Ok(false);
+            }
+            let held = self.held.bytes();
+            if held.len() < MARKED {
+                return Ok(true);
+            }
+            looked = look_for_end(looked, held);
+            if looked.ends() {
+                return Ok(true);
+            }
+        }
+        Ok(true)
     }
 
     /// How many of the bytes that are held are whole records: as many as lie within `most` bytes, if a record ends there.

@@ -1,10 +1,11 @@
 //! Where a text may be cut.
 
 ghost use Rattle.std.specs.Bool.{MatchBool};
-ghost use Rattle.std.specs.Prelude.{◌≡◌, ◌≤◌, ◌<◌, IfNone, IfSome, drop, get_or, length, take};
+ghost use Rattle.std.specs.Prelude.{◌≡◌, ◌≤◌, ◌<◌, ℕ, IfNone, IfSome, List, drop, get_or, length, take};
 ghost use Rattle.csv.specs.Reading.{strip_bom};
 ghost use Rattle.csv.specs.declared.parser.State.TheVariants as st;
 ghost use Rattle.rubis_reading.specs.Standings.{state_of};
+ghost use Rattle.rubis_reading.specs.Looks.{HasLooked};
 ghost use Rattle.rubis_reading.specs.Streams.{EndsFrom, HasNoQuote, IsLike, IsOutside, IsWhole, NoEndAfter, NoWholeAfter, stands};
 
 use crate::standing::{Standing, after, in_field};
@@ -48,19 +49,56 @@ fn over(at: Standing, run: &[u8]) -> Standing
     in_field(run[run.len() - 1])
 }
 
-// The end of the last line after which no record is begun, quoted or not: between two quotes only lines and fields end.
-fn records_end(text: &[u8]) -> usize
-    ensures ends { 0 < result → EndsFrom st.StartRecord text.now result }
-    ensures last { NoEndAfter st.StartRecord text.now result }
+/// How far a text was looked through for ends of records, the byte order mark at its start left aside.
+#[derive(Clone, Copy)]
+pub struct Looked {
+    // Where the machine stands there.
+    at: Standing,
+    // How many bytes were looked at.
+    place: usize,
+    // The end of the last line among them after which no record is begun, quoted or not: between two quotes only lines and fields
+    // end. 0 where there is none.
+    end: usize,
+}
+
+impl Looked {
+    /// No byte was looked at.
+    pub fn none() -> Looked
+        ensures { (text : List ℕ) → HasLooked text result }
+    {
+        Looked {
+            at: Standing::Start,
+            place: 0,
+            end: 0,
+        }
+    }
+
+    /// Whether a record ends in them, behind the line end at their start, if there is one.
+    pub fn ends(self) -> bool {
+        self.end > 1
+    }
+}
+
+// Looks on to the end of a text.
+fn look_on(from: Looked, text: &[u8]) -> Looked
+    requires { HasLooked text.now from }
+    ensures looked { HasLooked text.now result }
+    ensures all { NoEndAfter st.StartRecord text.now result.end }
 {
-    let mut at = Standing::Start;
-    let mut place = 0;
-    let mut end = 0;
+    let Looked {
+        mut at,
+        mut place,
+        mut end,
+    } = from;
     'quotes: for _passed in 0..u64::MAX {
         let (_, rest) = text.split_at(place);
         let Some(quote) = memchr(b'"', rest) else {
             let line = last_line(at, rest);
-            return if line > 0 { place + line } else { end };
+            return Looked {
+                at: over(at, rest),
+                place: text.len(),
+                end: if line > 0 { place + line } else { end },
+            };
         };
         let (run, _) = rest.split_at(quote);
         let line = last_line(at, run);
@@ -70,7 +108,7 @@ fn records_end(text: &[u8]) -> usize
         at = after(over(at, run), b'"');
         place += quote + 1;
     }
-    end
+    Looked { at, place, end }
 }
 
 // How many bytes a byte order mark at the start has.
@@ -94,6 +132,26 @@ pub fn whole_end(text: &[u8]) -> usize
 {
     let mark = mark_len(text);
     let (_, rest) = text.split_at(mark);
-    let end = records_end(rest);
+    let end = look_on(Looked::none(), rest).end;
     if end > 0 { mark + end } else { 0 }
+}
+
+// How many bytes are looked through at once, where one end of a record is enough.
+const LOOK: usize = 65_536;
+
+/// Looks on through a text until a record ends in what was looked at, or to its end.
+pub fn look_for_end(from: Looked, text: &[u8]) -> Looked
+    requires { HasLooked (strip_bom text.now) from }
+    ensures { HasLooked (strip_bom text.now) result }
+{
+    let (_, rest) = text.split_at(mark_len(text));
+    let mut looked = from;
+    'looks: for _ in 0..u64::MAX {
+        if looked.ends() || looked.place >= rest.len() {
+            return looked;
+        }
+        let front = rest.len().min(looked.place.saturating_add(LOOK));
+        looked = look_on(looked, &rest[..front]);
+    }
+    looked
 }

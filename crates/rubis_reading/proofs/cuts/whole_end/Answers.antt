@@ -7,20 +7,20 @@ use Rattle.rubis_reading.proofs.cuts.whole_end.Goals as goal
 
 pub returns-then-end-gt0-clause-whole : goal.returns-then-end-gt0-clause-whole
 returns-then-end-gt0-clause-whole c some =
-    marked-whole c.args.text.now c.mark_len-mark.result c.records_end-end.result c.mark_len-mark.ensures.within c.if-end-gt0.true c.mark_len-mark.ensures.rest
-    (subst (λ rest. EndsFrom st.StartRecord rest c.records_end-end.result) c.split_at.ensures.back (c.records_end-end.ensures.ends c.if-end-gt0.true))
+    marked-whole c.args.text.now c.mark_len-mark.result c.look_on-end.result.end c.mark_len-mark.ensures.within c.if-end-gt0.true c.mark_len-mark.ensures.rest
+    (subst (λ rest. EndsFrom st.StartRecord rest c.look_on-end.result.end) c.split_at.ensures.back (c.look_on-end.ensures.looked.found c.if-end-gt0.true))
 
 pub returns-then-end-gt0-clause-last : goal.returns-then-end-gt0-clause-last
 returns-then-end-gt0-clause-last c =
     let mark = c.mark_len-mark.result in
-    let end = c.records_end-end.result in
+    let end = c.look_on-end.result.end in
     no-whole c.args.text.now mark end (mark + end) c.mark_len-mark.ensures.within c.mark_len-mark.ensures.rest
-    (subst (λ rest. NoEndAfter st.StartRecord rest end) c.split_at.ensures.back c.records_end-end.ensures.last) (λ k after past. omega (arith, after, past))
+    (subst (λ rest. NoEndAfter st.StartRecord rest end) c.split_at.ensures.back c.look_on-end.ensures.all) (λ k after past. omega (arith, after, past))
 
 pub returns-else-end-gt0-clause-last : goal.returns-else-end-gt0-clause-last
 returns-else-end-gt0-clause-last c =
     let mark = c.mark_len-mark.result in
-    let end = c.records_end-end.result in
+    let end = c.look_on-end.result.end in
     no-whole c.args.text.now mark end 0 c.mark_len-mark.ensures.within c.mark_len-mark.ensures.rest
-    (subst (λ rest. NoEndAfter st.StartRecord rest end) c.split_at.ensures.back c.records_end-end.ensures.last)
+    (subst (λ rest. NoEndAfter st.StartRecord rest end) c.split_at.ensures.back c.look_on-end.ensures.all)
     (λ k after past. omega (arith, c.if-end-gt0.false, past))

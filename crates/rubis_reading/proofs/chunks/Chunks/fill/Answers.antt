@@ -1,21 +1,28 @@
-use Rattle.std.proofs.Common.{◌≡◌, ℕ, List, false}
-use Rattle.std.proofs.lemmas.Result.{IfOk-weaker}
-use Rattle.rubis_engine.specs.Text.{input_records}
-use Rattle.rubis_reading.specs.Chunked.{HasPending, IsFilled}
-use Rattle.rubis_reading.specs.declared.chunks.Chunks.{Chunks}
-use Rattle.rubis_reading.proofs.ChunkFacts.{filled-keeps, filled-last, ok-alike}
+use Rattle.std.proofs.Common.{◌++◌, arith, subst}
+use Rattle.csv.specs.Reading.{strip_bom}
+use Rattle.rubis_reading.specs.Looks.{HasLooked}
+use Rattle.rubis_reading.proofs.ChunkFacts.{filled-keeps}
+use Rattle.rubis_reading.proofs.LookFacts.{marked-more}
 use Rattle.rubis_reading.proofs.chunks.Chunks.fill.Goals as goal
 
-pub returns-clause-keeps : goal.returns-clause-keeps
-returns-clause-keeps g c =
-    ok-alike c.fill.result (λ more filled. filled-keeps g.R.Read.remaining c.args.self.now
-    (record { reader = c.fill.new.reader; held = c.fill.new.self; size = c.args.self.now.size }) more filled) c.fill.ensures
+pub asks-init : goal.asks-init
+asks-init g c = record { keeps = λ rows h. h; looked = λ more. c.none-looked.ensures (strip_bom (c.args.self.now.held ++ more)) }
 
-pub returns-clause-last : goal.returns-clause-last
-returns-clause-last g c =
-    let rem = g.R.Read.remaining in
-    let old = c.args.self.now in
-    let new : Chunks _ = record { reader = c.fill.new.reader; held = c.fill.new.self; size = old.size } in
-    IfOk-weaker c.fill.result (IsFilled (rem old.reader) (rem new.reader) old.held new.held)
-    (λ more. more ≡ false → (rows : List (List (List ℕ))) → HasPending rem new rows → rows ≡ input_records new.held)
-    (filled-last rem old new) c.fill.ensures
+pub returns-then-held-lt-MARKED-clause-keeps : goal.returns-then-held-lt-MARKED-clause-keeps
+returns-then-held-lt-MARKED-clause-keeps g c rows h =
+    filled-keeps g.R.Read.remaining c.asks.self (record { reader = c.fill.new.reader; held = c.fill.new.self; size = c.asks.self.size }) c.in_ok-fill.field-0
+    c.in_ok-fill.ensures rows (c.asks.invariant.keeps rows h)
+
+pub returns-then-ends-clause-keeps : goal.returns-then-ends-clause-keeps
+returns-then-ends-clause-keeps g c rows h =
+    filled-keeps g.R.Read.remaining c.asks.self (record { reader = c.fill.new.reader; held = c.fill.new.self; size = c.asks.self.size }) c.in_ok-fill.field-0
+    c.in_ok-fill.ensures rows (c.asks.invariant.keeps rows h)
+
+pub asks-preserved : goal.asks-preserved
+asks-preserved g c = record {
+  keeps = λ rows h. filled-keeps g.R.Read.remaining c.asks.self
+      (record { reader = c.fill.new.reader; held = c.fill.new.self; size = c.asks.self.size })
+      c.in_ok-fill.field-0 c.in_ok-fill.ensures rows (c.asks.invariant.keeps rows h);
+  looked = λ more. subst (λ t. HasLooked (strip_bom (t ++ more)) c.look_for_end-looked.result) c.bytes-held.ensures
+      (marked-more c.bytes-held.result.now more c.look_for_end-looked.result (omega (arith, c.if-held-lt-MARKED.false)) c.look_for_end-looked.ensures);
+}
