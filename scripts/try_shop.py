@@ -64,6 +64,15 @@ class Folder:
     def text(self, name: str) -> str:
         return (self.path / name).read_text()
 
+    def said(self, line: bytes, folder: str = "auction") -> list[dict[str, Any]]:
+        """What the supervisor answers to one line of its socket."""
+        with socket.socket(socket.AF_UNIX) as asked:
+            asked.settimeout(SECONDS)
+            asked.connect(os.path.relpath(self.path / folder / "sock"))
+            asked.sendall(line + b"\n")
+            with asked.makefile("rb") as answers:
+                return [json.loads(answer) for answer in answers]
+
     def wait(self, what: str, holds: Any) -> None:
         end = time.monotonic() + SECONDS
         while not holds():
@@ -591,6 +600,96 @@ def test_limits(at: Folder) -> None:
     at.wait("room", lambda: subprocess.run(asked, cwd=at.path, capture_output=True).returncode != 3)
     line = at.run("head -c 20000000 /dev/zero | tr '\\0' x > long; ./shop -C auction ask 0 - < long", 2, "has at most 4096 bytes")
     expect(line == "", "nothing was asked")
+
+
+def test_one_record_a_request(at: Folder) -> None:
+    """What comes over the socket is one record of the kind that its request is for, or nothing is given to a site."""
+    at.run("./shop start auction --sites 2")
+    at.shop(f"ask 0 {SALE}")
+    at.shop("list 0 items \"$(printf '7\\nuser,eve')\"", 2, "a record has no line end in it; nothing was asked")
+    no_records = ["", "list,users\n", "list,users\nuser,eve", "list,users\ruser,eve", 'list,items,"7', '"list",users', "\ufefflist,users",
+                  "\udcefist,users", "\ud800", "msg,1,1,1,1,0:0,user,eve", "token,1,9,0,9", "list,items," + "7" * 5000, None, 7, ["list,users"]]
+    requests: list[dict[str, Any]] = [{"op": "list", "record": record} for record in [*no_records, "user,eve", "pass,1", "list\0,users"]]
+    requests += [{"op": "ask", "records": ["user,eve", record], "fetch": True} for record in no_records]
+    requests += [{"op": "ask", "records": records, "fetch": True} for records in ("user,eve", None, 7, ["user,eve"] * 10_001)]
+    requests += [{"op": "ask", "records": ["user,eve"], "fetch": "no"}, {"op": "have", "origin": "0", "after": 0}, {"op": "ask"}, {"op": "eve"}]
+    lines = [json.dumps({"site": 0, "timeout": 5} | request) for request in requests]
+    for seconds in ("NaN", "Infinity", "-1", "0", "1e300", '"5"', "null"):
+        lines.append('{"op": "ask", "site": 0, "records": ["user,eve"], "fetch": true, "timeout": %s}' % seconds)
+    lines += ['{"op": "ask", "site": %s, "timeout": 5}' % site for site in ("2", "-1", "null", '"0"', "[0]")]
+    lines += ["", "{", "7", "null", '["op"]', "{}", "[" * 100_000, '"' + "x" * (17 << 20)]
+    for line in [line.encode() for line in lines] + [b'{"op": "ask\xff"}']:
+        answer = at.said(line)[-1]
+        expect(answer.get("end") is True and answer["status"] == 2 and bool(answer["fault"]), f"the answer to {line[:80]!r}: {answer}")
+    expect(at.said(b'{"op": "list", "site": 0, "record": "list,categories", "timeout": 5}')[0]["lines"][0] == "reply,4,rows,1", "a listing")
+    at.run("printf 'user,\\000eve\\n' | ./shop -C auction ask 0 -", 1)
+    expect(at.shop("ask 0 user,cat") == "ok,0.4\n", "the next answer is that of its record")
+    kept = b"user,ann\nuser,bob\nitem,0.1,lamp,7,3,100,80\nlist,categories\nuser,\0eve\nuser,cat\n"
+    expect((at.path / "auction/0/kept").read_bytes() == kept, "what site 0 was given")
+
+
+def test_byte_239(at: Folder) -> None:
+    """A record that begins with the byte 239, for which a site keeps another line, is refused; a crash later finds what was given."""
+    at.run("./shop start auction")
+    at.shop(f"ask 0 {SALE}")
+    for start in ("\\357", "\\357\\273\\277", "\\357\\277\\275,"):
+        at.run(f"printf '{start}user,eve\\n' | ./shop -C auction ask 0 -", 2, "the byte 239")
+    asker = at.start("sh -c 'seq -f comment,0.3,0.2,0.1,4,%g 4000 | ./shop -C auction ask 0 - > said'")
+    for _ in range(3):
+        at.kill(at.site(0)["pid"])
+        at.wait("the site", lambda: at.site(0)["pid"] and at.site(0)["state"] == "up")
+    expect(asker.wait(SECONDS) == 0 and at.text("said").count("ok,0.") == 4000, "each is accepted")
+    expect(at.text("auction/0/kept").count("comment,") == 4000, "each is kept once")
+
+
+def test_forged_packets(at: Folder) -> None:
+    """What stands in a stream and isn't one packet isn't given to a site, which goes on with what comes behind it."""
+    server = Server(at)
+    at.run(f"./shop start a --sites 3 --here 0,1 --over {server.over}")
+    packets = ("token,1,5,0,0\\nuser,eve", "token,1,6,0,0\\n", "msg,1,2,1,1,0:0:0,user,ann\\nuser,eve", "\\357msg,1,2,2,1,0:0:1,user,ann")
+    for number, packet in enumerate(packets):
+        at.run(f"printf '{packet}' | redis-cli -p {server.port} -x xadd auction:2 0-{number + 1} p")
+    at.wait("a fault for each", lambda: at.text("a/events").count("isn't given to it") == 2 * len(packets))
+    expect(at.shop("ask 0 user,cat", folder="a") == "ok,0.1\n", "site 0 holds the token still")
+    expect(at.text("a/0/kept") == "user,cat\n", f"what it was given: {at.text('a/0/kept')!r}")
+
+
+def test_asked_from_elsewhere(at: Folder) -> None:
+    """A site elsewhere is asked in the folder that has it: neither a copy of that answers, nor one that has lost it and is being stopped."""
+    Server(at).start_shop()
+    at.shop(f"ask 0 {SALE}", folder="a")
+    at.shop("ask 2 bid,0.3,0.2,500", folder="b")
+    at.run("cp -a b c; ./shop start c", 3, "b/2 has it (shop adopt 2")
+
+    def asked(bid: int, keeper: int, meanwhile: Callable[[], None]) -> str:
+        """What is told of a bid at site 2, asked from the other machine, while its keeper takes its time."""
+        os.kill(keeper, signal.SIGSTOP)
+        asker = at.start(f"sh -c './shop -C a ask 2 bid,0.3,0.2,{bid} --timeout 30 > said 2>&1'")
+        time.sleep(1)
+        meanwhile()
+        time.sleep(2)
+        os.kill(keeper, signal.SIGCONT)
+        asker.wait(SECONDS)
+        return at.text("said")
+
+    told = asked(600, at.site(2, "b")["pid"], lambda: None)
+    expect(told == "ok,2.2\n", f"beside a copy: {told}")
+    at.run("./shop stop c; rm -r c")
+    # b is held up while c takes its place, and then stops, which takes its time.
+    supervisor, keeper = at.status("b")["pid"], at.site(2, "b")["pid"]
+    for process in (keeper, supervisor):
+        os.kill(process, signal.SIGSTOP)
+    at.run("cp -a b c")
+    at.shop("adopt 2", folder="c")
+    at.run("./shop start c")
+
+    def stop() -> None:
+        for number in (signal.SIGTERM, signal.SIGCONT):
+            os.kill(supervisor, number)
+
+    told = asked(700, at.site(2, "c")["pid"], stop)
+    expect(told == "ok,2.3\n", f"while the one before is being stopped: {told}")
+    at.wait("its end", lambda: not os.path.exists(f"/proc/{supervisor}"))
 
 
 def recorded(at: Folder) -> str:

@@ -6,6 +6,7 @@ from typing import Any
 
 from .ends import Fault
 from .ledger import packets_of
+from .requests import Request
 from .site import Site
 from .supervisor import Supervisor
 
@@ -13,8 +14,6 @@ BATCH = 256         # packets that are carried at once
 FULL_WAIT = 5.0     # seconds until a site that refused a message as Full is given it again
 
 UP, STARTING = "up", "not yet up"
-
-Request = dict[str, Any]
 
 
 class Link(abc.ABC):

@@ -8,7 +8,7 @@ from typing import IO
 
 from . import client, program
 from .ends import Fault, Status
-from .records import COLUMNS, LISTINGS, NUMBERS, REFUSALS, Row, bytes_of, fields_of, row_of
+from .records import COLUMNS, LISTINGS, NUMBERS, REFUSALS, Purpose, Row, bytes_of, fields_of, row_of, why_not_one_record
 from .render import print_fields, print_rows
 
 NULLS = ("best", "winner")      # columns in which `none` says that there is nothing
@@ -28,6 +28,8 @@ def list_rows(args: argparse.Namespace) -> int:
     if needs_key != (args.key is not None):
         raise Fault(Status.MISUSE, f"list {args.what} " + ("needs a key: a category, or an id" if needs_key else "takes no key"))
     record = ",".join(["list", args.what] + ([args.key] if needs_key else []))
+    if why := why_not_one_record(os.fsencode(record), Purpose.LISTING):
+        raise Fault(Status.MISUSE, f"{record[:80]!r}: {why}; nothing was asked")
     rows = listing(args.folder, args.site, record, args.timeout)
     if args.json:
         print(json.dumps(rows, indent=1))

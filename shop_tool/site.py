@@ -11,10 +11,11 @@ from typing import TYPE_CHECKING
 from .answers import Answer, AnswerReader
 from .ends import Fault, Status
 from .ledger import Ledger
-from .records import Token
+from .records import Purpose, Token, text_of, why_not_one_record
 from .settings import Settings
 from .signals import Signal
 from .times import stamp
+from .told import not_given, not_known
 from .turns import Hold
 
 if TYPE_CHECKING:
@@ -37,13 +38,26 @@ class Disagreement(Exception):
     """The site's files aren't those that this supervisor knows."""
 
 
+class Gone(Fault):
+    """A site has ended; `unknown` is what is said of a record that it was given and hasn't answered."""
+
+    def __init__(self, why: str, unknown: str | None) -> None:
+        self.why, self.unknown = why, unknown
+        super().__init__(Status.AWAY, f"{why}; {self.told(0)}")
+
+    def told(self, answered: int) -> str:
+        """What the asker is told, of whose records so many were answered before."""
+        return self.unknown or not_given(answered)
+
+
 class Pending:
     """One record on its way through a site."""
 
-    __slots__ = ("record", "done", "is_given", "is_left", "releases")
+    __slots__ = ("record", "behind", "done", "is_given", "is_left", "releases")
 
-    def __init__(self, record: bytes) -> None:
+    def __init__(self, record: bytes, behind: int) -> None:
         self.record = record
+        self.behind = behind        # how many records the site had answered when this one came
         self.done: asyncio.Future[Answer] = asyncio.get_running_loop().create_future()
         self.is_given = False       # written to the keeper, so it may be kept
         self.is_left = False        # nobody waits for its answer
@@ -226,35 +240,39 @@ class Site:
         """Tells all who wait that no answer comes."""
         for pending in self.line:
             if not pending.done.done():
-                pending.done.set_exception(self.away(pending.is_given))
+                pending.done.set_exception(self.gone(pending))
                 pending.done.exception()        # not all of them are awaited
         self.line.clear()
         self.token_came.tell()
         self.released.tell()
 
-    def away(self, is_given: bool) -> Fault:
-        """Why no answer comes from a site that ended."""
-        why = self.fenced_by or "the shop is being stopped"
-        return Fault(Status.AWAY, f"site {self.number}: {why}; " + ("it may still be accepted" if is_given else "nothing was given to it"))
+    def gone(self, pending: Pending | None = None) -> "Gone":
+        """That no answer comes to a record, or to one that it isn't given, since the site has ended."""
+        why = f"site {self.number}: {self.fenced_by or 'the shop is being stopped'}"
+        return Gone(why, not_known(self.number, pending.behind) if pending and pending.is_given else None)
 
     # Records.
 
-    def give(self, records: list[bytes]) -> list[Pending]:
-        """Gives it records, one behind the other. Each is given again when the keeper died before it kept it."""
+    def give(self, records: list[bytes], purpose: Purpose = Purpose.ASK) -> list[Pending]:
+        """Gives it records, one behind the other. Each is given again when the keeper died before it kept it. What isn't one record
+        would shift the answers of all that come after it, so nothing else gets through here."""
+        for record in records:
+            if why := why_not_one_record(record, purpose):
+                raise Fault(Status.MISUSE, f"{text_of(record[:80])!r}: {why}; nothing was asked")
         if self.fenced_by or self.shop.stopping.is_set():
-            raise self.away(False)
-        given = [Pending(record) for record in records]
+            raise self.gone()
+        given = [Pending(record, self.ledger.records) for record in records]
         self.line.extend(given)
         if self.up.is_set():
             self._write(given)
         return given
 
-    def leave(self, pending: list[Pending]) -> bool:
-        """Nobody waits for these any more: what wasn't given isn't given. Says whether one of them was given and isn't answered."""
+    def leave(self, pending: list[Pending]) -> Pending | None:
+        """Nobody waits for these any more: what wasn't given isn't given. The first of them that was given and isn't answered."""
         for each in pending:
             each.is_left = True
         self.line = collections.deque(each for each in self.line if each.is_given or not each.is_left)
-        return any(each.is_given and not each.done.done() for each in pending)
+        return next((each for each in pending if each.is_given and not each.done.done()), None)
 
     def unanswered(self) -> list[bytes]:
         """The records that the keeper was given and hasn't answered."""

@@ -1,18 +1,20 @@
 """Carries packets over the streams of a Redis server. No position is stored: what a site has kept is where it reads on."""
 
 import asyncio
-import json
 import time
 from collections.abc import Awaitable, Callable
 from typing import Any
 
 from .ends import Fault
+from .folders import identity
 from .ledger import NOWHERE, Place, packets_of
-from .link import BATCH, FULL_WAIT, STARTING, UP, Link, Request
+from .link import BATCH, FULL_WAIT, STARTING, UP, Link
+from .requests import Request, request_of
 from .site import Site
 from .streams import Streams, faults, id_of, reason_of
 from .supervisor import Supervisor
 from .times import stamp
+from .told import is_called
 
 COMPARE_SECONDS = 1.0       # how often a site is compared with its stream, and statuses are told
 LAST_SECONDS = 2.0          # how long a stop waits for what was answered last to be published
@@ -131,22 +133,28 @@ class StreamLink(Link):
             for after, fields in await server.hear(after):
                 try:
                     self._heard(fields)
-                except (ValueError, KeyError) as fault:
+                except (ValueError, KeyError, Fault) as fault:
                     self.shop.event(f"link: {self.settings.shown_over} has a want that isn't one: {fault!r}")
             self.works("hear")
 
     def _heard(self, fields: dict[bytes, bytes]) -> None:
         if b"want" in fields:
             self.shop.hear_want(int(fields[b"want"]), int(fields[b"known"]))
-        elif int(fields[b"site"]) in self.shop.sites:
-            self.shop.task(self._called(fields[b"call"].decode(), json.loads(fields[b"request"])), is_needed=False)
+        elif (site := self.shop.sites.get(int(fields[b"site"]))) and self._is_called(site, fields.get(b"owner")):
+            self.shop.task(self._called(fields[b"call"].decode(), site, request_of(fields[b"request"])), is_needed=False)
 
-    async def _called(self, name: str, request: Request) -> None:
+    def _is_called(self, site: Site, owner: bytes | None) -> bool:
+        try:
+            return is_called(None if owner is None else owner.decode("utf-8", "replace"), identity(site.folder), bool(site.fenced_by))
+        except OSError:
+            return False            # its folder is gone
+
+    async def _called(self, name: str, site: Site, request: Request) -> None:
         answers: list[dict[str, Any]] = []
 
         async def say(answer: dict[str, Any]) -> None:
             answers.append(answer)
-        await self.shop.server.serve(request, say)
+        await self.shop.server.serve(request, say, site)
         try:
             await self.main.reply(name, answers)
         except faults():

@@ -188,10 +188,14 @@ class Streams:
         return entries
 
     async def call(self, request: dict[str, Any], site: int, seconds: float) -> list[dict[str, Any]] | None:
-        """What the supervisor of a site answers to a request; None if it gives no answer in time."""
+        """What the supervisor that has a site answers to a request; None if it gives no answer in time."""
         name = f"{os.getpid()}.{time.time_ns()}.{site}"
-        await self.say({"call": name, "site": site, "request": json.dumps(request)})
         until = time.monotonic() + seconds
+        while not (owner := await self.redis.get(self.key(f"owner:{site}"))):
+            if time.monotonic() > until:
+                return None
+            await asyncio.sleep(0.1)        # the server has lost it, and is told again
+        await self.say({"call": name, "site": site, "owner": owner.split(b" ", 1)[0], "request": json.dumps(request)})
         while (left := until - time.monotonic()) > 0:
             # The server takes whole seconds, and a socket waits no longer than its time-out.
             if found := await self.redis.blpop(self.key(f"answer:{name}"), max(1, min(int(left), 5))):

@@ -14,7 +14,7 @@ from .ends import Fault, Status
 from .folders import ran_since_boot
 from .grid import waits_of
 from .ledger import Prefix
-from .records import RECORDS_OF_A_RUN, Message, Token, packet_of, text_of
+from .records import RECORDS_OF_A_RUN, Message, Purpose, Token, packet_of, text_of, why_not_one_record
 from .settings import FILES, Settings, existing
 from .signals import Signal
 from .site import Site, State
@@ -125,7 +125,7 @@ class Supervisor:
         """Gives a site packets of others, but for those that it has; returns once they are answered, False if it is full."""
         new = [packet for packet in packets if self._is_new(site, packet)]
         is_full = False
-        for pending in site.give(new) if new else []:
+        for pending in site.give(new, Purpose.PACKET) if new else []:
             refusal = (await pending.done).refusal
             if refusal:
                 is_full = is_full or refusal == "Full"
@@ -134,6 +134,9 @@ class Supervisor:
         return not is_full
 
     def _is_new(self, site: Site, text: bytes) -> bool:
+        if why := why_not_one_record(text, Purpose.PACKET):
+            site.note_fault(f"{text[:80]!r} isn't given to it: {why}")
+            return False
         match packet_of(text):
             case Message(origin=origin, number=number):
                 return origin != site.number and number > site.ledger.have[origin].upto
@@ -165,6 +168,8 @@ class Supervisor:
                 pass
 
     def hear_want(self, site: int, known: int) -> None:
+        if not 0 <= site < self.settings.sites:
+            raise ValueError(f"there is no site {site}")
         if site in self.sites and self.sites[site].ledger.holds_token and not self.sites[site].is_passing:
             return
         self.wants.hear(site, known, time.monotonic())

@@ -1,0 +1,29 @@
+"""What an asker is told of a record that has no answer.
+
+*Nothing was given* and *not accepted* are said only where they stay true, whatever comes. Where it can't be known yet whether a record is
+accepted, just that is said, with how it is found out.
+"""
+
+from typing import Any
+
+
+def not_given(answered: int) -> str:
+    """Of records that no site was given, and that none will be; `answered` of the same request were answered before."""
+    return "nothing more was given to it" if answered else "nothing was given to it"
+
+
+def not_known(site: int, records: int) -> str:
+    """Of a record that a site was given when it had answered so many, and hasn't answered: it keeps it before any later one, or never."""
+    return f"it may still be accepted: when site {site} has answered a later record, it is in `shop log {site}` after record {records}, " \
+        "or it never will be"
+
+
+def unanswered(request: dict[str, Any]) -> str:
+    """Of a request of which no more is known. Only asks change something."""
+    return f"; whether it was accepted isn't known (shop log {request.get('site')})" if request.get("op") == "ask" else ""
+
+
+def is_called(owner: str | None, own: str, is_fenced: bool) -> bool:
+    """Whether a call to a site is for this folder of it. It is for the folder that has the site, since any other one would answer what it
+    can't know: that nothing was given. Callers of before don't say which folder that is; then a fenced one keeps silent."""
+    return not is_fenced if owner is None else owner == own
