@@ -145,6 +145,31 @@ def test_statuses(at: Folder) -> None:
     expect(at.shop("ask 0 --raw list,users").startswith("reply,4,rows,2\nrow,user,0.1,ann"), "the site's own lines")
 
 
+def test_refused_settings(at: Folder) -> None:
+    """A setting that a start refuses isn't kept: the next start has those of before."""
+    at.run("./shop start auction --batch 0", 2, "0 is not in 1..=65536")
+    expect(not (at.path / "auction/shop.json").exists(), "settings of a shop that never ran")
+    at.run("./shop start auction --sites 2 --batch 128")
+    at.shop("ask 0 user,ann")
+    at.shop("stop")
+    was = at.text("auction/shop.json")
+    for said in ("--batch 0", "--shards 65", "--workers 17", "--keep 0", "--over tcp", "--here 2", "--sites 3"):
+        for command in ("start", "run"):
+            at.run(f"./shop {command} auction {said}", 2)
+            expect(at.text("auction/shop.json") == was, f"the settings after {said}")
+    lock = at.start("flock auction/lock sleep 100")
+    at.wait("the lock", lambda: subprocess.run(["flock", "-n", "auction/lock", "true"], cwd=at.path).returncode)
+    at.run("./shop start auction --sync", 3)
+    expect(at.text("auction/shop.json") == was, "the settings while another process has the folder")
+    os.killpg(lock.pid, signal.SIGKILL)
+    (at.path / "auction/shop.json").unlink()
+    for said in ("", "--sites 3"):
+        at.run(f"./shop start auction {said}", 2, "auction/0 is site 0 of 2, and keeps 1000000")
+    at.run("./shop start auction --sites 2 --shards 9")
+    expect(at.shop("ask 0 user,bob") == "ok,0.2\n", "it goes on")
+    expect('"shards": 9' in at.text("auction/shop.json"), "the settings that were taken")
+
+
 def test_records_on_standard_input(at: Folder) -> None:
     """Many records by one call, answered in their order; a bad one ends it before its piece is asked."""
     at.run("./shop start auction")

@@ -31,28 +31,39 @@ def start(args: argparse.Namespace) -> int:
             raise Fault(Status.MISUSE, f"{args.folder} is running with other settings; stop it first")
         print(f"shop: {args.folder} is running", file=sys.stderr)
         return Status.WELL
-    found = program.checked_path()
-    settings.write(args.folder, now)
-    said = _started(args.folder, found, args.timeout)
+    found = _checked(args.folder, now)
+    said = _started(args.folder, now, found, args.timeout)
     if said == "ready":
         return Status.WELL
     raise Fault(Status.AWAY, f"{said or 'the supervisor is starting still, or has ended'} (shop log)")
 
 
-def _started(folder: str, found: str, seconds: float) -> str:
-    """Runs `shop run` in a session of its own; what it says once each site is up, or isn't."""
+def _checked(folder: str, now: settings.Settings) -> str:
+    """The program, once it is known that the shop can have these settings; they are written when it runs."""
+    found = program.checked_path()
+    settings.check_new(folder, now, found)
+    os.makedirs(folder, mode=0o700, exist_ok=True)
+    return found
+
+
+def _started(folder: str, now: settings.Settings, found: str, seconds: float) -> str:
+    """Runs `shop run` in a session of its own, with these settings on its standard input, since a password on a command line would be
+    seen. What it says once each site is up, or isn't."""
     get, put = os.pipe()
+    settings_in, handed = os.pipe()
+    os.write(handed, settings.to_text(now).encode())
+    os.close(handed)
     if os.fork() == 0:
         os.setsid()
         os.close(get)
         os.set_inheritable(put, True)
-        nothing = os.open(os.devnull, os.O_RDWR)
         events = os.open(f"{folder}/events", os.O_WRONLY | os.O_CREAT | os.O_APPEND, 0o600)
-        for number, file in enumerate((nothing, events, events)):
+        for number, file in enumerate((settings_in, events, events)):
             os.dup2(file, number)
         environment = os.environ | {"SHOP_READY": str(put), "RUBIS": found}
         os.execve(sys.executable, [sys.executable, os.path.realpath(sys.argv[0]), "run", folder], environment)
     os.close(put)
+    os.close(settings_in)
     said = b""
     while not said.endswith(b"\n") and select.select([get], [], [], seconds)[0]:
         if not (data := os.read(get, 4096)):
@@ -64,9 +75,11 @@ def _started(folder: str, found: str, seconds: float) -> str:
 
 def run(args: argparse.Namespace) -> int:
     """Runs the supervisor in the foreground, until it is stopped."""
-    now = settings.changed(args.folder, said_settings(args))
-    found = program.checked_path()
-    settings.write(args.folder, now)
+    if "SHOP_READY" in os.environ:
+        now, found = settings.from_text(sys.stdin.read()), program.path()
+    else:
+        now = settings.changed(args.folder, said_settings(args))
+        found = _checked(args.folder, now)
     from . import supervisor
     supervisor.run(args.folder, now, found)
     return Status.WELL

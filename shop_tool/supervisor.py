@@ -15,7 +15,7 @@ from .folders import ran_since_boot
 from .grid import waits_of
 from .ledger import Prefix
 from .records import RECORDS_OF_A_RUN, Message, Purpose, Token, packet_of, text_of, why_not_one_record
-from .settings import FILES, Settings, existing
+from .settings import FILES, Settings, existing, write
 from .signals import Signal
 from .site import Site, State
 from .times import changed, stamp
@@ -363,6 +363,7 @@ def run(folder: str, settings: Settings, program: str) -> None:
     """Runs the shop until it is stopped."""
     os.umask(0o077)
     take_lock(folder)
+    write(folder, settings)
 
     async def main() -> None:
         await Supervisor(folder, settings, program).run()
