@@ -180,7 +180,7 @@ def test_records_on_standard_input(at: Folder) -> None:
     expect("cat" not in at.shop("list 0 users"), "nothing of that piece was asked")
     at.run("printf 'user,cat\\r\\nuser,dan' | ./shop -C auction ask 0 -")
     at.run("printf 'user,\\377\\n' | ./shop -C auction ask 0 -", 1)
-    expect("< user,\udcff\n" in at.shop("log 0 -n 2"), "bytes that are no text")
+    expect("< user,\udcff\n" in at.shop("log 0 -n 2 --raw"), "bytes that are no text")
     command = [str(at.path / "shop"), "-C", "auction", "ask", "0", "-"]
     asker = subprocess.Popen(command, cwd=at.path, stdin=subprocess.PIPE, stdout=subprocess.PIPE)
     assert asker.stdin and asker.stdout
@@ -226,6 +226,34 @@ def test_log(at: Folder) -> None:
     at.shop("stop")
     expect("supervisor: ended" in at.shop("log"), "events")
     expect("up with 0 records" in at.shop("log"), "events of a site")
+
+
+def test_control_bytes(at: Folder) -> None:
+    """Bytes of a record that would control a terminal are shown as \\x1b wherever people read them; `--raw` and the files have them."""
+    at.run("./shop start auction --sites 2")
+    at.start("sh -c './shop -C auction log 0 -f -n 0 > followed'")
+    at.wait("a follower", lambda: (at.path / "followed").exists())
+    time.sleep(1)
+    escapes, shown = "\\033]0;eve\\007\\302\\2332J\\377", "user,\\x1b]0;eve\\x07\\x9b2J\\xff"
+    raw = "user,\x1b]0;eve\x07\x9b2J\udcff"
+    said = at.run(f"printf 'user,{escapes}\\n' | ./shop -C auction ask 0 - 2>&1", 1)
+    expect(said == f"refused,1,BadRecord\nshop: {shown}: the record isn't in the grammar\n", f"what the asker is told: {said!r}")
+    expect(at.shop("log 0 -n 2") == f"< {shown}\n> reply,1,refused,1,BadRecord\n", "what a site was asked")
+    expect(at.shop("log 0 -n 2 --raw") == f"< {raw}\n> reply,1,refused,1,BadRecord\n", "the same, raw")
+    at.wait("what is followed", lambda: f"< {shown}\n" in at.text("followed"))
+    expect(json.loads(at.run(f"printf 'user,{escapes}\\n' | ./shop -C auction ask 0 - --json", 1))["record"] == raw, "JSON")
+    for words, told in (("show 0 user", "site 0 has no user \\x1b[2J"), ("list 0 items", "list,items,\\x1b[2J: the record isn't in the grammar")):
+        at.shop(f"{words} \"$(printf '\\033[2J')\"", 1, told)
+    # What a site says of its files.
+    at.shop("stop")
+    out = (at.path / "auction/0/out").read_bytes()
+    (at.path / "auction/0/out").write_bytes(out.replace(b"BadRecord", b"\x1b[2J", 1))
+    at.run("./shop start auction", 3, "out differs at line 1")
+    for command in ("status", "log", "status --json"):
+        seen = at.run(f"./shop -C auction {command} 2>&1; true")
+        expect("out differs at line 1" in seen, f"the fault in `{command}`: {seen}")
+        expect(seen.replace("\n", "").isprintable(), f"what `{command}` shows: {seen!r}")
+    expect("\x1b" not in at.text("auction/events"), "the file of events")
 
 
 def followed(lines: list[str], sign: str) -> list[str]:

@@ -6,6 +6,7 @@ import json
 import os
 import select
 import sys
+from collections.abc import Iterable
 from typing import Any
 
 from . import client, program, settings
@@ -13,7 +14,7 @@ from .answers import AnswerReader
 from .ends import Fault, Status
 from .grid import grid_of_status, grid_text
 from .records import text_of
-from .render import GREEN, RED, YELLOW, coloured, print_columns
+from .render import GREEN, RED, YELLOW, coloured, print_columns, shown
 
 STARTED_BY_OPTIONS = ("sites", "here", "over", "sync", "keep", "batch", "shards", "workers")
 STOP_SECONDS = 60.0
@@ -117,9 +118,9 @@ def status(args: argparse.Namespace) -> int:
 
 
 def _print_status(shop: dict[str, Any]) -> None:
-    print(f"{shop['folder']}: {shop['sites']} sites over {shop['over']}, process {shop['pid']}, up since {shop['since']}")
+    print(f"{shown(shop['folder'])}: {shop['sites']} sites over {shop['over']}, process {shop['pid']}, up since {shop['since']}")
     if shop["link"] != "up":
-        print(f"link: {coloured(shop['link'], RED)}")
+        print(f"link: {coloured(shown(shop['link']), RED)}")
     token = f"site {shop['token']} holds it" if shop["token"] is not None else f"was passed to site {shop['token_sent_to']}"
     wanted = shop["token_wanted_by"]
     print(f"token: {token} (turn {shop['token_turn']})" + (f", wanted by {', '.join(map(str, wanted))}" if wanted else ""))
@@ -142,7 +143,7 @@ def log(args: argparse.Namespace) -> int:
     """Prints what happened, or a site's records and answers; with --follow also what comes."""
     if args.follow:
         return _follow(args)
-    _print_lines(_last_lines(args, sys.maxsize))
+    _print_lines(args, _last_lines(args, sys.maxsize))
     return Status.WELL
 
 
@@ -151,15 +152,15 @@ def _follow(args: argparse.Namespace) -> int:
     for answer in client.call(args.folder, {"op": "follow", "site": args.site}):
         client.raise_fault(answer)
         if "stood" in answer:
-            _print_lines(_last_lines(args, answer["stood"]))
+            _print_lines(args, _last_lines(args, answer["stood"]))
         else:
-            print(answer["line"], flush=True)
+            _print_lines(args, [answer["line"]])
     return Status.WELL
 
 
-def _print_lines(lines: "collections.deque[str]") -> None:
+def _print_lines(args: argparse.Namespace, lines: Iterable[str]) -> None:
     for line in lines:
-        print(line)
+        print(line if args.raw else shown(line))
     sys.stdout.flush()
 
 

@@ -15,6 +15,7 @@ from .folders import ran_since_boot
 from .grid import waits_of
 from .ledger import Prefix
 from .records import RECORDS_OF_A_RUN, Message, Purpose, Token, packet_of, text_of, why_not_one_record
+from .render import shown
 from .settings import FILES, Settings, existing, write
 from .signals import Signal
 from .site import Site, State
@@ -81,9 +82,9 @@ class Supervisor:
         return os.open(path, os.O_WRONLY | os.O_CREAT | os.O_APPEND, 0o600)
 
     def event(self, text: str) -> None:
-        line = f"{stamp()} {text}"
+        line = f"{stamp()} {shown(text)}"
         try:
-            os.write(self.events, line.encode("utf-8", "surrogateescape") + b"\n")
+            os.write(self.events, line.encode() + b"\n")
         except OSError:
             pass        # a full disk must not stop the sites that still answer
         for follower in self.followers.get(None, ()):
