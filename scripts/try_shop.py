@@ -352,6 +352,28 @@ def test_away(at: Folder) -> None:
     expect(at.shop("ask 1 bid,0.3,0.2,500") == "ok,1.2\n", "the token comes back with its holder")
 
 
+def test_time_out(at: Folder) -> None:
+    """Where a site or the supervisor hangs, a command ends when its time is over, and says what isn't known and how it is found out."""
+    at.run("./shop start auction --sites 2")
+    at.shop(f"ask 0 {SALE}")
+    keeper, supervisor = at.site(0)["pid"], at.status()["pid"]
+    os.kill(keeper, signal.SIGSTOP)
+    how = "when site 0 has answered a later record, it is in `shop log 0` after record 3, or it never will be"
+    at.shop("ask 0 user,eve --timeout 1", 3, f"it may still be accepted: {how}")
+    os.kill(keeper, signal.SIGCONT)
+    expect(at.shop("ask 0 user,cat") == "ok,0.5\n", "it goes on")
+    expect("< user,eve\n> reply,4,ok,0.4\n" in at.shop("log 0"), "what the asker finds")
+    os.kill(supervisor, signal.SIGSTOP)
+    for words, unknown in (("ask 0 user,dan", "; whether it was accepted isn't known (shop log 0)"), ("list 0 users", ""), ("show 0 item 0.3", ""),
+                           ("audit", ""), ("status", "")):
+        began = time.monotonic()
+        at.shop(f"{words} --timeout 1", 3, f"the supervisor of auction gave no answer within 1 s{unknown}")
+        expect(time.monotonic() - began < 6, f"the time-out of {words}")
+    os.kill(supervisor, signal.SIGCONT)
+    at.shop("ask 0 user,fay")
+    at.shop("audit")
+
+
 def test_audit(at: Folder) -> None:
     """Logs of earlier audits are audited too, so that a changed past is found."""
     at.run("./shop start auction --sites 2")

@@ -12,6 +12,7 @@ from .told import not_given, not_known
 
 WINDOW = 64         # how many records of one asker are with the site at once, where that changes no answer
 ASK_AGAIN = 1.0     # seconds
+WHERE_SECONDS = 0.5     # how long it is looked where the token is, once the time is over
 
 Say = Callable[[bytes, Answer], Awaitable[None]]
 
@@ -109,9 +110,14 @@ class Ask:
                     return True
         except TimeoutError:
             await self.say(pending)
-            where = await site.shop.where_is_token(site)
-            raise Fault(Status.AWAY, f"site {site.number}: {where}; not accepted within {self.seconds:g} s") from None
+            raise Fault(Status.AWAY, f"site {site.number}: {await self._where_is_token()}; not accepted within {self.seconds:g} s") from None
         return False
+
+    async def _where_is_token(self) -> str:
+        try:
+            return await asyncio.wait_for(self.site.shop.where_is_token(self.site), WHERE_SECONDS)
+        except TimeoutError:
+            return "it isn't known where the token is"
 
     async def _red_messages(self, releases: int) -> None:
         """Waits for a release after the answer, and until all red messages before the token are here."""

@@ -3,13 +3,18 @@
 import json
 import os
 import socket
+import time
 from collections.abc import Iterator
 from typing import Any
 
 from .ends import Fault, Status
+from .told import unanswered
+
+CONNECT_SECONDS = 5.0
+MARGIN = 2.0        # seconds beyond its time-out that a request has, since the supervisor knows more of it when that is over
 
 
-def connect(folder: str) -> socket.socket | None:
+def connect(folder: str, seconds: float = CONNECT_SECONDS) -> socket.socket | None:
     """A connection to the shop's supervisor, or None if it isn't running."""
     try:
         # A socket's path has at most 107 bytes, so the folder is named by a number.
@@ -17,9 +22,18 @@ def connect(folder: str) -> socket.socket | None:
     except OSError:
         return None
     line = socket.socket(socket.AF_UNIX)
+    line.settimeout(seconds)
+    until = time.monotonic() + seconds
     try:
-        line.connect(f"/proc/self/fd/{number}/sock")
-        return line
+        while True:
+            try:
+                line.connect(f"/proc/self/fd/{number}/sock")
+                line.settimeout(None)
+                return line
+            except BlockingIOError:
+                if time.monotonic() > until:
+                    raise Fault(Status.AWAY, f"the supervisor of {folder} takes no connection; nothing was asked") from None
+                time.sleep(0.05)
     except OSError:
         line.close()
         return None
@@ -28,25 +42,33 @@ def connect(folder: str) -> socket.socket | None:
 
 
 def call(folder: str, request: dict[str, Any], seconds: float | None = None) -> Iterator[dict[str, Any]]:
-    """The supervisor's answers to one request; the last one has `end`. A Fault if there is no supervisor, or it ends meanwhile."""
-    line = connect(folder)
+    """The supervisor's answers to one request; the last one has `end`. A Fault if there is no supervisor, it ends meanwhile, or it gives
+    no last answer within `seconds`, by default the time-out of the request."""
+    seconds = request.get("timeout") if seconds is None else seconds
+    until = time.monotonic() + seconds + MARGIN if seconds else None
+    line = connect(folder, min(CONNECT_SECONDS, seconds + MARGIN) if seconds else CONNECT_SECONDS)
     if line is None:
         what = "is not running" if os.path.isdir(folder) else "there is no shop"
         raise Fault(Status.AWAY, f"{folder}{':' if what.startswith('there') else ''} {what} (shop start)")
     with line, line.makefile("rb") as answers:
-        line.settimeout(seconds)
         try:
+            line.settimeout(_left(until))
             line.sendall(json.dumps(request).encode() + b"\n")
-            for text in answers:
+            while (text := answers.readline()).endswith(b"\n"):
                 answer = json.loads(text)
                 yield answer
                 if answer.get("end"):
                     return
+                line.settimeout(_left(until))
         except TimeoutError:
-            raise Fault(Status.AWAY, f"the supervisor of {folder} gave no answer within {seconds:g} s") from None
+            raise Fault(Status.AWAY, f"the supervisor of {folder} gave no answer within {seconds:g} s{unanswered(request)}") from None
         except OSError:
             pass
-    raise Fault(Status.AWAY, f"the supervisor of {folder} ended before it answered (shop log)")
+    raise Fault(Status.AWAY, f"the supervisor of {folder} ended before it answered{unanswered(request) or ' (shop log)'}")
+
+
+def _left(until: float | None) -> float | None:
+    return None if until is None else max(until - time.monotonic(), 0.001)
 
 
 def one(folder: str, request: dict[str, Any], seconds: float | None = None) -> dict[str, Any]:

@@ -61,7 +61,7 @@ def _listing_with(args: argparse.Namespace) -> str | None:
         return "list,users"
     if args.kind == "category":
         return "list,categories"
-    message = client.one(args.folder, {"op": "message", "id": args.key})["message"]
+    message = client.one(args.folder, {"op": "message", "id": args.key}, args.timeout)["message"]
     shadow = fields_of(message)[6:] if message else [""]
     match args.kind, shadow[0]:
         case "item", "item":
@@ -104,7 +104,7 @@ def audit(args: argparse.Namespace) -> int:
 
 def audited(folder: str, seconds: float, save: str | None, earlier: list[str]) -> str:
     """What the auditor says of the logs of all sites."""
-    sites = client.one(folder, {"op": "status"})["shop"]["sites"]
+    sites = client.one(folder, {"op": "status"}, seconds)["shop"]["sites"]
     auditor = subprocess.Popen([program.path(), "audit", "--sites", str(sites)], stdin=subprocess.PIPE, stdout=subprocess.PIPE)
     assert auditor.stdin and auditor.stdout
     saved = open(f"{save}.new", "wb") if save else None

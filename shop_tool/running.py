@@ -200,5 +200,5 @@ def _last_answers(args: argparse.Namespace, stood: int) -> "collections.deque[st
 
 
 def wait(args: argparse.Namespace) -> int:
-    client.one(args.folder, {"op": "wait", "site": args.site, "timeout": args.timeout}, args.timeout + 5)
+    client.one(args.folder, {"op": "wait", "site": args.site, "timeout": args.timeout})
     return Status.WELL
