@@ -242,8 +242,8 @@ def test_control_bytes(at: Folder) -> None:
     expect(at.shop("log 0 -n 2 --raw") == f"< {raw}\n> reply,1,refused,1,BadRecord\n", "the same, raw")
     at.wait("what is followed", lambda: f"< {shown}\n" in at.text("followed"))
     expect(json.loads(at.run(f"printf 'user,{escapes}\\n' | ./shop -C auction ask 0 - --json", 1))["record"] == raw, "JSON")
-    for words, told in (("show 0 user", "site 0 has no user \\x1b[2J"), ("list 0 items", "list,items,\\x1b[2J: the record isn't in the grammar")):
-        at.shop(f"{words} \"$(printf '\\033[2J')\"", 1, told)
+    at.shop("show 0 user \"$(printf '\\033[2J')\"", 1, "site 0 has no user \\x1b[2J")
+    at.shop("list 0 items \"$(printf '\\033[2J')\"", 1, "list,items,\\x1b[2J: the record isn't in the grammar")
     # What a site says of its files.
     at.shop("stop")
     out = (at.path / "auction/0/out").read_bytes()
@@ -364,8 +364,8 @@ def test_time_out(at: Folder) -> None:
     expect(at.shop("ask 0 user,cat") == "ok,0.5\n", "it goes on")
     expect("< user,eve\n> reply,4,ok,0.4\n" in at.shop("log 0"), "what the asker finds")
     os.kill(supervisor, signal.SIGSTOP)
-    for words, unknown in (("ask 0 user,dan", "; whether it was accepted isn't known (shop log 0)"), ("list 0 users", ""), ("show 0 item 0.3", ""),
-                           ("audit", ""), ("status", "")):
+    for words in ("ask 0 user,dan", "list 0 users", "show 0 item 0.3", "audit", "status"):
+        unknown = "; whether it was accepted isn't known (shop log 0)" if words.startswith("ask") else ""
         began = time.monotonic()
         at.shop(f"{words} --timeout 1", 3, f"the supervisor of auction gave no answer within 1 s{unknown}")
         expect(time.monotonic() - began < 6, f"the time-out of {words}")
@@ -394,6 +394,46 @@ def test_folder(at: Folder) -> None:
     supervisor = at.status(f"'{name}'")["pid"]
     at.run(f"rm -r '{name}'")
     at.wait("the end of the supervisor", lambda: not os.path.exists(f"/proc/{supervisor}"))
+
+
+def test_removed_files(at: Folder) -> None:
+    """A site whose folder is removed while the shop runs, or a file in it, ends, and says what to do; the others go on."""
+    at.run("./shop start auction --sites 5")
+    at.shop(f"ask 0 {SALE}")
+    for site in range(5):
+        at.shop(f"wait {site}")
+    supervisor = at.status()["pid"]
+    lost = {1: "mv auction/1 aside", 2: "rm auction/2/out", 3: "mv auction/3/kept .", 4: ": > auction/4/out"}
+    told = {}
+    for site, command in lost.items():
+        at.run(command)
+        told[site] = at.run(f"./shop -C auction ask {site} comment,0.3,0.2,0.1,{site},good 2>&1", 3)
+    for site, why in ((1, "its folder is gone (stop the shop, put it back or say shop rebuild 1, and start it)"),
+                      (2, "its file `out` was removed or changed (stop the shop, remove what is left of it and start it: `kept` is enough)"),
+                      (3, "its file `kept` was removed or changed (stop the shop, put it back or say shop rebuild 3, and start it)"),
+                      (4, "its file `out` was removed or changed")):
+        expect(why in told[site], f"what the asker at site {site} is told: {told[site]}")
+        expect(at.site(site)["state"] == "fenced" and why in at.site(site)["fault"], f"the status of site {site}: {at.site(site)}")
+        expect(f"site {site}: {why}" in at.shop("log"), f"the event of site {site}")
+    expect(at.shop("ask 0 user,cat") == "ok,0.4\n" and at.status()["pid"] == supervisor, "site 0 goes on")
+    at.shop("audit", 3, "no log came from site 1: site 1: its folder is gone")
+    at.shop("stop")
+    at.run("mv aside auction/1; mv kept auction/3/kept; rm auction/4/out")
+    at.run("./shop start auction")
+    for site in range(5):
+        at.shop(f"wait {site}")
+    for site, fault in told.items():
+        is_there = f"comment,0.3,0.2,0.1,{site},good" in at.shop(f"log {site}")
+        expect("may still be accepted" in fault or not is_there, f"what the asker at site {site} was told: {fault}")
+    expect(at.shop("list 0 users") == at.shop("list 4 users"), "the tables")
+    at.shop("audit")
+    # One that is asked nothing.
+    at.run("rm -r auction/4")
+    at.wait("its end", lambda: at.site(4)["state"] == "fenced")
+    at.shop("stop")
+    at.shop("rebuild 4")
+    at.run("./shop start auction")
+    at.shop("audit")
 
 
 def free_port() -> int:
@@ -598,6 +638,21 @@ def test_copied(at: Folder) -> None:
     expect(at.shop("ask 2 bid,0.3,0.2,600", folder="c") == "ok,2.2\n", "it goes on")
 
 
+def test_removed_over_a_server(at: Folder) -> None:
+    """Over a server too, only the site ends whose files are removed."""
+    Server(at).start_shop()
+    at.shop(f"ask 0 {SALE}", folder="a")
+    at.shop("wait 1", folder="a")
+    at.run("mv a/0 aside")
+    at.wait("its end", lambda: at.site(0, "a")["state"] == "fenced")
+    expect("its folder is gone" in at.site(0, "a")["fault"] and at.status("a")["link"] == "up", "the status")
+    expect(at.shop("ask 1 comment,0.3,0.2,0.1,5,good", folder="a") == "ok,1.1\n", "the other site goes on")
+    at.shop("wait 2", folder="b")
+    at.run("./shop stop a; mv aside a/0; ./shop start a")
+    expect(at.shop("ask 2 bid,0.3,0.2,500", folder="b") == "ok,2.1\n", "and so does this one, once it is back")
+    at.shop("audit", folder="b")
+
+
 def test_full_server(at: Folder) -> None:
     """Where the server is full, asks go on, and the status says that nothing is published."""
     server = Server(at, "--maxmemory-policy noeviction").start_shop()
@@ -683,11 +738,13 @@ def test_one_record_a_request(at: Folder) -> None:
     at.shop(f"ask 0 {SALE}")
     at.shop("list 0 items \"$(printf '7\\nuser,eve')\"", 2, "a record has no line end in it; nothing was asked")
     no_records = ["", "list,users\n", "list,users\nuser,eve", "list,users\ruser,eve", 'list,items,"7', '"list",users', "\ufefflist,users",
-                  "\udcefist,users", "\ud800", "msg,1,1,1,1,0:0,user,eve", "token,1,9,0,9", "list,items," + "7" * 5000, None, 7, ["list,users"]]
+                  "\udcefist,users", "\ud800", "msg,1,1,1,1,0:0,user,eve", "token,1,9,0,9", "list,items," + "7" * 5000, None, 7,
+                  ["list,users"]]
     requests: list[dict[str, Any]] = [{"op": "list", "record": record} for record in [*no_records, "user,eve", "pass,1", "list\0,users"]]
     requests += [{"op": "ask", "records": ["user,eve", record], "fetch": True} for record in no_records]
     requests += [{"op": "ask", "records": records, "fetch": True} for records in ("user,eve", None, 7, ["user,eve"] * 10_001)]
-    requests += [{"op": "ask", "records": ["user,eve"], "fetch": "no"}, {"op": "have", "origin": "0", "after": 0}, {"op": "ask"}, {"op": "eve"}]
+    requests += [{"op": "ask", "records": ["user,eve"], "fetch": "no"}, {"op": "have", "origin": "0", "after": 0}]
+    requests += [{"op": "ask"}, {"op": "eve"}]
     lines = [json.dumps({"site": 0, "timeout": 5} | request) for request in requests]
     for seconds in ("NaN", "Infinity", "-1", "0", "1e300", '"5"', "null"):
         lines.append('{"op": "ask", "site": 0, "records": ["user,eve"], "fetch": true, "timeout": %s}' % seconds)

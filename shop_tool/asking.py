@@ -110,7 +110,8 @@ class Ask:
                     return True
         except TimeoutError:
             await self.say(pending)
-            raise Fault(Status.AWAY, f"site {site.number}: {await self._where_is_token()}; not accepted within {self.seconds:g} s") from None
+            where = await self._where_is_token()
+            raise Fault(Status.AWAY, f"site {site.number}: {where}; not accepted within {self.seconds:g} s") from None
         return False
 
     async def _where_is_token(self) -> str:

@@ -106,8 +106,9 @@ class FileLink(Link):
                 if number != site.number and other.known.is_set():
                     sends = other.ledger.sends
                     begin = at.setdefault(number, sends.count_upto((site.ledger.have[number].upto, 0)))
-                    at[number] = min(len(sends), begin + BATCH)
-                    packets += [text for _, text in sends.read(begin, at[number])]
+                    texts = other.sent(begin, min(len(sends), begin + BATCH))
+                    at[number] = begin + len(texts)
+                    packets += texts
             if packets and not await self.shop.feed(site, packets):
                 return
             for number, end in at.items():

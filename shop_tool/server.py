@@ -104,6 +104,8 @@ class Server:
             last = end_of(None) | (answer or {})
         except Fault as fault:
             last = end_of(fault)
+        except OSError as fault:
+            last = end_of(Fault(Status.AWAY, f"{fault}{unanswered(request)}"))
         except Exception as fault:
             self.shop.event(f"a fault of its own: {fault!r}")
             last = end_of(Fault(Status.AWAY, f"a fault of its own: {fault!r}{unanswered(request)}"))

@@ -10,6 +10,7 @@ from typing import TYPE_CHECKING
 
 from .answers import Answer, AnswerReader
 from .ends import Fault, Status
+from .files import File, file_at, file_of, is_there, why_lost
 from .ledger import Ledger
 from .records import Purpose, Token, text_of, why_not_one_record
 from .settings import Settings
@@ -23,6 +24,7 @@ if TYPE_CHECKING:
 
 FIRST_WAIT, LAST_WAIT = 0.1, 10.0   # seconds until a site that ended is started again: doubled each time
 CALM = 30.0                         # seconds after which a site that ends has the first wait again
+READ_AGAIN = 1.0                    # seconds until packets that couldn't be read are read again
 PIECE = 1 << 16
 
 
@@ -75,6 +77,9 @@ class Site:
         self.shop, self.number = shop, number
         self.folder = f"{shop.folder}/{number}"
         self.ledger = Ledger(number, shop.settings.sites, f"{self.folder}/out")
+        # Its files, once they are known; of a size that is what they have beyond the ledger's bytes.
+        self.kept: File | None = file_at(f"{self.folder}/kept")
+        self.out: File | None = None
         self.state, self.since = State.STARTING, stamp()
         self.starts = 0
         self.fault: tuple[str, str] | None = None   # the last one: when, and what
@@ -101,7 +106,7 @@ class Site:
     async def run(self) -> None:
         """Starts the keeper, and again whenever it ends, until the shop is stopped or the site is fenced."""
         wait = FIRST_WAIT
-        while not self.shop.stopping.is_set() and not self.fenced_by:
+        while not self.shop.stopping.is_set() and not self.has_lost_files():
             began, self.starts, faults = time.monotonic(), self.starts + 1, self.fault
             self._become(State.STARTING)
             status = await self._live()
@@ -166,7 +171,7 @@ class Site:
         began = time.monotonic()
         await self._catch_up(int(line.split(b",")[1]))
         self._come_up(time.monotonic() - began)
-        while data or (data := await stream.read(PIECE)):
+        while (data or (data := await stream.read(PIECE))) and not self.has_lost_files(len(data)):
             for answer in self.reader.feed(data):
                 if not self.line:
                     raise Disagreement("it answered what it wasn't given")
@@ -179,6 +184,9 @@ class Site:
         given: Iterator[Pending] = iter([pending for pending in self.line if pending.is_given])
         self.reader = AnswerReader()
         with open(f"{self.folder}/kept", "rb") as kept, open(f"{self.folder}/out", "rb") as out:
+            files = file_of(os.fstat(kept.fileno())), file_of(os.fstat(out.fileno()))
+            if not is_there(self._had(self.kept, 0), files[0]):
+                raise Disagreement("its file `kept` is another one than before")
             kept.seek(self.ledger.kept_bytes)
             out.seek(self.ledger.out_bytes)
             while data := out.read(1 << 20):
@@ -193,6 +201,7 @@ class Site:
                 await asyncio.sleep(0)
         if self.ledger.records != count:
             raise ValueError(f"{count} records are kept, and {self.ledger.records} are answered")
+        self.kept, self.out = files[0].beyond(self.ledger.kept_bytes), files[1].beyond(self.ledger.out_bytes)
         # What is left wasn't kept, so it is given again, unless nobody waits for it.
         self.line = collections.deque(pending for pending in self.line if not pending.done.done() and not pending.is_left)
 
@@ -212,6 +221,30 @@ class Site:
         if not self.fenced_by or text == self.fenced_by:
             self.fault = stamp(), text          # what a site says that is stopped for good isn't why
         self.shop.event(f"site {self.number}: {text}")
+
+    def has_lost_files(self, more: int = 0) -> bool:
+        """Whether the site is fenced; it is from now on, if its files aren't those any more that it had, `out` with so many bytes more."""
+        if not self.fenced_by:
+            kept, out = self._had(self.kept, self.ledger.kept_bytes), self._had(self.out, self.ledger.out_bytes + more)
+            has_kept = is_there(kept, file_at(f"{self.folder}/kept"))
+            why = why_lost(self.number, has_kept or os.path.isdir(self.folder), has_kept, is_there(out, file_at(f"{self.folder}/out")))
+            if why:
+                self.fence(why)
+        return bool(self.fenced_by)
+
+    def _had(self, file: File | None, known: int) -> File | None:
+        """A file with the size that it has at least; one that isn't up may lose a torn end when it starts."""
+        return file and file._replace(size=file.size + known if self.up.is_set() else 0)
+
+    def sent(self, begin: int, end: int) -> list[bytes]:
+        """Packets that it sent, from its file `out`; where that can't be read, the site is fenced, or it is tried again."""
+        try:
+            return [text for _, text in self.ledger.sends.read(begin, end)]
+        except OSError as fault:
+            if not self.has_lost_files():
+                self.note_fault(f"read out: {fault.strerror}")
+                asyncio.get_running_loop().call_later(READ_AGAIN, self.shop.news.tell)
+            return []
 
     def fence(self, text: str) -> None:
         """Stops the site for good: it would give numbers a second time."""

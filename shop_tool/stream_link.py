@@ -217,6 +217,9 @@ class Publisher:
                 await self._append_until(server, await self._compare(server), time.monotonic() + COMPARE_SECONDS)
         except Fenced as why:
             self.site.fence(str(why))
+        except OSError:
+            if not self.site.has_lost_files():
+                raise
 
     async def _append_until(self, server: Streams, last: Place, until: float) -> None:
         """Appends what is sent, behind the entry `last`, for some time, or until the stream ends elsewhere."""

@@ -324,7 +324,7 @@ class Supervisor:
                 to.send(b"READY=1")
 
     async def _look_after_folder(self) -> None:
-        """Ends the supervisor when its folder is gone: nobody could reach it."""
+        """Ends the supervisor when its folder is gone: nobody could reach it; and a site whose folder or files are gone."""
         was = os.stat(self.folder).st_ino
         while True:
             await asyncio.sleep(LOOK_SECONDS)
@@ -335,6 +335,8 @@ class Supervisor:
             if not is_there:
                 self.stop(f"{self.folder} is gone")
                 return
+            for site in self.sites.values():
+                site.has_lost_files()
 
 
 def take_lock(folder: str, advice: str = "it may be about to end") -> int:
