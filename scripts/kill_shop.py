@@ -2,13 +2,13 @@
 """Kills each part of a shop at random moments while it is asked, and then looks whether anything was lost or doubled.
 
     scripts/kill_shop.py PROGRAM [--over files|everysec|always] [--kills N] [--seed S] [--sites N] [--askers N] [--timeout S]
-                                 [--published] [--disks] [--power] [--figures FILE]
+                                 [--published] [--disks] [--power] [--elsewhere] [--figures FILE]
 
 Askers ask at random sites, red and blue asks, and write down what they were told. Meanwhile `kill -9` hits a site, a
 supervisor or the server. Over `everysec` and `always` there are two supervisors and a redis-server with that
 appendfsync; with `everysec` the server also loses the end of its file at times, as after a power failure. With --disks a site's folder is
 lost, and made again by `shop rebuild`. With --power `kept` and `out` lose their ends. --published: asks end only once another site, or the
-server, has them; with --disks and --power what was told otherwise may be gone.
+server, has them; with --disks and --power what was told otherwise may be gone. With --elsewhere any supervisor is asked for any site.
 
 At the end all sites have equal logs as sets and equal tables, the audit says Agree, each accepted ask is in the logs once, as it was
 asked, and none that was told *not accepted* is. Figures go to standard output; the status is 1 if something was lost or doubled."""
@@ -96,7 +96,8 @@ class Asker(threading.Thread):
     def ask(self, site: int, record: str) -> None:
         args, asked = self.trial.args, self.trial.asked
         request = {"op": "ask", "site": site, "records": [record], "timeout": args.timeout, "fetch": True, "published": args.published}
-        answers = list(client.call(self.trial.folder_of(site), request, 60))
+        folder = self.dice.choice(list(self.trial.parts)) if args.elsewhere else self.trial.folder_of(site)
+        answers = list(client.call(folder, request, 60))
         client.raise_fault(answers[-1])
         lines = answers[0]["lines"]
         head = lines[0].split(",")
@@ -350,7 +351,7 @@ def main() -> int:
     for name, default in (("kills", 20), ("seed", 1), ("sites", 4), ("askers", 8)):
         words.add_argument(f"--{name}", type=int, default=default)
     words.add_argument("--timeout", type=float, default=15.0)
-    for name in ("published", "disks", "power"):
+    for name in ("published", "disks", "power", "elsewhere"):
         words.add_argument(f"--{name}", action="store_true")
     words.add_argument("--figures", type=pathlib.Path)
     words.add_argument("--folder", type=pathlib.Path, help="where the shop is; it stays there")

@@ -24,6 +24,7 @@ class Ask:
         self.site, self.seconds, self.fetches_token, self._say = site, seconds, fetches_token, say
         self.until = time.monotonic() + seconds
         self.answered = 0
+        self.was_refused = False        # the record that is asked was answered NoToken or RedBehind
 
     @property
     def left(self) -> float:
@@ -39,7 +40,7 @@ class Ask:
             await asyncio.wait_for(self.site.opened.wait(), self.left)
         except TimeoutError:
             raise Fault(Status.AWAY, f"site {self.site.number}: it isn't known yet what the others have of it "
-                        f"({self.site.shop.link.state}); {not_given(self.answered)}") from None
+                        f"({self.site.shop.link.state}); {not_given()}") from None
         at = 0
         try:
             while at < len(records):
@@ -47,7 +48,7 @@ class Ask:
                 await self._ask(records[at:end])
                 at = end
         except Gone as gone:
-            raise Fault(gone.status, f"{gone.why}; {gone.told(self.answered)}") from None
+            raise Fault(gone.status, f"{gone.why}; {gone.unknown or not_given(self.answered, self.was_refused)}") from None
 
     def _window_end(self, records: list[bytes], at: int) -> int:
         """Several are given at once only where none can be answered NoToken or RedBehind, after which it is asked again."""
@@ -63,8 +64,10 @@ class Ask:
         is_red = any(kind_of(record) in RED for record in window)
         site.red_askers += is_red
         try:
+            self.was_refused = False
             pending = await self._asked(window)
             while is_red and self.fetches_token and len(pending) == 1 and not await self._is_settled(pending[0]):
+                self.was_refused = True
                 pending = await self._asked(window)
             if is_red and site.ledger.holds_token:
                 site.hold.used(time.monotonic())
@@ -94,7 +97,7 @@ class Ask:
     def _no_answer(self, given: Pending | None) -> Fault:
         site = self.site
         why = f" ({site.fault[1]})" if site.state != State.UP and site.fault else ""
-        what = not_known(site.number, given.behind) if given else not_given(self.answered)
+        what = not_known(site.number, given.behind) if given else not_given(self.answered, self.was_refused)
         return Fault(Status.AWAY, f"site {site.number} is {site.state}{why}: no answer within {self.seconds:g} s; {what}")
 
     async def _is_settled(self, pending: Pending) -> bool:

@@ -11,9 +11,8 @@ class File(NamedTuple):
     inode: int
     size: int
 
-    def beyond(self, known: int) -> "File":
-        """The file with how many bytes it has beyond those that are known."""
-        return self._replace(size=self.size - known)
+
+NOT_KNOWN: File | None = None
 
 
 def file_of(found: os.stat_result) -> File:
@@ -40,3 +39,29 @@ def why_lost(site: int, has_folder: bool, has_kept: bool, has_out: bool) -> str 
         return "its file `out` was removed or changed (stop the shop, remove what is left of it and start it: `kept` is enough)"
     what = "file `kept` was removed or changed" if has_folder else "folder is gone"
     return f"its {what} (stop the shop, put it back or say shop rebuild {site}, and start it)"
+
+
+class Files:
+    """The files `kept` and `out` of a site, as its supervisor read them last. Those of a new site aren't known yet."""
+
+    def __init__(self, site: int, folder: str) -> None:
+        self.site, self.folder = site, folder
+        self.kept, self.out = file_at(f"{folder}/kept"), NOT_KNOWN
+        self._beyond = 0, 0         # how many bytes they had beyond those that the ledger counts
+
+    def is_kept(self, file: File) -> bool:
+        """Whether this is the file `kept` of before, if there was one."""
+        return self.kept is None or self.kept[:2] == file[:2]
+
+    def read(self, kept: File, kept_bytes: int, out: File, out_bytes: int) -> None:
+        """They have been read to their ends, which are so many bytes by the ledger."""
+        self.kept, self.out = kept, out
+        self._beyond = kept.size - kept_bytes, out.size - out_bytes
+
+    def why_lost(self, kept_bytes: int, out_bytes: int, is_up: bool) -> str | None:
+        """Why the site can't go on whose ledger counts so many bytes. A keeper that isn't up yet may cut off a torn end."""
+        sizes = [count + beyond if is_up else 0 for count, beyond in zip((kept_bytes, out_bytes), self._beyond)]
+        has_kept, has_out = (
+            is_there(was and was._replace(size=size), file_at(f"{self.folder}/{name}"))
+            for was, size, name in ((self.kept, sizes[0], "kept"), (self.out, sizes[1], "out")))
+        return why_lost(self.site, has_kept or os.path.isdir(self.folder), has_kept, has_out)

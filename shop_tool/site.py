@@ -10,7 +10,7 @@ from typing import TYPE_CHECKING
 
 from .answers import Answer, AnswerReader
 from .ends import Fault, Status
-from .files import File, file_at, file_of, is_there, why_lost
+from .files import Files, file_of, why_lost
 from .ledger import Ledger
 from .records import Purpose, Token, text_of, why_not_one_record
 from .settings import Settings
@@ -45,11 +45,7 @@ class Gone(Fault):
 
     def __init__(self, why: str, unknown: str | None) -> None:
         self.why, self.unknown = why, unknown
-        super().__init__(Status.AWAY, f"{why}; {self.told(0)}")
-
-    def told(self, answered: int) -> str:
-        """What the asker is told, of whose records so many were answered before."""
-        return self.unknown or not_given(answered)
+        super().__init__(Status.AWAY, f"{why}; {unknown or not_given()}")
 
 
 class Pending:
@@ -77,9 +73,7 @@ class Site:
         self.shop, self.number = shop, number
         self.folder = f"{shop.folder}/{number}"
         self.ledger = Ledger(number, shop.settings.sites, f"{self.folder}/out")
-        # Its files, once they are known; of a size that is what they have beyond the ledger's bytes.
-        self.kept: File | None = file_at(f"{self.folder}/kept")
-        self.out: File | None = None
+        self.files = Files(number, self.folder)
         self.state, self.since = State.STARTING, stamp()
         self.starts = 0
         self.fault: tuple[str, str] | None = None   # the last one: when, and what
@@ -185,8 +179,8 @@ class Site:
         self.reader = AnswerReader()
         with open(f"{self.folder}/kept", "rb") as kept, open(f"{self.folder}/out", "rb") as out:
             files = file_of(os.fstat(kept.fileno())), file_of(os.fstat(out.fileno()))
-            if not is_there(self._had(self.kept, 0), files[0]):
-                raise Disagreement("its file `kept` is another one than before")
+            if not self.files.is_kept(files[0]):
+                raise Disagreement(str(why_lost(self.number, has_folder=True, has_kept=False, has_out=True)))
             kept.seek(self.ledger.kept_bytes)
             out.seek(self.ledger.out_bytes)
             while data := out.read(1 << 20):
@@ -201,7 +195,7 @@ class Site:
                 await asyncio.sleep(0)
         if self.ledger.records != count:
             raise ValueError(f"{count} records are kept, and {self.ledger.records} are answered")
-        self.kept, self.out = files[0].beyond(self.ledger.kept_bytes), files[1].beyond(self.ledger.out_bytes)
+        self.files.read(files[0], self.ledger.kept_bytes, files[1], self.ledger.out_bytes)
         # What is left wasn't kept, so it is given again, unless nobody waits for it.
         self.line = collections.deque(pending for pending in self.line if not pending.done.done() and not pending.is_left)
 
@@ -225,16 +219,9 @@ class Site:
     def has_lost_files(self, more: int = 0) -> bool:
         """Whether the site is fenced; it is from now on, if its files aren't those any more that it had, `out` with so many bytes more."""
         if not self.fenced_by:
-            kept, out = self._had(self.kept, self.ledger.kept_bytes), self._had(self.out, self.ledger.out_bytes + more)
-            has_kept = is_there(kept, file_at(f"{self.folder}/kept"))
-            why = why_lost(self.number, has_kept or os.path.isdir(self.folder), has_kept, is_there(out, file_at(f"{self.folder}/out")))
-            if why:
+            if why := self.files.why_lost(self.ledger.kept_bytes, self.ledger.out_bytes + more, self.up.is_set()):
                 self.fence(why)
         return bool(self.fenced_by)
-
-    def _had(self, file: File | None, known: int) -> File | None:
-        """A file with the size that it has at least; one that isn't up may lose a torn end when it starts."""
-        return file and file._replace(size=file.size + known if self.up.is_set() else 0)
 
     def sent(self, begin: int, end: int) -> list[bytes]:
         """Packets that it sent, from its file `out`; where that can't be read, the site is fenced, or it is tried again."""

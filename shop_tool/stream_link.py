@@ -11,10 +11,10 @@ from .ledger import NOWHERE, Place, packets_of
 from .link import BATCH, FULL_WAIT, STARTING, UP, Link
 from .requests import Request, request_of
 from .site import Site
-from .streams import Streams, faults, id_of, reason_of
+from .streams import WANTS, Streams, faults, id_of, reason_of
 from .supervisor import Supervisor
 from .times import stamp
-from .told import is_called
+from .told import Once, is_called
 
 COMPARE_SECONDS = 1.0       # how often a site is compared with its stream, and statuses are told
 LAST_SECONDS = 2.0          # how long a stop waits for what was answered last to be published
@@ -30,6 +30,7 @@ class StreamLink(Link):
         self.down: dict[str, str] = {}              # what of the link doesn't work, since when and why
         self.tops = [0] * self.settings.sites       # how many messages the stream of each site has
         self.counts: dict[int, int] = {}            # how many packets of each site here are in its stream
+        self.calls = Once(WANTS)
         self.main = Streams(self.settings)
 
     @property                                       # type: ignore[override]
@@ -141,7 +142,9 @@ class StreamLink(Link):
         if b"want" in fields:
             self.shop.hear_want(int(fields[b"want"]), int(fields[b"known"]))
         elif (site := self.shop.sites.get(int(fields[b"site"]))) and self._is_called(site, fields.get(b"owner")):
-            self.shop.task(self._called(fields[b"call"].decode(), site, request_of(fields[b"request"])), is_needed=False)
+            name, request = fields[b"call"], request_of(fields[b"request"])
+            if self.calls.is_new(name):
+                self.shop.task(self._called(name.decode(), site, request), is_needed=False)
 
     def _is_called(self, site: Site, owner: bytes | None) -> bool:
         try:

@@ -4,12 +4,14 @@
 accepted, just that is said, with how it is found out.
 """
 
+import collections
 from typing import Any
 
 
-def not_given(answered: int) -> str:
-    """Of records that no site was given, and that none will be; `answered` of the same request were answered before."""
-    return "nothing more was given to it" if answered else "nothing was given to it"
+def not_given(answered: int = 0, was_refused: bool = False) -> str:
+    """Of records that no site will be given: one that it refused for want of the token, or the first and the rest of a request of which so
+    many were answered before."""
+    return "not accepted" if was_refused else "nothing more was given to it" if answered else "nothing was given to it"
 
 
 def not_known(site: int, records: int) -> str:
@@ -21,6 +23,22 @@ def not_known(site: int, records: int) -> str:
 def unanswered(request: dict[str, Any]) -> str:
     """Of a request of which no more is known. Only asks change something."""
     return f"; whether it was accepted isn't known (shop log {request.get('site')})" if request.get("op") == "ask" else ""
+
+
+class Once:
+    """Names, the last of them: a call that was sent again after a connection broke isn't answered twice."""
+
+    def __init__(self, most: int) -> None:
+        self._names: collections.OrderedDict[bytes, None] = collections.OrderedDict()
+        self._most = most
+
+    def is_new(self, name: bytes) -> bool:
+        if name in self._names:
+            return False
+        self._names[name] = None
+        if len(self._names) > self._most:
+            self._names.popitem(last=False)
+        return True
 
 
 def is_called(owner: str | None, own: str, is_fenced: bool) -> bool:
