@@ -52,23 +52,24 @@ def call(folder: str, request: dict[str, Any], seconds: float | None = None) -> 
         raise Fault(Status.AWAY, f"{folder}{':' if what.startswith('there') else ''} {what} (shop start)")
     with line, line.makefile("rb") as answers:
         try:
-            line.settimeout(_left(until))
+            line.settimeout(left(until) if until else None)
             line.sendall(json.dumps(request).encode() + b"\n")
             while (text := answers.readline()).endswith(b"\n"):
                 answer = json.loads(text)
                 yield answer
                 if answer.get("end"):
                     return
-                line.settimeout(_left(until))
+                line.settimeout(left(until) if until else None)
         except TimeoutError:
-            raise Fault(Status.AWAY, f"the supervisor of {folder} gave no answer within {seconds:g} s{unanswered(request)}") from None
+            raise Fault(Status.AWAY, f"the supervisor of {folder} gave no answer within {round(seconds, 2):g} s{unanswered(request)}") from None
         except OSError:
             pass
     raise Fault(Status.AWAY, f"the supervisor of {folder} ended before it answered{unanswered(request) or ' (shop log)'}")
 
 
-def _left(until: float | None) -> float | None:
-    return None if until is None else max(until - time.monotonic(), 0.001)
+def left(until: float) -> float:
+    """The seconds until then."""
+    return max(until - time.monotonic(), 0.001)
 
 
 def one(folder: str, request: dict[str, Any], seconds: float | None = None) -> dict[str, Any]:

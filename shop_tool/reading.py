@@ -4,6 +4,7 @@ import argparse
 import json
 import os
 import subprocess
+import time
 from typing import IO
 
 from . import client, program
@@ -40,12 +41,13 @@ def list_rows(args: argparse.Namespace) -> int:
 
 def show(args: argparse.Namespace) -> int:
     """Prints one row."""
+    until = time.monotonic() + args.timeout
     nothing = Fault(Status.REFUSED, f"site {args.site} has no {args.kind} {args.key}")
     key = "nickname" if args.kind == "user" and "." not in args.key else COLUMNS[args.kind][0]
     record = _listing_with(args)
     if record is None:
         raise nothing
-    row = next((row for row in listing(args.folder, args.site, record, args.timeout) if str(row[key]) == args.key), None)
+    row = next((row for row in listing(args.folder, args.site, record, client.left(until)) if str(row[key]) == args.key), None)
     if row is None:
         raise nothing
     if args.json:
@@ -104,6 +106,7 @@ def audit(args: argparse.Namespace) -> int:
 
 def audited(folder: str, seconds: float, save: str | None, earlier: list[str]) -> str:
     """What the auditor says of the logs of all sites."""
+    until = time.monotonic() + seconds
     sites = client.one(folder, {"op": "status"}, seconds)["shop"]["sites"]
     auditor = subprocess.Popen([program.path(), "audit", "--sites", str(sites)], stdin=subprocess.PIPE, stdout=subprocess.PIPE)
     assert auditor.stdin and auditor.stdout
@@ -112,7 +115,7 @@ def audited(folder: str, seconds: float, save: str | None, earlier: list[str]) -
         for name in earlier:
             with open(name, "rb") as file:
                 _give(auditor.stdin, file.read())
-        for answer in client.call(folder, {"op": "logs", "timeout": seconds}):
+        for answer in client.call(folder, {"op": "logs", "timeout": client.left(until)}):
             client.raise_fault(answer)
             text = bytes_of(answer.get("text", ""))
             _give(auditor.stdin, text)

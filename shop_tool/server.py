@@ -193,7 +193,7 @@ class Server:
                 await asyncio.wait([pending[-1].done])
                 return [each.done.result() for each in pending]
         except TimeoutError:
-            raise Fault(Status.AWAY, f"site {site.number} is {site.state}, and gave no answer within {seconds:g} s") from None
+            raise Fault(Status.AWAY, f"site {site.number} is {site.state}, and gave no answer within {round(seconds, 2):g} s") from None
         finally:
             site.leave(pending)
 
