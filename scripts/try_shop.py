@@ -774,6 +774,20 @@ def test_byte_239(at: Folder) -> None:
     expect(at.text("auction/0/kept").count("comment,") == 4000, "each is kept once")
 
 
+def test_kept_by_hand(at: Folder) -> None:
+    """A site that `rubis keep` was given lines that are no record, or two, is read as it counts them; a crash later finds what was given."""
+    at.run("printf 'user,ann\\n\\nuser,bob\\r\\nstop\\rgo\\n\\r\\n\\357\\273\\277user,eve\\n' | ./rubis keep auction/0 > said")
+    at.run("./shop start auction")
+    expect(at.shop("ask 0 item,0.1,lamp,7,3,100,80") == "ok,0.3\n", "an ask")
+    log = [line for line in at.shop("log 0").splitlines() if line.startswith("< ")]
+    expect(log == ["< user,ann", "< user,bob", "< stop", "< go", "< broken", "< item,0.1,lamp,7,3,100,80"], f"its records: {log}")
+    asker = at.start("sh -c 'seq -f comment,0.3,0.2,0.1,4,%g 4000 | ./shop -C auction ask 0 - > said'")
+    for _ in range(3):
+        at.kill(at.site(0)["pid"])
+        at.wait("the site", lambda: at.site(0)["pid"] and at.site(0)["state"] == "up")
+    expect(asker.wait(SECONDS) == 0 and at.text("said").count("ok,0.") == 4000, "each is accepted")
+
+
 def test_forged_packets(at: Folder) -> None:
     """What stands in a stream and isn't one packet isn't given to a site, which goes on with what comes behind it."""
     server = Server(at)

@@ -32,6 +32,7 @@ def connect(folder: str, seconds: float = CONNECT_SECONDS) -> socket.socket | No
                 return line
             except BlockingIOError:
                 if time.monotonic() > until:
+                    line.close()
                     raise Fault(Status.AWAY, f"the supervisor of {folder} takes no connection; nothing was asked") from None
                 time.sleep(0.05)
     except OSError:
@@ -61,7 +62,7 @@ def call(folder: str, request: dict[str, Any], seconds: float | None = None) -> 
                     return
                 line.settimeout(left(until) if until else None)
         except TimeoutError:
-            raise Fault(Status.AWAY, f"the supervisor of {folder} gave no answer within {round(seconds, 2):g} s{unanswered(request)}") from None
+            raise Fault(Status.AWAY, f"the supervisor of {folder} gave no answer within {round(seconds or 0, 2):g} s{unanswered(request)}") from None
         except OSError:
             pass
     raise Fault(Status.AWAY, f"the supervisor of {folder} ended before it answered{unanswered(request) or ' (shop log)'}")

@@ -117,10 +117,10 @@ class Ledger:
     def messages(self) -> int:
         return self.sends.messages + sum(prefix.count for prefix in self.have)
 
-    def note(self, record: bytes, answer: Answer) -> Message | Token | None:
-        """Takes in one record with its answer; returns the packet that was sent with it."""
+    def note(self, record: bytes, answer: Answer, size: int | None = None) -> Message | Token | None:
+        """Takes in one record, which takes so many bytes of the file `kept`, with its answer; returns the packet that was sent with it."""
         self.records += 1
-        self.kept_bytes += len(record) + 1
+        self.kept_bytes += len(record) + 1 if size is None else size
         sent = None
         match answer.kind:
             case b"ok" | b"passed":

@@ -10,7 +10,7 @@ from collections.abc import Iterable
 from typing import Any
 
 from . import client, program, settings
-from .answers import AnswerReader
+from .answers import AnswerReader, KeptReader
 from .ends import Fault, Status
 from .grid import grid_of_status, grid_text
 from .records import text_of
@@ -189,10 +189,11 @@ def _last_answers(args: argparse.Namespace, stood: int) -> "collections.deque[st
     reader = AnswerReader()
     try:
         with open(f"{folder}/kept", "rb") as kept, open(f"{folder}/out", "rb") as out:
+            records = KeptReader(kept)
             while data := out.read(min(1 << 20, stood)):
                 stood -= len(data)
                 for answer in reader.feed(data):
-                    last.append("< " + text_of(kept.readline().rstrip(b"\n")))
+                    last.append("< " + text_of(records.next()[0]))
                     last.extend("> " + text_of(line) for line in answer.lines)
     except FileNotFoundError:
         raise Fault(Status.AWAY, f"site {args.site} doesn't run in {args.folder}") from None

@@ -8,7 +8,7 @@ import time
 from collections.abc import Iterator
 from typing import TYPE_CHECKING
 
-from .answers import Answer, AnswerReader
+from .answers import Answer, AnswerReader, KeptReader
 from .ends import Fault, Status
 from .files import Files, file_of, why_lost
 from .ledger import Ledger
@@ -183,13 +183,14 @@ class Site:
                 raise Disagreement(str(why_lost(self.number, has_folder=True, has_kept=False, has_out=True)))
             kept.seek(self.ledger.kept_bytes)
             out.seek(self.ledger.out_bytes)
+            records = KeptReader(kept)
             while data := out.read(1 << 20):
                 for answer in self.reader.feed(data):
-                    record = kept.readline().rstrip(b"\n")
+                    record, size = records.next()
                     pending = next(given, None)
                     if self.known.is_set() and (not pending or pending.record != record):
                         raise Disagreement("its file `kept` has other records than it was given")
-                    self._note(record, answer)
+                    self._note(record, answer, size)
                     if pending:
                         self._answer(pending, answer)
                 await asyncio.sleep(0)
@@ -310,8 +311,8 @@ class Site:
         self._note(pending.record, answer)
         self._answer(pending, answer)
 
-    def _note(self, record: bytes, answer: Answer) -> None:
-        sent = self.ledger.note(record, answer)
+    def _note(self, record: bytes, answer: Answer, size: int | None = None) -> None:
+        sent = self.ledger.note(record, answer, size)
         kind = answer.kind
         if isinstance(sent, Token):
             self.is_passing = False
