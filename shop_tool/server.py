@@ -100,7 +100,10 @@ class Server:
     async def serve(self, request: Request, say: Say, called: Site | None = None) -> None:
         """Answers one request, of a client, or of another supervisor that calls a site here; the last answer has `end`."""
         try:
-            answer = await (self.answer(request, say) if called is None else self._answer_of(called, request, say))
+            if called and request.get("op") != "status":
+                answer = await self._answer_of(called, request, say)
+            else:
+                answer = await self.answer(request, say)
             last = end_of(None) | (answer or {})
         except Fault as fault:
             last = end_of(fault)
