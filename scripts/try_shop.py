@@ -385,7 +385,8 @@ def test_fence(at: Folder) -> None:
     was = sends(at, "a/0")
     expect(at.status("a")["token"] == 0, "site 0 holds the token")
     at.shop("rebuild 0", 1, "a is running", folder="a")
-    at.run("./shop stop a; rm -r a/0")
+    at.kill(at.status("a")["pid"])
+    at.run("rm -r a/0")
     at.run("./shop start a", 3, "its folder ends with 0-0 (shop rebuild 0)")
     at.shop("ask 0 user,eve", 3, "nothing was given to it", folder="a")
     at.run("./shop stop a")
@@ -604,12 +605,12 @@ def test_copy_with_the_same_end(at: Folder) -> None:
     at.shop(f"ask 0 {SALE} --published", folder="a")
     at.run("./shop stop a; cp -a a/0 older; ./shop start a")
     server.kill()
-    expect(at.shop("ask 0 user,cat", folder="a") == "ok,0.4\n", "an ask without the server")
+    expect(at.shop("ask 0 restock,0.3,0.1,2", folder="a") == "ok,0.4\n", "an ask without the server")
     at.run("./shop stop a")
     put_back(at, "a/0", "older")
     server.start()
     at.run("./shop start a", 3, "its folder is a copy, or was put back to an earlier state: this is its start 2")
-    at.shop("ask 0 user,dan --timeout 1", 3, "nothing was given to it", folder="a")
+    at.shop("ask 0 restock,0.3,0.1,5 --timeout 1", 3, "nothing was given to it", folder="a")
 
 
 def test_other_past(at: Folder) -> None:
@@ -675,7 +676,7 @@ def test_copied(at: Folder) -> None:
     at.shop("ask 2 user,eve --timeout 1", 3, "nothing was given to it", folder="c")
     at.run("./shop stop c")
     at.shop("adopt 2", 1, "site 2 is running elsewhere", folder="c")
-    at.run("./shop stop b")
+    at.kill(at.status("b")["pid"])
     at.shop("adopt 2", folder="c")
     at.run("./shop start b", 3, "c/2 has it")
     at.run("./shop start c")
@@ -790,6 +791,24 @@ def test_held(at: Folder) -> None:
         at.run(command, 3, "takes no requests")
     os.killpg(held.pid, signal.SIGKILL)
     at.run("./shop stop auction", 0, "auction is not running")
+
+
+def test_stop_hands_the_token_over(at: Folder) -> None:
+    """A stop passes the token to a site elsewhere that runs, so red asks go on; if none does, it stays, and the stop says so."""
+    server = Server(at).start_shop()
+    at.shop(f"ask 0 {SALE}", folder="a")
+    at.run("./shop stop a")
+    expect(at.shop("ask 2 bid,0.3,0.2,500", folder="b") == "ok,2.1\n", "red asks go on without the sites of the other machine")
+    at.run("./shop stop b", 0, "the token stays with site 2, since no site elsewhere takes it")
+    at.run("./shop start a; ./shop start b")
+    expect(at.shop("ask 1 bid,0.3,0.2,600", folder="a") == "ok,1.1\n", "it comes back")
+    other = at.status("b")["pid"]
+    os.kill(other, signal.SIGSTOP)
+    at.run("./shop stop a", 0, "the token stays with site 1, since no site elsewhere takes it")
+    os.kill(other, signal.SIGCONT)
+    at.run("./shop start a")
+    server.kill()
+    at.run("./shop stop a", 0, "the token stays with site 1, since no site elsewhere takes it")
 
 
 def test_stop_by_signals(at: Folder) -> None:

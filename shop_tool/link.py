@@ -70,6 +70,13 @@ class Link(abc.ABC):
         """The status of a site that doesn't run here."""
         return None
 
+    async def say_leave(self) -> None:
+        """Tells all supervisors of the shop that no site here wants the token any more."""
+
+    async def up_elsewhere(self) -> set[int]:
+        """The sites that other supervisors say are up."""
+        return set()
+
     async def call(self, request: Request, site: int, seconds: float) -> list[dict[str, Any]] | None:
         """What the supervisor of a site elsewhere answers to a request; None if it gives no answer."""
         return None

@@ -97,8 +97,8 @@ def stop(args: argparse.Namespace) -> int:
         line.settimeout(STOP_SECONDS)
         try:
             line.sendall(b'{"op": "stop"}\n')
-            while line.recv(4096):
-                pass
+            for text in line.makefile("rb"):
+                print(f"shop: {json.loads(text)['said']}", file=sys.stderr)
         except OSError:
             pass
     while holder and lock.holder_of(args.folder) == holder:

@@ -106,6 +106,9 @@ class Server:
                 return {"well": well, "shop": shop}
             case "stop":
                 self.shop.stop("asked to stop")
+                await self.shop.stopping.wait()
+                if self.shop.stays:
+                    await say({"said": self.shop.stays})
                 await asyncio.Event().wait()        # the connection ends with the supervisor
             case "logs":
                 return await self._logs(request, say)
@@ -154,7 +157,7 @@ class Server:
         for record in records:
             if why := why_not_one_record(record):
                 raise Fault(Status.MISUSE, f"{text_of(record[:80])!r}: {why}; nothing was asked")
-        if self.shop.stopping.is_set():
+        if self.shop.is_leaving:
             raise Fault(Status.AWAY, "the shop is being stopped; nothing was asked")
 
         async def say_answer(record: bytes, answer: Answer) -> None:

@@ -143,6 +143,9 @@ class StreamLink(Link):
     def _heard(self, fields: dict[bytes, bytes]) -> None:
         if b"want" in fields:
             self.shop.hear_want(int(fields[b"want"]), int(fields[b"known"]))
+        elif b"leave" in fields:
+            for site in fields[b"leave"].split(b","):
+                self.shop.wants.drop(int(site))
         elif int(fields[b"site"]) in self.shop.sites:
             self.shop.task(self._called(fields[b"call"].decode(), json.loads(fields[b"request"])), is_needed=False)
 
@@ -163,6 +166,12 @@ class StreamLink(Link):
         except faults():
             pass        # it is said again
 
+    async def say_leave(self) -> None:
+        try:
+            await self.main.say({"leave": ",".join(map(str, self.shop.sites))})
+        except faults():
+            pass        # what was wanted is forgotten in a moment
+
     async def call(self, request: Request, site: int, seconds: float) -> list[dict[str, Any]] | None:
         try:
             async with Streams(self.settings) as server:
@@ -173,6 +182,13 @@ class StreamLink(Link):
     async def is_running(self, site: int) -> bool | None:
         status = await self.status_of(site)
         return status is not None and status["state"] == "up"
+
+    async def up_elsewhere(self) -> set[int]:
+        try:
+            statuses = await self.main.statuses()
+        except faults():
+            return set()
+        return {site for site, status in statuses.items() if site not in self.shop.sites and status["state"] == "up"}
 
     async def status_of(self, site: int) -> dict[str, Any] | None:
         try:

@@ -8,13 +8,13 @@ import time
 from collections.abc import Coroutine
 from typing import TYPE_CHECKING, Any
 
-from .ends import Status
+from .ends import Fault, Status
 from .grid import waits_of
 from .ledger import Prefix
 from .lives import begin_life, lives_of
 from .lock import take_lock
 from .opening import may_open_at_once
-from .passing import Passing
+from .passing import HAND_OVER_SECONDS, Passing
 from .records import RECORDS_OF_A_RUN, Message, Token, packet_of, text_of
 from .settings import FILES, Settings
 from .signals import Signal, is_over_within
@@ -211,15 +211,28 @@ class Supervisor(Passing):
             pass
 
     def stop(self, why: str) -> None:
-        if not self.stopping.is_set():
+        if not self.is_leaving:
             self.event(f"supervisor: {why}")
+            self.is_leaving = True
+            self.task(self._leave())
+
+    async def _leave(self) -> None:
+        """Hands the token over, if there is somebody elsewhere, and stops the sites once what they were given is answered."""
+        try:
+            if len(self.sites) < self.settings.sites:
+                await is_over_within(HAND_OVER_SECONDS, self.hand_over())
+        except Fault:
+            pass        # the site has ended, or had its last turn
+        finally:
+            if self.stays:
+                self.event(f"supervisor: {self.stays}")
             self.stopping.set()
             for site in self.sites.values():
                 site.stop()
 
     def _signalled(self, name: str) -> None:
         """A signal stops the shop; a further one ends this process at once, whatever it waits for."""
-        if not self.stopping.is_set():
+        if not self.is_leaving:
             return self.stop(name)
         self.event(f"supervisor: {name} again, ended at once")
         for site in self.sites.values():
