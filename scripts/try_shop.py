@@ -509,7 +509,8 @@ def test_fence(at: Folder) -> None:
     was = sends(at, "a/0")
     expect(at.status("a")["token"] == 0, "site 0 holds the token")
     at.shop("rebuild 0", 1, "a is running", folder="a")
-    at.run("./shop stop a; rm -r a/0")
+    at.kill(at.status("a")["pid"])
+    at.run("rm -r a/0")
     at.run("./shop start a", 3, "its folder ends with 0-0 (shop rebuild 0)")
     at.shop("ask 0 user,eve", 3, "nothing was given to it", folder="a")
     at.run("./shop stop a")
@@ -582,12 +583,11 @@ def test_lost_over_files(at: Folder) -> None:
     at.run("./shop start auction")
     expect(at.shop("ask 0 user,cat") == "ok,0.5\n", "it goes on")
     at.shop("audit")
-    # Its files lost their ends with the power; `boot` is of another start of the machine.
+    # Its files lost their ends with the power.
     at.shop("stop")
     for name, lines in (("kept", 2), ("out", 4)):
         path = at.path / "auction/0" / name
         path.write_text("".join(path.read_text().splitlines(keepends=True)[:lines]))
-    (at.path / "auction/boot").unlink()
     at.run("./shop start auction", 3, "site 1 has 5 messages of it, and its folder has 2 (shop rebuild 0)")
     at.shop("stop")
     expect("what was there is auction/0.lost.1" in at.shop("rebuild 0"), "the old folder is kept")
@@ -607,6 +607,175 @@ def test_others_append(at: Folder) -> None:
     at.run("./shop start a")
     expect(at.shop("ask 0 user,eve", folder="a") == "ok,0.4\n", "it goes on")
     at.shop("audit", folder="b")
+
+
+def begin_again(server: Server, site: int, count: int) -> None:
+    """The server loses all of a site's stream but its first entries."""
+    entries = server.say(f"xrange auction:{site} - +").split("\n")
+    server.say(f"del auction:{site}")
+    for name, packet in list(zip(entries[0::3], entries[2::3]))[:count]:
+        server.say(f"xadd auction:{site} {name} p '{packet}'")
+
+
+def token_comes_back(at: Folder, left: int, loses_again: bool = False) -> None:
+    """The token was passed to a stopped site, and a message followed. The server has lost all but the first entries of the sender's
+    stream, and a third site has put the messages back; the recipient has read them before the sender comes back, with its pass."""
+    server = Server(at)
+    for site, folder in enumerate("abc"):
+        at.run(f"./shop start {folder} --sites 3 --here {site} --over {server.over}")
+    at.shop(f"ask 0 {SALE}", folder="a")
+    for folder, site in (("b", 1), ("c", 2)):
+        at.shop(f"wait {site}", folder=folder)
+    at.run("./shop stop c")
+    at.shop("pass 0 2", folder="a")
+    at.shop("ask 0 restock,0.3,0.1,2", folder="a")
+    at.shop("wait 1", folder="b")
+    at.run("./shop stop a")
+    expect(server.say("xlen auction:0") == "5\n", "four messages, and the token between the last two")
+    begin_again(server, 0, left)
+    at.wait("the messages again", lambda: server.say("xlen auction:0") == "4\n")
+    at.run(f"./shop start c --sites 3 --here 2 --over {server.over}")
+    at.shop("wait 2", folder="c")
+    if loses_again:
+        at.run("./shop stop b")
+        server.say("flushall")
+    at.run("./shop start a")
+    expect(at.shop("ask 2 bid,0.3,0.2,500", folder="c") == "ok,2.1\n", "the token is where it was passed to")
+    at.run("./shop start b")
+    expect(at.shop("ask 0 user,eve", folder="b").startswith("ok,0."), "it goes on from there")
+    at.shop("audit", folder="b")
+
+
+def test_token_to_a_stopped_site(at: Folder) -> None:
+    """A token that was passed to a stopped site comes there, though the server lost all, and others put back what they had."""
+    token_comes_back(at, 0)
+
+
+def test_token_behind_a_lost_end(at: Folder) -> None:
+    """The same where the server lost the end of the stream."""
+    token_comes_back(at, 2)
+
+
+def test_token_behind_a_reader(at: Folder) -> None:
+    """The same where the server then loses all once more, and the sender begins its stream behind the recipient's place."""
+    token_comes_back(at, 0, True)
+
+
+def put_back(at: Folder, folder: str, copy: str) -> None:
+    """Puts the files of a site's folder back to a copy; the folder itself stays the same one."""
+    at.run(f"rm -f {folder}/* && cp -a {copy}/. {folder}/")
+
+
+def test_older_copy(at: Folder, options: str = "") -> None:
+    """Over files a site's folder is put back to an older copy, in the same boot, made before its last start or after it: it accepts
+    nothing, also where the others have no more of it, and goes on once it is rebuilt."""
+    at.run(f"./shop start auction --sites 2 {options}")
+    at.shop(f"ask 0 {SALE} --published")
+    at.run("cp -a auction/0 while_it_runs; ./shop stop auction; cp -a auction/0 stopped; ./shop start auction")
+    at.shop("stop")
+    put_back(at, "auction/0", "stopped")
+    at.run("./shop start auction", 3, "its folder is a copy, or was put back to an earlier state")
+    at.run("./shop stop auction; ./shop -C auction rebuild 0; ./shop start auction; cp -a auction/0 while_it_runs")
+    expect(at.shop("ask 0 user,cat --published") == "ok,0.4\n", "it goes on, and accepts more")
+    at.shop("stop")
+    put_back(at, "auction/0", "while_it_runs")
+    at.run("./shop start auction", 3, "site 1 has 4 messages of it, and its folder has 3 (shop rebuild 0)")
+    at.shop("ask 0 user,eve --timeout 1", 3, "nothing was given to it")
+    at.run("./shop stop auction; ./shop -C auction rebuild 0; ./shop start auction")
+    expect(at.shop("ask 0 user,eve") == "ok,0.5\n", "no number is given twice")
+    at.shop("wait 1")
+    at.shop("audit")
+
+
+def test_older_copy_with_sync(at: Folder) -> None:
+    """The same with --sync."""
+    test_older_copy(at, "--sync")
+
+
+def test_older_copy_without_its_server(at: Folder) -> None:
+    """Over a server that is away a folder that was put back to an older copy accepts nothing, until it is known what the others have;
+    one that has all it answered goes on at once, though its supervisor was killed. --alone takes the risk."""
+    server = Server(at).start_shop()
+    at.shop(f"ask 0 {SALE} --published", folder="a")
+    at.run("./shop stop b; ./shop stop a; cp -a a/0 older; ./shop start a")
+    at.shop("ask 0 user,cat --published", folder="a")
+    server.kill()
+    expect(at.shop("ask 0 user,dan", folder="a") == "ok,0.5\n", "a site that was opened goes on without the server")
+    at.kill(at.status("a")["pid"])
+    at.run("cp -a a/0 newest; ./shop start a", 3, "link: down")
+    expect(at.shop("ask 0 user,eve", folder="a") == "ok,0.6\n", "it has all that it answered")
+    at.kill(at.status("a")["pid"])
+    put_back(at, "a/0", "newest")
+    at.run("./shop start a", 3, "site 0: takes no asks until it is known what the others have of it (or --alone)")
+    at.shop("ask 0 user,fay --timeout 1", 3, "nothing was given to it", folder="a")
+    at.run("./shop stop a; ./shop start a --alone", 3, "link: down")
+    expect(at.shop("ask 0 user,fay", folder="a") == "ok,0.6\n", "at the operator's risk a number is given twice")
+    at.run("./shop stop a")
+    put_back(at, "a/0", "older")
+    at.run("./shop start a", 3, "takes no asks")
+    at.shop("ask 0 user,gus --timeout 1", 3, "nothing was given to it", folder="a")
+    server.start()
+    at.wait("the fence", lambda: at.site(0, "a")["state"] == "fenced")
+    expect("had its packet 4-0" in at.site(0, "a")["fault"], "what it says")
+    at.run("./shop stop a; ./shop -C a rebuild 0 --anyway; ./shop start a; ./shop start b")
+    expect(at.shop("ask 0 user,gus", folder="a") == "ok,0.5\n", "it goes on")
+    at.shop("audit", folder="b")
+
+
+def test_copy_with_the_same_end(at: Folder) -> None:
+    """An older copy whose last packet is the last one of its stream is fenced: it lacks an ask that was told ok, and may give its number
+    again."""
+    server = Server(at).start_shop()
+    at.shop(f"ask 0 {SALE} --published", folder="a")
+    at.run("./shop stop a; cp -a a/0 older; ./shop start a")
+    server.kill()
+    expect(at.shop("ask 0 restock,0.3,0.1,2", folder="a") == "ok,0.4\n", "an ask without the server")
+    at.run("./shop stop a")
+    put_back(at, "a/0", "older")
+    server.start()
+    at.run("./shop start a", 3, "its folder is a copy, or was put back to an earlier state: this is its start 2")
+    at.shop("ask 0 restock,0.3,0.1,5 --timeout 1", 3, "nothing was given to it", folder="a")
+
+
+def test_other_past(at: Folder) -> None:
+    """A folder that went on at its operator's risk is compared packet by packet with what the others have, though its last one is equal."""
+    server = Server(at).start_shop()
+    at.shop(f"ask 0 {SALE} --published", folder="a")
+    at.run("cp -a a/0 older")
+    at.shop("ask 0 user,cat restock,0.3,0.1,1 --published", folder="a")
+    server.kill()
+    at.run("./shop stop a")
+    put_back(at, "a/0", "older")
+    at.run("./shop start a --alone", 3, "link: down")
+    expect(at.shop("ask 0 user,eve restock,0.3,0.1,1", folder="a") == "ok,0.4\nok,0.5\n", "numbers that are given twice")
+    server.start()
+    at.wait("the fence", lambda: at.site(0, "a")["state"] == "fenced")
+    expect("has another packet 4-0 of it: two processes were this site" in at.site(0, "a")["fault"], at.site(0, "a")["fault"])
+
+
+CLONE = """
+import os
+stat = os.stat
+os.stat = lambda path, *words, **named: stat(path.replace("/c/2", "/b/2") if isinstance(path, str) else path, *words, **named)
+"""
+
+
+def test_cloned_image(at: Folder) -> None:
+    """A clone of a machine's disk, whose folder has the name of the original: it is fenced while that runs, and once it has run since."""
+    Server(at).start_shop()
+    at.shop(f"ask 0 {SALE}", folder="a")
+    at.shop("wait 2", folder="b")
+    (at.path / "sitecustomize.py").write_text(CLONE)
+    start = f"PYTHONPATH={at.path} ./shop start c"
+    at.run(f"cp -a b c; {start}", 3, "runs it (shop adopt 2, if that is gone for good)")
+    at.run("./shop stop c; ./shop stop b; rm -r c; cp -a b c; ./shop start b")
+    expect(at.shop("ask 2 comment,0.3,0.2,0.1,5,good", folder="b") == "ok,2.1\n", "the original goes on")
+    at.run("./shop stop b")
+    at.run(start, 3, "shop rebuild 2")
+    at.shop("ask 2 comment,0.3,0.2,0.1,1,bad --timeout 1", 3, "nothing was given to it", folder="c")
+    at.run("./shop stop c; rm -r c; cp -a b c")
+    at.run(f"{start}; ./shop stop c")
+    at.run("./shop start b", 3, "its folder is a copy, or was put back to an earlier state")
 
 
 def test_deleted(at: Folder) -> None:
@@ -631,7 +800,7 @@ def test_copied(at: Folder) -> None:
     at.shop("ask 2 user,eve --timeout 1", 3, "nothing was given to it", folder="c")
     at.run("./shop stop c")
     at.shop("adopt 2", 1, "site 2 is running elsewhere", folder="c")
-    at.run("./shop stop b")
+    at.kill(at.status("b")["pid"])
     at.shop("adopt 2", folder="c")
     at.run("./shop start b", 3, "c/2 has it")
     at.run("./shop start c")
@@ -685,15 +854,21 @@ def test_access(at: Folder) -> None:
     expect("other" not in at.text("a/events"), "what is written down")
 
 
-def test_tls(at: Folder) -> None:
-    """Over TLS: a certificate that the machine, or SSL_CERT_FILE, doesn't vouch for is refused, and another is taken."""
+def tls_server(at: Folder, host: str) -> tuple[Server, str]:
+    """A server with a certificate of some host, and the URL of a shop over it at this one."""
     if not shutil.which("openssl"):
         raise Skipped("no openssl on this machine")
-    at.run("openssl req -x509 -newkey rsa:2048 -nodes -keyout key -out certificate -days 2 -subj /CN=localhost "
-           "-addext subjectAltName=DNS:localhost 2> told")
+    at.run(f"openssl req -x509 -newkey rsa:2048 -nodes -keyout key -out certificate -days 2 -subj /CN={host} "
+           f"-addext subjectAltName=DNS:{host} 2> told")
     port = free_port()
-    Server(at, f"--tls-port {port} --tls-cert-file certificate --tls-key-file key --tls-ca-cert-file certificate --tls-auth-clients no")
-    over = f"rediss://localhost:{port}/auction"
+    server = Server(at, f"--tls-port {port} --tls-cert-file certificate --tls-key-file key --tls-ca-cert-file certificate "
+                    "--tls-auth-clients no")
+    return server, f"rediss://localhost:{port}/auction"
+
+
+def test_tls(at: Folder) -> None:
+    """Over TLS: a certificate that the machine, or SSL_CERT_FILE, doesn't vouch for is refused, and another is taken."""
+    _, over = tls_server(at, "localhost")
     at.run(f"./shop start a --sites 2 --here 0 --over {over}", 3, "certificate verify failed")
     at.run("./shop stop a")
     at.run(f"SSL_CERT_FILE=certificate ./shop start a --sites 2 --here 0 --over {over}")
@@ -701,6 +876,94 @@ def test_tls(at: Folder) -> None:
     at.shop(f"ask 0 {SALE}", folder="a")
     expect(at.shop("ask 1 bid,0.3,0.2,500", folder="b") == "ok,1.1\n", "a bid at the other site")
     at.shop("audit", folder="a")
+
+
+def test_tls_of_another_host(at: Folder) -> None:
+    """A certificate that the machine vouches for, and that is another host's, is refused, and the refusal says so."""
+    _, over = tls_server(at, "elsewhere.example")
+    start = f"SSL_CERT_FILE=certificate ./shop start a --sites 2 --here 0 --over {over}"
+    at.run(start, 3, "certificate verify failed: Hostname mismatch, certificate is not valid for 'localhost'")
+    at.run("./shop stop a")
+    at.run(start.replace("localhost:", "localhost?ssl_check_hostname=no:"), 2, "--over is files or redis://HOST:PORT/NAME")
+
+
+SWALLOWS = """
+import asyncio, redis.asyncio.connection as connection, redis.exceptions
+read = connection.Connection.read_response
+
+async def read_response(*words, **named):
+    try:
+        return await read(*words, **named)
+    except asyncio.CancelledError:
+        for _ in range(10):
+            try:
+                await asyncio.sleep(0.02)
+            except asyncio.CancelledError:
+                pass
+        raise redis.exceptions.TimeoutError("a time-out that swallowed a cancel") from None
+connection.Connection.read_response = read_response
+"""
+
+
+def test_stop_without_its_server(at: Folder) -> None:
+    """A stop ends though the server hangs, and though its client swallows cancels, as redis-py 4.3.4 does where one meets a time-out."""
+    server = Server(at)
+    (at.path / "sitecustomize.py").write_text(SWALLOWS)
+    at.run(f"PYTHONPATH={at.path} ./shop start a --sites 2 --here 0 --over {server.over}")
+    at.shop("ask 0 user,ann", folder="a")
+    process = at.status("a")["pid"]
+    server.process.send_signal(signal.SIGSTOP)
+    at.run("./shop stop a")
+    at.wait("the end of the supervisor", lambda: not os.path.exists(f"/proc/{process}"))
+    at.run("./shop stop a", 0, "a is not running")
+    server.process.send_signal(signal.SIGCONT)
+    at.run("./shop start a")
+    expect(at.shop("ask 0 user,bob", folder="a") == "ok,0.2\n", "it goes on")
+
+
+def test_held(at: Folder) -> None:
+    """Where a process holds the folder and takes no requests, commands say so, and don't say that it isn't running."""
+    at.run("./shop start auction; ./shop stop auction")
+    held = at.start("flock auction/lock sleep 100")
+    at.wait("the lock", lambda: subprocess.run(["flock", "-n", at.path / "auction/lock", "true"]).returncode)
+    for command in ("./shop stop auction", "./shop start auction", "./shop -C auction status"):
+        at.run(command, 3, "takes no requests")
+    os.killpg(held.pid, signal.SIGKILL)
+    at.run("./shop stop auction", 0, "auction is not running")
+
+
+def test_stop_hands_the_token_over(at: Folder) -> None:
+    """A stop passes the token to a site elsewhere that runs, so red asks go on; if none does, it stays, and the stop says so."""
+    server = Server(at).start_shop()
+    at.shop(f"ask 0 {SALE}", folder="a")
+    at.run("./shop stop a")
+    expect(at.shop("ask 2 bid,0.3,0.2,500", folder="b") == "ok,2.1\n", "red asks go on without the sites of the other machine")
+    at.run("./shop stop b", 0, "the token stays with site 2, since no site elsewhere takes it")
+    at.run("./shop start a; ./shop start b")
+    expect(at.shop("ask 1 bid,0.3,0.2,600", folder="a") == "ok,1.1\n", "it comes back")
+    other = at.status("b")["pid"]
+    os.kill(other, signal.SIGSTOP)
+    at.run("./shop stop a", 0, "the token stays with site 1, since no site elsewhere takes it")
+    os.kill(other, signal.SIGCONT)
+    at.run("./shop start a")
+    server.kill()
+    at.run("./shop stop a", 0, "the token stays with site 1, since no site elsewhere takes it")
+
+
+def test_stop_by_signals(at: Folder) -> None:
+    """A second signal ends a supervisor that waits for a site that hangs."""
+    run = at.start("./shop run auction")
+    at.wait("the shop", lambda: (at.path / "auction/sock").exists())
+    at.shop("ask 0 user,ann")
+    os.kill(at.site(0)["pid"], signal.SIGSTOP)
+    at.shop("ask 0 user,bob --timeout 1", 3, "it may still be accepted")
+    run.terminate()
+    at.wait("the stop", lambda: "supervisor: SIGTERM" in at.text("auction/events"))
+    expect(run.poll() is None, "it waits for the site")
+    run.terminate()
+    expect(run.wait(SECONDS) == 1, "its status")
+    at.run("./shop start auction")
+    expect(at.shop("ask 0 user,cat").startswith("ok,0."), "it goes on")
 
 
 def test_limits(at: Folder) -> None:

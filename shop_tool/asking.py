@@ -39,6 +39,8 @@ class Ask:
         try:
             await asyncio.wait_for(self.site.opened.wait(), self.left)
         except TimeoutError:
+            if not self.site.up.is_set():
+                raise self._no_answer(None) from None
             raise Fault(Status.AWAY, f"site {self.site.number}: it isn't known yet what the others have of it "
                         f"({self.site.shop.link.state}); {not_given()}") from None
         at = 0

@@ -1,13 +1,13 @@
 """carry: users, open items and their bids of a shop that has reached its end become asks of a new one."""
 
 import argparse
-import os
 import sys
 from collections import Counter
 from typing import NamedTuple
 
 from . import client, settings
 from .ends import Fault, Status
+from .folders import put
 from .reading import audited, listing
 from .records import Row, line_of
 
@@ -74,7 +74,7 @@ def carry(args: argparse.Namespace) -> int:
     if not args.yes and not confirmed():
         raise Fault(Status.REFUSED, "nothing was carried")
     if not done:
-        write_map(f"{args.new}/{MAP}", plan)
+        put(f"{args.new}/{MAP}", plan.map_text())
     ask_rest(args.new, plan, done)
     if listing(args.old, args.site, "list,tables", SECONDS) != rows:
         raise Fault(Status.REFUSED, f"{args.old} was asked meanwhile; what it accepted since isn't in {args.new}")
@@ -119,14 +119,6 @@ def confirmed() -> bool:
     if not sys.stdin.isatty():
         raise Fault(Status.MISUSE, "say --yes, if that is what you want; nothing was carried")
     return input("Carry this? [y/N] ").strip().lower() in ("y", "yes")
-
-
-def write_map(path: str, plan: Plan) -> None:
-    with open(f"{path}.new", "w") as file:
-        file.write(plan.map_text())
-        file.flush()
-        os.fsync(file.fileno())
-    os.rename(f"{path}.new", path)
 
 
 def ask_rest(new: str, plan: Plan, done: int) -> None:

@@ -102,6 +102,8 @@ class CommandLine:
             parser.add_argument("--here", metavar="I,..", type=sites_of, help="which of them run here; all by default")
             parser.add_argument("--over", metavar="WHAT", help="what carries their packets: files, or redis://HOST:PORT/NAME")
             parser.add_argument("--sync", action=argparse.BooleanOptionalAction, help="have each record on the disk before it is answered")
+            parser.add_argument("--alone", action="store_true", help="take asks before it is known what the others have of the sites here. "
+                                "If a folder lost its end, or is an older copy, numbers are given twice")
             keep = "how many messages a site keeps; 1,000,000 by default. It only grows"
             parser.add_argument("--keep", metavar="K", type=count_of, help=keep)
             for option in ("batch", "shards", "workers"):

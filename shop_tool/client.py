@@ -8,6 +8,7 @@ from collections.abc import Iterator
 from typing import Any
 
 from .ends import Fault, Status
+from .lock import holder_of
 from .told import unanswered
 
 CONNECT_SECONDS = 5.0
@@ -49,8 +50,11 @@ def call(folder: str, request: dict[str, Any], seconds: float | None = None) -> 
     until = time.monotonic() + seconds + MARGIN if seconds else None
     line = connect(folder, min(CONNECT_SECONDS, seconds + MARGIN) if seconds else CONNECT_SECONDS)
     if line is None:
-        what = "is not running" if os.path.isdir(folder) else "there is no shop"
-        raise Fault(Status.AWAY, f"{folder}{':' if what.startswith('there') else ''} {what} (shop start)")
+        if not os.path.isdir(folder):
+            raise Fault(Status.AWAY, f"{folder}: there is no shop (shop start)")
+        holder = holder_of(folder)
+        why = f"takes no requests: {holder} holds it, which is about to begin or to end" if holder else "is not running (shop start)"
+        raise Fault(Status.AWAY, f"{folder} {why}")
     with line, line.makefile("rb") as answers:
         try:
             line.settimeout(left(until) if until else None)

@@ -1,4 +1,4 @@
-"""Which folder a folder is, and whether it may have lost what was written there."""
+"""Which folder a folder is, and files in it that a crash leaves whole."""
 
 import os
 
@@ -13,16 +13,24 @@ def identity(folder: str) -> str:
     return f"{machine or 'nowhere'}:{os.stat(folder).st_ino}"
 
 
-def ran_since_boot(folder: str) -> bool:
-    """Whether this folder ran since the machine was started, so that no power failure has come between. FOLDER/boot says when it ran."""
+def boot() -> str:
+    """Names this start of the machine: a clone of its disk runs in another one."""
     with open("/proc/sys/kernel/random/boot_id") as file:
-        now = f"{file.read().strip()} {identity(folder)}\n"
-    try:
-        with open(f"{folder}/boot") as file:
-            was = file.read()
-    except FileNotFoundError:
-        was = ""
-    if was != now:
-        with open(f"{folder}/boot", "w") as file:
-            file.write(now)
-    return was == now
+        return file.read().strip()
+
+
+def put(path: str, text: str) -> None:
+    """Puts a file in the place of another one; it is on the disk when this returns, and a crash leaves the old or the new one."""
+    with open(f"{path}.new", "w") as file:
+        file.write(text)
+        file.flush()
+        os.fsync(file.fileno())
+    os.rename(f"{path}.new", path)
+    synced(os.path.dirname(path))
+
+
+def synced(path: str) -> None:
+    """Has a file or folder on the disk."""
+    file = os.open(path, os.O_RDONLY)
+    os.fsync(file)
+    os.close(file)

@@ -36,6 +36,10 @@ class Prefix:
     def count(self) -> int:
         return self.upto + len(self._beyond)
 
+    @property
+    def greatest(self) -> int:
+        return max(self._beyond, default=self.upto)
+
 
 class Sends:
     """The packets of one site in the order in which it sent them, each with its place and where it stands in the file `out`."""
@@ -88,6 +92,11 @@ class Sends:
             return packets
         finally:
             os.close(out)
+
+    def at(self, place: Place) -> bytes | None:
+        """The packet at this place, if one was sent there."""
+        index = self.count_upto(place) - 1
+        return self.read(index, index + 1)[0][1] if index >= 0 and self.place(index) == place else None
 
     def message(self, number: int) -> bytes | None:
         """Own message `number`, if it was sent."""

@@ -21,11 +21,13 @@ from typing import Any, NamedTuple, TypeVar
 from . import program, settings
 from .answers import AnswerReader
 from .ends import Fault, Status
+from .folders import synced
 from .ledger import Place, packets_of, sends_of, tokens_of
+from .lives import Seen
+from .lock import stopped_shop
 from .records import Message, Token, ask_of, bytes_of, packet_of
 from .site import keep_command
 from .streams import STATUS_SECONDS, Streams, faults, reason_of
-from .supervisor import stopped_shop
 
 CALL_SECONDS = 30.0
 UNCHANGED = "nothing was changed"
@@ -151,6 +153,8 @@ def rebuild(args: argparse.Namespace) -> int:
     lost = swapped(args.folder, args.site)
     if is_over_server:
         over_server(now, adopted(now, args.site, args.folder))
+    else:
+        Seen(args.folder)[args.site] = None
     print(f"site {args.site}: {count} packets of its own came out again as they were" + (f"; what was there is {lost}" if lost else ""))
     return Status.WELL
 
@@ -275,12 +279,6 @@ def _give(site: Any, steps: list[Step]) -> None:
         site.close()
     except BrokenPipeError:
         pass        # its end is told by its status
-
-
-def synced(path: str) -> None:
-    file = os.open(path, os.O_RDONLY)
-    os.fsync(file)
-    os.close(file)
 
 
 def swapped(folder: str, site: int) -> str | None:

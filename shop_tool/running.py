@@ -5,11 +5,13 @@ import collections
 import json
 import os
 import select
+import socket
 import sys
+import time
 from collections.abc import Iterable
 from typing import Any
 
-from . import client, program, settings
+from . import client, lock, program, settings
 from .answers import AnswerReader, KeptReader
 from .ends import Fault, Status
 from .grid import grid_of_status, grid_text
@@ -24,16 +26,26 @@ def said_settings(args: argparse.Namespace) -> dict[str, Any]:
     return {name: value for name in STARTED_BY_OPTIONS if (value := getattr(args, name)) is not None}
 
 
+def reached(folder: str) -> socket.socket | None:
+    """A connection to the shop's supervisor, or None if there is none. One that begins or ends is given some seconds."""
+    until = time.monotonic() + lock.SECONDS
+    while not (line := client.connect(folder)) and (holder := lock.holder_of(folder)):
+        if time.monotonic() > until:
+            raise Fault(Status.AWAY, f"{folder}: {holder} holds it, and takes no requests; if it hangs, kill it")
+        time.sleep(0.05)
+    return line
+
+
 def start(args: argparse.Namespace) -> int:
     """Starts the supervisor in the background, and returns once the sites are up."""
     now = settings.changed(args.folder, said_settings(args))
-    if client.connect(args.folder):
+    if reached(args.folder):
         if said_settings(args) and now != settings.read(args.folder):
             raise Fault(Status.MISUSE, f"{args.folder} is running with other settings; stop it first")
         print(f"shop: {args.folder} is running", file=sys.stderr)
         return Status.WELL
     found = _checked(args.folder, now)
-    said = _started(args.folder, now, found, args.timeout)
+    said = _started(args.folder, now, found, args.timeout, ["--alone"] if args.alone else [])
     if said == "ready":
         return Status.WELL
     raise Fault(Status.AWAY, f"{said or 'the supervisor is starting still, or has ended'} (shop log)")
@@ -47,7 +59,7 @@ def _checked(folder: str, now: settings.Settings) -> str:
     return found
 
 
-def _started(folder: str, now: settings.Settings, found: str, seconds: float) -> str:
+def _started(folder: str, now: settings.Settings, found: str, seconds: float, options: list[str]) -> str:
     """Runs `shop run` in a session of its own, with these settings on its standard input, since a password on a command line would be
     seen. What it says once each site is up, or isn't."""
     get, put = os.pipe()
@@ -62,7 +74,7 @@ def _started(folder: str, now: settings.Settings, found: str, seconds: float) ->
         for number, file in enumerate((settings_in, events, events)):
             os.dup2(file, number)
         environment = os.environ | {"SHOP_READY": str(put), "RUBIS": found}
-        os.execve(sys.executable, [sys.executable, os.path.realpath(sys.argv[0]), "run", folder], environment)
+        os.execve(sys.executable, [sys.executable, os.path.realpath(sys.argv[0]), "run", folder, *options], environment)
     os.close(put)
     os.close(settings_in)
     said = b""
@@ -82,7 +94,7 @@ def run(args: argparse.Namespace) -> int:
         now = settings.changed(args.folder, said_settings(args))
         found = _checked(args.folder, now)
     from . import supervisor
-    supervisor.run(args.folder, now, found)
+    supervisor.run(args.folder, now, found, args.alone)
     return Status.WELL
 
 
@@ -90,20 +102,23 @@ def stop(args: argparse.Namespace) -> int:
     """Stops the sites, once what they were given is answered, and then the supervisor."""
     if not os.path.isdir(args.folder):
         raise Fault(Status.MISUSE, f"{args.folder}: there is no shop")
-    line = client.connect(args.folder)
+    line = reached(args.folder)
     if not line:
         print(f"shop: {args.folder} is not running", file=sys.stderr)
         return Status.WELL
+    holder, until = lock.holder_of(args.folder), time.monotonic() + STOP_SECONDS
     with line:
         line.settimeout(STOP_SECONDS)
         try:
             line.sendall(b'{"op": "stop"}\n')
-            while line.recv(4096):
-                pass
-        except TimeoutError:
-            raise Fault(Status.AWAY, f"{args.folder} has not ended within {STOP_SECONDS:g} s") from None
+            for text in line.makefile("rb"):
+                print(f"shop: {json.loads(text)['said']}", file=sys.stderr)
         except OSError:
             pass
+    while holder and lock.holder_of(args.folder) == holder:
+        if time.monotonic() > until:
+            raise Fault(Status.AWAY, f"{args.folder} has not ended within {STOP_SECONDS:g} s: {holder} holds it")
+        time.sleep(0.01)
     return Status.WELL
 
 

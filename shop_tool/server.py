@@ -122,6 +122,9 @@ class Server:
                 return {"well": well, "shop": shop}
             case "stop":
                 self.shop.stop("asked to stop")
+                await self.shop.stopping.wait()
+                if self.shop.stays:
+                    await say({"said": self.shop.stays})
                 await asyncio.Event().wait()        # the connection ends with the supervisor
             case "logs":
                 return await self._logs(request, say)
@@ -167,7 +170,7 @@ class Server:
 
     async def _ask(self, site: Site, request: Request, seconds: float, say: Say) -> None:
         asked = ask_of(request)
-        if self.shop.stopping.is_set():
+        if self.shop.is_leaving:
             raise Fault(Status.AWAY, "the shop is being stopped; nothing was asked")
 
         async def say_answer(record: bytes, answer: Answer) -> None:

@@ -96,7 +96,7 @@ def check(settings: Settings) -> None:
     if settings.over == FILES:
         if len(settings.here) < settings.sites:
             raise Fault(Status.MISUSE, "sites on other machines need --over redis://HOST:PORT/NAME")
-    elif not re.fullmatch(r"rediss?://[^/]+/[\w.-]+", settings.over):
+    elif not re.fullmatch(r"rediss?://[^/?#]+/[\w.-]+", settings.over):
         raise Fault(Status.MISUSE, "--over is files or redis://HOST:PORT/NAME")
 
 

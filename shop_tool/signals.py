@@ -1,6 +1,8 @@
-"""Waiting for what happens next, without polling."""
+"""Waiting for what happens next, without polling, and no longer than is said."""
 
 import asyncio
+from collections.abc import Coroutine
+from typing import Any
 
 
 class Signal:
@@ -27,3 +29,14 @@ class Signal:
             await asyncio.wait_for(waiter, seconds)
         finally:
             self._waiters.discard(waiter)
+
+
+async def is_over_within(seconds: float, work: Coroutine[Any, Any, None]) -> bool:
+    """Whether some work ends in time. It is cancelled else, and not waited for: work over a broken connection may swallow that."""
+    task = asyncio.create_task(work)
+    done, _ = await asyncio.wait({task}, timeout=seconds)
+    if not done:
+        task.cancel()
+    elif fault := task.exception():
+        raise fault
+    return bool(done)

@@ -18,6 +18,7 @@ from .signals import Signal
 from .times import stamp
 from .told import not_given, not_known
 from .turns import Hold
+from .witness import Witness
 
 if TYPE_CHECKING:
     from .supervisor import Supervisor
@@ -81,9 +82,11 @@ class Site:
         self.process: asyncio.subprocess.Process | None = None
         self.line: collections.deque[Pending] = collections.deque()     # the first is answered next
         self.reader = AnswerReader()
+        self.lives: list[str] = []                  # of its folder; the last has begun with this supervisor
+        self.witness: Witness | None = None
         self.up = asyncio.Event()                   # records can be given to it
         self.known = asyncio.Event()                # what it kept before this supervisor has been read
-        self.opened = asyncio.Event()               # asks and packets may be given to it, as its folder has lost nothing
+        self.opened = asyncio.Event()               # asks and packets may be given to it
         self.compared = asyncio.Event()             # it has been compared with what the others have of it
         self.tried = asyncio.Event()                # its first start has succeeded or failed
         self.hold = Hold()
@@ -313,6 +316,8 @@ class Site:
 
     def _note(self, record: bytes, answer: Answer, size: int | None = None) -> None:
         sent = self.ledger.note(record, answer, size)
+        if self.witness:
+            self.witness.tell(self.ledger.kept_bytes)
         kind = answer.kind
         if isinstance(sent, Token):
             self.is_passing = False

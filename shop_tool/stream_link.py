@@ -6,29 +6,32 @@ from collections.abc import Awaitable, Callable
 from typing import Any
 
 from .ends import Fault
-from .folders import identity
-from .ledger import NOWHERE, Place, packets_of
+from .ledger import Place, packets_of
 from .link import BATCH, FULL_WAIT, STARTING, UP, Link
+from .lives import life_text
+from .publisher import COMPARE_SECONDS, Publisher
+from .reader import Reader
 from .requests import Request, request_of
 from .site import Site
-from .streams import WANTS, Streams, faults, id_of, reason_of
+from .streams import WANTS, Streams, faults, reason_of, run_by
 from .supervisor import Supervisor
 from .times import stamp
 from .told import Once, is_called
 
-COMPARE_SECONDS = 1.0       # how often a site is compared with its stream, and statuses are told
 LAST_SECONDS = 2.0          # how long a stop waits for what was answered last to be published
-BLOCK = 2000                # milliseconds
 FIRST_WAIT, LAST_WAIT = 0.1, 2.0
 CALM = 5.0
 
 
 class StreamLink(Link):
     def __init__(self, shop: Supervisor) -> None:
-        self.shop, self.settings = shop, shop.settings
+        super().__init__(shop)
+        self.settings = shop.settings
         self.is_reached = False                     # the server has answered once
+        self.is_over = False                        # nothing is carried any more; a cancel alone may be swallowed by a connection
         self.down: dict[str, str] = {}              # what of the link doesn't work, since when and why
         self.tops = [0] * self.settings.sites       # how many messages the stream of each site has
+        self.marks: list[bytes | None] = []         # of the streams, as they were seen last
         self.counts: dict[int, int] = {}            # how many packets of each site here are in its stream
         self.calls = Once(WANTS)
         self.main = Streams(self.settings)
@@ -38,9 +41,6 @@ class StreamLink(Link):
         return next(iter(self.down.values()), UP if self.is_reached else STARTING)
 
     async def run(self) -> None:
-        for site in self.shop.sites.values():
-            if self.shop.has_lost_nothing(site):
-                site.opened.set()       # it needn't wait until it is compared with its stream
         works = [self._forever("tell", self._tell), self._forever("hear", self._hear)]
         for site in self.shop.sites.values():
             publisher = Publisher(self, site)
@@ -48,9 +48,9 @@ class StreamLink(Link):
         await asyncio.gather(*works)
 
     async def _forever(self, name: str, work: Callable[[Streams], Awaitable[None]]) -> None:
-        """Works over a connection of its own, which is made again whenever it fails. Returns when the work is over."""
+        """Works over a connection of its own, which is made again whenever it fails. Returns when the work is over, or the link is."""
         wait = FIRST_WAIT
-        while True:
+        while not self.is_over:
             began = time.monotonic()
             try:
                 async with Streams(self.settings) as server:
@@ -76,7 +76,7 @@ class StreamLink(Link):
     # Statuses.
 
     async def _tell(self, server: Streams) -> None:
-        while True:
+        while not self.is_over:
             await self._look(server)
             self.works("tell")
             for origin in range(self.settings.sites):
@@ -94,16 +94,21 @@ class StreamLink(Link):
             if all(site.fenced_by or self.published(site) >= len(site.ledger.sends) for site in self.shop.sites.values()):
                 break
             await asyncio.sleep(0.02)
+        self.is_over = True
         try:
-            await self.main.forget([number for number, site in self.shop.sites.items() if not site.fenced_by])
+            await self.main.forget([site.number for site in self._own_sites()])
         except faults():
             pass        # they expire
 
     async def _look(self, server: Streams) -> None:
-        # Another folder may tell how a site is that is fenced here.
-        statuses = {number: self.shop.status_of(site) for number, site in self.shop.sites.items() if not site.fenced_by}
-        self.tops = [max(top, 0) for top in await server.tell(statuses)]
+        said = {"told": time.time_ns()}
+        statuses = {site.number: self.shop.status_of(site) | said | {"by": run_by(site.folder)} for site in self._own_sites()}
+        self.tops, self.marks = await server.tell(statuses)
         self.shop.progress.tell()
+
+    def _own_sites(self) -> list[Site]:
+        """The sites that are this folder's: how another one is may another supervisor tell."""
+        return [site for site in self.shop.sites.values() if site.compared.is_set() and not site.fenced_by]
 
     async def look(self) -> None:
         try:
@@ -130,7 +135,7 @@ class StreamLink(Link):
 
     async def _hear(self, server: Streams) -> None:
         after = b"$"
-        while True:
+        while not self.is_over:
             for after, fields in await server.hear(after):
                 try:
                     self._heard(fields)
@@ -140,17 +145,20 @@ class StreamLink(Link):
 
     def _heard(self, fields: dict[bytes, bytes]) -> None:
         if b"want" in fields:
-            self.shop.hear_want(int(fields[b"want"]), int(fields[b"known"]))
-        elif (site := self.shop.sites.get(int(fields[b"site"]))) and self._is_called(site, fields.get(b"owner")):
+            if not 0 <= (site := int(fields[b"want"])) < self.settings.sites:
+                raise ValueError(f"there is no site {site}")
+            self.shop.hear_want(site, int(fields[b"known"]))
+        elif b"leave" in fields:
+            for left in fields[b"leave"].split(b","):
+                self.shop.wants.drop(int(left))
+        elif (called := self.shop.sites.get(int(fields[b"site"]))) and self._is_called(called, fields.get(b"life")):
             name, request = fields[b"call"], request_of(fields[b"request"])
             if self.calls.is_new(name):
-                self.shop.task(self._called(name.decode(), site, request), is_needed=False)
+                self.shop.task(self._called(name.decode(), called, request), is_needed=False)
 
-    def _is_called(self, site: Site, owner: bytes | None) -> bool:
-        try:
-            return is_called(None if owner is None else owner.decode("utf-8", "replace"), identity(site.folder), bool(site.fenced_by))
-        except OSError:
-            return False            # its folder is gone
+    @staticmethod
+    def _is_called(site: Site, life: bytes | None) -> bool:
+        return is_called(None if life is None else life.decode("utf-8", "replace"), life_text(site.lives), bool(site.fenced_by))
 
     async def _called(self, name: str, site: Site, request: Request) -> None:
         answers: list[dict[str, Any]] = []
@@ -169,6 +177,12 @@ class StreamLink(Link):
         except faults():
             pass        # it is said again
 
+    async def say_leave(self) -> None:
+        try:
+            await self.main.say({"leave": ",".join(map(str, self.shop.sites))})
+        except faults():
+            pass        # what was wanted is forgotten in a moment
+
     async def call(self, request: Request, site: int, seconds: float) -> list[dict[str, Any]] | None:
         try:
             async with Streams(self.settings) as server:
@@ -179,6 +193,13 @@ class StreamLink(Link):
     async def is_running(self, site: int) -> bool | None:
         status = await self.status_of(site)
         return status is not None and status["state"] == "up"
+
+    async def up_elsewhere(self) -> set[int]:
+        try:
+            statuses = await self.main.statuses()
+        except faults():
+            return set()
+        return {site for site, status in statuses.items() if site not in self.shop.sites and status["state"] == "up"}
 
     async def status_of(self, site: int) -> dict[str, Any] | None:
         try:
@@ -200,133 +221,3 @@ class StreamLink(Link):
     def sent(self, origin: int) -> int:
         own = self.shop.sites.get(origin)
         return max(self.tops[origin], own.ledger.sends.messages if own else 0)
-
-
-class Fenced(Exception):
-    """The others have more of a site than its folder, or another past."""
-
-
-class Publisher:
-    """Appends what one site sends to its stream. Appending again is refused by the ids, so nothing is there twice."""
-
-    def __init__(self, link: StreamLink, site: Site) -> None:
-        self.link, self.site = link, site
-        self.name = f"publish {site.number}"
-
-    async def run(self, server: Streams) -> None:
-        await self.site.known.wait()
-        try:
-            while not self.site.fenced_by:
-                await self._append_until(server, await self._compare(server), time.monotonic() + COMPARE_SECONDS)
-        except Fenced as why:
-            self.site.fence(str(why))
-        except OSError:
-            if not self.site.has_lost_files():
-                raise
-
-    async def _append_until(self, server: Streams, last: Place, until: float) -> None:
-        """Appends what is sent, behind the entry `last`, for some time, or until the stream ends elsewhere."""
-        site, sends = self.site, self.site.ledger.sends
-        while (at := self.link.counts[site.number]) < len(sends) or time.monotonic() < until:
-            if at < len(sends):
-                packets = sends.read(at, min(at + BATCH, len(sends)))
-                if not await server.append(site.number, last, packets):
-                    return
-                last = packets[-1][0]
-                self.link.counts[site.number] = at + len(packets)
-                self.link.works(self.name)
-                site.shop.progress.tell()
-                continue
-            try:
-                await site.shop.news.wait(max(until - time.monotonic(), 0.001))
-            except TimeoutError:
-                pass
-
-    async def _compare(self, server: Streams) -> Place:
-        """Compares the site with its stream; its last place there. A server that has lost its end is given it again."""
-        site, sends, over = self.site, self.site.ledger.sends, self.link.settings.shown_over
-        state = await server.state(site.number)
-        if state.greatest > sends.last:
-            raise Fenced(f"{over} had its packet {id_of(state.greatest).decode()}, and its folder ends with "
-                         f"{id_of(sends.last).decode()} (shop rebuild {site.number})")
-        at = sends.count_upto(state.last)
-        if state.last != NOWHERE and sends.read(at - 1, at) != [(state.last, state.packet)]:
-            raise Fenced(f"{over} has another packet {id_of(state.last).decode()} of it: two processes were this site "
-                         f"(shop rebuild {site.number})")
-        await self._look_elsewhere(server)
-        if (state.entries, state.last) != (at, state.greatest):
-            site.shop.event(f"site {site.number}: its stream lacks packets between others; all of it is published again")
-            at, last = len(sends), sends.last
-            await server.rewrite(site.number, sends.read(0, at))
-            state = state._replace(last=last)
-        if at < self.link.counts.get(site.number, 0):
-            lost = self.link.counts[site.number] - at
-            site.shop.event(f"site {site.number}: the server lost {lost} of its packets, which are published again")
-        self.link.counts[site.number] = at
-        self.link.works(self.name)
-        site.opened.set()
-        site.compared.set()
-        site.shop.progress.tell()
-        return state.last
-
-    async def _look_elsewhere(self, server: Streams) -> None:
-        """Looks whether another folder runs the site, or another site has more of it than its folder."""
-        site = self.site
-        if owner := await server.owner(site.number, site.folder):
-            raise Fenced(f"{owner} has it (shop adopt {site.number}, if that is gone for good)")
-        if site.number in self.link.counts:
-            return
-        for other, status in (await server.statuses()).items():
-            has, own = status["has"].get(str(site.number), 0), site.ledger.sends.messages
-            if other not in site.shop.sites and has > own:
-                raise Fenced(f"site {other} has {has} messages of it, and its folder has {own} (shop rebuild {site.number})")
-
-
-class Reader:
-    """Gives one site what the streams of the others have."""
-
-    def __init__(self, link: StreamLink, site: Site) -> None:
-        self.link, self.site = link, site
-        self.name = f"read {site.number}"
-        self.holes: set[Place] = set()
-
-    def start(self) -> dict[int, Place]:
-        return {origin: (have.upto, 0) for origin, have in enumerate(self.site.ledger.have) if origin != self.site.number}
-
-    async def run(self, server: Streams) -> None:
-        site = self.site
-        await site.opened.wait()
-        await site.up.wait()
-        at = self.start()
-        while at and not site.fenced_by:
-            await site.up.wait()
-            found = await server.read(at, BATCH, BLOCK)
-            self.link.works(self.name)
-            packets, has_hole = [], False
-            for origin, entries in found.items():
-                has_hole = self._has_hole(origin, at[origin], [place for place, _ in entries]) or has_hole
-                packets += [text for _, text in entries]
-                at[origin] = entries[-1][0]
-                self.link.tops[origin] = max(self.link.tops[origin], entries[-1][0][0])
-            try:
-                if not await site.shop.feed(site, packets):
-                    await asyncio.sleep(FULL_WAIT)
-                    at = self.start()
-            except Fault:
-                return      # the site has ended
-            if has_hole:
-                # Its origin publishes it all again, once it runs.
-                await asyncio.sleep(COMPARE_SECONDS)
-                at = self.start()
-
-    def _has_hole(self, origin: int, before: Place, places: list[Place]) -> bool:
-        """Whether a message is missing between these, which happens only where entries were deleted."""
-        for place in places:
-            if place[0] > before[0] + 1:
-                if (origin, place[0]) not in self.holes:
-                    self.holes.add((origin, place[0]))
-                    between = f"{id_of(before).decode()} and {id_of(place).decode()}"
-                    self.site.shop.event(f"link: the stream of site {origin} has nothing between {between}")
-                return True
-            before = place
-        return False

@@ -3,6 +3,8 @@
 | key | what it has |
 |---|---|
 | NAME:SITE | a stream: the site's packets in the order in which it sent them; message n is n-0, and the t-th token after it n-t |
+| NAME:mark:SITE | a random number that is drawn whenever the site's stream is begun or written anew |
+| NAME:life:SITE | the life of the site's folder that was compared with its stream last |
 | NAME:owner:SITE | which folder on which machine runs the site |
 | NAME:status:SITE | how the site is; it expires when its supervisor has gone |
 | NAME:wants | a stream: wants of the token, and requests to other supervisors |
@@ -10,6 +12,7 @@
 """
 
 import asyncio
+import hashlib
 import json
 import os
 import socket
@@ -19,7 +22,7 @@ import zlib
 from collections.abc import Iterable
 from typing import Any, NamedTuple
 
-from .folders import identity
+from .folders import boot, identity
 from .ledger import NOWHERE, Place
 from .settings import Settings
 
@@ -28,22 +31,41 @@ ANSWER_SECONDS = 60
 WANTS = 1000                # how many entries the stream of wants keeps, about
 PAGE = 5000
 
-# Appends packets, if the last entry is the one that the caller knows; else returns the last id.
+# Appends packets, if the last entry is the one that the caller knows; else returns the last id. A stream that it begins gets a mark.
 APPEND = b"""
 local last = redis.call('XREVRANGE', KEYS[1], '+', '-', 'COUNT', 1)
 local id = last[1] and last[1][1] or '0-0'
 if id ~= ARGV[1] then return id end
-for at = 2, #ARGV, 2 do redis.call('XADD', KEYS[1], ARGV[at], 'p', ARGV[at + 1]) end
+if id == '0-0' then redis.call('SET', KEYS[2], ARGV[2]) end
+for at = 3, #ARGV, 2 do redis.call('XADD', KEYS[1], ARGV[at], 'p', ARGV[at + 1]) end
 return 'ok'
 """
 
-# How many entries a stream has, its last one, and the greatest id that it ever had.
+# A page of a stream: how many entries, the last id, the hash of ids and packets, and the tokens among them.
+PAGE_OF = b"""
+local found, text, tokens = redis.call('XRANGE', KEYS[1], ARGV[1], ARGV[2], 'COUNT', ARGV[3]), {}, {}
+for at, entry in ipairs(found) do
+  text[at] = entry[1] .. ' ' .. entry[2][2] .. '\\n'
+  if string.sub(entry[2][2], 1, 6) == 'token,' then tokens[#tokens + 1] = entry[2][2] end
+end
+return {#found, #found > 0 and found[#found][1] or '0-0', redis.sha1hex(table.concat(text)), tokens}
+"""
+
+# How many entries a stream has, its last one, and the greatest id that it ever had; and the life of its site.
 STATE = b"""
-if redis.call('EXISTS', KEYS[1]) == 0 then return {0, '0-0', '', '0-0'} end
+local life = redis.call('GET', KEYS[2]) or ''
+if redis.call('EXISTS', KEYS[1]) == 0 then return {0, '0-0', '', '0-0', life} end
 local last = redis.call('XREVRANGE', KEYS[1], '+', '-', 'COUNT', 1)
 local info, greatest = redis.call('XINFO', 'STREAM', KEYS[1]), '0-0'
 for at = 1, #info, 2 do if info[at] == 'last-generated-id' then greatest = info[at + 1] end end
-return {redis.call('XLEN', KEYS[1]), last[1] and last[1][1] or '0-0', last[1] and last[1][2][2] or '', greatest}
+return {redis.call('XLEN', KEYS[1]), last[1] and last[1][1] or '0-0', last[1] and last[1][2][2] or '', greatest, life}
+"""
+
+# Sets a key, if it still has what the caller knows.
+CHANGE = b"""
+if (redis.call('GET', KEYS[1]) or '') ~= ARGV[1] then return 0 end
+redis.call('SET', KEYS[1], ARGV[2])
+return 1
 """
 
 
@@ -54,6 +76,16 @@ class StreamState(NamedTuple):
     last: Place
     packet: bytes
     greatest: Place
+    life: str
+
+
+class Page(NamedTuple):
+    """Some entries of a stream, one behind the other."""
+
+    entries: int
+    last: Place
+    hash: bytes
+    tokens: list[bytes]
 
 
 def id_of(place: Place) -> bytes:
@@ -75,7 +107,14 @@ def reason_of(fault: BaseException) -> str:
     """What went wrong; over TLS with the reason, which the library leaves out."""
     cause = fault.__cause__ or fault.__context__
     why = str(fault) or type(fault).__name__
+    if isinstance(cause, ssl.SSLCertVerificationError):
+        return f"certificate verify failed: {cause.verify_message}"
     return f"{why} {cause}" if isinstance(cause, ssl.SSLError) else why
+
+
+def tls_options(url: str) -> dict[str, Any]:
+    """Over TLS: the server has a certificate that the machine vouches for, and it is one of the host in the URL."""
+    return {"ssl_cert_reqs": "required", "ssl_check_hostname": True} if url.startswith("rediss:") else {}
 
 
 class Streams:
@@ -85,9 +124,13 @@ class Streams:
         import redis.asyncio        # type: ignore[import]
         url, self.name = settings.server
         self.sites = settings.sites
-        self.redis: Any = redis.asyncio.Redis.from_url(url, socket_timeout=10, socket_connect_timeout=3, socket_keepalive=True)
+        self.redis: Any = redis.asyncio.Redis.from_url(
+            url, socket_timeout=10, socket_connect_timeout=3, socket_keepalive=True, **tls_options(url))
+        self._mark_keys = [self.key(f"mark:{site}") for site in range(self.sites)]
         self._append = self.redis.register_script(APPEND)
         self._state = self.redis.register_script(STATE)
+        self._change = self.redis.register_script(CHANGE)
+        self._page = self.redis.register_script(PAGE_OF)
 
     async def __aenter__(self) -> "Streams":
         return self
@@ -102,13 +145,17 @@ class Streams:
     # A site's stream.
 
     async def state(self, site: int) -> StreamState:
-        entries, last, packet, greatest = await self._state(keys=[self.key(site)])
-        return StreamState(entries, place_of(last), packet, place_of(greatest))
+        entries, last, packet, greatest, life = await self._state(keys=[self.key(site), self.key(f"life:{site}")])
+        return StreamState(entries, place_of(last), packet, place_of(greatest), life.decode("utf-8", "replace"))
+
+    async def see_life(self, site: int, before: str, life: str) -> bool:
+        """Writes down the life of a site's folder; False if another one was since `before` was."""
+        return bool(await self._change(keys=[self.key(f"life:{site}")], args=[before, life]))
 
     async def append(self, site: int, last: Place, packets: list[tuple[Place, bytes]]) -> bool:
         """Appends packets behind the entry `last`; False if that isn't the last one."""
-        words = [id_of(last)] + [word for place, text in packets for word in (id_of(place), text)]
-        return bool(await self._append(keys=[self.key(site)], args=words) == b"ok")
+        words = [id_of(last), new_mark()] + [word for place, text in packets for word in (id_of(place), text)]
+        return bool(await self._append(keys=[self.key(site), self.key(f"mark:{site}")], args=words) == b"ok")
 
     async def rewrite(self, site: int, packets: Iterable[tuple[Place, bytes]]) -> None:
         """Puts a stream with these packets in place of the site's stream, at once."""
@@ -122,7 +169,30 @@ class Streams:
                 await pipe.execute()
         await pipe.execute()
         if count:
-            await self.redis.rename(new, self.key(site))
+            step = self.redis.pipeline()
+            step.rename(new, self.key(site))
+            step.set(self.key(f"mark:{site}"), new_mark())
+            await step.execute()
+
+    async def marks(self) -> list[bytes | None]:
+        """The mark of each stream: while it is the same, entries came in at the end only."""
+        found: list[bytes | None] = await self.redis.mget(self._mark_keys)
+        return found
+
+    async def page(self, site: int, after: Place, upto: Place | None = None) -> Page:
+        """The next entries after a place, up to another one or the end."""
+        last = id_of(upto) if upto else b"+"
+        entries, name, digest, tokens = await self._page(keys=[self.key(site)], args=[b"(" + id_of(after), last, PAGE])
+        return Page(entries, place_of(name), digest, tokens)
+
+    async def tokens(self, site: int, upto: Place) -> list[bytes]:
+        """The tokens that stand in a stream up to a place."""
+        tokens: list[bytes] = []
+        after = NOWHERE
+        while after < upto and (page := await self.page(site, after, upto)).entries:
+            tokens += page.tokens
+            after = page.last
+        return tokens
 
     async def read(self, after: dict[int, Place], count: int, block: int) -> dict[int, list[tuple[Place, bytes]]]:
         """What sites sent after these places; waits up to that many milliseconds if there is nothing."""
@@ -134,11 +204,14 @@ class Streams:
 
     async def read_all(self, site: int) -> list[tuple[Place, bytes]]:
         packets: list[tuple[Place, bytes]] = []
-        after = NOWHERE
-        while page := (await self.redis.xrange(self.key(site), b"(" + id_of(after), b"+", count=PAGE)):
-            packets += [(place_of(name), fields.get(b"p", b"")) for name, fields in page]
-            after = packets[-1][0]
+        while page := await self.entries(site, packets[-1][0] if packets else NOWHERE):
+            packets += page
         return packets
+
+    async def entries(self, site: int, after: Place, upto: Place | None = None) -> list[tuple[Place, bytes]]:
+        """The next entries after a place, up to another one or the end, as many as a page has."""
+        found = await self.redis.xrange(self.key(site), b"(" + id_of(after), id_of(upto) if upto else b"+", count=PAGE)
+        return [(place_of(name), fields.get(b"p", b"")) for name, fields in found]
 
     async def message(self, site: int, number: int) -> bytes | None:
         found = await self.redis.xrange(self.key(site), id_of((number, 0)), id_of((number, 0)))
@@ -155,17 +228,22 @@ class Streams:
         return None if owner.split(" ", 1)[0] == identity(folder) else owner.split(" ", 1)[-1]
 
     async def adopt(self, site: int, folder: str) -> None:
-        await self.redis.set(self.key(f"owner:{site}"), owner_text(folder))
+        """Gives a site to this folder, whichever life of it this is; its next start compares all of it."""
+        step = self.redis.pipeline()
+        step.set(self.key(f"owner:{site}"), owner_text(folder))
+        step.delete(self.key(f"life:{site}"))
+        await step.execute()
 
-    async def tell(self, statuses: dict[int, dict[str, Any]]) -> list[int]:
-        """Writes statuses of sites; how many messages each stream has."""
+    async def tell(self, statuses: dict[int, dict[str, Any]]) -> tuple[list[int], list[bytes | None]]:
+        """Writes statuses of sites; how many messages each stream has, and its mark."""
         pipe = self.redis.pipeline(transaction=False)
         for site in range(self.sites):
             pipe.xrevrange(self.key(site), count=1)
+        pipe.mget(self._mark_keys)
         for site, status in statuses.items():
             pipe.set(self.key(f"status:{site}"), json.dumps(status), px=int(1000 * STATUS_SECONDS))
         found = await pipe.execute()
-        return [place_of(last[0][0])[0] if last else 0 for last in found[:self.sites]]
+        return [place_of(last[0][0])[0] if last else 0 for last in found[:self.sites]], found[self.sites]
 
     async def forget(self, sites: Iterable[int]) -> None:
         """Takes back the statuses of sites that are stopped."""
@@ -191,11 +269,11 @@ class Streams:
         """What the supervisor that has a site answers to a request; None if it gives no answer in time."""
         name = f"{os.getpid()}.{time.time_ns()}.{site}"
         until = time.monotonic() + seconds
-        while not (owner := await self.redis.get(self.key(f"owner:{site}"))):
+        while not (life := await self.redis.get(self.key(f"life:{site}"))):
             if time.monotonic() > until:
                 return None
             await asyncio.sleep(0.1)        # the server has lost it, and is told again
-        await self.say({"call": name, "site": site, "owner": owner.split(b" ", 1)[0], "request": json.dumps(request)})
+        await self.say({"call": name, "site": site, "life": life, "request": json.dumps(request)})
         while (left := until - time.monotonic()) > 0:
             # The server takes whole seconds, and a socket waits no longer than its time-out.
             if found := await self.redis.blpop(self.key(f"answer:{name}"), max(1, min(int(left), 5))):
@@ -210,5 +288,19 @@ class Streams:
         await pipe.execute()
 
 
+def hash_of(packets: list[tuple[Place, bytes]]) -> bytes:
+    """The hash of a page that has these entries."""
+    return hashlib.sha1(b"".join(b"%b %b\n" % (id_of(place), text) for place, text in packets)).hexdigest().encode()
+
+
+def new_mark() -> bytes:
+    return os.urandom(8).hex().encode()
+
+
 def owner_text(folder: str) -> str:
     return f"{identity(folder)} {socket.gethostname()}:{folder}"
+
+
+def run_by(folder: str) -> str:
+    """Names the supervisors that run a folder since this start of its machine."""
+    return f"{boot()} {owner_text(folder)}"

@@ -1,8 +1,6 @@
 """The supervisor of a shop: runs the sites of one folder, has their packets carried, and hands the token on. One thread, by asyncio."""
 
-import argparse
 import asyncio
-import fcntl
 import os
 import signal
 import socket
@@ -11,27 +9,31 @@ from collections.abc import Coroutine
 from typing import TYPE_CHECKING, Any
 
 from .ends import Fault, Status
-from .folders import ran_since_boot
 from .grid import waits_of
 from .ledger import Prefix
+from .lives import begin_life, lives_of
+from .lock import take_lock
+from .opening import may_open_at_once
+from .passing import HAND_OVER_SECONDS, Passing
 from .records import RECORDS_OF_A_RUN, Message, Purpose, Token, packet_of, text_of, why_not_one_record
 from .render import shown
-from .settings import FILES, Settings, existing, write
-from .signals import Signal
+from .settings import FILES, Settings, write
+from .signals import Signal, is_over_within
 from .site import Site, State
 from .times import changed, stamp
-from .turns import SAY_AGAIN, Wants
+from .turns import Wants
+from .witness import Witness, has_all, witnessed
 
 if TYPE_CHECKING:
     from .link import Link
 
 EVENTS_BYTES = 16 << 20     # a start puts the events aside when there are more
 FOLLOWED_LINES = 10_000     # how many lines a follower may be behind before it is cut off
-LOCK_SECONDS = 5.0
 LOOK_SECONDS = 1.0          # how often it looks whether its folder is still there
 COMPARE_SECONDS = 10.0      # how long a start waits until its sites are compared with their streams
 SHOWN_WAITS = 20            # how many messages that wait a status names
 STOP_SECONDS = 30.0         # how long a stop waits for what sites were given to be answered
+END_SECONDS = 3.0           # how long it then waits for each of: sites that are killed, the link, the clients, its tasks
 
 
 class Follower:
@@ -48,9 +50,9 @@ class Follower:
             self.is_cut = True
 
 
-class Supervisor:
-    def __init__(self, folder: str, settings: Settings, program: str) -> None:
-        self.folder, self.settings, self.program = os.path.realpath(folder), settings, program
+class Supervisor(Passing):
+    def __init__(self, folder: str, settings: Settings, program: str, is_alone: bool) -> None:
+        self.folder, self.settings, self.program, self.is_alone = os.path.realpath(folder), settings, program, is_alone
         self.since = stamp()
         self.stopping = asyncio.Event()
         self.news = Signal()                        # a site has sent something, or came up
@@ -61,7 +63,6 @@ class Supervisor:
         self.followers: dict[int | None, set[Follower]] = {}
         self.events = self._open_events()
         self.sites = {number: Site(self, number) for number in settings.here}
-        self.ran_since_boot = ran_since_boot(self.folder)
         self.link = self._new_link()
         from .server import Server
         self.server = Server(self)
@@ -117,10 +118,28 @@ class Supervisor:
 
     # Packets.
 
-    def has_lost_nothing(self, site: Site) -> bool:
-        """Whether a folder has certainly all that it answered: it has records, and ran since the machine was started, or has --sync."""
-        kept = f"{site.folder}/kept"
-        return os.path.exists(kept) and os.path.getsize(kept) > 0 and (self.ran_since_boot or self.settings.sync)
+    def _begin(self, site: Site) -> None:
+        """Begins the next life of a site's folder, before its keeper is started."""
+        before, kept = lives_of(site.folder), f"{site.folder}/kept"
+        answered = witnessed(before)
+        try:
+            site.lives = begin_life(site.folder)
+        except OSError as fault:
+            return site.fence(f"{site.folder}/life: {fault.strerror}")
+        if may_open_at_once(self.is_alone, has_all(kept, answered)):
+            site.witness = Witness(site.lives, answered or 0)
+            site.opened.set()
+
+    def open(self, site: Site) -> None:
+        """The site has been compared with what the others have of it: it takes asks and packets."""
+        if not site.opened.is_set():
+            site.witness = Witness(site.lives, site.ledger.kept_bytes)
+            site.opened.set()
+        if not site.compared.is_set():
+            site.compared.set()
+            self.changes.tell()
+        self.progress.tell()
+        self.pass_on(site)
 
     async def feed(self, site: Site, packets: list[bytes]) -> bool:
         """Gives a site packets of others, but for those that it has; returns once they are answered, False if it is full."""
@@ -145,66 +164,6 @@ class Supervisor:
                 self.wants.passed(turn, to)
                 return to == site.number and turn > site.ledger.turn
         return False
-
-    # The token.
-
-    async def fetch_token(self, site: Site, until: float) -> None:
-        """Returns once the site may hold the token; TimeoutError if that takes longer. It is wanted once for all askers of a site."""
-        if site.ledger.holds_token and not site.is_passing:
-            return
-        site.token_askers += 1
-        try:
-            if not site.wanting or site.wanting.done():
-                site.wanting = asyncio.create_task(self._want(site))
-            await site.token_came.wait(max(until - time.monotonic(), 0.001))
-        finally:
-            site.token_askers -= 1
-
-    async def _want(self, site: Site) -> None:
-        while site.token_askers and not (site.ledger.holds_token and not site.is_passing):
-            await self.link.say_want(site.number, site.ledger.turn)
-            try:
-                await site.token_came.wait(SAY_AGAIN)
-            except TimeoutError:
-                pass
-
-    def hear_want(self, site: int, known: int) -> None:
-        if not 0 <= site < self.settings.sites:
-            raise ValueError(f"there is no site {site}")
-        if site in self.sites and self.sites[site].ledger.holds_token and not self.sites[site].is_passing:
-            return
-        self.wants.hear(site, known, time.monotonic())
-        for holder in self.sites.values():
-            self.pass_on(holder)
-
-    def pass_on(self, site: Site) -> None:
-        """Passes the token on, now or when the holder has had its time, if another site wants it."""
-        if not site.ledger.holds_token or site.is_passing or not site.up.is_set() or site.fenced_by or self.stopping.is_set():
-            return
-        now = time.monotonic()
-        to = self.wants.next(site.number, now)
-        if to is None:
-            return
-        left = site.hold.seconds_left(site.red_askers > 0, now)
-        if left <= 0:
-            site.is_passing = True
-            self.wants.drop(to)
-            site.give([b"pass,%d" % to])
-        elif not site.passing_later:
-            site.passing_later = asyncio.get_running_loop().call_later(left + 0.001, self._pass_later, site)
-
-    def _pass_later(self, site: Site) -> None:
-        site.passing_later = None
-        self.pass_on(site)
-
-    async def where_is_token(self, site: Site) -> str:
-        if site.ledger.holds_token:
-            return "it holds the token, and hasn't all red messages before it"
-        holder = self.wants.holder
-        said = f"site {holder} has the token (turn {self.wants.turn})"
-        if self.link.state != "up":
-            return f"{said}, as far as is known: the link is {self.link.state}"
-        return said if await self.link.is_running(holder) else f"{said}, and is not running"
 
     # How it is.
 
@@ -256,18 +215,42 @@ class Supervisor:
             pass
 
     def stop(self, why: str) -> None:
-        if not self.stopping.is_set():
+        if not self.is_leaving:
             self.event(f"supervisor: {why}")
+            self.is_leaving = True
+            self.task(self._leave())
+
+    async def _leave(self) -> None:
+        """Hands the token over, if there is somebody elsewhere, and stops the sites once what they were given is answered."""
+        try:
+            if len(self.sites) < self.settings.sites:
+                await is_over_within(HAND_OVER_SECONDS, self.hand_over())
+        except Fault:
+            pass        # the site has ended, or had its last turn
+        finally:
+            if self.stays:
+                self.event(f"supervisor: {self.stays}")
             self.stopping.set()
             for site in self.sites.values():
                 site.stop()
 
+    def _signalled(self, name: str) -> None:
+        """A signal stops the shop; a further one ends this process at once, whatever it waits for."""
+        if not self.is_leaving:
+            return self.stop(name)
+        self.event(f"supervisor: {name} again, ended at once")
+        for site in self.sites.values():
+            site.kill()
+        os._exit(Status.REFUSED)
+
     async def run(self) -> None:
         loop = asyncio.get_running_loop()
         for number in (signal.SIGTERM, signal.SIGINT):
-            loop.add_signal_handler(number, self.stop, signal.Signals(number).name)
+            loop.add_signal_handler(number, self._signalled, signal.Signals(number).name)
         here = ", ".join(map(str, self.sites))
         self.event(f"supervisor: started, process {os.getpid()}, sites {here} of {self.settings.sites} over {self.settings.shown_over}")
+        for site in self.sites.values():
+            self._begin(site)
         await self.server.listen()
         sites = [self.task(site.run()) for site in self.sites.values()]
         others = [self.task(self.link.run()), self.task(self._look_after_folder())]
@@ -278,11 +261,12 @@ class Supervisor:
         await asyncio.wait(sites, timeout=STOP_SECONDS)
         for site in self.sites.values():
             site.kill()         # what it was given and hasn't answered is answered after the next start
-        await asyncio.gather(*sites, return_exceptions=True)
-        await self.link.finish()
-        await self.server.close()
+        await asyncio.wait(sites, timeout=END_SECONDS)
+        await is_over_within(END_SECONDS, self.link.finish())
+        await is_over_within(END_SECONDS, self.server.close())
         for task in others:
             task.cancel()
+        await asyncio.wait(others, timeout=END_SECONDS)
         self.event("supervisor: ended")
 
     async def _compared(self) -> None:
@@ -311,6 +295,8 @@ class Supervisor:
         """Tells `shop start`, or systemd, that the sites are up, or why they aren't."""
         not_up = [site for site in self.sites.values() if site.fenced_by or not site.up.is_set()]
         down = [f"site {site.number}: {site.fault[1] if site.fault else site.state}" for site in not_up]
+        down += [f"site {site.number}: takes no asks until it is known what the others have of it (or --alone)"
+                 for site in self.sites.values() if site.up.is_set() and not site.opened.is_set()]
         down += [f"link: {self.link.state}"] if self.link.state.startswith("down") else []
         if (ready := os.environ.pop("SHOP_READY", None)) is not None:
             try:
@@ -339,35 +325,13 @@ class Supervisor:
                 site.has_lost_files()
 
 
-def take_lock(folder: str, advice: str = "it may be about to end") -> int:
-    """Holds the shop's folder for this process. The supervisor before may be about to end, so it is given some seconds."""
-    lock = os.open(f"{folder}/lock", os.O_WRONLY | os.O_CREAT, 0o600)
-    until = time.monotonic() + LOCK_SECONDS
-    while True:
-        try:
-            fcntl.flock(lock, fcntl.LOCK_EX | fcntl.LOCK_NB)
-            return lock
-        except OSError:
-            if time.monotonic() > until:
-                raise Fault(Status.REFUSED, f"{folder} is running; {advice}") from None
-            time.sleep(0.05)
-
-
-def stopped_shop(args: argparse.Namespace) -> Settings:
-    """The settings of a shop that isn't running, nor is started before this process ends, for a command about one of its sites."""
-    now = existing(args.folder)
-    if args.site not in now.here:
-        raise Fault(Status.MISUSE, f"site {args.site} isn't one of {args.folder}: it has --here {','.join(map(str, now.here))}")
-    take_lock(args.folder, "stop it first")
-    return now
-
-
-def run(folder: str, settings: Settings, program: str) -> None:
+def run(folder: str, settings: Settings, program: str, is_alone: bool) -> None:
     """Runs the shop until it is stopped."""
     os.umask(0o077)
     take_lock(folder)
     write(folder, settings)
 
     async def main() -> None:
-        await Supervisor(folder, settings, program).run()
+        await Supervisor(folder, settings, program, is_alone).run()
+        os._exit(Status.WELL)       # what a broken connection holds up doesn't hold up the end; all records are in files
     asyncio.run(main())

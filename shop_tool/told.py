@@ -41,7 +41,7 @@ class Once:
         return True
 
 
-def is_called(owner: str | None, own: str, is_fenced: bool) -> bool:
-    """Whether a call to a site is for this folder of it. It is for the folder that has the site, since any other one would answer what it
-    can't know: that nothing was given. Callers of before don't say which folder that is; then a fenced one keeps silent."""
-    return not is_fenced if owner is None else owner == own
+def is_called(life: str | None, own: str, is_fenced: bool) -> bool:
+    """Whether a call to a site is for this life of its folder. It is for the life that the others saw last, since any other one would
+    answer what it can't know: that nothing was given. Callers of before don't say which that is; then a fenced one keeps silent."""
+    return not is_fenced if life is None else life == own

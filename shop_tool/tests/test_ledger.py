@@ -20,6 +20,8 @@ class Prefixes(unittest.TestCase):
             prefix.add(number)
             self.assertEqual(prefix.upto, upto)
         self.assertEqual(prefix.count, 5)
+        prefix.add(9)
+        self.assertEqual((prefix.upto, prefix.greatest), (5, 9))
 
 
 class Notes(unittest.TestCase):

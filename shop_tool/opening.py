@@ -1,0 +1,37 @@
+"""May a site take asks? What is decided of what the others have of it."""
+
+from collections.abc import Callable, Iterable, Mapping
+from typing import Any
+
+from .ledger import Place
+from .lives import Standing
+
+
+def may_open_at_once(is_alone: bool, has_all: bool) -> bool:
+    """Whether a site takes asks before it is compared with what the others have of it: it is known that its folder has all that it
+    answered, or its operator takes the risk."""
+    return is_alone or has_all
+
+
+def must_compare_all(standing: Standing, is_alone: bool) -> bool:
+    """Whether each packet that the others have has to be compared. Else what they have is the beginning of what the folder had when it
+    was last seen, and it is enough to count; but for one that took asks since at the operator's risk."""
+    return standing is Standing.AHEAD or is_alone
+
+
+def why_behind(site: int, own: int, has: Mapping[int, int]) -> str | None:
+    """Why a site can't go on whose folder has so many messages of its own: another site has more of them."""
+    if not has:
+        return None
+    other = max(has, key=lambda number: has[number])
+    return f"site {other} has {has[other]} messages of it, and its folder has {own} (shop rebuild {site})" if has[other] > own else None
+
+
+def strange_packet(entries: Iterable[tuple[Place, bytes]], sent: Callable[[Place], bytes | None]) -> Place | None:
+    """The first packet that others have of a site and that isn't the one that its folder sent at that place."""
+    return next((place for place, text in entries if sent(place) != text), None)
+
+
+def runs_elsewhere(status: Mapping[str, Any] | None, by: str) -> bool:
+    """Whether a status on the server may be that of another supervisor: not of this folder's, which holds the folder and so is the last."""
+    return status is not None and status.get("by") != by

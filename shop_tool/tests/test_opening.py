@@ -1,0 +1,106 @@
+"""Which folders may take asks."""
+
+import os
+import tempfile
+import unittest
+from unittest import mock
+
+from shop_tool import lives, witness
+from shop_tool.ledger import Place
+from shop_tool.lives import Standing, begin_life, life_text, lives_of, standing, why_other
+from shop_tool.opening import may_open_at_once, must_compare_all, runs_elsewhere, strange_packet, why_behind
+
+
+class Lives(unittest.TestCase):
+    def setUp(self) -> None:
+        place = tempfile.TemporaryDirectory()
+        self.addCleanup(place.cleanup)
+        self.folder = f"{place.name}/0"
+
+    def test_each_start_begins_one(self) -> None:
+        self.assertEqual(lives_of(self.folder), [])
+        first = begin_life(self.folder)
+        second = begin_life(self.folder)
+        self.assertEqual(second[:1], first)
+        self.assertEqual(lives_of(self.folder), second)
+        self.assertEqual(len(set(second)), 2)
+
+    def test_how_it_stands_to_the_life_that_was_seen(self) -> None:
+        own = ["a", "b", "c", "d"]
+        cases = {None: Standing.AHEAD, "": Standing.AHEAD, "4 d": Standing.NEXT, "3 c": Standing.NEXT, "2 b": Standing.AHEAD,
+                 "1 a": Standing.AHEAD, "4 x": Standing.OTHER, "5 e": Standing.OTHER, "3 x": Standing.OTHER, "2 c": Standing.OTHER,
+                 "?": Standing.OTHER}
+        self.assertEqual({seen: standing(own, seen) for seen in cases}, cases)
+        self.assertEqual(standing(["a"], life_text([])), Standing.AHEAD)
+
+    def test_a_copy_and_its_original(self) -> None:
+        """Whichever of the two is seen first, the other one is known."""
+        before = begin_life(self.folder)
+        original, copy = [*before, "original"], [*before, "copy"]
+        self.assertEqual(standing(copy, life_text(before)), Standing.NEXT)
+        self.assertEqual(standing(original, life_text(copy)), Standing.OTHER)
+        self.assertEqual(standing([*original, "again"], life_text(copy)), Standing.OTHER)
+        self.assertIn("this is its start 2, and the server saw start 2", why_other(original, life_text(copy), "the server", 0))
+
+    def test_what_the_others_saw_over_files(self) -> None:
+        os.makedirs(self.folder)
+        lives.Seen(self.folder)[1] = "3 c"
+        seen = lives.Seen(self.folder)
+        self.assertEqual((seen[0], seen[1]), (None, "3 c"))
+        seen[1] = None
+        self.assertIsNone(lives.Seen(self.folder)[1])
+
+
+class Opening(unittest.TestCase):
+    def test_who_opens_at_once(self) -> None:
+        self.assertTrue(may_open_at_once(True, False))
+        self.assertTrue(may_open_at_once(False, True))
+        self.assertFalse(may_open_at_once(False, False))
+
+    def test_when_all_is_compared(self) -> None:
+        self.assertFalse(must_compare_all(Standing.NEXT, False))
+        self.assertTrue(must_compare_all(Standing.NEXT, True))
+        self.assertTrue(must_compare_all(Standing.AHEAD, False))
+
+    def test_another_site_has_more(self) -> None:
+        self.assertIsNone(why_behind(0, 3, {}))
+        self.assertIsNone(why_behind(0, 3, {1: 3, 2: 0}))
+        self.assertEqual(why_behind(0, 3, {1: 4, 2: 5}), "site 2 has 5 messages of it, and its folder has 3 (shop rebuild 0)")
+
+    def test_a_packet_that_it_did_not_send(self) -> None:
+        sent: dict[Place, bytes] = {(1, 0): b"a", (1, 1): b"token", (2, 0): b"b"}
+        self.assertIsNone(strange_packet([((1, 0), b"a"), ((2, 0), b"b")], sent.get))
+        self.assertEqual(strange_packet([((1, 0), b"a"), ((2, 0), b"c")], sent.get), (2, 0))
+        self.assertEqual(strange_packet([((1, 0), b"a"), ((1, 2), b"token")], sent.get), (1, 2))
+
+    def test_who_runs_it(self) -> None:
+        self.assertFalse(runs_elsewhere(None, "me"))
+        self.assertFalse(runs_elsewhere({"by": "me"}, "me"))
+        self.assertTrue(runs_elsewhere({"by": "another"}, "me"))
+
+
+class Memory(unittest.TestCase):
+    def setUp(self) -> None:
+        place = tempfile.TemporaryDirectory()
+        self.addCleanup(place.cleanup)
+        self.kept = f"{place.name}/kept"
+        patch = mock.patch.object(witness, "MEMORY", place.name)
+        patch.start()
+        self.addCleanup(patch.stop)
+
+    def test_what_was_answered_in_the_last_life(self) -> None:
+        told = witness.Witness(["a" * 16, "b" * 16], 0)
+        told.tell(120)
+        told.tell(90)       # a start that reads on takes nothing back
+        self.assertEqual(witness.witnessed(["a" * 16, "b" * 16]), 120)
+        self.assertIsNone(witness.witnessed(["a" * 16]))
+        self.assertIsNone(witness.witnessed(["a" * 16, "b" * 16, "c" * 16]))
+        self.assertIsNone(witness.witnessed([]))
+
+    def test_a_file_that_has_all(self) -> None:
+        self.assertFalse(witness.has_all(self.kept, 0))
+        with open(self.kept, "w") as file:
+            file.write("user,ann\n")
+        self.assertTrue(witness.has_all(self.kept, 9))
+        self.assertFalse(witness.has_all(self.kept, 10))
+        self.assertFalse(witness.has_all(self.kept, None))
