@@ -15,15 +15,12 @@ class File(NamedTuple):
 NOT_KNOWN: File | None = None
 
 
-def file_of(found: os.stat_result) -> File:
-    return File(found.st_dev, found.st_ino, found.st_size)
-
-
 def file_at(path: str) -> File | None:
     try:
-        return file_of(os.stat(path))
+        found = os.stat(path)
     except OSError:
         return None
+    return File(found.st_dev, found.st_ino, found.st_size)
 
 
 def is_there(was: File | None, now: File | None) -> bool:
@@ -49,14 +46,12 @@ class Files:
         self.kept, self.out = file_at(f"{folder}/kept"), NOT_KNOWN
         self._beyond = 0, 0         # how many bytes they had beyond those that the ledger counts
 
-    def is_kept(self, file: File) -> bool:
-        """Whether this is the file `kept` of before, if there was one."""
-        return self.kept is None or self.kept[:2] == file[:2]
-
-    def read(self, kept: File, kept_bytes: int, out: File, out_bytes: int) -> None:
+    def read(self, kept_bytes: int, out_bytes: int) -> None:
         """They have been read to their ends, which are so many bytes by the ledger."""
-        self.kept, self.out = kept, out
-        self._beyond = kept.size - kept_bytes, out.size - out_bytes
+        kept, out = file_at(f"{self.folder}/kept"), file_at(f"{self.folder}/out")
+        if kept and out and is_there(self.kept and self.kept._replace(size=0), kept):
+            self.kept, self.out = kept, out
+            self._beyond = kept.size - kept_bytes, out.size - out_bytes
 
     def why_lost(self, kept_bytes: int, out_bytes: int, is_up: bool) -> str | None:
         """Why the site can't go on whose ledger counts so many bytes. A keeper that isn't up yet may cut off a torn end."""

@@ -3,14 +3,13 @@
 import asyncio
 import collections
 import enum
-import os
 import time
 from collections.abc import Iterator
 from typing import TYPE_CHECKING
 
 from .answers import Answer, AnswerReader, KeptReader
 from .ends import Fault, Status
-from .files import Files, file_of, why_lost
+from .files import Files
 from .ledger import Ledger
 from .records import Purpose, Token, text_of, why_not_one_record
 from .settings import Settings
@@ -166,6 +165,8 @@ class Site:
             head += data
         line, _, data = head.partition(b"\n")
         began = time.monotonic()
+        if self.has_lost_files():
+            return
         await self._catch_up(int(line.split(b",")[1]))
         self._come_up(time.monotonic() - began)
         while (data or (data := await stream.read(PIECE))) and not self.has_lost_files(len(data)):
@@ -181,9 +182,6 @@ class Site:
         given: Iterator[Pending] = iter([pending for pending in self.line if pending.is_given])
         self.reader = AnswerReader()
         with open(f"{self.folder}/kept", "rb") as kept, open(f"{self.folder}/out", "rb") as out:
-            files = file_of(os.fstat(kept.fileno())), file_of(os.fstat(out.fileno()))
-            if not self.files.is_kept(files[0]):
-                raise Disagreement(str(why_lost(self.number, has_folder=True, has_kept=False, has_out=True)))
             kept.seek(self.ledger.kept_bytes)
             out.seek(self.ledger.out_bytes)
             records = KeptReader(kept)
@@ -199,7 +197,7 @@ class Site:
                 await asyncio.sleep(0)
         if self.ledger.records != count:
             raise ValueError(f"{count} records are kept, and {self.ledger.records} are answered")
-        self.files.read(files[0], self.ledger.kept_bytes, files[1], self.ledger.out_bytes)
+        self.files.read(self.ledger.kept_bytes, self.ledger.out_bytes)
         # What is left wasn't kept, so it is given again, unless nobody waits for it.
         self.line = collections.deque(pending for pending in self.line if not pending.done.done() and not pending.is_left)
 
