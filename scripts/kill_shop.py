@@ -119,7 +119,7 @@ class Asker(threading.Thread):
         else:
             asked.open += 1
         asked.faults[re.sub(r"\(.*?\)|[0-9T:+.-]*[0-9]", "N", fault.text.replace(str(self.trial.folder), ".."))[:100]] += 1
-        if "running" in fault.text or "ended" in fault.text:
+        if any(words in fault.text for words in ("running", "ended", "takes no requests")):
             time.sleep(0.05)
 
 

@@ -24,9 +24,9 @@ from .ends import Fault, Status
 from .folders import synced
 from .ledger import Place, packets_of, sends_of, tokens_of
 from .lives import Seen
-from .lock import stopped_shop
 from .records import Message, Token, ask_of, bytes_of, packet_of
 from .site import keep_command
+from .stopped import stopped_shop
 from .streams import STATUS_SECONDS, Streams, faults, reason_of
 
 CALL_SECONDS = 30.0

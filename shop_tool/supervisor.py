@@ -253,10 +253,7 @@ class Supervisor(Passing):
             self._begin(site)
         await self.server.listen()
         sites = [self.task(site.run()) for site in self.sites.values()]
-        others = [self.task(self.link.run()), self.task(self._look_after_folder())]
-        await asyncio.gather(*(site.tried.wait() for site in self.sites.values()))
-        await self._compared()
-        self._say_ready()
+        others = [self.task(work) for work in (self.link.run(), self._look_after_folder(), self._get_ready())]
         await self.stopping.wait()
         await asyncio.wait(sites, timeout=STOP_SECONDS)
         for site in self.sites.values():
@@ -268,6 +265,11 @@ class Supervisor(Passing):
             task.cancel()
         await asyncio.wait(others, timeout=END_SECONDS)
         self.event("supervisor: ended")
+
+    async def _get_ready(self) -> None:
+        await asyncio.gather(*(site.tried.wait() for site in self.sites.values()))
+        await self._compared()
+        self._say_ready()
 
     async def _compared(self) -> None:
         """Waits until it is known whether the sites that are up are fenced, for some time, or until the link fails."""
