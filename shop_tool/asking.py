@@ -37,7 +37,8 @@ class Ask:
     async def run(self, records: list[bytes]) -> None:
         """Asks them all. A Fault says what is known of the rest when the time is over, or the site is gone."""
         try:
-            await asyncio.wait_for(self.site.opened.wait(), self.left)
+            if not self.site.opened.is_set():
+                await asyncio.wait_for(self.site.opened.wait(), self.left)
         except TimeoutError:
             raise Fault(Status.AWAY, f"site {self.site.number}: it isn't known yet what the others have of it "
                         f"({self.site.shop.link.state}); {not_given()}") from None
