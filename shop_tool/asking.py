@@ -37,7 +37,8 @@ class Ask:
     async def run(self, records: list[bytes]) -> None:
         """Asks them all. A Fault says what is known of the rest when the time is over, or the site is gone."""
         try:
-            await asyncio.wait_for(self.site.opened.wait(), self.left)
+            if not self.site.opened.is_set():
+                await asyncio.wait_for(self.site.opened.wait(), self.left)
         except TimeoutError:
             if not self.site.up.is_set():
                 raise self._no_answer(None) from None

@@ -69,7 +69,7 @@ class Server:
                 return
             if is_one_too_many:
                 return await say(end_of(Fault(Status.AWAY, f"{CONNECTIONS} others are connected; nothing was asked")))
-            serving = asyncio.create_task(self._serve_line(line, say))
+            serving = asyncio.create_task(self._serve_line(line, reader, say))
             # A client that goes takes its request along, unless a site has it already.
             gone = asyncio.create_task(reader.read(1))
             await asyncio.wait({gone, serving}, return_when=asyncio.FIRST_COMPLETED)
@@ -90,7 +90,9 @@ class Server:
             while await reader.read(1 << 20):
                 pass
 
-    async def _serve_line(self, line: bytes, say: Say) -> None:
+    async def _serve_line(self, line: bytes, reader: asyncio.StreamReader, say: Say) -> None:
+        if reader.at_eof():
+            return          # the client has gone already
         try:
             request = request_of(line)
         except Fault as fault:
