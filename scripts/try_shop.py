@@ -778,6 +778,21 @@ def test_cloned_image(at: Folder) -> None:
     at.run("./shop start b", 3, "its folder is a copy, or was put back to an earlier state")
 
 
+def test_rebuilt_and_forgotten(at: Folder) -> None:
+    """A folder was made again, and the server has lost the end that says so: the folder isn't fenced as one that takes another's place."""
+    server = Server(at).start_shop()
+    at.shop(f"ask 0 {SALE}", folder="a")
+    keys = {key: server.say(f"get auction:{key}:0").strip() for key in ("owner", "life")}
+    at.kill(at.status("a")["pid"])
+    at.run("rm -r a/0; ./shop -C a rebuild 0; ./shop start a")
+    for key, value in keys.items():
+        server.say(f"set auction:{key}:0 '{value}'" if value else f"del auction:{key}:0")
+    time.sleep(2.5)
+    expect(at.shop("ask 0 user,cat", folder="a") == "ok,0.4\n", "it goes on")
+    at.run("./shop stop a; ./shop start a")
+    expect(at.shop("ask 0 user,dan", folder="a") == "ok,0.5\n", "it goes on after a start")
+
+
 def test_deleted(at: Folder) -> None:
     """Entries that were deleted by hand are published again, at the end of a stream and within it."""
     server = Server(at).start_shop()

@@ -103,7 +103,11 @@ class FileLink(Link):
     async def _compare(self, site: Site) -> None:
         """Opens a site once it is compared with what the others have of it."""
         await site.known.wait()
-        if why := await self._why_fenced(site):
+        try:
+            why = await self._why_fenced(site)
+        except OSError as fault:
+            why = f"{fault.filename}: {fault.strerror}"
+        if why:
             return site.fence(why)
         try:
             self.seen[site.number] = life_text(site.lives)

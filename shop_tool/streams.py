@@ -228,11 +228,7 @@ class Streams:
         return None if owner.split(" ", 1)[0] == identity(folder) else owner.split(" ", 1)[-1]
 
     async def adopt(self, site: int, folder: str) -> None:
-        """Gives a site to this folder, whichever life of it this is; its next start compares all of it."""
-        step = self.redis.pipeline()
-        step.set(self.key(f"owner:{site}"), owner_text(folder))
-        step.delete(self.key(f"life:{site}"))
-        await step.execute()
+        await self.redis.set(self.key(f"owner:{site}"), owner_text(folder))
 
     async def tell(self, statuses: dict[int, dict[str, Any]]) -> tuple[list[int], list[bytes | None]]:
         """Writes statuses of sites; how many messages each stream has, and its mark."""
