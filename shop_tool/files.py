@@ -12,9 +12,6 @@ class File(NamedTuple):
     size: int
 
 
-NOT_KNOWN: File | None = None
-
-
 def file_at(path: str) -> File | None:
     try:
         found = os.stat(path)
@@ -43,7 +40,8 @@ class Files:
 
     def __init__(self, site: int, folder: str) -> None:
         self.site, self.folder = site, folder
-        self.kept, self.out = file_at(f"{folder}/kept"), NOT_KNOWN
+        self.kept = file_at(f"{folder}/kept")
+        self.out: File | None = None
         self._beyond = 0, 0         # how many bytes they had beyond those that the ledger counts
 
     def read(self, kept_bytes: int, out_bytes: int) -> None:

@@ -62,7 +62,7 @@ def site_of(request: Request, sites: int) -> int:
     return number
 
 
-def ask_of(request: Request) -> AskRequest:
+def asks_of(request: Request) -> AskRequest:
     """What a site is asked, each record checked before the first one is asked."""
     records = field(request, "records", list)
     if len(records) > RECORDS_OF_A_REQUEST:

@@ -12,7 +12,7 @@ from .asking import Ask
 from .ends import Fault, Status
 from .ledger import packets_of, tokens_of
 from .records import Purpose, text_of
-from .requests import REQUEST_BYTES, Request, ask_of, field, listing_of, message_of, no_request, request_of, seconds_of, site_of
+from .requests import REQUEST_BYTES, Request, asks_of, field, listing_of, message_of, no_request, request_of, seconds_of, site_of
 from .site import Pending, Site
 from .supervisor import Supervisor
 from .told import unanswered
@@ -171,7 +171,7 @@ class Server:
         return answers[-1]
 
     async def _ask(self, site: Site, request: Request, seconds: float, say: Say) -> None:
-        asked = ask_of(request)
+        asked = asks_of(request)
         if self.shop.is_leaving:
             raise Fault(Status.AWAY, "the shop is being stopped; nothing was asked")
 

@@ -4,7 +4,7 @@ import unittest
 from typing import Any
 
 from shop_tool.ends import Fault, Status
-from shop_tool.requests import RECORDS_OF_A_REQUEST, ask_of, listing_of, message_of, request_of, seconds_of, site_of
+from shop_tool.requests import RECORDS_OF_A_REQUEST, asks_of, listing_of, message_of, request_of, seconds_of, site_of
 
 
 class Requests(unittest.TestCase):
@@ -27,11 +27,11 @@ class Requests(unittest.TestCase):
             self.refused(site_of, {"site": site}, 3)
 
     def test_asks(self) -> None:
-        asked = ask_of({"records": ["user,ann", "user,\udcff", "list,users"], "fetch": True})
+        asked = asks_of({"records": ["user,ann", "user,\udcff", "list,users"], "fetch": True})
         self.assertEqual((asked.records, asked.fetches_token, asked.published), ([b"user,ann", b"user,\xff", b"list,users"], True, False))
         for records in (None, "user,ann", [7], [None], ["user,ann", ""], ["\ud800"], ["user,ann"] * (RECORDS_OF_A_REQUEST + 1)):
-            self.refused(ask_of, {"records": records, "fetch": True})
-        self.refused(ask_of, {"records": ["user,ann"]})
+            self.refused(asks_of, {"records": records, "fetch": True})
+        self.refused(asks_of, {"records": ["user,ann"]})
 
     def test_listings(self) -> None:
         self.assertEqual(listing_of({"record": "list,items,7"}), b"list,items,7")
