@@ -137,6 +137,7 @@ class Supervisor(Passing):
         if not site.compared.is_set():
             site.compared.set()
             self.changes.tell()
+            self.news.tell()
         self.progress.tell()
         self.pass_on(site)
 
