@@ -11,8 +11,9 @@ lost, and made again by `shop rebuild`. With --power `kept` and `out` lose their
 copy that was made while it ran. --published: asks end only once another site, or the server, has them; with --disks, --power and --older
 what was told otherwise may be gone. With --elsewhere any supervisor is asked for any site.
 
-At the end all sites have equal logs as sets and equal tables, the audit says Agree, each accepted ask is in the logs once, as it was
-asked, and none that was told *not accepted* is. Figures go to standard output; the status is 1 if something was lost or doubled."""
+At the end a red ask at each site is accepted, all sites have equal logs as sets and equal tables, the audit says Agree, each accepted ask
+is in the logs once, as it was asked, and none that was told *not accepted* is. Figures go to standard output; the status is 1 if something
+was lost or doubled, or red asks don't go on."""
 
 import argparse
 import collections
@@ -299,6 +300,11 @@ class Trial:
     def compare(self) -> dict[str, Any]:
         asked = self.asked
         began = time.monotonic()
+        for site in range(self.args.sites):
+            try:
+                Asker(self, self.args.askers + site).ask(site, f"user,end{site}")
+            except Fault as fault:
+                asked.bad.append(f"red asks don't go on: {fault.text}")
         for site in range(self.args.sites):
             said = self.shop("wait", str(site), "--timeout", "60", folder=self.folder_of(site))
             if said.returncode:

@@ -656,6 +656,27 @@ def test_token_behind_a_lost_end(at: Folder) -> None:
     token_comes_back(at, 2)
 
 
+def test_token_of_a_lost_folder(at: Folder) -> None:
+    """The sender's stream is whole, its folder is lost, and the recipient has later messages: the token comes from the stream alone."""
+    server = Server(at)
+    for site, folder in enumerate("abc"):
+        at.run(f"./shop start {folder} --sites 3 --here {site} --over {server.over}")
+    at.shop(f"ask 0 {SALE}", folder="a")
+    at.shop("wait 2", folder="c")
+    at.run("./shop stop c")
+    at.shop("pass 0 2", folder="a")
+    at.shop("ask 0 restock,0.3,0.1,2", folder="a")
+    at.shop("wait 1", folder="b")
+    at.run("./shop stop a")
+    begin_again(server, 0, 0)
+    at.wait("the messages again", lambda: server.say("xlen auction:0") == "4\n")
+    at.run("./shop start c; ./shop -C c wait 2; ./shop stop c; ./shop stop b; ./shop start a")
+    at.wait("all of its packets", lambda: server.say("xlen auction:0") == "5\n")
+    at.kill(at.status("a")["pid"])
+    at.run("rm -r a/0; ./shop start c; ./shop start b")
+    expect(at.shop("ask 2 bid,0.3,0.2,500", folder="c") == "ok,2.1\n", "the token is where it was passed to")
+
+
 def test_token_behind_a_reader(at: Folder) -> None:
     """The same where the server then loses all once more, and the sender begins its stream behind the recipient's place."""
     token_comes_back(at, 0, True)
@@ -735,6 +756,41 @@ def test_copy_with_the_same_end(at: Folder) -> None:
     server.start()
     at.run("./shop start a", 3, "its folder is a copy, or was put back to an earlier state: this is its start 2")
     at.shop("ask 0 restock,0.3,0.1,5 --timeout 1", 3, "nothing was given to it", folder="a")
+
+
+def test_backup_of_yesterday(at: Folder) -> None:
+    """A machine is gone and comes back from a backup: it is fenced, and says what to do; after that all tables are equal."""
+    Server(at).start_shop()
+    at.shop(f"ask 0 {SALE}", folder="a")
+    at.shop("ask 2 bid,0.3,0.2,500", folder="b")
+    at.run("cp -a b yesterday")
+    at.shop("ask 2 bid,0.3,0.2,600 comment,0.3,0.2,0.1,5,good --published", folder="b")
+    at.kill(at.status("b")["pid"])
+    at.run("rm -r b; cp -a yesterday b; rm -f b/sock")
+    at.run("./shop start b", 3, "had its packet 3-0, and its folder ends with 1-0 (shop rebuild 2)")
+    at.shop("ask 2 comment,0.3,0.2,0.1,1,bad", 3, "nothing was given to it", folder="b")
+    at.run("./shop stop b; ./shop -C b rebuild 2; ./shop start b")
+    expect(at.shop("ask 2 bid,0.3,0.2,700", folder="b") == "ok,2.4\n", "it goes on, with the token")
+    at.shop("wait 0", folder="a")
+    rows = at.shop("ask 0 list,tables", folder="a")
+    expect("good" in rows and at.shop("ask 2 list,tables", folder="b") == rows, "the tables")
+    at.shop("audit", folder="a")
+
+
+def test_older_copy_and_an_empty_server(at: Folder) -> None:
+    """The server has lost all, and a folder is put back to an older copy: a site beside it has more of it."""
+    server = Server(at)
+    at.run(f"./shop start a --sites 2 --over {server.over}")
+    at.shop(f"ask 0 {SALE}", folder="a")
+    at.run("cp -a a/0 older; ./shop -C a ask 0 user,cat; ./shop -C a wait 1")
+    at.kill(at.status("a")["pid"])
+    server.say("flushall")
+    put_back(at, "a/0", "older")
+    at.run("./shop start a", 3, "site 1 has 4 messages of it, and its folder has 3 (shop rebuild 0)")
+    at.shop("ask 0 user,dan", 3, "nothing was given to it", folder="a")
+    at.run("./shop stop a; ./shop -C a rebuild 0; ./shop start a")
+    expect(at.shop("ask 0 user,dan", folder="a") == "ok,0.5\n", "no number is given twice")
+    at.shop("audit", folder="a")
 
 
 def test_other_past(at: Folder) -> None:
@@ -941,8 +997,10 @@ def test_held(at: Folder) -> None:
     at.run("./shop start auction; ./shop stop auction")
     held = at.start("flock auction/lock sleep 100")
     at.wait("the lock", lambda: subprocess.run(["flock", "-n", at.path / "auction/lock", "true"]).returncode)
-    for command in ("./shop stop auction", "./shop start auction", "./shop -C auction status"):
+    stopping = at.start("sh -c './shop stop auction 2> stopping'")
+    for command in ("./shop start auction", "./shop -C auction status"):
         at.run(command, 3, "takes no requests")
+    expect(stopping.wait(SECONDS) == 3 and "takes no requests" in at.text("stopping"), "what a stop says")
     os.killpg(held.pid, signal.SIGKILL)
     at.run("./shop stop auction", 0, "auction is not running")
 

@@ -149,7 +149,7 @@ class FileLink(Link):
         while True:
             packets = []
             for number, other in self.shop.sites.items():
-                if number != site.number and other.known.is_set():
+                if number != site.number and other.known.is_set() and other.opened.is_set() and not other.fenced_by:
                     sends = other.ledger.sends
                     begin = at.setdefault(number, sends.count_upto((site.ledger.have[number].upto, 0)))
                     texts = other.sent(begin, min(len(sends), begin + BATCH))

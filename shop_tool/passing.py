@@ -105,15 +105,17 @@ class Passing:
             self.stays = None
 
     async def _hand_to(self, holder: Site, to: int) -> None:
-        holder.is_passing = True
         pending, = holder.give([b"pass,%d" % to])
+        holder.is_passing, stays = True, self.stays
+        self.stays = f"the token goes to site {to}, which hasn't taken it yet"
         if (await pending.done).refusal:
+            self.stays = stays
             raise Fault(Status.REFUSED, "it was the last turn")
-        self.stays = f"the token was passed to site {to}, which hasn't taken it yet"
         while (await self._turn_at(to) or 0) < holder.ledger.turn:
             await asyncio.sleep(LOOK_SECONDS)
 
     async def _turn_at(self, site: int) -> int | None:
-        """The turn of the token that a site elsewhere had last, as its supervisor says now; None if that says nothing."""
+        """The turn of the token that a site elsewhere had last, as its supervisor says now; None if that says nothing, or is stopped too."""
         said = await self.link.call({"op": "status"}, site, HAND_OVER_SECONDS)
-        return next((one.get("turn") for one in said[-1]["shop"]["site"] if one["site"] == site), None) if said else None
+        shop = said[-1].get("shop") if said else None
+        return None if not shop or shop.get("stopping") else next((one.get("turn") for one in shop["site"] if one["site"] == site), None)

@@ -111,8 +111,9 @@ def stop(args: argparse.Namespace) -> int:
         line.settimeout(STOP_SECONDS)
         try:
             line.sendall(b'{"op": "stop"}\n')
-            for text in line.makefile("rb"):
-                print(f"shop: {json.loads(text)['said']}", file=sys.stderr)
+            for answer in map(json.loads, line.makefile("rb")):
+                client.raise_fault(answer)
+                print(f"shop: {answer['said']}", file=sys.stderr)
         except OSError:
             pass
     while holder and lock.holder_of(args.folder) == holder:

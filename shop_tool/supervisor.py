@@ -138,6 +138,7 @@ class Supervisor(Passing):
         if not site.compared.is_set():
             site.compared.set()
             self.changes.tell()
+            self.news.tell()
         self.progress.tell()
         self.pass_on(site)
 
@@ -201,7 +202,8 @@ class Supervisor(Passing):
         well = self.link.state == "up" and all(one["state"] == State.UP for one in sites)
         return well, {
             "folder": self.folder, "sites": self.settings.sites, "over": self.settings.shown_over, "sync": self.settings.sync,
-            "keep": self.settings.keep, "pid": os.getpid(), "since": self.since, "link": self.link.state, "token": holder,
+            "keep": self.settings.keep, "pid": os.getpid(), "since": self.since, "stopping": self.is_leaving,
+            "link": self.link.state, "token": holder,
             "token_turn": self.wants.turn, "token_sent_to": self.wants.holder, "token_wanted_by": self.wants.waiting(), "site": sites,
         }
 
