@@ -374,6 +374,31 @@ def test_time_out(at: Folder) -> None:
     at.shop("audit")
 
 
+def test_asked_while_it_stops(at: Folder) -> None:
+    """What askers are told while a shop is being stopped, which takes its time, stays true."""
+    at.run("./shop start auction --sites 2")
+    at.shop(f"ask 0 {SALE}")
+    keeper = at.site(0)["pid"]
+    os.kill(keeper, signal.SIGSTOP)
+    given = at.start("sh -c './shop -C auction ask 0 user,eve --timeout 6 2> given'")
+    at.wait("the ask", lambda: at.site(0)["waiting"] == 1)
+    waits = at.start("sh -c './shop -C auction ask 1 bid,0.3,0.2,500 --timeout 20 2> waits'")
+    at.wait("a want of the token", lambda: at.site(1)["waiting"] == 1)
+    stop = at.start("./shop stop auction")
+    at.wait("the stop", lambda: "asked to stop" in at.text("auction/events"))
+    at.shop("ask 0 user,fay", 3, "the shop is being stopped; nothing was asked")
+    for asker in (given, waits):
+        expect(asker.wait(SECONDS) == 3, "an asker's status")
+    expect("after record 3, or it never will be" in at.text("given"), f"what was given: {at.text('given')}")
+    expect(at.text("waits").endswith("the shop is being stopped; not accepted\n"), f"what was refused: {at.text('waits')}")
+    os.kill(keeper, signal.SIGCONT)
+    expect(stop.wait(SECONDS) == 0, "the status of the stop")
+    at.run("./shop start auction")
+    expect(at.shop("ask 0 user,gus") == "ok,0.5\n", "it goes on")
+    expect("< user,eve\n> reply,4,ok,0.4\n" in at.shop("log 0") and "fay" not in at.shop("log 0"), "what the askers find")
+    expect(",ok," not in at.shop("log 1"), "nothing was accepted at site 1")
+
+
 def test_audit(at: Folder) -> None:
     """Logs of earlier audits are audited too, so that a changed past is found."""
     at.run("./shop start auction --sites 2")
