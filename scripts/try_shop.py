@@ -1032,20 +1032,20 @@ def test_held(at: Folder) -> None:
 
 def test_stop_hands_the_token_over(at: Folder) -> None:
     """A stop passes the token to a site elsewhere that runs, so red asks go on; if none does, it stays, and the stop says so."""
-    server = Server(at).start_shop()
+    server = Server(at)
+    for site, folder in enumerate("abc"):
+        at.run(f"./shop start {folder} --sites 3 --here {site} --over {server.over}")
     at.shop(f"ask 0 {SALE}", folder="a")
-    at.run("./shop stop a")
-    expect(at.shop("ask 2 bid,0.3,0.2,500", folder="b") == "ok,2.1\n", "red asks go on without the sites of the other machine")
-    at.run("./shop stop b", 0, "the token stays with site 2, since no site elsewhere takes it")
-    at.run("./shop start a; ./shop start b")
-    expect(at.shop("ask 1 bid,0.3,0.2,600", folder="a") == "ok,1.1\n", "it comes back")
     other = at.status("b")["pid"]
     os.kill(other, signal.SIGSTOP)
-    at.run("./shop stop a", 0, "the token stays with site 1, since no site elsewhere takes it")
+    at.run("./shop stop a")
+    expect(at.shop("ask 2 bid,0.3,0.2,500", folder="c") == "ok,2.1\n", "red asks go on, where a supervisor answers")
+    at.run("./shop stop c", 0, "the token stays with site 2, since no site elsewhere takes it")
     os.kill(other, signal.SIGCONT)
-    at.run("./shop start a")
+    at.run("./shop start a; ./shop start c")
+    expect(at.shop("ask 1 bid,0.3,0.2,600", folder="b") == "ok,1.1\n", "it comes back")
     server.kill()
-    at.run("./shop stop a", 0, "the token stays with site 1, since no site elsewhere takes it")
+    at.run("./shop stop b", 0, "the token stays with site 1, since no site elsewhere takes it")
 
 
 def test_stop_by_signals(at: Folder) -> None:

@@ -11,8 +11,8 @@ from .turns import SAY_AGAIN, Wants, taker
 if TYPE_CHECKING:
     from .link import Link
 
-
 HAND_OVER_SECONDS = 2.0     # how long a stop waits until a site elsewhere has taken the token
+ANSWER_SECONDS = 0.5        # how long supervisors elsewhere have to say that they could take it
 LOOK_SECONDS = 0.05
 
 
@@ -97,12 +97,20 @@ class Passing:
             if holder.is_passing or not holder.ledger.holds_token or not self.may_give(holder):
                 await holder.shop.progress.wait()       # it is on its way
                 continue
-            to = taker(self.wants.waiting(), await self.link.up_elsewhere())
-            if to is None or await self._turn_at(to) is None:
+            to = taker(self.wants.waiting(), await self._answering(await self.link.up_elsewhere()))
+            if to is None:
                 return
             await self._hand_to(holder, to)
         if not holder:
             self.stays = None
+
+    async def _answering(self, sites: set[int]) -> set[int]:
+        """Those of some sites elsewhere whose supervisors answer at once, and aren't being stopped."""
+        asked = {asyncio.create_task(self._turn_at(site)): site for site in sites}
+        done, late = await asyncio.wait(asked, timeout=ANSWER_SECONDS) if asked else (set(), set())
+        for task in late:
+            task.cancel()
+        return {asked[task] for task in done if task.result() is not None}
 
     async def _hand_to(self, holder: Site, to: int) -> None:
         pending, = holder.give([b"pass,%d" % to])
