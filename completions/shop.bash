@@ -17,7 +17,7 @@ _shop() {
     stop,*) [[ $word == -* ]] && words='--help' ;;&
     status,*) [[ $word == -* ]] && words='--help --json --timeout' ;;&
     log,*) [[ $at -eq 0 && $word != -* ]] && words='0 1 2 3 4 5 6 7 8 9 10 11 12 13 14 15' ;;&
-    log,*) [[ $word == -* ]] && words='--help --follow --lines' ;;&
+    log,*) [[ $word == -* ]] && words='--help --follow --lines --raw' ;;&
     wait,*) [[ $at -eq 0 && $word != -* ]] && words='0 1 2 3 4 5 6 7 8 9 10 11 12 13 14 15' ;;&
     wait,*) [[ $word == -* ]] && words='--help --timeout' ;;&
     ask,*) [[ $at -eq 0 && $word != -* ]] && words='0 1 2 3 4 5 6 7 8 9 10 11 12 13 14 15' ;;&

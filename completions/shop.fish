@@ -34,6 +34,7 @@ complete -c shop -n "__fish_seen_subcommand_from status" -l timeout -x -d 'secon
 complete -c shop -n "not __fish_seen_subcommand_from $commands" -a log -d 'show what happened, or what a site was asked and answered'
 complete -c shop -n "__fish_seen_subcommand_from log" -s f -l follow -d 'go on with what comes'
 complete -c shop -n "__fish_seen_subcommand_from log" -s n -l lines -x -d 'how many lines of the past; 20 by default'
+complete -c shop -n "__fish_seen_subcommand_from log" -l raw -d 'print bytes as they are; else \\x1b stands for one that isn\'t printable'
 complete -c shop -n "__fish_seen_subcommand_from log" -a '0 1 2 3 4 5 6 7 8 9 10 11 12 13 14 15' -d 'site'
 complete -c shop -n "not __fish_seen_subcommand_from $commands" -a wait -d 'wait until a site has all that the others sent'
 complete -c shop -n "__fish_seen_subcommand_from wait" -l timeout -x -d 'seconds until it gives up; 60 by default'

@@ -2,16 +2,18 @@
 """Kills each part of a shop at random moments while it is asked, and then looks whether anything was lost or doubled.
 
     scripts/kill_shop.py PROGRAM [--over files|everysec|always] [--kills N] [--seed S] [--sites N] [--askers N] [--timeout S]
-                                 [--published] [--disks] [--power] [--figures FILE]
+                                 [--published] [--disks] [--power] [--older] [--elsewhere] [--figures FILE]
 
 Askers ask at random sites, red and blue asks, and write down what they were told. Meanwhile `kill -9` hits a site, a
 supervisor or the server. Over `everysec` and `always` there are two supervisors and a redis-server with that
 appendfsync; with `everysec` the server also loses the end of its file at times, as after a power failure. With --disks a site's folder is
-lost, and made again by `shop rebuild`. With --power `kept` and `out` lose their ends. --published: asks end only once another site, or the
-server, has them; with --disks and --power what was told otherwise may be gone.
+lost, and made again by `shop rebuild`. With --power `kept` and `out` lose their ends, and with --older a site's folder is put back to a
+copy that was made while it ran. --published: asks end only once another site, or the server, has them; with --disks, --power and --older
+what was told otherwise may be gone. With --elsewhere any supervisor is asked for any site.
 
-At the end all sites have equal logs as sets and equal tables, the audit says Agree, each accepted ask is in the logs once, as it was
-asked, and none that was told *not accepted* is. Figures go to standard output; the status is 1 if something was lost or doubled."""
+At the end a red ask at each site is accepted, all sites have equal logs as sets and equal tables, the audit says Agree, each accepted ask
+is in the logs once, as it was asked, and none that was told *not accepted* is. Figures go to standard output; the status is 1 if something
+was lost or doubled, or red asks don't go on."""
 
 import argparse
 import collections
@@ -96,7 +98,8 @@ class Asker(threading.Thread):
     def ask(self, site: int, record: str) -> None:
         args, asked = self.trial.args, self.trial.asked
         request = {"op": "ask", "site": site, "records": [record], "timeout": args.timeout, "fetch": True, "published": args.published}
-        answers = list(client.call(self.trial.folder_of(site), request, 60))
+        folder = self.dice.choice(list(self.trial.parts)) if args.elsewhere else self.trial.folder_of(site)
+        answers = list(client.call(folder, request, 60))
         client.raise_fault(answers[-1])
         lines = answers[0]["lines"]
         head = lines[0].split(",")
@@ -118,7 +121,7 @@ class Asker(threading.Thread):
         else:
             asked.open += 1
         asked.faults[re.sub(r"\(.*?\)|[0-9T:+.-]*[0-9]", "N", fault.text.replace(str(self.trial.folder), ".."))[:100]] += 1
-        if "running" in fault.text or "ended" in fault.text:
+        if any(words in fault.text for words in ("running", "ended", "takes no requests")):
             time.sleep(0.05)
 
 
@@ -162,7 +165,7 @@ class Trial:
         """Kills something; False if it wasn't there."""
         folder = self.dice.choice(list(self.parts))
         kinds = ["site", "site", "supervisor"] + ["server"] * 2 * (self.server is not None)
-        kinds += ["disk"] * self.args.disks + ["power"] * 4 * self.args.power
+        kinds += ["disk"] * self.args.disks + ["power"] * 4 * self.args.power + ["older"] * 8 * self.args.older
         kind = self.dice.choice(kinds)
         try:
             state = self.status(folder)
@@ -219,21 +222,39 @@ class Trial:
         for name, most in (("kept", self.dice.choice([0, 30, 300, 3000])), ("out", self.dice.choice([0, 300, 3000, 9000]))):
             path = f"{folder}/{number}/{name}"
             os.truncate(path, max(0, os.path.getsize(path) - int(most * self.dice.random())))
-        pathlib.Path(f"{folder}/boot").unlink(missing_ok=True)
+        self.mend(folder, number, "power")
+        return True
+
+    def kill_older(self, folder: str, state: dict[str, Any], site: dict[str, Any]) -> bool:
+        """A site's folder is copied; the next time it is put back to the copy. It starts, or is fenced or refused and then made again."""
+        number = site["site"]
+        copy = self.folder / f"{pathlib.Path(folder).name}.{number}.older"
+        if not copy.exists():
+            shutil.copytree(f"{folder}/{number}", copy)
+            return False
+        kill(state["pid"])
+        time.sleep(0.3)
+        for name in ("kept", "out", "life", "setup"):
+            shutil.copyfile(copy / name, f"{folder}/{number}/{name}")
+        shutil.rmtree(copy)
+        self.mend(folder, number, "older")
+        return True
+
+    def mend(self, folder: str, number: int, kind: str) -> None:
+        """Starts sites of which one may have lost something; it goes on, or is made again."""
         self.start(folder)
         for turn in range(40):
             one = next(one for one in self.status(folder)["site"] if one["site"] == number)
             if one["state"] == "fenced" or "run fault" in (one["fault"] or ""):
-                self.kills[f"power: {one['state']}, rebuilt"] += 1
+                self.kills[f"{kind}: {one['state']}, rebuilt"] += 1
                 self.shop("stop", folder=folder)
                 self.rebuild(folder, number)
                 self.start(folder)
                 break
             if one["state"] == "up" and one["published"] == one["sent"] and turn > 10:
-                self.kills["power: went on"] += 1
+                self.kills[f"{kind}: went on"] += 1
                 break
             time.sleep(0.1)
-        return True
 
     def rebuild(self, folder: str, number: int) -> None:
         said = self.shop("rebuild", str(number), "--anyway", folder=folder)
@@ -279,6 +300,11 @@ class Trial:
     def compare(self) -> dict[str, Any]:
         asked = self.asked
         began = time.monotonic()
+        for site in range(self.args.sites):
+            try:
+                Asker(self, self.args.askers + site).ask(site, f"user,end{site}")
+            except Fault as fault:
+                asked.bad.append(f"red asks don't go on: {fault.text}")
         for site in range(self.args.sites):
             said = self.shop("wait", str(site), "--timeout", "60", folder=self.folder_of(site))
             if said.returncode:
@@ -350,7 +376,7 @@ def main() -> int:
     for name, default in (("kills", 20), ("seed", 1), ("sites", 4), ("askers", 8)):
         words.add_argument(f"--{name}", type=int, default=default)
     words.add_argument("--timeout", type=float, default=15.0)
-    for name in ("published", "disks", "power"):
+    for name in ("published", "disks", "power", "older", "elsewhere"):
         words.add_argument(f"--{name}", action="store_true")
     words.add_argument("--figures", type=pathlib.Path)
     words.add_argument("--folder", type=pathlib.Path, help="where the shop is; it stays there")
@@ -370,7 +396,7 @@ def main() -> int:
     print(json.dumps(found, indent=1))
     if args.figures:
         args.figures.write_text(json.dumps(found, indent=1) + "\n")
-    kills = sum(trial.kills[kind] for kind in ("site", "supervisor", "server", "disk", "power"))
+    kills = sum(trial.kills[kind] for kind in ("site", "supervisor", "server", "disk", "power", "older"))
     asks, bad = len(trial.asked.seconds), len(trial.asked.bad)
     print(f"kills over {args.over}, seed {args.seed}: {kills} kills, {asks} asks answered, {bad} faults")
     return 1 if trial.asked.bad else 0

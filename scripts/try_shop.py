@@ -64,6 +64,15 @@ class Folder:
     def text(self, name: str) -> str:
         return (self.path / name).read_text()
 
+    def said(self, line: bytes, folder: str = "auction") -> list[dict[str, Any]]:
+        """What the supervisor answers to one line of its socket."""
+        with socket.socket(socket.AF_UNIX) as asked:
+            asked.settimeout(SECONDS)
+            asked.connect(os.path.relpath(self.path / folder / "sock"))
+            asked.sendall(line + b"\n")
+            with asked.makefile("rb") as answers:
+                return [json.loads(answer) for answer in answers]
+
     def wait(self, what: str, holds: Any) -> None:
         end = time.monotonic() + SECONDS
         while not holds():
@@ -136,6 +145,31 @@ def test_statuses(at: Folder) -> None:
     expect(at.shop("ask 0 --raw list,users").startswith("reply,4,rows,2\nrow,user,0.1,ann"), "the site's own lines")
 
 
+def test_refused_settings(at: Folder) -> None:
+    """A setting that a start refuses isn't kept: the next start has those of before."""
+    at.run("./shop start auction --batch 0", 2, "0 is not in 1..=65536")
+    expect(not (at.path / "auction/shop.json").exists(), "settings of a shop that never ran")
+    at.run("./shop start auction --sites 2 --batch 128")
+    at.shop("ask 0 user,ann")
+    at.shop("stop")
+    was = at.text("auction/shop.json")
+    for said in ("--batch 0", "--shards 65", "--workers 17", "--keep 0", "--over tcp", "--here 2", "--sites 3"):
+        for command in ("start", "run"):
+            at.run(f"./shop {command} auction {said}", 2)
+            expect(at.text("auction/shop.json") == was, f"the settings after {said}")
+    lock = at.start("flock auction/lock sleep 100")
+    at.wait("the lock", lambda: subprocess.run(["flock", "-n", "auction/lock", "true"], cwd=at.path).returncode)
+    at.run("./shop start auction --sync", 3)
+    expect(at.text("auction/shop.json") == was, "the settings while another process has the folder")
+    os.killpg(lock.pid, signal.SIGKILL)
+    (at.path / "auction/shop.json").unlink()
+    for said in ("", "--sites 3"):
+        at.run(f"./shop start auction {said}", 2, "auction/0 is site 0 of 2, and keeps 1000000")
+    at.run("./shop start auction --sites 2 --shards 9")
+    expect(at.shop("ask 0 user,bob") == "ok,0.2\n", "it goes on")
+    expect('"shards": 9' in at.text("auction/shop.json"), "the settings that were taken")
+
+
 def test_records_on_standard_input(at: Folder) -> None:
     """Many records by one call, answered in their order; a bad one ends it before its piece is asked."""
     at.run("./shop start auction")
@@ -146,7 +180,7 @@ def test_records_on_standard_input(at: Folder) -> None:
     expect("cat" not in at.shop("list 0 users"), "nothing of that piece was asked")
     at.run("printf 'user,cat\\r\\nuser,dan' | ./shop -C auction ask 0 -")
     at.run("printf 'user,\\377\\n' | ./shop -C auction ask 0 -", 1)
-    expect("< user,\udcff\n" in at.shop("log 0 -n 2"), "bytes that are no text")
+    expect("< user,\udcff\n" in at.shop("log 0 -n 2 --raw"), "bytes that are no text")
     command = [str(at.path / "shop"), "-C", "auction", "ask", "0", "-"]
     asker = subprocess.Popen(command, cwd=at.path, stdin=subprocess.PIPE, stdout=subprocess.PIPE)
     assert asker.stdin and asker.stdout
@@ -192,6 +226,34 @@ def test_log(at: Folder) -> None:
     at.shop("stop")
     expect("supervisor: ended" in at.shop("log"), "events")
     expect("up with 0 records" in at.shop("log"), "events of a site")
+
+
+def test_control_bytes(at: Folder) -> None:
+    """Bytes of a record that would control a terminal are shown as \\x1b wherever people read them; `--raw` and the files have them."""
+    at.run("./shop start auction --sites 2")
+    at.start("sh -c './shop -C auction log 0 -f -n 0 > followed'")
+    at.wait("a follower", lambda: (at.path / "followed").exists())
+    time.sleep(1)
+    escapes, shown = "\\033]0;eve\\007\\302\\2332J\\377", "user,\\x1b]0;eve\\x07\\x9b2J\\xff"
+    raw = "user,\x1b]0;eve\x07\x9b2J\udcff"
+    said = at.run(f"printf 'user,{escapes}\\n' | ./shop -C auction ask 0 - 2>&1", 1)
+    expect(said == f"refused,1,BadRecord\nshop: {shown}: the record isn't in the grammar\n", f"what the asker is told: {said!r}")
+    expect(at.shop("log 0 -n 2") == f"< {shown}\n> reply,1,refused,1,BadRecord\n", "what a site was asked")
+    expect(at.shop("log 0 -n 2 --raw") == f"< {raw}\n> reply,1,refused,1,BadRecord\n", "the same, raw")
+    at.wait("what is followed", lambda: f"< {shown}\n" in at.text("followed"))
+    expect(json.loads(at.run(f"printf 'user,{escapes}\\n' | ./shop -C auction ask 0 - --json", 1))["record"] == raw, "JSON")
+    at.shop("show 0 user \"$(printf '\\033[2J')\"", 1, "site 0 has no user \\x1b[2J")
+    at.shop("list 0 items \"$(printf '\\033[2J')\"", 1, "list,items,\\x1b[2J: the record isn't in the grammar")
+    # What a site says of its files.
+    at.shop("stop")
+    out = (at.path / "auction/0/out").read_bytes()
+    (at.path / "auction/0/out").write_bytes(out.replace(b"BadRecord", b"\x1b[2J", 1))
+    at.run("./shop start auction", 3, "out differs at line 1")
+    for command in ("status", "log", "status --json"):
+        seen = at.run(f"./shop -C auction {command} 2>&1; true")
+        expect("out differs at line 1" in seen, f"the fault in `{command}`: {seen}")
+        expect(seen.replace("\n", "").isprintable(), f"what `{command}` shows: {seen!r}")
+    expect("\x1b" not in at.text("auction/events"), "the file of events")
 
 
 def followed(lines: list[str], sign: str) -> list[str]:
@@ -290,6 +352,53 @@ def test_away(at: Folder) -> None:
     expect(at.shop("ask 1 bid,0.3,0.2,500") == "ok,1.2\n", "the token comes back with its holder")
 
 
+def test_time_out(at: Folder) -> None:
+    """Where a site or the supervisor hangs, a command ends when its time is over, and says what isn't known and how it is found out."""
+    at.run("./shop start auction --sites 2")
+    at.shop(f"ask 0 {SALE}")
+    keeper, supervisor = at.site(0)["pid"], at.status()["pid"]
+    os.kill(keeper, signal.SIGSTOP)
+    how = "when site 0 has answered a later record, it is in `shop log 0` after record 3, or it never will be"
+    at.shop("ask 0 user,eve --timeout 1", 3, f"it may still be accepted: {how}")
+    os.kill(keeper, signal.SIGCONT)
+    expect(at.shop("ask 0 user,cat") == "ok,0.5\n", "it goes on")
+    expect("< user,eve\n> reply,4,ok,0.4\n" in at.shop("log 0"), "what the asker finds")
+    os.kill(supervisor, signal.SIGSTOP)
+    for words in ("ask 0 user,dan", "list 0 users", "show 0 item 0.3", "audit", "status"):
+        unknown = "; whether it was accepted isn't known (shop log 0)" if words.startswith("ask") else ""
+        began = time.monotonic()
+        at.shop(f"{words} --timeout 1", 3, f"the supervisor of auction gave no answer within 1 s{unknown}")
+        expect(time.monotonic() - began < 6, f"the time-out of {words}")
+    os.kill(supervisor, signal.SIGCONT)
+    at.shop("ask 0 user,fay")
+    at.shop("audit")
+
+
+def test_asked_while_it_stops(at: Folder) -> None:
+    """What askers are told while a shop is being stopped, which takes its time, stays true."""
+    at.run("./shop start auction --sites 2")
+    at.shop(f"ask 0 {SALE}")
+    keeper = at.site(0)["pid"]
+    os.kill(keeper, signal.SIGSTOP)
+    given = at.start("sh -c './shop -C auction ask 0 user,eve --timeout 6 2> given'")
+    at.wait("the ask", lambda: at.site(0)["waiting"] == 1)
+    waits = at.start("sh -c './shop -C auction ask 1 bid,0.3,0.2,500 --timeout 20 2> waits'")
+    at.wait("a want of the token", lambda: at.site(1)["waiting"] == 1)
+    stop = at.start("./shop stop auction")
+    at.wait("the stop", lambda: "asked to stop" in at.text("auction/events"))
+    at.shop("ask 0 user,fay", 3, "the shop is being stopped; nothing was asked")
+    for asker in (given, waits):
+        expect(asker.wait(SECONDS) == 3, "an asker's status")
+    expect("after record 3, or it never will be" in at.text("given"), f"what was given: {at.text('given')}")
+    expect(at.text("waits").endswith("the shop is being stopped; not accepted\n"), f"what was refused: {at.text('waits')}")
+    os.kill(keeper, signal.SIGCONT)
+    expect(stop.wait(SECONDS) == 0, "the status of the stop")
+    at.run("./shop start auction")
+    expect(at.shop("ask 0 user,gus") == "ok,0.5\n", "it goes on")
+    expect("< user,eve\n> reply,4,ok,0.4\n" in at.shop("log 0") and "fay" not in at.shop("log 0"), "what the askers find")
+    expect(",ok," not in at.shop("log 1"), "nothing was accepted at site 1")
+
+
 def test_audit(at: Folder) -> None:
     """Logs of earlier audits are audited too, so that a changed past is found."""
     at.run("./shop start auction --sites 2")
@@ -310,6 +419,46 @@ def test_folder(at: Folder) -> None:
     supervisor = at.status(f"'{name}'")["pid"]
     at.run(f"rm -r '{name}'")
     at.wait("the end of the supervisor", lambda: not os.path.exists(f"/proc/{supervisor}"))
+
+
+def test_removed_files(at: Folder) -> None:
+    """A site whose folder is removed while the shop runs, or a file in it, ends, and says what to do; the others go on."""
+    at.run("./shop start auction --sites 5")
+    at.shop(f"ask 0 {SALE}")
+    for site in range(5):
+        at.shop(f"wait {site}")
+    supervisor = at.status()["pid"]
+    lost = {1: "mv auction/1 aside", 2: "rm auction/2/out", 3: "mv auction/3/kept .", 4: ": > auction/4/out"}
+    told = {}
+    for site, command in lost.items():
+        at.run(command)
+        told[site] = at.run(f"./shop -C auction ask {site} comment,0.3,0.2,0.1,{site},good 2>&1", 3)
+    for site, why in ((1, "its folder is gone (stop the shop, put it back or say shop rebuild 1, and start it)"),
+                      (2, "its file `out` was removed or changed (stop the shop, remove what is left of it and start it: `kept` is enough)"),
+                      (3, "its file `kept` was removed or changed (stop the shop, put it back or say shop rebuild 3, and start it)"),
+                      (4, "its file `out` was removed or changed")):
+        expect(why in told[site], f"what the asker at site {site} is told: {told[site]}")
+        expect(at.site(site)["state"] == "fenced" and why in at.site(site)["fault"], f"the status of site {site}: {at.site(site)}")
+        expect(f"site {site}: {why}" in at.shop("log"), f"the event of site {site}")
+    expect(at.shop("ask 0 user,cat") == "ok,0.4\n" and at.status()["pid"] == supervisor, "site 0 goes on")
+    at.shop("audit", 3, "no log came from site 1: site 1: its folder is gone")
+    at.shop("stop")
+    at.run("mv aside auction/1; mv kept auction/3/kept; rm auction/4/out")
+    at.run("./shop start auction")
+    for site in range(5):
+        at.shop(f"wait {site}")
+    for site, fault in told.items():
+        is_there = f"comment,0.3,0.2,0.1,{site},good" in at.shop(f"log {site}")
+        expect("may still be accepted" in fault or not is_there, f"what the asker at site {site} was told: {fault}")
+    expect(at.shop("list 0 users") == at.shop("list 4 users"), "the tables")
+    at.shop("audit")
+    # One that is asked nothing.
+    at.run("rm -r auction/4")
+    at.wait("its end", lambda: at.site(4)["state"] == "fenced")
+    at.shop("stop")
+    at.shop("rebuild 4")
+    at.run("./shop start auction")
+    at.shop("audit")
 
 
 def free_port() -> int:
@@ -385,7 +534,8 @@ def test_fence(at: Folder) -> None:
     was = sends(at, "a/0")
     expect(at.status("a")["token"] == 0, "site 0 holds the token")
     at.shop("rebuild 0", 1, "a is running", folder="a")
-    at.run("./shop stop a; rm -r a/0")
+    at.kill(at.status("a")["pid"])
+    at.run("rm -r a/0")
     at.run("./shop start a", 3, "its folder ends with 0-0 (shop rebuild 0)")
     at.shop("ask 0 user,eve", 3, "nothing was given to it", folder="a")
     at.run("./shop stop a")
@@ -531,6 +681,27 @@ def test_token_behind_a_lost_end(at: Folder) -> None:
     token_comes_back(at, 2)
 
 
+def test_token_of_a_lost_folder(at: Folder) -> None:
+    """The sender's stream is whole, its folder is lost, and the recipient has later messages: the token comes from the stream alone."""
+    server = Server(at)
+    for site, folder in enumerate("abc"):
+        at.run(f"./shop start {folder} --sites 3 --here {site} --over {server.over}")
+    at.shop(f"ask 0 {SALE}", folder="a")
+    at.shop("wait 2", folder="c")
+    at.run("./shop stop c")
+    at.shop("pass 0 2", folder="a")
+    at.shop("ask 0 restock,0.3,0.1,2", folder="a")
+    at.shop("wait 1", folder="b")
+    at.run("./shop stop a")
+    begin_again(server, 0, 0)
+    at.wait("the messages again", lambda: server.say("xlen auction:0") == "4\n")
+    at.run("./shop start c; ./shop -C c wait 2; ./shop stop c; ./shop stop b; ./shop start a")
+    at.wait("all of its packets", lambda: server.say("xlen auction:0") == "5\n")
+    at.kill(at.status("a")["pid"])
+    at.run("rm -r a/0; ./shop start c; ./shop start b")
+    expect(at.shop("ask 2 bid,0.3,0.2,500", folder="c") == "ok,2.1\n", "the token is where it was passed to")
+
+
 def test_token_behind_a_reader(at: Folder) -> None:
     """The same where the server then loses all once more, and the sender begins its stream behind the recipient's place."""
     token_comes_back(at, 0, True)
@@ -604,12 +775,47 @@ def test_copy_with_the_same_end(at: Folder) -> None:
     at.shop(f"ask 0 {SALE} --published", folder="a")
     at.run("./shop stop a; cp -a a/0 older; ./shop start a")
     server.kill()
-    expect(at.shop("ask 0 user,cat", folder="a") == "ok,0.4\n", "an ask without the server")
+    expect(at.shop("ask 0 restock,0.3,0.1,2", folder="a") == "ok,0.4\n", "an ask without the server")
     at.run("./shop stop a")
     put_back(at, "a/0", "older")
     server.start()
     at.run("./shop start a", 3, "its folder is a copy, or was put back to an earlier state: this is its start 2")
-    at.shop("ask 0 user,dan --timeout 1", 3, "nothing was given to it", folder="a")
+    at.shop("ask 0 restock,0.3,0.1,5 --timeout 1", 3, "nothing was given to it", folder="a")
+
+
+def test_backup_of_yesterday(at: Folder) -> None:
+    """A machine is gone and comes back from a backup: it is fenced, and says what to do; after that all tables are equal."""
+    Server(at).start_shop()
+    at.shop(f"ask 0 {SALE}", folder="a")
+    at.shop("ask 2 bid,0.3,0.2,500", folder="b")
+    at.run("cp -a b yesterday")
+    at.shop("ask 2 bid,0.3,0.2,600 comment,0.3,0.2,0.1,5,good --published", folder="b")
+    at.kill(at.status("b")["pid"])
+    at.run("rm -r b; cp -a yesterday b; rm -f b/sock")
+    at.run("./shop start b", 3, "had its packet 3-0, and its folder ends with 1-0 (shop rebuild 2)")
+    at.shop("ask 2 comment,0.3,0.2,0.1,1,bad", 3, "nothing was given to it", folder="b")
+    at.run("./shop stop b; ./shop -C b rebuild 2; ./shop start b")
+    expect(at.shop("ask 2 bid,0.3,0.2,700", folder="b") == "ok,2.4\n", "it goes on, with the token")
+    at.shop("wait 0", folder="a")
+    rows = at.shop("ask 0 list,tables", folder="a")
+    expect("good" in rows and at.shop("ask 2 list,tables", folder="b") == rows, "the tables")
+    at.shop("audit", folder="a")
+
+
+def test_older_copy_and_an_empty_server(at: Folder) -> None:
+    """The server has lost all, and a folder is put back to an older copy: a site beside it has more of it."""
+    server = Server(at)
+    at.run(f"./shop start a --sites 2 --over {server.over}")
+    at.shop(f"ask 0 {SALE}", folder="a")
+    at.run("cp -a a/0 older; ./shop -C a ask 0 user,cat; ./shop -C a wait 1")
+    at.kill(at.status("a")["pid"])
+    server.say("flushall")
+    put_back(at, "a/0", "older")
+    at.run("./shop start a", 3, "site 1 has 4 messages of it, and its folder has 3 (shop rebuild 0)")
+    at.shop("ask 0 user,dan", 3, "nothing was given to it", folder="a")
+    at.run("./shop stop a; ./shop -C a rebuild 0; ./shop start a")
+    expect(at.shop("ask 0 user,dan", folder="a") == "ok,0.5\n", "no number is given twice")
+    at.shop("audit", folder="a")
 
 
 def test_other_past(at: Folder) -> None:
@@ -653,6 +859,21 @@ def test_cloned_image(at: Folder) -> None:
     at.run("./shop start b", 3, "its folder is a copy, or was put back to an earlier state")
 
 
+def test_rebuilt_and_forgotten(at: Folder) -> None:
+    """A folder was made again, and the server has lost the end that says so: the folder isn't fenced as one that takes another's place."""
+    server = Server(at).start_shop()
+    at.shop(f"ask 0 {SALE}", folder="a")
+    keys = {key: server.say(f"get auction:{key}:0").strip() for key in ("owner", "life")}
+    at.kill(at.status("a")["pid"])
+    at.run("rm -r a/0; ./shop -C a rebuild 0; ./shop start a")
+    for key, value in keys.items():
+        server.say(f"set auction:{key}:0 '{value}'" if value else f"del auction:{key}:0")
+    time.sleep(2.5)
+    expect(at.shop("ask 0 user,cat", folder="a") == "ok,0.4\n", "it goes on")
+    at.run("./shop stop a; ./shop start a")
+    expect(at.shop("ask 0 user,dan", folder="a") == "ok,0.5\n", "it goes on after a start")
+
+
 def test_deleted(at: Folder) -> None:
     """Entries that were deleted by hand are published again, at the end of a stream and within it."""
     server = Server(at).start_shop()
@@ -675,11 +896,26 @@ def test_copied(at: Folder) -> None:
     at.shop("ask 2 user,eve --timeout 1", 3, "nothing was given to it", folder="c")
     at.run("./shop stop c")
     at.shop("adopt 2", 1, "site 2 is running elsewhere", folder="c")
-    at.run("./shop stop b")
+    at.kill(at.status("b")["pid"])
     at.shop("adopt 2", folder="c")
     at.run("./shop start b", 3, "c/2 has it")
     at.run("./shop start c")
     expect(at.shop("ask 2 bid,0.3,0.2,600", folder="c") == "ok,2.2\n", "it goes on")
+
+
+def test_removed_over_a_server(at: Folder) -> None:
+    """Over a server too, only the site ends whose files are removed."""
+    Server(at).start_shop()
+    at.shop(f"ask 0 {SALE}", folder="a")
+    at.shop("wait 1", folder="a")
+    at.run("mv a/0 aside")
+    at.wait("its end", lambda: at.site(0, "a")["state"] == "fenced")
+    expect("its folder is gone" in at.site(0, "a")["fault"] and at.status("a")["link"] == "up", "the status")
+    expect(at.shop("ask 1 comment,0.3,0.2,0.1,5,good", folder="a") == "ok,1.1\n", "the other site goes on")
+    at.shop("wait 2", folder="b")
+    at.run("./shop stop a; mv aside a/0; ./shop start a")
+    expect(at.shop("ask 2 bid,0.3,0.2,500", folder="b") == "ok,2.1\n", "and so does this one, once it is back")
+    at.shop("audit", folder="b")
 
 
 def test_full_server(at: Folder) -> None:
@@ -786,10 +1022,30 @@ def test_held(at: Folder) -> None:
     at.run("./shop start auction; ./shop stop auction")
     held = at.start("flock auction/lock sleep 100")
     at.wait("the lock", lambda: subprocess.run(["flock", "-n", at.path / "auction/lock", "true"]).returncode)
-    for command in ("./shop stop auction", "./shop start auction", "./shop -C auction status"):
+    stopping = at.start("sh -c './shop stop auction 2> stopping'")
+    for command in ("./shop start auction", "./shop -C auction status"):
         at.run(command, 3, "takes no requests")
+    expect(stopping.wait(SECONDS) == 3 and "takes no requests" in at.text("stopping"), "what a stop says")
     os.killpg(held.pid, signal.SIGKILL)
     at.run("./shop stop auction", 0, "auction is not running")
+
+
+def test_stop_hands_the_token_over(at: Folder) -> None:
+    """A stop passes the token to a site elsewhere that runs, so red asks go on; if none does, it stays, and the stop says so."""
+    server = Server(at)
+    for site, folder in enumerate("abc"):
+        at.run(f"./shop start {folder} --sites 3 --here {site} --over {server.over}")
+    at.shop(f"ask 0 {SALE}", folder="a")
+    other = at.status("b")["pid"]
+    os.kill(other, signal.SIGSTOP)
+    at.run("./shop stop a")
+    expect(at.shop("ask 2 bid,0.3,0.2,500", folder="c") == "ok,2.1\n", "red asks go on, where a supervisor answers")
+    at.run("./shop stop c", 0, "the token stays with site 2, since no site elsewhere takes it")
+    os.kill(other, signal.SIGCONT)
+    at.run("./shop start a; ./shop start c")
+    expect(at.shop("ask 1 bid,0.3,0.2,600", folder="b") == "ok,1.1\n", "it comes back")
+    server.kill()
+    at.run("./shop stop b", 0, "the token stays with site 1, since no site elsewhere takes it")
 
 
 def test_stop_by_signals(at: Folder) -> None:
@@ -835,6 +1091,112 @@ def test_limits(at: Folder) -> None:
     at.wait("room", lambda: subprocess.run(asked, cwd=at.path, capture_output=True).returncode != 3)
     line = at.run("head -c 20000000 /dev/zero | tr '\\0' x > long; ./shop -C auction ask 0 - < long", 2, "has at most 4096 bytes")
     expect(line == "", "nothing was asked")
+
+
+def test_one_record_a_request(at: Folder) -> None:
+    """What comes over the socket is one record of the kind that its request is for, or nothing is given to a site."""
+    at.run("./shop start auction --sites 2")
+    at.shop(f"ask 0 {SALE}")
+    at.shop("list 0 items \"$(printf '7\\nuser,eve')\"", 2, "a record has no line end in it; nothing was asked")
+    no_records = ["", "list,users\n", "list,users\nuser,eve", "list,users\ruser,eve", 'list,items,"7', '"list",users', "\ufefflist,users",
+                  "\udcefist,users", "\ud800", "msg,1,1,1,1,0:0,user,eve", "token,1,9,0,9", "list,items," + "7" * 5000, None, 7,
+                  ["list,users"]]
+    requests: list[dict[str, Any]] = [{"op": "list", "record": record} for record in [*no_records, "user,eve", "pass,1", "list\0,users"]]
+    requests += [{"op": "ask", "records": ["user,eve", record], "fetch": True} for record in no_records]
+    requests += [{"op": "ask", "records": records, "fetch": True} for records in ("user,eve", None, 7, ["user,eve"] * 10_001)]
+    requests += [{"op": "ask", "records": ["user,eve"], "fetch": "no"}, {"op": "have", "origin": "0", "after": 0}]
+    requests += [{"op": "ask"}, {"op": "eve"}]
+    lines = [json.dumps({"site": 0, "timeout": 5} | request) for request in requests]
+    for seconds in ("NaN", "Infinity", "-1", "0", "1e300", '"5"', "null"):
+        lines.append('{"op": "ask", "site": 0, "records": ["user,eve"], "fetch": true, "timeout": %s}' % seconds)
+    lines += ['{"op": "ask", "site": %s, "timeout": 5}' % site for site in ("2", "-1", "null", '"0"', "[0]")]
+    lines += ["", "{", "7", "null", '["op"]', "{}", "[" * 100_000, '"' + "x" * (17 << 20)]
+    for line in [line.encode() for line in lines] + [b'{"op": "ask\xff"}']:
+        answer = at.said(line)[-1]
+        expect(answer.get("end") is True and answer["status"] == 2 and bool(answer["fault"]), f"the answer to {line[:80]!r}: {answer}")
+    expect(at.said(b'{"op": "list", "site": 0, "record": "list,categories", "timeout": 5}')[0]["lines"][0] == "reply,4,rows,1", "a listing")
+    at.run("printf 'user,\\000eve\\n' | ./shop -C auction ask 0 -", 1)
+    expect(at.shop("ask 0 user,cat") == "ok,0.4\n", "the next answer is that of its record")
+    kept = b"user,ann\nuser,bob\nitem,0.1,lamp,7,3,100,80\nlist,categories\nuser,\0eve\nuser,cat\n"
+    expect((at.path / "auction/0/kept").read_bytes() == kept, "what site 0 was given")
+
+
+def test_byte_239(at: Folder) -> None:
+    """A record that begins with the byte 239, for which a site keeps another line, is refused; a crash later finds what was given."""
+    at.run("./shop start auction")
+    at.shop(f"ask 0 {SALE}")
+    for start in ("\\357", "\\357\\273\\277", "\\357\\277\\275,"):
+        at.run(f"printf '{start}user,eve\\n' | ./shop -C auction ask 0 -", 2, "the byte 239")
+    asker = at.start("sh -c 'seq -f comment,0.3,0.2,0.1,4,%g 4000 | ./shop -C auction ask 0 - > said'")
+    for _ in range(3):
+        at.kill(at.site(0)["pid"])
+        at.wait("the site", lambda: at.site(0)["pid"] and at.site(0)["state"] == "up")
+    expect(asker.wait(SECONDS) == 0 and at.text("said").count("ok,0.") == 4000, "each is accepted")
+    expect(at.text("auction/0/kept").count("comment,") == 4000, "each is kept once")
+
+
+def test_kept_by_hand(at: Folder) -> None:
+    """A site that `rubis keep` was given lines that are no record, or two, is read as it counts them; a crash later finds what was given."""
+    at.run("printf 'user,ann\\n\\nuser,bob\\r\\nstop\\rgo\\n\\r\\n\\357\\273\\277user,eve\\n' | ./rubis keep auction/0 > said")
+    at.run("./shop start auction")
+    expect(at.shop("ask 0 item,0.1,lamp,7,3,100,80") == "ok,0.3\n", "an ask")
+    log = [line for line in at.shop("log 0").splitlines() if line.startswith("< ")]
+    expect(log == ["< user,ann", "< user,bob", "< stop", "< go", "< broken", "< item,0.1,lamp,7,3,100,80"], f"its records: {log}")
+    asker = at.start("sh -c 'seq -f comment,0.3,0.2,0.1,4,%g 4000 | ./shop -C auction ask 0 - > said'")
+    for _ in range(3):
+        at.kill(at.site(0)["pid"])
+        at.wait("the site", lambda: at.site(0)["pid"] and at.site(0)["state"] == "up")
+    expect(asker.wait(SECONDS) == 0 and at.text("said").count("ok,0.") == 4000, "each is accepted")
+
+
+def test_forged_packets(at: Folder) -> None:
+    """What stands in a stream and isn't one packet isn't given to a site, which goes on with what comes behind it."""
+    server = Server(at)
+    at.run(f"./shop start a --sites 3 --here 0,1 --over {server.over}")
+    packets = ("token,1,5,0,0\\nuser,eve", "token,1,6,0,0\\n", "msg,1,2,1,1,0:0:0,user,ann\\nuser,eve", "\\357msg,1,2,2,1,0:0:1,user,ann")
+    for number, packet in enumerate(packets):
+        at.run(f"printf '{packet}' | redis-cli -p {server.port} -x xadd auction:2 0-{number + 1} p")
+    at.wait("a fault for each", lambda: at.text("a/events").count("isn't given to it") == 2 * len(packets))
+    expect(at.shop("ask 0 user,cat", folder="a") == "ok,0.1\n", "site 0 holds the token still")
+    expect(at.text("a/0/kept") == "user,cat\n", f"what it was given: {at.text('a/0/kept')!r}")
+
+
+def test_asked_from_elsewhere(at: Folder) -> None:
+    """A site elsewhere is asked in the folder that has it: neither a copy of that answers, nor one that has lost it and is being stopped."""
+    Server(at).start_shop()
+    at.shop(f"ask 0 {SALE}", folder="a")
+    at.shop("ask 2 bid,0.3,0.2,500", folder="b")
+    at.run("cp -a b c; ./shop start c", 3, "b/2 has it (shop adopt 2")
+
+    def asked(bid: int, keeper: int, meanwhile: Callable[[], None]) -> str:
+        """What is told of a bid at site 2, asked from the other machine, while its keeper takes its time."""
+        os.kill(keeper, signal.SIGSTOP)
+        asker = at.start(f"sh -c './shop -C a ask 2 bid,0.3,0.2,{bid} --timeout 30 > said 2>&1'")
+        time.sleep(1)
+        meanwhile()
+        time.sleep(2)
+        os.kill(keeper, signal.SIGCONT)
+        asker.wait(SECONDS)
+        return at.text("said")
+
+    told = asked(600, at.site(2, "b")["pid"], lambda: None)
+    expect(told == "ok,2.2\n", f"beside a copy: {told}")
+    at.run("./shop stop c; rm -r c")
+    # b is held up while c takes its place, and then stops, which takes its time.
+    supervisor, keeper = at.status("b")["pid"], at.site(2, "b")["pid"]
+    for process in (keeper, supervisor):
+        os.kill(process, signal.SIGSTOP)
+    at.run("cp -a b c")
+    at.shop("adopt 2", folder="c")
+    at.run("./shop start c")
+
+    def stop() -> None:
+        for number in (signal.SIGTERM, signal.SIGCONT):
+            os.kill(supervisor, number)
+
+    told = asked(700, at.site(2, "c")["pid"], stop)
+    expect(told == "ok,2.3\n", f"while the one before is being stopped: {told}")
+    at.wait("its end", lambda: not os.path.exists(f"/proc/{supervisor}"))
 
 
 def recorded(at: Folder) -> str:

@@ -1,4 +1,7 @@
-"""Answers of a site: cuts what it writes into the answers of one record each."""
+"""Answers of a site, and the records that they are to: cuts what it writes and keeps into those of one record each."""
+
+import re
+from typing import BinaryIO
 
 
 class Answer:
@@ -62,3 +65,44 @@ class AnswerReader:
                 self._lines, size = [], 0
         self._rest = data[begin:]
         return answers
+
+
+_FIELD = rb'(?:"(?:[^"]|"")*"[^,\r]*|[^",\r][^,\r]*|)'
+_RECORD = re.compile(_FIELD + rb"(?:," + _FIELD + rb")*")
+
+
+def records_in(line: bytes) -> list[tuple[bytes, int]]:
+    """The records of a line of `kept`, each with where it ends: none in an empty line, and several where a carriage return ends one."""
+    if b"\r" not in line:
+        return [(line, len(line))] if line else []
+    found, at = [], 0
+    while at < len(line):
+        record = _RECORD.match(line, at)
+        assert record
+        at = record.end() + 1
+        found += [(record[0], record.end())] if record[0] else []
+    return found
+
+
+class KeptReader:
+    """Reads the records of a file `kept` from where it stands."""
+
+    def __init__(self, file: BinaryIO) -> None:
+        self._file = file
+        self._records: list[tuple[bytes, int]] = []
+        self._size = 0          # of the line that they are of
+        self._at = 0            # up to which byte of it records are read
+
+    def next(self) -> tuple[bytes, int]:
+        """The next record, and how many bytes of the file it takes, with what no record is before it. At the end it is empty."""
+        skipped = 0
+        while not self._records:
+            skipped += self._size - self._at
+            line = self._file.readline()
+            self._records, self._size, self._at = records_in(line.rstrip(b"\n")), len(line), 0
+            if not line:
+                return b"", skipped
+        record, end = self._records.pop(0)
+        end = end if self._records else self._size
+        taken, self._at = skipped + end - self._at, end
+        return record, taken

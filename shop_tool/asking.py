@@ -7,10 +7,12 @@ from collections.abc import Awaitable, Callable
 from .answers import Answer
 from .ends import Fault, Status
 from .records import RED, kind_of
-from .site import Pending, Site, State
+from .site import Gone, Pending, Site, State
+from .told import not_given, not_known
 
 WINDOW = 64         # how many records of one asker are with the site at once, where that changes no answer
 ASK_AGAIN = 1.0     # seconds
+WHERE_SECONDS = 0.5     # how long it is looked where the token is, once the time is over
 
 Say = Callable[[bytes, Answer], Awaitable[None]]
 
@@ -19,27 +21,37 @@ class Ask:
     """One asker. Records are asked one behind the other, and each answer is said."""
 
     def __init__(self, site: Site, seconds: float, fetches_token: bool, say: Say) -> None:
-        self.site, self.seconds, self.fetches_token, self.say = site, seconds, fetches_token, say
+        self.site, self.seconds, self.fetches_token, self._say = site, seconds, fetches_token, say
         self.until = time.monotonic() + seconds
+        self.answered = 0
+        self.was_refused = False        # the record that is asked was answered NoToken or RedBehind
 
     @property
     def left(self) -> float:
         return max(self.until - time.monotonic(), 0.001)
 
+    async def say(self, pending: Pending) -> None:
+        await self._say(pending.record, pending.done.result())
+        self.answered += 1
+
     async def run(self, records: list[bytes]) -> None:
         """Asks them all. A Fault says what is known of the rest when the time is over, or the site is gone."""
         try:
-            await asyncio.wait_for(self.site.opened.wait(), self.left)
+            if not self.site.opened.is_set():
+                await asyncio.wait_for(self.site.opened.wait(), self.left)
         except TimeoutError:
             if not self.site.up.is_set():
-                raise self._no_answer(False) from None
+                raise self._no_answer(None) from None
             raise Fault(Status.AWAY, f"site {self.site.number}: it isn't known yet what the others have of it "
-                        f"({self.site.shop.link.state}); nothing was given to it") from None
+                        f"({self.site.shop.link.state}); {not_given()}") from None
         at = 0
-        while at < len(records):
-            end = self._window_end(records, at)
-            await self._ask(records[at:end])
-            at = end
+        try:
+            while at < len(records):
+                end = self._window_end(records, at)
+                await self._ask(records[at:end])
+                at = end
+        except Gone as gone:
+            raise Fault(gone.status, f"{gone.why}; {gone.unknown or not_given(self.answered, self.was_refused)}") from None
 
     def _window_end(self, records: list[bytes], at: int) -> int:
         """Several are given at once only where none can be answered NoToken or RedBehind, after which it is asked again."""
@@ -55,13 +67,15 @@ class Ask:
         is_red = any(kind_of(record) in RED for record in window)
         site.red_askers += is_red
         try:
+            self.was_refused = False
             pending = await self._asked(window)
             while is_red and self.fetches_token and len(pending) == 1 and not await self._is_settled(pending[0]):
+                self.was_refused = True
                 pending = await self._asked(window)
             if is_red and site.ledger.holds_token:
                 site.hold.used(time.monotonic())
             for each in pending:
-                await self.say(each.record, each.done.result())
+                await self.say(each)
         finally:
             site.red_askers -= is_red
             site.shop.pass_on(site)
@@ -76,17 +90,17 @@ class Ask:
             self.site.leave(pending)
             raise
         if not pending[-1].done.done():
-            was_given = self.site.leave(pending)
+            given = self.site.leave(pending)
             for each in pending:
                 if each.done.done():
-                    await self.say(each.record, each.done.result())
-            raise self._no_answer(was_given)
+                    await self.say(each)
+            raise self._no_answer(given)
         return pending
 
-    def _no_answer(self, was_given: bool) -> Fault:
+    def _no_answer(self, given: Pending | None) -> Fault:
         site = self.site
         why = f" ({site.fault[1]})" if site.state != State.UP and site.fault else ""
-        what = "it may still be accepted" if was_given else "nothing was given to it"
+        what = not_known(site.number, given.behind) if given else not_given(self.answered, self.was_refused)
         return Fault(Status.AWAY, f"site {site.number} is {site.state}{why}: no answer within {self.seconds:g} s; {what}")
 
     async def _is_settled(self, pending: Pending) -> bool:
@@ -101,10 +115,16 @@ class Ask:
                 case _:
                     return True
         except TimeoutError:
-            await self.say(pending.record, answer)
-            where = await site.shop.where_is_token(site)
+            await self.say(pending)
+            where = await self._where_is_token()
             raise Fault(Status.AWAY, f"site {site.number}: {where}; not accepted within {self.seconds:g} s") from None
         return False
+
+    async def _where_is_token(self) -> str:
+        try:
+            return await asyncio.wait_for(self.site.shop.where_is_token(self.site), WHERE_SECONDS)
+        except TimeoutError:
+            return "it isn't known where the token is"
 
     async def _red_messages(self, releases: int) -> None:
         """Waits for a release after the answer, and until all red messages before the token are here."""

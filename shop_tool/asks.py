@@ -10,6 +10,7 @@ from typing import Any
 from . import client
 from .ends import Fault, Status
 from .records import BYTES_OF_A_RECORD, COLUMNS, REFUSALS, row_of, text_of, why_not_one_record
+from .render import shown
 
 PIECE = 1000        # how many records of standard input are asked by one request
 
@@ -74,7 +75,7 @@ class Printer:
             return
         print(",".join(head[2:]), flush=True)
         if head[2] == "refused":
-            print(f"shop: {record}: {REFUSALS.get(head[4], head[4])}", file=sys.stderr)
+            print(f"shop: {shown(record)}: {REFUSALS.get(head[4], head[4])}", file=sys.stderr)
 
     def _json(self, record: str, lines: list[str]) -> None:
         head = self._noted(lines)

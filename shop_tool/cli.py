@@ -8,6 +8,7 @@ from typing import NoReturn
 
 from .ends import Fault, Status
 from .records import COLUMNS, LISTINGS
+from .render import shown
 
 ABOUT = "Runs the sites of a rubis shop, carries their packets, and is how one asks and watches them."
 NOTES = """\
@@ -122,6 +123,7 @@ class CommandLine:
         parser.add_argument("site", metavar="SITE", type=count_of, nargs="?", help="the number of the site")
         parser.add_argument("-f", "--follow", action="store_true", help="go on with what comes")
         parser.add_argument("-n", "--lines", metavar="N", type=count_of, default=20, help="how many lines of the past; 20 by default")
+        parser.add_argument("--raw", action="store_true", help=r"print bytes as they are; else \x1b stands for one that isn't printable")
         parser = self.command("wait", "running.wait", "wait until a site has all that the others sent")
         self.site(parser)
         self.timeout(parser, 60)
@@ -235,13 +237,14 @@ def main() -> NoReturn:
         status = command_of(args.does)(args)
         sys.stdout.flush()
     except Fault as fault:
-        print(f"shop: {fault.text}", file=sys.stderr)
+        print(f"shop: {shown(fault.text)}", file=sys.stderr)
         status = fault.status
     except BrokenPipeError:
         os._exit(Status.REFUSED)        # the reader of standard output has gone
     except KeyboardInterrupt:
         status = 130
     except OSError as fault:
-        print(f"shop: {fault.filename or ''}{': ' if fault.filename else ''}{fault.strerror or fault}", file=sys.stderr)
+        why = f"{fault.filename}: {fault.strerror}" if fault.filename else str(fault.strerror or fault)
+        print(f"shop: {shown(why)}", file=sys.stderr)
         status = Status.AWAY
     sys.exit(status)

@@ -3,14 +3,19 @@
 import json
 import os
 import socket
+import time
 from collections.abc import Iterator
 from typing import Any
 
 from .ends import Fault, Status
 from .lock import holder_of
+from .told import unanswered
+
+CONNECT_SECONDS = 5.0
+MARGIN = 2.0        # seconds beyond its time-out that a request has, since the supervisor knows more of it when that is over
 
 
-def connect(folder: str) -> socket.socket | None:
+def connect(folder: str, seconds: float = CONNECT_SECONDS) -> socket.socket | None:
     """A connection to the shop's supervisor, or None if it isn't running."""
     try:
         # A socket's path has at most 107 bytes, so the folder is named by a number.
@@ -18,9 +23,19 @@ def connect(folder: str) -> socket.socket | None:
     except OSError:
         return None
     line = socket.socket(socket.AF_UNIX)
+    line.settimeout(seconds)
+    until = time.monotonic() + seconds
     try:
-        line.connect(f"/proc/self/fd/{number}/sock")
-        return line
+        while True:
+            try:
+                line.connect(f"/proc/self/fd/{number}/sock")
+                line.settimeout(None)
+                return line
+            except BlockingIOError:
+                if time.monotonic() > until:
+                    line.close()
+                    raise Fault(Status.AWAY, f"the supervisor of {folder} takes no connection; nothing was asked") from None
+                time.sleep(0.05)
     except OSError:
         line.close()
         return None
@@ -29,8 +44,11 @@ def connect(folder: str) -> socket.socket | None:
 
 
 def call(folder: str, request: dict[str, Any], seconds: float | None = None) -> Iterator[dict[str, Any]]:
-    """The supervisor's answers to one request; the last one has `end`. A Fault if there is no supervisor, or it ends meanwhile."""
-    line = connect(folder)
+    """The supervisor's answers to one request; the last one has `end`. A Fault if there is no supervisor, it ends meanwhile, or it gives
+    no last answer within `seconds`, by default the time-out of the request."""
+    seconds = request.get("timeout") if seconds is None else seconds
+    until = time.monotonic() + seconds + MARGIN if seconds else None
+    line = connect(folder, min(CONNECT_SECONDS, seconds + MARGIN) if seconds else CONNECT_SECONDS)
     if line is None:
         if not os.path.isdir(folder):
             raise Fault(Status.AWAY, f"{folder}: there is no shop (shop start)")
@@ -38,19 +56,25 @@ def call(folder: str, request: dict[str, Any], seconds: float | None = None) -> 
         why = f"takes no requests: {holder} holds it, which is about to begin or to end" if holder else "is not running (shop start)"
         raise Fault(Status.AWAY, f"{folder} {why}")
     with line, line.makefile("rb") as answers:
-        line.settimeout(seconds)
         try:
+            line.settimeout(left(until) if until else None)
             line.sendall(json.dumps(request).encode() + b"\n")
-            for text in answers:
+            while (text := answers.readline()).endswith(b"\n"):
                 answer = json.loads(text)
                 yield answer
                 if answer.get("end"):
                     return
+                line.settimeout(left(until) if until else None)
         except TimeoutError:
-            raise Fault(Status.AWAY, f"the supervisor of {folder} gave no answer within {seconds:g} s") from None
+            raise Fault(Status.AWAY, f"the supervisor of {folder} gave no answer within {round(seconds or 0, 2):g} s{unanswered(request)}") from None
         except OSError:
             pass
-    raise Fault(Status.AWAY, f"the supervisor of {folder} ended before it answered (shop log)")
+    raise Fault(Status.AWAY, f"the supervisor of {folder} ended before it answered{unanswered(request) or ' (shop log)'}")
+
+
+def left(until: float) -> float:
+    """The seconds until then."""
+    return max(until - time.monotonic(), 0.001)
 
 
 def one(folder: str, request: dict[str, Any], seconds: float | None = None) -> dict[str, Any]:

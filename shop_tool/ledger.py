@@ -1,6 +1,7 @@
 """What a site has sent, taken in and holds, as it follows from the records that it kept and their answers."""
 
 import bisect
+import errno
 import os
 from array import array
 from collections.abc import Iterator
@@ -85,7 +86,10 @@ class Sends:
             return []
         out = os.open(self._out, os.O_RDONLY)
         try:
-            return [(self.place(at), os.pread(out, self._sizes[at], self._starts[at])) for at in range(begin, end)]
+            packets = [(self.place(at), os.pread(out, self._sizes[at], self._starts[at])) for at in range(begin, end)]
+            if len(packets[-1][1]) < self._sizes[end - 1]:
+                raise OSError(errno.EIO, "it has lost its end", self._out)
+            return packets
         finally:
             os.close(out)
 
@@ -122,10 +126,10 @@ class Ledger:
     def messages(self) -> int:
         return self.sends.messages + sum(prefix.count for prefix in self.have)
 
-    def note(self, record: bytes, answer: Answer) -> Message | Token | None:
-        """Takes in one record with its answer; returns the packet that was sent with it."""
+    def note(self, record: bytes, answer: Answer, size: int | None = None) -> Message | Token | None:
+        """Takes in one record, which takes so many bytes of the file `kept`, with its answer; returns the packet that was sent with it."""
         self.records += 1
-        self.kept_bytes += len(record) + 1
+        self.kept_bytes += len(record) + 1 if size is None else size
         sent = None
         match answer.kind:
             case b"ok" | b"passed":
@@ -166,9 +170,11 @@ class Ledger:
 
 def packets_of(kept: str, origin: int, after: int) -> Iterator[tuple[int, bytes]]:
     """Messages of a site with a number above `after` that stand in a file `kept`, each with its number."""
-    if not os.path.exists(kept):
+    try:
+        file = open(kept, "rb")
+    except FileNotFoundError:
         return
-    with open(kept, "rb") as file:
+    with file:
         for line in file:
             packet = packet_of(line.rstrip(b"\n")) if line.startswith(b"msg,") else None
             if isinstance(packet, Message) and packet.origin == origin and packet.number > after:

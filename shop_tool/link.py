@@ -8,6 +8,7 @@ from .ends import Fault
 from .ledger import Place, packets_of
 from .lives import LIVES, Seen, Standing, life_text, standing, why_other
 from .opening import must_compare_all, strange_packet, why_behind
+from .requests import Request
 from .site import Site
 from .supervisor import Supervisor
 
@@ -15,8 +16,6 @@ BATCH = 256         # packets that are carried at once
 FULL_WAIT = 5.0     # seconds until a site that refused a message as Full is given it again
 
 UP, STARTING = "up", "not yet up"
-
-Request = dict[str, Any]
 
 
 class Link(abc.ABC):
@@ -70,6 +69,13 @@ class Link(abc.ABC):
         """The status of a site that doesn't run here."""
         return None
 
+    async def say_leave(self) -> None:
+        """Tells all supervisors of the shop that no site here wants the token any more."""
+
+    async def up_elsewhere(self) -> set[int]:
+        """The sites that other supervisors say are up."""
+        return set()
+
     async def call(self, request: Request, site: int, seconds: float) -> list[dict[str, Any]] | None:
         """What the supervisor of a site elsewhere answers to a request; None if it gives no answer."""
         return None
@@ -97,7 +103,11 @@ class FileLink(Link):
     async def _compare(self, site: Site) -> None:
         """Opens a site once it is compared with what the others have of it."""
         await site.known.wait()
-        if why := await self._why_fenced(site):
+        try:
+            why = await self._why_fenced(site)
+        except OSError as fault:
+            why = f"{fault.filename}: {fault.strerror}"
+        if why:
             return site.fence(why)
         try:
             self.seen[site.number] = life_text(site.lives)
@@ -139,11 +149,12 @@ class FileLink(Link):
         while True:
             packets = []
             for number, other in self.shop.sites.items():
-                if number != site.number and other.known.is_set():
+                if number != site.number and other.known.is_set() and other.opened.is_set() and not other.fenced_by:
                     sends = other.ledger.sends
                     begin = at.setdefault(number, sends.count_upto((site.ledger.have[number].upto, 0)))
-                    at[number] = min(len(sends), begin + BATCH)
-                    packets += [text for _, text in sends.read(begin, at[number])]
+                    texts = other.sent(begin, min(len(sends), begin + BATCH))
+                    at[number] = begin + len(texts)
+                    packets += texts
             if packets and not await self.shop.feed(site, packets):
                 return
             for number, end in at.items():

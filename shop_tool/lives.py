@@ -1,6 +1,7 @@
 """The lives of a site's folder. Each start of a supervisor begins one, with a random number; FOLDER/SITE/life has a line for each. The
 others have the last life that they saw: over a server in a key beside the site's stream, over files in FOLDER/lives. A copy of a folder
-shares its lives up to the copy and not beyond, so whichever of them the others didn't see last is known when it starts."""
+shares its lives up to the copy and not beyond, so whichever of them the others didn't see last is known when it starts. A folder that is
+made again, or adopted, takes the place of all that was seen till then, also where the server loses its end and says so no more."""
 
 import enum
 import json
@@ -10,6 +11,7 @@ from collections.abc import Sequence
 from .folders import put
 
 LIVES = "lives"
+PLACE = "-"             # begins the line of a folder that takes the place of whatever was seen as its start of that number
 
 
 class Standing(enum.Enum):
@@ -25,8 +27,19 @@ def life_text(lives: Sequence[str]) -> str:
     return f"{len(lives)} {lives[-1]}" if lives else ""
 
 
+def count_of(seen: str | None) -> int:
+    """How many lives there were when others saw it."""
+    count = (seen or "").split(" ")[0]
+    return int(count) if count.isdecimal() else 0
+
+
+def takes_place(lives: Sequence[str], seen: str | None) -> bool:
+    """Whether the folder was made again, or adopted, since that life was seen."""
+    return 0 < count_of(seen) <= max((at for at, life in enumerate(lives, 1) if life.startswith(PLACE)), default=0)
+
+
 def standing(lives: Sequence[str], seen: str | None) -> Standing:
-    if not seen:
+    if not seen or takes_place(lives, seen):
         return Standing.AHEAD
     if seen in (life_text(lives), life_text(lives[:-1])):
         return Standing.NEXT
@@ -35,9 +48,8 @@ def standing(lives: Sequence[str], seen: str | None) -> Standing:
 
 def why_other(lives: Sequence[str], seen: str | None, where: str, site: int) -> str:
     """What is said of a folder whose standing is OTHER."""
-    last = (seen or "").split(" ")[0]
-    return (f"its folder is a copy, or was put back to an earlier state: this is its start {len(lives)}, and {where} saw start {last} of "
-            f"another one (shop rebuild {site})")
+    return (f"its folder is a copy, or was put back to an earlier state: this is its start {len(lives)}, and {where} saw start "
+            f"{count_of(seen)} of another one (shop rebuild {site})")
 
 
 def lives_of(folder: str) -> list[str]:
@@ -55,6 +67,12 @@ def begin_life(folder: str) -> list[str]:
     lives = [*lives_of(folder), os.urandom(8).hex()]
     put(f"{folder}/life", "".join(f"{life}\n" for life in lives))
     return lives
+
+
+def take_place(folder: str, count: int) -> None:
+    """Has a site's folder take the place of every one that was started so many times, or fewer."""
+    lives, place = lives_of(folder), f"{PLACE}{os.urandom(8).hex()}"
+    put(f"{folder}/life", "".join(f"{life}\n" for life in [*lives, *[place] * max(1, count - len(lives))]))
 
 
 class Seen:

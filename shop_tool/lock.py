@@ -1,12 +1,10 @@
 """Who holds the folder of a shop: its supervisor, or a command about one of its sites. FOLDER/lock is locked, and has the process."""
 
-import argparse
 import fcntl
 import os
 import time
 
 from .ends import Fault, Status
-from .settings import Settings, existing
 
 SECONDS = 5.0       # how long one that may be about to end, or about to listen, is given
 
@@ -42,12 +40,3 @@ def holder_of(folder: str) -> str | None:
         return f"process {process}" if process else "another process"
     finally:
         os.close(lock)
-
-
-def stopped_shop(args: argparse.Namespace) -> Settings:
-    """The settings of a shop that isn't running, nor is started before this process ends, for a command about one of its sites."""
-    now = existing(args.folder)
-    if args.site not in now.here:
-        raise Fault(Status.MISUSE, f"site {args.site} isn't one of {args.folder}: it has --here {','.join(map(str, now.here))}")
-    take_lock(args.folder, "stop it first")
-    return now

@@ -30,3 +30,9 @@ def checked_path() -> str:
     if done.returncode:
         raise Fault(Status.MISUSE, f"{program} --version ended with status {done.returncode}")
     return program
+
+
+def refuses(program: str, options: list[str]) -> str | None:
+    """What the program says where it doesn't take these options of a site."""
+    done = subprocess.run([program, "site", *options], stdin=subprocess.DEVNULL, capture_output=True, text=True)
+    return (done.stderr.splitlines() or [f"{program} ended with status {done.returncode}"])[0] if done.returncode else None

@@ -6,7 +6,7 @@ from typing import TYPE_CHECKING
 
 from .ledger import NOWHERE, Place
 from .link import BATCH
-from .lives import Standing, life_text, standing, why_other
+from .lives import Standing, life_text, standing, takes_place, why_other
 from .opening import must_compare_all, runs_elsewhere, strange_packet, why_behind
 from .site import Site
 from .streams import Streams, StreamState, hash_of, id_of, run_by
@@ -36,6 +36,9 @@ class Publisher:
                 await self._append_until(server, await self._compare(server), time.monotonic() + COMPARE_SECONDS)
         except Fenced as why:
             self.site.fence(str(why))
+        except OSError:
+            if not self.site.has_lost_files():
+                raise
 
     async def _append_until(self, server: Streams, last: Place, until: float) -> None:
         """Appends what is sent, behind the entry `last`, for some time, or until the stream ends elsewhere."""
@@ -60,7 +63,7 @@ class Publisher:
         site, sends = self.site, self.site.ledger.sends
         while True:
             state = await server.state(site.number)
-            if why := self._why_other_stream(state) or await self._why_other_site(server):
+            if why := self._why_other_stream(state) or await self._why_other_site(server, state):
                 raise Fenced(why)
             if not site.compared.is_set() and await self._waited_for_another(server):
                 continue
@@ -106,11 +109,13 @@ class Publisher:
         return (f"{self.link.settings.shown_over} has another packet {id_of(place).decode()} of it: two processes were this site "
                 f"(shop rebuild {self.site.number})")
 
-    async def _why_other_site(self, server: Streams) -> str | None:
+    async def _why_other_site(self, server: Streams, state: StreamState) -> str | None:
         """Why its folder can't be the one that the others know: another one owns the site, or another site has more of it."""
         site = self.site
         if owner := await server.owner(site.number, site.folder):
-            return f"{owner} has it (shop adopt {site.number}, if that is gone for good)"
+            if not takes_place(site.lives, state.life):
+                return f"{owner} has it (shop adopt {site.number}, if that is gone for good)"
+            await server.adopt(site.number, site.folder)    # the server had lost that
         if site.compared.is_set():
             return None
         has = {other: status["has"].get(str(site.number), 0) for other, status in (await server.statuses()).items()

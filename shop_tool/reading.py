@@ -4,11 +4,12 @@ import argparse
 import json
 import os
 import subprocess
+import time
 from typing import IO
 
 from . import client, program
 from .ends import Fault, Status
-from .records import COLUMNS, LISTINGS, NUMBERS, REFUSALS, Row, bytes_of, fields_of, row_of
+from .records import COLUMNS, LISTINGS, NUMBERS, REFUSALS, Purpose, Row, bytes_of, fields_of, row_of, why_not_one_record
 from .render import print_fields, print_rows
 
 NULLS = ("best", "winner")      # columns in which `none` says that there is nothing
@@ -28,6 +29,8 @@ def list_rows(args: argparse.Namespace) -> int:
     if needs_key != (args.key is not None):
         raise Fault(Status.MISUSE, f"list {args.what} " + ("needs a key: a category, or an id" if needs_key else "takes no key"))
     record = ",".join(["list", args.what] + ([args.key] if needs_key else []))
+    if why := why_not_one_record(os.fsencode(record), Purpose.LISTING):
+        raise Fault(Status.MISUSE, f"{record[:80]!r}: {why}; nothing was asked")
     rows = listing(args.folder, args.site, record, args.timeout)
     if args.json:
         print(json.dumps(rows, indent=1))
@@ -38,12 +41,13 @@ def list_rows(args: argparse.Namespace) -> int:
 
 def show(args: argparse.Namespace) -> int:
     """Prints one row."""
+    until = time.monotonic() + args.timeout
     nothing = Fault(Status.REFUSED, f"site {args.site} has no {args.kind} {args.key}")
     key = "nickname" if args.kind == "user" and "." not in args.key else COLUMNS[args.kind][0]
     record = _listing_with(args)
     if record is None:
         raise nothing
-    row = next((row for row in listing(args.folder, args.site, record, args.timeout) if str(row[key]) == args.key), None)
+    row = next((row for row in listing(args.folder, args.site, record, client.left(until)) if str(row[key]) == args.key), None)
     if row is None:
         raise nothing
     if args.json:
@@ -59,7 +63,7 @@ def _listing_with(args: argparse.Namespace) -> str | None:
         return "list,users"
     if args.kind == "category":
         return "list,categories"
-    message = client.one(args.folder, {"op": "message", "id": args.key})["message"]
+    message = client.one(args.folder, {"op": "message", "id": args.key}, args.timeout)["message"]
     shadow = fields_of(message)[6:] if message else [""]
     match args.kind, shadow[0]:
         case "item", "item":
@@ -102,7 +106,8 @@ def audit(args: argparse.Namespace) -> int:
 
 def audited(folder: str, seconds: float, save: str | None, earlier: list[str]) -> str:
     """What the auditor says of the logs of all sites."""
-    sites = client.one(folder, {"op": "status"})["shop"]["sites"]
+    until = time.monotonic() + seconds
+    sites = client.one(folder, {"op": "status"}, seconds)["shop"]["sites"]
     auditor = subprocess.Popen([program.path(), "audit", "--sites", str(sites)], stdin=subprocess.PIPE, stdout=subprocess.PIPE)
     assert auditor.stdin and auditor.stdout
     saved = open(f"{save}.new", "wb") if save else None
@@ -110,7 +115,7 @@ def audited(folder: str, seconds: float, save: str | None, earlier: list[str]) -
         for name in earlier:
             with open(name, "rb") as file:
                 _give(auditor.stdin, file.read())
-        for answer in client.call(folder, {"op": "logs", "timeout": seconds}):
+        for answer in client.call(folder, {"op": "logs", "timeout": client.left(until)}):
             client.raise_fault(answer)
             text = bytes_of(answer.get("text", ""))
             _give(auditor.stdin, text)

@@ -23,10 +23,10 @@ from .answers import AnswerReader
 from .ends import Fault, Status
 from .folders import synced
 from .ledger import Place, packets_of, sends_of, tokens_of
-from .lives import Seen
-from .lock import stopped_shop
+from .lives import Seen, count_of, lives_of, take_place
 from .records import Message, Token, ask_of, bytes_of, packet_of
 from .site import keep_command
+from .stopped import stopped_shop
 from .streams import STATUS_SECONDS, Streams, faults, reason_of
 
 CALL_SECONDS = 30.0
@@ -150,11 +150,12 @@ def rebuild(args: argparse.Namespace) -> int:
     is_over_server = now.over != settings.FILES
     past = over_server(now, past_on_server(now, args)) if is_over_server else past_in_files(now, args)
     count = replayed(past, args.folder, now)
+    starts = len(lives_of(f"{args.folder}/{args.site}"))
     lost = swapped(args.folder, args.site)
     if is_over_server:
-        over_server(now, adopted(now, args.site, args.folder))
+        over_server(now, adopted(now, args.site, args.folder, starts))
     else:
-        Seen(args.folder)[args.site] = None
+        take_place(f"{args.folder}/{args.site}", max(starts, count_of(Seen(args.folder)[args.site])))
     print(f"site {args.site}: {count} packets of its own came out again as they were" + (f"; what was there is {lost}" if lost else ""))
     return Status.WELL
 
@@ -164,7 +165,7 @@ def adopt(args: argparse.Namespace) -> int:
     now = stopped_shop(args)
     if now.over == settings.FILES:
         raise Fault(Status.MISUSE, f"{args.folder} is a shop over files: no other folder can have its sites")
-    over_server(now, adopted(now, args.site, args.folder))
+    over_server(now, adopted(now, args.site, args.folder, 0))
     return Status.WELL
 
 
@@ -240,10 +241,14 @@ async def statuses_without(server: Streams, site: int) -> dict[int, dict[str, An
     return statuses
 
 
-async def adopted(now: settings.Settings, site: int, folder: str) -> None:
+async def adopted(now: settings.Settings, site: int, folder: str, starts: int) -> None:
+    """Gives the site to this folder, in the place of the one that was seen, or was here and was started so many times."""
+    path = os.path.realpath(f"{folder}/{site}")
     async with Streams(now) as server:
         await statuses_without(server, site)
-        await server.adopt(site, os.path.realpath(f"{folder}/{site}"))
+        seen = (await server.state(site)).life
+        await server.adopt(site, path)
+        take_place(path, max(starts, count_of(seen)))
 
 
 def replayed(past: Past, folder: str, now: settings.Settings) -> int:

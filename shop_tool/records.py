@@ -1,6 +1,7 @@
 """Records, packets and rows: what stands on the lines that a site reads and writes."""
 
 import csv
+import enum
 import re
 from collections.abc import Callable
 from typing import NamedTuple
@@ -72,22 +73,39 @@ def kind_of(record: bytes) -> bytes:
     return record.split(b",", 1)[0]
 
 
-def why_not_one_record(record: bytes) -> str | None:
-    """Why a line isn't one record that a client may ask, or None. What passes is kept by a site byte for byte."""
+class Purpose(enum.Enum):
+    """What a site is given a record for."""
+
+    ASK = "a request or a listing of a client"
+    LISTING = "a listing"
+    PACKET = "a packet of another site"
+
+
+def why_not_one_record(record: bytes, purpose: Purpose = Purpose.ASK) -> str | None:
+    """Why a line isn't one record for this purpose, or None. What passes is kept by a site byte for byte, and answered once."""
     if not record:
         return "an empty line is no record"
     if b"\n" in record or b"\r" in record:
         return "a record has no line end in it"
     if len(record) > BYTES_OF_A_RECORD:
         return f"a record has at most {BYTES_OF_A_RECORD} bytes"
-    if record.startswith(b"\xef\xbb\xbf"):
-        return "a record doesn't begin with a byte order mark"
-    if kind_of(record) in (b"msg", b"token"):
-        return "packets of other sites come by themselves"
+    if record.startswith(b"\xef"):
+        return "a record doesn't begin with the byte 239, as a byte order mark does"
     if record.startswith(b'"'):
         return "the first field of a record has no quotes"
     if b'"' in record and not _ONE_RECORD.fullmatch(record):
         return "its quotes don't close, or stand inside a field"
+    return _why_not_for(purpose, kind_of(record))
+
+
+def _why_not_for(purpose: Purpose, kind: bytes) -> str | None:
+    is_packet = kind in (b"msg", b"token")
+    if purpose == Purpose.PACKET:
+        return None if is_packet else "it is no packet"
+    if is_packet:
+        return "packets of other sites come by themselves"
+    if purpose == Purpose.LISTING and kind != b"list":
+        return "it is no listing"
     return None
 
 

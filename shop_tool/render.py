@@ -8,6 +8,17 @@ from .records import COLUMNS, Row
 GREEN, YELLOW, RED = "32", "33", "31"
 
 
+def shown(text: str) -> str:
+    """The text as people get to see it: what isn't printable stands as \\x1b or \\u202e, so that no record reaches into the terminal."""
+    return text if text.isprintable() else "".join(char if char.isprintable() else _escaped(ord(char)) for char in text)
+
+
+def _escaped(code: int) -> str:
+    if 0xDC80 <= code <= 0xDCFF:
+        code -= 0xDC00          # a byte that is no text
+    return f"\\x{code:02x}" if code < 0x100 else f"\\u{code:04x}" if code < 0x10000 else f"\\U{code:08x}"
+
+
 def coloured(text: str, colour: str) -> str:
     """The text in a colour where standard output is a terminal that has some."""
     if not sys.stdout.isatty() or os.environ.get("NO_COLOR") or os.environ.get("TERM") == "dumb":
@@ -17,6 +28,7 @@ def coloured(text: str, colour: str) -> str:
 
 def print_columns(rows: list[list[str]], colours: dict[str, str] | None = None) -> None:
     """Prints rows with each column as wide as its widest cell; `colours` has those of whole cells."""
+    rows = [[shown(cell) for cell in row] for row in rows]
     widths = [max(len(row[at]) for row in rows) for at in range(len(rows[0]))]
     for row in rows:
         padded = [cell.ljust(width) for cell, width in zip(row, widths)]
@@ -35,4 +47,4 @@ def print_fields(row: Row) -> None:
     names = COLUMNS[str(row["kind"])]
     width = max(map(len, names))
     for name in names:
-        print(f"{name.ljust(width)}  {row[name]}".rstrip())
+        print(f"{name.ljust(width)}  {shown(str(row[name]))}".rstrip())

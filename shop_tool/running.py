@@ -8,14 +8,15 @@ import select
 import socket
 import sys
 import time
+from collections.abc import Iterable
 from typing import Any
 
 from . import client, lock, program, settings
-from .answers import AnswerReader
+from .answers import AnswerReader, KeptReader
 from .ends import Fault, Status
 from .grid import grid_of_status, grid_text
 from .records import text_of
-from .render import GREEN, RED, YELLOW, coloured, print_columns
+from .render import GREEN, RED, YELLOW, coloured, print_columns, shown
 
 STARTED_BY_OPTIONS = ("sites", "here", "over", "sync", "keep", "batch", "shards", "workers")
 STOP_SECONDS = 60.0
@@ -43,28 +44,39 @@ def start(args: argparse.Namespace) -> int:
             raise Fault(Status.MISUSE, f"{args.folder} is running with other settings; stop it first")
         print(f"shop: {args.folder} is running", file=sys.stderr)
         return Status.WELL
-    found = program.checked_path()
-    settings.write(args.folder, now)
-    said = _started(args.folder, found, args.timeout, ["--alone"] if args.alone else [])
+    found = _checked(args.folder, now)
+    said = _started(args.folder, now, found, args.timeout, ["--alone"] if args.alone else [])
     if said == "ready":
         return Status.WELL
     raise Fault(Status.AWAY, f"{said or 'the supervisor is starting still, or has ended'} (shop log)")
 
 
-def _started(folder: str, found: str, seconds: float, options: list[str]) -> str:
-    """Runs `shop run` in a session of its own; what it says once each site is up, or isn't."""
+def _checked(folder: str, now: settings.Settings) -> str:
+    """The program, once it is known that the shop can have these settings; they are written when it runs."""
+    found = program.checked_path()
+    settings.check_new(folder, now, found)
+    os.makedirs(folder, mode=0o700, exist_ok=True)
+    return found
+
+
+def _started(folder: str, now: settings.Settings, found: str, seconds: float, options: list[str]) -> str:
+    """Runs `shop run` in a session of its own, with these settings on its standard input, since a password on a command line would be
+    seen. What it says once each site is up, or isn't."""
     get, put = os.pipe()
+    settings_in, handed = os.pipe()
+    os.write(handed, settings.to_text(now).encode())
+    os.close(handed)
     if os.fork() == 0:
         os.setsid()
         os.close(get)
         os.set_inheritable(put, True)
-        nothing = os.open(os.devnull, os.O_RDWR)
         events = os.open(f"{folder}/events", os.O_WRONLY | os.O_CREAT | os.O_APPEND, 0o600)
-        for number, file in enumerate((nothing, events, events)):
+        for number, file in enumerate((settings_in, events, events)):
             os.dup2(file, number)
         environment = os.environ | {"SHOP_READY": str(put), "RUBIS": found}
         os.execve(sys.executable, [sys.executable, os.path.realpath(sys.argv[0]), "run", folder, *options], environment)
     os.close(put)
+    os.close(settings_in)
     said = b""
     while not said.endswith(b"\n") and select.select([get], [], [], seconds)[0]:
         if not (data := os.read(get, 4096)):
@@ -76,9 +88,11 @@ def _started(folder: str, found: str, seconds: float, options: list[str]) -> str
 
 def run(args: argparse.Namespace) -> int:
     """Runs the supervisor in the foreground, until it is stopped."""
-    now = settings.changed(args.folder, said_settings(args))
-    found = program.checked_path()
-    settings.write(args.folder, now)
+    if "SHOP_READY" in os.environ:
+        now, found = settings.from_text(sys.stdin.read()), program.path()
+    else:
+        now = settings.changed(args.folder, said_settings(args))
+        found = _checked(args.folder, now)
     from . import supervisor
     supervisor.run(args.folder, now, found, args.alone)
     return Status.WELL
@@ -97,8 +111,9 @@ def stop(args: argparse.Namespace) -> int:
         line.settimeout(STOP_SECONDS)
         try:
             line.sendall(b'{"op": "stop"}\n')
-            while line.recv(4096):
-                pass
+            for answer in map(json.loads, line.makefile("rb")):
+                client.raise_fault(answer)
+                print(f"shop: {answer['said']}", file=sys.stderr)
         except OSError:
             pass
     while holder and lock.holder_of(args.folder) == holder:
@@ -119,9 +134,9 @@ def status(args: argparse.Namespace) -> int:
 
 
 def _print_status(shop: dict[str, Any]) -> None:
-    print(f"{shop['folder']}: {shop['sites']} sites over {shop['over']}, process {shop['pid']}, up since {shop['since']}")
+    print(f"{shown(shop['folder'])}: {shop['sites']} sites over {shop['over']}, process {shop['pid']}, up since {shop['since']}")
     if shop["link"] != "up":
-        print(f"link: {coloured(shop['link'], RED)}")
+        print(f"link: {coloured(shown(shop['link']), RED)}")
     token = f"site {shop['token']} holds it" if shop["token"] is not None else f"was passed to site {shop['token_sent_to']}"
     wanted = shop["token_wanted_by"]
     print(f"token: {token} (turn {shop['token_turn']})" + (f", wanted by {', '.join(map(str, wanted))}" if wanted else ""))
@@ -144,7 +159,7 @@ def log(args: argparse.Namespace) -> int:
     """Prints what happened, or a site's records and answers; with --follow also what comes."""
     if args.follow:
         return _follow(args)
-    _print_lines(_last_lines(args, sys.maxsize))
+    _print_lines(args, _last_lines(args, sys.maxsize))
     return Status.WELL
 
 
@@ -153,15 +168,15 @@ def _follow(args: argparse.Namespace) -> int:
     for answer in client.call(args.folder, {"op": "follow", "site": args.site}):
         client.raise_fault(answer)
         if "stood" in answer:
-            _print_lines(_last_lines(args, answer["stood"]))
+            _print_lines(args, _last_lines(args, answer["stood"]))
         else:
-            print(answer["line"], flush=True)
+            _print_lines(args, [answer["line"]])
     return Status.WELL
 
 
-def _print_lines(lines: "collections.deque[str]") -> None:
+def _print_lines(args: argparse.Namespace, lines: Iterable[str]) -> None:
     for line in lines:
-        print(line)
+        print(line if args.raw else shown(line))
     sys.stdout.flush()
 
 
@@ -190,10 +205,11 @@ def _last_answers(args: argparse.Namespace, stood: int) -> "collections.deque[st
     reader = AnswerReader()
     try:
         with open(f"{folder}/kept", "rb") as kept, open(f"{folder}/out", "rb") as out:
+            records = KeptReader(kept)
             while data := out.read(min(1 << 20, stood)):
                 stood -= len(data)
                 for answer in reader.feed(data):
-                    last.append("< " + text_of(kept.readline().rstrip(b"\n")))
+                    last.append("< " + text_of(records.next()[0]))
                     last.extend("> " + text_of(line) for line in answer.lines)
     except FileNotFoundError:
         raise Fault(Status.AWAY, f"site {args.site} doesn't run in {args.folder}") from None
@@ -201,5 +217,5 @@ def _last_answers(args: argparse.Namespace, stood: int) -> "collections.deque[st
 
 
 def wait(args: argparse.Namespace) -> int:
-    client.one(args.folder, {"op": "wait", "site": args.site, "timeout": args.timeout}, args.timeout + 5)
+    client.one(args.folder, {"op": "wait", "site": args.site, "timeout": args.timeout})
     return Status.WELL

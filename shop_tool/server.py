@@ -11,13 +11,12 @@ from .answers import Answer
 from .asking import Ask
 from .ends import Fault, Status
 from .ledger import packets_of, tokens_of
-from .link import Request
-from .records import bytes_of, text_of, why_not_one_record
-from .site import Site
+from .records import Purpose, text_of
+from .requests import REQUEST_BYTES, Request, asks_of, field, listing_of, message_of, no_request, request_of, seconds_of, site_of
+from .site import Pending, Site
 from .supervisor import Supervisor
+from .told import unanswered
 
-REQUEST_BYTES = 16 << 20
-RECORDS_OF_A_REQUEST = 10_000
 CONNECTIONS = 500
 READER_SECONDS = 60.0       # a client that takes in nothing for so long is cut off
 REFUSE_SECONDS = 2.0        # how long one that is too many has to say what it wants
@@ -62,12 +61,15 @@ class Server:
         self.connections.add(writer)
         try:
             is_one_too_many = len(self.connections) > CONNECTIONS
-            line = await asyncio.wait_for(reader.readline(), REFUSE_SECONDS if is_one_too_many else READER_SECONDS)
+            try:
+                line = await asyncio.wait_for(reader.readline(), REFUSE_SECONDS if is_one_too_many else READER_SECONDS)
+            except ValueError:
+                return await self._refuse_long(reader, say)
             if not line.endswith(b"\n"):
                 return
             if is_one_too_many:
                 return await say(end_of(Fault(Status.AWAY, f"{CONNECTIONS} others are connected; nothing was asked")))
-            serving = asyncio.create_task(self._serve_line(line, say))
+            serving = asyncio.create_task(self._serve_line(line, reader, say))
             # A client that goes takes its request along, unless a site has it already.
             gone = asyncio.create_task(reader.read(1))
             await asyncio.wait({gone, serving}, return_when=asyncio.FIRST_COMPLETED)
@@ -75,37 +77,56 @@ class Server:
             if not serving.done():
                 serving.cancel()
             await asyncio.gather(serving, return_exceptions=True)
-        except (OSError, ValueError, TimeoutError):
-            pass        # the client has gone, reads nothing, or sent more than a request may have
+        except (OSError, TimeoutError):
+            pass        # the client has gone, or reads nothing
         finally:
             self.connections.discard(writer)
             writer.close()
 
-    async def _serve_line(self, line: bytes, say: Say) -> None:
+    async def _refuse_long(self, reader: asyncio.StreamReader, say: Say) -> None:
+        """Reads the rest, since a client that is writing still wouldn't see the answer."""
+        await say(end_of(no_request(f"it has more than {REQUEST_BYTES} bytes")))
+        async with asyncio.timeout(REFUSE_SECONDS):
+            while await reader.read(1 << 20):
+                pass
+
+    async def _serve_line(self, line: bytes, reader: asyncio.StreamReader, say: Say) -> None:
+        if reader.at_eof():
+            return          # the client has gone already
         try:
-            request = json.loads(line)
-        except ValueError as fault:
-            return await say(end_of(Fault(Status.MISUSE, f"not a request: {fault}")))
+            request = request_of(line)
+        except Fault as fault:
+            return await say(end_of(fault))
         await self.serve(request, say)
 
-    async def serve(self, request: Request, say: Say) -> None:
-        """Answers one request, of a client or of another supervisor; the last answer has `end`."""
+    async def serve(self, request: Request, say: Say, called: Site | None = None) -> None:
+        """Answers one request, of a client, or of another supervisor that calls a site here; the last answer has `end`."""
         try:
-            last = end_of(None) | (await self.answer(request, say) or {})
+            if called and request.get("op") != "status":
+                answer = await self._answer_of(called, request, say)
+            else:
+                answer = await self.answer(request, say)
+            last = end_of(None) | (answer or {})
         except Fault as fault:
             last = end_of(fault)
-        except (ValueError, KeyError, TypeError, AttributeError) as fault:
-            last = end_of(Fault(Status.MISUSE, f"not a request: {fault!r}"))
+        except OSError as fault:
+            last = end_of(Fault(Status.AWAY, f"{fault}{unanswered(request)}"))
+        except Exception as fault:
+            self.shop.event(f"a fault of its own: {fault!r}")
+            last = end_of(Fault(Status.AWAY, f"a fault of its own: {fault!r}{unanswered(request)}"))
         await say(last)
 
     async def answer(self, request: Request, say: Say) -> dict[str, Any] | None:
         """Answers one request; the last answer is what this returns. Requests of a site elsewhere go there."""
-        match request["op"]:
+        match request.get("op"):
             case "status":
                 well, shop = await self.shop.status()
                 return {"well": well, "shop": shop}
             case "stop":
                 self.shop.stop("asked to stop")
+                await self.shop.stopping.wait()
+                if self.shop.stays:
+                    await say({"said": self.shop.stays})
                 await asyncio.Event().wait()        # the connection ends with the supervisor
             case "logs":
                 return await self._logs(request, say)
@@ -113,60 +134,58 @@ class Server:
                 return await self._message(request)
             case "follow":
                 return await self._follow(request, say)
-        number = request["site"]
-        if not isinstance(number, int) or not 0 <= number < self.shop.settings.sites:
-            raise Fault(Status.MISUSE, f"there is no site {number}: this shop has {self.shop.settings.sites}")
+        number = site_of(request, self.shop.settings.sites)
         if number not in self.shop.sites:
             return await self._elsewhere(request, number, say)
-        site = self.shop.sites[number]
-        match request["op"]:
+        return await self._answer_of(self.shop.sites[number], request, say)
+
+    async def _answer_of(self, site: Site, request: Request, say: Say) -> dict[str, Any] | None:
+        """The answer of a site here."""
+        seconds = seconds_of(request)
+        match request.get("op"):
             case "ask":
-                await self._ask(site, request, say)
+                await self._ask(site, request, seconds, say)
                 return None
             case "list":
-                answer, = await self._listings(site, [bytes_of(request["record"])], request["timeout"])
+                answer, = await self._listings(site, [listing_of(request)], seconds)
                 return {"lines": [text_of(line) for line in answer.lines]}
             case "log":
-                return {"text": await self._log(site, request["timeout"])}
+                return {"text": await self._log(site, seconds)}
             case "have":
-                return await self._have(site, request["origin"], request["after"])
+                return await self._have(site, field(request, "origin", int), field(request, "after", int))
             case "count":
                 # Behind whatever was given before.
-                await self._listings(site, [b"list,misfits"], request["timeout"])
+                await self._listings(site, [b"list,misfits"], seconds)
                 return {"count": site.ledger.sends.messages}
             case "wait":
-                await self._wait(site, request["timeout"])
+                await self._wait(site, seconds)
                 return None
-        raise ValueError(f"there is no request {request['op']}")
+        raise no_request(f"there is none of the name {request.get('op')!r}")
 
     async def _elsewhere(self, request: Request, site: int, say: Say) -> dict[str, Any]:
-        answers = await self.shop.link.call(request, site, request["timeout"])
+        answers = await self.shop.link.call(request, site, seconds_of(request))
         if not answers:
-            raise Fault(Status.AWAY, f"site {site} runs on another machine, and gives no answer; whether it was asked isn't known")
+            raise Fault(Status.AWAY, f"site {site} runs on another machine, and gives no answer{unanswered(request)}")
         for answer in answers[:-1]:
             await say(answer)
         return answers[-1]
 
-    async def _ask(self, site: Site, request: Request, say: Say) -> None:
-        records = [bytes_of(record) for record in request["records"]]
-        if len(records) > RECORDS_OF_A_REQUEST:
-            raise Fault(Status.MISUSE, f"a request has at most {RECORDS_OF_A_REQUEST} records; nothing was asked")
-        for record in records:
-            if why := why_not_one_record(record):
-                raise Fault(Status.MISUSE, f"{text_of(record[:80])!r}: {why}; nothing was asked")
-        if self.shop.stopping.is_set():
+    async def _ask(self, site: Site, request: Request, seconds: float, say: Say) -> None:
+        asked = asks_of(request)
+        if self.shop.is_leaving:
             raise Fault(Status.AWAY, "the shop is being stopped; nothing was asked")
 
         async def say_answer(record: bytes, answer: Answer) -> None:
             await say({"record": text_of(record), "lines": [text_of(line) for line in answer.lines]})
 
-        await Ask(site, request["timeout"], request["fetch"], say_answer).run(records)
-        if request.get("published"):
-            await self._published(site, request["timeout"])
+        ask = Ask(site, seconds, asked.fetches_token, say_answer)
+        await ask.run(asked.records)
+        if asked.published:
+            await self._published(site, seconds, ask.until)
 
-    async def _published(self, site: Site, seconds: float) -> None:
+    async def _published(self, site: Site, seconds: float, until: float) -> None:
         """Returns once all that the site has sent is where the others find it, so that the loss of this disk doesn't take it back."""
-        until, count = time.monotonic() + seconds, len(site.ledger.sends)
+        count = len(site.ledger.sends)
         while self.shop.link.published(site) < count:
             try:
                 await self.shop.progress.wait(max(until - time.monotonic(), 0.001))
@@ -175,15 +194,16 @@ class Server:
 
     async def _listings(self, site: Site, records: list[bytes], seconds: float) -> list[Answer]:
         """The answers to listings that are taken at one moment."""
-        async with self.listings:
-            pending = site.give(records)
-            try:
-                await asyncio.wait([pending[-1].done], timeout=seconds)
-            finally:
-                site.leave(pending)
-            if not pending[-1].done.done():
-                raise Fault(Status.AWAY, f"site {site.number} is {site.state}, and gave no answer within {seconds:g} s")
-            return [each.done.result() for each in pending]
+        pending: list[Pending] = []
+        try:
+            async with asyncio.timeout(seconds), self.listings:
+                pending = site.give(records, Purpose.LISTING)
+                await asyncio.wait([pending[-1].done])
+                return [each.done.result() for each in pending]
+        except TimeoutError:
+            raise Fault(Status.AWAY, f"site {site.number} is {site.state}, and gave no answer within {round(seconds, 2):g} s") from None
+        finally:
+            site.leave(pending)
 
     async def _log(self, site: Site, seconds: float) -> str:
         """A site's log and tables of one moment, as records for an audit."""
@@ -199,8 +219,9 @@ class Server:
         return {"messages": [text_of(text) for text in messages], "tokens": [text_of(text) for text in tokens]}
 
     async def _logs(self, request: Request, say: Say) -> dict[str, Any]:
+        until = time.monotonic() + seconds_of(request)
         for number in range(self.shop.settings.sites):
-            one = {"op": "log", "site": number, "timeout": request["timeout"]}
+            one = {"op": "log", "site": number, "timeout": max(until - time.monotonic(), 0.001)}
             try:
                 answer = await self.answer(one, say)
             except Fault as fault:
@@ -212,19 +233,20 @@ class Server:
         return {"sites": self.shop.settings.sites}
 
     async def _message(self, request: Request) -> dict[str, Any]:
-        origin, _, number = request["id"].partition(".")
-        if not origin.isdecimal() or not number.isdecimal() or int(origin) >= self.shop.settings.sites:
-            return {"message": None}
-        text = await self.shop.link.message(int(origin), int(number))
+        name = message_of(request, self.shop.settings.sites)
+        text = await self.shop.link.message(*name) if name else None
         return {"message": text_of(text) if text else None}
 
     async def _wait(self, site: Site, seconds: float) -> None:
         """Returns once the site is up and has all that the others sent."""
         until = time.monotonic() + seconds
-        await self.shop.link.look()
+        try:
+            await asyncio.wait_for(self.shop.link.look(), seconds)
+        except TimeoutError:
+            pass        # the server hangs, and the state of the link says so
         while not site.up.is_set() or self.shop.link.state != "up" or any(self.shop.behind(site).values()):
             if site.fenced_by:
-                raise site.away(False)
+                raise site.gone()
             try:
                 await self.shop.progress.wait(max(until - time.monotonic(), 0.001))
             except TimeoutError:
@@ -234,7 +256,7 @@ class Server:
 
     async def _follow(self, request: Request, say: Say) -> dict[str, Any]:
         """Says how many bytes of the file of events, or of a site's answers, stand there, and then each line that comes behind them."""
-        number = request["site"]
+        number = None if request.get("site") is None else site_of(request, self.shop.settings.sites)
         if number is not None and number not in self.shop.sites:
             raise Fault(Status.MISUSE, f"site {number} doesn't run here")
         site = None if number is None else self.shop.sites[number]

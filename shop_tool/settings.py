@@ -7,6 +7,7 @@ import re
 from typing import Any
 
 from .ends import Fault, Status
+from .program import refuses as program_refuses
 from .records import MESSAGES_OF_A_SITE, SITES_OF_A_SHOP
 
 FILES = "files"
@@ -44,12 +45,20 @@ def path_of(folder: str) -> str:
     return f"{folder}/shop.json"
 
 
+def from_text(text: str) -> Settings:
+    has = json.loads(text)
+    return Settings(**(has | {"here": tuple(has["here"])}))
+
+
+def to_text(settings: Settings) -> str:
+    return json.dumps(dataclasses.asdict(settings), indent=1) + "\n"
+
+
 def read(folder: str) -> Settings | None:
     """The settings of the shop in this folder, or None where there is no shop."""
     try:
         with open(path_of(folder)) as file:
-            has = json.load(file)
-        return Settings(**(has | {"here": tuple(has["here"])}))
+            return from_text(file.read())
     except (FileNotFoundError, NotADirectoryError):
         return None
     except (ValueError, TypeError, KeyError) as fault:
@@ -91,16 +100,39 @@ def check(settings: Settings) -> None:
         raise Fault(Status.MISUSE, "--over is files or redis://HOST:PORT/NAME")
 
 
+def why_another_site(setup: str, site: int, settings: Settings) -> str | None:
+    """Why a folder that is set up so, in its file `setup`, can't be this site of the shop."""
+    word, number, sites, keep, *_ = (setup.strip() + ",,,").split(",")
+    if word != "setup" or not keep.isdecimal():
+        return None         # the program itself says what is wrong with it
+    fits = (number, sites) == (str(site), str(settings.sites)) and int(keep) <= settings.keep
+    return None if fits else f"is site {number} of {sites}, and keeps {keep}"
+
+
+def check_new(folder: str, settings: Settings, program: str) -> None:
+    """Refuses settings that aren't those of before, before they are written, where the program refuses them or a site has others."""
+    if settings == read(folder):
+        return
+    if why := program_refuses(program, settings.site_options()):
+        raise Fault(Status.MISUSE, why)
+    for site in settings.here:
+        try:
+            with open(f"{folder}/{site}/setup") as file:
+                why = why_another_site(file.read(), site, settings)
+        except (OSError, ValueError):
+            continue
+        if why:
+            raise Fault(Status.MISUSE, f"{folder}/{site} {why}")
+
+
 def write(folder: str, settings: Settings) -> None:
     """Writes the settings, if they are new, so that a crash leaves the old or the new ones."""
-    os.makedirs(folder, mode=0o700, exist_ok=True)
     if read(folder) == settings:
         return
     # A URL may have a password, so nobody else reads this.
     file = os.open(f"{path_of(folder)}.new", os.O_WRONLY | os.O_CREAT | os.O_TRUNC, 0o600)
     with os.fdopen(file, "w") as text:
-        json.dump(dataclasses.asdict(settings), text, indent=1)
-        text.write("\n")
+        text.write(to_text(settings))
         text.flush()
         os.fsync(text.fileno())
     os.rename(f"{path_of(folder)}.new", path_of(folder))

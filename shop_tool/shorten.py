@@ -5,8 +5,8 @@ import subprocess
 
 from . import program
 from .ends import Fault, Status
-from .lock import stopped_shop
 from .site import keep_command
+from .stopped import stopped_shop
 
 
 def shorten(args: argparse.Namespace) -> int:

@@ -3,18 +3,19 @@
 import asyncio
 import collections
 import enum
-import os
 import time
 from collections.abc import Iterator
 from typing import TYPE_CHECKING
 
-from .answers import Answer, AnswerReader
+from .answers import Answer, AnswerReader, KeptReader
 from .ends import Fault, Status
+from .files import Files
 from .ledger import Ledger
-from .records import Token
+from .records import Purpose, Token, text_of, why_not_one_record
 from .settings import Settings
 from .signals import Signal
 from .times import stamp
+from .told import not_given, not_known
 from .turns import Hold
 from .witness import Witness
 
@@ -23,6 +24,7 @@ if TYPE_CHECKING:
 
 FIRST_WAIT, LAST_WAIT = 0.1, 10.0   # seconds until a site that ended is started again: doubled each time
 CALM = 30.0                         # seconds after which a site that ends has the first wait again
+READ_AGAIN = 1.0                    # seconds until packets that couldn't be read are read again
 PIECE = 1 << 16
 
 
@@ -38,13 +40,22 @@ class Disagreement(Exception):
     """The site's files aren't those that this supervisor knows."""
 
 
+class Gone(Fault):
+    """A site has ended; `unknown` is what is said of a record that it was given and hasn't answered."""
+
+    def __init__(self, why: str, unknown: str | None) -> None:
+        self.why, self.unknown = why, unknown
+        super().__init__(Status.AWAY, f"{why}; {unknown or not_given()}")
+
+
 class Pending:
     """One record on its way through a site."""
 
-    __slots__ = ("record", "done", "is_given", "is_left", "releases")
+    __slots__ = ("record", "behind", "done", "is_given", "is_left", "releases")
 
-    def __init__(self, record: bytes) -> None:
+    def __init__(self, record: bytes, behind: int) -> None:
         self.record = record
+        self.behind = behind        # how many records the site had answered when this one came
         self.done: asyncio.Future[Answer] = asyncio.get_running_loop().create_future()
         self.is_given = False       # written to the keeper, so it may be kept
         self.is_left = False        # nobody waits for its answer
@@ -62,6 +73,7 @@ class Site:
         self.shop, self.number = shop, number
         self.folder = f"{shop.folder}/{number}"
         self.ledger = Ledger(number, shop.settings.sites, f"{self.folder}/out")
+        self.files = Files(number, self.folder)
         self.state, self.since = State.STARTING, stamp()
         self.starts = 0
         self.fault: tuple[str, str] | None = None   # the last one: when, and what
@@ -90,7 +102,7 @@ class Site:
     async def run(self) -> None:
         """Starts the keeper, and again whenever it ends, until the shop is stopped or the site is fenced."""
         wait = FIRST_WAIT
-        while not self.shop.stopping.is_set() and not self.fenced_by:
+        while not self.shop.stopping.is_set() and not self.has_lost_files():
             began, self.starts, faults = time.monotonic(), self.starts + 1, self.fault
             self._become(State.STARTING)
             status = await self._live()
@@ -153,9 +165,11 @@ class Site:
             head += data
         line, _, data = head.partition(b"\n")
         began = time.monotonic()
+        if self.has_lost_files():
+            return
         await self._catch_up(int(line.split(b",")[1]))
         self._come_up(time.monotonic() - began)
-        while data or (data := await stream.read(PIECE)):
+        while (data or (data := await stream.read(PIECE))) and not self.has_lost_files(len(data)):
             for answer in self.reader.feed(data):
                 if not self.line:
                     raise Disagreement("it answered what it wasn't given")
@@ -170,18 +184,20 @@ class Site:
         with open(f"{self.folder}/kept", "rb") as kept, open(f"{self.folder}/out", "rb") as out:
             kept.seek(self.ledger.kept_bytes)
             out.seek(self.ledger.out_bytes)
+            records = KeptReader(kept)
             while data := out.read(1 << 20):
                 for answer in self.reader.feed(data):
-                    record = kept.readline().rstrip(b"\n")
+                    record, size = records.next()
                     pending = next(given, None)
                     if self.known.is_set() and (not pending or pending.record != record):
                         raise Disagreement("its file `kept` has other records than it was given")
-                    self._note(record, answer)
+                    self._note(record, answer, size)
                     if pending:
                         self._answer(pending, answer)
                 await asyncio.sleep(0)
         if self.ledger.records != count:
             raise ValueError(f"{count} records are kept, and {self.ledger.records} are answered")
+        self.files.read(self.ledger.kept_bytes, self.ledger.out_bytes)
         # What is left wasn't kept, so it is given again, unless nobody waits for it.
         self.line = collections.deque(pending for pending in self.line if not pending.done.done() and not pending.is_left)
 
@@ -201,6 +217,23 @@ class Site:
         if not self.fenced_by or text == self.fenced_by:
             self.fault = stamp(), text          # what a site says that is stopped for good isn't why
         self.shop.event(f"site {self.number}: {text}")
+
+    def has_lost_files(self, more: int = 0) -> bool:
+        """Whether the site is fenced; it is from now on, if its files aren't those any more that it had, `out` with so many bytes more."""
+        if not self.fenced_by:
+            if why := self.files.why_lost(self.ledger.kept_bytes, self.ledger.out_bytes + more, self.up.is_set()):
+                self.fence(why)
+        return bool(self.fenced_by)
+
+    def sent(self, begin: int, end: int) -> list[bytes]:
+        """Packets that it sent, from its file `out`; where that can't be read, the site is fenced, or it is tried again."""
+        try:
+            return [text for _, text in self.ledger.sends.read(begin, end)]
+        except OSError as fault:
+            if not self.has_lost_files():
+                self.note_fault(f"read out: {fault.strerror}")
+                asyncio.get_running_loop().call_later(READ_AGAIN, self.shop.news.tell)
+            return []
 
     def fence(self, text: str) -> None:
         """Stops the site for good: it would give numbers a second time."""
@@ -229,35 +262,39 @@ class Site:
         """Tells all who wait that no answer comes."""
         for pending in self.line:
             if not pending.done.done():
-                pending.done.set_exception(self.away(pending.is_given))
+                pending.done.set_exception(self.gone(pending))
                 pending.done.exception()        # not all of them are awaited
         self.line.clear()
         self.token_came.tell()
         self.released.tell()
 
-    def away(self, is_given: bool) -> Fault:
-        """Why no answer comes from a site that ended."""
-        why = self.fenced_by or "the shop is being stopped"
-        return Fault(Status.AWAY, f"site {self.number}: {why}; " + ("it may still be accepted" if is_given else "nothing was given to it"))
+    def gone(self, pending: Pending | None = None) -> "Gone":
+        """That no answer comes to a record, or to one that it isn't given, since the site has ended."""
+        why = f"site {self.number}: {self.fenced_by or 'the shop is being stopped'}"
+        return Gone(why, not_known(self.number, pending.behind) if pending and pending.is_given else None)
 
     # Records.
 
-    def give(self, records: list[bytes]) -> list[Pending]:
-        """Gives it records, one behind the other. Each is given again when the keeper died before it kept it."""
+    def give(self, records: list[bytes], purpose: Purpose = Purpose.ASK) -> list[Pending]:
+        """Gives it records, one behind the other. Each is given again when the keeper died before it kept it. What isn't one record
+        would shift the answers of all that come after it, so nothing else gets through here."""
+        for record in records:
+            if why := why_not_one_record(record, purpose):
+                raise Fault(Status.MISUSE, f"{text_of(record[:80])!r}: {why}; nothing was asked")
         if self.fenced_by or self.shop.stopping.is_set():
-            raise self.away(False)
-        given = [Pending(record) for record in records]
+            raise self.gone()
+        given = [Pending(record, self.ledger.records) for record in records]
         self.line.extend(given)
         if self.up.is_set():
             self._write(given)
         return given
 
-    def leave(self, pending: list[Pending]) -> bool:
-        """Nobody waits for these any more: what wasn't given isn't given. Says whether one of them was given and isn't answered."""
+    def leave(self, pending: list[Pending]) -> Pending | None:
+        """Nobody waits for these any more: what wasn't given isn't given. The first of them that was given and isn't answered."""
         for each in pending:
             each.is_left = True
         self.line = collections.deque(each for each in self.line if each.is_given or not each.is_left)
-        return any(each.is_given and not each.done.done() for each in pending)
+        return next((each for each in pending if each.is_given and not each.done.done()), None)
 
     def unanswered(self) -> list[bytes]:
         """The records that the keeper was given and hasn't answered."""
@@ -275,8 +312,8 @@ class Site:
         self._note(pending.record, answer)
         self._answer(pending, answer)
 
-    def _note(self, record: bytes, answer: Answer) -> None:
-        sent = self.ledger.note(record, answer)
+    def _note(self, record: bytes, answer: Answer, size: int | None = None) -> None:
+        sent = self.ledger.note(record, answer, size)
         if self.witness:
             self.witness.tell(self.ledger.kept_bytes)
         kind = answer.kind

@@ -1,20 +1,22 @@
 """Carries packets over the streams of a Redis server. No position is stored: what a site has kept is where it reads on."""
 
 import asyncio
-import json
 import time
 from collections.abc import Awaitable, Callable
 from typing import Any
 
 from .ends import Fault
 from .ledger import Place, packets_of
-from .link import BATCH, FULL_WAIT, STARTING, UP, Link, Request
+from .link import BATCH, FULL_WAIT, STARTING, UP, Link
+from .lives import life_text
 from .publisher import COMPARE_SECONDS, Publisher
 from .reader import Reader
+from .requests import Request, request_of
 from .site import Site
-from .streams import Streams, faults, reason_of, run_by
+from .streams import WANTS, Streams, faults, reason_of, run_by
 from .supervisor import Supervisor
 from .times import stamp
+from .told import Once, is_called
 
 LAST_SECONDS = 2.0          # how long a stop waits for what was answered last to be published
 FIRST_WAIT, LAST_WAIT = 0.1, 2.0
@@ -31,6 +33,7 @@ class StreamLink(Link):
         self.tops = [0] * self.settings.sites       # how many messages the stream of each site has
         self.marks: list[bytes | None] = []         # of the streams, as they were seen last
         self.counts: dict[int, int] = {}            # how many packets of each site here are in its stream
+        self.calls = Once(WANTS)
         self.main = Streams(self.settings)
 
     @property                                       # type: ignore[override]
@@ -136,22 +139,33 @@ class StreamLink(Link):
             for after, fields in await server.hear(after):
                 try:
                     self._heard(fields)
-                except (ValueError, KeyError) as fault:
+                except (ValueError, KeyError, Fault) as fault:
                     self.shop.event(f"link: {self.settings.shown_over} has a want that isn't one: {fault!r}")
             self.works("hear")
 
     def _heard(self, fields: dict[bytes, bytes]) -> None:
         if b"want" in fields:
-            self.shop.hear_want(int(fields[b"want"]), int(fields[b"known"]))
-        elif int(fields[b"site"]) in self.shop.sites:
-            self.shop.task(self._called(fields[b"call"].decode(), json.loads(fields[b"request"])), is_needed=False)
+            if not 0 <= (site := int(fields[b"want"])) < self.settings.sites:
+                raise ValueError(f"there is no site {site}")
+            self.shop.hear_want(site, int(fields[b"known"]))
+        elif b"leave" in fields:
+            for left in fields[b"leave"].split(b","):
+                self.shop.wants.drop(int(left))
+        elif (called := self.shop.sites.get(int(fields[b"site"]))) and self._is_called(called, fields.get(b"life")):
+            name, request = fields[b"call"], request_of(fields[b"request"])
+            if self.calls.is_new(name):
+                self.shop.task(self._called(name.decode(), called, request), is_needed=False)
 
-    async def _called(self, name: str, request: Request) -> None:
+    @staticmethod
+    def _is_called(site: Site, life: bytes | None) -> bool:
+        return is_called(None if life is None else life.decode("utf-8", "replace"), life_text(site.lives), bool(site.fenced_by))
+
+    async def _called(self, name: str, site: Site, request: Request) -> None:
         answers: list[dict[str, Any]] = []
 
         async def say(answer: dict[str, Any]) -> None:
             answers.append(answer)
-        await self.shop.server.serve(request, say)
+        await self.shop.server.serve(request, say, site)
         try:
             await self.main.reply(name, answers)
         except faults():
@@ -163,6 +177,12 @@ class StreamLink(Link):
         except faults():
             pass        # it is said again
 
+    async def say_leave(self) -> None:
+        try:
+            await self.main.say({"leave": ",".join(map(str, self.shop.sites))})
+        except faults():
+            pass        # what was wanted is forgotten in a moment
+
     async def call(self, request: Request, site: int, seconds: float) -> list[dict[str, Any]] | None:
         try:
             async with Streams(self.settings) as server:
@@ -173,6 +193,13 @@ class StreamLink(Link):
     async def is_running(self, site: int) -> bool | None:
         status = await self.status_of(site)
         return status is not None and status["state"] == "up"
+
+    async def up_elsewhere(self) -> set[int]:
+        try:
+            statuses = await self.main.statuses()
+        except faults():
+            return set()
+        return {site for site, status in statuses.items() if site not in self.shop.sites and status["state"] == "up"}
 
     async def status_of(self, site: int) -> dict[str, Any] | None:
         try:

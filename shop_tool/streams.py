@@ -228,11 +228,7 @@ class Streams:
         return None if owner.split(" ", 1)[0] == identity(folder) else owner.split(" ", 1)[-1]
 
     async def adopt(self, site: int, folder: str) -> None:
-        """Gives a site to this folder, whichever life of it this is; its next start compares all of it."""
-        step = self.redis.pipeline()
-        step.set(self.key(f"owner:{site}"), owner_text(folder))
-        step.delete(self.key(f"life:{site}"))
-        await step.execute()
+        await self.redis.set(self.key(f"owner:{site}"), owner_text(folder))
 
     async def tell(self, statuses: dict[int, dict[str, Any]]) -> tuple[list[int], list[bytes | None]]:
         """Writes statuses of sites; how many messages each stream has, and its mark."""
@@ -266,10 +262,14 @@ class Streams:
         return entries
 
     async def call(self, request: dict[str, Any], site: int, seconds: float) -> list[dict[str, Any]] | None:
-        """What the supervisor of a site answers to a request; None if it gives no answer in time."""
+        """What the supervisor that has a site answers to a request; None if it gives no answer in time."""
         name = f"{os.getpid()}.{time.time_ns()}.{site}"
-        await self.say({"call": name, "site": site, "request": json.dumps(request)})
         until = time.monotonic() + seconds
+        while not (life := await self.redis.get(self.key(f"life:{site}"))):
+            if time.monotonic() > until:
+                return None
+            await asyncio.sleep(0.1)        # the server has lost it, and is told again
+        await self.say({"call": name, "site": site, "life": life, "request": json.dumps(request)})
         while (left := until - time.monotonic()) > 0:
             # The server takes whole seconds, and a socket waits no longer than its time-out.
             if found := await self.redis.blpop(self.key(f"answer:{name}"), max(1, min(int(left), 5))):

@@ -8,15 +8,16 @@ import time
 from collections.abc import Coroutine
 from typing import TYPE_CHECKING, Any
 
-from .ends import Status
+from .ends import Fault, Status
 from .grid import waits_of
 from .ledger import Prefix
 from .lives import begin_life, lives_of
 from .lock import take_lock
 from .opening import may_open_at_once
-from .passing import Passing
-from .records import RECORDS_OF_A_RUN, Message, Token, packet_of, text_of
-from .settings import FILES, Settings
+from .passing import HAND_OVER_SECONDS, Passing
+from .records import RECORDS_OF_A_RUN, Message, Purpose, Token, packet_of, text_of, why_not_one_record
+from .render import shown
+from .settings import FILES, Settings, write
 from .signals import Signal, is_over_within
 from .site import Site, State
 from .times import changed, stamp
@@ -82,9 +83,9 @@ class Supervisor(Passing):
         return os.open(path, os.O_WRONLY | os.O_CREAT | os.O_APPEND, 0o600)
 
     def event(self, text: str) -> None:
-        line = f"{stamp()} {text}"
+        line = f"{stamp()} {shown(text)}"
         try:
-            os.write(self.events, line.encode("utf-8", "surrogateescape") + b"\n")
+            os.write(self.events, line.encode() + b"\n")
         except OSError:
             pass        # a full disk must not stop the sites that still answer
         for follower in self.followers.get(None, ()):
@@ -137,6 +138,7 @@ class Supervisor(Passing):
         if not site.compared.is_set():
             site.compared.set()
             self.changes.tell()
+            self.news.tell()
         self.progress.tell()
         self.pass_on(site)
 
@@ -144,7 +146,7 @@ class Supervisor(Passing):
         """Gives a site packets of others, but for those that it has; returns once they are answered, False if it is full."""
         new = [packet for packet in packets if self._is_new(site, packet)]
         is_full = False
-        for pending in site.give(new) if new else []:
+        for pending in site.give(new, Purpose.PACKET) if new else []:
             refusal = (await pending.done).refusal
             if refusal:
                 is_full = is_full or refusal == "Full"
@@ -153,6 +155,9 @@ class Supervisor(Passing):
         return not is_full
 
     def _is_new(self, site: Site, text: bytes) -> bool:
+        if why := why_not_one_record(text, Purpose.PACKET):
+            site.note_fault(f"{text[:80]!r} isn't given to it: {why}")
+            return False
         match packet_of(text):
             case Message(origin=origin, number=number):
                 return origin != site.number and number > site.ledger.have[origin].upto
@@ -197,7 +202,8 @@ class Supervisor(Passing):
         well = self.link.state == "up" and all(one["state"] == State.UP for one in sites)
         return well, {
             "folder": self.folder, "sites": self.settings.sites, "over": self.settings.shown_over, "sync": self.settings.sync,
-            "keep": self.settings.keep, "pid": os.getpid(), "since": self.since, "link": self.link.state, "token": holder,
+            "keep": self.settings.keep, "pid": os.getpid(), "since": self.since, "stopping": self.is_leaving,
+            "link": self.link.state, "token": holder,
             "token_turn": self.wants.turn, "token_sent_to": self.wants.holder, "token_wanted_by": self.wants.waiting(), "site": sites,
         }
 
@@ -211,15 +217,28 @@ class Supervisor(Passing):
             pass
 
     def stop(self, why: str) -> None:
-        if not self.stopping.is_set():
+        if not self.is_leaving:
             self.event(f"supervisor: {why}")
+            self.is_leaving = True
+            self.task(self._leave())
+
+    async def _leave(self) -> None:
+        """Hands the token over, if there is somebody elsewhere, and stops the sites once what they were given is answered."""
+        try:
+            if len(self.sites) < self.settings.sites:
+                await is_over_within(HAND_OVER_SECONDS, self.hand_over())
+        except Fault:
+            pass        # the site has ended, or had its last turn
+        finally:
+            if self.stays:
+                self.event(f"supervisor: {self.stays}")
             self.stopping.set()
             for site in self.sites.values():
                 site.stop()
 
     def _signalled(self, name: str) -> None:
         """A signal stops the shop; a further one ends this process at once, whatever it waits for."""
-        if not self.stopping.is_set():
+        if not self.is_leaving:
             return self.stop(name)
         self.event(f"supervisor: {name} again, ended at once")
         for site in self.sites.values():
@@ -236,10 +255,7 @@ class Supervisor(Passing):
             self._begin(site)
         await self.server.listen()
         sites = [self.task(site.run()) for site in self.sites.values()]
-        others = [self.task(self.link.run()), self.task(self._look_after_folder())]
-        await asyncio.gather(*(site.tried.wait() for site in self.sites.values()))
-        await self._compared()
-        self._say_ready()
+        others = [self.task(work) for work in (self.link.run(), self._look_after_folder(), self._get_ready())]
         await self.stopping.wait()
         await asyncio.wait(sites, timeout=STOP_SECONDS)
         for site in self.sites.values():
@@ -251,6 +267,11 @@ class Supervisor(Passing):
             task.cancel()
         await asyncio.wait(others, timeout=END_SECONDS)
         self.event("supervisor: ended")
+
+    async def _get_ready(self) -> None:
+        await asyncio.gather(*(site.tried.wait() for site in self.sites.values()))
+        await self._compared()
+        self._say_ready()
 
     async def _compared(self) -> None:
         """Waits until it is known whether the sites that are up are fenced, for some time, or until the link fails."""
@@ -293,7 +314,7 @@ class Supervisor(Passing):
                 to.send(b"READY=1")
 
     async def _look_after_folder(self) -> None:
-        """Ends the supervisor when its folder is gone: nobody could reach it."""
+        """Ends the supervisor when its folder is gone: nobody could reach it; and a site whose folder or files are gone."""
         was = os.stat(self.folder).st_ino
         while True:
             await asyncio.sleep(LOOK_SECONDS)
@@ -304,12 +325,15 @@ class Supervisor(Passing):
             if not is_there:
                 self.stop(f"{self.folder} is gone")
                 return
+            for site in self.sites.values():
+                site.has_lost_files()
 
 
 def run(folder: str, settings: Settings, program: str, is_alone: bool) -> None:
     """Runs the shop until it is stopped."""
     os.umask(0o077)
     take_lock(folder)
+    write(folder, settings)
 
     async def main() -> None:
         await Supervisor(folder, settings, program, is_alone).run()

@@ -1,6 +1,7 @@
 """Who gets the token next, and when: a queue that all supervisors of a shop have alike, and how long a holder keeps it."""
 
 import collections
+from collections.abc import Collection, Sequence
 
 SLICE = 0.1         # seconds that a site with askers of its own keeps it, from its first accepted ask on
 PATIENCE = 5.0      # seconds that it keeps it while it still waits for red messages before its first ask
@@ -48,6 +49,11 @@ class Wants:
 
     def waiting(self) -> list[int]:
         return list(self._heard)
+
+
+def taker(waiting: Sequence[int], running: Collection[int]) -> int | None:
+    """Who gets the token of a site that is stopped, of those that run elsewhere: the first that wants it, or else any."""
+    return next((site for site in waiting if site in running), min(running, default=None))
 
 
 class Hold:

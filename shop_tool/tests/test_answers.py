@@ -1,8 +1,9 @@
 """Answers are cut alike however the bytes come in."""
 
+import io
 import unittest
 
-from shop_tool.answers import AnswerReader
+from shop_tool.answers import AnswerReader, KeptReader
 
 TEXT = (b"reply,1,ok,0.1\nsend,msg,1,0,1,1,0:0,user,ann\nreply,2,rows,2\nrow,user,0.1,ann,0,0,0,0\nrow,user,0.2,bob,0,0,0,0\n"
         b"reply,3,rows,0\nreply,4,refused,5,NickTaken\nreply,5,passed\nsend,token,1,1,1,1\nreply,6,holding\n")
@@ -26,3 +27,24 @@ class Cutting(unittest.TestCase):
         for line in (b"row,user\n", b"hello\n", b"reply\n"):
             with self.assertRaises(ValueError):
                 AnswerReader().feed(line)
+
+
+class Kept(unittest.TestCase):
+    """The records of `kept` are those that a site counts, also where others than a supervisor wrote it."""
+
+    KEPT = b'\nuser,ann\n\r\nuser,bob\r\nstop\rgo\r\r\nitem,0.1,"a\rb ""c""",7\ra"b\n""\n\nlist,users\n\n'
+    RECORDS = [b"user,ann", b"user,bob", b"stop", b"go", b'item,0.1,"a\rb ""c""",7', b'a"b', b'""', b"list,users"]
+
+    def test_records(self) -> None:
+        reader = KeptReader(io.BytesIO(self.KEPT))
+        found = [reader.next() for _ in self.RECORDS]
+        self.assertEqual([record for record, _ in found], self.RECORDS)
+        self.assertEqual(sum(size for _, size in found) + reader.next()[1], len(self.KEPT))
+        self.assertEqual(reader.next(), (b"", 0))
+
+    def test_from_behind_any_record(self) -> None:
+        reader, place = KeptReader(io.BytesIO(self.KEPT)), 0
+        for count in range(len(self.RECORDS)):
+            rest = KeptReader(io.BytesIO(self.KEPT[place:]))
+            self.assertEqual([rest.next()[0] for _ in self.RECORDS[count:]], self.RECORDS[count:])
+            place += reader.next()[1]

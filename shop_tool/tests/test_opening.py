@@ -7,7 +7,7 @@ from unittest import mock
 
 from shop_tool import lives, witness
 from shop_tool.ledger import Place
-from shop_tool.lives import Standing, begin_life, life_text, lives_of, standing, why_other
+from shop_tool.lives import Standing, begin_life, life_text, lives_of, standing, take_place, takes_place, why_other
 from shop_tool.opening import may_open_at_once, must_compare_all, runs_elsewhere, strange_packet, why_behind
 
 
@@ -41,6 +41,16 @@ class Lives(unittest.TestCase):
         self.assertEqual(standing(original, life_text(copy)), Standing.OTHER)
         self.assertEqual(standing([*original, "again"], life_text(copy)), Standing.OTHER)
         self.assertIn("this is its start 2, and the server saw start 2", why_other(original, life_text(copy), "the server", 0))
+
+    def test_a_folder_that_was_made_again(self) -> None:
+        os.makedirs(self.folder)
+        take_place(self.folder, 3)
+        own = begin_life(self.folder)
+        cases = {"1 a": Standing.AHEAD, "3 c": Standing.AHEAD, life_text(own): Standing.NEXT, "4 x": Standing.OTHER, "5 e": Standing.OTHER}
+        self.assertEqual({seen: standing(own, seen) for seen in cases}, cases)
+        take_place(self.folder, 2)      # adopted: it takes the place of itself too
+        self.assertEqual(standing(begin_life(self.folder), "4 x"), Standing.AHEAD)
+        self.assertFalse(takes_place(own, None))
 
     def test_what_the_others_saw_over_files(self) -> None:
         os.makedirs(self.folder)

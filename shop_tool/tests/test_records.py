@@ -2,7 +2,8 @@
 
 import unittest
 
-from shop_tool.records import BYTES_OF_A_RECORD, Message, Token, ask_of, fields_of, line_of, packet_of, row_of, why_not_one_record
+from shop_tool.records import (
+    BYTES_OF_A_RECORD, Message, Purpose, Token, ask_of, fields_of, line_of, packet_of, row_of, why_not_one_record)
 
 
 class OneRecord(unittest.TestCase):
@@ -14,9 +15,17 @@ class OneRecord(unittest.TestCase):
 
     def test_what_would_swallow_or_lose_others(self) -> None:
         for record in (b'user,"eve', b'item,0.1,a"b,"c,7,1,1,0', b"user,dan\rrest", b"user,dan\nuser,eve", b"x" * (BYTES_OF_A_RECORD + 1),
-                       b"\xef\xbb\xbfuser,ann", b"msg,1,0,1,1,0,user,ann", b"token,1,1,1,0", b'"user",ann'):
+                       b"\xef\xbb\xbfuser,ann", b"\xef", b"msg,1,0,1,1,0,user,ann", b"token,1,1,1,0", b'"user",ann'):
             with self.subTest(record=record[:40]):
                 self.assertIsNotNone(why_not_one_record(record))
+
+    def test_what_it_is_for(self) -> None:
+        fits = {Purpose.ASK: [b"user,ann", b"pass,1", b"list,log", b"stop"], Purpose.LISTING: [b"list,log"],
+                Purpose.PACKET: [b"msg,1,0,1,1,0,user,ann", b"token,1,1,1,0"]}
+        for purpose, records in fits.items():
+            for record in [*sum(fits.values(), []), b"", b"list,log\n", b"token,1,1,1,0\n", b"msg,1,0,1,1,0,item,0.1,\"a"]:
+                with self.subTest(purpose=purpose, record=record):
+                    self.assertEqual(why_not_one_record(record, purpose) is None, record in records)
 
 
 class Packets(unittest.TestCase):

@@ -2,7 +2,7 @@
 
 import unittest
 
-from shop_tool.turns import FORGET, PATIENCE, SLICE, Hold, Wants
+from shop_tool.turns import FORGET, PATIENCE, SLICE, Hold, Wants, taker
 
 
 class Queue(unittest.TestCase):
@@ -59,3 +59,10 @@ class Slices(unittest.TestCase):
         self.assertAlmostEqual(hold.seconds_left(True, 2.0), PATIENCE - 1.0)
         hold.took()
         self.assertAlmostEqual(hold.seconds_left(True, 9.0), PATIENCE)
+
+
+class Taker(unittest.TestCase):
+    def test_the_first_that_wants_it_and_runs(self) -> None:
+        self.assertEqual(taker([3, 2, 1], {1, 2}), 2)
+        self.assertEqual(taker([3], {5, 4}), 4)
+        self.assertIsNone(taker([3], set()))

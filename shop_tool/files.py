@@ -1,0 +1,60 @@
+"""Whether the files of a running site are those that its keeper writes still."""
+
+import os
+from typing import NamedTuple
+
+
+class File(NamedTuple):
+    """Which file it is, and how long it was when it was looked at."""
+
+    device: int
+    inode: int
+    size: int
+
+
+def file_at(path: str) -> File | None:
+    try:
+        found = os.stat(path)
+    except OSError:
+        return None
+    return File(found.st_dev, found.st_ino, found.st_size)
+
+
+def is_there(was: File | None, now: File | None) -> bool:
+    """Whether a file is there still, with all that it had; one that wasn't known can't be missed."""
+    return was is None or now is not None and was[:2] == now[:2] and was.size <= now.size
+
+
+def why_lost(site: int, has_folder: bool, has_kept: bool, has_out: bool) -> str | None:
+    """Why a site can't go on, and what to do, or None. What it answers then would be in files that nobody finds again."""
+    if has_folder and has_kept and has_out:
+        return None
+    if has_folder and has_kept:
+        return "its file `out` was removed or changed (stop the shop, remove what is left of it and start it: `kept` is enough)"
+    what = "file `kept` was removed or changed" if has_folder else "folder is gone"
+    return f"its {what} (stop the shop, put it back or say shop rebuild {site}, and start it)"
+
+
+class Files:
+    """The files `kept` and `out` of a site, as its supervisor read them last. Those of a new site aren't known yet."""
+
+    def __init__(self, site: int, folder: str) -> None:
+        self.site, self.folder = site, folder
+        self.kept = file_at(f"{folder}/kept")
+        self.out: File | None = None
+        self._beyond = 0, 0         # how many bytes they had beyond those that the ledger counts
+
+    def read(self, kept_bytes: int, out_bytes: int) -> None:
+        """They have been read to their ends, which are so many bytes by the ledger."""
+        kept, out = file_at(f"{self.folder}/kept"), file_at(f"{self.folder}/out")
+        if kept and out and is_there(self.kept and self.kept._replace(size=0), kept):
+            self.kept, self.out = kept, out
+            self._beyond = kept.size - kept_bytes, out.size - out_bytes
+
+    def why_lost(self, kept_bytes: int, out_bytes: int, is_up: bool) -> str | None:
+        """Why the site can't go on whose ledger counts so many bytes. A keeper that isn't up yet may cut off a torn end."""
+        sizes = [count + beyond if is_up else 0 for count, beyond in zip((kept_bytes, out_bytes), self._beyond)]
+        has_kept, has_out = (
+            is_there(was and was._replace(size=size), file_at(f"{self.folder}/{name}"))
+            for was, size, name in ((self.kept, sizes[0], "kept"), (self.out, sizes[1], "out")))
+        return why_lost(self.site, has_kept or os.path.isdir(self.folder), has_kept, has_out)

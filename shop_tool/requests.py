@@ -1,0 +1,92 @@
+"""Requests of the socket, checked before anything is done: each field is what it has to be, and each record is one."""
+
+import json
+import re
+from typing import Any, NamedTuple, TypeVar
+
+from .ends import Fault, Status
+from .records import Purpose, bytes_of, text_of, why_not_one_record
+
+REQUEST_BYTES = 16 << 20
+RECORDS_OF_A_REQUEST = 10_000
+MOST_SECONDS = 1e6
+
+Request = dict[str, Any]
+Value = TypeVar("Value")
+
+
+class AskRequest(NamedTuple):
+    """What `ask` says."""
+
+    records: list[bytes]
+    fetches_token: bool     # or a site without it answers NoToken
+    published: bool         # ends only once the others find what was accepted
+
+
+def no_request(why: str) -> Fault:
+    return Fault(Status.MISUSE, f"not a request: {why}; nothing was asked")
+
+
+def request_of(line: bytes) -> Request:
+    """The request on a line of the socket; a Fault if it is none."""
+    try:
+        request = json.loads(line)
+    except (ValueError, RecursionError) as fault:
+        raise no_request(str(fault)) from fault
+    if not isinstance(request, dict):
+        raise no_request("it is no object")
+    return request
+
+
+def field(request: Request, name: str, kind: type[Value]) -> Value:
+    """A field of a request; a Fault if it isn't of this type."""
+    value = request.get(name)
+    if not isinstance(value, kind):
+        raise no_request(f"`{name}` is no {kind.__name__}")
+    return value
+
+
+def seconds_of(request: Request) -> float:
+    """How long a request may take."""
+    seconds = request.get("timeout")
+    if not isinstance(seconds, (int, float)) or not 0 < seconds < MOST_SECONDS:
+        raise no_request(f"`timeout` is no number of seconds above 0 and below {MOST_SECONDS:g}")
+    return float(seconds)
+
+
+def site_of(request: Request, sites: int) -> int:
+    """The number of the site that a request is for."""
+    number = field(request, "site", int)
+    if not 0 <= number < sites:
+        raise Fault(Status.MISUSE, f"there is no site {number}: this shop has {sites}")
+    return number
+
+
+def asks_of(request: Request) -> AskRequest:
+    """What a site is asked, each record checked before the first one is asked."""
+    records = field(request, "records", list)
+    if len(records) > RECORDS_OF_A_REQUEST:
+        raise Fault(Status.MISUSE, f"a request has at most {RECORDS_OF_A_REQUEST} records; nothing was asked")
+    checked = [_record_of(text, Purpose.ASK) for text in records]
+    return AskRequest(checked, field(request, "fetch", bool), bool(request.get("published")))
+
+
+def listing_of(request: Request) -> bytes:
+    """The listing that a site is asked for."""
+    return _record_of(request.get("record"), Purpose.LISTING)
+
+
+def message_of(request: Request, sites: int) -> tuple[int, int] | None:
+    """The message that is asked for by its id; None if no message of the shop has it."""
+    found = re.fullmatch(r"([0-9]{1,2})\.([0-9]{1,7})", field(request, "id", str))
+    return (int(found[1]), int(found[2])) if found and int(found[1]) < sites else None
+
+
+def _record_of(text: Any, purpose: Purpose) -> bytes:
+    try:
+        record = bytes_of(text)
+    except (AttributeError, ValueError) as fault:
+        raise no_request(f"{text!r} is no text") from fault
+    if why := why_not_one_record(record, purpose):
+        raise Fault(Status.MISUSE, f"{text_of(record[:80])!r}: {why}; nothing was asked")
+    return record

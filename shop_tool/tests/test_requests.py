@@ -1,0 +1,45 @@
+"""What a request of the socket has to be."""
+
+import unittest
+from typing import Any
+
+from shop_tool.ends import Fault, Status
+from shop_tool.requests import RECORDS_OF_A_REQUEST, asks_of, listing_of, message_of, request_of, seconds_of, site_of
+
+
+class Requests(unittest.TestCase):
+    def refused(self, read: Any, *words: Any) -> None:
+        with self.subTest(words=str(words)[:80]), self.assertRaises(Fault) as caught:
+            read(*words)
+        self.assertEqual(caught.exception.status, Status.MISUSE)
+
+    def test_lines(self) -> None:
+        self.assertEqual(request_of(b'{"op": "status"}\n'), {"op": "status"})
+        for line in (b"\n", b"{\n", b"[]\n", b"7\n", b"null\n", b'{"op": "\xff"}\n', b"[" * 100_000, b'"op"\n'):
+            self.refused(request_of, line)
+
+    def test_times_and_sites(self) -> None:
+        self.assertEqual(seconds_of({"timeout": 5}), 5.0)
+        for seconds in (None, 0, -1, float("nan"), float("inf"), 1e300, "5", [5]):
+            self.refused(seconds_of, {"timeout": seconds})
+        self.assertEqual(site_of({"site": 2}, 3), 2)
+        for site in (None, 3, -1, "0", 0.0, [0]):
+            self.refused(site_of, {"site": site}, 3)
+
+    def test_asks(self) -> None:
+        asked = asks_of({"records": ["user,ann", "user,\udcff", "list,users"], "fetch": True})
+        self.assertEqual((asked.records, asked.fetches_token, asked.published), ([b"user,ann", b"user,\xff", b"list,users"], True, False))
+        for records in (None, "user,ann", [7], [None], ["user,ann", ""], ["\ud800"], ["user,ann"] * (RECORDS_OF_A_REQUEST + 1)):
+            self.refused(asks_of, {"records": records, "fetch": True})
+        self.refused(asks_of, {"records": ["user,ann"]})
+
+    def test_listings(self) -> None:
+        self.assertEqual(listing_of({"record": "list,items,7"}), b"list,items,7")
+        for record in (None, "", "list,users\n", "user,ann", "pass,1", ["list,users"]):
+            self.refused(listing_of, {"record": record})
+
+    def test_messages(self) -> None:
+        self.assertEqual(message_of({"id": "1.17"}, 2), (1, 17))
+        for name in ("2.1", "1", "1.", "1.x", "0.1\n", "9" * 5000 + ".1", "0." + "9" * 5000):
+            self.assertIsNone(message_of({"id": name}, 2))
+        self.refused(message_of, {"id": 7}, 2)

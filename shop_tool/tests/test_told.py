@@ -1,0 +1,35 @@
+"""What an asker is told of a record that has no answer."""
+
+import unittest
+
+from shop_tool.told import Once, is_called, not_given, not_known, unanswered
+
+
+class Told(unittest.TestCase):
+    def test_what_was_answered_before_was_given(self) -> None:
+        self.assertEqual(not_given(), "nothing was given to it")
+        self.assertEqual(not_given(3), "nothing more was given to it")
+        for answered in (0, 3):
+            self.assertEqual(not_given(answered, was_refused=True), "not accepted")
+
+    def test_how_it_is_found_out(self) -> None:
+        self.assertIn("it is in `shop log 2` after record 17, or it never will be", not_known(2, 17))
+        self.assertIn("shop log 2", unanswered({"op": "ask", "site": 2}))
+
+    def test_only_asks_change_something(self) -> None:
+        self.assertEqual(unanswered({"op": "list", "site": 2}), "")
+
+
+class Calls(unittest.TestCase):
+    def test_the_folder_that_has_the_site_answers(self) -> None:
+        self.assertTrue(is_called("here:5", "here:5", is_fenced=False))
+        self.assertTrue(is_called("here:5", "here:5", is_fenced=True))      # it knows that nobody else is asked
+        self.assertFalse(is_called("here:5", "here:6", is_fenced=False))
+
+    def test_a_call_is_answered_once(self) -> None:
+        calls = Once(3)
+        self.assertEqual([calls.is_new(name) for name in (b"a", b"b", b"a", b"c", b"b", b"d", b"a")], [True, True, False, True, False, True, True])
+
+    def test_callers_of_before_name_no_folder(self) -> None:
+        self.assertTrue(is_called(None, "here:5", is_fenced=False))
+        self.assertFalse(is_called(None, "here:5", is_fenced=True))

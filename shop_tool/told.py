@@ -1,0 +1,47 @@
+"""What an asker is told of a record that has no answer.
+
+*Nothing was given* and *not accepted* are said only where they stay true, whatever comes. Where it can't be known yet whether a record is
+accepted, just that is said, with how it is found out.
+"""
+
+import collections
+from typing import Any
+
+
+def not_given(answered: int = 0, was_refused: bool = False) -> str:
+    """Of records that no site will be given: one that it refused for want of the token, or the first and the rest of a request of which so
+    many were answered before."""
+    return "not accepted" if was_refused else "nothing more was given to it" if answered else "nothing was given to it"
+
+
+def not_known(site: int, records: int) -> str:
+    """Of a record that a site was given when it had answered so many, and hasn't answered: it keeps it before any later one, or never."""
+    return f"it may still be accepted: when site {site} has answered a later record, it is in `shop log {site}` after record {records}, " \
+        "or it never will be"
+
+
+def unanswered(request: dict[str, Any]) -> str:
+    """Of a request of which no more is known. Only asks change something."""
+    return f"; whether it was accepted isn't known (shop log {request.get('site')})" if request.get("op") == "ask" else ""
+
+
+class Once:
+    """Names, the last of them: a call that was sent again after a connection broke isn't answered twice."""
+
+    def __init__(self, most: int) -> None:
+        self._names: collections.OrderedDict[bytes, None] = collections.OrderedDict()
+        self._most = most
+
+    def is_new(self, name: bytes) -> bool:
+        if name in self._names:
+            return False
+        self._names[name] = None
+        if len(self._names) > self._most:
+            self._names.popitem(last=False)
+        return True
+
+
+def is_called(life: str | None, own: str, is_fenced: bool) -> bool:
+    """Whether a call to a site is for this life of its folder. It is for the life that the others saw last, since any other one would
+    answer what it can't know: that nothing was given. Callers of before don't say which that is; then a fenced one keeps silent."""
+    return not is_fenced if life is None else life == own
