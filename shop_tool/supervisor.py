@@ -127,13 +127,13 @@ class Supervisor(Passing):
         except OSError as fault:
             return site.fence(f"{site.folder}/life: {fault.strerror}")
         if may_open_at_once(self.is_alone, has_all(kept, answered)):
-            site.witness = Witness(site.lives, answered or 0)
+            site.witness = Witness(site.folder, site.lives, answered or 0)
             site.opened.set()
 
     def open(self, site: Site) -> None:
         """The site has been compared with what the others have of it: it takes asks and packets."""
         if not site.opened.is_set():
-            site.witness = Witness(site.lives, site.ledger.kept_bytes)
+            site.witness = Witness(site.folder, site.lives, site.ledger.kept_bytes)
             site.opened.set()
         if not site.compared.is_set():
             site.compared.set()

@@ -8,6 +8,7 @@ from collections.abc import Sequence
 
 MEMORY = "/dev/shm"
 LIFE_BYTES, SIZE_BYTES = 16, 8
+BYTES = LIFE_BYTES + SIZE_BYTES     # then comes the folder of the site
 
 
 def folder() -> str | None:
@@ -30,9 +31,23 @@ def witnessed(lives: Sequence[str]) -> int | None:
             said = file.read()
     except OSError:
         return None
-    if len(said) != LIFE_BYTES + SIZE_BYTES or said[:LIFE_BYTES] != lives[-1].encode():
+    if len(said) < BYTES or said[:LIFE_BYTES] != lives[-1].encode():
         return None
-    return int.from_bytes(said[LIFE_BYTES:], "little")
+    return int.from_bytes(said[LIFE_BYTES:BYTES], "little")
+
+
+def sweep(path: str) -> None:
+    """Removes what is said of folders that are gone."""
+    for name in os.listdir(path):
+        if name.endswith(".new"):
+            continue    # it is being written
+        try:
+            with open(f"{path}/{name}", "rb") as file:
+                of = file.read()[BYTES:]
+            if not os.path.exists(of):
+                os.unlink(f"{path}/{name}")
+        except OSError:
+            pass        # another supervisor sweeps too
 
 
 def has_all(kept: str, answered: int | None) -> bool:
@@ -43,15 +58,16 @@ def has_all(kept: str, answered: int | None) -> bool:
 class Witness:
     """What is told in this life."""
 
-    def __init__(self, lives: Sequence[str], answered: int) -> None:
+    def __init__(self, of: str, lives: Sequence[str], answered: int) -> None:
         self._bytes: mmap.mmap | None = None
         self._answered = answered
         if path := folder():
             try:
+                sweep(path)
                 with open(f"{path}/{lives[0]}.new", "w+b") as file:
-                    file.write(lives[-1].encode() + answered.to_bytes(SIZE_BYTES, "little"))
+                    file.write(lives[-1].encode() + answered.to_bytes(SIZE_BYTES, "little") + os.fsencode(of))
                     file.flush()
-                    self._bytes = mmap.mmap(file.fileno(), LIFE_BYTES + SIZE_BYTES)
+                    self._bytes = mmap.mmap(file.fileno(), BYTES)
                 os.rename(f"{path}/{lives[0]}.new", f"{path}/{lives[0]}")
             except (OSError, ValueError):
                 self._bytes = None      # then the next start has to be compared
@@ -60,4 +76,4 @@ class Witness:
         """So many bytes of `kept` are answered; a start reads on from the first of them, and that is no news."""
         if self._bytes and answered > self._answered:
             self._answered = answered
-            self._bytes[LIFE_BYTES:] = answered.to_bytes(SIZE_BYTES, "little")
+            self._bytes[LIFE_BYTES:BYTES] = answered.to_bytes(SIZE_BYTES, "little")

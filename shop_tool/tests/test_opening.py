@@ -93,19 +93,25 @@ class Memory(unittest.TestCase):
     def setUp(self) -> None:
         place = tempfile.TemporaryDirectory()
         self.addCleanup(place.cleanup)
-        self.kept = f"{place.name}/kept"
+        self.folder, self.kept = place.name, f"{place.name}/kept"
         patch = mock.patch.object(witness, "MEMORY", place.name)
         patch.start()
         self.addCleanup(patch.stop)
 
     def test_what_was_answered_in_the_last_life(self) -> None:
-        told = witness.Witness(["a" * 16, "b" * 16], 0)
+        told = witness.Witness(self.folder, ["a" * 16, "b" * 16], 0)
         told.tell(120)
         told.tell(90)       # a start that reads on takes nothing back
         self.assertEqual(witness.witnessed(["a" * 16, "b" * 16]), 120)
         self.assertIsNone(witness.witnessed(["a" * 16]))
         self.assertIsNone(witness.witnessed(["a" * 16, "b" * 16, "c" * 16]))
         self.assertIsNone(witness.witnessed([]))
+
+    def test_a_folder_that_is_gone_is_forgotten(self) -> None:
+        witness.Witness(f"{self.folder}/gone", ["a" * 16], 5)
+        witness.Witness(self.folder, ["b" * 16], 5)
+        self.assertIsNone(witness.witnessed(["a" * 16]))
+        self.assertEqual(witness.witnessed(["b" * 16]), 5)
 
     def test_a_file_that_has_all(self) -> None:
         self.assertFalse(witness.has_all(self.kept, 0))
