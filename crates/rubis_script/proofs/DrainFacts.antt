@@ -1,5 +1,5 @@
 -- What writing a text out in part comes to.
-use Rattle.std.proofs.Common.{◌≡◌, ◌∙◌, ◌+◌, ◌++◌, ◌∷◌, [], ℕ, List, Option, Some, None, true, ap, append-nil, append_assoc, inl, inr, refl, subst, sym}
+use Rattle.std.proofs.Common.{◌≡◌, ◌∙◌, ◌+◌, ◌++◌, ◌∷◌, [], ℕ, List, Option, Some, None, ap, append-nil, append_assoc, inl, inr, refl, subst, sym}
 use Rattle.std.specs.Io.KnownBytes.{Appends}
 use Rattle.rubis_schema.specs.declared.listings.Listing.{Listing}
 use Rattle.rubis_message.specs.Message.{Message}
@@ -9,17 +9,15 @@ use Rattle.rubis_model.specs.Runs.Input.{Asked}
 use Rattle.rubis_replica.specs.State.{SiteState}
 use Rattle.rubis_engine.specs.Accounts.{Account, AnswersRecord, Keeps}
 use Rattle.rubis_engine.specs.Accounts.Ending.{AtEnd}
-use Rattle.rubis_engine.specs.Progress.{HasComeSoFar, IsWrittenOrWaits, WrotePrefix}
-use Rattle.rubis_engine.specs.Reading.{Advances, fields_now}
+use Rattle.rubis_engine.specs.Progress.{IsWrittenOrWaits, WrotePrefix}
 use Rattle.rubis_engine.specs.Adding.{more_written}
-use Rattle.rubis_engine.specs.Text.{input_records, rows_text}
-use Rattle.rubis_engine.specs.declared.record_list.Records.{Records}
+use Rattle.rubis_engine.specs.Text.{rows_text}
 use Rattle.rubis_engine.specs.declared.service.Course.TheVariants.{GoesOn}
 use Rattle.rubis_reading.specs.Steps.{HasAhead}
 use Rattle.rubis_reading.specs.declared.parsed.Parsed.{Parsed}
 use Rattle.rubis_reading.specs.declared.parsed.Parsed.TheVariants as parsed
 use Rattle.rubis_script.specs.Drains.{AnswersAnyOut, WritesFront, WritesFrontFrom, WritesFrontFromAny, WritesOff, listed_behind}
-use Rattle.rubis_script.specs.Headline.{StandsFrom, StepsOn}
+use Rattle.rubis_script.specs.Headline.{StepsOn}
 use Rattle.rubis_script.specs.Inputs.{IsAnswered}
 use Rattle.rubis_script.specs.Runs.{Stands, stopped_at}
 use Rattle.rubis_script.specs.SiteRuns.{told_by}
@@ -101,60 +99,6 @@ listed_front old mid w n l fields sink sink2 now now2 keeps input front more =
     subst (λ t. WritesFront t now now2) (sym ((answers more).0 AtEnd))
     (front_longer (listed_behind sink2 mid n l) ((held_by mid [] (n + 1)).text AtEnd more) now now2 front)
 
--- ---- a run that reads each record when those before it are answered
-
-pub progress-part : {R : Type 0} (rem : R → Option (List ℕ)) (a : Records R) (all more : Account) (old now now2 : Option (List ℕ)) (sink left : List ℕ)
-    (n : ℕ) (input : List ℕ) → WritesOff sink left now now2 → HasComeSoFar rem a all more old now sink n input →
-    HasComeSoFar rem a all more old now2 left n input
-progress-part rem a all more old now now2 sink left n input off p = record {
-  done = p.done;
-  rest = p.rest;
-  written = p.written ++ off.out;
-  parts = p.parts;
-  count = p.count;
-  gives = p.gives;
-  appended = appends_more old now now2 p.written off.out p.appended off.appended;
-  told = λ e m.
-      p.told e m ∙ ap (λ t. p.written ++ (t ++ more.text e m)) off.parts ∙ ap (λ t. p.written ++ t) (append_assoc off.out left (more.text e m))
-      ∙ sym (append_assoc p.written off.out (left ++ more.text e m));
-  counted = p.counted;
-}
-
--- nothing was answered
-pub come_moved : {R : Type 0} (rem : R → Option (List ℕ)) (a : Records R) (all : Account) (s s2 : SiteState) (w w2 : List Message) (sink sink2 : List ℕ)
-    (answered answered2 : ℕ) (old now now2 : Option (List ℕ)) (input : List ℕ) → s2 ≡ s → w2 ≡ w → sink2 ≡ sink → answered2 ≡ answered → now2 ≡ now
-    → HasComeSoFar rem a all (held_by s w (answered + 1)) old now sink (answered + 1) input
-    → HasComeSoFar rem a all (held_by s2 w2 (answered2 + 1)) old now2 sink2 (answered2 + 1) input
-come_moved rem a all s s2 w w2 sink sink2 answered answered2 old now now2 input site held text count written h =
-    let h1 = subst (λ x. HasComeSoFar rem a all (held_by x w (answered + 1)) old now sink (answered + 1) input) (sym site) h in
-    let h2 = subst (λ x. HasComeSoFar rem a all (held_by s2 x (answered + 1)) old now sink (answered + 1) input) (sym held) h1 in
-    let h3 = subst (λ x. HasComeSoFar rem a all (held_by s2 w2 (answered + 1)) old now x (answered + 1) input) (sym text) h2 in
-    let h4 = subst (λ x. HasComeSoFar rem a all (held_by s2 w2 (x + 1)) old now sink2 (x + 1) input) (sym count) h3 in
-    subst (λ x. HasComeSoFar rem a all (held_by s2 w2 (answered2 + 1)) old x sink2 (answered2 + 1) input) (sym written) h4
-
-pub turn_part : {R : Type 0} (rem : R → Option (List ℕ)) (a : Records R) (s : SiteState) (w : List Message) (sink left : List ℕ) (answered : ℕ)
-    (first : SiteState) (old now now2 : Option (List ℕ)) (input : List ℕ) → WritesOff sink left now now2
-    → StandsFrom rem a s w sink answered first old now input → StandsFrom rem a s w left answered first old now2 input
-turn_part rem a s w sink left answered first old now now2 input off stands = record {
-  text = progress-part rem a (told_by first 1) (held_by s w (answered + 1)) old now now2 sink left (answered + 1) input off stands.text;
-  led = stands.led;
-}
-
--- memory ran out in the middle of an answer
-pub turn_front : {R : Type 0} (rem : R → Option (List ℕ)) (a b : Records R) (all : Account) (s : SiteState) (w : List Message) (sink : List ℕ) (n : ℕ)
-    (old now now2 : Option (List ℕ)) (input : List ℕ) → Advances rem a b true → WritesFrontFrom s w n (fields_now b) sink now now2
-    → HasComeSoFar rem a all (held_by s w n) old now sink n input → WrotePrefix (all.text AtEnd) old now2 (input_records input)
-turn_front rem a b all s w sink n old now now2 input takes front p =
-    let more = held_by s w n in
-    let (left, same, gives) = takes p.rest p.gives in
-    let (after, off) = front left in (
-      p.written ++ off.out,
-      after,
-      appends_more old now now2 p.written off.out p.appended off.appended,
-      append_assoc p.written off.out after ∙ ap (λ t. p.written ++ t) (sym off.parts)
-          ∙ sym (ap (all.text AtEnd) p.parts ∙ p.told AtEnd p.rest ∙ ap (λ rs. p.written ++ (sink ++ more.text AtEnd rs)) same),
-    )
-
 -- ---- the rows of a listing
 
 -- some first rows were added, and text was written out
@@ -191,7 +135,7 @@ ahead_part sites ps all more old now now2 sink left n records later off h = reco
   counted = h.counted;
 }
 
-stands_part : (s : SiteState) (ps : List Parsed) (w : List Message) (first : SiteState) (old now now2 : Option (List ℕ)) (sink left : List ℕ)
+pub stands_part : (s : SiteState) (ps : List Parsed) (w : List Message) (first : SiteState) (old now now2 : Option (List ℕ)) (sink left : List ℕ)
     (answered : ℕ) (records later : List (List (List ℕ))) → WritesOff sink left now now2
     → Stands s ps w sink answered first old now records later → Stands s ps w left answered first old now2 records later
 stands_part s ps w first old now now2 sink left answered records later off stands = record {

@@ -5,6 +5,6 @@ pub mod WindowFacts
 pub mod ReplayFacts
 pub mod HeadlineExamples
 pub mod LeadFacts
-pub mod TurnFacts
 pub mod DrainFacts
+pub mod AloneFacts
 pub mod Names

@@ -32,7 +32,7 @@ use Rattle.rubis_engine.specs.declared.fault.Count.{Count}
 use Rattle.rubis_engine.specs.declared.fault.RunFault.{RunFault}
 use Rattle.rubis_engine.specs.declared.fault.RunFault.TheVariants as fault
 use Rattle.rubis_script.specs.Runs.{AnswersAllAhead, AnswersFirstAhead, AnswersJustAhead, HasReadAhead, IsSound, Stands, StandsWith, WritesPrefixAhead}
-use Rattle.std.specs.Prelude.{IfOk, IfSome, OnOk, IsErrOf, Result, Ok, Err, Some, None}
+use Rattle.std.specs.Prelude.{IfOk, IfSome, IsErrOf, Result, Ok, Err, Some, None}
 use Rattle.rubis_script.specs.declared.backlog.Backlog.{Backlog}
 use Rattle.rubis_script.specs.declared.plan.Plan.{Plan}
 
@@ -54,15 +54,6 @@ sound-none s plan b ahead window = record {
   few = let none = ap length window in omega (arith, none);
   fits = fits-none s.place.sites b.ahead ahead;
   windows = subst (λ l. FitWindow plan.window l) (sym ahead) tt;
-}
-
--- it is of another site in the same place, with the same plan
-pub sound-same : (s s2 : SiteState) (plan plan2 : Plan) (b : Backlog) → s2.place ≡ s.place → plan2 ≡ plan → IsSound s plan b → IsSound s2 plan2 b
-sound-same s s2 plan plan2 b place same h = record {
-  held = subst (λ p. AreHeld p b.window.items b.answered) (sym place) h.held;
-  few = subst (λ p. FitPlan p b.window.items) (sym same) h.few;
-  fits = subst (λ p. All (λ x. FitsIn p.sites x) (flat b.ahead)) (sym place) h.fits;
-  windows = subst (λ p. FitWindow p.window b.ahead) (sym same) h.windows;
 }
 
 -- what was read ahead is taken apart
@@ -97,11 +88,6 @@ pub parsed-read : (sites s : ℕ) (text text2 : List ℕ) (items list : List Par
 parsed-read sites s text text2 items list same shown is h =
     subst (λ l. AreParsed sites (input_records text2) l) (sym is)
     (subst (λ t. AreParsed sites (input_records t) items) shown (subst (λ k. AreParsed k (input_records text) items) same h))
-
--- what holds of a call that went well
-pub at_ok : {T E P : Type 0} (r : Result T E) (v : T) → OnOk r P → r ≡ Ok v → P
-at_ok (Ok x) v h e = h
-at_ok (Err x) v h e = absurd cc
 
 pub at_if_ok : {T E : Type 0} (P : T → Type 0) (r : Result T E) (v : T) → IfOk r P → r ≡ Ok v → P v
 at_if_ok P (Ok x) v h e = subst (λ o. IfOk o P) e h

@@ -1,6 +1,5 @@
 -- What holding messages leaves to be written, and what taking them in writes.
 use Rattle.std.proofs.Common.{◌≡◌, ◌∙◌, ◌≤◌, ◌+◌, ◌-◌, ◌++◌, ◌∷◌, [], ℕ, List, ap, append_assoc, arith, length, length-append, refl, subst, sym}
-use Rattle.std.specs.Prelude.{Option}
 use Rattle.std.proofs.lemmas.List.{append-nil}
 use Rattle.std.proofs.lemmas.List.Elements.{All-push}
 use Rattle.rubis_message.specs.Message.{Message, sites_of}
@@ -14,9 +13,7 @@ use Rattle.rubis_replica.specs.State.{SiteState}
 use Rattle.rubis_engine.specs.Accounts.{Account, AnswersRecord, Keeps}
 use Rattle.rubis_engine.specs.declared.service.Course.TheVariants.{GoesOn}
 use Rattle.rubis_script.specs.Inputs.{IsAnswered}
-use Rattle.rubis_engine.specs.Progress.{HasComeSoFar}
 use Rattle.rubis_script.specs.SiteRuns.{told_by}
-use Rattle.rubis_engine.specs.declared.record_list.Records.{Records}
 use Rattle.rubis_engine.specs.Text.{rows_text}
 use Rattle.rubis_script.specs.Windows.{AreHeld, arrivals_rows, held_by, window_rows}
 use Rattle.rubis_script.proofs.LeadFacts.{after_more}
@@ -129,12 +126,6 @@ flush_goes old mid new w w2 n fields sink sink2 sink3 keeps place answered none 
       λ ending. (keeps (fields ∷ more)).0 ending ∙ site_goes mid new n fields sink2 sink3 place answered more,
       omega (arith, read),
     ))
-
--- nothing is held, and so the run has come as far as its site
-pub progress-told : {R : Type 0} (rem : R → Option (List ℕ)) (a : Records R) (all : Account) (s : SiteState) (window : List Message)
-    (old now : Option (List ℕ)) (sink : List ℕ) (n : ℕ) (input : List ℕ) → window ≡ []
-    → HasComeSoFar rem a all (told_by s n) old now sink n input → HasComeSoFar rem a all (held_by s window n) old now sink n input
-progress-told rem a all s window old now sink n input none p = rw none p
 
 pub told-kept : (old s : SiteState) (window window2 : List Message) (n : ℕ) (sink sink2 : List ℕ) → window2 ≡ []
     → Keeps (held_by old window n) (told_by s n) sink sink2 → Keeps (held_by old window n) (held_by s window2 n) sink sink2

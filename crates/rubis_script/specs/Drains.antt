@@ -27,13 +27,6 @@ WritesFront text before after = (left : List ℕ) × WritesOff text left before 
 abbrev pub listed_behind : List ℕ → SiteState → ℕ → Listing → List ℕ
 listed_behind sink s n l = sink ++ rows_text (input_step s.place s.state n (Asked (request.List l))).1
 
--- record n was answered or is held: what waits, and what is still to be made after it, is the text; the front of it was written out, and
--- `left` waits now
-abbrev pub AnswersOut : SiteState → List Message → SiteState → List Message → ℕ → List (List ℕ) → List ℕ → List ℕ
-    → Option (List ℕ) → Option (List ℕ) → Type 0
-AnswersOut old held new left_held n fields sink left before after =
-    (text : List ℕ) × AnswersRecord GoesOn (held_by old held n) (held_by new left_held (n + 1)) sink text fields × WritesOff text left before after
-
 -- whatever follows record n, the front of the text that was still to be written was written out
 abbrev pub WritesFrontFrom : SiteState → List Message → ℕ → List (List ℕ) → List ℕ → Option (List ℕ) → Option (List ℕ) → Type 0
 WritesFrontFrom s held n fields sink before after = (more : List (List (List ℕ)))

@@ -1,5 +1,5 @@
 -- What a run of one site says of it: what the site answers to the records that it reads, and the state in which they leave it.
-use Rattle.std.specs.Prelude.{◌≡◌, ◌≤◌, ◌<◌, ◌+◌, ℕ, ⊤, IfSome, List, MatchOption, Option, None, Result, Ok, Err, length, take}
+use Rattle.std.specs.Prelude.{◌≡◌, ◌≤◌, ◌<◌, ℕ, ⊤, IfSome, List, Option, None, Result, Ok, Err, length, take}
 use Rattle.std.specs.Io.KnownBytes.{Appends}
 use Rattle.rubis_message.specs.Message.{Message}
 use Rattle.rubis_model.specs.Processes.{IsLogOfProcess, Reading, answers_of, read_by, site_after, state_of}
@@ -7,15 +7,10 @@ use Rattle.rubis_model.specs.Runs.{Input, answers, input_step}
 use Rattle.rubis_model.specs.Site.{Place, Replica}
 use Rattle.rubis_replica.specs.Arrivals.{after_all}
 use Rattle.rubis_replica.specs.State.{SiteState}
-use Rattle.rubis_engine.specs.Progress.{HasComeSoFar}
 use Rattle.rubis_engine.specs.Text.{input_records, rows_text}
 use Rattle.rubis_engine.specs.declared.fault.Count.{Count}
 use Rattle.rubis_engine.specs.declared.fault.RunFault.{RunFault}
 use Rattle.rubis_engine.specs.declared.fault.RunFault.TheVariants.{Memory, Read, TooLong, Write}
-use Rattle.rubis_engine.specs.declared.record_list.Records.{Records}
-use Rattle.rubis_engine.specs.declared.run.Run.{Run}
-use Rattle.rubis_script.specs.SiteRuns.{told_by}
-use Rattle.rubis_script.specs.Windows.{held_by}
 
 -- of the records that a run answers this holds, by how it ends: of all records at the end of the input, of the first `limit` where
 -- there are more, of some first ones where the reader failed. Where memory ran out or the writer failed, nothing is said
@@ -78,46 +73,3 @@ AnswersFirst limit first new old now records = HasAnswered first new old now (ta
 -- just the first n are, and no more
 abbrev pub AnswersJust : ℕ → SiteState → SiteState → Option (List ℕ) → Option (List ℕ) → List (List (List ℕ)) → Type 0
 AnswersJust n first new old now records = HasAnswered first new old now (take n records) × (n ≤ length records)
-
--- ---- a run that reads each record when those before it are answered
-
--- it has come so far, from the state in which it began
-pub record StandsFrom {R : Type 0} (rem : R → Option (List ℕ)) (records : Records R) (s : SiteState) (held : List Message) (sink : List ℕ) (answered : ℕ)
-    (first : SiteState) (old now : Option (List ℕ)) (input : List ℕ) : Type 0 where
-  pub text : HasComeSoFar rem records (told_by first 1) (held_by s held (answered + 1)) old now sink (answered + 1) input
-  pub led : HasLed first s held answered (input_records input)
-
-abbrev pub StandsAtSite : {R : Type 0} → (R → Option (List ℕ)) → Run R → SiteState → List Message → SiteState
-    → Option (List ℕ) → Option (List ℕ) → List ℕ → Type 0
-StandsAtSite rem run s held first old now input = StandsFrom rem run.records s held run.reply.sink run.answered first old now input
-
--- of every run that stands there this holds, `first` being the state in which it began
-abbrev pub OfEachSiteRun : {R : Type 0} → (R → Option (List ℕ)) → Run R → SiteState → List Message → Option (List ℕ)
-    → (SiteState → Option (List ℕ) → List ℕ → Type 0) → Type 0
-OfEachSiteRun rem run s held now holds = (first : SiteState) (old : Option (List ℕ)) (input : List ℕ)
-    → StandsAtSite rem run s held first old now input → holds first old input
-
--- every run that stands there has answered what was answered or held then, and that is all of its input
-abbrev pub AnsweredAll : {R : Type 0} → (R → Option (List ℕ)) → Run R → SiteState → List Message → Option (List ℕ)
-    → SiteState → Option (List ℕ) → Count → Type 0
-AnsweredAll rem run s held before new after count = OfEachSiteRun rem run s held before (λ first old input.
-    AnswersAll run.answered first new old after (input_records input) count.records)
-
--- the same, where its input has more
-abbrev pub AnsweredFirst : {R : Type 0} → (R → Option (List ℕ)) → Run R → SiteState → List Message → Option (List ℕ)
-    → SiteState → Option (List ℕ) → Type 0
-AnsweredFirst rem run s held before new after = OfEachSiteRun rem run s held before (λ first old input.
-    AnswersFirst run.answered first new old after (input_records input))
-
--- the same, where its input may have more
-abbrev pub AnsweredJust : {R : Type 0} → (R → Option (List ℕ)) → Run R → SiteState → List Message → Option (List ℕ)
-    → SiteState → Option (List ℕ) → Type 0
-AnsweredJust rem run s held before new after = OfEachSiteRun rem run s held before (λ first old input.
-    AnswersJust run.answered first new old after (input_records input))
-
--- after one record more it stands there, or all are answered
-abbrev pub HasMovedSite : {R : Type 0} → (R → Option (List ℕ)) → Run R → Run R → SiteState → List Message → SiteState → List Message
-    → Option (List ℕ) → Option (List ℕ) → Option Count → Type 0
-HasMovedSite rem run after s held s2 held2 before now over = OfEachSiteRun rem run s held before (λ first old input.
-    MatchOption over (StandsAtSite rem after s2 held2 first old now input)
-    (λ count. AnswersAll (run.answered + 1) first s2 old now (input_records input) count.records))

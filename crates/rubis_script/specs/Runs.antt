@@ -1,5 +1,5 @@
 -- A run that reads ahead, at the desk of a site.
-use Rattle.std.specs.Prelude.{◌+◌, ◌++◌, ◌∷◌, [], ℕ, All, List, MatchOption, None, Option, Some}
+use Rattle.std.specs.Prelude.{◌≡◌, ◌≤◌, ◌+◌, ◌++◌, ◌∷◌, [], ℕ, All, List, MatchOption, None, Option, Some}
 use Rattle.rubis_schema.specs.declared.listings.Listing.{Listing}
 use Rattle.rubis_message.specs.Message.{Message}
 use Rattle.rubis_message.specs.declared.requests.Request.TheVariants as request
@@ -8,8 +8,10 @@ use Rattle.rubis_script.specs.SiteRuns.{told_by}
 use Rattle.rubis_script.specs.Windows.{AreHeld, FitPlan, held_by}
 use Rattle.rubis_engine.specs.Accounts.Ending.{AtEnd}
 use Rattle.rubis_engine.specs.Progress.{WrotePrefix}
+use Rattle.rubis_engine.specs.Reading.{Gives}
 use Rattle.rubis_engine.specs.Text.{input_records}
 use Rattle.rubis_engine.specs.declared.fault.Count.{Count}
+use Rattle.rubis_engine.specs.declared.record_list.Records.{Records}
 use Rattle.rubis_reading.specs.Chunked.{HasPending}
 use Rattle.rubis_reading.specs.Parsed.{FitsIn}
 use Rattle.rubis_reading.specs.Runs.{FitWindow, flat}
@@ -128,3 +130,40 @@ abbrev pub LeavesPrefix : Option Listing → SiteState → Backlog → Option (L
 LeavesPrefix l s b before after = (first : SiteState) (old : Option (List ℕ)) (records later : List (List (List ℕ)))
     → Stands s (left_ahead l b) b.window.items b.reply.sink b.answered first old before records later
     → WrotePrefix ((told_by first 1).text AtEnd) old after records
+
+-- ---- a piece of text whose records are answered one by one, where they are read
+
+-- the run stands there, and has the records that a reader of the piece has to give to come before `rest`
+pub record HasYet {R : Type 0} (rem : R → Option (List ℕ)) (piece : Records R) (s : SiteState) (b : Backlog) (first : SiteState)
+    (old now : Option (List ℕ)) (records rest : List (List (List ℕ))) : Type 0 where
+  pub rows : List (List (List ℕ))
+  pub gives : Gives rem piece rows
+  pub stands : StandsWith s b first old now records (rows ++ rest)
+
+-- of every run that stands there this holds
+abbrev pub OfEachYet : {R : Type 0} → (R → Option (List ℕ)) → Records R → SiteState → Backlog → Option (List ℕ)
+    → (SiteState → Option (List ℕ) → List (List (List ℕ)) → List (List (List ℕ)) → Type 0) → Type 0
+OfEachYet rem piece s b now holds = (first : SiteState) (old : Option (List ℕ)) (records rest : List (List (List ℕ)))
+    → HasYet rem piece s b first old now records rest → holds first old records rest
+
+-- of every run that stands there, and has the records of this text to come before `rest`, this holds
+abbrev pub OfEachPiece : List ℕ → SiteState → Backlog → Option (List ℕ)
+    → (SiteState → Option (List ℕ) → List (List (List ℕ)) → List (List (List ℕ)) → Type 0) → Type 0
+OfEachPiece text s b now holds = (first : SiteState) (old : Option (List ℕ)) (records rest : List (List (List ℕ)))
+    → StandsWith s b first old now records (input_records text ++ rest) → holds first old records rest
+
+-- from before this record on it has come to stand here, and `after` to be written in place of `before`
+abbrev pub TakesOn : List (List ℕ) → SiteState → Backlog → SiteState → Backlog → Option (List ℕ) → Option (List ℕ) → Type 0
+TakesOn fields s b s2 b2 before after = (first : SiteState) (old : Option (List ℕ)) (records later : List (List (List ℕ)))
+    → StandsWith s b first old before records (fields ∷ later) → StandsWith s2 b2 first old after records later
+
+-- from before this record on, a prefix of the text was written
+abbrev pub TakesFront : List (List ℕ) → SiteState → Backlog → Option (List ℕ) → Option (List ℕ) → Type 0
+TakesFront fields s b before after = (first : SiteState) (old : Option (List ℕ)) (records later : List (List (List ℕ)))
+    → StandsWith s b first old before records (fields ∷ later) → WrotePrefix ((told_by first 1).text AtEnd) old after records
+
+-- nothing was read ahead, and at most `limit` records are answered or held
+pub record IsAlone (s : SiteState) (plan : Plan) (b : Backlog) (limit : ℕ) : Type 0 where
+  pub sound : IsSound s plan b
+  pub none : b.ahead ≡ []
+  pub within : b.answered ≤ limit

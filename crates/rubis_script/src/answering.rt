@@ -5,7 +5,7 @@ ghost use Rattle.rubis_message.specs.declared.requests.Request.TheVariants as Re
 ghost use Rattle.rubis_model.specs.Runs.Input.{Asked as asked_for};
 ghost use Rattle.rubis_script.specs.Drains.{AnswersAnyOut, WritesFrontFromAny};
 ghost use Rattle.rubis_script.specs.Headline.{StepsOn};
-ghost use Rattle.rubis_script.specs.Runs.{GoesOn, GoesOnFrom, GoesOnOut, IsSound, LeavesPrefix, StopsAt, left_ahead, stopped_at};
+ghost use Rattle.rubis_script.specs.Runs.{GoesOn, GoesOnFrom, GoesOnOut, GoesOnWriting, IsSound, LeavesPrefix, StopsAt, left_ahead, stopped_at};
 ghost use Rattle.rubis_script.specs.Windows.{AreHeld, FitPlan};
 ghost use Rattle.rubis_reading.specs.Parsed.{FitsIn};
 ghost use Rattle.rubis_reading.specs.Runs.{FitsWindow, all_came, flat, of_stretch};
@@ -30,7 +30,7 @@ pub fn answer_some<G: Gate, T: Threads + Wait + Sync>(
     most: u64,
 ) -> Result<(), OutOfMemory>
     requires sound { IsSound desk.old.site desk.old.plan backlog.old }
-    requires room { backlog.old.answered + most + 1 < 2 ^ 64 }
+    requires room { backlog.old.answered + most < 2 ^ 64 }
     ensures place { OnOk result (desk.new.site.place ≡ desk.old.site.place) }
     ensures plan { OnOk result (desk.new.plan ≡ desk.old.plan) }
     ensures sound { OnOk result (IsSound desk.new.site desk.new.plan backlog.new) }
@@ -69,7 +69,7 @@ fn answer_run<G: Gate, T: Threads + Wait + Sync>(
     requires held { AreHeld desk.old.site.place backlog.old.window.items backlog.old.answered }
     requires fits { All (λ p. FitsIn desk.old.site.place.sites p) (of_stretch run) }
     requires window { FitsWindow desk.old.plan.window run }
-    requires room { backlog.old.answered + length (of_stretch run) + 1 < 2 ^ 64 }
+    requires room { backlog.old.answered + length (of_stretch run) < 2 ^ 64 }
     ensures place { OnOk result (desk.new.site.place ≡ desk.old.site.place) }
     ensures plan { OnOk result (desk.new.plan ≡ desk.old.plan) }
     ensures held { OnOk result (AreHeld desk.new.site.place backlog.new.window.items backlog.new.answered) }
@@ -125,7 +125,7 @@ pub fn answer_ready<G: Gate, T: Threads + Wait + Sync>(
     backlog: &mut Backlog,
 ) -> Result<Option<Listing>, OutOfMemory>
     requires sound { IsSound desk.old.site desk.old.plan backlog.old }
-    requires room { backlog.old.answered + length (flat backlog.old.ahead) + 1 < 2 ^ 64 }
+    requires room { backlog.old.answered + length (flat backlog.old.ahead) < 2 ^ 64 }
     ensures place { OnOk result (desk.new.site.place ≡ desk.old.site.place) }
     ensures plan { OnOk result (desk.new.plan ≡ desk.old.plan) }
     ensures sound { OnOk result (IsSound desk.new.site desk.new.plan backlog.new) }
@@ -146,9 +146,9 @@ pub fn answer_ready<G: Gate, T: Threads + Wait + Sync>(
     Err(OutOfMemory)
 }
 
-// Takes in the messages that are held, and answers the request for that listing, which was read ahead and taken off the front. Its
-// rows are written out while they are made.
-fn list_one<G: Gate, T: Threads + Wait + Sync, W: Write>(
+/// Takes in the messages that are held, and answers the request for that listing, which was read and is not among those read ahead.
+/// Its rows are written out while they are made.
+pub fn list_one<G: Gate, T: Threads + Wait + Sync, W: Write>(
     rt: &T,
     desk: &mut Desk<G>,
     backlog: &mut Backlog,
@@ -198,7 +198,7 @@ pub fn finish<G: Gate, T: Threads + Wait + Sync, W: Write>(
 ) -> Result<(), RunFault>
     requires sound { IsSound desk.old.site desk.old.plan backlog.old }
     requires none { IfNone stopped (backlog.old.ahead ≡ []) }
-    requires room { backlog.old.answered + length (left_ahead stopped backlog.old) + 1 < 2 ^ 64 }
+    requires room { backlog.old.answered + length (left_ahead stopped backlog.old) < 2 ^ 64 }
     ensures place { OnOk result (desk.new.site.place ≡ desk.old.site.place) }
     ensures plan { OnOk result (desk.new.plan ≡ desk.old.plan) }
     ensures sound { OnOk result (IsSound desk.new.site desk.new.plan backlog.new) }
@@ -217,4 +217,32 @@ pub fn finish<G: Gate, T: Threads + Wait + Sync, W: Write>(
         next = answer_ready(rt, desk, backlog)?;
     }
     Err(RunFault::Memory)
+}
+
+/// Takes in the messages that are held, and writes the answers out.
+pub fn settle<G: Gate, T: Threads + Wait + Sync, W: Write>(
+    rt: &T,
+    desk: &mut Desk<G>,
+    backlog: &mut Backlog,
+    writer: &mut W,
+) -> Result<(), RunFault>
+    requires { IsSound desk.old.site desk.old.plan backlog.old }
+    ensures place { OnOk result (desk.new.site.place ≡ desk.old.site.place) }
+    ensures plan { OnOk result (desk.new.plan ≡ desk.old.plan) }
+    ensures sound { OnOk result (IsSound desk.new.site desk.new.plan backlog.new) }
+    ensures ahead { backlog.new.ahead ≡ backlog.old.ahead }
+    ensures window { OnOk result (backlog.new.window.items ≡ []) }
+    ensures empty { OnOk result (backlog.new.reply.sink ≡ []) }
+    ensures count { backlog.new.answered ≡ backlog.old.answered }
+    ensures goes { OnOk result (GoesOnWriting desk.old.site backlog.old desk.new.site backlog.new (W.contents writer.old) (W.contents writer.new)) }
+    ensures memory { IsErrOf result RunFault.Memory → W.contents writer.new ≡ W.contents writer.old }
+    ensures faults { IfErr result (λ e. (e ≡ RunFault.Write) ⊎ (e ≡ RunFault.Memory)) }
+{
+    desk.flush(
+        rt,
+        backlog.answered,
+        &mut backlog.window,
+        &mut backlog.reply,
+    )?;
+    backlog.reply.sink.close(writer)
 }

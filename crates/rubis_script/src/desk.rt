@@ -1,9 +1,7 @@
 //! A site as a service: a record in, its answers out.
 
-ghost use Rattle.std.proofs.Common.{rules};
-ghost use Rattle.std.specs.Prelude.{◌≡◌, ◌≤◌, ◌<◌, ◌+◌, ◌++◌, ◌∷◌, ◌^◌, ◌⊎◌, [], IfErr, IfOk, IfSome, IsErrOf, IsTrue, List, None, OnOk, ℕ, length, refl};
+ghost use Rattle.std.specs.Prelude.{◌≡◌, ◌≤◌, ◌<◌, ◌+◌, ◌++◌, ◌∷◌, ◌^◌, ◌⊎◌, [], IfErr, IfOk, IfSome, IsErrOf, List, OnOk, ℕ, length};
 ghost use Rattle.rubis_schema.specs.declared.limits.TheConstants.{COUNTED_MAX};
-ghost use Rattle.rubis_shadow.specs.Shadows.{IsAsk};
 ghost use Rattle.rubis_message.specs.Grammar.{IsPacket, IsRequest};
 ghost use Rattle.rubis_message.specs.Message.{sites_of};
 ghost use Rattle.rubis_message.specs.declared.requests.Request.TheVariants as Request;
@@ -11,7 +9,6 @@ ghost use Rattle.rubis_message.specs.declared.tokens.Packet.TheVariants as Packe
 ghost use Rattle.rubis_model.specs.Answers.{refused_row};
 ghost use Rattle.rubis_model.specs.Runs.{input_of};
 ghost use Rattle.rubis_model.specs.Runs.Input.{Asked, Came};
-ghost use Rattle.rubis_message.specs.Readings.{packet_of};
 ghost use Rattle.rubis_model.specs.Site.{opening_at};
 ghost use Rattle.rubis_replica.specs.Arrivals.{after_all};
 ghost use Rattle.rubis_replica.specs.Setup.{setup_place};
@@ -32,7 +29,7 @@ use crate::replies::{
 };
 use crate::rows_out::write_rows;
 use crate::windows::{window_of, write_arrivals};
-use rubis_engine::{InputRecord, OutOfMemory, Reply, RunFault, Service, Sink};
+use rubis_engine::{InputRecord, OutOfMemory, Reply, RunFault};
 use rubis_message::{Message, Packet, ReadFault, Request, Token, read_packet, read_request};
 use rubis_reading::Parsed;
 use rubis_replica::{Config, Fault, Free, Gate, Site};
@@ -482,25 +479,5 @@ impl<G: Gate> Desk<G> {
             count,
         )?;
         write_rows(rt, &mut rows, &mut reply.sink, writer)
-    }
-}
-
-impl<G: Gate, T> Service<T> for Desk<G> {
-    ghost account = { λ s n. told_by s.site n };
-
-    ghost stays = { λ old new. (new.site ≡ old.site) × (new.plan ≡ old.plan) };
-
-    ghost reads_none = { λ s n. refl };
-
-    ghost stays_same = { λ s. (refl, refl) };
-
-    ghost reads_next = { Prim.search rules };
-
-    fn answer_held(&mut self, _rt: &T, _sink: &mut Sink) -> Result<(), OutOfMemory> {
-        Ok(())
-    }
-
-    fn answer_end(&mut self, _rt: &T, _sink: &mut Sink) -> Result<(), OutOfMemory> {
-        Ok(())
     }
 }

@@ -2,6 +2,7 @@
 //! that reads the next chunk of text meanwhile.
 #![tactic(auto)]
 
+mod alone;
 mod answering;
 mod backlog;
 mod desk;
@@ -12,7 +13,6 @@ mod replies;
 mod rows_out;
 mod run;
 mod site_run;
-mod turns;
 mod windows;
 
 pub use desk::Desk;

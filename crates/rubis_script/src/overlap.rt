@@ -38,7 +38,7 @@ pub fn read_next<G: Gate, T: Threads + Wait + Sync>(
     backlog: &mut Backlog,
 ) -> Result<Overlapped, OutOfMemory>
     requires sound { IsSound desk.old.site desk.old.plan backlog.old }
-    requires room { backlog.old.answered + length (flat backlog.old.ahead) + 1 < 2 ^ 64 }
+    requires room { backlog.old.answered + length (flat backlog.old.ahead) < 2 ^ 64 }
     ensures place { OnOk result (desk.new.site.place ≡ desk.old.site.place) }
     ensures plan { OnOk result (desk.new.plan ≡ desk.old.plan) }
     ensures sound { OnOk result (IsSound desk.new.site desk.new.plan backlog.new) }
@@ -65,7 +65,7 @@ pub fn read_next<G: Gate, T: Threads + Wait + Sync>(
         { read_parts(rt, alloc, piece, sites, readers, window) },
         &mut || -> Result<Option<Listing>, OutOfMemory>
             requires { IsSync T.row × IsSound desk.now.site desk.now.plan backlog.now
-                × (backlog.now.answered + length (flat backlog.now.ahead) + 1 < 2 ^ 64) }
+                × (backlog.now.answered + length (flat backlog.now.ahead) < 2 ^ 64) }
             ensures { IfOk result (λ stopped. (desk.exit.now.site.place ≡ desk.entry.now.site.place)
                 × IsSound desk.exit.now.site desk.exit.now.plan backlog.exit.now
                 × IfNone stopped (backlog.exit.now.ahead ≡ [])

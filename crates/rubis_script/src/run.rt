@@ -1,11 +1,11 @@
-//! A run of a site that reads ahead.
+//! A run of a site over the chunks of a text.
 
-ghost use Rattle.std.specs.Prelude.{◌≡◌, ◌≤◌, ◌<◌, ◌+◌, ◌^◌, ◌⊎◌, [], List, ℕ, Option, IfErr, IfNone, IfOk, IfSome, IsErrOf};
+ghost use Rattle.std.specs.Prelude.{◌≡◌, ◌≤◌, ◌<◌, ◌+◌, ◌^◌, ◌⊎◌, [], List, ℕ, Option, IfErr, IfNone, IfOk, IsErrOf};
 ghost use Rattle.std.specs.Prelude.{None, OnOk, length, take};
 ghost use Rattle.rubis_model.specs.Site.{opening_at};
 ghost use Rattle.rubis_replica.specs.State.{SiteState};
 ghost use Rattle.rubis_script.specs.Headline.{AnswersFirst, HasAnswered, OfRead, StandsAsProcess, WritesAsProcess};
-ghost use Rattle.rubis_script.specs.Runs.{AnswersAllAhead, AnswersFirstAhead, AnswersJustAhead, GoesOnWriting, IsSound, LeavesPrefix, ReadsOn, ReadsOnOrEnds};
+ghost use Rattle.rubis_script.specs.Runs.{AnswersAllAhead, AnswersFirstAhead, AnswersJustAhead, GoesOnWriting, IsAlone, IsSound, LeavesPrefix, ReadsOn, ReadsOnOrEnds};
 ghost use Rattle.rubis_script.specs.Runs.{StandsWith, WritesPrefixAhead};
 ghost use Rattle.rubis_script.specs.SiteRuns.{told_by};
 ghost use Rattle.rubis_engine.specs.Progress.{IsRun};
@@ -14,11 +14,11 @@ ghost use Rattle.rubis_reading.specs.Chunked.{HasPending, held_text};
 ghost use Rattle.rubis_reading.specs.Runs.{AreSingle, flat};
 ghost use Rattle.rubis_reading.specs.Streams.{IsWhole, NoWholeAfter};
 
-use crate::answering::{answer_ready, answer_some, finish};
+use crate::alone::answer_piece;
+use crate::answering::{answer_ready, answer_some, finish, settle};
 use crate::backlog::Backlog;
 use crate::desk::Desk;
 use crate::overlap::read_next;
-use crate::turns::run_in_turn;
 use rubis_engine::{Count, OutOfMemory, RunFault};
 use rubis_reading::{Ahead, ChunkFault, Chunks, read_parts};
 use rubis_replica::Gate;
@@ -30,6 +30,9 @@ use std::thread::Threads;
 
 // How many bytes there is room for when the reader is asked for more.
 const BLOCK: usize = 4_194_304;
+
+// The same where one thread reads and answers: few enough that they are still in its cache.
+const BLOCK_ALONE: usize = 262_144;
 
 // How long a chunk is at least and at most, where so much is at hand.
 const CHUNK_MIN: usize = 65_536;
@@ -46,34 +49,6 @@ fn chunk_of(held: usize, ahead: usize) -> usize {
         .min(CHUNK_MAX)
 }
 
-// Takes in the messages that are held, and writes the answers out.
-fn settle<G: Gate, T: Threads + Wait + Sync, W: Write>(
-    rt: &T,
-    desk: &mut Desk<G>,
-    backlog: &mut Backlog,
-    writer: &mut W,
-) -> Result<(), RunFault>
-    requires { IsSound desk.old.site desk.old.plan backlog.old }
-    ensures place { OnOk result (desk.new.site.place ≡ desk.old.site.place) }
-    ensures plan { OnOk result (desk.new.plan ≡ desk.old.plan) }
-    ensures sound { OnOk result (IsSound desk.new.site desk.new.plan backlog.new) }
-    ensures ahead { backlog.new.ahead ≡ backlog.old.ahead }
-    ensures window { OnOk result (backlog.new.window.items ≡ []) }
-    ensures empty { OnOk result (backlog.new.reply.sink ≡ []) }
-    ensures count { backlog.new.answered ≡ backlog.old.answered }
-    ensures goes { OnOk result (GoesOnWriting desk.old.site backlog.old desk.new.site backlog.new (W.contents writer.old) (W.contents writer.new)) }
-    ensures memory { IsErrOf result RunFault.Memory → W.contents writer.new ≡ W.contents writer.old }
-    ensures faults { IfErr result (λ e. (e ≡ RunFault.Write) ⊎ (e ≡ RunFault.Memory)) }
-{
-    desk.flush(
-        rt,
-        backlog.answered,
-        &mut backlog.window,
-        &mut backlog.reply,
-    )?;
-    backlog.reply.sink.close(writer)
-}
-
 // Answers all that was read ahead, and writes the answers out.
 fn catch_up<G: Gate, T: Threads + Wait + Sync, W: Write>(
     rt: &T,
@@ -82,7 +57,7 @@ fn catch_up<G: Gate, T: Threads + Wait + Sync, W: Write>(
     writer: &mut W,
 ) -> Result<(), RunFault>
     requires sound { IsSound desk.old.site desk.old.plan backlog.old }
-    requires room { backlog.old.answered + length (flat backlog.old.ahead) + 1 < 2 ^ 64 }
+    requires room { backlog.old.answered + length (flat backlog.old.ahead) < 2 ^ 64 }
     ensures place { OnOk result (desk.new.site.place ≡ desk.old.site.place) }
     ensures plan { OnOk result (desk.new.plan ≡ desk.old.plan) }
     ensures sound { OnOk result (IsSound desk.new.site desk.new.plan backlog.new) }
@@ -123,7 +98,7 @@ fn stop<G: Gate, T: Threads + Wait + Sync, W: Write>(
 ) -> Result<(), RunFault>
     requires sound { IsSound desk.old.site desk.old.plan backlog.old }
     requires more { left < length (flat backlog.old.ahead) }
-    requires room { backlog.old.answered + left + 1 < 2 ^ 64 }
+    requires room { backlog.old.answered + left < 2 ^ 64 }
     ensures too_long { OnOk result ((first : SiteState) (old : Option (List ℕ)) (records later : List (List (List ℕ)))
         → StandsWith desk.old.site backlog.old first old (W.contents writer.old) records later
         → AnswersFirst (backlog.old.answered + left) first desk.new.site old (W.contents writer.new) records) }
@@ -148,7 +123,7 @@ fn go_on<G: Gate, T: Threads + Wait + Sync, R: Read, W: Write>(
     requires text { many ≤ length (held_text chunks.old) }
     requires whole { IsWhole (take many (held_text chunks.old)) }
     requires sound { IsSound desk.old.site desk.old.plan backlog.old }
-    requires room { backlog.old.answered + length (flat backlog.old.ahead) + 1 < 2 ^ 64 }
+    requires room { backlog.old.answered + length (flat backlog.old.ahead) < 2 ^ 64 }
     ensures plan { OnOk result (desk.new.plan ≡ desk.old.plan) }
     ensures sound { OnOk result (IsSound desk.new.site desk.new.plan backlog.new) }
     ensures count { OnOk result (backlog.new.answered ≡ backlog.old.answered + length (flat backlog.old.ahead)) }
@@ -166,6 +141,35 @@ fn go_on<G: Gate, T: Threads + Wait + Sync, R: Read, W: Write>(
     Ok(())
 }
 
+// Reads and answers a chunk, record by record.
+fn answer_chunk<G: Gate, T: Threads + Wait + Sync, R: Read, W: Write>(
+    rt: &T,
+    chunks: &mut Chunks<R>,
+    desk: &mut Desk<G>,
+    backlog: &mut Backlog,
+    writer: &mut W,
+    many: usize,
+    limit: u64,
+) -> Result<(), RunFault>
+    requires some { 0 < many }
+    requires text { many ≤ length (held_text chunks.old) }
+    requires whole { IsWhole (take many (held_text chunks.old)) }
+    requires alone { IsAlone desk.old.site desk.old.plan backlog.old limit }
+    ensures alone { OnOk result (IsAlone desk.new.site desk.new.plan backlog.new limit × (desk.new.plan ≡ desk.old.plan)) }
+    ensures goes { OnOk result (ReadsOn R.remaining chunks.old desk.old.site backlog.old (W.contents writer.old) chunks.new
+        desk.new.site backlog.new (W.contents writer.new)) }
+    ensures too_long { IsErrOf result RunFault.TooLong → AnswersFirstAhead limit R.remaining chunks.old desk.old.site backlog.old
+        (W.contents writer.old) desk.new.site (W.contents writer.new) }
+    ensures memory { IsErrOf result RunFault.Memory → WritesPrefixAhead R.remaining chunks.old desk.old.site backlog.old
+        (W.contents writer.old) (W.contents writer.new) }
+    ensures faults { IfErr result (λ e. (e ≡ RunFault.Write) ⊎ (e ≡ RunFault.Memory) ⊎ (e ≡ RunFault.TooLong)) }
+{
+    let (text, _) = chunks.held().split_at(many);
+    answer_piece(rt, text, desk, backlog, writer, limit)?;
+    chunks.pass(many);
+    Ok(())
+}
+
 // Reads what is held as the last of the text, answers it, and ends the run.
 fn end<G: Gate, T: Threads + Wait + Sync, R: Read, W: Write>(
     rt: &T,
@@ -178,7 +182,6 @@ fn end<G: Gate, T: Threads + Wait + Sync, R: Read, W: Write>(
     requires none { backlog.old.ahead ≡ [] }
     requires sound { IsSound desk.old.site desk.old.plan backlog.old }
     requires within { backlog.old.answered ≤ limit }
-    requires limit { limit + 1 < 2 ^ 64 }
     requires last { (rows : List (List (List ℕ))) → HasPending R.remaining chunks.now rows → rows ≡ input_records (held_text chunks.now) }
     ensures done { IfOk result (λ count. AnswersAllAhead limit R.remaining chunks.now desk.old.site backlog.old (W.contents writer.old)
         desk.new.site (W.contents writer.new) count) }
@@ -210,8 +213,9 @@ fn end<G: Gate, T: Threads + Wait + Sync, R: Read, W: Write>(
     })
 }
 
-// Goes on by a chunk, if one is at hand. Otherwise answers and writes out all that came, and only then asks the reader for more.
-// `None` if the run goes on, otherwise how many records were read.
+// Goes on by a chunk, if one is at hand: reads it while what was read before is answered, or answers it at once, where no other threads
+// read. Otherwise answers and writes out all that came, and only then asks the reader for more. `None` if the run goes on, otherwise
+// how many records were read.
 fn turn<G: Gate, T: Threads + Wait + Sync, R: Read, W: Write>(
     rt: &T,
     chunks: &mut Chunks<R>,
@@ -222,7 +226,6 @@ fn turn<G: Gate, T: Threads + Wait + Sync, R: Read, W: Write>(
 ) -> Result<Option<Count>, RunFault>
     requires sound { IsSound desk.old.site desk.old.plan backlog.old }
     requires within { backlog.old.answered ≤ limit }
-    requires limit { limit + 1 < 2 ^ 64 }
     ensures plan { IfOk result (λ over. IfNone over (desk.new.plan ≡ desk.old.plan)) }
     ensures sound { IfOk result (λ over. IfNone over (IsSound desk.new.site desk.new.plan backlog.new)) }
     ensures within { IfOk result (λ over. IfNone over (backlog.new.answered ≤ limit)) }
@@ -242,14 +245,24 @@ fn turn<G: Gate, T: Threads + Wait + Sync, R: Read, W: Write>(
         stop(rt, desk, backlog, writer, left)?;
         return Err(RunFault::TooLong);
     }
-    let most = chunk_of(chunks.held().len(), backlog.ahead.len());
+    let alone = desk.plan.readers == 0;
+    let held = chunks.held().len();
+    let most = if alone {
+        held
+    } else {
+        chunk_of(held, backlog.ahead.len())
+    };
     let many = chunks.whole(most);
-    if many > 1 {
+    if many > 1 && !alone {
         go_on(rt, chunks, desk, backlog, writer, many)?;
         backlog.reply.sink.drain_full(writer)?;
         return Ok(None);
     }
     catch_up(rt, desk, backlog, writer)?;
+    if many > 1 {
+        answer_chunk(rt, chunks, desk, backlog, writer, many, limit)?;
+        return Ok(None);
+    }
     match chunks.fill() {
         Ok(true) => Ok(None),
         Ok(false) => {
@@ -272,7 +285,6 @@ fn serve<G: Gate, T: Threads + Wait + Sync, R: Read, W: Write>(
 ) -> Result<Count, RunFault>
     requires sound { IsSound desk.old.site desk.old.plan backlog.old }
     requires within { backlog.old.answered ≤ limit }
-    requires limit { limit + 1 < 2 ^ 64 }
     ensures ok { IfOk result (λ count. AnswersAllAhead limit R.remaining chunks.old desk.old.site backlog.old (W.contents writer.old)
         desk.new.site (W.contents writer.new) count) }
     ensures too_long { IsErrOf result RunFault.TooLong → AnswersFirstAhead limit R.remaining chunks.old desk.old.site backlog.old
@@ -315,10 +327,12 @@ pub fn run_desk<G: Gate, T: Threads + Wait + Sync, R: Read + Drop, W: Write>(
         WritesAsProcess desk.old.site.place (W.contents writer.old) (W.contents writer.new) records
         × StandsAsProcess desk.old.site.place desk.new.site.state records) }
 {
-    if desk.plan.readers == 0 || limit == u64::MAX {
-        return run_in_turn(rt, alloc, reader, writer, desk, limit);
-    }
-    let mut chunks = Chunks::new(alloc, reader, BLOCK);
+    let size = if desk.plan.readers == 0 {
+        BLOCK_ALONE
+    } else {
+        BLOCK
+    };
+    let mut chunks = Chunks::new(alloc, reader, size);
     let mut backlog = Backlog::new(alloc);
     serve(rt, &mut chunks, desk, &mut backlog, writer, limit)
 }

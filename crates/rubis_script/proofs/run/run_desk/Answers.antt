@@ -43,9 +43,3 @@ returns-clause-process g c opened =
     as_process c.args.desk.now.site c.serve.new.desk.site c.args.limit (g.R.Read.remaining c.args.reader) (g.W.Write.contents c.args.writer.now)
     (g.W.Write.contents c.serve.new.writer)
     c.serve.result opened (returns-clause-leads g c)
-
-pub returns-then-desk-eq0-clause-process : goal.returns-then-desk-eq0-clause-process
-returns-then-desk-eq0-clause-process g c opened =
-    as_process c.args.desk.now.site c.run_in_turn.new.desk.site c.args.limit (g.R.Read.remaining c.args.reader) (g.W.Write.contents c.args.writer.now)
-    (g.W.Write.contents c.run_in_turn.new.writer)
-    c.run_in_turn.result opened c.run_in_turn.ensures.leads

@@ -24,8 +24,8 @@ returns-in_err-go_on-clause-memory g c e first old input h =
     let memory = handed_on c.from_residual-in_err-go_on.result c.in_err-go_on.field-0.0 fault.Memory c.from_residual-in_err-go_on.ensures e in
     c.in_err-go_on.ensures.memory (rw memory refl) first old (input_records input) h.later h.stands
 
-pub returns-then-many-gt1-clause-goes : goal.returns-then-many-gt1-clause-goes
-returns-then-many-gt1-clause-goes g c first old input h =
+pub returns-then-not-alone-clause-goes : goal.returns-then-not-alone-clause-goes
+returns-then-not-alone-clause-goes g c first old input h =
     let site = c.go_on.new.desk.site in
     let b = c.go_on.new.backlog in
     let read = c.in_ok-go_on.ensures.goes first old input h in
@@ -40,6 +40,41 @@ pub returns-in_err-catch_up-clause-memory : goal.returns-in_err-catch_up-clause-
 returns-in_err-catch_up-clause-memory g c e first old input h =
     let memory = handed_on c.from_residual-in_err-catch_up.result c.in_err-catch_up.field-0.0 fault.Memory c.from_residual-in_err-catch_up.ensures e in
     c.in_err-catch_up.ensures.memory (rw memory refl) first old (input_records input) h.later h.stands
+
+pub answer_chunk-requires-clause-alone : goal.answer_chunk-requires-clause-alone
+answer_chunk-requires-clause-alone g c κs within = record {
+  sound = c.in_ok-catch_up.ensures.sound;
+  none = c.in_ok-catch_up.ensures.all;
+  within = omega (arith, c.in_ok-catch_up.ensures.count, c.requires.within, c.if-len-left.false, c.len.ensures);
+}
+
+pub returns-in_err-answer_chunk-clause-too_long : goal.returns-in_err-answer_chunk-clause-too_long
+returns-in_err-answer_chunk-clause-too_long g c e first old input h =
+    let same = handed_on c.from_residual-in_err-answer_chunk.result c.in_err-answer_chunk.field-0.0 fault.TooLong
+    c.from_residual-in_err-answer_chunk.ensures e in
+    c.in_err-answer_chunk.ensures.too_long (rw same refl) first old input (record {
+      later = h.later;
+      stands = c.in_ok-catch_up.ensures.goes first old (input_records input) h.later h.stands;
+      pending = h.pending;
+    })
+
+pub returns-in_err-answer_chunk-clause-memory : goal.returns-in_err-answer_chunk-clause-memory
+returns-in_err-answer_chunk-clause-memory g c e first old input h =
+    let same = handed_on c.from_residual-in_err-answer_chunk.result c.in_err-answer_chunk.field-0.0 fault.Memory
+    c.from_residual-in_err-answer_chunk.ensures e in
+    c.in_err-answer_chunk.ensures.memory (rw same refl) first old input (record {
+      later = h.later;
+      stands = c.in_ok-catch_up.ensures.goes first old (input_records input) h.later h.stands;
+      pending = h.pending;
+    })
+
+pub returns-then-many-gt1-2-clause-goes : goal.returns-then-many-gt1-2-clause-goes
+returns-then-many-gt1-2-clause-goes g c first old input h =
+    c.in_ok-answer_chunk.ensures.goes first old input (record {
+      later = h.later;
+      stands = c.in_ok-catch_up.ensures.goes first old (input_records input) h.later h.stands;
+      pending = h.pending;
+    })
 
 pub end-requires-clause-last : goal.end-requires-clause-last
 end-requires-clause-last g c κs within = let none : c.in-Ok-false.field-0 ≡ false = search rules in c.in-Ok-false.ensures.last none

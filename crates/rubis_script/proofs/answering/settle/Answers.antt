@@ -5,7 +5,7 @@ use Rattle.rubis_engine.proofs.RunFacts.{on_ok}
 use Rattle.rubis_reading.specs.Parsed.{FitsIn}
 use Rattle.rubis_reading.specs.Runs.{FitWindow, flat}
 use Rattle.rubis_script.proofs.LoopFacts.{stands-kept, stands-written}
-use Rattle.rubis_script.proofs.run.settle.Goals as goal
+use Rattle.rubis_script.proofs.answering.settle.Goals as goal
 
 pub returns-clause-sound : goal.returns-clause-sound
 returns-clause-sound g c =
