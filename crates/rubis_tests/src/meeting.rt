@@ -174,10 +174,11 @@ fn two_workers_meet_in_the_third_arrival(rt: HostRuntime) -> Result<(), Fail> {
     Ok(())
 }
 
-// A message that waits for the one after it, and a listing.
-const SAID: &str = "msg,1,0,2,2,1:0,user,bob\nmsg,1,0,1,1,0:0,user,ann\nlist,users\n";
+// Two messages of which the second came first, with repeats of both, and a listing.
+const SAID: &str = "msg,1,0,2,2,1:0,user,bob\nmsg,1,0,2,2,1:0,user,bob\nmsg,1,0,1,1,0:0,user,ann\n\
+msg,1,0,2,2,1:0,user,bob\nmsg,1,0,1,1,0:0,user,ann\nlist,users\n";
 
-const HEARD: &str = "reply,1,held\nreply,2,released,2\nreply,3,rows,2\n\
+const HEARD: &str = "reply,1,held\nreply,2,repeat\nreply,3,released,2\nreply,4,repeat\nreply,5,repeat\nreply,6,rows,2\n\
 row,user,0.1,ann,0,0,0,0\nrow,user,0.2,bob,0,0,0,0\n";
 
 #[test]
@@ -188,7 +189,7 @@ fn two_workers_meet_in_a_run(rt: HostRuntime) -> Result<(), Fail> {
     let mut out = Vec::new(rt.alloc());
     let said = SAID.as_bytes();
     let end = run_site_upto(&rt, rt.alloc(), said, &mut out, &config, 100, gate);
-    assert_eq!(rt; end, Ok(Count { records: 3 }));
+    assert_eq!(rt; end, Ok(Count { records: 6 }));
     assert!(rt; out.as_slice() == HEARD.as_bytes());
     assert!(rt; meeting.met());
     Ok(())
