@@ -24,7 +24,7 @@ use Rattle.rubis_pool_core.specs.Pieces.{IsWhole}
 use Rattle.rubis_pool_core.specs.Machine.{PoolState, run_of}
 use Rattle.rubis_pool_core.specs.Schedules.{present, IsWorkedSlot, Accounted}
 use Rattle.rubis_pieces.specs.Work.{pieces_of}
-use Rattle.rubis_pool_core.specs.Batches.{IsAtEnd, HoldsTheBatch, EveryScheduleFoldsTheBatch}
+use Rattle.rubis_pool_core.specs.Batches.{FoldsTheBatch, IsAtEnd, HoldsTheBatch, EveryScheduleFoldsTheBatch}
 use Rattle.rubis_pool_core.proofs.Accounts.{every}
 use Rattle.rubis_pool_core.proofs.Numbers.{never_faulty}
 
@@ -54,7 +54,7 @@ none_left (d ∷ ds) h =
 
 module _ (shards : ℕ) (log batch : List Core) where
   -- shard k of the log, with its share of the batch
-  abbrev piece_of_batch : ℕ → Piece
+  abbrev pub piece_of_batch : ℕ → Piece
   piece_of_batch k =
       record { shard = shard_of_log shards log k; share = record { number = k; effects = share shards (1 + length log) batch k } }
 
@@ -148,16 +148,20 @@ pairs [] shares e = refl
 pairs (t ∷ ts) [] e = absurd (omega arith)
 pairs (t ∷ ts) (x ∷ shares) e = let h = pairs ts shares (omega arith) in omega arith
 
-pub folds_the_batch : EveryScheduleFoldsTheBatch
-folds_the_batch shards workers log batch ts shares events held dealt end =
-    let pieces : List Piece = pieces_of ts shares in
-    let s : PoolState = run_of workers pieces events in
-    let a : Accounted pieces s = every workers pieces events in
-    let many : length pieces ≡ shards = pairs ts shares (held.many ∙ sym dealt.many) ∙ held.many in
-    let each : (k : ℕ) → k < shards → slice_get pieces k ≡ Some (piece_of_batch shards log batch k) =
-    λ k less. pair_at ts shares k _ _ (held.each k less) (dealt.each k less) in
+-- the machine accounted for these pieces, in whatever order they were posted
+pub folds_pieces : (shards : ℕ) (log batch : List Core) (pieces : List Piece) (s : PoolState) → length pieces ≡ shards
+    → ((k : ℕ) → k < shards → slice_get pieces k ≡ Some (piece_of_batch shards log batch k)) → Accounted pieces s → IsAtEnd s
+    → FoldsTheBatch shards log batch s.returned
+folds_pieces shards log batch pieces s many each a end =
     record {
       no_fault = never_faulty shards pieces s a (all_returned pieces s a end) many
           (λ k less. (piece_of_batch shards log batch k, each k less, refl));
       gathered = gathers shards log batch pieces many each s a end;
     }
+
+pub folds_the_batch : EveryScheduleFoldsTheBatch
+folds_the_batch shards workers log batch ts shares events held dealt end =
+    let pieces : List Piece = pieces_of ts shares in
+    folds_pieces shards log batch pieces (run_of workers pieces events)
+    (pairs ts shares (held.many ∙ sym dealt.many) ∙ held.many)
+    (λ k less. pair_at ts shares k _ _ (held.each k less) (dealt.each k less)) (every workers pieces events) end

@@ -8,3 +8,4 @@ pub mod Posted
 pub mod Hands
 pub mod Threads
 pub mod ThreadExamples
+pub mod Teams

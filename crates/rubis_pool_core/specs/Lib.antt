@@ -5,3 +5,4 @@ pub mod Posted
 pub mod Threads
 pub mod Batches
 pub mod Codes
+pub mod Teams

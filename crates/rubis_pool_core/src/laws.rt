@@ -1,8 +1,9 @@
-//! The laws of the machine, stated in specs/Schedules, specs/Batches, specs/Posted and specs/Threads.
+//! The laws of the machine, stated in specs/Schedules, specs/Batches, specs/Posted, specs/Threads and specs/Teams.
 
 ghost use Rattle.rubis_pool_core.specs.Posted.{EventsMoveThePosted};
 ghost use Rattle.rubis_pool_core.specs.Batches.{EveryScheduleFoldsTheBatch};
 ghost use Rattle.rubis_pool_core.specs.Schedules.{EveryScheduleAccounts, StepsAccount};
+ghost use Rattle.rubis_pool_core.specs.Teams.{EveryRunOfATeamIsASchedule, EveryTeamFoldsTheBatch, EveryTeamIsScheduled, FollowingFoldsTheShare};
 ghost use Rattle.rubis_pool_core.specs.Threads.{EveryListOfStepsIsScheduled, EveryRunIsASchedule, PostsFirstAreARun};
 
 /// After every schedule each piece is posted, held by one worker or returned, once, and each shard is the fold of a
@@ -33,4 +34,15 @@ pub fn every_list_of_steps_is_scheduled()
     ensures steps { EveryListOfStepsIsScheduled }
     ensures runs { EveryRunIsASchedule }
     ensures posts_first { PostsFirstAreARun }
+{}
+
+/// The same of a team whose workers read the parts of a batch from its messages, as those of a site do. A shard on its board carries no
+/// parts, and stands for the share of the batch that is the shard's: the machine that is given the shares takes the same pieces in the
+/// same order, each by the same worker. What a worker makes of a shard is what the machine's Applies make of it, as far as the worker
+/// came. Once all are returned, by whatever schedule, the shards hold the log with the batch.
+pub fn every_team_is_scheduled()
+    ensures steps { EveryTeamIsScheduled }
+    ensures runs { EveryRunOfATeamIsASchedule }
+    ensures shares { FollowingFoldsTheShare }
+    ensures batch { EveryTeamFoldsTheBatch }
 {}
