@@ -24,17 +24,6 @@ joined_set (l ∷ low) [] (suc i) a b = refl
 joined_set (l ∷ low) (h ∷ high) zero a b = refl
 joined_set (l ∷ low) (h ∷ high) (suc i) a b = ap (λ xs. (l + 65536 * h) ∷ xs) (joined_set low high i a b)
 
--- with one count more in the rows, they have one more of the counts
-pub packed_more : (low high counts : List ℕ) (i a b : ℕ) → i < length low → length low ≡ length high → i < length counts → a + 65536 * b
-    ≡ slice_index counts i →
-    take i (joined low high) ≡ take i counts → take (i + 1) (joined (slice_set low i a) (slice_set high i b)) ≡ take (i + 1) counts
-packed_more low high counts i a b p e q v h =
-    ap (λ xs. take (i + 1) xs) (joined_set low high i a b)
-    ∙ take_more_set (joined low high) i (a + 65536 * b) (let n = length_joined low high e in omega (arith, n, p))
-    ∙ ap (λ xs. xs ++ (a + 65536 * b) ∷ []) h
-    ∙ ap (λ x. take i counts ++ x ∷ []) v
-    ∙ sym (take_more counts i 0 q)
-
 pub unpacked_more : (xs : List ℕ) (i : ℕ) → i < length xs → take (i + 1) xs ≡ take i xs ++ slice_index xs i ∷ []
 unpacked_more xs i l = take_more xs i 0 l
 
@@ -104,16 +93,18 @@ half_set pairs i b false e o l =
     let place : suc (twice (i / 2)) ≡ i = omega (arith, t, r) in
     second_set pairs (i / 2) b l ∙ ap (λ j. slice_set (halves pairs) j b) place
 
--- with one count more in the rows, they have one more of the counts
-pub counts_more : (low pairs counts : List ℕ) (i a b : ℕ) (first : Bool) → (first ≡ true → i % 2 ≡ 0) → (first ≡ false → i % 2 ≡ 1) →
-    length low ≡ 16 → length pairs ≡ 8 → i < 16 → b < 16 → i < length counts → a + 65536 * b ≡ slice_index counts i →
-    take i (counts_of low pairs) ≡ take i counts →
+-- with a count put last in the rows, they have it behind the others
+pub counts_more : (low pairs : List ℕ) (i a b : ℕ) (first : Bool) → (first ≡ true → i % 2 ≡ 0) → (first ≡ false → i % 2 ≡ 1) →
+    length low ≡ 16 → length pairs ≡ 8 → i < 16 → b < 16 →
     take (i + 1) (counts_of (slice_set low i a)
-    (slice_set pairs (i / 2) (cond first (slice_index pairs (i / 2) / 16 * 16 + b) (slice_index pairs (i / 2) % 16 + 16 * b)))) ≡ take (i + 1) counts
-counts_more low pairs counts i a b first e o one two few l q v h =
+    (slice_set pairs (i / 2) (cond first (slice_index pairs (i / 2) / 16 * 16 + b) (slice_index pairs (i / 2) % 16 + 16 * b))))
+    ≡ take i (counts_of low pairs) ++ (a + 65536 * b) ∷ []
+counts_more low pairs i a b first e o one two few l =
     let n = length_halves pairs in
+    let m = length_joined low (halves pairs) (omega (arith, one, two, n)) in
     ap (λ hs. take (i + 1) (joined (slice_set low i a) hs)) (half_set pairs i b first e o l)
-    ∙ packed_more low (halves pairs) counts i a b (omega (arith, one, few)) (omega (arith, one, two, n)) q v h
+    ∙ ap (take (i + 1)) (joined_set low (halves pairs) i a b)
+    ∙ take_more_set (joined low (halves pairs)) i (a + 65536 * b) (omega (arith, one, few, m))
 
 -- a count that is used, from its two parts
 pub count_at : (low pairs : List ℕ) (used i : ℕ) (first : Bool) → (first ≡ true → i % 2 ≡ 0) → (first ≡ false → i % 2 ≡ 1) →

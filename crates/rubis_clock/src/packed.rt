@@ -1,6 +1,6 @@
 //! Counts of messages in less memory.
 
-ghost use Rattle.std.specs.Prelude.{◌≡◌, ◌<◌, ◌≤◌, ◌+◌, ◌*◌, ◌/◌, ◌%◌, All, cond, length, slice_index};
+ghost use Rattle.std.specs.Prelude.{◌≡◌, ◌<◌, ◌≤◌, ◌+◌, ◌*◌, ◌/◌, ◌%◌, ◌++◌, ◌∷◌, [], All, cond, length, slice_index};
 ghost use Rattle.rubis_schema.specs.declared.limits.TheConstants.{COUNT_MAX, COUNTED_MAX};
 
 use crate::counts::Deps;
@@ -50,6 +50,32 @@ fn with_half(pair: u8, first: bool, upper: u8) -> u8
 }
 
 impl PackedDeps {
+    /// No counts.
+    #[inline(always)]
+    pub fn new() -> PackedDeps
+        ensures { result ≡ [] }
+    {
+        PackedDeps {
+            low: [0; COUNTED_MAX],
+            high: [0; COUNTED_MAX / 2],
+            used: 0,
+        }
+    }
+
+    /// Puts the count of the next site last.
+    #[inline(always)]
+    pub fn push(&mut self, count: u32)
+        requires room { length self.old < COUNTED_MAX }
+        requires limit { count ≤ COUNT_MAX }
+        ensures { self.new ≡ self.old ++ count ∷ [] }
+    {
+        let place = usize::from(self.used);
+        let upper = (count / 65536) as u8;
+        self.low[place] = (count % 65536) as u16;
+        self.high[place / 2] = with_half(self.high[place / 2], place % 2 == 0, upper);
+        self.used += 1;
+    }
+
     /// The counts of `deps`.
     #[inline(always)]
     pub fn pack(deps: &Deps) -> PackedDeps
@@ -57,18 +83,11 @@ impl PackedDeps {
         ensures { result ≡ deps.now }
     {
         let counts = deps.as_slice();
-        let mut low = [0; COUNTED_MAX];
-        let mut high = [0; COUNTED_MAX / 2];
-        for place in 0..counts.len() {
-            let upper = (counts[place] / 65536) as u8;
-            low[place] = (counts[place] % 65536) as u16;
-            high[place / 2] = with_half(high[place / 2], place % 2 == 0, upper);
+        let mut packed = PackedDeps::new();
+        for count in counts {
+            packed.push(*count);
         }
-        PackedDeps {
-            low,
-            high,
-            used: counts.len() as u8,
-        }
+        packed
     }
 
     /// The counts, as a row of numbers.

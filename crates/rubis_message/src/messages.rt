@@ -6,6 +6,7 @@ ghost use Rattle.rubis_message.specs.Message as model;
 ghost use Rattle.rubis_message.specs.Message.{IsMessage, sites_of};
 ghost use Rattle.rubis_message.specs.Widening.{widening};
 
+use crate::stamps::PackedStamp;
 use rubis_clock::{Clock, PackedDeps, Stamp};
 use rubis_schema::Id;
 use rubis_shadow::Shadow;
@@ -60,6 +61,21 @@ impl Message {
             red: stamp.red,
             deps: PackedDeps::pack(&stamp.deps),
             site: stamp.id.site,
+            shadow,
+        }
+    }
+
+    /// The shadow with a stamp that is kept as a message keeps it.
+    #[inline(always)]
+    pub(crate) fn of(stamp: PackedStamp, shadow: Shadow) -> Message
+        requires { IsMessage (record { stamp = stamp; shadow = shadow }) }
+        ensures { result ≡ record { stamp = stamp; shadow = shadow } }
+    {
+        let PackedStamp { site, red, deps } = stamp;
+        Message {
+            red,
+            deps,
+            site,
             shadow,
         }
     }

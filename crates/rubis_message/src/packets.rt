@@ -8,11 +8,10 @@ ghost use Rattle.rubis_message.specs.Readings.{agrees, packet_of, take_message, 
 use crate::faults::ReadFault;
 use crate::messages::Message;
 use crate::readers::Reader;
-use crate::stamps::read_deps;
+use crate::stamps::{PackedStamp, read_deps};
 use crate::tokens::{Packet, TOKEN_VERSION, Token};
 use crate::words::says;
-use rubis_clock::Stamp;
-use rubis_schema::{COUNT_MAX, COUNTED_MAX, Id, Record, SEQ_MAX, TURN_MAX};
+use rubis_schema::{COUNT_MAX, COUNTED_MAX, Record, SEQ_MAX, TURN_MAX};
 use rubis_shadow::{Colour, Shadow};
 use std::alloc::Global;
 
@@ -44,7 +43,7 @@ impl<'a, F: Record> Reader<'a, F> {
     /// A stamp.
     #[tactic(auto, unfolding(crate::specs::Readings::take_stamp))]
     #[inline(always)]
-    fn stamp(&mut self, sites: u8) -> Result<Stamp, ReadFault>
+    fn stamp(&mut self, sites: u8) -> Result<PackedStamp, ReadFault>
         requires { sites ≤ COUNTED_MAX }
         ensures { Takes (take_stamp sites) self.old self.new result }
     {
@@ -52,14 +51,11 @@ impl<'a, F: Record> Reader<'a, F> {
         let seq = self.positive(u64::from(SEQ_MAX))?;
         let red = self.number(COUNT_MAX)?;
         let deps = read_deps(self.field()?, sites).ok_or(ReadFault::BadRecord)?;
-        if !deps.is_next(site, seq) {
+        if u64::from(deps.count(site)) + 1 != seq {
             return Err(ReadFault::BadRecord);
         }
-        Ok(Stamp {
-            id: Id {
-                site,
-                seq: seq as u32,
-            },
+        Ok(PackedStamp {
+            site,
             red: red as u32,
             deps,
         })
@@ -77,10 +73,10 @@ impl<'a, F: Record> Reader<'a, F> {
         if !says(version, shadow.version()) {
             return Err(ReadFault::BadRecord);
         }
-        if !agree(&shadow, stamp.red) {
+        if !agree(&shadow, stamp.red()) {
             return Err(ReadFault::BadRecord);
         }
-        Ok(Message::new(stamp, shadow))
+        Ok(Message::of(stamp, shadow))
     }
 
     /// A token, in that version.

@@ -1,25 +1,20 @@
-use Rattle.std.proofs.Common.{rules, ◌≡◌, ◌<◌, length, slice_index, slice_set, arith, sym, ap, ◌∙◌, ◌*◌, ◌+◌, ◌/◌, ◌%◌, cond, true, false, nat_eq, take, subst}
-use Rattle.std.proofs.lemmas.List.{length-set}
-use Rattle.rubis_clock.specs.Packed.{counts_of}
-use Rattle.rubis_clock.proofs.TwoRows.{counts_more}
+use Rattle.std.proofs.Common.{◌++◌, ◌∷◌, [], length, slice_index, arith, ap, sym, ◌∙◌}
+use Rattle.std.proofs.lemmas.List.{length-take, take_all, take_more}
 use Rattle.rubis_clock.proofs.packed.PackedDeps.pack.Goals as goal
 
-pub loop-place-preserved : goal.loop-place-preserved
-loop-place-preserved c =
-    let low = c.loop-place.low in
-    let pairs = c.loop-place.high in
-    let counts = c.as_slice-counts.result.now in
-    let i = c.loop-place.place in
-    let one = c.loop-place.invariant.0 in
-    let two = c.loop-place.invariant.1 in
-    let t = c.loop-place-test.true in
-    let few = c.as_slice-counts.ensures.few in
+pub push-requires-clause-room : goal.push-requires-clause-room
+push-requires-clause-room c =
+    let many = ap length c.loop-count.invariant in
+    let taken = length-take c.loop-count.count-index c.as_slice-counts.result.now in
     let same = ap length c.as_slice-counts.ensures.value in
-    let small : slice_index counts i / 65536 < 16 = search (rules, c.requires) in (
-      length-set _ _ _ ∙ one,
-      length-set _ _ _ ∙ two,
-      subst (λ x. take (i + 1) (counts_of (slice_set low i (slice_index counts i % 65536)) (slice_set pairs (i / 2) x)) ≡ take (i + 1) counts)
-          (sym c.with_half.ensures)
-          (counts_more low pairs counts i (slice_index counts i % 65536) (slice_index counts i / 65536) (nat_eq (i % 2) 0) (λ e. search rules)
-          (λ e. search rules) one two (omega (arith, t, few, same)) small t (omega arith) c.loop-place.invariant.2),
-    )
+    omega (arith, many, taken, same, c.as_slice-counts.ensures.few, c.loop-count-test.true)
+
+pub loop-count-preserved : goal.loop-count-preserved
+loop-count-preserved c =
+    c.push.ensures ∙ ap (λ xs. xs ++ slice_index c.as_slice-counts.result.now c.loop-count.count-index ∷ []) c.loop-count.invariant
+    ∙ sym (take_more c.as_slice-counts.result.now c.loop-count.count-index 0 (omega (arith, c.loop-count-test.true)))
+
+pub returns : goal.returns
+returns c =
+    c.loop-count.invariant ∙ take_all c.loop-count.count-index c.as_slice-counts.result.now (omega (arith, c.loop-count-test.false))
+    ∙ c.as_slice-counts.ensures.value
