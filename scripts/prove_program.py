@@ -49,10 +49,10 @@ class Kit:
         self.folder = os.path.dirname(page)
         self.version = subprocess.run(["rt", "version"], stdout=subprocess.PIPE, text=True, check=True).stdout
 
-    def build(self, crate: Crate, to: str, jobs: int) -> list[str]:
-        """Returns the command that proves a crate and builds it."""
+    def words(self, verb: str, crate: Crate, kept: str, jobs: int) -> list[str]:
+        """Returns the command that proves a crate over what is kept of it."""
         at = self.folder
-        words = [f"{at}/bin/rattle", "build", "--crate-name", crate.name, crate.root]
+        words = [f"{at}/bin/rattle", verb, "--crate-name", crate.name, crate.root]
         for name in ("std", *crate.of_kit):
             words += ["--extern", f"{name}={at}/rlibs/{name}.rlib"]
         words += ["-L", f"dependency={at}/rlibs"]
@@ -61,8 +61,12 @@ class Kit:
         for below in crate.below():
             words += ["-L", f"dependency={os.path.dirname(below.library)}"]
         words += ["--antt-project", f"{at}/rattle/logic/antt-project.json", "--logic-built", f"{at}/logic_built"]
-        words += ["--incremental", "out/incremental", "--jobs", str(jobs), "-o", to]
-        return words + (["--toolchain", f"{at}/toolchain", "--backend", "llvm"] if crate.is_program else [])
+        return [*words, "--incremental", kept, "--jobs", str(jobs)]
+
+    def build(self, crate: Crate, to: str, jobs: int) -> list[str]:
+        """Returns the command that proves a crate and builds it."""
+        words = [*self.words("build", crate, "out/incremental", jobs), "-o", to]
+        return words + (["--toolchain", f"{self.folder}/toolchain", "--backend", "llvm"] if crate.is_program else [])
 
     def link(self, program: str, to: str) -> list[str]:
         """Returns the command that makes a program of what was built."""
@@ -131,8 +135,8 @@ class Crate:
             return False
 
 
-def program_crates() -> list[Crate]:
-    """Returns the crates of the program, each after those that it stands on."""
+def program_crates(top: str | None = APP) -> list[Crate]:
+    """Returns the crates of the program, or all, each after those that it stands on."""
     with open(f"{TOP}/crates.txt", encoding="utf-8") as lines:
         listed = dict(line.split("#")[0].split(":", 1) for line in lines if re.match(r"\w", line))
     found: dict[str, Crate] = {}
@@ -144,7 +148,8 @@ def program_crates() -> list[Crate]:
             found[name] = Crate(name, uses, [it for it in deps if it not in listed])
         return found[name]
 
-    crate(APP)
+    for name in [top] if top else listed:
+        crate(name)
     return [*found.values()]
 
 
