@@ -122,7 +122,8 @@ class Trials:
                 print(f"{self.crate.name}/{edit.name}: refused: {first[:200]}", flush=True)
             else:
                 open_still += 1
-                print(f"{self.crate.name}/{edit.name}: NOT REFUSED: {lines[-1][:200]}", flush=True)
+                what = "NOT REFUSED" if lines[-1].startswith("logic=") else "not tried"
+                print(f"{self.crate.name}/{edit.name}: {what}: {lines[-1][:200]}", flush=True)
         return open_still
 
 
