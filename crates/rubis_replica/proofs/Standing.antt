@@ -35,7 +35,7 @@ rests_follow log upto f l some holds = record {
 
 -- ---- a batch as far as memory went
 module _ (log : List Message) (from upto left : ℕ) (stops : List ℕ) (ts : List ShardState) (l : upto ≤ length log) (some : 0 < length ts)
-    (s : HasStops log (record { progress = record { applied = from; stage = Begun upto left }; stops = stops; tables = ts })) where
+    (s : HasStops log (record { progress = record { applied = from; stage = Begun upto left; ran_short = true }; stops = stops; tables = ts })) where
   long_log : upto ≤ length (cores log)
   long_log = let many = length-map log core in omega (arith, l, many)
 
@@ -66,7 +66,7 @@ module _ (log : List Message) (from upto left : ℕ) (stops : List ℕ) (ts : Li
 
   -- some but not all are
   pub follows_begun : from ≤ upto → 0 < left → ¬ (left ≡ length (parts_between log from upto))
-      → FollowsLog log (record { progress = record { applied = from; stage = Begun upto left }; stops = stops; tables = ts })
+      → FollowsLog log (record { progress = record { applied = from; stage = Begun upto left; ran_short = true }; stops = stops; tables = ts })
   follows_begun on more differ = record {
     progress = record {
       on = on;
@@ -90,7 +90,7 @@ begun_fewer log p h = on p.stage h.stage
 
 -- and of one that went on no more is left than was
 pub left_fewer : (log : List Message) (f : Follower) (upto left : ℕ) (stops : List ℕ) (ts : List ShardState) → HasStops log f → upto ≡ end_of f.progress
-    → HasStops log (record { progress = record { applied = f.progress.applied; stage = Begun upto left }; stops = stops; tables = ts })
+    → HasStops log (record { progress = record { applied = f.progress.applied; stage = Begun upto left; ran_short = true }; stops = stops; tables = ts })
     → AreFurther f.stops stops → length ts ≡ length f.tables → left ≤ left_of f.progress
 left_fewer log f upto left stops ts was e now further many =
     let ms = cores (slice_range log f.progress.applied upto) in
@@ -129,8 +129,8 @@ follows_more log more f h =
           };
     }
   where
-    stage_inside : (s : Stage) → f.progress.applied ≤ end_of (record { applied = f.progress.applied; stage = s }) →
-        end_of (record { applied = f.progress.applied; stage = s }) ≤ length log
+    stage_inside : (s : Stage) → f.progress.applied ≤ end_of (record f.progress { stage = s }) →
+        end_of (record f.progress { stage = s }) ≤ length log
         → IsStage log f.progress.applied s → IsStage (log ++ more) f.progress.applied s
     stage_inside Level on l h = tt
     stage_inside (Keeping upto) on l h = h

@@ -6,7 +6,7 @@ use Rattle.rubis_model.specs.Log.{cores}
 use Rattle.rubis_workers.specs.Shard.{HoldsLog}
 use Rattle.rubis_workers.specs.Shard.{ShardState}
 use Rattle.rubis_workers.specs.Pieces.{HoldsTo, StopWithin, parts_behind}
-use Rattle.rubis_replica.specs.Progress.{BatchBegins, BatchGoesOn, IsProgress, end_of, left_of, resting_at}
+use Rattle.rubis_replica.specs.Progress.{BatchBegins, BatchGoesOn, IsProgress, end_of, left_of, resting_at, short}
 use Rattle.rubis_replica.specs.declared.progress.Progress.{Progress}
 
 -- the shards of the tables, how far they are in their log, and, where a batch has begun, how many of its messages stand in each
@@ -28,11 +28,11 @@ pub record FollowsLog (log : List Message) (f : Follower) : Type 0 where
   pub rests : left_of f.progress ≡ 0 → HoldsLog (length f.tables) (cores (take f.progress.applied log)) f.tables
   pub begun : 0 < left_of f.progress → HasStops log f
 
--- the batch that ends with message `upto` was tried: it is whole, or has begun, or nothing of it is done
+-- the batch that ends with message `upto` was tried: it is whole; or memory ran out, and it has begun, or nothing of it is done
 pub record ComesTo (log : List Message) (upto : ℕ) (old new : Follower) (result : Result (Unit {0}) AllocError) : Type 0 where
   pub follows : FollowsLog log new
   pub ok : OnOk result (new.progress ≡ resting_at upto)
-  pub err : OnErr result ((new.progress ≡ old.progress) ⊎ BatchBegins log old.progress.applied upto new.progress)
+  pub err : OnErr result ((new.progress ≡ short old.progress) ⊎ BatchBegins log old.progress.applied upto new.progress)
 
 -- the batch that has begun was gone on with: it is whole, or no more is left of it than before
 pub record GoesOnTo (log : List Message) (old new : Follower) (result : Result (Unit {0}) AllocError) : Type 0 where

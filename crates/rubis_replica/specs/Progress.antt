@@ -1,5 +1,5 @@
 -- How far tables are in a log, which they follow batch by batch.
-use Rattle.std.specs.Prelude.{◌≡◌, ℕ, ◌-◌, ◌<◌, ◌≤◌, ◌⊎◌, Bool, List, nat_lt, length, ⊤}
+use Rattle.std.specs.Prelude.{◌≡◌, ℕ, ◌-◌, ◌<◌, ◌≤◌, ◌⊎◌, Bool, true, false, List, nat_lt, length, ⊤}
 use Rattle.rubis_message.specs.Message.{Message}
 use Rattle.rubis_workers.specs.Logs.{parts_between}
 use Rattle.rubis_replica.specs.declared.progress.Progress.{Progress}
@@ -8,11 +8,15 @@ use Rattle.rubis_replica.specs.declared.progress.Stage.TheVariants.{Level, Keepi
 
 -- n messages are applied, and what is pending up to message `upto` is kept as the next batch
 abbrev pub keeping : ℕ → ℕ → Progress
-keeping n upto = record { applied = n; stage = Keeping upto }
+keeping n upto = record { applied = n; stage = Keeping upto; ran_short = false }
 
 -- n messages are applied, and no batch has begun or is kept
 abbrev pub resting_at : ℕ → Progress
-resting_at n = record { applied = n; stage = Level }
+resting_at n = record { applied = n; stage = Level; ran_short = false }
+
+-- the same, but that memory ran out when what is pending was to be applied
+abbrev pub short : Progress → Progress
+short p = record p { ran_short = true }
 
 -- the message that ends the batch that is kept or has begun, or else what is applied
 abbrev pub end_of : Progress → ℕ
@@ -40,7 +44,7 @@ pub record IsProgress (log : List Message) (p : Progress) : Type 0 where
 
 -- the batch from message `from` on, up to message `upto`, has begun, and some but not all of its parts are done
 pub record BatchBegins (log : List Message) (from upto : ℕ) (new : Progress) : Type 0 where
-  pub batch : new ≡ record { applied = from; stage = Begun upto (left_of new) }
+  pub batch : new ≡ record { applied = from; stage = Begun upto (left_of new); ran_short = true }
   pub some_left : 0 < left_of new
   pub some_done : left_of new < length (parts_between log from upto)
 
@@ -48,11 +52,12 @@ pub record BatchBegins (log : List Message) (from upto : ℕ) (new : Progress) :
 abbrev pub HasBegun : List Message → Progress → Progress → Type 0
 HasBegun log old new = BatchBegins log old.applied (end_of old) new ⊎ BatchBegins log (end_of old) (length log) new
 
--- no part of the next batch is done: nothing changed, or exactly the kept batch was applied
+-- memory ran out with no part of the next batch done: nothing else changed, or exactly the kept batch was applied
 abbrev pub IsBetween : Progress → Progress → Type 0
-IsBetween old new = (new ≡ old) ⊎ (new ≡ resting_at (end_of old))
+IsBetween old new = (new ≡ short old) ⊎ (new ≡ short (resting_at (end_of old)))
 
--- an attempt to apply all that is pending: it is applied, or one of its batches has begun, or no part of the next is done
+-- an attempt to apply all that is pending: it is applied; or memory ran out, and one of its batches has begun, or no part of the next is
+-- done
 abbrev pub IsTried : List Message → Progress → Progress → Type 0
 IsTried log old new = (new ≡ resting_at (length log)) ⊎ HasBegun log old new ⊎ IsBetween old new
 
@@ -60,13 +65,13 @@ IsTried log old new = (new ≡ resting_at (length log)) ⊎ HasBegun log old new
 abbrev pub IsAhead : List Message → List Message → Progress → Progress → Type 0
 IsAhead before after old new = IsTried before old new ⊎ (new ≡ keeping (length before) (length after))
 
--- if at least `batch` messages are pending, all were tried; if fewer are, all of them wait
+-- if at least `batch` messages are pending, all are applied, unless memory ran out; if fewer are, all of them wait
 pub record IsBatched (batch : ℕ) (log : List Message) (old new : Progress) : Type 0 where
   pub waits : length log - old.applied < batch → new ≡ old
   pub tried : batch ≤ length log - old.applied → IsTried log old new
 
--- the begun batch goes on: some of its parts are left, and no more than before
+-- the begun batch goes on, until memory ran out again: some of its parts are left, and no more than before
 pub record BatchGoesOn (old new : Progress) : Type 0 where
-  pub batch : new ≡ record old { stage = Begun (end_of old) (left_of new) }
+  pub batch : new ≡ record { applied = old.applied; stage = Begun (end_of old) (left_of new); ran_short = true }
   pub some_left : 0 < left_of new
   pub fewer : left_of new ≤ left_of old

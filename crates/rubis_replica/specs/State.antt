@@ -6,7 +6,7 @@ use Rattle.rubis_schema.specs.declared.refusals.Refusal.{Refusal}
 use Rattle.rubis_message.specs.declared.answers.Arrival.{Arrival}
 use Rattle.rubis_message.specs.declared.answers.Arrival.TheVariants.{Released, Held, Repeat}
 use Rattle.rubis_model.specs.Site.{Place, Replica}
-use Rattle.rubis_replica.specs.Progress.{HasBegun, IsBatched, end_of, left_of, resting_at}
+use Rattle.rubis_replica.specs.Progress.{HasBegun, IsBatched, end_of, left_of, resting_at, short}
 use Rattle.rubis_replica.specs.declared.progress.Progress.{Progress}
 use Rattle.rubis_replica.specs.declared.faults.Fault.{Fault}
 use Rattle.rubis_replica.specs.declared.faults.Fault.TheVariants.{Refused, Behind, Memory}
@@ -26,9 +26,13 @@ pending s = length s.state.log - s.progress.applied
 abbrev pub with_all_applied : SiteState → SiteState
 with_all_applied s = record s { progress = resting_at (length s.state.log) }
 
--- the site with what was kept applied, and no more
+-- the site as it was, but that memory ran out when what is pending was to be applied
+abbrev pub with_none_applied : SiteState → SiteState
+with_none_applied s = record s { progress = short s.progress }
+
+-- the same with what was kept applied, and no more
 abbrev pub with_kept_applied : SiteState → SiteState
-with_kept_applied s = record s { progress = resting_at (end_of s.progress) }
+with_kept_applied s = record s { progress = short (resting_at (end_of s.progress)) }
 
 -- the call answers as the step says; where it doesn't, the site's state is as it was
 abbrev pub AnswersAsTheStep : {A : Type 0} → SiteState → SiteState → Replica × Result A Refusal → Result A Fault → Type 0
@@ -70,14 +74,14 @@ TakesIn old new (Err Memory) = new ≡ old
 abbrev pub IsCutFault : SiteState → SiteState → Fault → Type 0
 IsCutFault old new (Refused r) = ⊥
 IsCutFault old new Behind = left_of old.progress ≡ 0 → HasBegun old.state.log old.progress new.progress
-IsCutFault old new Memory = (new ≡ old) ⊎ (new ≡ with_kept_applied old)
+IsCutFault old new Memory = (new ≡ with_none_applied old) ⊎ (new ≡ with_kept_applied old)
 
 -- why a call that reads the tables gives no answer. It applies all that is pending first: without memory for that a batch of it
 -- has begun and isn't whole, or nothing of the next one is done; where it comes to nothing later, all stays applied
 abbrev pub IsReadFault : SiteState → SiteState → Fault → Type 0
 IsReadFault old new (Refused r) = new ≡ with_all_applied old
 IsReadFault old new Behind = left_of old.progress ≡ 0 → HasBegun old.state.log old.progress new.progress
-IsReadFault old new Memory = (new ≡ old) ⊎ (new ≡ with_kept_applied old) ⊎ (new ≡ with_all_applied old)
+IsReadFault old new Memory = (new ≡ with_none_applied old) ⊎ (new ≡ with_kept_applied old) ⊎ (new ≡ with_all_applied old)
 
 -- a listing of the log reads no tables and changes nothing, and it yields its rows unless the site was behind or memory
 -- ran out

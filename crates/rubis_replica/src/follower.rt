@@ -197,6 +197,7 @@ impl<G: Gate> Follower<G> {
             self.progress = Progress::resting_at(upto);
             return Ok(());
         }
+        self.progress.ran_short = true;
         if left == count_parts(&log[from..upto]) {
             return Err(AllocError);
         }
@@ -267,7 +268,11 @@ impl<G: Gate> Follower<G> {
             self.progress = Progress::resting_at(upto);
             return Ok(());
         }
-        self.progress.stage = Stage::Begun { upto, left };
+        self.progress = Progress {
+            applied: from,
+            stage: Stage::Begun { upto, left },
+            ran_short: true,
+        };
         Err(AllocError)
     }
 }

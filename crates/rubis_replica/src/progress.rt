@@ -8,6 +8,8 @@ ghost use Rattle.rubis_replica.specs.Progress.{end_of, left_of, resting_at};
 pub struct Progress {
     pub applied: usize,
     pub stage: Stage,
+    /// Whether memory ran out when what is pending was to be applied last.
+    pub ran_short: bool,
 }
 
 /// What is with the next batch.
@@ -29,6 +31,7 @@ impl Progress {
         Progress {
             applied: upto,
             stage: Stage::Level,
+            ran_short: false,
         }
     }
 

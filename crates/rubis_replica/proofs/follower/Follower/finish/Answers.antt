@@ -1,4 +1,4 @@
-use Rattle.std.proofs.Common.{◌≡◌, ◌∙◌, ◌<◌, ◌≤◌, ◌++◌, length, take, drop, sym, ap, subst, arith}
+use Rattle.std.proofs.Common.{true, ◌≡◌, ◌∙◌, ◌<◌, ◌≤◌, ◌++◌, length, take, drop, sym, ap, subst, arith}
 use Rattle.std.specs.Prelude.{Err, slice_range}
 use Rattle.rubis_model.specs.Log.{cores}
 use Rattle.rubis_workers.specs.Pieces.{AreFurther, HoldsTo, StopWithin}
@@ -15,7 +15,7 @@ use Rattle.rubis_replica.proofs.follower.Follower.finish.Goals.{After-count_behi
 stopped : (g : given.Over) (c : After-count_behind-left g)
     → HasStops c.args.log.now
     (record {
-      progress = record { applied = c.self.inside.progress.applied; stage = Begun c.end-upto.result c.count_behind-left.result };
+      progress = record { applied = c.self.inside.progress.applied; stage = Begun c.end-upto.result c.count_behind-left.result; ran_short = true };
       stops = c.follow_rest.new.stops;
       tables = c.follow_rest.new.tables;
     })
@@ -88,13 +88,13 @@ returns g c =
     (λ e. absurd (omega (arith, e, fewer, most))) in
     subst (λ (f : Follower). GoesOnTo log f
     (record {
-      progress = record { applied = from; stage = Begun upto left };
+      progress = record { applied = from; stage = Begun upto left; ran_short = true };
       stops = take c.self.inside.stops.len (stops ++ drop (length stops) c.self.inside.stops.items);
       tables = ts;
     }) (Err (record {}))) c.self.view_is
     (record {
-      follows = subst (λ xs. FollowsLog log (record { progress = record { applied = from; stage = Begun upto left }; stops = xs; tables = ts }))
+      follows = subst (λ xs. FollowsLog log (record { progress = record { applied = from; stage = Begun upto left; ran_short = true }; stops = xs; tables = ts }))
           (sym back) follows;
       ok = tt;
-      err = record { batch = λ i. record { applied = from; stage = Begun (c.end-upto.ensures i) left }; some_left = more; fewer = fewer };
+      err = record { batch = λ i. record { applied = from; stage = Begun (c.end-upto.ensures i) left; ran_short = true }; some_left = more; fewer = fewer };
     })

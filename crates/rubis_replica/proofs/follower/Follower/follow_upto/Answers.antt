@@ -1,9 +1,9 @@
-use Rattle.std.proofs.Common.{rules, ◌≡◌, ◌<◌, ◌≤◌, ap, refl, sym, ◌∙◌, subst, arith, inl, inr}
+use Rattle.std.proofs.Common.{rules, true, ◌≡◌, ◌<◌, ◌≤◌, ap, refl, sym, ◌∙◌, subst, arith, inl, inr}
 use Rattle.std.specs.Prelude.{Err, length, slice_range}
 use Rattle.rubis_model.specs.Log.{cores}
 use Rattle.rubis_workers.specs.Pieces.{HoldsTo}
 use Rattle.rubis_replica.specs.Follow.{ComesTo, Follower, FollowsLog, HasStops}
-use Rattle.rubis_replica.specs.Progress.{left_of}
+use Rattle.rubis_replica.specs.Progress.{left_of, short}
 use Rattle.rubis_replica.specs.declared.progress.Progress.{Progress}
 use Rattle.rubis_replica.specs.declared.progress.Stage.TheVariants.{Begun}
 use Rattle.rubis_replica.proofs.Standing.{counted_by, err_of, follows_begun, follows_none, follows_whole}
@@ -15,7 +15,7 @@ use Rattle.rubis_replica.proofs.follower.Follower.follow_upto.Goals.{After-count
 stopped : (g : given.Over) (c : After-count_behind-left g)
     → HasStops c.args.log.now
     (record {
-      progress = record { applied = c.self.inside.progress.applied; stage = Begun c.args.upto c.count_behind-left.result };
+      progress = record { applied = c.self.inside.progress.applied; stage = Begun c.args.upto c.count_behind-left.result; ran_short = true };
       stops = c.apply_batch-ended.new.stops.items;
       tables = c.apply_batch-ended.new.tables;
     })
@@ -63,10 +63,10 @@ returns-then-left-count_parts g c =
     record {
       follows = follows_none log c.self.inside.progress.applied c.args.upto c.count_behind-left.result stops ts c.requires.within
           (let some = h.some in omega (arith, some, to.many))
-          (stopped g (goal.at.returns-then-left-count_parts g c).After-count_behind-left) c.self.inside.progress refl h.progress rests
+          (stopped g (goal.at.returns-then-left-count_parts g c).After-count_behind-left) (short c.self.inside.progress) refl (record { on = h.progress.on; inside = h.progress.inside; stage = h.progress.stage }) rests
           (c.if-left-count_parts.true ∙ c.count_parts.ensures.count);
       ok = tt;
-      err = inl (ap (λ (f : Follower). f.progress) c.self.view_is);
+      err = inl (ap (λ (f : Follower). short f.progress) c.self.view_is);
     }
 
 pub returns : goal.returns
@@ -79,7 +79,7 @@ returns g c =
     let ts = c.apply_batch-ended.new.tables in
     let to = err_of _ c.apply_batch-ended.result (search rules) c.apply_batch-ended.ensures.err in
     let more : 0 < left = let some = c.if-left-eq0.false in omega arith in
-    let new : Follower = record { progress = record { applied = c.self.inside.progress.applied; stage = Begun upto left }; stops = stops; tables = ts } in
+    let new : Follower = record { progress = record { applied = c.self.inside.progress.applied; stage = Begun upto left; ran_short = true }; stops = stops; tables = ts } in
     let follows = follows_begun log c.self.inside.progress.applied upto left stops ts c.requires.within (let some = h.some in omega (arith, some, to.many))
     (stopped g (goal.at.returns g c).After-count_behind-left) (subst (λ (f : Follower). f.progress.applied ≤ upto) (sym c.self.view_is) c.requires.on) more
     (λ e. c.if-left-count_parts.false (e ∙ sym c.count_parts.ensures.count)) in

@@ -26,8 +26,8 @@ returns-then-eq-clause-follows g c =
     let f : Follower = record { progress = site.progress; stops = site.stops.items; tables = site.tables } in
     let many = ap length c.log-upto.ensures.value in
     let at : site.progress ≡ resting_at (length c.log-before.result.now) = search rules in
-    subst (λ n. FollowsLog log (record f { progress = record { applied = site.progress.applied; stage = Keeping n } })) (sym many)
-    (subst (λ n. FollowsLog log (record f { progress = record { applied = n; stage = Keeping (length log) } })) (sym (ap (λ (p : Progress). p.applied) at))
+    subst (λ n. FollowsLog log (record f { progress = record { applied = site.progress.applied; stage = Keeping n; ran_short = site.progress.ran_short } })) (sym many)
+    (subst (λ (p : Progress). FollowsLog log (record f { progress = record p { stage = Keeping (length log) } })) (sym at)
     (keeps log (length c.log-before.result.now) f (subst (FollowsLog log) (sym c.self.view_is) t) at
     (let less = c.if-before-upto.true in omega (arith, less, many))))
 
