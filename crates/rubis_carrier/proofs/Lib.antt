@@ -1,0 +1,3 @@
+pub mod PacketFacts
+pub mod PutFacts
+pub mod Sound

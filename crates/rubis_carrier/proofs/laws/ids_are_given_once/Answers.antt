@@ -1,0 +1,5 @@
+use Rattle.rubis_carrier.proofs.Sound.{ids_once}
+use Rattle.rubis_carrier.proofs.laws.ids_are_given_once.Goals as goal
+
+pub returns : goal.returns
+returns c = ids_once

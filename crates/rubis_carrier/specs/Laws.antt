@@ -1,0 +1,70 @@
+-- What holds of a shop, whatever happens to it.
+use Rattle.std.specs.Prelude.{◌≡◌, ◌≢◌, ◌⊎◌, ℕ, List, [], ◌∷◌, ◌++◌}
+use Rattle.rubis_model.specs.Settle.{Has}
+use Rattle.rubis_carrier.specs.Packets.{Holds, Packet, name}
+use Rattle.rubis_carrier.specs.Packets.Packet.{Message, Pass}
+use Rattle.rubis_carrier.specs.Shops.{Carrier, Place, Shop, there, start}
+use Rattle.rubis_carrier.specs.Shops.Carrier.{Server}
+use Rattle.rubis_carrier.specs.Shops.Place.{InFolder, InStream}
+use Rattle.rubis_carrier.specs.Shops.Told.{Ok}
+use Rattle.rubis_carrier.specs.Events.{AreSteps, Event, IsWhole, run}
+use Rattle.rubis_carrier.specs.Events.Event.{TellsOk}
+
+-- the claim holds of a shop after any events, over files and over a server
+abbrev pub EveryShop : (Shop → Type 0) → Type 0
+EveryShop claim = (c : Carrier) (events : List Event) → AreSteps c start events → claim (run start events)
+
+-- two packets of one name, wherever they are at that moment, are the same one
+abbrev pub AreGivenOnce : Shop → Type 0
+AreGivenOnce s = (h g : Place) (x y : Packet) → Has x (there s h) → Has y (there s g) → name x ≡ name y → x ≡ y
+
+abbrev pub IdsAreGivenOnce : Type 0
+IdsAreGivenOnce = EveryShop AreGivenOnce
+
+-- so a name was given to another packet only where nothing is left that had the first
+abbrev pub GivenAgainOnlyWhereLost : Type 0
+GivenAgainOnlyWhereLost = (c : Carrier) (before later : List Event) → AreSteps c start (before ++ later) → (h g : Place) (x y : Packet)
+    → Has x (there (run start before) h) → Has y (there (run start (before ++ later)) g) → name x ≡ name y → x ≢ y
+    → (f : Place) → ¬ (Has x (there (run start (before ++ later)) f))
+
+-- ---- what was accepted
+
+-- the folder has each message that stands anywhere
+abbrev pub HasReadAll : Shop → ℕ → Type 0
+HasReadAll s k = (h : Place) (i n r : ℕ) → Has (Message i n r) (there s h) → Has (Message i n r) (s.folder k).kept
+
+-- an ask that was told ok, with that id: its message is in each folder that has read everything, as long as one of the places where it
+-- stood is whole
+abbrev pub NothingAcceptedIsLost : Type 0
+NothingAcceptedIsLost = (c : Carrier) (before later : List Event) → AreSteps c start (before ++ later) → (r i n : ℕ) (h : Place)
+    → Has (Ok r i n) (run start before).told → Has (Message i n r) (there (run start before) h) → IsWhole h later
+    → (k : ℕ) → HasReadAll (run start (before ++ later)) k → Has (Message i n r) ((run start (before ++ later)).folder k).kept
+
+-- where it is told, it stands in the folder
+abbrev pub ToldOkIsKept : Type 0
+ToldOkIsKept = (c : Carrier) (before : List Event) (k r n : ℕ) → AreSteps c start (before ++ TellsOk k r n ∷ [])
+    → let s = run start (before ++ TellsOk k r n ∷ []) in
+    Has (Ok r (s.folder k).site n) s.told × Has (Message (s.folder k).site n r) (s.folder k).kept
+
+-- ---- the token
+
+-- some steps lead to where the site of that folder holds the token
+abbrev pub CanHold : Carrier → Shop → ℕ → Type 0
+CanHold c s k = (more : List Event) × AreSteps c s more × Holds ((run s more).folder k).site ((run s more).folder k).kept
+
+-- a folder of site i; or, over a server, its stream
+abbrev pub IsOf : Carrier → Shop → ℕ → Place → Type 0
+IsOf c s i (InFolder k) = (s.folder k).site ≡ i
+IsOf c s i (InStream j) = (j ≡ i) × (c ≡ Server)
+
+-- the last pass, of site i to site j, stands where it did: in a folder of site i that is whole, or in its stream. Then site j holds
+-- the token, or reads that pass and holds it
+abbrev pub TheTokenComesBack : Type 0
+TheTokenComesBack = (c : Carrier) (before later : List Event) → AreSteps c start (before ++ later) → (i t j a : ℕ) (h : Place)
+    → Has (Pass i t j a) (there (run start before) h) → IsWhole h later
+    → let s = run start (before ++ later) in
+    t ≡ s.turn → IsOf c s i h → (k : ℕ) → (s.folder k).site ≡ j → CanHold c s k
+
+-- before the first pass site 0 holds it
+abbrev pub TheFirstSiteHolds : Type 0
+TheFirstSiteHolds = EveryShop (λ s. s.turn ≡ 0 → (k : ℕ) → (s.folder k).site ≡ 0 → Holds 0 (s.folder k).kept)

@@ -1,0 +1,4 @@
+pub mod Packets
+pub mod Shops
+pub mod Events
+pub mod Laws

@@ -1,0 +1,6 @@
+//! What holds of a shop, whatever happens to its folders, its carrier and its askers.
+#![tactic(auto)]
+
+mod laws;
+
+pub use laws::ids_are_given_once;
