@@ -1,3 +1,4 @@
 pub mod PacketFacts
 pub mod PutFacts
 pub mod Sound
+pub mod Whole

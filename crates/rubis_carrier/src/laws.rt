@@ -1,9 +1,17 @@
 //! The laws of shops, each with its statement in specs/.
 
-ghost use Rattle.rubis_carrier.specs.Laws.{IdsAreGivenOnce};
+ghost use Rattle.rubis_carrier.specs.Laws.{GivenAgainOnlyWhereLost, IdsAreGivenOnce, NothingAcceptedIsLost, ToldOkIsKept};
 
 /// Two messages of one site under one number, and two passes of one site under one turn, are the same one, in whatever folder or stream
-/// they stand at that moment. So a number can be given again only where nothing is left that knew of the first.
+/// they stand at that moment. So a number is given again only where nothing is left that had the first.
 pub fn ids_are_given_once()
-    ensures { IdsAreGivenOnce }
+    ensures once { IdsAreGivenOnce }
+    ensures again { GivenAgainOnlyWhereLost }
+{}
+
+/// The message of an ask that was told ok, under the id that was told, is in every folder that has read everything, as long as one of
+/// the places where it stood, a folder or a stream, is whole. Where it is told, it stands in the folder.
+pub fn nothing_accepted_is_lost()
+    ensures kept { ToldOkIsKept }
+    ensures stays { NothingAcceptedIsLost }
 {}

@@ -1,5 +1,6 @@
 use Rattle.rubis_carrier.proofs.Sound.{ids_once}
+use Rattle.rubis_carrier.proofs.Whole.{given_again}
 use Rattle.rubis_carrier.proofs.laws.ids_are_given_once.Goals as goal
 
 pub returns : goal.returns
-returns c = ids_once
+returns c = record { once = ids_once; again = given_again }
