@@ -2,3 +2,4 @@ pub mod PacketFacts
 pub mod PutFacts
 pub mod Sound
 pub mod Whole
+pub mod Token

@@ -178,3 +178,16 @@ Harms e h = ⊥
 abbrev pub IsWhole : Place → List Event → Type 0
 IsWhole h [] = Unit {0}
 IsWhole h (e ∷ rest) = (Harms e h → ⊥) × IsWhole h rest
+
+-- ---- what goes on by itself
+
+-- a folder is started, and packets are carried
+abbrev pub Carries : Event → Type 0
+Carries (Starts k) = Unit {0}
+Carries (Appends k x) = Unit {0}
+Carries (Reads k x) = Unit {0}
+Carries e = ⊥
+
+abbrev pub AllCarry : List Event → Type 0
+AllCarry [] = Unit {0}
+AllCarry (e ∷ rest) = Carries e × AllCarry rest

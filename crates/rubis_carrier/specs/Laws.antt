@@ -7,7 +7,7 @@ use Rattle.rubis_carrier.specs.Shops.{Carrier, Place, Shop, there, start}
 use Rattle.rubis_carrier.specs.Shops.Carrier.{Server}
 use Rattle.rubis_carrier.specs.Shops.Place.{InFolder, InStream}
 use Rattle.rubis_carrier.specs.Shops.Told.{Ok}
-use Rattle.rubis_carrier.specs.Events.{AreSteps, Event, IsWhole, run}
+use Rattle.rubis_carrier.specs.Events.{AllCarry, AreSteps, Event, IsWhole, run}
 use Rattle.rubis_carrier.specs.Events.Event.{TellsOk}
 
 -- the claim holds of a shop after any events, over files and over a server
@@ -48,9 +48,9 @@ ToldOkIsKept = (c : Carrier) (before : List Event) (k r n : ℕ) → AreSteps c 
 
 -- ---- the token
 
--- some steps lead to where the site of that folder holds the token
+-- the site of that folder comes to hold the token, by folders that are started and packets that are carried alone
 abbrev pub CanHold : Carrier → Shop → ℕ → Type 0
-CanHold c s k = (more : List Event) × AreSteps c s more × Holds ((run s more).folder k).site ((run s more).folder k).kept
+CanHold c s k = (more : List Event) × AllCarry more × AreSteps c s more × Holds ((run s more).folder k).site ((run s more).folder k).kept
 
 -- a folder of site i; or, over a server, its stream
 abbrev pub IsOf : Carrier → Shop → ℕ → Place → Type 0

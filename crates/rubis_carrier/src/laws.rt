@@ -1,6 +1,7 @@
 //! The laws of shops, each with its statement in specs/.
 
-ghost use Rattle.rubis_carrier.specs.Laws.{GivenAgainOnlyWhereLost, IdsAreGivenOnce, NothingAcceptedIsLost, ToldOkIsKept};
+ghost use Rattle.rubis_carrier.specs.Laws.{GivenAgainOnlyWhereLost, IdsAreGivenOnce, NothingAcceptedIsLost, TheFirstSiteHolds, TheTokenComesBack};
+ghost use Rattle.rubis_carrier.specs.Laws.{ToldOkIsKept};
 
 /// Two messages of one site under one number, and two passes of one site under one turn, are the same one, in whatever folder or stream
 /// they stand at that moment. So a number is given again only where nothing is left that had the first.
@@ -14,4 +15,12 @@ pub fn ids_are_given_once()
 pub fn nothing_accepted_is_lost()
     ensures kept { ToldOkIsKept }
     ensures stays { NothingAcceptedIsLost }
+{}
+
+/// The last pass of the token, if it stands in a folder of its sender that is whole, or in that site's stream: some steps lead to where
+/// the site that it is for holds the token. Whatever was lost meanwhile, and whoever put what back: a pass is found by its turn. Before
+/// the first pass site 0 holds the token.
+pub fn the_token_comes_back()
+    ensures back { TheTokenComesBack }
+    ensures first { TheFirstSiteHolds }
 {}
