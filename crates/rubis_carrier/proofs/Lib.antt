@@ -3,3 +3,5 @@ pub mod PutFacts
 pub mod Sound
 pub mod Whole
 pub mod Token
+pub mod Changes
+pub mod Telling

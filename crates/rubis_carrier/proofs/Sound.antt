@@ -282,7 +282,7 @@ stream_from : (s : Shop) (i : ℕ) (xs : List Packet) → ((x : Packet) → Has 
 stream_from s i xs from = put_cases (λ j ys. (x : Packet) → Has x ys → IsSomewhere s x) i xs s.stream from (λ j n x h. (InStream j, h))
 
 -- what a site finds of a packet is somewhere
-offered : (c : Carrier) (s : Shop) (x : Packet) → IsOffered c s x → IsSomewhere s x
+pub offered : (c : Carrier) (s : Shop) (x : Packet) → IsOffered c s x → IsSomewhere s x
 offered Files s x o = (InFolder o.0, o.2)
 offered Server s x o = (InStream (sender x), o)
 

@@ -6,7 +6,7 @@ use Rattle.rubis_carrier.specs.Packets.Packet.{Message, Pass}
 use Rattle.rubis_carrier.specs.Shops.{Carrier, Place, Shop, there, start}
 use Rattle.rubis_carrier.specs.Shops.Carrier.{Server}
 use Rattle.rubis_carrier.specs.Shops.Place.{InFolder, InStream}
-use Rattle.rubis_carrier.specs.Shops.Told.{Ok}
+use Rattle.rubis_carrier.specs.Shops.Told.{No, Ok}
 use Rattle.rubis_carrier.specs.Events.{AllCarry, AreSteps, Event, IsWhole, run}
 use Rattle.rubis_carrier.specs.Events.Event.{TellsOk}
 
@@ -68,3 +68,22 @@ TheTokenComesBack = (c : Carrier) (before later : List Event) → AreSteps c sta
 -- before the first pass site 0 holds it
 abbrev pub TheFirstSiteHolds : Type 0
 TheFirstSiteHolds = EveryShop (λ s. s.turn ≡ 0 → (k : ℕ) → (s.folder k).site ≡ 0 → Holds 0 (s.folder k).kept)
+
+-- ---- what askers are told
+
+-- no message of the ask stands anywhere
+abbrev pub IsUnmade : Shop → ℕ → Type 0
+IsUnmade s r = (h : Place) (i n : ℕ) → ¬ (Has (Message i n r) (there s h))
+
+-- an ask that was refused, or of which nothing was given to a site, is never made a message of
+abbrev pub WhatIsToldIsTrue : Type 0
+WhatIsToldIsTrue = (c : Carrier) (before later : List Event) → AreSteps c start (before ++ later) → (r : ℕ) → Has (No r) (run start before).told
+    → IsUnmade (run start (before ++ later)) r
+
+-- nobody is told of one ask both that it was accepted and that it wasn't
+abbrev pub NobodyIsToldBoth : Type 0
+NobodyIsToldBoth = EveryShop (λ s. (r i n : ℕ) → Has (Ok r i n) s.told → ¬ (Has (No r) s.told))
+
+-- an ask is accepted once
+abbrev pub AsksAreAcceptedOnce : Type 0
+AsksAreAcceptedOnce = EveryShop (λ s. (h g : Place) (r i n j m : ℕ) → Has (Message i n r) (there s h) → Has (Message j m r) (there s g) → (i ≡ j) × (n ≡ m))

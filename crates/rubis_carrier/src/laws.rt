@@ -1,7 +1,7 @@
 //! The laws of shops, each with its statement in specs/.
 
-ghost use Rattle.rubis_carrier.specs.Laws.{GivenAgainOnlyWhereLost, IdsAreGivenOnce, NothingAcceptedIsLost, TheFirstSiteHolds, TheTokenComesBack};
-ghost use Rattle.rubis_carrier.specs.Laws.{ToldOkIsKept};
+ghost use Rattle.rubis_carrier.specs.Laws.{AsksAreAcceptedOnce, GivenAgainOnlyWhereLost, IdsAreGivenOnce, NothingAcceptedIsLost, TheFirstSiteHolds, TheTokenComesBack};
+ghost use Rattle.rubis_carrier.specs.Laws.{NobodyIsToldBoth, ToldOkIsKept, WhatIsToldIsTrue};
 
 /// Two messages of one site under one number, and two passes of one site under one turn, are the same one, in whatever folder or stream
 /// they stand at that moment. So a number is given again only where nothing is left that had the first.
@@ -23,4 +23,12 @@ pub fn nothing_accepted_is_lost()
 pub fn the_token_comes_back()
     ensures back { TheTokenComesBack }
     ensures first { TheFirstSiteHolds }
+{}
+
+/// An ask of which the asker was told that it was refused, or that nothing was given to the site, stands nowhere, then and for ever. No
+/// asker is told both that and ok, and no ask is accepted twice.
+pub fn what_is_told_is_true()
+    ensures never { WhatIsToldIsTrue }
+    ensures one { NobodyIsToldBoth }
+    ensures once { AsksAreAcceptedOnce }
 {}
