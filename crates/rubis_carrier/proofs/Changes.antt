@@ -7,7 +7,7 @@ use Rattle.rubis_model.proofs.Lists.{push_cases}
 use Rattle.rubis_carrier.specs.Packets.{Packet, own, sender}
 use Rattle.rubis_carrier.specs.Shops.{Carrier, Folder, Place, Shop, Told, put, there}
 use Rattle.rubis_carrier.specs.Shops.Place.{InFolder, InStream}
-use Rattle.rubis_carrier.specs.Events.{Event, May, after, forgotten, next_message, next_pass, without}
+use Rattle.rubis_carrier.specs.Events.{Event, IsFirst, May, after, first, forgotten, next_message, next_pass, others, without}
 use Rattle.rubis_carrier.specs.Events.Event.{Accepts, Appends, Gives, IsAsked, IsChanged, IsCopied, IsKilled, IsLost, LosesEnd, MachineStarts, Opens}
 use Rattle.rubis_carrier.specs.Events.Event.{Passes, Reads, Rebuilds, Refuses, Serves, ServerLosesAll, Starts, StreamLosesEnd, TellsNothing, TellsOk}
 use Rattle.rubis_carrier.specs.Events.Event.{TellsUnknown, WritesAnew}
@@ -42,7 +42,7 @@ from_step c s (Starts k) (InFolder j) x m a = in_folder s (Starts k) k _ x (λ b
 from_step c s (Opens k) (InFolder j) x m a = in_opened s k _ x refl j a
 from_step c s (IsKilled k) (InFolder j) x m a = in_folder s (IsKilled k) k _ x (λ b. inl (InFolder k, b)) j a
 from_step c s (MachineStarts k) (InFolder j) x m a = in_folder s (MachineStarts k) k _ x (λ b. inl (InFolder k, b)) j a
-from_step c s (IsAsked r life) (InFolder j) x m a = inl (InFolder j, a)
+from_step c s (IsAsked r life n) (InFolder j) x m a = inl (InFolder j, a)
 from_step c s (Serves k r) (InFolder j) x m a = in_folder s (Serves k r) k _ x (λ b. inl (InFolder k, b)) j a
 from_step c s (Gives k r) (InFolder j) x m a = in_folder s (Gives k r) k _ x (λ b. inl (InFolder k, b)) j a
 from_step c s (Accepts k r) (InFolder j) x m a =
@@ -83,11 +83,37 @@ from_step c s e (InStream i) x m a = inl (InStream i, a)
 pub has_without : (r q : ℕ) (asks : List ℕ) → Has q (without r asks) → Has q asks × (q ≢ r)
 has_without r q [] h = absurd h
 has_without r q (a ∷ asks) h = elim (eqb a r) as (λ b. eqb a r ≡ b → Has q (cond (not b) (a ∷ without r asks) (without r asks)) → Has q (a ∷ asks) × (q ≢ r)) [
-    | true ↦ λ e g. let rest = has_without r q asks g in (inr rest.0, rest.1)
-    | false ↦ λ e g. ⊎_elim (λ here. (inl here, λ same. away here same e)) (λ later. let rest = has_without r q asks later in (inr rest.0, rest.1)) g
-  ] refl h
+  | true ↦ λ e g. let rest = has_without r q asks g in (inr rest.0, rest.1)
+  | false ↦ λ e g. ⊎_elim (λ here. (inl here, λ same. away here same e)) (λ later. let rest = has_without r q asks later in (inr rest.0, rest.1)) g
+] refl h
   where
     away : q ≡ a → q ≡ r → eqb a r ≡ false → ⊥
     away here same e =
         let is : eqb a r ≡ true = subst (λ n. eqb n r ≡ true) (sym same ∙ here) (eqb_same r) in
         cc (is, e)
+
+-- ---- lists in which each ask is once
+
+abbrev pub AreApart : List ℕ → Type 0
+AreApart [] = Unit {0}
+AreApart (r ∷ asks) = (Has r asks → ⊥) × AreApart asks
+
+-- one more, that isn't there
+pub apart_more : (r : ℕ) (asks : List ℕ) → AreApart asks → (Has r asks → ⊥) → AreApart (asks ++ r ∷ [])
+apart_more r [] a n = (λ h. h, tt)
+apart_more r (q ∷ asks) a n =
+    (λ h. ⊎_elim (λ old. a.0 old) (λ e. n (inl (sym e))) (push_cases q r asks h), apart_more r asks a.1 (λ h. n (inr h)))
+
+pub apart_others : (asks : List ℕ) → AreApart asks → AreApart (others asks)
+apart_others [] a = tt
+apart_others (r ∷ asks) a = a.1
+
+-- those behind the first are others
+pub has_others : (q : ℕ) (asks : List ℕ) → AreApart asks → Has q (others asks) → Has q asks × (q ≢ first asks)
+has_others q [] a h = absurd h
+has_others q (r ∷ asks) a h = (inr h, λ e. a.0 (subst (λ n. Has n asks) e h))
+
+-- the first of a list is in it
+pub first_in : (r : ℕ) (asks : List ℕ) → IsFirst r asks → (first asks ≡ r) × Has r asks
+first_in r [] f = absurd (cc f.1)
+first_in r (q ∷ asks) f = (cc f.1, inl (cc f.1))

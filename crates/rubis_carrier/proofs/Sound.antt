@@ -8,7 +8,7 @@ use Rattle.rubis_carrier.specs.Packets.Packet.{Message, Pass}
 use Rattle.rubis_carrier.specs.Shops.{Carrier, Folder, IsCompared, IsAlone, MayOpen, Place, Shop, empty, put, start, there}
 use Rattle.rubis_carrier.specs.Shops.Carrier.{Files, Server}
 use Rattle.rubis_carrier.specs.Shops.Place.{InFolder, InStream}
-use Rattle.rubis_carrier.specs.Events.{AreSteps, Event, IsOffered, May, after, forgotten, keeping, next_message, next_pass, run, without}
+use Rattle.rubis_carrier.specs.Events.{AreSteps, Event, IsOffered, May, accepting, after, forgotten, keeping, next_message, next_pass, run}
 use Rattle.rubis_carrier.specs.Events.Event.{Accepts, Appends, Gives, IsAsked, IsChanged, IsCopied, IsKilled, IsLost, LosesEnd, MachineStarts, Opens, Passes}
 use Rattle.rubis_carrier.specs.Events.Event.{Reads, Rebuilds, Refuses, Serves, ServerLosesAll, Starts, StreamLosesEnd, TellsNothing, TellsOk}
 use Rattle.std.proofs.lemmas.Bool.{eqb-false, eqb-true}
@@ -308,7 +308,7 @@ sound_step c s (IsKilled k) m q = less_folder s q k _
     (record { from = λ x h. (InFolder k, h); was = λ r. r; site = λ r. refl; kept = λ r x h. h; opened = λ o. gone o }) _ refl refl (omega arith)
 sound_step c s (MachineStarts k) m q = less_folder s q k _
     (record { from = λ x h. (InFolder k, h); was = λ r. gone r; site = λ r. refl; kept = λ r x h. h; opened = λ o. gone o }) _ refl refl (omega arith)
-sound_step c s (IsAsked r life) m q = less_sound s _ q (record {
+sound_step c s (IsAsked r life n) m q = less_sound s _ q (record {
   folders = same_folder s q;
   streams = λ i x h. (InStream i, h);
   turn = omega arith;
@@ -317,7 +317,7 @@ sound_step c s (Serves k r) m q = less_folder s q k _ (same_as s q k _ refl refl
 sound_step c s (Gives k r) m q = less_folder s q k _ (same_as s q k _ refl refl refl refl) _ refl refl (omega arith)
 sound_step c s (Accepts k r) m q =
     let y = next_message (s.folder k) r in
-    let f : Folder = record (keeping (s.folder k) y) { given = without r (s.folder k).given } in
+    let f : Folder = accepting (s.folder k) r in
     let l : Keeps (s.folder k) f y = record { kept = refl; site = refl; remembered = refl; opened = refl } in
     sent_sound s (after s (Accepts k r)) k y q (sends s q k f y l _ refl refl m.0 refl (new_message (s.folder k) r) tt (omega arith))
 sound_step c s (Refuses k r) m q = less_folder s q k _ (same_as s q k _ refl refl refl refl) _ refl refl (omega arith)

@@ -72,9 +72,12 @@ both_carry [] b m n = n
 both_carry (e ∷ a) b m n = (m.0, both_carry a b m.1 n)
 
 can_then : (c : Carrier) (s : Shop) (a : List Event) (k : ℕ) → AllCarry a → AreSteps c s a → CanHold c (run s a) k → CanHold c s k
-can_then c s a k carry m h =
-    (a ++ h.0, both_carry a h.0 carry h.1, steps_append c s a h.0 m h.2,
-    subst (λ (t : Shop). Holds (t.folder k).site (t.folder k).kept) (sym (run_append s a h.0)) h.3)
+can_then c s a k carry m h = (
+  a ++ h.0,
+  both_carry a h.0 carry h.1,
+  steps_append c s a h.0 m h.2,
+  subst (λ (t : Shop). Holds (t.folder k).site (t.folder k).kept) (sym (run_append s a h.0)) h.3,
+)
 
 -- a folder that runs, of the site to which the last pass goes, is offered that
 reads_it : (c : Carrier) (s : Shop) → Sound s → (i t a k : ℕ) → t ≡ s.turn → 1 ≤ t → i ≢ (s.folder k).site → 0 < (s.folder k).life
@@ -86,9 +89,12 @@ reads_it c s q i t a k e one n runs offered =
     let here : put k f s.folder k ≡ f = put_here k f s.folder in
     let last : taken (put k f s.folder k).site (put k f s.folder k).kept ≡ taken (s.folder k).site ((s.folder k).kept ++ x ∷ []) =
     ap (λ (g : Folder). taken g.site g.kept) here in
-    let within = taken_within i t (s.folder k).site a ((s.folder k).kept ++ x ∷ []) (has_last x (s.folder k).kept) in
-    (Reads k x ∷ [], (tt, tt), steps,
-    holds_last (run s (Reads k x ∷ [])) (sound_after c s (Reads k x ∷ []) steps q) k (omega (arith, one, e)) (omega (arith, last, within, e)))
+    let within = taken_within i t (s.folder k).site a ((s.folder k).kept ++ x ∷ []) (has_last x (s.folder k).kept) in (
+      Reads k x ∷ [],
+      (tt, tt),
+      steps,
+      holds_last (run s (Reads k x ∷ [])) (sound_after c s (Reads k x ∷ []) steps q) k (omega (arith, one, e)) (omega (arith, last, within, e)),
+    )
 
 -- once it runs
 offered_awake : (c : Carrier) (s : Shop) (k : ℕ) (w : IsAwake c s k) (x : Packet) → IsOffered c s x → IsOffered c (run s w.events) x

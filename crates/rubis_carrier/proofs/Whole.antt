@@ -10,7 +10,7 @@ use Rattle.rubis_carrier.specs.Events.{AreSteps, Event, Harms, IsWhole, May, aft
 use Rattle.rubis_carrier.specs.Events.Event.{Accepts, Appends, Gives, IsAsked, IsChanged, IsCopied, IsKilled, IsLost, LosesEnd, MachineStarts, Opens}
 use Rattle.rubis_carrier.specs.Events.Event.{Passes, Reads, Rebuilds, Refuses, Serves, ServerLosesAll, Starts, StreamLosesEnd, TellsNothing, TellsOk}
 use Rattle.rubis_carrier.specs.Events.Event.{TellsUnknown, WritesAnew}
-use Rattle.rubis_carrier.specs.Laws.{GivenAgainOnlyWhereLost, NothingAcceptedIsLost, ToldOkIsKept}
+use Rattle.rubis_carrier.specs.Laws.{GivenAgainOnlyWhereLost, NothingAcceptedIsLost}
 use Rattle.rubis_carrier.proofs.PutFacts.{put_cases}
 use Rattle.rubis_carrier.proofs.Sound.{ids_once}
 
@@ -61,7 +61,7 @@ folder_step c s (Starts k) j m n x h = same_or_more s k _ (λ z a. a) j x h
 folder_step c s (Opens k) j m n x h = opened_kept s k _ x refl j h
 folder_step c s (IsKilled k) j m n x h = same_or_more s k _ (λ z a. a) j x h
 folder_step c s (MachineStarts k) j m n x h = same_or_more s k _ (λ z a. a) j x h
-folder_step c s (IsAsked r life) j m n x h = h
+folder_step c s (IsAsked r life d) j m n x h = h
 folder_step c s (Serves k r) j m n x h = same_or_more s k _ (λ z a. a) j x h
 folder_step c s (Gives k r) j m n x h = same_or_more s k _ (λ z a. a) j x h
 folder_step c s (Accepts k r) j m n x h = same_or_more s k _ (λ z a. has_left z (s.folder k).kept _ a) j x h
@@ -112,9 +112,3 @@ nothing_lost c before later m r i n h told a w k all = all h i n r (whole_then c
 
 pub given_again : GivenAgainOnlyWhereLost
 given_again c before later m h g x y a b e other f still = other (ids_once c (before ++ later) m f g x y still b e)
-
-pub told_ok : ToldOkIsKept
-told_ok c before k r n m =
-    let last = steps_right c start before (TellsOk k r n ∷ []) m in
-    subst (λ (s : Shop). Has (Told.Ok r (s.folder k).site n) s.told × Has (Message (s.folder k).site n r) (s.folder k).kept)
-    (sym (run_append start before (TellsOk k r n ∷ []))) (inl refl, last.0)

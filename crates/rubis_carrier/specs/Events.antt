@@ -1,5 +1,5 @@
 -- What happens to a shop, event by event: when it may, and what it leads to.
-use Rattle.std.specs.Prelude.{◌≡◌, ◌≢◌, ◌⊎◌, ℕ, ◌+◌, ◌<◌, ◌≤◌, ◌==◌, Bool, true, false, not, cond, List, [], ◌∷◌, ◌++◌, filter, max, take}
+use Rattle.std.specs.Prelude.{◌≡◌, ◌≢◌, ◌⊎◌, ℕ, ◌+◌, ◌<◌, ◌≤◌, ◌==◌, Bool, true, false, not, zero, suc, cond, List, [], ◌∷◌, ◌++◌, filter, max, take}
 use Rattle.rubis_model.specs.Settle.{Has}
 use Rattle.rubis_carrier.specs.Packets.{Holds, Packet, highest, own, sender, taken, unchanged}
 use Rattle.rubis_carrier.specs.Packets.Packet.{Message, Pass}
@@ -14,9 +14,9 @@ pub data Event : Type 0 where
   Opens : (folder : ℕ) → Event
   IsKilled : (folder : ℕ) → Event
   MachineStarts : (folder : ℕ) → Event
-  -- an asker asks, and names the life that is to serve the ask; its supervisor takes it, and gives it to the site, which accepts or
-  -- refuses it
-  IsAsked : (ask life : ℕ) → Event
+  -- an asker asks, names the life that is to serve the ask, and sends so many records; its supervisor takes it, and gives it to the
+  -- site, which accepts or refuses the record of that ask
+  IsAsked : (ask life records : ℕ) → Event
   Serves : (folder ask : ℕ) → Event
   Gives : (folder ask : ℕ) → Event
   Accepts : (folder ask : ℕ) → Event
@@ -49,12 +49,17 @@ abbrev pub IsOffered : Carrier → Shop → Packet → Type 0
 IsOffered Files s x = (j : ℕ) × ((s.folder j).site ≡ sender x) × Has x (s.folder j).kept
 IsOffered Server s x = Has x (s.stream (sender x))
 
--- a supervisor in the life that the ask names takes it, once
+-- a supervisor in the life that the ask names takes it, once, and only if it is one record
 pub record MayServe (s : Shop) (k r : ℕ) : Type 0 where
   pub runs : 0 < (s.folder k).life
   pub asked : r ≤ s.asks
-  pub named : s.named r ≡ (s.folder k).life
+  pub life : (s.request r).life ≡ (s.folder k).life
+  pub one : (s.request r).records ≡ 1
   pub once : Has r (s.folder k).served → ⊥
+
+-- it is the first of the list
+abbrev pub IsFirst : ℕ → List ℕ → Type 0
+IsFirst r asks = (rest : List ℕ) × (asks ≡ r ∷ rest)
 
 -- it has what was left of the folder, and nothing that isn't somewhere
 pub record MayRebuild (s : Shop) (k : ℕ) (packets : List Packet) : Type 0 where
@@ -67,12 +72,12 @@ May c s (Starts k) = (s.folder k).life ≡ 0
 May c s (Opens k) = MayOpen s k
 May c s (IsKilled k) = Unit {0}
 May c s (MachineStarts k) = Unit {0}
-May c s (IsAsked r life) = (r ≡ s.asks + 1) × (life ≤ s.begun)
+May c s (IsAsked r life n) = (r ≡ s.asks + 1) × (life ≤ s.begun)
 May c s (Serves k r) = MayServe s k r
 May c s (Gives k r) = ((s.folder k).is_open ≡ true) × Has r (s.folder k).waiting
-May c s (Accepts k r) = ((s.folder k).is_open ≡ true) × Has r (s.folder k).given
-May c s (Refuses k r) = Has r (s.folder k).given
-May c s (TellsOk k r n) = Has (Message (s.folder k).site n r) (s.folder k).kept
+May c s (Accepts k r) = ((s.folder k).is_open ≡ true) × IsFirst r (s.folder k).lines
+May c s (Refuses k r) = IsFirst r (s.folder k).lines
+May c s (TellsOk k r n) = Has (record { ask = r; number = n }) (s.folder k).answered
 May c s (TellsNothing k r) = Has r (s.folder k).waiting
 May c s (TellsUnknown k r) = Unit {0}
 May c s (Passes k to) = ((s.folder k).is_open ≡ true) × Holds (s.folder k).site (s.folder k).kept × (to ≢ (s.folder k).site)
@@ -91,7 +96,7 @@ May c s (WritesAnew k) = (0 < (s.folder k).life) × (c ≡ Server) × ((x : Pack
 
 -- nothing runs it
 abbrev pub stopped : Folder → Folder
-stopped f = record f { life = 0; is_open = false; served = []; waiting = []; given = [] }
+stopped f = record f { life = 0; is_open = false; served = []; waiting = []; given = []; lines = []; answered = [] }
 
 -- and its machine knows nothing of it
 abbrev pub unknown : Folder → Folder
@@ -109,6 +114,20 @@ forgotten i f = record f { remembered = cond (f.site == i) false f.remembered }
 abbrev pub without : ℕ → List ℕ → List ℕ
 without r asks = filter (λ q. not (q == r)) asks
 
+-- the first of a list, and the others
+abbrev pub first : List ℕ → ℕ
+first [] = 0
+first (r ∷ asks) = r
+
+abbrev pub others : List ℕ → List ℕ
+others [] = []
+others (r ∷ asks) = asks
+
+-- so many times
+abbrev pub times : ℕ → ℕ → List ℕ
+times zero r = []
+times (suc n) r = r ∷ times n r
+
 -- the next message, of that ask; the next turn of the token
 abbrev pub next_message : Folder → ℕ → Packet
 next_message f r = Message f.site (highest f.site f.kept + 1) r
@@ -118,6 +137,20 @@ next_pass f to = Pass f.site (taken f.site f.kept + 1) to (highest f.site f.kept
 
 abbrev pub keeping : Folder → Packet → Folder
 keeping f x = record f { kept = f.kept ++ x ∷ [] }
+
+-- an ask that waited is given to the site, as so many records
+abbrev pub giving : Folder → ℕ → ℕ → Folder
+giving f r n = record f { waiting = without r f.waiting; given = f.given ++ r ∷ []; lines = f.lines ++ times n r }
+
+-- the first record was answered; so, it is taken, was the first ask
+abbrev pub answering : Folder → Folder
+answering f = record f { given = others f.given; lines = others f.lines }
+
+-- the site accepts a record that came with that ask
+abbrev pub accepting : Folder → ℕ → Folder
+accepting f r = record (keeping (answering f) (next_message f r)) {
+  answered = record { ask = first f.given; number = highest f.site f.kept + 1 } ∷ f.answered;
+}
 
 abbrev pub telling : told → Shop → Shop
 telling what s = record s { told = what ∷ s.told }
@@ -131,11 +164,11 @@ after s (Opens k) =
     record s { folder = put k (record (s.folder k) { is_open = true; remembered = true }) (λ j. forgotten (s.folder k).site (s.folder j)) }
 after s (IsKilled k) = with_folder k (stopped (s.folder k)) s
 after s (MachineStarts k) = with_folder k (unknown (s.folder k)) s
-after s (IsAsked r life) = record s { asks = r; named = put r life s.named }
+after s (IsAsked r life n) = record s { asks = r; request = put r (record { life = life; records = n }) s.request }
 after s (Serves k r) = with_folder k (record (s.folder k) { served = r ∷ (s.folder k).served; waiting = r ∷ (s.folder k).waiting }) s
-after s (Gives k r) = with_folder k (record (s.folder k) { waiting = without r (s.folder k).waiting; given = r ∷ (s.folder k).given }) s
-after s (Accepts k r) = with_folder k (record (keeping (s.folder k) (next_message (s.folder k) r)) { given = without r (s.folder k).given }) s
-after s (Refuses k r) = telling (told.No r) (with_folder k (record (s.folder k) { given = without r (s.folder k).given }) s)
+after s (Gives k r) = with_folder k (giving (s.folder k) r (s.request r).records) s
+after s (Accepts k r) = with_folder k (accepting (s.folder k) r) s
+after s (Refuses k r) = telling (told.No (first (s.folder k).given)) (with_folder k (answering (s.folder k)) s)
 after s (TellsOk k r n) = telling (told.Ok r (s.folder k).site n) s
 after s (TellsNothing k r) = telling (told.No r) (with_folder k (record (s.folder k) { waiting = without r (s.folder k).waiting }) s)
 after s (TellsUnknown k r) = telling (told.Unknown r) s

@@ -3,10 +3,16 @@ use Rattle.std.specs.Prelude.{◌≡◌, ◌⊎◌, ℕ, ◌+◌, ◌<◌, ◌==
 use Rattle.rubis_model.specs.Settle.{Has}
 use Rattle.rubis_carrier.specs.Packets.{IsReached, Packet, sender}
 
+-- an answer of a site that accepted: the ask that it is taken to be of, and the number that it says
+pub record Answer : Type 0 where
+  pub ask : ℕ
+  pub number : ℕ
+
 -- A folder of a site, of which there may be several: a copy is a folder of its own. `kept` is on the disk: all that its site sent and
 -- took in, in order. The other fields are in memory: the life in which a supervisor runs the folder, or 0; whether its site may take
--- asks; whether its machine remembers that it has all that it ever told, and was the last of its site that took asks; and of the asks of
--- this life: those that it was sent, those that wait there, and those that were given to the site, which hasn't answered them
+-- asks; whether its machine remembers that it has all that it ever told, and was the last of its site that took asks. And of the asks of
+-- this life: those that it was sent; those that wait there; those that were given to the site and have no answer, in order; the records
+-- that the site has still to read, each as the ask that it came from; and the answers
 pub record Folder : Type 0 where
   pub site : ℕ
   pub kept : List Packet
@@ -16,6 +22,8 @@ pub record Folder : Type 0 where
   pub served : List ℕ
   pub waiting : List ℕ
   pub given : List ℕ
+  pub lines : List ℕ
+  pub answered : List Answer
 
 -- what an asker was told: `ok`, with an id; that the ask was refused, or that nothing was given to the site; or that it isn't known
 pub data Told : Type 0 where
@@ -28,24 +36,29 @@ pub data Carrier : Type 0 where
   Files : Carrier
   Server : Carrier
 
--- all folders, by number, and all streams, by site; how many lives were begun, and how many asks were asked; which life an ask names; all
--- that askers were told; and the greatest turn of the token that was passed
+-- what an asker sends: the life that is to serve it, and how many records its text is, which is one for an ask as it should be
+pub record Request : Type 0 where
+  pub life : ℕ
+  pub records : ℕ
+
+-- all folders, by number, and all streams, by site; how many lives were begun, and how many asks were asked; what each of them is;
+-- all that askers were told; and the greatest turn of the token that was passed
 pub record Shop : Type 0 where
   pub folder : ℕ → Folder
   pub stream : ℕ → List Packet
   pub begun : ℕ
   pub asks : ℕ
-  pub named : ℕ → ℕ
+  pub request : ℕ → Request
   pub told : List Told
   pub turn : ℕ
 
 -- a folder that has nothing: a new one, or one that was lost
 abbrev pub empty : ℕ → Folder
-empty i = record { site = i; kept = []; life = 0; is_open = false; remembered = false; served = []; waiting = []; given = [] }
+empty i = record { site = i; kept = []; life = 0; is_open = false; remembered = false; served = []; waiting = []; given = []; lines = []; answered = [] }
 
 -- folder i is that of site i, until it becomes a copy of another one. Nothing was sent
 abbrev pub start : Shop
-start = record { folder = empty; stream = λ i. []; begun = 0; asks = 0; named = λ r. 0; told = []; turn = 0 }
+start = record { folder = empty; stream = λ i. []; begun = 0; asks = 0; request = λ r. record { life = 0; records = 0 }; told = []; turn = 0 }
 
 -- where packets are
 pub data Place : Type 0 where

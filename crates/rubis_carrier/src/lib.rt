@@ -3,4 +3,6 @@
 
 mod laws;
 
-pub use laws::{ids_are_given_once, nothing_accepted_is_lost, the_token_comes_back, what_is_told_is_true};
+pub use laws::{
+    ids_are_given_once, nothing_accepted_is_lost, the_token_comes_back, what_is_told_is_true,
+};
