@@ -5,3 +5,4 @@ pub mod Whole
 pub mod Token
 pub mod Changes
 pub mod Telling
+pub mod Examples

@@ -297,7 +297,7 @@ same_as s q k f a b r o = record {
   opened = λ e. r ∙ q.opened k (sym o ∙ e);
 }
 
-gone : {A : Type 0} → false ≡ true → A
+pub gone : {A : Type 0} → false ≡ true → A
 gone e = absurd (cc e)
 
 pub sound_step : (c : Carrier) (s : Shop) (e : Event) → May c s e → Sound s → Sound (after s e)

@@ -1,0 +1,4 @@
+-- Worked examples: what the laws refuse, on runs that are computed on the definitions.
+pub mod Runs
+pub mod Opening
+pub mod Answers
