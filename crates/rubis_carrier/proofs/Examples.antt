@@ -2,3 +2,4 @@
 pub mod Runs
 pub mod Opening
 pub mod Answers
+pub mod Places

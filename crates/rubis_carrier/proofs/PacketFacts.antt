@@ -36,7 +36,7 @@ by_test : (b : Bool) (n small great : ℕ) → small ≤ great → cond b (max n
 by_test true n small great h = omega arith
 by_test false n small great h = h
 
-number_more : (i : ℕ) (kept more : List Packet) → highest i kept ≤ highest i (kept ++ more)
+pub number_more : (i : ℕ) (kept more : List Packet) → highest i kept ≤ highest i (kept ++ more)
 number_more i [] more = omega arith
 number_more i (Message j m q ∷ ys) more = by_test (eqb j i) m (highest i ys) (highest i (ys ++ more)) (number_more i ys more)
 number_more i (Pass j t k a ∷ ys) more = number_more i ys more
