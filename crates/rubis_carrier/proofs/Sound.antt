@@ -12,7 +12,7 @@ use Rattle.rubis_carrier.specs.Events.{AreSteps, Event, IsOffered, May, acceptin
 use Rattle.rubis_carrier.specs.Events.Event.{Accepts, Appends, Gives, IsAsked, IsChanged, IsCopied, IsKilled, IsLost, LosesEnd, MachineStarts, Opens, Passes}
 use Rattle.rubis_carrier.specs.Events.Event.{Reads, Rebuilds, Refuses, Serves, ServerLosesAll, Starts, StreamLosesEnd, TellsNothing, TellsOk}
 use Rattle.std.proofs.lemmas.Bool.{eqb-false, eqb-true}
-use Rattle.rubis_carrier.specs.Events.Event.{TellsUnknown, WritesAnew}
+use Rattle.rubis_carrier.specs.Events.Event.{KeeperStarts, TellsUnknown, WritesAnew}
 use Rattle.rubis_carrier.specs.Laws.{AreGivenOnce, EveryShop, IdsAreGivenOnce}
 use Rattle.rubis_carrier.proofs.PacketFacts.{has_unchanged, reached_more, reached_within}
 use Rattle.rubis_carrier.proofs.PutFacts.{has_filter, has_take, put_cases, same_or_not}
@@ -304,6 +304,7 @@ pub sound_step : (c : Carrier) (s : Shop) (e : Event) → May c s e → Sound s 
 sound_step c s (Starts k) m q = less_folder s q k _
     (record { from = λ x h. (InFolder k, h); was = λ r. r; site = λ r. refl; kept = λ r x h. h; opened = λ o. gone o }) _ refl refl (omega arith)
 sound_step c s (Opens k) m q = opens_sound s q k m
+sound_step c s (KeeperStarts k) m q = q
 sound_step c s (IsKilled k) m q = less_folder s q k _
     (record { from = λ x h. (InFolder k, h); was = λ r. r; site = λ r. refl; kept = λ r x h. h; opened = λ o. gone o }) _ refl refl (omega arith)
 sound_step c s (MachineStarts k) m q = less_folder s q k _

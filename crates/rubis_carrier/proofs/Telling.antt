@@ -11,7 +11,7 @@ use Rattle.rubis_carrier.specs.Events.{AreSteps, Event, IsFirst, May, MayServe, 
 use Rattle.rubis_carrier.specs.Events.{without}
 use Rattle.rubis_carrier.specs.Events.Event.{Accepts, Appends, Gives, IsAsked, IsChanged, IsCopied, IsKilled, IsLost, LosesEnd, MachineStarts, Opens}
 use Rattle.rubis_carrier.specs.Events.Event.{Passes, Reads, Rebuilds, Refuses, Serves, ServerLosesAll, Starts, StreamLosesEnd, TellsNothing, TellsOk}
-use Rattle.rubis_carrier.specs.Events.Event.{TellsUnknown, WritesAnew}
+use Rattle.rubis_carrier.specs.Events.Event.{KeeperStarts, TellsUnknown, WritesAnew}
 use Rattle.rubis_carrier.specs.Laws.{AsksAreAcceptedOnce, IsUnmade, NobodyIsToldBoth, ToldOkIsKept, WhatIsToldIsTrue}
 use Rattle.rubis_carrier.proofs.Changes.{AreApart, IsNew, apart_more, apart_others, first_in, from_step, has_others, has_without}
 use Rattle.rubis_carrier.proofs.PutFacts.{put_cases, put_here, put_there, same_or_not}
@@ -629,6 +629,7 @@ tells_step c s (Opens k) m q = quiet_tells s (after s (Opens k)) q (record {
   no = λ r a. a;
   ok = λ r i n a. inl a;
 })
+tells_step c s (KeeperStarts k) m q = q
 tells_step c s (IsKilled k) m q = quiet_put c s (IsKilled k) k _ q m (λ i n p e. e) refl (inr (idle _ refl refl refl refl refl)) refl refl refl refl
 tells_step c s (MachineStarts k) m q = quiet_put c s (MachineStarts k) k _ q m (λ i n p e. e) refl (inr (idle _ refl refl refl refl refl)) refl refl refl refl
 tells_step c s (IsAsked r life d) m q = asked_tells c s r life d q m

@@ -9,9 +9,11 @@ use Rattle.rubis_carrier.specs.Shops.Place.{InFolder, InStream}
 use Rattle.rubis_carrier.specs.Shops.{Told as told}
 
 pub data Event : Type 0 where
-  -- a supervisor begins to run a folder, in a new life; its site may take asks; the supervisor ends, and so does the machine's memory
+  -- a supervisor begins to run a folder, in a new life; its site may take asks; the keeper that it has for it ends, and is started again,
+  -- and is given again what it hadn't kept; the supervisor ends; the machine is started, and remembers nothing
   Starts : (folder : ℕ) → Event
   Opens : (folder : ℕ) → Event
+  KeeperStarts : (folder : ℕ) → Event
   IsKilled : (folder : ℕ) → Event
   MachineStarts : (folder : ℕ) → Event
   -- an asker asks, names the life that is to serve the ask, and sends so many records; its supervisor takes it, and gives it to the
@@ -70,6 +72,7 @@ pub record MayRebuild (s : Shop) (k : ℕ) (packets : List Packet) : Type 0 wher
 abbrev pub May : Carrier → Shop → Event → Type 0
 May c s (Starts k) = (s.folder k).life ≡ 0
 May c s (Opens k) = MayOpen s k
+May c s (KeeperStarts k) = Unit {0}
 May c s (IsKilled k) = Unit {0}
 May c s (MachineStarts k) = Unit {0}
 May c s (IsAsked r life n) = (r ≡ s.asks + 1) × (life ≤ s.begun)
@@ -162,6 +165,7 @@ abbrev pub after : Shop → Event → Shop
 after s (Starts k) = record (with_folder k (started (s.folder k) (s.begun + 1)) s) { begun = s.begun + 1 }
 after s (Opens k) =
     record s { folder = put k (record (s.folder k) { is_open = true; remembered = true }) (λ j. forgotten (s.folder k).site (s.folder j)) }
+after s (KeeperStarts k) = s
 after s (IsKilled k) = with_folder k (stopped (s.folder k)) s
 after s (MachineStarts k) = with_folder k (unknown (s.folder k)) s
 after s (IsAsked r life n) = record s { asks = r; request = put r (record { life = life; records = n }) s.request }
