@@ -5,4 +5,5 @@ pub mod Whole
 pub mod Token
 pub mod Changes
 pub mod Telling
+pub mod Over
 pub mod Examples

@@ -618,7 +618,7 @@ asked_tells c s r life d q m =
 no_message : (s : Shop) (k to i n r : ℕ) → IsNew s (Passes k to) (Message i n r) → ⊥
 no_message s k to i n r e = cc e
 
-tells_step : (c : Carrier) (s : Shop) (e : Event) → May c s e → Tells s → Tells (after s e)
+pub tells_step : (c : Carrier) (s : Shop) (e : Event) → May c s e → Tells s → Tells (after s e)
 tells_step c s (Starts k) m q = starts_tells c s k q m
 tells_step c s (Opens k) m q = quiet_tells s (after s (Opens k)) q (record {
   from = nothing_new c s (Opens k) m (λ i n p e. e);
@@ -683,7 +683,7 @@ tells_start = record {
     nothing (InFolder k) x h = h
     nothing (InStream i) x h = h
 
-tells_after : (c : Carrier) (s : Shop) (events : List Event) → AreSteps c s events → Tells s → Tells (run s events)
+pub tells_after : (c : Carrier) (s : Shop) (events : List Event) → AreSteps c s events → Tells s → Tells (run s events)
 tells_after c s [] m q = q
 tells_after c s (e ∷ rest) m q = tells_after c (after s e) rest m.1 (tells_step c s e m.0 q)
 

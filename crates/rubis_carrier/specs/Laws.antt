@@ -1,5 +1,5 @@
 -- What holds of a shop, whatever happens to it.
-use Rattle.std.specs.Prelude.{◌≡◌, ◌≢◌, ◌⊎◌, ℕ, List, [], ◌∷◌, ◌++◌}
+use Rattle.std.specs.Prelude.{◌≡◌, ◌≢◌, ◌⊎◌, ℕ, ◌<◌, ◌≤◌, List, [], ◌∷◌, ◌++◌}
 use Rattle.rubis_model.specs.Settle.{Has}
 use Rattle.rubis_carrier.specs.Packets.{Holds, Packet, name}
 use Rattle.rubis_carrier.specs.Packets.Packet.{Message, Pass}
@@ -7,8 +7,8 @@ use Rattle.rubis_carrier.specs.Shops.{Carrier, Place, Shop, there, start}
 use Rattle.rubis_carrier.specs.Shops.Carrier.{Server}
 use Rattle.rubis_carrier.specs.Shops.Place.{InFolder, InStream}
 use Rattle.rubis_carrier.specs.Shops.Told.{No, Ok}
-use Rattle.rubis_carrier.specs.Events.{AllCarry, AreSteps, Event, IsWhole, run}
-use Rattle.rubis_carrier.specs.Events.Event.{TellsOk}
+use Rattle.rubis_carrier.specs.Events.{AllCarry, AreSteps, Event, IsWhole, May, run}
+use Rattle.rubis_carrier.specs.Events.Event.{Accepts, Refuses, TellsOk}
 
 -- the claim holds of a shop after any events, over files and over a server
 abbrev pub EveryShop : (Shop → Type 0) → Type 0
@@ -87,3 +87,20 @@ NobodyIsToldBoth = EveryShop (λ s. (r i n : ℕ) → Has (Ok r i n) s.told → 
 -- an ask is accepted once
 abbrev pub AsksAreAcceptedOnce : Type 0
 AsksAreAcceptedOnce = EveryShop (λ s. (h g : Place) (r i n j m : ℕ) → Has (Message i n r) (there s h) → Has (Message j m r) (there s g) → (i ≡ j) × (n ≡ m))
+
+-- the life that the ask names took it, and no other will; and it waits nowhere, nor does any site have it to read
+pub record IsOver (s : Shop) (r : ℕ) : Type 0 where
+  pub asked : r ≤ s.asks
+  pub served : (k : ℕ) → 0 < (s.folder k).life → (s.request r).life ≡ (s.folder k).life → Has r (s.folder k).served
+  pub waits_nowhere : (k : ℕ) → ¬ (Has r (s.folder k).waiting)
+  pub given_nowhere : (k : ℕ) → ¬ (Has r (s.folder k).given)
+
+-- then, if there is no message of it, there never is
+abbrev pub WhatIsOverStays : Type 0
+WhatIsOverStays = (c : Carrier) (before later : List Event) → AreSteps c start (before ++ later) → (r : ℕ) → IsOver (run start before) r
+    → IsUnmade (run start before) r → IsUnmade (run start (before ++ later)) r
+
+-- as long as an ask that was given to a site has no answer, none that was given after it gets one
+abbrev pub AnswersComeInOrder : Type 0
+AnswersComeInOrder = (c : Carrier) (events : List Event) → AreSteps c start events → let s = run start events in
+    (k r q : ℕ) (a b d : List ℕ) → (s.folder k).given ≡ a ++ r ∷ (b ++ q ∷ d) → ¬ (May c s (Accepts k q)) × ¬ (May c s (Refuses k q))

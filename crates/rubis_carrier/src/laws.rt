@@ -1,7 +1,7 @@
 //! The laws of shops, each with its statement in specs/.
 
-ghost use Rattle.rubis_carrier.specs.Laws.{AsksAreAcceptedOnce, GivenAgainOnlyWhereLost, IdsAreGivenOnce, NothingAcceptedIsLost, TheFirstSiteHolds, TheTokenComesBack};
-ghost use Rattle.rubis_carrier.specs.Laws.{NobodyIsToldBoth, ToldOkIsKept, WhatIsToldIsTrue};
+ghost use Rattle.rubis_carrier.specs.Laws.{AnswersComeInOrder, AsksAreAcceptedOnce, GivenAgainOnlyWhereLost, IdsAreGivenOnce, NothingAcceptedIsLost, TheFirstSiteHolds, TheTokenComesBack};
+ghost use Rattle.rubis_carrier.specs.Laws.{NobodyIsToldBoth, ToldOkIsKept, WhatIsOverStays, WhatIsToldIsTrue};
 
 /// Two messages of one site under one number, and two passes of one site under one turn, are the same one, in whatever folder or stream
 /// they stand at that moment. So a number is given again only where nothing is left that had the first.
@@ -26,9 +26,12 @@ pub fn the_token_comes_back()
 {}
 
 /// An ask of which the asker was told that it was refused, or that nothing was given to the site, stands nowhere, then and for ever. No
-/// asker is told both that and ok, and no ask is accepted twice.
+/// asker is told both that and ok, and no ask is accepted twice. Of any other ask its asker finds out: a site answers in the order in
+/// which it was given asks, and one that is no more under way has its message by then, or never.
 pub fn what_is_told_is_true()
     ensures never { WhatIsToldIsTrue }
     ensures one { NobodyIsToldBoth }
     ensures once { AsksAreAcceptedOnce }
+    ensures order { AnswersComeInOrder }
+    ensures over { WhatIsOverStays }
 {}
