@@ -1,11 +1,10 @@
 -- What an event changes: which packets are new, and what is in the memory of those that run folders.
-use Rattle.std.proofs.Common.{◌≡◌, ◌∙◌, ◌≢◌, ◌⊎◌, inl, inr, ⊎_elim, ◌≤◌, ◌<◌, ◌+◌, ◌++◌, ◌∷◌, [], ℕ, Bool, true, false, cond, eqb, List, refl, sym, ap, subst, arith}
-use Rattle.std.specs.Prelude.{take, not, filter}
-use Rattle.std.proofs.lemmas.Bool.{eqb-true}
+use Rattle.std.proofs.Common.{◌≡◌, ◌∙◌, ◌≢◌, ◌⊎◌, inl, inr, ⊎_elim, ◌++◌, ◌∷◌, [], ℕ, true, false, cond, eqb, List, refl, sym, subst}
+use Rattle.std.specs.Prelude.{not}
 use Rattle.rubis_model.specs.Settle.{Has}
 use Rattle.rubis_model.proofs.Lists.{push_cases}
-use Rattle.rubis_carrier.specs.Packets.{Packet, own, sender}
-use Rattle.rubis_carrier.specs.Shops.{Carrier, Folder, Place, Shop, Told, put, there}
+use Rattle.rubis_carrier.specs.Packets.{Packet, sender}
+use Rattle.rubis_carrier.specs.Shops.{Carrier, Folder, Place, Shop, put, there}
 use Rattle.rubis_carrier.specs.Shops.Place.{InFolder, InStream}
 use Rattle.rubis_carrier.specs.Events.{Event, IsFirst, May, after, first, forgotten, next_message, next_pass, others, without}
 use Rattle.rubis_carrier.specs.Events.Event.{Accepts, Appends, Gives, IsAsked, IsChanged, IsCopied, IsKilled, IsLost, LosesEnd, MachineStarts, Opens}

@@ -6,4 +6,5 @@ pub mod Token
 pub mod Changes
 pub mod Telling
 pub mod Over
+pub mod Needed
 pub mod Examples

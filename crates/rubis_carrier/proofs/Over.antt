@@ -1,12 +1,10 @@
 -- An ask that is over has a message by then, or never.
-use Rattle.std.proofs.Common.{◌≡◌, ◌∙◌, ◌≢◌, ◌⊎◌, inl, inr, ⊎_elim, ◌≤◌, ◌<◌, ◌+◌, ◌++◌, ◌∷◌, [], ℕ, Bool, true, false, cond, eqb, List, refl, sym, ap, subst, arith}
+use Rattle.std.proofs.Common.{◌≡◌, ◌∙◌, ◌≢◌, inl, inr, ⊎_elim, ◌<◌, ◌++◌, ◌∷◌, [], ℕ, List, refl, sym, ap, subst, arith}
 use Rattle.rubis_model.specs.Settle.{Has}
 use Rattle.rubis_model.proofs.Lists.{has_right, push_cases}
-use Rattle.rubis_carrier.specs.Packets.{Packet}
-use Rattle.rubis_carrier.specs.Packets.Packet.{Message, Pass}
-use Rattle.rubis_carrier.specs.Shops.{Carrier, Folder, MayOpen, Place, Request, Shop, Told, put, start, there}
-use Rattle.rubis_carrier.specs.Shops.Place.{InFolder, InStream}
-use Rattle.rubis_carrier.specs.Events.{AreSteps, Event, IsFirst, May, after, first, forgotten, others, run}
+use Rattle.rubis_carrier.specs.Packets.Packet.{Message}
+use Rattle.rubis_carrier.specs.Shops.{Carrier, Folder, Request, Shop, put, start}
+use Rattle.rubis_carrier.specs.Events.{AreSteps, Event, IsFirst, May, after, first, forgotten, run}
 use Rattle.rubis_carrier.specs.Events.Event.{Accepts, Appends, Gives, IsAsked, IsChanged, IsCopied, IsKilled, IsLost, KeeperStarts, LosesEnd}
 use Rattle.rubis_carrier.specs.Events.Event.{MachineStarts, Opens, Passes, Reads, Rebuilds, Refuses, Serves, ServerLosesAll, Starts, StreamLosesEnd}
 use Rattle.rubis_carrier.specs.Events.Event.{TellsNothing, TellsOk, TellsUnknown, WritesAnew}
@@ -57,11 +55,11 @@ module _ (s : Shop) (r : ℕ) (o : IsOver s r) where
   over_stopped : (t : Shop) (k : ℕ) (g : Folder) → t.folder ≡ put k g s.folder → g.life ≡ 0 → g.waiting ≡ [] → g.given ≡ [] → t.request ≡ s.request
       → t.asks ≡ s.asks → IsOver t r
   over_stopped t k g e l w d = over_put t k g e (record {
-      life = λ runs. absurd (omega (arith, runs, l));
-      served = λ runs. absurd (omega (arith, runs, l));
-      waits = λ h. subst (Has r) w h;
-      given = λ h. subst (Has r) d h;
-    })
+    life = λ runs. absurd (omega (arith, runs, l));
+    served = λ runs. absurd (omega (arith, runs, l));
+    waits = λ h. subst (Has r) w h;
+    given = λ h. subst (Has r) d h;
+  })
 
 over_step : (c : Carrier) (s : Shop) (e : Event) (r : ℕ) → May c s e → Tells s → IsOver s r → IsOver (after s e) r
 over_step c s (Starts k) r m q o = record {
@@ -87,28 +85,38 @@ over_step c s (IsAsked p life d) r m q o = record {
     same : r ≢ p → put p (record { life = life; records = d }) s.request r ≡ s.request r
     same n = put_there p r (record { life = life; records = d }) s.request n
 over_step c s (Serves k p) r m q o = over_put s r o _ k _ refl (record {
-    life = λ l. refl;
-    served = λ l h. inr h;
-    waits = λ h. ⊎_elim (λ e. m.once (subst (λ n. Has n (s.folder k).served) e (o.served k m.runs (ap (λ n. (s.request n).life) e ∙ m.life))))
-        (o.waits_nowhere k) h;
-    given = o.given_nowhere k;
-  }) refl refl
+  life = λ l. refl;
+  served = λ l h. inr h;
+  waits = λ h. ⊎_elim (λ e. m.once (subst (λ n. Has n (s.folder k).served) e (o.served k m.runs (ap (λ n. (s.request n).life) e ∙ m.life))))
+      (o.waits_nowhere k) h;
+  given = o.given_nowhere k;
+}) refl refl
 over_step c s (Gives k p) r m q o = over_put s r o _ k _ refl (record {
-    life = λ l. refl;
-    served = λ l h. h;
-    waits = λ h. o.waits_nowhere k (has_without p r (s.folder k).waiting h).0;
-    given = λ h. ⊎_elim (o.given_nowhere k) (λ e. o.waits_nowhere k (subst (λ n. Has n (s.folder k).waiting) (sym e) m.1))
-        (push_cases r p (s.folder k).given h);
-  }) refl refl
+  life = λ l. refl;
+  served = λ l h. h;
+  waits = λ h. o.waits_nowhere k (has_without p r (s.folder k).waiting h).0;
+  given = λ h. ⊎_elim (o.given_nowhere k) (λ e. o.waits_nowhere k (subst (λ n. Has n (s.folder k).waiting) (sym e) m.1))
+      (push_cases r p (s.folder k).given h);
+}) refl refl
 over_step c s (Accepts k p) r m q o = over_put s r o _ k _ refl (record {
-    life = λ l. refl; served = λ l h. h; waits = o.waits_nowhere k;
-    given = λ h. o.given_nowhere k (has_others r (s.folder k).given (q.lined k).apart h).0 }) refl refl
+  life = λ l. refl;
+  served = λ l h. h;
+  waits = o.waits_nowhere k;
+  given = λ h. o.given_nowhere k (has_others r (s.folder k).given (q.lined k).apart h).0;
+}) refl refl
 over_step c s (Refuses k p) r m q o = over_put s r o _ k _ refl (record {
-    life = λ l. refl; served = λ l h. h; waits = o.waits_nowhere k;
-    given = λ h. o.given_nowhere k (has_others r (s.folder k).given (q.lined k).apart h).0 }) refl refl
+  life = λ l. refl;
+  served = λ l h. h;
+  waits = o.waits_nowhere k;
+  given = λ h. o.given_nowhere k (has_others r (s.folder k).given (q.lined k).apart h).0;
+}) refl refl
 over_step c s (TellsOk k p n) r m q o = over_less s r o _ (as_it_was s r o) refl refl
 over_step c s (TellsNothing k p) r m q o = over_put s r o _ k _ refl (record {
-    life = λ l. refl; served = λ l h. h; waits = λ h. o.waits_nowhere k (has_without p r (s.folder k).waiting h).0; given = o.given_nowhere k }) refl refl
+  life = λ l. refl;
+  served = λ l h. h;
+  waits = λ h. o.waits_nowhere k (has_without p r (s.folder k).waiting h).0;
+  given = o.given_nowhere k;
+}) refl refl
 over_step c s (TellsUnknown k p) r m q o = over_less s r o _ (as_it_was s r o) refl refl
 over_step c s (Passes k to) r m q o = over_put s r o _ k _ refl (with_memory s r o k _ refl refl refl refl) refl refl
 over_step c s (Appends k x) r m q o = over_less s r o _ (as_it_was s r o) refl refl

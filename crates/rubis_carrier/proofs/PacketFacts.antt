@@ -1,5 +1,5 @@
 -- The greatest number, and the greatest turns, of a list of packets.
-use Rattle.std.proofs.Common.{◌≡◌, ◌≤◌, ◌+◌, ◌∷◌, ◌++◌, ◌⊎◌, inl, inr, [], ℕ, Bool, true, false, cond, eqb, List, refl, sym, subst, arith, max}
+use Rattle.std.proofs.Common.{◌≤◌, ◌∷◌, ◌++◌, inl, inr, [], ℕ, Bool, true, false, cond, eqb, List, sym, subst, arith, max}
 use Rattle.rubis_model.specs.Settle.{Has}
 use Rattle.rubis_carrier.specs.Packets.{IsReached, Packet, highest, passed, same_packet, sender, taken, unchanged}
 use Rattle.rubis_carrier.specs.Packets.Packet.{Message, Pass}

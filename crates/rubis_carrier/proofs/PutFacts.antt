@@ -1,5 +1,5 @@
 -- One folder or stream that is put in the place of another, and lists that get longer or shorter.
-use Rattle.std.proofs.Common.{◌≡◌, ◌≢◌, ◌⊎◌, inl, inr, ◌++◌, ◌∷◌, [], ℕ, Bool, true, false, cond, eqb, List, refl, sym, subst, arith}
+use Rattle.std.proofs.Common.{◌≡◌, ◌≢◌, ◌⊎◌, inl, inr, ◌∷◌, [], ℕ, Bool, true, false, cond, eqb, List, refl, sym, subst, arith}
 use Rattle.std.specs.Prelude.{filter, take, zero, suc}
 use Rattle.std.proofs.lemmas.Bool.{eqb-false, eqb-true}
 use Rattle.rubis_model.specs.Settle.{Has}

@@ -1,11 +1,11 @@
 -- What every event keeps of a shop, and that so a name is given once.
-use Rattle.std.proofs.Common.{◌≡◌, ◌∙◌, ◌≢◌, ◌⊎◌, inl, inr, ⊎_elim, ◌≤◌, ◌<◌, ◌+◌, ◌++◌, ◌∷◌, [], ℕ, Bool, true, false, cond, eqb, List, refl, sym, ap, subst, arith, max}
+use Rattle.std.proofs.Common.{◌≡◌, ◌∙◌, ◌≢◌, ◌⊎◌, inl, inr, ⊎_elim, ◌≤◌, ◌+◌, ◌++◌, ◌∷◌, [], ℕ, Bool, true, false, cond, eqb, List, refl, sym, ap, subst, arith}
 use Rattle.std.specs.Prelude.{filter, take, ◌==◌}
 use Rattle.rubis_model.specs.Settle.{Has}
-use Rattle.rubis_model.proofs.Lists.{has_last, has_left, push_cases}
-use Rattle.rubis_carrier.specs.Packets.{Holds, IsReached, Name, Packet, highest, name, passed, sender, taken}
+use Rattle.rubis_model.proofs.Lists.{has_last, push_cases}
+use Rattle.rubis_carrier.specs.Packets.{IsReached, Packet, highest, name, passed, sender, taken}
 use Rattle.rubis_carrier.specs.Packets.Packet.{Message, Pass}
-use Rattle.rubis_carrier.specs.Shops.{Carrier, Folder, IsCompared, IsAlone, MayOpen, Place, Shop, empty, put, start, there}
+use Rattle.rubis_carrier.specs.Shops.{Carrier, Folder, IsCompared, MayOpen, Place, Shop, put, start, there}
 use Rattle.rubis_carrier.specs.Shops.Carrier.{Files, Server}
 use Rattle.rubis_carrier.specs.Shops.Place.{InFolder, InStream}
 use Rattle.rubis_carrier.specs.Events.{AreSteps, Event, IsOffered, May, accepting, after, forgotten, keeping, next_message, next_pass, run}
@@ -13,9 +13,9 @@ use Rattle.rubis_carrier.specs.Events.Event.{Accepts, Appends, Gives, IsAsked, I
 use Rattle.rubis_carrier.specs.Events.Event.{Reads, Rebuilds, Refuses, Serves, ServerLosesAll, Starts, StreamLosesEnd, TellsNothing, TellsOk}
 use Rattle.std.proofs.lemmas.Bool.{eqb-false, eqb-true}
 use Rattle.rubis_carrier.specs.Events.Event.{KeeperStarts, TellsUnknown, WritesAnew}
-use Rattle.rubis_carrier.specs.Laws.{AreGivenOnce, EveryShop, IdsAreGivenOnce}
+use Rattle.rubis_carrier.specs.Laws.{AreGivenOnce, IdsAreGivenOnce}
 use Rattle.rubis_carrier.proofs.PacketFacts.{has_unchanged, reached_more, reached_within}
-use Rattle.rubis_carrier.proofs.PutFacts.{has_filter, has_take, put_cases, same_or_not}
+use Rattle.rubis_carrier.proofs.PutFacts.{has_filter, has_take, put_cases}
 
 -- the packet stands somewhere
 abbrev pub IsSomewhere : Shop → Packet → Type 0

@@ -1,12 +1,12 @@
 -- An ask is served by one life, once; so what its asker is told stays true.
-use Rattle.std.proofs.Common.{◌≡◌, ◌∙◌, ◌≢◌, ◌⊎◌, inl, inr, ⊎_elim, ◌≤◌, ◌<◌, ◌+◌, ◌++◌, ◌∷◌, [], ℕ, Bool, true, false, cond, eqb, List, refl, sym, ap, subst, arith}
+use Rattle.std.proofs.Common.{◌≡◌, ◌∙◌, ◌≢◌, ◌⊎◌, inl, inr, ⊎_elim, ◌≤◌, ◌<◌, ◌+◌, ◌++◌, ◌∷◌, [], ℕ, List, refl, sym, ap, subst, arith}
 use Rattle.rubis_model.specs.Settle.{Has}
 use Rattle.rubis_model.proofs.Lists.{has_last, has_left, push_cases}
 use Rattle.rubis_carrier.specs.Packets.{Packet, highest}
-use Rattle.rubis_carrier.specs.Packets.Packet.{Message, Pass}
-use Rattle.rubis_carrier.specs.Shops.{Answer, Carrier, Folder, MayOpen, Place, Request, Shop, Told, empty, put, start, there}
+use Rattle.rubis_carrier.specs.Packets.Packet.{Message}
+use Rattle.rubis_carrier.specs.Shops.{Answer, Carrier, Folder, Place, Request, Shop, Told, empty, put, start, there}
 use Rattle.rubis_carrier.specs.Shops.Place.{InFolder, InStream}
-use Rattle.rubis_carrier.specs.Shops.Told.{No, Ok, Unknown}
+use Rattle.rubis_carrier.specs.Shops.Told.{No, Ok}
 use Rattle.rubis_carrier.specs.Events.{AreSteps, Event, IsFirst, May, MayServe, accepting, after, answering, first, forgotten, giving, next_message, others, run, started, times}
 use Rattle.rubis_carrier.specs.Events.{without}
 use Rattle.rubis_carrier.specs.Events.Event.{Accepts, Appends, Gives, IsAsked, IsChanged, IsCopied, IsKilled, IsLost, LosesEnd, MachineStarts, Opens}
@@ -14,7 +14,7 @@ use Rattle.rubis_carrier.specs.Events.Event.{Passes, Reads, Rebuilds, Refuses, S
 use Rattle.rubis_carrier.specs.Events.Event.{KeeperStarts, TellsUnknown, WritesAnew}
 use Rattle.rubis_carrier.specs.Laws.{AsksAreAcceptedOnce, IsUnmade, NobodyIsToldBoth, ToldOkIsKept, WhatIsToldIsTrue}
 use Rattle.rubis_carrier.proofs.Changes.{AreApart, IsNew, apart_more, apart_others, first_in, from_step, has_others, has_without}
-use Rattle.rubis_carrier.proofs.PutFacts.{put_cases, put_here, put_there, same_or_not}
+use Rattle.rubis_carrier.proofs.PutFacts.{put_cases, put_there}
 use Rattle.rubis_carrier.proofs.Sound.{IsSomewhere}
 use Rattle.rubis_carrier.proofs.Whole.{run_append, steps_left, steps_right}
 

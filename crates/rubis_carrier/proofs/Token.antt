@@ -1,5 +1,5 @@
 -- The last pass, where it stands in a place that is whole, comes to the site that it is for.
-use Rattle.std.proofs.Common.{◌≡◌, ◌∙◌, ◌≢◌, ◌⊎◌, inl, inr, ⊎_elim, ◌≤◌, ◌<◌, ◌+◌, ◌++◌, ◌∷◌, [], ℕ, Bool, true, false, cond, eqb, List, refl, sym, ap, subst, arith, max}
+use Rattle.std.proofs.Common.{◌≡◌, ◌∙◌, ◌≢◌, inl, inr, ◌≤◌, ◌<◌, ◌+◌, ◌++◌, ◌∷◌, [], ℕ, Bool, true, false, cond, eqb, List, refl, sym, ap, subst, arith, max}
 use Rattle.std.specs.Prelude.{zero, suc}
 use Rattle.rubis_model.specs.Settle.{Has}
 use Rattle.rubis_model.proofs.Lists.{has_last}
@@ -8,11 +8,11 @@ use Rattle.rubis_carrier.specs.Packets.Packet.{Message, Pass}
 use Rattle.rubis_carrier.specs.Shops.{Carrier, Folder, Place, Shop, put, start, there}
 use Rattle.rubis_carrier.specs.Shops.Carrier.{Files, Server}
 use Rattle.rubis_carrier.specs.Shops.Place.{InFolder, InStream}
-use Rattle.rubis_carrier.specs.Events.{AllCarry, AreSteps, Event, IsOffered, May, after, run, started}
+use Rattle.rubis_carrier.specs.Events.{AllCarry, AreSteps, Event, IsOffered, after, run, started}
 use Rattle.rubis_carrier.specs.Events.Event.{Appends, Reads, Starts}
 use Rattle.rubis_carrier.specs.Laws.{CanHold, IsOf, TheFirstSiteHolds, TheTokenComesBack}
 use Rattle.rubis_carrier.proofs.PacketFacts.{taken_within}
-use Rattle.rubis_carrier.proofs.PutFacts.{put_cases, put_here, same_or_not}
+use Rattle.rubis_carrier.proofs.PutFacts.{put_cases, put_here}
 use Rattle.rubis_carrier.proofs.Sound.{IsKnown, Sound, sound_after, sound_run}
 use Rattle.rubis_carrier.proofs.Whole.{run_append, steps_append, whole_then}
 

@@ -1,10 +1,10 @@
 -- What stands in a place that is whole, stands there later too.
-use Rattle.std.proofs.Common.{◌≡◌, ◌∙◌, ◌≢◌, ◌⊎◌, inl, inr, ◌++◌, ◌∷◌, [], ℕ, Bool, true, false, cond, List, refl, sym, ap, subst, arith}
+use Rattle.std.proofs.Common.{◌≡◌, ◌≢◌, ◌++◌, ◌∷◌, [], ℕ, List, refl, sym, ap, subst}
 use Rattle.rubis_model.specs.Settle.{Has}
 use Rattle.rubis_model.proofs.Lists.{has_left}
-use Rattle.rubis_carrier.specs.Packets.{Packet, name, sender}
-use Rattle.rubis_carrier.specs.Packets.Packet.{Message, Pass}
-use Rattle.rubis_carrier.specs.Shops.{Carrier, Folder, Place, Shop, Told, put, start, there}
+use Rattle.rubis_carrier.specs.Packets.{Packet, sender}
+use Rattle.rubis_carrier.specs.Packets.Packet.{Message}
+use Rattle.rubis_carrier.specs.Shops.{Carrier, Folder, Place, Shop, put, start, there}
 use Rattle.rubis_carrier.specs.Shops.Place.{InFolder, InStream}
 use Rattle.rubis_carrier.specs.Events.{AreSteps, Event, Harms, IsWhole, May, after, forgotten, run}
 use Rattle.rubis_carrier.specs.Events.Event.{Accepts, Appends, Gives, IsAsked, IsChanged, IsCopied, IsKilled, IsLost, LosesEnd, MachineStarts, Opens}

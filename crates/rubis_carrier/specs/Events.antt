@@ -1,5 +1,5 @@
 -- What happens to a shop, event by event: when it may, and what it leads to.
-use Rattle.std.specs.Prelude.{◌≡◌, ◌≢◌, ◌⊎◌, ℕ, ◌+◌, ◌<◌, ◌≤◌, ◌==◌, Bool, true, false, not, zero, suc, cond, List, [], ◌∷◌, ◌++◌, filter, max, take}
+use Rattle.std.specs.Prelude.{◌≡◌, ◌≢◌, ℕ, ◌+◌, ◌<◌, ◌≤◌, ◌==◌, true, false, not, zero, suc, cond, List, [], ◌∷◌, ◌++◌, filter, max, take}
 use Rattle.rubis_model.specs.Settle.{Has}
 use Rattle.rubis_carrier.specs.Packets.{Holds, Packet, highest, own, sender, taken, unchanged}
 use Rattle.rubis_carrier.specs.Packets.Packet.{Message, Pass}

@@ -1,14 +1,14 @@
 -- What holds of a shop, whatever happens to it.
-use Rattle.std.specs.Prelude.{◌≡◌, ◌≢◌, ◌⊎◌, ℕ, ◌<◌, ◌≤◌, List, [], ◌∷◌, ◌++◌}
+use Rattle.std.specs.Prelude.{◌≡◌, ◌≢◌, ℕ, ◌<◌, ◌≤◌, List, [], ◌∷◌, ◌++◌}
 use Rattle.rubis_model.specs.Settle.{Has}
-use Rattle.rubis_carrier.specs.Packets.{Holds, Packet, name}
+use Rattle.rubis_carrier.specs.Packets.{Holds, Packet, highest, name}
 use Rattle.rubis_carrier.specs.Packets.Packet.{Message, Pass}
-use Rattle.rubis_carrier.specs.Shops.{Carrier, Place, Shop, there, start}
+use Rattle.rubis_carrier.specs.Shops.{Carrier, Folder, Place, Shop, there, start}
 use Rattle.rubis_carrier.specs.Shops.Carrier.{Server}
 use Rattle.rubis_carrier.specs.Shops.Place.{InFolder, InStream}
 use Rattle.rubis_carrier.specs.Shops.Told.{No, Ok}
-use Rattle.rubis_carrier.specs.Events.{AllCarry, AreSteps, Event, IsWhole, May, run}
-use Rattle.rubis_carrier.specs.Events.Event.{Accepts, Refuses, TellsOk}
+use Rattle.rubis_carrier.specs.Events.{AllCarry, AreSteps, Event, IsWhole, May, after, run}
+use Rattle.rubis_carrier.specs.Events.Event.{Accepts, Opens, Refuses, TellsOk}
 
 -- the claim holds of a shop after any events, over files and over a server
 abbrev pub EveryShop : (Shop → Type 0) → Type 0
@@ -104,3 +104,20 @@ WhatIsOverStays = (c : Carrier) (before later : List Event) → AreSteps c start
 abbrev pub AnswersComeInOrder : Type 0
 AnswersComeInOrder = (c : Carrier) (events : List Event) → AreSteps c start events → let s = run start events in
     (k r q : ℕ) (a b d : List ℕ) → (s.folder k).given ≡ a ++ r ∷ (b ++ q ∷ d) → ¬ (May c s (Accepts k q)) × ¬ (May c s (Refuses k q))
+
+-- ---- how weak the rule is
+
+-- a supervisor runs the folder, and nothing was asked there in this life
+pub record IsFresh (f : Folder) : Type 0 where
+  pub runs : 0 < f.life
+  pub served : f.served ≡ []
+  pub given : f.given ≡ []
+  pub lines : f.lines ≡ []
+
+-- the rule asks for no more than it has to: where any place has a message of the folder's site under a greater number, and the site
+-- takes asks all the same, allowed steps lead to two messages under one number
+abbrev pub ComparingIsNeeded : Type 0
+ComparingIsNeeded = (c : Carrier) (events : List Event) → AreSteps c start events → let s = run start events in
+    (k : ℕ) → IsFresh (s.folder k) → (h : Place) (n r : ℕ) → Has (Message (s.folder k).site n r) (there s h)
+    → highest (s.folder k).site (s.folder k).kept < n
+    → (more : List Event) × AreSteps c (after s (Opens k)) more × ¬ (AreGivenOnce (run (after s (Opens k)) more))

@@ -1,5 +1,5 @@
 -- What a site sends: messages, and the passes of the token.
-use Rattle.std.specs.Prelude.{◌≡◌, ◌⊎◌, ℕ, ◌+◌, ◌<◌, ◌≤◌, ◌==◌, ◌&&◌, Bool, false, cond, filter, List, [], ◌∷◌, max}
+use Rattle.std.specs.Prelude.{◌≡◌, ◌⊎◌, ℕ, ◌<◌, ◌≤◌, ◌==◌, ◌&&◌, Bool, false, cond, filter, List, [], ◌∷◌, max}
 
 -- a message of a site: its number, and the ask that it was made of. The asks are numbered, so that two asks with one text are two.
 -- A pass of the token: its turn, the site that it goes to, and how many messages the sender had given before

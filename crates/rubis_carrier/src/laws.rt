@@ -1,13 +1,15 @@
 //! The laws of shops, each with its statement in specs/.
 
-ghost use Rattle.rubis_carrier.specs.Laws.{AnswersComeInOrder, AsksAreAcceptedOnce, GivenAgainOnlyWhereLost, IdsAreGivenOnce, NothingAcceptedIsLost, TheFirstSiteHolds, TheTokenComesBack};
+ghost use Rattle.rubis_carrier.specs.Laws.{AnswersComeInOrder, AsksAreAcceptedOnce, ComparingIsNeeded, GivenAgainOnlyWhereLost, IdsAreGivenOnce, NothingAcceptedIsLost, TheFirstSiteHolds, TheTokenComesBack};
 ghost use Rattle.rubis_carrier.specs.Laws.{NobodyIsToldBoth, ToldOkIsKept, WhatIsOverStays, WhatIsToldIsTrue};
 
 /// Two messages of one site under one number, and two passes of one site under one turn, are the same one, in whatever folder or stream
-/// they stand at that moment. So a number is given again only where nothing is left that had the first.
+/// they stand at that moment. So a number is given again only where nothing is left that had the first. A site is asked to compare no
+/// more than it has to: if any place has a greater number of it, and it takes asks all the same, a number comes to be given twice.
 pub fn ids_are_given_once()
     ensures once { IdsAreGivenOnce }
     ensures again { GivenAgainOnlyWhereLost }
+    ensures needed { ComparingIsNeeded }
 {}
 
 /// The message of an ask that was told ok, under the id that was told, is in every folder that has read everything, as long as one of

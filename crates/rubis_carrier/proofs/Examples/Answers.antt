@@ -1,18 +1,17 @@
 -- What an asker may be told, and what may be put in the place of what was kept: each rule is needed.
-use Rattle.std.proofs.Common.{◌≡◌, ◌≢◌, ◌⊎◌, inl, inr, ⊎_elim, ◌≤◌, ◌<◌, ◌++◌, ◌∷◌, [], ℕ, Bool, true, false, cond, List, refl, arith}
+use Rattle.std.proofs.Common.{◌≡◌, inl, ⊎_elim, ◌++◌, ◌∷◌, [], List, refl, arith}
 use Rattle.rubis_model.specs.Settle.{Has}
 use Rattle.rubis_carrier.specs.Packets.{Packet}
-use Rattle.rubis_carrier.specs.Packets.Packet.{Message, Pass}
-use Rattle.rubis_carrier.specs.Shops.{Carrier, Folder, Place, Shop, put, start, there}
-use Rattle.rubis_carrier.specs.Shops.Carrier.{Files, Server}
-use Rattle.rubis_carrier.specs.Shops.Place.{InFolder, InStream}
+use Rattle.rubis_carrier.specs.Packets.Packet.{Message}
+use Rattle.rubis_carrier.specs.Shops.{Shop, start}
+use Rattle.rubis_carrier.specs.Shops.Carrier.{Files}
+use Rattle.rubis_carrier.specs.Shops.Place.{InFolder}
 use Rattle.rubis_carrier.specs.Shops.Told.{No, Ok}
-use Rattle.rubis_carrier.specs.Events.{AreSteps, Event, Harms, IsWhole, MayRebuild, MayServe, after, run}
-use Rattle.rubis_carrier.specs.Events.Event.{Accepts, Appends, Gives, IsAsked, IsCopied, IsKilled, LosesEnd, Opens, Reads, Rebuilds, Refuses, Serves}
+use Rattle.rubis_carrier.specs.Events.{AreSteps, Event, IsWhole, MayRebuild, MayServe, after, run}
+use Rattle.rubis_carrier.specs.Events.Event.{Accepts, Appends, Gives, IsAsked, IsCopied, IsKilled, LosesEnd, Rebuilds, Serves}
 use Rattle.rubis_carrier.specs.Events.Event.{Starts, TellsNothing, TellsOk, WritesAnew}
-use Rattle.rubis_carrier.specs.Laws.{HasReadAll, IsUnmade}
-use Rattle.rubis_carrier.proofs.PutFacts.{put_cases}
-use Rattle.rubis_carrier.proofs.Examples.Runs.{asked_once, asked_once_may, asking, first_message, opening, other_message}
+use Rattle.rubis_carrier.specs.Laws.{IsUnmade}
+use Rattle.rubis_carrier.proofs.Examples.Runs.{asked_once, first_message, opening}
 
 -- ---- a copy that answers
 
@@ -55,9 +54,13 @@ abbrev two_served : Shop
 two_served = run (after (run start two_asked) (Serves 0 1)) two_lines
 
 two_go_on : AreSteps Files (after (run start two_asked) (Serves 0 1)) two_lines
-two_go_on =
-    ((refl, inl refl), (record { runs = omega arith; asked = omega arith; life = refl; one = refl; once = λ h. ⊎_elim (λ (e : 2 ≡ 1). absurd (cc e)) (λ z. z) h },
-    ((refl, inl refl), ((refl, (1 ∷ 2 ∷ [], refl)), ((refl, (2 ∷ [], refl)), (inl refl, tt))))))
+two_go_on = (
+  (refl, inl refl),
+  (
+    record { runs = omega arith; asked = omega arith; life = refl; one = refl; once = λ h. ⊎_elim (λ (e : 2 ≡ 1). absurd (cc e)) (λ z. z) h },
+    ((refl, inl refl), ((refl, (1 ∷ 2 ∷ [], refl)), ((refl, (2 ∷ [], refl)), (inl refl, tt)))),
+  ),
+)
 
 two_told_ok : Has (Ok 2 0 2) two_served.told
 two_told_ok = inl refl

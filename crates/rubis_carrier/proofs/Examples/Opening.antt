@@ -1,10 +1,7 @@
 -- What a site has to know before it takes asks: each rule of `MayOpen` is needed. Where a step that it refuses is done all the same,
 -- allowed steps lead to where two messages of one site have one number.
-use Rattle.std.proofs.Common.{◌≡◌, ◌≢◌, ◌⊎◌, inl, inr, ⊎_elim, ◌≤◌, ◌<◌, ◌++◌, ◌∷◌, [], ℕ, Bool, true, false, cond, List, refl, arith}
-use Rattle.rubis_model.specs.Settle.{Has}
-use Rattle.rubis_carrier.specs.Packets.{Packet}
-use Rattle.rubis_carrier.specs.Packets.Packet.{Message, Pass}
-use Rattle.rubis_carrier.specs.Shops.{Carrier, Folder, IsAlone, IsCompared, IsNotAhead, MayOpen, Place, Shop, put, start, there}
+use Rattle.std.proofs.Common.{◌≡◌, inl, ⊎_elim, ◌≤◌, ◌++◌, ◌∷◌, [], ℕ, true, false, List, refl, arith}
+use Rattle.rubis_carrier.specs.Shops.{IsCompared, IsNotAhead, MayOpen, Shop, put, start}
 use Rattle.rubis_carrier.specs.Shops.Carrier.{Files, Server}
 use Rattle.rubis_carrier.specs.Shops.Place.{InFolder, InStream}
 use Rattle.rubis_carrier.specs.Events.{AreSteps, Event, after, replaced, run}
@@ -76,6 +73,33 @@ lost_both_goes_on =
 lost_both_gives_twice : AreGivenOnce (run lost_both_opened (asking 2 3)) → ⊥
 lost_both_gives_twice once = not_the_same (once (InFolder 1) (InFolder 0) first_message other_message (inl refl) (inl refl) refl)
 
+-- ---- a reader that is stopped
+
+-- the same, but site 1 is stopped. Whoever compares a folder with the streams, and with the sites that run, sees nothing
+abbrev stopping : List Event
+stopping = losing_both ++ IsKilled 1 ∷ []
+
+abbrev reader_stopped : Shop
+reader_stopped = run start (asked_once ++ stopping)
+
+nothing_runs_there : (reader_stopped.folder 1).life ≡ 0
+nothing_runs_there = refl
+
+its_stream_says_nothing : IsNotAhead reader_stopped 0 (InStream 0)
+its_stream_says_nothing x a e = absurd a
+
+-- but what it has read is there
+stopped_is_refused : MayOpen reader_stopped 0 → ⊥
+stopped_is_refused m = ⊎_elim (λ (r : false ≡ true). absurd (cc r))
+    (λ (a : IsCompared reader_stopped 0). let less : 1 ≤ 0 = a (InFolder 1) first_message (inl refl) refl in absurd (omega (arith, less))) m.knows
+
+stopped_goes_on : AreSteps Server (after reader_stopped (Opens 0)) (asking 2 3)
+stopped_goes_on =
+    ((refl, omega arith), (record { runs = omega arith; asked = omega arith; life = refl; one = refl; once = λ h. h }, ((refl, inl refl), ((refl, ([], refl)), tt))))
+
+stopped_gives_twice : AreGivenOnce (run (after reader_stopped (Opens 0)) (asking 2 3)) → ⊥
+stopped_gives_twice once = not_the_same (once (InFolder 1) (InFolder 0) first_message other_message (inl refl) (inl refl) refl)
+
 -- ---- a copy of a folder that is open
 
 -- folder 5 is a copy of folder 0, which is open: it has as much, and is started
@@ -96,9 +120,19 @@ abbrev asking_both : List Event
 asking_both = asking 1 1 ++ IsAsked 2 2 1 ∷ Serves 5 2 ∷ Gives 5 2 ∷ Accepts 5 2 ∷ []
 
 copy_goes_on : AreSteps Files copy_opened asking_both
-copy_goes_on =
-    ((refl, omega arith), (record { runs = omega arith; asked = omega arith; life = refl; one = refl; once = λ h. h }, ((refl, inl refl), ((refl, ([], refl)),
-    ((refl, omega arith), (record { runs = omega arith; asked = omega arith; life = refl; one = refl; once = λ h. h }, ((refl, inl refl), ((refl, ([], refl)), tt))))))))
+copy_goes_on = (
+  (refl, omega arith),
+  (
+    record { runs = omega arith; asked = omega arith; life = refl; one = refl; once = λ h. h },
+    (
+      (refl, inl refl),
+      (
+        (refl, ([], refl)),
+        ((refl, omega arith), (record { runs = omega arith; asked = omega arith; life = refl; one = refl; once = λ h. h }, ((refl, inl refl), ((refl, ([], refl)), tt)))),
+      ),
+    ),
+  ),
+)
 
 copy_gives_twice : AreGivenOnce (run copy_opened asking_both) → ⊥
 copy_gives_twice once = not_the_same (once (InFolder 0) (InFolder 5) first_message other_message (inl refl) (inl refl) refl)

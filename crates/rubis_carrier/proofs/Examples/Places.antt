@@ -1,21 +1,20 @@
 -- A token that is looked for at its place, and not by its turn, is lost for good.
-use Rattle.std.proofs.Common.{◌≡◌, ◌∙◌, ◌≢◌, ◌⊎◌, inl, inr, ⊎_elim, ◌≤◌, ◌<◌, ◌+◌, ◌++◌, ◌∷◌, [], ℕ, Bool, true, false, cond, eqb, max, List, refl, sym, ap, subst, arith}
+use Rattle.std.proofs.Common.{◌≡◌, ◌∙◌, inl, inr, ⊎_elim, ◌≤◌, ◌+◌, ◌++◌, ◌∷◌, [], ℕ, cond, eqb, max, List, refl, sym, ap, subst, arith}
 use Rattle.rubis_model.specs.Settle.{Has}
 use Rattle.rubis_carrier.specs.Packets.{Holds, Packet, highest, taken}
 use Rattle.rubis_carrier.specs.Packets.Packet.{Message, Pass}
-use Rattle.rubis_carrier.specs.Shops.{Carrier, Folder, Place, Shop, put, start, there}
-use Rattle.rubis_carrier.specs.Shops.Carrier.{Files, Server}
+use Rattle.rubis_carrier.specs.Shops.{Folder, Place, Shop, put, start, there}
+use Rattle.rubis_carrier.specs.Shops.Carrier.{Server}
 use Rattle.rubis_carrier.specs.Shops.Place.{InFolder, InStream}
 use Rattle.rubis_carrier.specs.Events.{AllCarry, AreSteps, Carries, Event, May, after, keeping, run, started}
-use Rattle.rubis_carrier.specs.Events.Event.{Accepts, Appends, Gives, IsAsked, IsChanged, IsCopied, IsKilled, IsLost, LosesEnd, MachineStarts, Opens}
-use Rattle.rubis_carrier.specs.Events.Event.{Passes, Reads, Rebuilds, Refuses, Serves, ServerLosesAll, Starts, StreamLosesEnd, TellsNothing, TellsOk}
-use Rattle.rubis_carrier.specs.Events.Event.{TellsUnknown, WritesAnew}
+use Rattle.rubis_carrier.specs.Events.Event.{Accepts, Appends, Gives, IsAsked, IsKilled, Opens}
+use Rattle.rubis_carrier.specs.Events.Event.{Passes, Reads, Serves, ServerLosesAll, Starts}
 use Rattle.rubis_carrier.specs.Laws.{CanHold}
 use Rattle.rubis_carrier.proofs.Changes.{IsNew, from_step}
 use Rattle.rubis_carrier.proofs.PacketFacts.{number_more}
 use Rattle.rubis_carrier.proofs.PutFacts.{put_cases}
 use Rattle.rubis_carrier.proofs.Whole.{steps_append}
-use Rattle.rubis_carrier.proofs.Examples.Runs.{asked_once, asked_once_may, asking, first_message}
+use Rattle.rubis_carrier.proofs.Examples.Runs.{asked_once, asked_once_may, first_message}
 
 -- ---- the run
 
@@ -38,14 +37,61 @@ abbrev passed_on : Shop
 passed_on = run start (asked_once ++ passing)
 
 passing_may : AreSteps Server (run start asked_once) passing
-passing_may =
-    ((refl, (omega arith, inl refl), (λ (e : 1 ≡ 0). absurd (cc e))), ((refl, omega arith),
-    (record { runs = omega arith; asked = omega arith; life = refl; one = refl; once = λ h. ⊎_elim (λ (e : 2 ≡ 1). absurd (cc e)) (λ z. z) h },
-    ((refl, inl refl), ((refl, ([], refl)), ((omega arith, refl, inl refl), ((omega arith, refl, inr (inl refl)), ((omega arith, refl, inr (inr (inl refl))),
-    (refl, ((omega arith, (λ (e : 0 ≡ 2). absurd (cc e)), inl refl), ((omega arith, (λ (e : 0 ≡ 2). absurd (cc e)), inr (inr (inl refl))),
-    (tt, (tt, ((omega arith, refl, inl refl), ((omega arith, refl, inr (inl refl)),
-    (refl, ((omega arith, (λ (e : 0 ≡ 1). absurd (cc e)), inl refl), ((omega arith, (λ (e : 0 ≡ 1). absurd (cc e)), inr (inl refl)),
-    (refl, ((omega arith, refl, inr (inl refl)), tt))))))))))))))))))))
+passing_may = (
+  (refl, (omega arith, inl refl), (λ (e : 1 ≡ 0). absurd (cc e))),
+  (
+    (refl, omega arith),
+    (
+      record { runs = omega arith; asked = omega arith; life = refl; one = refl; once = λ h. ⊎_elim (λ (e : 2 ≡ 1). absurd (cc e)) (λ z. z) h },
+      (
+        (refl, inl refl),
+        (
+          (refl, ([], refl)),
+          (
+            (omega arith, refl, inl refl),
+            (
+              (omega arith, refl, inr (inl refl)),
+              (
+                (omega arith, refl, inr (inr (inl refl))),
+                (
+                  refl,
+                  (
+                    (omega arith, (λ (e : 0 ≡ 2). absurd (cc e)), inl refl),
+                    (
+                      (omega arith, (λ (e : 0 ≡ 2). absurd (cc e)), inr (inr (inl refl))),
+                      (
+                        tt,
+                        (
+                          tt,
+                          (
+                            (omega arith, refl, inl refl),
+                            (
+                              (omega arith, refl, inr (inl refl)),
+                              (
+                                refl,
+                                (
+                                  (omega arith, (λ (e : 0 ≡ 1). absurd (cc e)), inl refl),
+                                  (
+                                    (omega arith, (λ (e : 0 ≡ 1). absurd (cc e)), inr (inl refl)),
+                                    (refl, ((omega arith, refl, inr (inl refl)), tt)),
+                                  ),
+                                ),
+                              ),
+                            ),
+                          ),
+                        ),
+                      ),
+                    ),
+                  ),
+                ),
+              ),
+            ),
+          ),
+        ),
+      ),
+    ),
+  ),
+)
 
 -- site 1 reads the pass by its turn, and holds the token
 comes_back : CanHold Server passed_on 1
@@ -144,11 +190,79 @@ abbrev nothing : (x : Packet) → ⊥ → IsFine x
 nothing x z = absurd z
 
 makes_fine : MakesFine start (asked_once ++ passing)
-makes_fine =
-    (nothing, (nothing, (nothing, (nothing, (nothing, ((λ x e. subst IsFine (sym e) tt),
-    ((λ x e. subst IsFine (sym e) (refl, refl)), (nothing, (nothing, (nothing, ((λ x e. subst IsFine (sym e) tt),
-    (nothing, (nothing, (nothing, (nothing, (nothing, (nothing, (nothing, (nothing, (nothing, (nothing, (nothing, (nothing, (nothing,
-    (nothing, (nothing, tt))))))))))))))))))))))))))
+makes_fine = (
+  nothing,
+  (
+    nothing,
+    (
+      nothing,
+      (
+        nothing,
+        (
+          nothing,
+          (
+            (λ x e. subst IsFine (sym e) tt),
+            (
+              (λ x e. subst IsFine (sym e) (refl, refl)),
+              (
+                nothing,
+                (
+                  nothing,
+                  (
+                    nothing,
+                    (
+                      (λ x e. subst IsFine (sym e) tt),
+                      (
+                        nothing,
+                        (
+                          nothing,
+                          (
+                            nothing,
+                            (
+                              nothing,
+                              (
+                                nothing,
+                                (
+                                  nothing,
+                                  (
+                                    nothing,
+                                    (
+                                      nothing,
+                                      (
+                                        nothing,
+                                        (
+                                          nothing,
+                                          (
+                                            nothing,
+                                            (
+                                              nothing,
+                                              (
+                                                nothing,
+                                                (nothing, (nothing, tt)),
+                                              ),
+                                            ),
+                                          ),
+                                        ),
+                                      ),
+                                    ),
+                                  ),
+                                ),
+                              ),
+                            ),
+                          ),
+                        ),
+                      ),
+                    ),
+                  ),
+                ),
+              ),
+            ),
+          ),
+        ),
+      ),
+    ),
+  ),
+)
 
 all_fine : AllFine passed_on
 all_fine = fine_after start (asked_once ++ passing) (steps_append Server start asked_once passing (asked_once_may Server) passing_may) makes_fine none_yet

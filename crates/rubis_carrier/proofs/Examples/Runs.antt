@@ -1,11 +1,11 @@
 -- Small runs, computed on the definitions, that the other examples begin with.
-use Rattle.std.proofs.Common.{◌≡◌, ◌≢◌, ◌⊎◌, inl, inr, ◌≤◌, ◌<◌, ◌++◌, ◌∷◌, [], ℕ, List, refl, true, false, arith}
+use Rattle.std.proofs.Common.{◌≡◌, inl, inr, ◌++◌, ◌∷◌, [], ℕ, List, refl, true, arith}
 use Rattle.rubis_model.specs.Settle.{Has}
 use Rattle.rubis_carrier.specs.Packets.{Packet}
-use Rattle.rubis_carrier.specs.Packets.Packet.{Message, Pass}
-use Rattle.rubis_carrier.specs.Shops.{Carrier, Folder, IsAlone, IsCompared, MayOpen, Place, Shop, empty, put, start, there}
+use Rattle.rubis_carrier.specs.Packets.Packet.{Message}
+use Rattle.rubis_carrier.specs.Shops.{Carrier, Folder, Place, empty, start, there}
 use Rattle.rubis_carrier.specs.Shops.Place.{InFolder, InStream}
-use Rattle.rubis_carrier.specs.Events.{AreSteps, Event, after, run}
+use Rattle.rubis_carrier.specs.Events.{AreSteps, Event, after}
 use Rattle.rubis_carrier.specs.Events.Event.{Accepts, Gives, IsAsked, Opens, Serves, Starts}
 use Rattle.rubis_carrier.proofs.PutFacts.{put_cases}
 use Rattle.rubis_carrier.proofs.Sound.{gone}
@@ -39,7 +39,19 @@ none_open : (j : ℕ) → ((after start (Starts 0)).folder j).is_open ≡ true �
 none_open j o = put_cases (λ i (f : Folder). f.is_open ≡ true → ⊥) 0 _ empty (λ e. gone e) (λ i n e. gone e) j o
 
 pub asked_once_may : (c : Carrier) → AreSteps c start asked_once
-asked_once_may c =
-    (refl, (record { runs = omega arith; knows = inr (λ h x a e. absurd (nothing_there h x a)); alone = λ j o e. absurd (none_open j o) },
-    ((refl, omega arith), (record { runs = omega arith; asked = omega arith; life = refl; one = refl; once = λ h. h }, ((refl, inl refl),
-    ((refl, ([], refl)), tt))))))
+asked_once_may c = (
+  refl,
+  (
+    record { runs = omega arith; knows = inr (λ h x a e. absurd (nothing_there h x a)); alone = λ j o e. absurd (none_open j o) },
+    (
+      (refl, omega arith),
+      (
+        record { runs = omega arith; asked = omega arith; life = refl; one = refl; once = λ h. h },
+        (
+          (refl, inl refl),
+          ((refl, ([], refl)), tt),
+        ),
+      ),
+    ),
+  ),
+)
