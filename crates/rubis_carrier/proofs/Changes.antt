@@ -8,7 +8,7 @@ use Rattle.rubis_carrier.specs.Shops.{Carrier, Folder, Place, Shop, put, there}
 use Rattle.rubis_carrier.specs.Shops.Place.{InFolder, InStream}
 use Rattle.rubis_carrier.specs.Events.{Event, IsFirst, May, after, first, forgotten, next_message, next_pass, others, without}
 use Rattle.rubis_carrier.specs.Events.Event.{Accepts, Appends, Gives, IsAsked, IsChanged, IsCopied, IsKilled, IsLost, LosesEnd, MachineStarts, Opens}
-use Rattle.rubis_carrier.specs.Events.Event.{Passes, Reads, Rebuilds, Refuses, Serves, ServerLosesAll, Starts, StreamLosesEnd, TellsNothing, TellsOk}
+use Rattle.rubis_carrier.specs.Events.Event.{Passes, Reads, Rebuilds, Refuses, Serves, ServerLosesAll, Starts, StreamLosesEnd, TellsNothing, TellsOk, TellsPublished}
 use Rattle.rubis_carrier.specs.Events.Event.{KeeperStarts, TellsUnknown, WritesAnew}
 use Rattle.rubis_carrier.proofs.PacketFacts.{has_unchanged}
 use Rattle.rubis_carrier.proofs.PutFacts.{eqb_same, has_filter, has_take, put_cases}
@@ -49,6 +49,7 @@ from_step c s (Accepts k r) (InFolder j) x m a =
     in_folder s (Accepts k r) k _ x (λ b. ⊎_elim (λ o. inl (InFolder k, o)) (λ n. inr n) (push_cases x _ (s.folder k).kept b)) j a
 from_step c s (Refuses k r) (InFolder j) x m a = in_folder s (Refuses k r) k _ x (λ b. inl (InFolder k, b)) j a
 from_step c s (TellsOk k r n) (InFolder j) x m a = inl (InFolder j, a)
+from_step c s (TellsPublished k r n) (InFolder j) x m a = inl (InFolder j, a)
 from_step c s (TellsNothing k r) (InFolder j) x m a = in_folder s (TellsNothing k r) k _ x (λ b. inl (InFolder k, b)) j a
 from_step c s (TellsUnknown k r) (InFolder j) x m a = inl (InFolder j, a)
 from_step c s (Passes k to) (InFolder j) x m a =

@@ -7,7 +7,7 @@ use Rattle.rubis_carrier.specs.Shops.{Carrier, Folder, Request, Shop, put, start
 use Rattle.rubis_carrier.specs.Events.{AreSteps, Event, IsFirst, May, after, first, forgotten, run}
 use Rattle.rubis_carrier.specs.Events.Event.{Accepts, Appends, Gives, IsAsked, IsChanged, IsCopied, IsKilled, IsLost, KeeperStarts, LosesEnd}
 use Rattle.rubis_carrier.specs.Events.Event.{MachineStarts, Opens, Passes, Reads, Rebuilds, Refuses, Serves, ServerLosesAll, Starts, StreamLosesEnd}
-use Rattle.rubis_carrier.specs.Events.Event.{TellsNothing, TellsOk, TellsUnknown, WritesAnew}
+use Rattle.rubis_carrier.specs.Events.Event.{TellsNothing, TellsOk, TellsPublished, TellsUnknown, WritesAnew}
 use Rattle.rubis_carrier.specs.Laws.{AnswersComeInOrder, IsOver, IsUnmade, WhatIsOverStays}
 use Rattle.rubis_carrier.proofs.Changes.{AreApart, IsNew, first_in, from_step, has_others, has_without}
 use Rattle.rubis_carrier.proofs.PutFacts.{put_cases, put_there}
@@ -111,6 +111,7 @@ over_step c s (Refuses k p) r m q o = over_put s r o _ k _ refl (record {
   given = λ h. o.given_nowhere k (has_others r (s.folder k).given (q.lined k).apart h).0;
 }) refl refl
 over_step c s (TellsOk k p n) r m q o = over_less s r o _ (as_it_was s r o) refl refl
+over_step c s (TellsPublished k p n) r m q o = over_less s r o _ (as_it_was s r o) refl refl
 over_step c s (TellsNothing k p) r m q o = over_put s r o _ k _ refl (record {
   life = λ l. refl;
   served = λ l h. h;

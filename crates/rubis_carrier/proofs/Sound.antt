@@ -10,7 +10,7 @@ use Rattle.rubis_carrier.specs.Shops.Carrier.{Files, Server}
 use Rattle.rubis_carrier.specs.Shops.Place.{InFolder, InStream}
 use Rattle.rubis_carrier.specs.Events.{AreSteps, Event, IsOffered, May, accepting, after, forgotten, keeping, next_message, next_pass, run}
 use Rattle.rubis_carrier.specs.Events.Event.{Accepts, Appends, Gives, IsAsked, IsChanged, IsCopied, IsKilled, IsLost, LosesEnd, MachineStarts, Opens, Passes}
-use Rattle.rubis_carrier.specs.Events.Event.{Reads, Rebuilds, Refuses, Serves, ServerLosesAll, Starts, StreamLosesEnd, TellsNothing, TellsOk}
+use Rattle.rubis_carrier.specs.Events.Event.{Reads, Rebuilds, Refuses, Serves, ServerLosesAll, Starts, StreamLosesEnd, TellsNothing, TellsOk, TellsPublished}
 use Rattle.std.proofs.lemmas.Bool.{eqb-false, eqb-true}
 use Rattle.rubis_carrier.specs.Events.Event.{KeeperStarts, TellsUnknown, WritesAnew}
 use Rattle.rubis_carrier.specs.Laws.{AreGivenOnce, IdsAreGivenOnce}
@@ -323,6 +323,7 @@ sound_step c s (Accepts k r) m q =
     sent_sound s (after s (Accepts k r)) k y q (sends s q k f y l _ refl refl m.0 refl (new_message (s.folder k) r) tt (omega arith))
 sound_step c s (Refuses k r) m q = less_folder s q k _ (same_as s q k _ refl refl refl refl) _ refl refl (omega arith)
 sound_step c s (TellsOk k r n) m q = less_streams s q _ refl (λ i x h. (InStream i, h)) refl
+sound_step c s (TellsPublished k r n) m q = less_streams s q _ refl (λ i x h. (InStream i, h)) refl
 sound_step c s (TellsNothing k r) m q = less_folder s q k _ (same_as s q k _ refl refl refl refl) _ refl refl (omega arith)
 sound_step c s (TellsUnknown k r) m q = less_streams s q _ refl (λ i x h. (InStream i, h)) refl
 sound_step c s (Passes k to) m q =

@@ -10,9 +10,9 @@ use Rattle.rubis_carrier.specs.Shops.Told.{No, Ok}
 use Rattle.rubis_carrier.specs.Events.{AreSteps, Event, IsFirst, May, MayServe, accepting, after, answering, first, forgotten, giving, next_message, others, run, started, times}
 use Rattle.rubis_carrier.specs.Events.{without}
 use Rattle.rubis_carrier.specs.Events.Event.{Accepts, Appends, Gives, IsAsked, IsChanged, IsCopied, IsKilled, IsLost, LosesEnd, MachineStarts, Opens}
-use Rattle.rubis_carrier.specs.Events.Event.{Passes, Reads, Rebuilds, Refuses, Serves, ServerLosesAll, Starts, StreamLosesEnd, TellsNothing, TellsOk}
+use Rattle.rubis_carrier.specs.Events.Event.{Passes, Reads, Rebuilds, Refuses, Serves, ServerLosesAll, Starts, StreamLosesEnd, TellsNothing, TellsOk, TellsPublished}
 use Rattle.rubis_carrier.specs.Events.Event.{KeeperStarts, TellsUnknown, WritesAnew}
-use Rattle.rubis_carrier.specs.Laws.{AsksAreAcceptedOnce, IsUnmade, NobodyIsToldBoth, ToldOkIsKept, WhatIsToldIsTrue}
+use Rattle.rubis_carrier.specs.Laws.{AsksAreAcceptedOnce, IsUnmade, NobodyIsToldBoth, PublishedIsInStream, ToldOkIsKept, WhatIsToldIsTrue}
 use Rattle.rubis_carrier.proofs.Changes.{AreApart, IsNew, apart_more, apart_others, first_in, from_step, has_others, has_without}
 use Rattle.rubis_carrier.proofs.PutFacts.{put_cases, put_there}
 use Rattle.rubis_carrier.proofs.Sound.{IsSomewhere}
@@ -647,6 +647,16 @@ tells_step c s (TellsOk k r n) m q = quiet_streams c s (TellsOk k r n) q m (λ i
         let b : i ≡ (s.folder k).site = cc e in
         let d' : d ≡ n = cc e in
         cc (a, b, d')
+tells_step c s (TellsPublished k r n) m q = quiet_streams c s (TellsPublished k r n) q m (λ i d p e. e) refl refl refl refl
+    (λ p a. ⊎_elim (λ e. absurd (cc e)) (λ b. b) a)
+    (λ p i d a. ⊎_elim (λ e. inr (InFolder k, subst (λ x. Has x (s.folder k).kept) (said p i d e) ((q.lined k).answers r n m.1))) (λ b. inl b) a)
+  where
+    said : (p i d : ℕ) → Ok p i d ≡ Ok r (s.folder k).site n → Message (s.folder k).site n r ≡ Message i d p
+    said p i d e =
+        let a : p ≡ r = cc e in
+        let b : i ≡ (s.folder k).site = cc e in
+        let d' : d ≡ n = cc e in
+        cc (a, b, d')
 tells_step c s (TellsNothing k r) m q = withdraws_tells c s k r q m
 tells_step c s (TellsUnknown k r) m q = quiet_streams c s (TellsUnknown k r) q m (λ i d p e. e) refl refl refl refl
     (λ p a. ⊎_elim (λ e. absurd (cc e)) (λ b. b) a) (λ p i d a. ⊎_elim (λ e. absurd (cc e)) (λ b. inl b) a)
@@ -694,6 +704,7 @@ tells_run c events m = tells_after c start events m tells_start
 told_step : (s : Shop) (e : Event) (w : Told) → Has w s.told → Has w (after s e).told
 told_step s (Refuses k r) w h = inr h
 told_step s (TellsOk k r n) w h = inr h
+told_step s (TellsPublished k r n) w h = inr h
 told_step s (TellsNothing k r) w h = inr h
 told_step s (TellsUnknown k r) w h = inr h
 told_step s (Starts k) w h = h
@@ -721,3 +732,9 @@ told_ok c before k r n m =
     let kept = ((tells_run c before (steps_left c start before (TellsOk k r n ∷ []) m)).lined k).answers r n last.0 in
     subst (λ (t : Shop). Has (Ok r (t.folder k).site n) t.told × Has (Message (t.folder k).site n r) (t.folder k).kept)
     (sym (run_append start before (TellsOk k r n ∷ []))) (inl refl, kept)
+
+pub published : PublishedIsInStream
+published c before k r n m =
+    let last = steps_right c start before (TellsPublished k r n ∷ []) m in
+    subst (λ (t : Shop). Has (Ok r (t.folder k).site n) t.told × Has (Message (t.folder k).site n r) (t.stream (t.folder k).site))
+    (sym (run_append start before (TellsPublished k r n ∷ []))) (inl refl, last.0.2)

@@ -8,7 +8,7 @@ use Rattle.rubis_carrier.specs.Shops.{Carrier, Folder, Place, Shop, put, start, 
 use Rattle.rubis_carrier.specs.Shops.Place.{InFolder, InStream}
 use Rattle.rubis_carrier.specs.Events.{AreSteps, Event, Harms, IsWhole, May, after, forgotten, run}
 use Rattle.rubis_carrier.specs.Events.Event.{Accepts, Appends, Gives, IsAsked, IsChanged, IsCopied, IsKilled, IsLost, LosesEnd, MachineStarts, Opens}
-use Rattle.rubis_carrier.specs.Events.Event.{Passes, Reads, Rebuilds, Refuses, Serves, ServerLosesAll, Starts, StreamLosesEnd, TellsNothing, TellsOk}
+use Rattle.rubis_carrier.specs.Events.Event.{Passes, Reads, Rebuilds, Refuses, Serves, ServerLosesAll, Starts, StreamLosesEnd, TellsNothing, TellsOk, TellsPublished}
 use Rattle.rubis_carrier.specs.Events.Event.{KeeperStarts, TellsUnknown, WritesAnew}
 use Rattle.rubis_carrier.specs.Laws.{GivenAgainOnlyWhereLost, NothingAcceptedIsLost}
 use Rattle.rubis_carrier.proofs.PutFacts.{put_cases}
@@ -68,6 +68,7 @@ folder_step c s (Gives k r) j m n x h = same_or_more s k _ (λ z a. a) j x h
 folder_step c s (Accepts k r) j m n x h = same_or_more s k _ (λ z a. has_left z (s.folder k).kept _ a) j x h
 folder_step c s (Refuses k r) j m n x h = same_or_more s k _ (λ z a. a) j x h
 folder_step c s (TellsOk k r d) j m n x h = h
+folder_step c s (TellsPublished k r d) j m n x h = h
 folder_step c s (TellsNothing k r) j m n x h = same_or_more s k _ (λ z a. a) j x h
 folder_step c s (TellsUnknown k r) j m n x h = h
 folder_step c s (Passes k to) j m n x h = same_or_more s k _ (λ z a. has_left z (s.folder k).kept _ a) j x h

@@ -23,8 +23,10 @@ pub data Event : Type 0 where
   Gives : (folder ask : ℕ) → Event
   Accepts : (folder ask : ℕ) → Event
   Refuses : (folder ask : ℕ) → Event
-  -- the asker is told ok; that nothing was given to the site; that it isn't known
+  -- the asker is told ok; the same, once the message stands in the stream of its site; that nothing was given to the site; that it
+  -- isn't known
   TellsOk : (folder ask number : ℕ) → Event
+  TellsPublished : (folder ask number : ℕ) → Event
   TellsNothing : (folder ask : ℕ) → Event
   TellsUnknown : (folder ask : ℕ) → Event
   -- the site passes the token on; a packet that stands in a folder is appended to the stream of its sender; a site reads a packet
@@ -81,6 +83,7 @@ May c s (Gives k r) = ((s.folder k).is_open ≡ true) × Has r (s.folder k).wait
 May c s (Accepts k r) = ((s.folder k).is_open ≡ true) × IsFirst r (s.folder k).lines
 May c s (Refuses k r) = IsFirst r (s.folder k).lines
 May c s (TellsOk k r n) = Has (record { ask = r; number = n }) (s.folder k).answered
+May c s (TellsPublished k r n) = (c ≡ Server) × Has (record { ask = r; number = n }) (s.folder k).answered × Has (Message (s.folder k).site n r) (s.stream (s.folder k).site)
 May c s (TellsNothing k r) = Has r (s.folder k).waiting
 May c s (TellsUnknown k r) = Unit {0}
 May c s (Passes k to) = ((s.folder k).is_open ≡ true) × Holds (s.folder k).site (s.folder k).kept × (to ≢ (s.folder k).site)
@@ -174,6 +177,7 @@ after s (Gives k r) = with_folder k (giving (s.folder k) r (s.request r).records
 after s (Accepts k r) = with_folder k (accepting (s.folder k) r) s
 after s (Refuses k r) = telling (told.No (first (s.folder k).given)) (with_folder k (answering (s.folder k)) s)
 after s (TellsOk k r n) = telling (told.Ok r (s.folder k).site n) s
+after s (TellsPublished k r n) = telling (told.Ok r (s.folder k).site n) s
 after s (TellsNothing k r) = telling (told.No r) (with_folder k (record (s.folder k) { waiting = without r (s.folder k).waiting }) s)
 after s (TellsUnknown k r) = telling (told.Unknown r) s
 after s (Passes k to) = record (with_folder k (keeping (s.folder k) (next_pass (s.folder k) to)) s) { turn = max (taken (s.folder k).site (s.folder k).kept + 1) s.turn }

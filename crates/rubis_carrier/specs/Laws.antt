@@ -8,7 +8,7 @@ use Rattle.rubis_carrier.specs.Shops.Carrier.{Server}
 use Rattle.rubis_carrier.specs.Shops.Place.{InFolder, InStream}
 use Rattle.rubis_carrier.specs.Shops.Told.{No, Ok}
 use Rattle.rubis_carrier.specs.Events.{AllCarry, AreSteps, Event, IsWhole, May, after, run}
-use Rattle.rubis_carrier.specs.Events.Event.{Accepts, Opens, Refuses, TellsOk}
+use Rattle.rubis_carrier.specs.Events.Event.{Accepts, Opens, Refuses, TellsOk, TellsPublished}
 
 -- the claim holds of a shop after any events, over files and over a server
 abbrev pub EveryShop : (Shop → Type 0) → Type 0
@@ -45,6 +45,12 @@ abbrev pub ToldOkIsKept : Type 0
 ToldOkIsKept = (c : Carrier) (before : List Event) (k r n : ℕ) → AreSteps c start (before ++ TellsOk k r n ∷ [])
     → let s = run start (before ++ TellsOk k r n ∷ []) in
     Has (Ok r (s.folder k).site n) s.told × Has (Message (s.folder k).site n r) (s.folder k).kept
+
+-- with `--published`, it stands in the stream
+abbrev pub PublishedIsInStream : Type 0
+PublishedIsInStream = (c : Carrier) (before : List Event) (k r n : ℕ) → AreSteps c start (before ++ TellsPublished k r n ∷ [])
+    → let s = run start (before ++ TellsPublished k r n ∷ []) in
+    Has (Ok r (s.folder k).site n) s.told × Has (Message (s.folder k).site n r) (s.stream (s.folder k).site)
 
 -- ---- the token
 

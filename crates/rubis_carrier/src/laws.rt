@@ -1,7 +1,7 @@
 //! The laws of shops, each with its statement in specs/.
 
 ghost use Rattle.rubis_carrier.specs.Laws.{AnswersComeInOrder, AsksAreAcceptedOnce, ComparingIsNeeded, GivenAgainOnlyWhereLost, IdsAreGivenOnce, NothingAcceptedIsLost, TheFirstSiteHolds, TheTokenComesBack};
-ghost use Rattle.rubis_carrier.specs.Laws.{NobodyIsToldBoth, ToldOkIsKept, WhatIsOverStays, WhatIsToldIsTrue};
+ghost use Rattle.rubis_carrier.specs.Laws.{NobodyIsToldBoth, PublishedIsInStream, ToldOkIsKept, WhatIsOverStays, WhatIsToldIsTrue};
 
 /// Two messages of one site under one number, and two passes of one site under one turn, are the same one, in whatever folder or stream
 /// they stand at that moment. So a number is given again only where nothing is left that had the first. A site is asked to compare no
@@ -13,9 +13,10 @@ pub fn ids_are_given_once()
 {}
 
 /// The message of an ask that was told ok, under the id that was told, is in every folder that has read everything, as long as one of
-/// the places where it stood, a folder or a stream, is whole. Where it is told, it stands in the folder.
+/// the places where it stood, a folder or a stream, is whole. Where it is told, it stands in the folder; with `--published`, in the stream.
 pub fn nothing_accepted_is_lost()
     ensures kept { ToldOkIsKept }
+    ensures published { PublishedIsInStream }
     ensures stays { NothingAcceptedIsLost }
 {}
 
