@@ -7,4 +7,5 @@ pub mod Changes
 pub mod Telling
 pub mod Over
 pub mod Needed
+pub mod Sites
 pub mod Examples

@@ -1,32 +1,21 @@
 -- A site that takes asks while some place is ahead of its folder comes to give a number again.
-use Rattle.std.proofs.Common.{◌≡◌, ◌∙◌, inl, ⊎_elim, ◌≤◌, ◌<◌, ◌+◌, ◌-◌, ◌++◌, ◌∷◌, [], ℕ, Bool, true, false, cond, eqb, max, List, refl, sym, ap, subst, arith}
+use Rattle.std.proofs.Common.{◌≡◌, ◌∙◌, inl, ⊎_elim, ◌≤◌, ◌<◌, ◌+◌, ◌-◌, ◌++◌, ◌∷◌, [], ℕ, true, List, refl, sym, ap, subst, arith}
 use Rattle.std.specs.Prelude.{zero, suc}
 use Rattle.rubis_model.specs.Settle.{Has}
 use Rattle.rubis_model.proofs.Lists.{has_last}
-use Rattle.rubis_carrier.specs.Packets.{Packet, highest}
-use Rattle.rubis_carrier.specs.Packets.Packet.{Message, Pass}
+use Rattle.rubis_carrier.specs.Packets.{highest}
+use Rattle.rubis_carrier.specs.Packets.Packet.{Message}
 use Rattle.rubis_carrier.specs.Shops.{Carrier, Folder, Place, Request, Shop, put, start, there}
 use Rattle.rubis_carrier.specs.Shops.Place.{InFolder, InStream}
 use Rattle.rubis_carrier.specs.Events.{AreSteps, Event, IsFirst, MayServe, accepting, after, forgotten, giving, others, run}
 use Rattle.rubis_carrier.specs.Events.Event.{Accepts, Gives, IsAsked, Opens, Serves}
 use Rattle.rubis_carrier.specs.Laws.{AreGivenOnce, ComparingIsNeeded}
-use Rattle.rubis_carrier.proofs.PutFacts.{eqb_same, put_cases, put_here}
+use Rattle.rubis_carrier.proofs.PacketFacts.{highest_next}
+use Rattle.rubis_carrier.proofs.PutFacts.{put_cases, put_here}
 use Rattle.rubis_carrier.proofs.Telling.{tells_run}
 use Rattle.rubis_carrier.proofs.Whole.{run_append, steps_append, whole_after}
 
 -- ---- one ask more
-
-next_highest : (i r : ℕ) (kept : List Packet) (n : ℕ) → highest i kept < n → highest i (kept ++ Message i n r ∷ []) ≡ n
-next_highest i r [] n h = subst (λ b. cond b (max n 0) 0 ≡ n) (sym (eqb_same i)) (omega arith)
-next_highest i r (Message j m q ∷ rest) n h = by_test (eqb j i) m (highest i rest) (highest i (rest ++ Message i n r ∷ [])) n h (next_highest i r rest n)
-  where
-    by_test : (b : Bool) (m old new n : ℕ) → cond b (max m old) old < n → (old < n → new ≡ n) → cond b (max m new) new ≡ n
-    by_test true m old new n h e =
-        let below : old < n = omega (arith, h) in
-        let is = e below in
-        omega (arith, h, is)
-    by_test false m old new n h e = e h
-next_highest i r (Pass j t k a ∷ rest) n h = next_highest i r rest n h
 
 -- folder k of site i is open, and takes an ask after the other; its greatest number is this, and the message n of ask r stands at h
 record IsTaking (t : Shop) (k life i high : ℕ) (h : Place) (n r : ℕ) : Type 0 where
@@ -130,7 +119,7 @@ module _ (c : Carrier) (t : Shop) (k life i high : ℕ) (h : Place) (n r : ℕ) 
   unfolding ask round request serving served_shop given_shop accepted_shop
   round_takes =
       let next : highest i ((t.folder k).kept ++ Message i (highest i (t.folder k).kept + 1) ask ∷ []) ≡ high + 1 =
-      next_highest i ask (t.folder k).kept (highest i (t.folder k).kept + 1) (omega arith) ∙ ap (λ m. m + 1) q.greatest in
+      highest_next i (highest i (t.folder k).kept + 1) ask (t.folder k).kept (omega arith) ∙ ap (λ m. m + 1) q.greatest in
       let kept : highest i (accepting (giving serving ask 1) ask).kept ≡ high + 1 =
       subst (λ j. highest i ((t.folder k).kept ++ Message j (highest j (t.folder k).kept + 1) ask ∷ []) ≡ high + 1) (sym q.site) next in
       record {

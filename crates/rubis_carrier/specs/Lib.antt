@@ -2,3 +2,4 @@ pub mod Packets
 pub mod Shops
 pub mod Events
 pub mod Laws
+pub mod Sites

@@ -1,6 +1,7 @@
 //! The laws of shops, each with its statement in specs/.
 
 ghost use Rattle.rubis_carrier.specs.Laws.{AnswersComeInOrder, AsksAreAcceptedOnce, ComparingIsNeeded, GivenAgainOnlyWhereLost, IdsAreGivenOnce, NothingAcceptedIsLost, TheFirstSiteHolds, TheTokenComesBack};
+ghost use Rattle.rubis_carrier.specs.Sites.{SitesGiveTheseNames};
 ghost use Rattle.rubis_carrier.specs.Laws.{NobodyIsToldBoth, PublishedIsInStream, ToldOkIsKept, WhatIsOverStays, WhatIsToldIsTrue};
 
 /// Two messages of one site under one number, and two passes of one site under one turn, are the same one, in whatever folder or stream
@@ -37,4 +38,10 @@ pub fn what_is_told_is_true()
     ensures once { AsksAreAcceptedOnce }
     ensures order { AnswersComeInOrder }
     ensures over { WhatIsOverStays }
+{}
+
+/// The packets of a folder are what its site's records sent and took in; then the message that the site makes next, and the pass that
+/// it makes next, have the names that they have in a shop, and it passes the token only where it holds it there.
+pub fn sites_give_these_names()
+    ensures { SitesGiveTheseNames }
 {}

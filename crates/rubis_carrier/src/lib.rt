@@ -4,5 +4,6 @@
 mod laws;
 
 pub use laws::{
-    ids_are_given_once, nothing_accepted_is_lost, the_token_comes_back, what_is_told_is_true,
+    ids_are_given_once, nothing_accepted_is_lost, sites_give_these_names, the_token_comes_back,
+    what_is_told_is_true,
 };

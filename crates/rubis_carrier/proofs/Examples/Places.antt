@@ -1,5 +1,5 @@
 -- A token that is looked for at its place, and not by its turn, is lost for good.
-use Rattle.std.proofs.Common.{◌≡◌, ◌∙◌, inl, inr, ⊎_elim, ◌≤◌, ◌+◌, ◌++◌, ◌∷◌, [], ℕ, cond, eqb, max, List, refl, sym, ap, subst, arith}
+use Rattle.std.proofs.Common.{◌≡◌, ◌∙◌, inl, inr, ⊎_elim, ◌≤◌, ◌+◌, ◌++◌, ◌∷◌, [], ℕ, List, refl, sym, ap, subst, arith}
 use Rattle.rubis_model.specs.Settle.{Has}
 use Rattle.rubis_carrier.specs.Packets.{Holds, Packet, highest, taken}
 use Rattle.rubis_carrier.specs.Packets.Packet.{Message, Pass}
@@ -11,7 +11,7 @@ use Rattle.rubis_carrier.specs.Events.Event.{Accepts, Appends, Gives, IsAsked, I
 use Rattle.rubis_carrier.specs.Events.Event.{Passes, Reads, Serves, ServerLosesAll, Starts}
 use Rattle.rubis_carrier.specs.Laws.{CanHold}
 use Rattle.rubis_carrier.proofs.Changes.{IsNew, from_step}
-use Rattle.rubis_carrier.proofs.PacketFacts.{number_more}
+use Rattle.rubis_carrier.proofs.PacketFacts.{number_more, taken_message}
 use Rattle.rubis_carrier.proofs.PutFacts.{put_cases}
 use Rattle.rubis_carrier.proofs.Whole.{steps_append}
 use Rattle.rubis_carrier.proofs.Examples.Runs.{asked_once, asked_once_may, first_message}
@@ -127,11 +127,6 @@ record IsStuck (s : Shop) : Type 0 where
   site : (s.folder 1).site ≡ 1
   none : taken 1 (s.folder 1).kept ≡ 0
 
-taken_same : (i j n r : ℕ) (kept : List Packet) → taken i (kept ++ Message j n r ∷ []) ≡ taken i kept
-taken_same i j n r [] = refl
-taken_same i j n r (Message k m q ∷ rest) = taken_same i j n r rest
-taken_same i j n r (Pass k t l a ∷ rest) = ap (λ v. cond (eqb l i) (max t v) v) (taken_same i j n r rest)
-
 -- what a folder needs for that
 record IsBehind (f : Folder) : Type 0 where
   ahead : 2 ≤ highest 0 f.kept
@@ -150,7 +145,7 @@ stuck_reads s k (Message i n r) m p q = stuck (after s (Reads k (Message i n r))
     (at_one s q k (keeping (s.folder k) (Message i n r)) (λ e. subst (λ j. IsBehind (keeping (s.folder j) (Message i n r))) (sym e) (record {
       ahead = omega (arith, q.ahead, number_more 0 (s.folder 1).kept (Message i n r ∷ []));
       site = q.site;
-      none = taken_same 1 i n r (s.folder 1).kept ∙ q.none;
+      none = taken_message 1 i n r (s.folder 1).kept ∙ q.none;
     })))
 stuck_reads s k (Pass i t j a) m p q = stuck (after s (Reads k (Pass i t j a))) (fine_step s (Reads k (Pass i t j a)) m q.fine (λ x z. absurd z))
     (at_one s q k (keeping (s.folder k) (Pass i t j a)) (λ e. absurd (late e)))
