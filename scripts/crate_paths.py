@@ -14,8 +14,8 @@ import pathlib
 import sys
 
 TOP = pathlib.Path(__file__).resolve().parent.parent
-PATHS_MAX = 8_000
-CRATES_MAX = 26
+PATHS_MAX = 8_100
+CRATES_MAX = 27
 
 
 def read_crates(text: str) -> dict[str, list[str]]:

@@ -1,0 +1,120 @@
+-- What an event changes: which packets are new, and what is in the memory of those that run folders.
+use Rattle.std.proofs.Common.{◌≡◌, ◌∙◌, ◌≢◌, ◌⊎◌, inl, inr, ⊎_elim, ◌++◌, ◌∷◌, [], ℕ, true, false, cond, eqb, List, refl, sym, subst}
+use Rattle.std.specs.Prelude.{not}
+use Rattle.rubis_model.specs.Settle.{Has}
+use Rattle.rubis_model.proofs.Lists.{push_cases}
+use Rattle.rubis_carrier.specs.Packets.{Packet, sender}
+use Rattle.rubis_carrier.specs.Shops.{Carrier, Folder, Place, Shop, put, there}
+use Rattle.rubis_carrier.specs.Shops.Place.{InFolder, InStream}
+use Rattle.rubis_carrier.specs.Events.{Event, IsFirst, May, after, first, forgotten, next_message, next_pass, others, without}
+use Rattle.rubis_carrier.specs.Events.Event.{Accepts, Appends, Gives, IsAsked, IsChanged, IsCopied, IsKilled, IsLost, LosesEnd, MachineStarts, Opens}
+use Rattle.rubis_carrier.specs.Events.Event.{Passes, Reads, Rebuilds, Refuses, Serves, ServerLosesAll, Starts, StreamLosesEnd, TellsNothing, TellsOk, TellsPublished}
+use Rattle.rubis_carrier.specs.Events.Event.{KeeperStarts, TellsUnknown, WritesAnew}
+use Rattle.rubis_carrier.proofs.PacketFacts.{has_unchanged}
+use Rattle.rubis_carrier.proofs.PutFacts.{eqb_same, has_filter, has_take, put_cases}
+use Rattle.rubis_carrier.proofs.Sound.{IsSomewhere, offered}
+
+-- ---- packets
+
+-- what the event makes
+abbrev pub IsNew : Shop → Event → Packet → Type 0
+IsNew s (Accepts k r) x = x ≡ next_message (s.folder k) r
+IsNew s (Passes k to) x = x ≡ next_pass (s.folder k) to
+IsNew s e x = ⊥
+
+in_folder : (s : Shop) (e : Event) (k : ℕ) (f : Folder) (x : Packet) → (Has x f.kept → IsSomewhere s x ⊎ IsNew s e x)
+    → (j : ℕ) → Has x (put k f s.folder j).kept → IsSomewhere s x ⊎ IsNew s e x
+in_folder s e k f x here = put_cases (λ j g. Has x g.kept → IsSomewhere s x ⊎ IsNew s e x) k f s.folder here (λ j n h. inl (InFolder j, h))
+
+in_stream : (s : Shop) (e : Event) (i : ℕ) (xs : List Packet) (x : Packet) → (Has x xs → IsSomewhere s x ⊎ IsNew s e x)
+    → (j : ℕ) → Has x (put i xs s.stream j) → IsSomewhere s x ⊎ IsNew s e x
+in_stream s e i xs x here = put_cases (λ j ys. Has x ys → IsSomewhere s x ⊎ IsNew s e x) i xs s.stream here (λ j n h. inl (InStream j, h))
+
+in_opened : (s : Shop) (k : ℕ) (f : Folder) (x : Packet) → f.kept ≡ (s.folder k).kept → (j : ℕ)
+    → Has x (put k f (λ i. forgotten (s.folder k).site (s.folder i)) j).kept → IsSomewhere s x ⊎ IsNew s (Opens k) x
+in_opened s k f x e = put_cases (λ j g. Has x g.kept → IsSomewhere s x ⊎ IsNew s (Opens k) x) k f (λ i. forgotten (s.folder k).site (s.folder i))
+    (λ h. inl (InFolder k, subst (Has x) e h)) (λ j n h. inl (InFolder j, h))
+
+-- what stands somewhere after the event stood somewhere before, or is new
+pub from_step : (c : Carrier) (s : Shop) (e : Event) (h : Place) (x : Packet) → May c s e → Has x (there (after s e) h) → IsSomewhere s x ⊎ IsNew s e x
+from_step c s (Starts k) (InFolder j) x m a = in_folder s (Starts k) k _ x (λ b. inl (InFolder k, b)) j a
+from_step c s (Opens k) (InFolder j) x m a = in_opened s k _ x refl j a
+from_step c s (KeeperStarts k) (InFolder j) x m a = inl (InFolder j, a)
+from_step c s (IsKilled k) (InFolder j) x m a = in_folder s (IsKilled k) k _ x (λ b. inl (InFolder k, b)) j a
+from_step c s (MachineStarts k) (InFolder j) x m a = in_folder s (MachineStarts k) k _ x (λ b. inl (InFolder k, b)) j a
+from_step c s (IsAsked r life n) (InFolder j) x m a = inl (InFolder j, a)
+from_step c s (Serves k r) (InFolder j) x m a = in_folder s (Serves k r) k _ x (λ b. inl (InFolder k, b)) j a
+from_step c s (Gives k r) (InFolder j) x m a = in_folder s (Gives k r) k _ x (λ b. inl (InFolder k, b)) j a
+from_step c s (Accepts k r) (InFolder j) x m a =
+    in_folder s (Accepts k r) k _ x (λ b. ⊎_elim (λ o. inl (InFolder k, o)) (λ n. inr n) (push_cases x _ (s.folder k).kept b)) j a
+from_step c s (Refuses k r) (InFolder j) x m a = in_folder s (Refuses k r) k _ x (λ b. inl (InFolder k, b)) j a
+from_step c s (TellsOk k r n) (InFolder j) x m a = inl (InFolder j, a)
+from_step c s (TellsPublished k r n) (InFolder j) x m a = inl (InFolder j, a)
+from_step c s (TellsNothing k r) (InFolder j) x m a = in_folder s (TellsNothing k r) k _ x (λ b. inl (InFolder k, b)) j a
+from_step c s (TellsUnknown k r) (InFolder j) x m a = inl (InFolder j, a)
+from_step c s (Passes k to) (InFolder j) x m a =
+    in_folder s (Passes k to) k _ x (λ b. ⊎_elim (λ o. inl (InFolder k, o)) (λ n. inr n) (push_cases x _ (s.folder k).kept b)) j a
+from_step c s (Appends k y) (InFolder j) x m a = inl (InFolder j, a)
+from_step c s (Reads k y) (InFolder j) x m a =
+    in_folder s (Reads k y) k _ x (λ b. inl (⊎_elim (λ o. (InFolder k, o)) (λ n. subst (IsSomewhere s) (sym n) (offered c s y m.2))
+    (push_cases x y (s.folder k).kept b))) j a
+from_step c s (LosesEnd k n) (InFolder j) x m a = in_folder s (LosesEnd k n) k _ x (λ b. inl (InFolder k, has_take n x (s.folder k).kept b)) j a
+from_step c s (IsChanged k ps) (InFolder j) x m a =
+    in_folder s (IsChanged k ps) k _ x (λ b. inl (InFolder k, has_unchanged x (s.folder k).kept ps b)) j a
+from_step c s (IsLost k) (InFolder j) x m a = in_folder s (IsLost k) k _ x (λ b. absurd b) j a
+from_step c s (IsCopied k l) (InFolder j) x m a = in_folder s (IsCopied k l) l _ x (λ b. inl (InFolder k, b)) j a
+from_step c s (StreamLosesEnd i n) (InFolder j) x m a = inl (InFolder j, a)
+from_step c s ServerLosesAll (InFolder j) x m a = inl (InFolder j, a)
+from_step c s (Rebuilds k ps) (InFolder j) x m a = in_folder s (Rebuilds k ps) k _ x (λ b. inl (m.found x b)) j a
+from_step c s (WritesAnew k) (InFolder j) x m a = inl (InFolder j, a)
+from_step c s (Appends k y) (InStream i) x m a =
+    in_stream s (Appends k y) (sender y) _ x (λ b. inl (⊎_elim (λ o. (InStream (sender y), o))
+    (λ n. (InFolder k, subst (λ z. Has z (s.folder k).kept) (sym n) m.2)) (push_cases x y (s.stream (sender y)) b))) i a
+from_step c s (StreamLosesEnd i n) (InStream j) x m a = in_stream s (StreamLosesEnd i n) i _ x (λ b. inl (InStream i, has_take n x (s.stream i) b)) j a
+from_step c s ServerLosesAll (InStream i) x m a = absurd a
+from_step c s (WritesAnew k) (InStream i) x m a =
+    in_stream s (WritesAnew k) (s.folder k).site _ x (λ b. inl (InFolder k, has_filter _ x (s.folder k).kept b)) i a
+from_step c s (Starts k) (InStream i) x m a = inl (InStream i, a)
+from_step c s (Opens k) (InStream i) x m a = inl (InStream i, a)
+from_step c s e (InStream i) x m a = inl (InStream i, a)
+
+-- ---- asks
+
+-- an ask of a list without another one
+pub has_without : (r q : ℕ) (asks : List ℕ) → Has q (without r asks) → Has q asks × (q ≢ r)
+has_without r q [] h = absurd h
+has_without r q (a ∷ asks) h = elim (eqb a r) as (λ b. eqb a r ≡ b → Has q (cond (not b) (a ∷ without r asks) (without r asks)) → Has q (a ∷ asks) × (q ≢ r)) [
+  | true ↦ λ e g. let rest = has_without r q asks g in (inr rest.0, rest.1)
+  | false ↦ λ e g. ⊎_elim (λ here. (inl here, λ same. away here same e)) (λ later. let rest = has_without r q asks later in (inr rest.0, rest.1)) g
+] refl h
+  where
+    away : q ≡ a → q ≡ r → eqb a r ≡ false → ⊥
+    away here same e =
+        let is : eqb a r ≡ true = subst (λ n. eqb n r ≡ true) (sym same ∙ here) (eqb_same r) in
+        cc (is, e)
+
+-- ---- lists in which each ask is once
+
+abbrev pub AreApart : List ℕ → Type 0
+AreApart [] = Unit {0}
+AreApart (r ∷ asks) = (Has r asks → ⊥) × AreApart asks
+
+-- one more, that isn't there
+pub apart_more : (r : ℕ) (asks : List ℕ) → AreApart asks → (Has r asks → ⊥) → AreApart (asks ++ r ∷ [])
+apart_more r [] a n = (λ h. h, tt)
+apart_more r (q ∷ asks) a n =
+    (λ h. ⊎_elim (λ old. a.0 old) (λ e. n (inl (sym e))) (push_cases q r asks h), apart_more r asks a.1 (λ h. n (inr h)))
+
+pub apart_others : (asks : List ℕ) → AreApart asks → AreApart (others asks)
+apart_others [] a = tt
+apart_others (r ∷ asks) a = a.1
+
+-- those behind the first are others
+pub has_others : (q : ℕ) (asks : List ℕ) → AreApart asks → Has q (others asks) → Has q asks × (q ≢ first asks)
+has_others q [] a h = absurd h
+has_others q (r ∷ asks) a h = (inr h, λ e. a.0 (subst (λ n. Has n asks) e h))
+
+-- the first of a list is in it
+pub first_in : (r : ℕ) (asks : List ℕ) → IsFirst r asks → (first asks ≡ r) × Has r asks
+first_in r [] f = absurd (cc f.1)
+first_in r (q ∷ asks) f = (cc f.1, inl (cc f.1))

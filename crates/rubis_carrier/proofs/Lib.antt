@@ -1,0 +1,11 @@
+pub mod PacketFacts
+pub mod PutFacts
+pub mod Sound
+pub mod Whole
+pub mod Token
+pub mod Changes
+pub mod Telling
+pub mod Over
+pub mod Needed
+pub mod Sites
+pub mod Examples

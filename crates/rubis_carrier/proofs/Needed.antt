@@ -1,0 +1,199 @@
+-- A site that takes asks while some place is ahead of its folder comes to give a number again.
+use Rattle.std.proofs.Common.{◌≡◌, ◌∙◌, inl, ⊎_elim, ◌≤◌, ◌<◌, ◌+◌, ◌-◌, ◌++◌, ◌∷◌, [], ℕ, true, List, refl, sym, ap, subst, arith}
+use Rattle.std.specs.Prelude.{zero, suc}
+use Rattle.rubis_model.specs.Settle.{Has}
+use Rattle.rubis_model.proofs.Lists.{has_last}
+use Rattle.rubis_carrier.specs.Packets.{highest}
+use Rattle.rubis_carrier.specs.Packets.Packet.{Message}
+use Rattle.rubis_carrier.specs.Shops.{Carrier, Folder, Place, Request, Shop, put, start, there}
+use Rattle.rubis_carrier.specs.Shops.Place.{InFolder, InStream}
+use Rattle.rubis_carrier.specs.Events.{AreSteps, Event, IsFirst, MayServe, accepting, after, forgotten, giving, others, run}
+use Rattle.rubis_carrier.specs.Events.Event.{Accepts, Gives, IsAsked, Opens, Serves}
+use Rattle.rubis_carrier.specs.Laws.{AreGivenOnce, ComparingIsNeeded}
+use Rattle.rubis_carrier.proofs.PacketFacts.{highest_next}
+use Rattle.rubis_carrier.proofs.PutFacts.{put_cases, put_here}
+use Rattle.rubis_carrier.proofs.Telling.{tells_run}
+use Rattle.rubis_carrier.proofs.Whole.{run_append, steps_append, whole_after}
+
+-- ---- one ask more
+
+-- folder k of site i is open, and takes an ask after the other; its greatest number is this, and the message n of ask r stands at h
+record IsTaking (t : Shop) (k life i high : ℕ) (h : Place) (n r : ℕ) : Type 0 where
+  is_open : (t.folder k).is_open ≡ true
+  life_is : (t.folder k).life ≡ life
+  runs : 0 < life
+  begun : life ≤ t.begun
+  served : (q : ℕ) → Has q (t.folder k).served → q ≤ t.asks
+  lines : (t.folder k).lines ≡ []
+  given : (t.folder k).given ≡ []
+  site : (t.folder k).site ≡ i
+  greatest : highest i (t.folder k).kept ≡ high
+  stands : Has (Message i n r) (there t h)
+  asked : r ≤ t.asks
+
+module _ (c : Carrier) (t : Shop) (k life i high : ℕ) (h : Place) (n r : ℕ) (q : IsTaking t k life i high h n r) where
+  ask : ℕ
+  ask = t.asks + 1
+
+  round : List Event
+  unfolding ask
+  round = IsAsked ask life 1 ∷ Serves k ask ∷ Gives k ask ∷ Accepts k ask ∷ []
+
+  request : Request
+  request = record { life = life; records = 1 }
+
+  is_request : put ask request t.request ask ≡ request
+  unfolding ask
+  is_request = put_here (t.asks + 1) request t.request
+
+  -- the folder after each of these steps
+  serving : Folder
+  unfolding ask
+  serving = record (t.folder k) { served = ask ∷ (t.folder k).served; waiting = ask ∷ (t.folder k).waiting }
+
+  served_shop : Shop
+  unfolding ask request
+  served_shop = after (after t (IsAsked ask life 1)) (Serves k ask)
+
+  is_serving : served_shop.folder k ≡ serving
+  unfolding ask request serving served_shop
+  is_serving = put_here k serving t.folder
+
+  given_shop : Shop
+  unfolding ask served_shop
+  given_shop = after served_shop (Gives k ask)
+
+  is_giving : given_shop.folder k ≡ giving serving ask 1
+  unfolding ask request is_request served_shop given_shop
+  is_giving =
+      put_here k (giving (served_shop.folder k) ask (served_shop.request ask).records) served_shop.folder
+      ∙ ap (λ (f : Folder). giving f ask (served_shop.request ask).records) is_serving
+      ∙ ap (λ (x : Request). giving serving ask x.records) is_request
+
+  accepted_shop : Shop
+  unfolding ask given_shop
+  accepted_shop = after given_shop (Accepts k ask)
+
+  is_accepting : accepted_shop.folder k ≡ accepting (giving serving ask 1) ask
+  unfolding ask given_shop accepted_shop
+  is_accepting = put_here k (accepting (given_shop.folder k) ask) given_shop.folder ∙ ap (λ (f : Folder). accepting f ask) is_giving
+
+  is_first : IsFirst ask (given_shop.folder k).lines
+  unfolding ask serving
+  is_first = subst (λ (f : Folder). IsFirst ask f.lines) (sym is_giving) ([], ap (λ xs. xs ++ ask ∷ []) q.lines)
+
+  may_serve : MayServe (after t (IsAsked ask life 1)) k ask
+  unfolding ask request is_request
+  may_serve = record {
+    runs = omega (arith, q.runs, q.life_is);
+    asked = omega arith;
+    life = ap (λ (x : Request). x.life) is_request ∙ sym q.life_is;
+    one = ap (λ (x : Request). x.records) is_request;
+    once = λ has. absurd (omega (arith, q.served ask has));
+  }
+
+  round_may : AreSteps c t round
+  unfolding ask round serving served_shop given_shop
+  round_may = (
+    (refl, q.begun),
+    (
+      may_serve,
+      (
+        (subst (λ (f : Folder). f.is_open ≡ true) (sym is_serving) q.is_open, subst (λ (f : Folder). Has ask f.waiting) (sym is_serving) (inl refl)),
+        ((subst (λ (f : Folder). f.is_open ≡ true) (sym is_giving) q.is_open, is_first), tt),
+      ),
+    ),
+  )
+
+  -- the folder has the next message, of this ask
+  round_has : Has (Message i (high + 1) (t.asks + 1)) ((run t round).folder k).kept
+  unfolding ask round serving served_shop given_shop accepted_shop
+  round_has =
+      subst (λ (f : Folder). Has (Message i (high + 1) ask) f.kept) (sym is_accepting)
+      (subst (λ j. Has (Message i (high + 1) ask) ((t.folder k).kept ++ Message j (highest j (t.folder k).kept + 1) ask ∷ [])) (sym q.site)
+      (subst (λ m. Has (Message i (high + 1) ask) ((t.folder k).kept ++ Message i (m + 1) ask ∷ [])) (sym q.greatest)
+      (has_last (Message i (high + 1) ask) (t.folder k).kept)))
+
+  -- and goes on taking asks
+  round_takes : IsTaking (run t round) k life i (high + 1) h n r
+  unfolding ask round request serving served_shop given_shop accepted_shop
+  round_takes =
+      let next : highest i ((t.folder k).kept ++ Message i (highest i (t.folder k).kept + 1) ask ∷ []) ≡ high + 1 =
+      highest_next i (highest i (t.folder k).kept + 1) ask (t.folder k).kept (omega arith) ∙ ap (λ m. m + 1) q.greatest in
+      let kept : highest i (accepting (giving serving ask 1) ask).kept ≡ high + 1 =
+      subst (λ j. highest i ((t.folder k).kept ++ Message j (highest j (t.folder k).kept + 1) ask ∷ []) ≡ high + 1) (sym q.site) next in
+      record {
+        is_open = subst (λ (f : Folder). f.is_open ≡ true) (sym is_accepting) q.is_open;
+        life_is = subst (λ (f : Folder). f.life ≡ life) (sym is_accepting) q.life_is;
+        runs = q.runs;
+        begun = q.begun;
+        served = λ p has. ⊎_elim (λ e. omega (arith, e)) (λ old. omega (arith, q.served p old))
+            (subst (λ (f : Folder). Has p f.served) is_accepting has);
+        lines = subst (λ (f : Folder). f.lines ≡ []) (sym is_accepting) (none q.lines);
+        given = subst (λ (f : Folder). f.given ≡ []) (sym is_accepting) (none q.given);
+        site = subst (λ (f : Folder). f.site ≡ i) (sym is_accepting) q.site;
+        greatest = subst (λ (f : Folder). highest i f.kept ≡ high + 1) (sym is_accepting) kept;
+        stands = whole_after c t round h round_may ((λ z. z), ((λ z. z), ((λ z. z), ((λ z. z), tt)))) (Message i n r) q.stands;
+        asked = omega (arith, q.asked);
+      }
+    where
+      none : {xs : List ℕ} → xs ≡ [] → others (xs ++ (t.asks + 1) ∷ []) ≡ []
+      none e = ap (λ xs. others (xs ++ (t.asks + 1) ∷ [])) e
+
+-- ---- as many asks as it takes
+
+abbrev ComesToTwo : Carrier → Shop → Type 0
+ComesToTwo c t = (more : List Event) × AreSteps c t more × ¬ (AreGivenOnce (run t more))
+
+comes_to_two : (c : Carrier) (k life i : ℕ) (h : Place) (n r : ℕ) (d : ℕ) (t : Shop) (high : ℕ) → n ≡ high + suc d → IsTaking t k life i high h n r → ComesToTwo c t
+comes_to_two c k life i h n r zero t high e q =
+    (round c t k life i high h n r q, round_may c t k life i high h n r q, both)
+  where
+    both : AreGivenOnce (run t (round c t k life i high h n r q)) → ⊥
+    both once =
+        let number : high + 1 ≡ n = omega (arith, e) in
+        let mine = subst (λ m. Has (Message i m (t.asks + 1)) ((run t (round c t k life i high h n r q)).folder k).kept) number
+        (round_has c t k life i high h n r q) in
+        let stands = (round_takes c t k life i high h n r q).stands in
+        let same : Message i n r ≡ Message i n (t.asks + 1) = once h (InFolder k) (Message i n r) (Message i n (t.asks + 1)) stands mine refl in
+        let ask : r ≡ t.asks + 1 = cc same in
+        omega (arith, ask, q.asked)
+comes_to_two c k life i h n r (suc d) t high e q =
+    let more = comes_to_two c k life i h n r d (run t (round c t k life i high h n r q)) (high + 1) (omega (arith, e))
+    (round_takes c t k life i high h n r q) in (
+      round c t k life i high h n r q ++ more.0,
+      steps_append c t (round c t k life i high h n r q) more.0 (round_may c t k life i high h n r q) more.1,
+      λ once. more.2 (subst AreGivenOnce (run_append t (round c t k life i high h n r q) more.0) once),
+    )
+
+-- ---- a folder that opens all the same
+
+opened_all : (s : Shop) (k : ℕ) → Folder
+opened_all s k = record (s.folder k) { is_open = true; remembered = true }
+
+pub comparing_needed : ComparingIsNeeded
+unfolding opened_all
+comparing_needed c events m k f h n r stands ahead =
+    let s = run start events in
+    let told = tells_run c events m in
+    let t = after s (Opens k) in
+    let i = (s.folder k).site in
+    let here : t.folder k ≡ opened_all s k = put_here k (opened_all s k) (λ j. forgotten (s.folder k).site (s.folder j)) in
+    let kept : (j : ℕ) → (t.folder j).kept ≡ (s.folder j).kept =
+    put_cases (λ j g. g.kept ≡ (s.folder j).kept) k (opened_all s k) (λ j. forgotten (s.folder k).site (s.folder j)) refl (λ j d. refl) in
+    let there_too : (g : Place) → Has (Message i n r) (there s g) → Has (Message i n r) (there t g) =
+    elim [ InFolder j ↦ λ a. subst (Has (Message i n r)) (sym (kept j)) a | InStream j ↦ λ a. a ] in
+    let taking : IsTaking t k (s.folder k).life i (highest i (s.folder k).kept) h n r = record {
+      is_open = subst (λ (g : Folder). g.is_open ≡ true) (sym here) refl;
+      life_is = subst (λ (g : Folder). g.life ≡ (s.folder k).life) (sym here) refl;
+      runs = f.runs;
+      begun = told.begun k;
+      served = λ q has. absurd (subst (Has q) f.served (subst (λ (g : Folder). Has q g.served) here has));
+      lines = subst (λ (g : Folder). g.lines ≡ []) (sym here) f.lines;
+      given = subst (λ (g : Folder). g.given ≡ []) (sym here) f.given;
+      site = subst (λ (g : Folder). g.site ≡ i) (sym here) refl;
+      greatest = ap (highest i) (kept k);
+      stands = there_too h stands;
+      asked = (told.made h i n r stands).asked;
+    } in
+    comes_to_two c k (s.folder k).life i h n r (n - suc (highest i (s.folder k).kept)) t (highest i (s.folder k).kept) (omega (arith, ahead)) taking

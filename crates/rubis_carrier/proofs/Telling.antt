@@ -1,0 +1,740 @@
+-- An ask is served by one life, once; so what its asker is told stays true.
+use Rattle.std.proofs.Common.{◌≡◌, ◌∙◌, ◌≢◌, ◌⊎◌, inl, inr, ⊎_elim, ◌≤◌, ◌<◌, ◌+◌, ◌++◌, ◌∷◌, [], ℕ, List, refl, sym, ap, subst, arith}
+use Rattle.rubis_model.specs.Settle.{Has}
+use Rattle.rubis_model.proofs.Lists.{has_last, has_left, push_cases}
+use Rattle.rubis_carrier.specs.Packets.{Packet, highest}
+use Rattle.rubis_carrier.specs.Packets.Packet.{Message}
+use Rattle.rubis_carrier.specs.Shops.{Answer, Carrier, Folder, Place, Request, Shop, Told, empty, put, start, there}
+use Rattle.rubis_carrier.specs.Shops.Place.{InFolder, InStream}
+use Rattle.rubis_carrier.specs.Shops.Told.{No, Ok}
+use Rattle.rubis_carrier.specs.Events.{AreSteps, Event, IsFirst, May, MayServe, accepting, after, answering, first, forgotten, giving, next_message, others, run, started, times}
+use Rattle.rubis_carrier.specs.Events.{without}
+use Rattle.rubis_carrier.specs.Events.Event.{Accepts, Appends, Gives, IsAsked, IsChanged, IsCopied, IsKilled, IsLost, LosesEnd, MachineStarts, Opens}
+use Rattle.rubis_carrier.specs.Events.Event.{Passes, Reads, Rebuilds, Refuses, Serves, ServerLosesAll, Starts, StreamLosesEnd, TellsNothing, TellsOk, TellsPublished}
+use Rattle.rubis_carrier.specs.Events.Event.{KeeperStarts, TellsUnknown, WritesAnew}
+use Rattle.rubis_carrier.specs.Laws.{AsksAreAcceptedOnce, IsUnmade, NobodyIsToldBoth, PublishedIsInStream, ToldOkIsKept, WhatIsToldIsTrue}
+use Rattle.rubis_carrier.proofs.Changes.{AreApart, IsNew, apart_more, apart_others, first_in, from_step, has_others, has_without}
+use Rattle.rubis_carrier.proofs.PutFacts.{put_cases, put_there}
+use Rattle.rubis_carrier.proofs.Sound.{IsSomewhere}
+use Rattle.rubis_carrier.proofs.Whole.{run_append, steps_left, steps_right}
+
+-- ---- what every event keeps
+
+-- the ask was taken by the life that it names, which takes it no more; nor does any other
+pub record IsTaken (s : Shop) (r : ℕ) : Type 0 where
+  pub asked : r ≤ s.asks
+  pub served : (k : ℕ) → 0 < (s.folder k).life → (s.request r).life ≡ (s.folder k).life → Has r (s.folder k).served
+
+-- the ask is at this folder
+pub record IsAt (asks : ℕ) (request : ℕ → Request) (f : Folder) (r : ℕ) : Type 0 where
+  pub runs : 0 < f.life
+  pub asked : r ≤ asks
+  pub life : (request r).life ≡ f.life
+  pub one : (request r).records ≡ 1
+  pub served : Has r f.served
+
+-- no message was made of it, and its asker was told neither that it was nor that it wasn't
+pub record IsOpen (s : Shop) (r : ℕ) : Type 0 where
+  pub unmade : IsUnmade s r
+  pub not_no : ¬ (Has (No r) s.told)
+  pub not_ok : (i n : ℕ) → ¬ (Has (Ok r i n) s.told)
+
+-- each record that the site has still to read is of the ask that its answer is taken to be of, and what the answers say is so
+pub record IsLined (f : Folder) : Type 0 where
+  pub lines : f.lines ≡ f.given
+  pub apart : AreApart f.given
+  pub answers : (r n : ℕ) → Has (record { ask = r; number = n }) f.answered → Has (Message f.site n r) f.kept
+
+pub record Tells (s : Shop) : Type 0 where
+  pub lives : (k j : ℕ) → 0 < (s.folder k).life → (s.folder k).life ≡ (s.folder j).life → k ≡ j
+  pub begun : (k : ℕ) → (s.folder k).life ≤ s.begun
+  pub named : (r : ℕ) → r ≤ s.asks → (s.request r).life ≤ s.begun
+  pub made : (h : Place) (i n r : ℕ) → Has (Message i n r) (there s h) → IsTaken s r
+  pub once : (h g : Place) (r i n j m : ℕ) → Has (Message i n r) (there s h) → Has (Message j m r) (there s g) → (i ≡ j) × (n ≡ m)
+  pub no : (r : ℕ) → Has (No r) s.told → IsTaken s r × IsUnmade s r
+  pub ok : (r i n : ℕ) → Has (Ok r i n) s.told → IsTaken s r × ¬ (Has (No r) s.told)
+  pub waits : (k r : ℕ) → Has r (s.folder k).waiting → IsAt s.asks s.request (s.folder k) r × IsOpen s r × ¬ (Has r (s.folder k).given)
+  pub gives : (k r : ℕ) → Has r (s.folder k).given → IsAt s.asks s.request (s.folder k) r × IsOpen s r
+  pub lined : (k : ℕ) → IsLined (s.folder k)
+
+-- an ask that is at a folder is at no other
+one_place : (s : Shop) → Tells s → (k j r : ℕ) → IsAt s.asks s.request (s.folder k) r → IsAt s.asks s.request (s.folder j) r → k ≡ j
+one_place s q k j r a b = q.lives k j a.runs (sym a.life ∙ b.life)
+
+-- and was taken
+at_taken : (s : Shop) → Tells s → (k r : ℕ) → IsAt s.asks s.request (s.folder k) r → IsTaken s r
+at_taken s q k r a = record {
+  asked = a.asked;
+  served = λ j runs e. subst (λ n. Has r (s.folder n).served) (q.lives k j a.runs (sym a.life ∙ e)) a.served;
+}
+
+-- ---- events in which no ask goes on
+
+-- what is in memory is the same, and nothing that was kept is gone
+pub record IsSame (f g : Folder) : Type 0 where
+  pub site : g.site ≡ f.site
+  pub life : g.life ≡ f.life
+  pub served : g.served ≡ f.served
+  pub waiting : g.waiting ≡ f.waiting
+  pub given : g.given ≡ f.given
+  pub lines : g.lines ≡ f.lines
+  pub answered : g.answered ≡ f.answered
+  pub kept : (x : Packet) → Has x f.kept → Has x g.kept
+
+-- nothing runs it
+pub record IsIdle (g : Folder) : Type 0 where
+  pub life : g.life ≡ 0
+  pub waiting : g.waiting ≡ []
+  pub given : g.given ≡ []
+  pub lines : g.lines ≡ []
+  pub answered : g.answered ≡ []
+
+lined_idle : (g : Folder) → g.given ≡ [] → g.lines ≡ [] → g.answered ≡ [] → IsLined g
+lined_idle g a b c = record {
+  lines = b ∙ sym a;
+  apart = subst AreApart (sym a) tt;
+  answers = λ r n h. absurd (subst (Has (record { ask = r; number = n })) c h);
+}
+
+lined_same : (f g : Folder) → IsSame f g → IsLined f → IsLined g
+lined_same f g e l = record {
+  lines = e.lines ∙ l.lines ∙ sym e.given;
+  apart = subst AreApart (sym e.given) l.apart;
+  answers = λ r n h.
+      subst (λ i. Has (Message i n r) g.kept) (sym e.site)
+      (e.kept (Message f.site n r) (l.answers r n (subst (Has (record { ask = r; number = n })) e.answered h)));
+}
+
+pub record IsQuiet (s t : Shop) : Type 0 where
+  pub from : (h : Place) (i n r : ℕ) → Has (Message i n r) (there t h) → IsSomewhere s (Message i n r)
+  pub memory : (k : ℕ) → IsSame (s.folder k) (t.folder k) ⊎ IsIdle (t.folder k)
+  pub asks : t.asks ≡ s.asks
+  pub request : t.request ≡ s.request
+  pub begun : t.begun ≡ s.begun
+  pub no : (r : ℕ) → Has (No r) t.told → Has (No r) s.told
+  pub ok : (r i n : ℕ) → Has (Ok r i n) t.told → Has (Ok r i n) s.told ⊎ IsSomewhere s (Message i n r)
+
+module _ (s t : Shop) (q : Tells s) (l : IsQuiet s t) where
+  runs_still : (k : ℕ) → 0 < (t.folder k).life → IsSame (s.folder k) (t.folder k)
+  runs_still k runs = ⊎_elim (λ same. same) (λ idle. absurd (omega (arith, runs, idle.life))) (l.memory k)
+
+  taken_still : (r : ℕ) → IsTaken s r → IsTaken t r
+  taken_still r a = record {
+    asked = omega (arith, a.asked, l.asks);
+    served = λ k runs e.
+        let same = runs_still k runs in
+        subst (Has r) (sym same.served)
+        (a.served k (omega (arith, runs, same.life)) (subst (λ (f : ℕ → Request). (f r).life ≡ (t.folder k).life) l.request e ∙ same.life));
+  }
+
+  open_still : (r : ℕ) → IsTaken s r → IsOpen s r → IsOpen t r
+  open_still r a o = record {
+    unmade = λ h i n b. let from = l.from h i n r b in o.unmade from.0 i n from.1;
+    not_no = λ b. o.not_no (l.no r b);
+    not_ok = λ i n b. ⊎_elim (λ old. o.not_ok i n old) (λ at. o.unmade at.0 i n at.1) (l.ok r i n b);
+  }
+
+  at_still : (k r : ℕ) → IsSame (s.folder k) (t.folder k) → IsAt s.asks s.request (s.folder k) r → IsAt t.asks t.request (t.folder k) r
+  at_still k r same a = record {
+    runs = omega (arith, a.runs, same.life);
+    asked = omega (arith, a.asked, l.asks);
+    life = subst (λ (f : ℕ → Request). (f r).life ≡ (t.folder k).life) (sym l.request) (a.life ∙ sym same.life);
+    one = subst (λ (f : ℕ → Request). (f r).records ≡ 1) (sym l.request) a.one;
+    served = subst (Has r) (sym same.served) a.served;
+  }
+
+  pub quiet_tells : Tells t
+  quiet_tells = record {
+    lives = λ k j runs e.
+        let a = runs_still k runs in
+        let b = runs_still j (omega (arith, runs, e)) in
+        q.lives k j (omega (arith, runs, a.life)) (sym a.life ∙ e ∙ b.life);
+    begun = λ k. ⊎_elim (λ same. omega (arith, q.begun k, same.life, l.begun)) (λ idle. omega (arith, idle.life)) (l.memory k);
+    named = λ r a. subst (λ (f : ℕ → Request). (f r).life ≤ t.begun) (sym l.request) (omega (arith, q.named r (omega (arith, a, l.asks)), l.begun));
+    made = λ h i n r b. let from = l.from h i n r b in taken_still r (q.made from.0 i n r from.1);
+    once = λ h g r i n j m a b.
+        let from = l.from h i n r a in
+        let other = l.from g j m r b in
+        q.once from.0 other.0 r i n j m from.1 other.1;
+    no = λ r b.
+        let was = q.no r (l.no r b) in
+        (taken_still r was.0, λ h i n a. let from = l.from h i n r a in was.1 from.0 i n from.1);
+    ok = λ r i n b. ⊎_elim
+        (λ old. let was = q.ok r i n old in (taken_still r was.0, λ c. was.1 (l.no r c)))
+        (λ at. (taken_still r (q.made at.0 i n r at.1), λ c. (q.no r (l.no r c)).1 at.0 i n at.1)) (l.ok r i n b);
+    waits = λ k r b. ⊎_elim
+        (λ same.
+        let was = q.waits k r (subst (Has r) same.waiting b) in
+        (at_still k r same was.0, open_still r (at_taken s q k r was.0) was.1, λ c. was.2 (subst (Has r) same.given c)))
+        (λ idle. absurd (subst (Has r) idle.waiting b)) (l.memory k);
+    gives = λ k r b. ⊎_elim
+        (λ same.
+        let was = q.gives k r (subst (Has r) same.given b) in
+        (at_still k r same was.0, open_still r (at_taken s q k r was.0) was.1))
+        (λ idle. absurd (subst (Has r) idle.given b)) (l.memory k);
+    lined = λ k. ⊎_elim (λ same. lined_same (s.folder k) (t.folder k) same (q.lined k))
+        (λ idle. lined_idle (t.folder k) idle.given idle.lines idle.answered) (l.memory k);
+  }
+
+same : (f g : Folder) → g.site ≡ f.site → g.life ≡ f.life → g.served ≡ f.served → g.waiting ≡ f.waiting → g.given ≡ f.given → g.lines ≡ f.lines
+    → g.answered ≡ f.answered → ((x : Packet) → Has x f.kept → Has x g.kept) → IsSame f g
+same f g i a b c d e h kept = record { site = i; life = a; served = b; waiting = c; given = d; lines = e; answered = h; kept = kept }
+
+idle : (g : Folder) → g.life ≡ 0 → g.waiting ≡ [] → g.given ≡ [] → g.lines ≡ [] → g.answered ≡ [] → IsIdle g
+idle g a b c d e = record { life = a; waiting = b; given = c; lines = d; answered = e }
+
+all_same : (s : Shop) (k : ℕ) → IsSame (s.folder k) (s.folder k) ⊎ IsIdle (s.folder k)
+all_same s k = inl (same (s.folder k) (s.folder k) refl refl refl refl refl refl refl (λ x h. h))
+
+-- folder k is replaced
+memory_put : (s : Shop) (k : ℕ) (f : Folder) → IsSame (s.folder k) f ⊎ IsIdle f → (j : ℕ) → IsSame (s.folder j) (put k f s.folder j) ⊎ IsIdle (put k f s.folder j)
+memory_put s k f here = put_cases (λ j g. IsSame (s.folder j) g ⊎ IsIdle g) k f s.folder here (λ j n. all_same s j)
+
+memory_opened : (s : Shop) (k : ℕ) (f : Folder) → IsSame (s.folder k) f → (j : ℕ)
+    → IsSame (s.folder j) (put k f (λ i. forgotten (s.folder k).site (s.folder i)) j) ⊎ IsIdle (put k f (λ i. forgotten (s.folder k).site (s.folder i)) j)
+memory_opened s k f here = put_cases (λ j g. IsSame (s.folder j) g ⊎ IsIdle g) k f (λ i. forgotten (s.folder k).site (s.folder i)) (inl here)
+    (λ j n. inl (same (s.folder j) _ refl refl refl refl refl refl refl (λ x h. h)))
+
+-- ---- one event: what else is new
+
+nothing_new : (c : Carrier) (s : Shop) (e : Event) → May c s e → ((i n r : ℕ) → IsNew s e (Message i n r) → ⊥)
+    → (h : Place) (i n r : ℕ) → Has (Message i n r) (there (after s e) h) → IsSomewhere s (Message i n r)
+nothing_new c s e m none h i n r a = ⊎_elim (λ old. old) (λ new. absurd (none i n r new)) (from_step c s e h (Message i n r) m a)
+
+-- the events in which no ask goes on, but for a folder that starts and an asker that asks
+quiet_put : (c : Carrier) (s : Shop) (e : Event) (k : ℕ) (f : Folder) → Tells s → May c s e → ((i n r : ℕ) → IsNew s e (Message i n r) → ⊥)
+    → (after s e).folder ≡ put k f s.folder → (IsSame (s.folder k) f ⊎ IsIdle f) → (after s e).asks ≡ s.asks → (after s e).request ≡ s.request
+    → (after s e).begun ≡ s.begun → (after s e).told ≡ s.told → Tells (after s e)
+quiet_put c s e k f q m none folder here asks request begun told = quiet_tells s (after s e) q (record {
+  from = nothing_new c s e m none;
+  memory = λ j. subst (λ (d : ℕ → Folder). IsSame (s.folder j) (d j) ⊎ IsIdle (d j)) (sym folder) (memory_put s k f here j);
+  asks = asks;
+  request = request;
+  begun = begun;
+  no = λ r a. subst (Has (No r)) told a;
+  ok = λ r i n a. inl (subst (Has (Ok r i n)) told a);
+})
+
+quiet_streams : (c : Carrier) (s : Shop) (e : Event) → Tells s → May c s e → ((i n r : ℕ) → IsNew s e (Message i n r) → ⊥)
+    → (after s e).folder ≡ s.folder → (after s e).asks ≡ s.asks → (after s e).request ≡ s.request
+    → (after s e).begun ≡ s.begun → ((r : ℕ) → Has (No r) (after s e).told → Has (No r) s.told)
+    → ((r i n : ℕ) → Has (Ok r i n) (after s e).told → Has (Ok r i n) s.told ⊎ IsSomewhere s (Message i n r)) → Tells (after s e)
+quiet_streams c s e q m none folder asks request begun told_no told_ok = quiet_tells s (after s e) q (record {
+  from = nothing_new c s e m none;
+  memory = λ j. subst (λ (d : ℕ → Folder). IsSame (s.folder j) (d j) ⊎ IsIdle (d j)) (sym folder) (all_same s j);
+  asks = asks;
+  request = request;
+  begun = begun;
+  no = told_no;
+  ok = told_ok;
+})
+
+-- ---- events in which an ask goes on at a folder
+
+record IsGoing (s t : Shop) : Type 0 where
+  life : (j : ℕ) → (t.folder j).life ≡ (s.folder j).life
+  served : (j r : ℕ) → Has r (s.folder j).served → Has r (t.folder j).served
+  asks : t.asks ≡ s.asks
+  request : t.request ≡ s.request
+  begun : t.begun ≡ s.begun
+
+-- of which asks there may be a message then that there wasn't, and which may be told no
+record IsAlmost (s t : Shop) (Made Refused : ℕ → Type 0) : Type 0 where
+  from : (h : Place) (i n r : ℕ) → Has (Message i n r) (there t h) → IsSomewhere s (Message i n r) ⊎ Made r
+  no : (r : ℕ) → Has (No r) t.told → Has (No r) s.told ⊎ Refused r
+  ok : (r i n : ℕ) → Has (Ok r i n) t.told → Has (Ok r i n) s.told
+  made_was : (r : ℕ) → Made r → IsTaken s r × IsOpen s r
+  made_once : (h g : Place) (r i n j m : ℕ) → Made r → Has (Message i n r) (there t h) → Has (Message j m r) (there t g) → (i ≡ j) × (n ≡ m)
+  refused_was : (r : ℕ) → Refused r → IsTaken s r × IsOpen s r × ¬ (Made r)
+
+open_almost : (s t : Shop) (Made Refused : ℕ → Type 0) → IsAlmost s t Made Refused → (r : ℕ) → ¬ (Made r) → ¬ (Refused r) → IsOpen s r → IsOpen t r
+open_almost s t Made Refused l r a b o = record {
+  unmade = λ h i n x. ⊎_elim (λ old. o.unmade old.0 i n old.1) a (l.from h i n r x);
+  not_no = λ x. ⊎_elim o.not_no b (l.no r x);
+  not_ok = λ i n x. o.not_ok i n (l.ok r i n x);
+}
+
+module _ (s t : Shop) (q : Tells s) (g : IsGoing s t) where
+  taken_going : (r : ℕ) → IsTaken s r → IsTaken t r
+  taken_going r a = record {
+    asked = omega (arith, a.asked, g.asks);
+    served = λ k runs e.
+        g.served k r (a.served k (omega (arith, runs, g.life k)) (subst (λ (f : ℕ → Request). (f r).life ≡ (t.folder k).life) g.request e ∙ g.life k));
+  }
+
+  -- with what waits at each folder, and what was given
+  going_tells : (Made Refused : ℕ → Type 0) → IsAlmost s t Made Refused
+      → ((k r : ℕ) → Has r (t.folder k).waiting → IsAt t.asks t.request (t.folder k) r × IsOpen t r × ¬ (Has r (t.folder k).given))
+      → ((k r : ℕ) → Has r (t.folder k).given → IsAt t.asks t.request (t.folder k) r × IsOpen t r) → ((k : ℕ) → IsLined (t.folder k)) → Tells t
+  going_tells Made Refused l waits gives lined = record {
+    lives = λ k j runs e. q.lives k j (omega (arith, runs, g.life k)) (sym (g.life k) ∙ e ∙ g.life j);
+    begun = λ k. omega (arith, q.begun k, g.life k, g.begun);
+    named = λ r a. subst (λ (f : ℕ → Request). (f r).life ≤ t.begun) (sym g.request) (omega (arith, q.named r (omega (arith, a, g.asks)), g.begun));
+    made = λ h i n r a. ⊎_elim (λ old. taken_going r (q.made old.0 i n r old.1)) (λ made. taken_going r (l.made_was r made).0) (l.from h i n r a);
+    once = λ h f r i n j m a b. ⊎_elim
+        (λ old. ⊎_elim (λ other. q.once old.0 other.0 r i n j m old.1 other.1) (λ made. l.made_once h f r i n j m made a b) (l.from f j m r b))
+        (λ made. l.made_once h f r i n j m made a b) (l.from h i n r a);
+    no = λ r a. ⊎_elim
+        (λ old.
+        let was = q.no r old in
+        (taken_going r was.0, λ h i n x. ⊎_elim (λ o. was.1 o.0 i n o.1) (λ made. (l.made_was r made).1.not_no old) (l.from h i n r x)))
+        (λ refused.
+        let was = l.refused_was r refused in
+        (taken_going r was.0, λ h i n x. ⊎_elim (λ o. was.1.unmade o.0 i n o.1) was.2 (l.from h i n r x)))
+        (l.no r a);
+    ok = λ r i n a.
+        let was = q.ok r i n (l.ok r i n a) in
+        (taken_going r was.0, λ b. ⊎_elim was.1 (λ refused. (l.refused_was r refused).1.not_ok i n (l.ok r i n a)) (l.no r b));
+    waits = waits;
+    gives = gives;
+    lined = lined;
+  }
+
+-- folder k is replaced by one of the same life, which has served as much
+going_put : (s t : Shop) (k : ℕ) (f : Folder) → t.folder ≡ put k f s.folder → f.life ≡ (s.folder k).life
+    → ((r : ℕ) → Has r (s.folder k).served → Has r f.served) → t.asks ≡ s.asks → t.request ≡ s.request → t.begun ≡ s.begun → IsGoing s t
+going_put s t k f e life served asks request begun = record {
+  life = λ j. subst (λ (d : ℕ → Folder). (d j).life ≡ (s.folder j).life) (sym e)
+      (put_cases (λ i g. g.life ≡ (s.folder i).life) k f s.folder life (λ i n. refl) j);
+  served = λ j r. subst (λ (d : ℕ → Folder). Has r (s.folder j).served → Has r (d j).served) (sym e)
+      (put_cases (λ i g. Has r (s.folder i).served → Has r g.served) k f s.folder (served r) (λ i n a. a) j);
+  asks = asks;
+  request = request;
+  begun = begun;
+}
+
+abbrev none : ℕ → Type 0
+none r = ⊥
+
+-- the ask is taken
+serves_tells : (c : Carrier) (s : Shop) (k r : ℕ) → Tells s → MayServe s k r → Tells (after s (Serves k r))
+serves_tells c s k r q m =
+    let t = after s (Serves k r) in
+    let f : Folder = record (s.folder k) { served = r ∷ (s.folder k).served; waiting = r ∷ (s.folder k).waiting } in
+    let l : IsAlmost s t none none = record {
+      from = λ h i n p a. inl (nothing_new c s (Serves k r) m (λ i n p e. e) h i n p a);
+      no = λ p a. inl a;
+      ok = λ p i n a. a;
+      made_was = λ p z. absurd z;
+      made_once = λ h g p i n j m z a b. absurd z;
+      refused_was = λ p z. absurd z;
+    } in
+    let still = open_almost s t none none l in
+    let fresh : IsOpen s r = record {
+      unmade = λ h i n a. m.once ((q.made h i n r a).served k m.runs m.life);
+      not_no = λ a. m.once ((q.no r a).0.served k m.runs m.life);
+      not_ok = λ i n a. m.once ((q.ok r i n a).0.served k m.runs m.life);
+    } in
+    going_tells s t q (going_put s t k f refl refl (λ p a. inr a) refl refl refl) none none l
+    (put_cases (λ j g. (p : ℕ) → Has p g.waiting → IsAt s.asks s.request g p × IsOpen t p × ¬ (Has p g.given)) k f s.folder
+    (λ p. elim [
+      | inl e ↦
+          let at : IsAt s.asks s.request f r = record { runs = m.runs; asked = m.asked; life = m.life; one = m.one; served = inl refl } in
+          let new = still r (λ z. z) (λ z. z) fresh in
+          subst (λ n. IsAt s.asks s.request f n × IsOpen t n × ¬ (Has n f.given)) (sym e)
+          (at, new, λ g. m.once (q.gives k r g).0.served)
+      | inr a ↦
+          let was = q.waits k p a in
+          (record { runs = was.0.runs; asked = was.0.asked; life = was.0.life; one = was.0.one; served = inr was.0.served }, still p (λ z. z) (λ z. z) was.1, was.2)
+    ])
+    (λ j n p a. let was = q.waits j p a in (was.0, still p (λ z. z) (λ z. z) was.1, was.2)))
+    (put_cases (λ j g. (p : ℕ) → Has p g.given → IsAt s.asks s.request g p × IsOpen t p) k f s.folder
+    (λ p a.
+    let was = q.gives k p a in
+    (record { runs = was.0.runs; asked = was.0.asked; life = was.0.life; one = was.0.one; served = inr was.0.served }, still p (λ z. z) (λ z. z) was.1))
+    (λ j n p a. let was = q.gives j p a in (was.0, still p (λ z. z) (λ z. z) was.1)))
+    (put_cases (λ j g. IsLined g) k f s.folder (record { lines = (q.lined k).lines; apart = (q.lined k).apart; answers = (q.lined k).answers })
+    (λ j n. q.lined j))
+
+-- it is given to the site
+gives_tells : (c : Carrier) (s : Shop) (k r : ℕ) → Tells s → May c s (Gives k r) → Tells (after s (Gives k r))
+gives_tells c s k r q m =
+    let t = after s (Gives k r) in
+    let f : Folder = giving (s.folder k) r (s.request r).records in
+    let l : IsAlmost s t none none = record {
+      from = λ h i n p a. inl (nothing_new c s (Gives k r) m (λ i n p e. e) h i n p a);
+      no = λ p a. inl a;
+      ok = λ p i n a. a;
+      made_was = λ p z. absurd z;
+      made_once = λ h g p i n j m z a b. absurd z;
+      refused_was = λ p z. absurd z;
+    } in
+    let still = open_almost s t none none l in
+    let waited = q.waits k r m.1 in
+    going_tells s t q (going_put s t k f refl refl (λ p a. a) refl refl refl) none none l
+    (put_cases (λ j g. (p : ℕ) → Has p g.waiting → IsAt s.asks s.request g p × IsOpen t p × ¬ (Has p g.given)) k f s.folder
+    (λ p a.
+    let left = has_without r p (s.folder k).waiting a in
+    let was = q.waits k p left.0 in (
+      record { runs = was.0.runs; asked = was.0.asked; life = was.0.life; one = was.0.one; served = was.0.served },
+      still p (λ z. z) (λ z. z) was.1,
+      λ b. ⊎_elim was.2 left.1 (push_cases p r (s.folder k).given b),
+    ))
+    (λ j n p a. let was = q.waits j p a in (was.0, still p (λ z. z) (λ z. z) was.1, was.2)))
+    (put_cases (λ j g. (p : ℕ) → Has p g.given → IsAt s.asks s.request g p × IsOpen t p) k f s.folder
+    (λ p a. ⊎_elim
+    (λ old.
+    let was = q.gives k p old in
+    (record { runs = was.0.runs; asked = was.0.asked; life = was.0.life; one = was.0.one; served = was.0.served }, still p (λ z. z) (λ z. z) was.1))
+    (λ e.
+    let at : IsAt s.asks s.request f r =
+    record { runs = waited.0.runs; asked = waited.0.asked; life = waited.0.life; one = waited.0.one; served = waited.0.served } in
+    let new = still r (λ z. z) (λ z. z) waited.1 in
+    subst (λ n. IsAt s.asks s.request f n × IsOpen t n) (sym e) (at, new))
+    (push_cases p r (s.folder k).given a))
+    (λ j n p a. let was = q.gives j p a in (was.0, still p (λ z. z) (λ z. z) was.1)))
+    (put_cases (λ j g. IsLined g) k f s.folder
+    (record {
+      lines = ap (λ n. (s.folder k).lines ++ times n r) waited.0.one ∙ ap (λ xs. xs ++ r ∷ []) (q.lined k).lines;
+      apart = apart_more r (s.folder k).given (q.lined k).apart waited.2;
+      answers = (q.lined k).answers;
+    })
+    (λ j n. q.lined j))
+
+-- the site accepts it
+accepts_tells : (c : Carrier) (s : Shop) (k r : ℕ) → Tells s → May c s (Accepts k r) → Tells (after s (Accepts k r))
+accepts_tells c s k r q m =
+    let t = after s (Accepts k r) in
+    let y = next_message (s.folder k) r in
+    let f : Folder = accepting (s.folder k) r in
+    let line : IsFirst r (s.folder k).given = (m.1.0, sym (q.lined k).lines ∙ m.1.1) in
+    let it = first_in r (s.folder k).given line in
+    let given = q.gives k r it.1 in
+    let Made : ℕ → Type 0 = λ p. p ≡ r in
+    let from : (h : Place) (i n p : ℕ) → Has (Message i n p) (there t h) → IsSomewhere s (Message i n p) ⊎ (Message i n p ≡ y) =
+    λ h i n p a. from_step c s (Accepts k r) h (Message i n p) m a in
+    let l : IsAlmost s t Made none = record {
+      from = λ h i n p a. ⊎_elim (λ old. inl old) (λ e. inr (cc e)) (from h i n p a);
+      no = λ p a. inl a;
+      ok = λ p i n a. a;
+      made_was = λ p e. subst (λ n. IsTaken s n × IsOpen s n) (sym e) (at_taken s q k r given.0, given.1);
+      made_once = λ h g p i n j d e a b. ⊎_elim
+          (λ old. absurd (given.1.unmade old.0 i n (subst (λ v. Has (Message i n v) (there s old.0)) e old.1)))
+          (λ new. ⊎_elim
+          (λ old. absurd (given.1.unmade old.0 j d (subst (λ v. Has (Message j d v) (there s old.0)) e old.1)))
+          (λ other. (cc (new, other), cc (new, other))) (from g j d p b))
+          (from h i n p a);
+      refused_was = λ p z. absurd z;
+    } in
+    let still = open_almost s t Made none l in
+    let elsewhere : (j p : ℕ) → j ≢ k → IsAt s.asks s.request (s.folder j) p → p ≢ r =
+    λ j p n at e. n (one_place s q j k r (subst (IsAt s.asks s.request (s.folder j)) e at) given.0) in
+    going_tells s t q (going_put s t k f refl refl (λ p a. a) refl refl refl) Made none l
+    (put_cases (λ j g. (p : ℕ) → Has p g.waiting → IsAt s.asks s.request g p × IsOpen t p × ¬ (Has p g.given)) k f s.folder
+    (λ p a.
+    let was = q.waits k p a in
+    let not_it : p ≢ r = λ e. was.2 (subst (λ n. Has n (s.folder k).given) (sym e) it.1) in (
+      record { runs = was.0.runs; asked = was.0.asked; life = was.0.life; one = was.0.one; served = was.0.served },
+      still p not_it (λ z. z) was.1,
+      λ b. was.2 (has_others p (s.folder k).given (q.lined k).apart b).0,
+    ))
+    (λ j n p a. let was = q.waits j p a in (was.0, still p (elsewhere j p n was.0) (λ z. z) was.1, was.2)))
+    (put_cases (λ j g. (p : ℕ) → Has p g.given → IsAt s.asks s.request g p × IsOpen t p) k f s.folder
+    (λ p a.
+    let left = has_others p (s.folder k).given (q.lined k).apart a in
+    let was = q.gives k p left.0 in
+    (record { runs = was.0.runs; asked = was.0.asked; life = was.0.life; one = was.0.one; served = was.0.served }, still p (λ e. left.1 (e ∙ sym it.0)) (λ z. z) was.1))
+    (λ j n p a. let was = q.gives j p a in (was.0, still p (elsewhere j p n was.0) (λ z. z) was.1)))
+    (put_cases (λ j g. IsLined g) k f s.folder
+    (record {
+      lines = ap others (q.lined k).lines;
+      apart = apart_others (s.folder k).given (q.lined k).apart;
+      answers = λ p n h. ⊎_elim
+          (λ e.
+          let who : p ≡ first (s.folder k).given = ap (λ (x : Answer). x.ask) e in
+          let number : n ≡ highest (s.folder k).site (s.folder k).kept + 1 = ap (λ (x : Answer). x.number) e in
+          let is : Message (s.folder k).site n p ≡ y = cc (who ∙ it.0, number) in
+          subst (λ x. Has x ((s.folder k).kept ++ y ∷ [])) (sym is) (has_last y (s.folder k).kept))
+          (λ old. has_left (Message (s.folder k).site n p) (s.folder k).kept (y ∷ []) ((q.lined k).answers p n old)) h;
+    })
+    (λ j n. q.lined j))
+
+-- the asker is told no
+no_from : (s : Shop) (r p : ℕ) → Has (No p) (No r ∷ s.told) → Has (No p) s.told ⊎ (p ≡ r)
+no_from s r p (inl e) = inr (cc e)
+no_from s r p (inr a) = inl a
+
+ok_from : (s : Shop) (r p i n : ℕ) → Has (Ok p i n) (No r ∷ s.told) → Has (Ok p i n) s.told
+ok_from s r p i n (inl e) = absurd (cc e)
+ok_from s r p i n (inr a) = a
+
+-- the site refused it
+refuses_tells : (c : Carrier) (s : Shop) (k r : ℕ) → Tells s → May c s (Refuses k r) → Tells (after s (Refuses k r))
+refuses_tells c s k p0 q m =
+    let t = after s (Refuses k p0) in
+    let f : Folder = answering (s.folder k) in
+    let r = first (s.folder k).given in
+    let it = first_in p0 (s.folder k).given (m.0, sym (q.lined k).lines ∙ m.1) in
+    let here : Has r (s.folder k).given = subst (λ n. Has n (s.folder k).given) (sym it.0) it.1 in
+    let given = q.gives k r here in
+    let Refused : ℕ → Type 0 = λ p. p ≡ r in
+    let l : IsAlmost s t none Refused = record {
+      from = λ h i n p a. inl (nothing_new c s (Refuses k p0) m (λ i n p e. e) h i n p a);
+      no = no_from s r;
+      ok = ok_from s r;
+      made_was = λ p z. absurd z;
+      made_once = λ h g p i n j d z a b. absurd z;
+      refused_was = λ p e. subst (λ n. IsTaken s n × IsOpen s n × ¬ (none n)) (sym e) (at_taken s q k r given.0, given.1, λ z. z);
+    } in
+    let still = open_almost s t none Refused l in
+    let elsewhere : (j p : ℕ) → j ≢ k → IsAt s.asks s.request (s.folder j) p → p ≢ r =
+    λ j p n at e. n (one_place s q j k r (subst (IsAt s.asks s.request (s.folder j)) e at) given.0) in
+    going_tells s t q (going_put s t k f refl refl (λ p a. a) refl refl refl) none Refused l
+    (put_cases (λ j g. (p : ℕ) → Has p g.waiting → IsAt s.asks s.request g p × IsOpen t p × ¬ (Has p g.given)) k f s.folder
+    (λ p a.
+    let was = q.waits k p a in
+    let not_it : p ≢ r = λ e. was.2 (subst (λ n. Has n (s.folder k).given) (sym e) here) in (
+      record { runs = was.0.runs; asked = was.0.asked; life = was.0.life; one = was.0.one; served = was.0.served },
+      still p (λ z. z) not_it was.1,
+      λ b. was.2 (has_others p (s.folder k).given (q.lined k).apart b).0,
+    ))
+    (λ j n p a. let was = q.waits j p a in (was.0, still p (λ z. z) (elsewhere j p n was.0) was.1, was.2)))
+    (put_cases (λ j g. (p : ℕ) → Has p g.given → IsAt s.asks s.request g p × IsOpen t p) k f s.folder
+    (λ p a.
+    let left = has_others p (s.folder k).given (q.lined k).apart a in
+    let was = q.gives k p left.0 in
+    (record { runs = was.0.runs; asked = was.0.asked; life = was.0.life; one = was.0.one; served = was.0.served }, still p (λ z. z) left.1 was.1))
+    (λ j n p a. let was = q.gives j p a in (was.0, still p (λ z. z) (elsewhere j p n was.0) was.1)))
+    (put_cases (λ j g. IsLined g) k f s.folder
+    (record { lines = ap others (q.lined k).lines; apart = apart_others (s.folder k).given (q.lined k).apart; answers = (q.lined k).answers })
+    (λ j n. q.lined j))
+
+-- it is taken back before it was given
+withdraws_tells : (c : Carrier) (s : Shop) (k r : ℕ) → Tells s → May c s (TellsNothing k r) → Tells (after s (TellsNothing k r))
+withdraws_tells c s k r q m =
+    let t = after s (TellsNothing k r) in
+    let f : Folder = record (s.folder k) { waiting = without r (s.folder k).waiting } in
+    let waited = q.waits k r m in
+    let Refused : ℕ → Type 0 = λ p. p ≡ r in
+    let l : IsAlmost s t none Refused = record {
+      from = λ h i n p a. inl (nothing_new c s (TellsNothing k r) m (λ i n p e. e) h i n p a);
+      no = no_from s r;
+      ok = ok_from s r;
+      made_was = λ p z. absurd z;
+      made_once = λ h g p i n j d z a b. absurd z;
+      refused_was = λ p e. subst (λ n. IsTaken s n × IsOpen s n × ¬ (none n)) (sym e) (at_taken s q k r waited.0, waited.1, λ z. z);
+    } in
+    let still = open_almost s t none Refused l in
+    let elsewhere : (j p : ℕ) → j ≢ k → IsAt s.asks s.request (s.folder j) p → p ≢ r =
+    λ j p n at e. n (one_place s q j k r (subst (IsAt s.asks s.request (s.folder j)) e at) waited.0) in
+    going_tells s t q (going_put s t k f refl refl (λ p a. a) refl refl refl) none Refused l
+    (put_cases (λ j g. (p : ℕ) → Has p g.waiting → IsAt s.asks s.request g p × IsOpen t p × ¬ (Has p g.given)) k f s.folder
+    (λ p a.
+    let left = has_without r p (s.folder k).waiting a in
+    let was = q.waits k p left.0 in
+    (record { runs = was.0.runs; asked = was.0.asked; life = was.0.life; one = was.0.one; served = was.0.served }, still p (λ z. z) left.1 was.1, was.2))
+    (λ j n p a. let was = q.waits j p a in (was.0, still p (λ z. z) (elsewhere j p n was.0) was.1, was.2)))
+    (put_cases (λ j g. (p : ℕ) → Has p g.given → IsAt s.asks s.request g p × IsOpen t p) k f s.folder
+    (λ p a.
+    let was = q.gives k p a in
+    let not_it : p ≢ r = λ e. waited.2 (subst (λ n. Has n (s.folder k).given) e a) in
+    (record { runs = was.0.runs; asked = was.0.asked; life = was.0.life; one = was.0.one; served = was.0.served }, still p (λ z. z) not_it was.1))
+    (λ j n p a. let was = q.gives j p a in (was.0, still p (λ z. z) (elsewhere j p n was.0) was.1)))
+    (put_cases (λ j g. IsLined g) k f s.folder
+    (record { lines = (q.lined k).lines; apart = (q.lined k).apart; answers = (q.lined k).answers }) (λ j n. q.lined j))
+
+-- ---- a folder is started, and an asker asks
+
+starts_tells : (c : Carrier) (s : Shop) (k : ℕ) → Tells s → May c s (Starts k) → Tells (after s (Starts k))
+starts_tells c s k q m =
+    let t = after s (Starts k) in
+    let f : Folder = started (s.folder k) (s.begun + 1) in
+    let from = nothing_new c s (Starts k) m (λ i n p e. e) in
+    let begun : (j : ℕ) → (t.folder j).life ≤ t.begun =
+    put_cases (λ j g. g.life ≤ s.begun + 1) k f s.folder (omega arith) (λ j n. omega (arith, q.begun j)) in
+    -- which folder has which life
+    let which : (j : ℕ) → ((t.folder j).life ≡ s.begun + 1) × (j ≡ k) ⊎ ((t.folder j).life ≡ (s.folder j).life) × ((s.folder j).life ≤ s.begun) =
+    put_cases (λ j g. (g.life ≡ s.begun + 1) × (j ≡ k) ⊎ (g.life ≡ (s.folder j).life) × ((s.folder j).life ≤ s.begun)) k f s.folder (inl (refl, refl))
+    (λ j n. inr (refl, q.begun j)) in
+    let taken : (r : ℕ) → IsTaken s r → IsTaken t r =
+    λ r a. record {
+      asked = a.asked;
+      served = put_cases (λ j g. 0 < g.life → (s.request r).life ≡ g.life → Has r g.served) k f s.folder
+          (λ runs e. absurd (omega (arith, e, q.named r a.asked))) (λ j n runs e. a.served j runs e);
+    } in
+    let still : (r : ℕ) → IsOpen s r → IsOpen t r =
+    λ r o. record { unmade = λ h i n a. let old = from h i n r a in o.unmade old.0 i n old.1; not_no = o.not_no; not_ok = o.not_ok } in
+    record {
+      lives = λ i j runs e. ⊎_elim
+          (λ a. ⊎_elim (λ b. a.1 ∙ sym b.1) (λ b. absurd (omega (arith, e, a.0, b.0, b.1))) (which j))
+          (λ a. ⊎_elim (λ b. absurd (omega (arith, e, a.0, b.0, a.1))) (λ b. q.lives i j (omega (arith, runs, a.0)) (sym a.0 ∙ e ∙ b.0)) (which j))
+          (which i);
+      begun = begun;
+      named = λ r a. omega (arith, q.named r a);
+      made = λ h i n r a. let old = from h i n r a in taken r (q.made old.0 i n r old.1);
+      once = λ h g r i n j d a b.
+          let old = from h i n r a in
+          let other = from g j d r b in
+          q.once old.0 other.0 r i n j d old.1 other.1;
+      no = λ r a. let was = q.no r a in (taken r was.0, λ h i n b. let old = from h i n r b in was.1 old.0 i n old.1);
+      ok = λ r i n a. let was = q.ok r i n a in (taken r was.0, was.1);
+      waits = put_cases (λ j g. (p : ℕ) → Has p g.waiting → IsAt s.asks s.request g p × IsOpen t p × ¬ (Has p g.given)) k f s.folder (λ p a. absurd a)
+          (λ j n p a. let was = q.waits j p a in (was.0, still p was.1, was.2));
+      gives = put_cases (λ j g. (p : ℕ) → Has p g.given → IsAt s.asks s.request g p × IsOpen t p) k f s.folder (λ p a. absurd a)
+          (λ j n p a. let was = q.gives j p a in (was.0, still p was.1));
+      lined = put_cases (λ j g. IsLined g) k f s.folder (lined_idle f refl refl refl) (λ j n. q.lined j);
+    }
+
+asked_tells : (c : Carrier) (s : Shop) (r life d : ℕ) → Tells s → May c s (IsAsked r life d) → Tells (after s (IsAsked r life d))
+asked_tells c s r life d q m =
+    let t = after s (IsAsked r life d) in
+    let from = nothing_new c s (IsAsked r life d) m (λ i n p e. e) in
+    let request : Request = record { life = life; records = d } in
+    let old_name : (p : ℕ) → p ≤ s.asks → put r request s.request p ≡ s.request p =
+    λ p a. put_there r p request s.request (λ e. absurd (omega (arith, a, e, m.0))) in
+    let taken : (p : ℕ) → IsTaken s p → IsTaken t p =
+    λ p a. record { asked = omega (arith, a.asked, m.0); served = λ k runs e. a.served k runs (ap (λ (x : Request). x.life) (sym (old_name p a.asked)) ∙ e) } in
+    let still : (p : ℕ) → IsOpen s p → IsOpen t p =
+    λ p o. record { unmade = λ h i n a. let old = from h i n p a in o.unmade old.0 i n old.1; not_no = o.not_no; not_ok = o.not_ok } in
+    let at : (k p : ℕ) → IsAt s.asks s.request (s.folder k) p → IsAt t.asks t.request (s.folder k) p =
+    λ k p a. record {
+      runs = a.runs;
+      asked = omega (arith, a.asked, m.0);
+      life = ap (λ (x : Request). x.life) (old_name p a.asked) ∙ a.life;
+      one = ap (λ (x : Request). x.records) (old_name p a.asked) ∙ a.one;
+      served = a.served;
+    } in
+    record {
+      lives = q.lives;
+      begun = q.begun;
+      named = put_cases (λ p (x : Request). p ≤ r → x.life ≤ s.begun) r request s.request (λ a. m.1) (λ p n a. q.named p (below p n a));
+      made = λ h i n p a. let old = from h i n p a in taken p (q.made old.0 i n p old.1);
+      once = λ h g p i n j d a b.
+          let old = from h i n p a in
+          let other = from g j d p b in
+          q.once old.0 other.0 p i n j d old.1 other.1;
+      no = λ p a. let was = q.no p a in (taken p was.0, λ h i n b. let old = from h i n p b in was.1 old.0 i n old.1);
+      ok = λ p i n a. let was = q.ok p i n a in (taken p was.0, was.1);
+      waits = λ k p a. let was = q.waits k p a in (at k p was.0, still p was.1, was.2);
+      gives = λ k p a. let was = q.gives k p a in (at k p was.0, still p was.1);
+      lined = q.lined;
+    }
+  where
+    below : (p : ℕ) → p ≢ r → p ≤ r → p ≤ s.asks
+    below p n a = omega (arith, n, a, m.0)
+
+-- ---- one event
+
+no_message : (s : Shop) (k to i n r : ℕ) → IsNew s (Passes k to) (Message i n r) → ⊥
+no_message s k to i n r e = cc e
+
+pub tells_step : (c : Carrier) (s : Shop) (e : Event) → May c s e → Tells s → Tells (after s e)
+tells_step c s (Starts k) m q = starts_tells c s k q m
+tells_step c s (Opens k) m q = quiet_tells s (after s (Opens k)) q (record {
+  from = nothing_new c s (Opens k) m (λ i n p e. e);
+  memory = memory_opened s k _ (same (s.folder k) _ refl refl refl refl refl refl refl (λ x h. h));
+  asks = refl;
+  request = refl;
+  begun = refl;
+  no = λ r a. a;
+  ok = λ r i n a. inl a;
+})
+tells_step c s (KeeperStarts k) m q = q
+tells_step c s (IsKilled k) m q = quiet_put c s (IsKilled k) k _ q m (λ i n p e. e) refl (inr (idle _ refl refl refl refl refl)) refl refl refl refl
+tells_step c s (MachineStarts k) m q = quiet_put c s (MachineStarts k) k _ q m (λ i n p e. e) refl (inr (idle _ refl refl refl refl refl)) refl refl refl refl
+tells_step c s (IsAsked r life d) m q = asked_tells c s r life d q m
+tells_step c s (Serves k r) m q = serves_tells c s k r q m
+tells_step c s (Gives k r) m q = gives_tells c s k r q m
+tells_step c s (Accepts k r) m q = accepts_tells c s k r q m
+tells_step c s (Refuses k r) m q = refuses_tells c s k r q m
+tells_step c s (TellsOk k r n) m q = quiet_streams c s (TellsOk k r n) q m (λ i d p e. e) refl refl refl refl
+    (λ p a. ⊎_elim (λ e. absurd (cc e)) (λ b. b) a)
+    (λ p i d a. ⊎_elim (λ e. inr (InFolder k, subst (λ x. Has x (s.folder k).kept) (said p i d e) ((q.lined k).answers r n m))) (λ b. inl b) a)
+  where
+    said : (p i d : ℕ) → Ok p i d ≡ Ok r (s.folder k).site n → Message (s.folder k).site n r ≡ Message i d p
+    said p i d e =
+        let a : p ≡ r = cc e in
+        let b : i ≡ (s.folder k).site = cc e in
+        let d' : d ≡ n = cc e in
+        cc (a, b, d')
+tells_step c s (TellsPublished k r n) m q = quiet_streams c s (TellsPublished k r n) q m (λ i d p e. e) refl refl refl refl
+    (λ p a. ⊎_elim (λ e. absurd (cc e)) (λ b. b) a)
+    (λ p i d a. ⊎_elim (λ e. inr (InFolder k, subst (λ x. Has x (s.folder k).kept) (said p i d e) ((q.lined k).answers r n m.1))) (λ b. inl b) a)
+  where
+    said : (p i d : ℕ) → Ok p i d ≡ Ok r (s.folder k).site n → Message (s.folder k).site n r ≡ Message i d p
+    said p i d e =
+        let a : p ≡ r = cc e in
+        let b : i ≡ (s.folder k).site = cc e in
+        let d' : d ≡ n = cc e in
+        cc (a, b, d')
+tells_step c s (TellsNothing k r) m q = withdraws_tells c s k r q m
+tells_step c s (TellsUnknown k r) m q = quiet_streams c s (TellsUnknown k r) q m (λ i d p e. e) refl refl refl refl
+    (λ p a. ⊎_elim (λ e. absurd (cc e)) (λ b. b) a) (λ p i d a. ⊎_elim (λ e. absurd (cc e)) (λ b. inl b) a)
+tells_step c s (Passes k to) m q = quiet_put c s (Passes k to) k _ q m (no_message s k to) refl (inl (same (s.folder k) _ refl refl refl refl refl refl refl (λ x h. has_left x (s.folder k).kept _ h))) refl refl refl refl
+tells_step c s (Appends k x) m q = quiet_streams c s (Appends k x) q m (λ i d p e. e) refl refl refl refl (λ p a. a) (λ p i d a. inl a)
+tells_step c s (Reads k x) m q = quiet_put c s (Reads k x) k _ q m (λ i n p e. e) refl
+    (inl (same (s.folder k) _ refl refl refl refl refl refl refl (λ z h. has_left z (s.folder k).kept _ h))) refl refl refl refl
+tells_step c s (LosesEnd k n) m q = quiet_put c s (LosesEnd k n) k _ q m (λ i d p e. e) refl (inr (idle _ refl refl refl refl refl)) refl refl refl refl
+tells_step c s (IsChanged k ps) m q = quiet_put c s (IsChanged k ps) k _ q m (λ i d p e. e) refl (inr (idle _ refl refl refl refl refl)) refl refl refl refl
+tells_step c s (IsLost k) m q = quiet_put c s (IsLost k) k _ q m (λ i d p e. e) refl (inr (idle _ refl refl refl refl refl)) refl refl refl refl
+tells_step c s (IsCopied k j) m q = quiet_put c s (IsCopied k j) j _ q m (λ i d p e. e) refl (inr (idle _ refl refl refl refl refl)) refl refl refl refl
+tells_step c s (StreamLosesEnd i n) m q = quiet_streams c s (StreamLosesEnd i n) q m (λ i d p e. e) refl refl refl refl (λ p a. a) (λ p i d a. inl a)
+tells_step c s ServerLosesAll m q = quiet_streams c s ServerLosesAll q m (λ i d p e. e) refl refl refl refl (λ p a. a) (λ p i d a. inl a)
+tells_step c s (Rebuilds k ps) m q = quiet_put c s (Rebuilds k ps) k _ q m (λ i d p e. e) refl (inr (idle _ refl refl refl refl refl)) refl refl refl refl
+tells_step c s (WritesAnew k) m q = quiet_streams c s (WritesAnew k) q m (λ i d p e. e) refl refl refl refl (λ p a. a) (λ p i d a. inl a)
+
+-- ---- the laws
+
+tells_start : Tells start
+tells_start = record {
+  lives = λ k j runs e. absurd (omega (arith, runs));
+  begun = λ k. omega arith;
+  named = λ r a. omega arith;
+  made = λ h i n r a. absurd (nothing h (Message i n r) a);
+  once = λ h g r i n j m a b. absurd (nothing h (Message i n r) a);
+  no = λ r a. absurd a;
+  ok = λ r i n a. absurd a;
+  waits = λ k r a. absurd a;
+  gives = λ k r a. absurd a;
+  lined = λ k. lined_idle (empty k) refl refl refl;
+}
+  where
+    nothing : (h : Place) (x : Packet) → Has x (there start h) → ⊥
+    nothing (InFolder k) x h = h
+    nothing (InStream i) x h = h
+
+pub tells_after : (c : Carrier) (s : Shop) (events : List Event) → AreSteps c s events → Tells s → Tells (run s events)
+tells_after c s [] m q = q
+tells_after c s (e ∷ rest) m q = tells_after c (after s e) rest m.1 (tells_step c s e m.0 q)
+
+pub tells_run : (c : Carrier) (events : List Event) → AreSteps c start events → Tells (run start events)
+tells_run c events m = tells_after c start events m tells_start
+
+-- what was told is told for ever
+told_step : (s : Shop) (e : Event) (w : Told) → Has w s.told → Has w (after s e).told
+told_step s (Refuses k r) w h = inr h
+told_step s (TellsOk k r n) w h = inr h
+told_step s (TellsPublished k r n) w h = inr h
+told_step s (TellsNothing k r) w h = inr h
+told_step s (TellsUnknown k r) w h = inr h
+told_step s (Starts k) w h = h
+told_step s e w h = h
+
+told_after : (s : Shop) (events : List Event) (w : Told) → Has w s.told → Has w (run s events).told
+told_after s [] w h = h
+told_after s (e ∷ rest) w h = told_after (after s e) rest w (told_step s e w h)
+
+pub told_true : WhatIsToldIsTrue
+told_true c before later m r told =
+    let still = subst (λ (s : Shop). Has (No r) s.told) (sym (run_append start before later)) (told_after (run start before) later (No r) told) in
+    ((tells_run c (before ++ later) m).no r still).1
+
+pub told_one : NobodyIsToldBoth
+told_one c events m r i n told = ((tells_run c events m).ok r i n told).1
+
+pub accepted_once : AsksAreAcceptedOnce
+accepted_once c events m = (tells_run c events m).once
+
+pub told_ok : ToldOkIsKept
+told_ok c before k r n m =
+    let s = run start before in
+    let last = steps_right c start before (TellsOk k r n ∷ []) m in
+    let kept = ((tells_run c before (steps_left c start before (TellsOk k r n ∷ []) m)).lined k).answers r n last.0 in
+    subst (λ (t : Shop). Has (Ok r (t.folder k).site n) t.told × Has (Message (t.folder k).site n r) (t.folder k).kept)
+    (sym (run_append start before (TellsOk k r n ∷ []))) (inl refl, kept)
+
+pub published : PublishedIsInStream
+published c before k r n m =
+    let last = steps_right c start before (TellsPublished k r n ∷ []) m in
+    subst (λ (t : Shop). Has (Ok r (t.folder k).site n) t.told × Has (Message (t.folder k).site n r) (t.stream (t.folder k).site))
+    (sym (run_append start before (TellsPublished k r n ∷ []))) (inl refl, last.0.2)

@@ -1,0 +1,5 @@
+pub mod Packets
+pub mod Shops
+pub mod Events
+pub mod Laws
+pub mod Sites

@@ -1,0 +1,71 @@
+-- What a site sends: messages, and the passes of the token.
+use Rattle.std.specs.Prelude.{◌≡◌, ◌⊎◌, ℕ, ◌<◌, ◌≤◌, ◌==◌, ◌&&◌, Bool, false, cond, filter, List, [], ◌∷◌, max}
+
+-- a message of a site: its number, and the ask that it was made of. The asks are numbered, so that two asks with one text are two.
+-- A pass of the token: its turn, the site that it goes to, and how many messages the sender had given before
+pub data Packet : Type 0 where
+  Message : (site number ask : ℕ) → Packet
+  Pass : (site turn to after : ℕ) → Packet
+
+abbrev pub sender : Packet → ℕ
+sender (Message i n r) = i
+sender (Pass i t j a) = i
+
+-- under which name it is given: a message's id, or a turn of a site
+pub data Name : Type 0 where
+  Id : (site number : ℕ) → Name
+  Turn : (site turn : ℕ) → Name
+
+abbrev pub name : Packet → Name
+name (Message i n r) = Id i n
+name (Pass i t j a) = Turn i t
+
+-- it is a message that was made of this ask
+abbrev pub IsMadeOf : ℕ → Packet → Type 0
+IsMadeOf r (Message i n q) = r ≡ q
+IsMadeOf r (Pass i t j a) = ⊥
+
+abbrev pub same_packet : Packet → Packet → Bool
+same_packet (Message i n r) (Message j m q) = (i == j) && (n == m) && (r == q)
+same_packet (Pass i t j a) (Pass k u l b) = (i == k) && (t == u) && (j == l) && (a == b)
+same_packet (Message i n r) (Pass k u l b) = false
+same_packet (Pass i t j a) (Message k m q) = false
+
+-- the packets in front of the first that is another one
+abbrev pub unchanged : List Packet → List Packet → List Packet
+unchanged [] ys = []
+unchanged (x ∷ xs) [] = []
+unchanged (x ∷ xs) (y ∷ ys) = cond (same_packet x y) (x ∷ unchanged xs ys) []
+
+-- ---- what a list of packets says of a site
+
+-- what the site sent
+abbrev pub own : ℕ → List Packet → List Packet
+own i kept = filter (λ x. sender x == i) kept
+
+-- the greatest number that the site gave
+abbrev pub highest : ℕ → List Packet → ℕ
+highest i [] = 0
+highest i (Message j n r ∷ rest) = cond (j == i) (max n (highest i rest)) (highest i rest)
+highest i (Pass j t k a ∷ rest) = highest i rest
+
+-- the greatest turn that it took
+abbrev pub taken : ℕ → List Packet → ℕ
+taken i [] = 0
+taken i (Message j n r ∷ rest) = taken i rest
+taken i (Pass j t k a ∷ rest) = cond (k == i) (max t (taken i rest)) (taken i rest)
+
+-- the greatest turn that it passed on
+abbrev pub passed : ℕ → List Packet → ℕ
+passed i [] = 0
+passed i (Message j n r ∷ rest) = passed i rest
+passed i (Pass j t k a ∷ rest) = cond (j == i) (max t (passed i rest)) (passed i rest)
+
+-- the site has the token: it took one, or is the first to have it, and hasn't passed a later one on
+abbrev pub Holds : ℕ → List Packet → Type 0
+Holds i kept = (passed i kept ≤ taken i kept) × ((i ≡ 0) ⊎ (0 < taken i kept))
+
+-- it has given such a number, or passed such a turn on, or a greater one
+abbrev pub IsReached : ℕ → List Packet → Packet → Type 0
+IsReached i kept (Message j n r) = n ≤ highest i kept
+IsReached i kept (Pass j t k a) = t ≤ passed i kept

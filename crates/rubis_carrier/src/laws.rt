@@ -1,0 +1,47 @@
+//! The laws of shops, each with its statement in specs/.
+
+ghost use Rattle.rubis_carrier.specs.Laws.{AnswersComeInOrder, AsksAreAcceptedOnce, ComparingIsNeeded, GivenAgainOnlyWhereLost, IdsAreGivenOnce, NothingAcceptedIsLost, TheFirstSiteHolds, TheTokenComesBack};
+ghost use Rattle.rubis_carrier.specs.Sites.{SitesGiveTheseNames};
+ghost use Rattle.rubis_carrier.specs.Laws.{NobodyIsToldBoth, PublishedIsInStream, ToldOkIsKept, WhatIsOverStays, WhatIsToldIsTrue};
+
+/// Two messages of one site under one number, and two passes of one site under one turn, are the same one, in whatever folder or stream
+/// they stand at that moment. So a number is given again only where nothing is left that had the first. A site is asked to compare no
+/// more than it has to: if any place has a greater number of it, and it takes asks all the same, a number comes to be given twice.
+pub fn ids_are_given_once()
+    ensures once { IdsAreGivenOnce }
+    ensures again { GivenAgainOnlyWhereLost }
+    ensures needed { ComparingIsNeeded }
+{}
+
+/// The message of an ask that was told ok, under the id that was told, is in every folder that has read everything, as long as one of
+/// the places where it stood, a folder or a stream, is whole. Where it is told, it stands in the folder; with `--published`, in the stream.
+pub fn nothing_accepted_is_lost()
+    ensures kept { ToldOkIsKept }
+    ensures published { PublishedIsInStream }
+    ensures stays { NothingAcceptedIsLost }
+{}
+
+/// The last pass of the token, if it stands in a folder of its sender that is whole, or in that site's stream: some steps lead to where
+/// the site that it is for holds the token. Whatever was lost meanwhile, and whoever put what back: a pass is found by its turn. Before
+/// the first pass site 0 holds the token.
+pub fn the_token_comes_back()
+    ensures back { TheTokenComesBack }
+    ensures first { TheFirstSiteHolds }
+{}
+
+/// An ask of which the asker was told that it was refused, or that nothing was given to the site, stands nowhere, then and for ever. No
+/// asker is told both that and ok, and no ask is accepted twice. Of any other ask its asker finds out: a site answers in the order in
+/// which it was given asks, and one that is no more under way has its message by then, or never.
+pub fn what_is_told_is_true()
+    ensures never { WhatIsToldIsTrue }
+    ensures one { NobodyIsToldBoth }
+    ensures once { AsksAreAcceptedOnce }
+    ensures order { AnswersComeInOrder }
+    ensures over { WhatIsOverStays }
+{}
+
+/// The packets of a folder are what its site's records sent and took in; then the message that the site makes next, and the pass that
+/// it makes next, have the names that they have in a shop, and it passes the token only where it holds it there.
+pub fn sites_give_these_names()
+    ensures { SitesGiveTheseNames }
+{}

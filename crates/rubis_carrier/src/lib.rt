@@ -1,0 +1,9 @@
+//! What holds of a shop, whatever happens to its folders, its carrier and its askers.
+#![tactic(auto)]
+
+mod laws;
+
+pub use laws::{
+    ids_are_given_once, nothing_accepted_is_lost, sites_give_these_names, the_token_comes_back,
+    what_is_told_is_true,
+};
