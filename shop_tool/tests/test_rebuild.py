@@ -3,8 +3,8 @@
 import unittest
 
 from shop_tool.ends import Fault
-from shop_tool.ledger import Place
-from shop_tool.rebuild import Past
+from shop_tool.carrier.ledger import Place
+from shop_tool.carrier.rebuilding import Past
 
 ANN, ITEM = b"msg,1,0,1,1,0:0,user,ann", b"msg,1,0,2,0,1:0,item,0.1,lamp,7,1,1,0"
 BID, CLOSE = b"msg,1,1,1,2,2:0,bid,0.2,1.9,5", b"msg,1,0,3,3,2:1,close,0.2,7,1.1"

@@ -2,7 +2,7 @@
 
 import unittest
 
-from shop_tool.turns import FORGET, PATIENCE, SLICE, Hold, Wants, taker
+from shop_tool.carrier.turns import FORGET, PATIENCE, SLICE, Hold, Wants, taker
 
 
 class Queue(unittest.TestCase):
