@@ -2,6 +2,7 @@
 
 import argparse
 import asyncio
+import contextlib
 import io
 import os
 import shutil
@@ -20,7 +21,7 @@ from .ends import Fault, Status
 from .folders import synced
 from .lives import Seen, lives_of, take_place
 from .signals import done
-from .site import keep_command, lines_of
+from .site import FENCED, keep_command, lines_of
 from .stopped import stopped_shop
 from .streams import Streams, faults, reason_of
 
@@ -84,6 +85,8 @@ class Stopped:
                 self.lost = swapped(self.folder, site)
                 return None
             case TakePlace(site, starts):
+                with contextlib.suppress(FileNotFoundError):
+                    os.unlink(f"{self.folder}/{site}/{FENCED}")
                 return take_place(f"{self.folder}/{site}", starts)
         return await self.server.do(step)
 

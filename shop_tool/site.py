@@ -10,6 +10,7 @@ from typing import TYPE_CHECKING, Any
 
 from .carrier.files import File
 from .carrier.site import FIRST_WAIT, LAST_WAIT, Disagreement, Site, State
+from .folders import put
 from .settings import Settings
 from .signals import done, waited
 from .times import stamp
@@ -18,6 +19,7 @@ if TYPE_CHECKING:
     from .supervisor import Supervisor
 
 PIECE = 1 << 16
+FENCED = "fenced"       # the file in a site's folder that says why it is never started again
 
 
 def keep_command(folder: str, site: int, settings: Settings, program: str) -> list[str]:
@@ -118,6 +120,12 @@ class KeptSite(Site):
     def write(self, data: bytes) -> None:
         if self.process and self.process.stdin:
             self.process.stdin.write(data)
+
+    def write_fence(self, text: str) -> None:
+        try:
+            put(f"{self.folder}/{FENCED}", f"{text}\n")
+        except OSError as fault:
+            self.shop.event(f"{self.folder}/{FENCED}: {fault.strerror}")
 
     def stop(self) -> None:
         """Ends the keeper once what it was given is answered."""

@@ -19,7 +19,7 @@ from .lock import take_lock
 from .render import shown
 from .settings import FILES, Settings, write
 from .signals import done, is_over_within, waited
-from .site import KeptSite
+from .site import FENCED, KeptSite, lines_of
 from .times import changed, stamp
 from .witness import Witness, has_all, witnessed
 
@@ -187,6 +187,8 @@ class Supervisor(Shop):
             site.lives = begin_life(site.folder)
         except OSError as fault:
             return site.fence(f"{site.folder}/life: {fault.strerror}")
+        if why := next(lines_of(f"{site.folder}/{FENCED}"), b""):
+            site.fence(text_of(why.rstrip()))
         self.begin_site(site, answered if has_all(kept, answered) else None)
 
     def _signalled(self, name: str) -> None:

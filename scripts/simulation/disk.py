@@ -49,6 +49,7 @@ class Folder:
         self.files: dict[str, File] = {}
         self.lives: list[str] = []
         self.sums: list[int] = []           # of the lines of `kept`; they may lag behind it
+        self.fenced: str | None = None      # why it is never started again
         self.noted = 0                      # how many of its records the run has taken down
         self.keeper: "Keeper | None" = None  # who holds its lock
         self.is_there = True
@@ -59,13 +60,13 @@ class Folder:
         """A copy of it, with other files of the same bytes."""
         made = Folder(self.world, machine)
         made.files = {name: File(self.world.new_number(), bytes(file.data)) for name, file in self.files.items()}
-        made.lives, made.sums, made.noted = list(self.lives), list(self.sums), self.noted
+        made.lives, made.sums, made.noted, made.fenced = list(self.lives), list(self.sums), self.noted, self.fenced
         return made
 
     def put_back(self, older: "Folder") -> None:
         """Has what an older copy has, in the same folder."""
         again = older.copied(self.machine)
-        self.files, self.lives, self.sums, self.noted = again.files, again.lives, again.sums, again.noted
+        self.files, self.lives, self.sums, self.noted, self.fenced = again.files, again.lives, again.sums, again.noted, again.fenced
 
     def file(self, name: str) -> File:
         if name not in self.files:
@@ -95,14 +96,6 @@ class Folder:
     def sent(self) -> list[bytes]:
         """The packets in its file `out`."""
         return [line[5:-1] for line in self.lines("out") if line.startswith(b"send,") and line.endswith(b"\n")]
-
-    def site(self, number: int, sites: int) -> StandIn:
-        """The site that its records make."""
-        made = StandIn(number, sites)
-        for line in self.lines("kept"):
-            for record in records_of(line[:-1]) if line.endswith(b"\n") else ():
-                made.answer(record)
-        return made
 
 
 class Machine:

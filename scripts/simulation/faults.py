@@ -209,7 +209,7 @@ def passed_by_hand(run: "Run", dice: random.Random) -> None:
 
 
 FAULTS: dict[Callable[["Run", random.Random], None], float] = {
-    killed_keeper: 6, killed_supervisor: 5, stopped: 4, lost_power: 1, lost_all_power: 0.3, lost_end: 0.4, copied: 2, put_back: 0.7,
-    lost: 0.4, lost_file: 0.4, changed_word: 0.3, ran_copy: 0.6, paused: 2, jumped: 1.5, cut_off: 3, server_goes: 2, server_loses_end: 1.5,
-    server_loses_all: 0.5, server_comes_from_backup: 0.3, passed_by_hand: 1.5,
+    killed_keeper: 6, killed_supervisor: 5, stopped: 4, lost_power: 0.7, lost_all_power: 0.15, lost_end: 0.2, copied: 2.5, put_back: 0.6,
+    lost: 0.25, lost_file: 0.25, changed_word: 0.2, ran_copy: 0.6, paused: 2, jumped: 1.5, cut_off: 3, server_goes: 2, server_loses_end: 1.5,
+    server_loses_all: 0.5, server_comes_from_backup: 0.2, passed_by_hand: 1.5,
 }

@@ -106,16 +106,16 @@ class World:
                    for machine in self.machines for folder in machine.folders.values()) or \
             any(text == its for stream in self.server.streams for _, its in stream.entries)
 
-    def note_unreached(self, number: int, opened: Folder) -> None:
-        """A site is opened: notes whether a folder has more of it that can't be reached."""
-        own = opened.site(number, self.sites).release.counts[number]
+    def note_unreached(self, number: int, opened: Folder, own: int) -> None:
+        """A site is opened with so many messages: notes whether a folder has more of it that can't be reached."""
         for machine in self.machines:
             for site, folder in machine.folders.items():
                 if folder is not opened and not self.is_unreached:
                     if site == number:
                         more = sum(text.startswith(b"msg,") for text in folder.sent())
                     else:
-                        more = max((at for at, _ in packets_of(folder.lines("kept"), number, own)), default=0)
+                        more = max((int(line.split(b",", 4)[3]) for line in folder.lines("kept") if line.startswith(b"msg,1,%d," % number)),
+                                   default=0)
                     self.is_unreached = more > own
 
     def answered(self, keeper: Keeper, record: bytes, said: bytes) -> None:
@@ -178,11 +178,14 @@ class SimulatedSite(Site):
         if self.keeper:
             self.keeper.close()
 
-    def fence(self, text: str) -> None:
+    def fence(self, text: str, outlasts: bool = False) -> None:
         if not self.fenced_by:
             self.shop.world.note("fence", self.number, self.folder.inode)
             self.shop.fenced.append((self.number, text))
-        super().fence(text)
+        super().fence(text, outlasts)
+
+    def write_fence(self, text: str) -> None:
+        self.folder.fenced = text
 
     def run(self) -> Steps[None]:
         """As the shell's: starts the keeper, and again whenever it ends, until the shop is stopped or the site is fenced."""
@@ -252,7 +255,7 @@ class Process:
         self.world, self.machine, self.clock = world, machine, world.clock
         self.is_alive = True
         self.paused_until = 0.0
-        self.tasks: set[Task] = set()
+        self.tasks: dict[Task, None] = {}       # in their order, so that a run is the same each time
 
     def resumes_in(self, call: Callable[[], None]) -> float | None:
         if not self.is_alive:
@@ -265,14 +268,14 @@ class Process:
     def spawn(self, steps: Steps[Any], on_end: Callable[[Any, Exception | None], None] | None = None,
               hear: Callable[[bytes, Any], None] | None = None) -> Task:
         def ended(said: Any, fault: Exception | None) -> None:
-            self.tasks.discard(task)
+            self.tasks.pop(task, None)
             if on_end:
                 on_end(said, fault)
             elif fault:
                 self.failed(fault)
         task = Task(self, steps, ended)
         task.hear = hear
-        self.tasks.add(task)
+        self.tasks[task] = None
         return task
 
     def failed(self, fault: Exception) -> None:
@@ -473,6 +476,8 @@ class Supervisor(Process, Shop):
         site.lives = list(folder.lives)
         self.world.note("start", site.number, folder.inode)
         has_all = answered is not None and "kept" in folder.files and len(folder.files["kept"].data) >= answered
+        if folder.fenced:
+            site.fence(folder.fenced)
         self.begin_site(site, answered if has_all else None)
 
     def _opened(self, site: Site, answered: int) -> None:
@@ -485,10 +490,11 @@ class Supervisor(Process, Shop):
         if site.number in self.looked_at or self.world.excused or site.fenced_by or not (site.up.is_set and site.opened.is_set):
             return
         self.looked_at.add(site.number)
-        self.world.note_unreached(site.number, self.machine.folders[site.number])
-        folder = self.machine.folders[site.number]
-        own = dict(sends_of(folder.lines("out")))
-        messages = folder.site(site.number, self.count).release.counts[site.number]
+        keeper = self.sites[site.number].keeper
+        assert keeper
+        messages = keeper.site.release.counts[site.number]
+        self.world.note_unreached(site.number, keeper.folder, messages)
+        own = dict(sends_of(keeper.folder.lines("out")))
         for other in self.sites.values():
             if other is not site and other.known.is_set and other.ledger.have[site.number].greatest > messages:
                 raise Violation(f"site {site.number} is opened with {messages} messages, and site {other.number} has "

@@ -28,9 +28,9 @@ class FileLink(Link):
         try:
             why = yield from self._why_fenced(site)
         except OSError as fault:
-            why = f"{fault.filename}: {fault.strerror}"
+            return site.fence(f"{fault.filename}: {fault.strerror}")
         if why:
-            return site.fence(why)
+            return site.fence(why, outlasts=True)
         try:
             yield SeeHere(site.number, life_text(site.lives))
         except OSError as fault:

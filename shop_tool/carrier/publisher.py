@@ -21,6 +21,10 @@ class Fenced(Exception):
     """The others have more of a site than its folder, or another past."""
 
 
+class Elsewhere(Exception):
+    """Another folder has the site, or another supervisor runs it."""
+
+
 class Publisher:
     """Appends what one site sends to its stream. Appending again is refused by the ids, so nothing is there twice."""
 
@@ -35,6 +39,8 @@ class Publisher:
                 last = yield from self._compare()
                 yield from self._append_until(last, self.site.shop.now() + COMPARE_SECONDS)
         except Fenced as why:
+            self.site.fence(str(why), outlasts=True)
+        except Elsewhere as why:
             self.site.fence(str(why))
         except OSError:
             if not self.site.has_lost_files():
@@ -86,7 +92,7 @@ class Publisher:
         while runs_elsewhere(status := (yield Statuses()).get(self.site.number), self.link.named(self.site)):
             assert status
             if first not in (None, status.get("told")):
-                raise Fenced(f"{str(status.get('by')).split(' ', 2)[-1]} runs it (shop adopt {self.site.number}, if that is gone for good)")
+                raise Elsewhere(f"{str(status.get('by')).split(' ', 2)[-1]} runs it (shop adopt {self.site.number}, if that is gone for good)")
             first = status.get("told")
             yield Wait(None, LOOK_SECONDS)
         return first is not None
@@ -110,7 +116,7 @@ class Publisher:
         site = self.site
         if owner := (yield Owner(site.number)):
             if not takes_place(site.lives, state.life):
-                return f"{owner} has it (shop adopt {site.number}, if that is gone for good)"
+                raise Elsewhere(f"{owner} has it (shop adopt {site.number}, if that is gone for good)")
             yield Adopt(site.number)    # the server had lost that
         if site.compared.is_set:
             return None

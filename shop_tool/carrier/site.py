@@ -99,6 +99,10 @@ class Site(abc.ABC):
         """Gives its keeper these bytes."""
 
     @abc.abstractmethod
+    def write_fence(self, text: str) -> None:
+        """Writes into its folder why it is stopped."""
+
+    @abc.abstractmethod
     def kill(self) -> None:
         """Ends its keeper at once."""
 
@@ -184,9 +188,12 @@ class Site(abc.ABC):
                 self.shop.later(READ_AGAIN, self.shop.news.tell)
             return []
 
-    def fence(self, text: str) -> None:
-        """Stops the site for good: it would give numbers a second time."""
+    def fence(self, text: str, outlasts: bool = False) -> None:
+        """Stops the site for good: it would give numbers a second time. What others know may be lost, and what was seen of it `outlasts`
+        that: it is written into the folder, so that each later start of it is stopped too."""
         if not self.fenced_by:
+            if outlasts:
+                self.write_fence(text)
             self.fenced_by = text
             self.note_fault(text)
             self.opened.set()

@@ -154,7 +154,7 @@ class Swap(NamedTuple):
 
 
 class TakePlace(NamedTuple):
-    """Has a site's folder here take the place of every one that was started so many times, or fewer."""
+    """Has a site's folder here take the place of every one that was started so many times, or fewer; what it was stopped for is over."""
 
     site: int
     starts: int

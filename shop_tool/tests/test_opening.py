@@ -8,7 +8,7 @@ from unittest import mock
 from shop_tool import lives, witness
 from shop_tool.carrier.ledger import Place
 from shop_tool.carrier.lives import Standing, life_text, standing, takes_place, why_other
-from shop_tool.carrier.opening import may_open_unseen, must_compare_all, runs_elsewhere, strange_packet, why_behind
+from shop_tool.carrier.opening import may_open_unseen, must_compare_all, runs_elsewhere, strange_packet, why_behind, why_passed_on
 from shop_tool.lives import begin_life, lives_of, take_place
 
 
@@ -77,6 +77,14 @@ class Opening(unittest.TestCase):
         self.assertIsNone(why_behind(0, 3, {}))
         self.assertIsNone(why_behind(0, 3, {1: 3, 2: 0}))
         self.assertEqual(why_behind(0, 3, {1: 4, 2: 5}), "site 2 has 5 messages of it, and its folder has 3 (shop rebuild 0)")
+
+    def test_another_site_has_had_the_token_since(self) -> None:
+        """A folder that lost nothing but a pass has as many messages as before, and would hold the token a second time."""
+        self.assertIsNone(why_passed_on(0, None, {1: 9}))
+        self.assertIsNone(why_passed_on(0, 4, {}))
+        self.assertIsNone(why_passed_on(0, 4, {1: 3, 2: 0}))
+        self.assertEqual(why_passed_on(0, 4, {1: 5, 2: 6}),
+                         "site 2 has had the token of turn 6, and its folder holds that of turn 4 (shop rebuild 0)")
 
     def test_a_packet_that_it_did_not_send(self) -> None:
         sent: dict[Place, bytes] = {(1, 0): b"a", (1, 1): b"token", (2, 0): b"b"}

@@ -43,3 +43,17 @@ class Steps(unittest.TestCase):
     def test_streams_that_lack_what_it_counted(self) -> None:
         self.assertRaises(Fault, records, Past(0, [ZERO, []]))
         self.assertRaises(Fault, records, Past(1, [ZERO[2:], ONE]))
+
+    def test_a_token_that_came_and_nobody_has_is_known_by_the_next_one(self) -> None:
+        """Site 1 passed the token of turn 2, so that of turn 1 came to it before, for which nothing else is left."""
+        past = Past(1, [ZERO[:1] + ZERO[2:4], ONE])
+        past.add_passed()
+        self.assertEqual(records(past), [ANN, ITEM, FIRST, b"bid,0.2,1.9,5", b"pass,0"])
+
+    def test_a_pass_that_nobody_has_is_made_again_so_that_it_changes_nothing(self) -> None:
+        """Site 0 passed the token, or others wouldn't have had later ones. It goes to one that has had a later one, and takes no earlier."""
+        past = Past(0, [ZERO[:1], [], []])
+        past.add([], [b"token,1,7,2,5"])
+        past.add_passed()
+        self.assertEqual(records(past), [b"user,ann", b"pass,2"])
+        self.assertEqual(past.packets(), [*ZERO[:1], ((1, 1), b"token,1,1,2,1")])
