@@ -62,7 +62,7 @@ def play(seed: str, without: str | None, skip: frozenset[int] = frozenset(), ste
     if steps and words is not None:
         pathlib.Path(steps, f"{seed}.steps").write_text("".join(f"{word}\n" for word in words))
     counts = dict(run.world.counts)
-    least = {"events": sum(counts.values()), "faults": run.fault_count, "asks": len(run.askers), "turns": counts.get("pass", 0)}
+    least = {"events": sum(counts.values()), "faults": run.fault_count, "asks": len(run.askers), "turns": counts.get("Passes", 0)}
     return Played(seed, broken, run.why_excused(), counts, least)
 
 

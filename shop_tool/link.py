@@ -2,12 +2,13 @@
 
 import abc
 import asyncio
+import os
 from typing import TYPE_CHECKING, Any
 
-from .carrier.ledger import packets_of
+from .carrier.ledger import packets_of, tokens_of
 from .carrier.over_files import FileLink
 from .carrier.shop import Link
-from .carrier.steps import CallAll, IsRunning, KeptOf, SayLeave, SayWant, SeeHere, SeenHere, UpElsewhere
+from .carrier.steps import CallAll, IsRunning, KeptHere, KeptOf, SayLeave, SayWant, SeeHere, SeenHere, UpElsewhere
 from .lives import Seen
 from .requests import Request
 from .signals import done
@@ -47,9 +48,16 @@ class Carrying(Link):
         return None
 
 
-async def kept_of(keeper: KeptSite, origin: int, after: int) -> list[tuple[int, bytes]]:
-    """The messages of a site above a number that stand in the file `kept` of another one."""
-    return await asyncio.to_thread(lambda: list(packets_of(lines_of(f"{keeper.folder}/kept"), origin, after)))
+async def kept_of(sites: dict[int, KeptSite], step: KeptOf | KeptHere) -> Any:
+    """What stands in the file `kept` of a site."""
+    path = f"{sites[step.keeper].folder}/kept"
+
+    def read() -> Any:
+        messages = list(packets_of(lines_of(path), step.origin, step.after))
+        if isinstance(step, KeptOf):
+            return messages
+        return ([text for _, text in messages], tokens_of(lines_of(path))) if os.path.exists(path) else None
+    return await asyncio.to_thread(read)
 
 
 class LinkOverFiles(FileLink, Carrying):
@@ -64,13 +72,13 @@ class LinkOverFiles(FileLink, Carrying):
         await asyncio.gather(*(done(steps, self.do) for site in sites for steps in (self.compare(site), self.read(site))))
 
     async def do(self, step: tuple[Any, ...]) -> Any:
+        if isinstance(step, (KeptOf, KeptHere)):
+            return await kept_of(self.shop.sites, step)
         match step:
             case SayWant(site, known):
                 self.shop.hear_want(site, known)
             case IsRunning(site):
                 return self.shop.sites[site].up.is_set
-            case KeptOf(keeper, origin, after):
-                return await kept_of(self.shop.sites[keeper], origin, after)
             case SeenHere(site):
                 return self.seen[site]
             case SeeHere(site, life):

@@ -9,15 +9,16 @@ from typing import Any
 
 from .carrier.answers import Answer
 from .carrier.asking import Ask
-from .carrier.ledger import packets_of, tokens_of
 from .carrier.records import Purpose, text_of
 from .carrier.site import Pending
+from .carrier.steps import KeptHere
 from .carrier.steps import Say as SayAnswer
 from .carrier.told import unanswered
 from .ends import Fault, Status
+from .link import kept_of
 from .requests import REQUEST_BYTES, Request, asks_of, field, listing_of, message_of, no_request, request_of, seconds_of, site_of
 from .signals import done, waited
-from .site import KeptSite, lines_of
+from .site import KeptSite
 from .supervisor import Supervisor
 
 CONNECTIONS = 500
@@ -209,9 +210,7 @@ class Server:
 
     async def _have(self, site: KeptSite, origin: int, after: int) -> dict[str, Any]:
         """What a site has of another one beyond a number, and all tokens that came to it: for a rebuild of the other."""
-        kept = f"{site.folder}/kept"
-        messages = await asyncio.to_thread(lambda: [text for _, text in packets_of(lines_of(kept), origin, after)])
-        tokens = await asyncio.to_thread(lambda: tokens_of(lines_of(kept)))
+        messages, tokens = await kept_of(self.shop.sites, KeptHere(site.number, origin, after)) or ([], [])
         return {"messages": [text_of(text) for text in messages], "tokens": [text_of(text) for text in tokens]}
 
     async def _logs(self, request: Request, say: Say) -> dict[str, Any]:

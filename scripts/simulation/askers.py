@@ -33,6 +33,8 @@ class Asker:
         self.told: list[Told] = []
         self.is_over = False
         self.task: "Task | None" = None
+        for record in records:
+            world.note("IsAsked", site, world.ask(record), len(record.split(b"\n")))
         if not supervisor or not supervisor.is_alive:
             self._end([{"end": True, "fault": "not running; nothing was asked"}])
             return
@@ -80,7 +82,8 @@ class Asker:
         for at, record in enumerate(records):
             self.told.append(Told(self.site, record, self._what(last, at)))
         for told in self.told:
-            self.world.note("tell", told.site, told.what, *(told.id or ())[1:])
+            word = {"ok": "TellsOk", "unknown": "TellsUnknown", "not-given": "TellsNothing", "not-accepted": "TellsNothing"}.get(told.what, "TellsNo")
+            self.world.note(word, told.site, self.world.ask(told.record), *(told.id or ())[1:])
 
     def _told(self, record: bytes, head: list[str]) -> None:
         """An answer. One that a request ends with, since the token didn't come, is no acceptance either."""

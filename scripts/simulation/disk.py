@@ -45,7 +45,7 @@ class Folder:
 
     def __init__(self, world: "World", machine: "Machine") -> None:
         self.world, self.machine = world, machine
-        self.inode = world.new_number()
+        self.inode = self.number = world.new_number()       # a clone has the same inode, and another number
         self.files: dict[str, File] = {}
         self.lives: list[str] = []
         self.sums: list[int] = []           # of the lines of `kept`; they may lag behind it

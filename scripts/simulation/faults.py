@@ -4,7 +4,7 @@ import random
 from collections.abc import Callable
 from typing import TYPE_CHECKING
 
-from .disk import Folder
+from .disk import Folder, Machine
 from .server import lost_seconds
 from .world import Supervisor
 
@@ -14,13 +14,13 @@ if TYPE_CHECKING:
 
 def killed_keeper(run: "Run", dice: random.Random) -> None:
     if site := run.some_site(dice):
-        run.world.note("kill", site.number, site.folder.inode)
+        run.world.note("keeper-killed", site.folder.number)
         site.kill()
 
 
 def killed_supervisor(run: "Run", dice: random.Random) -> None:
     if supervisor := run.some_supervisor(dice):
-        run.world.note("kill-supervisor", supervisor.machine.name)
+        run.world.note("supervisor-killed", supervisor.machine.name)
         supervisor.end()
 
 
@@ -30,20 +30,25 @@ def stopped(run: "Run", dice: random.Random) -> None:
         run.rest(supervisor.machine, dice.choice([0.0, 2.0, 8.0]))
 
 
+def lost_ends(run: "Run", machine: Machine, dice: random.Random) -> None:
+    """The power of a machine goes: its memory is gone, and the ends of files that aren't on the disk."""
+    for folder in machine.folders.values():
+        run.world.note("MachineStarts", folder.number)
+    run.taint(machine.lose_power(dice), "LosesEnd", is_whole=True)
+
+
 def lost_power(run: "Run", dice: random.Random) -> None:
     machine = dice.choice(run.world.machines)
-    run.world.note("lose-power", machine.name)
     run.switch_off(machine)
-    run.taint(machine.lose_power(dice), "lose-end", is_whole=True)
+    lost_ends(run, machine, dice)
     run.rest(machine, dice.choice([0.5, 3.0]))
 
 
 def lost_all_power(run: "Run", dice: random.Random) -> None:
     """All machines at once, and the server."""
     for machine in run.world.machines:
-        run.world.note("lose-power", machine.name)
         run.switch_off(machine)
-        run.taint(machine.lose_power(dice), "lose-end", is_whole=True)
+        lost_ends(run, machine, dice)
         run.rest(machine, dice.random() * 3)
     server_loses_end(run, dice)
 
@@ -57,13 +62,14 @@ def lost_end(run: "Run", dice: random.Random) -> None:
             data = folder.files[name].data
             del data[max(0, len(data) - dice.randint(1, 400)):]
             folder.files[name].synced = min(folder.files[name].synced, len(data))
-    run.taint([folder], "lose-end", is_whole=True)      # what is left of it is whole
+    run.taint([folder], "LosesEnd", is_whole=True)      # what is left of it is whole
 
 
 def copied(run: "Run", dice: random.Random) -> None:
     machine, folder = run.some_folder(dice)
-    run.world.note("copy", run.number_of(machine, folder), folder.inode)
-    run.backups.append((machine, run.number_of(machine, folder), folder.copied(machine)))
+    copy = folder.copied(machine)
+    run.world.note("IsCopied", folder.number, copy.number)
+    run.backups.append((machine, run.number_of(machine, folder), copy))
 
 
 def put_back(run: "Run", dice: random.Random) -> None:
@@ -80,7 +86,7 @@ def put_back(run: "Run", dice: random.Random) -> None:
     else:
         folder.is_there = False
         machine.folders[number] = older.copied(machine)
-    run.taint([machine.folders[number]], "put-back")
+    run.taint([machine.folders[number]], "IsPutBack")
 
 
 def lost(run: "Run", dice: random.Random) -> None:
@@ -92,14 +98,14 @@ def lost(run: "Run", dice: random.Random) -> None:
     folder.files = {}
     machine.folders[number] = made = Folder(run.world, machine)
     made.is_there = False
-    run.taint([made], "lose")
+    run.taint([made], "IsLost")
 
 
 def lost_file(run: "Run", dice: random.Random) -> None:
     """`out` or `kept` is removed while the site runs."""
     machine, folder = run.some_folder(dice)
     if folder.files.pop(dice.choice(["out", "out", "kept"]), None):
-        run.taint([folder], "lose-file")
+        run.taint([folder], "file-removed")
 
 
 def changed_word(run: "Run", dice: random.Random) -> None:
@@ -111,7 +117,7 @@ def changed_word(run: "Run", dice: random.Random) -> None:
     if kept and places:
         at = dice.choice(places)
         kept.data[at] += 1
-        run.taint([folder], "change-word")
+        run.taint([folder], "IsChanged")
         run.changed.append((folder, folder.lines("kept")))
 
 
@@ -124,8 +130,9 @@ def ran_copy(run: "Run", dice: random.Random) -> None:
     copy = machine.copied(machine.name if is_here else f"{machine.name}'", not is_here and dice.random() < 0.5)
     if is_here:
         copy.memory, copy.boot = machine.memory, machine.boot       # it is one machine, and one start of it
-    run.world.note("run-copy", machine.name)
-    run.taint([*machine.folders.values(), *copy.folders.values()], "run-copy", is_whole=True)
+    for number, folder in machine.folders.items():
+        run.world.note("IsCopied", folder.number, copy.folders[number].number)
+    run.taint([*machine.folders.values(), *copy.folders.values()], "copy-runs", is_whole=True)
     if dice.random() < 0.4:
         run.switch_off(machine)
     run.copies.append(Supervisor(run.world, copy))
@@ -134,14 +141,14 @@ def ran_copy(run: "Run", dice: random.Random) -> None:
 def paused(run: "Run", dice: random.Random) -> None:
     """A supervisor stands still, as a laptop's that sleeps; or its clock jumps."""
     if supervisor := run.some_supervisor(dice):
-        run.world.note("pause", supervisor.machine.name)
+        run.world.note("paused", supervisor.machine.name)
         run.disturb()
         supervisor.paused_until = run.world.clock.now + dice.choice([0.3, 4.0, 8.0])
 
 
 def jumped(run: "Run", dice: random.Random) -> None:
     if supervisor := run.some_supervisor(dice):
-        run.world.note("jump", supervisor.machine.name)
+        run.world.note("clock-jumps", supervisor.machine.name)
         supervisor.skew += dice.choice([1.0, 10.0, 3600.0])
 
 
@@ -182,13 +189,13 @@ def server_loses_end(run: "Run", dice: random.Random) -> None:
         server = run.world.server
         server.lose_end(lost_seconds(server, dice))
         for site, stream in enumerate(server.streams):
-            run.world.note("server-lose-end", site, len(stream.entries))
+            run.world.note("StreamLosesEnd", site, len(stream.entries))
     server_goes(run, dice, forget)
 
 
 def server_loses_all(run: "Run", dice: random.Random) -> None:
     def forget() -> None:
-        run.world.note("server-lose-all")
+        run.world.note("ServerLosesAll")
         run.world.server.lose_all()
     server_goes(run, dice, forget)
 
@@ -197,7 +204,7 @@ def server_comes_from_backup(run: "Run", dice: random.Random) -> None:
     def forget() -> None:
         run.world.server.lose_end(dice.uniform(1, 30))
         for site, stream in enumerate(run.world.server.streams):
-            run.world.note("server-lose-end", site, len(stream.entries))
+            run.world.note("StreamLosesEnd", site, len(stream.entries))
     server_goes(run, dice, forget)
 
 

@@ -64,7 +64,7 @@ class Run:
         """Where little happened there are more asks."""
         counts = self.world.counts
         for _ in range(MORE):
-            if counts["pass"] >= LEAST_TURNS and sum(counts.values()) >= LEAST_EVENTS:
+            if counts["Passes"] >= LEAST_TURNS and sum(counts.values()) >= LEAST_EVENTS:
                 break
             for number in range(len(self.askers), len(self.askers) + 20):
                 self.world.clock.after(plan.uniform(0, 5), functools.partial(self._ask, 1000 + number, random.Random(plan.random())))
@@ -152,7 +152,6 @@ class Run:
             command.end()
             if anyway:
                 self.may_be_lost = True
-            world.note("rebuild-ended", number, str(fault))
             if fault and "is running elsewhere" not in str(fault) and not isinstance(fault, Fault) and "away" not in str(fault):
                 if not type(fault).__name__ == "Broken":
                     raise fault
@@ -197,7 +196,7 @@ class Run:
     def taint(self, folders: Iterable[Folder], what: str, is_whole: bool = False) -> None:
         """Something happened to these folders; they aren't whole any more, unless that is said."""
         for folder in folders:
-            self.world.note(what, folder.inode)
+            self.world.note(what, folder.number, len(folder.sent()))
             self.tainted[folder.inode] = self.world.clock.now, what
             folder.is_whole = folder.is_whole and is_whole
         self.note_losses()

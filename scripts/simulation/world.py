@@ -55,6 +55,7 @@ class World:
         self.words = words                  # the run as a list of the model's steps
         self.counts: collections.Counter[str] = collections.Counter()
         self.numbers = 0
+        self.asks: dict[bytes, int] = {}
         self.sites = self.dice.choice([2, 2, 3, 3, 4, 5])
         self.is_over_server = self.dice.random() < 0.65
         self.is_synced = self.dice.random() < 0.4
@@ -94,8 +95,12 @@ class World:
     def new_mark(self) -> bytes:
         return b"%d" % self.new_number()
 
+    def ask(self, record: bytes) -> int:
+        """The number of an ask: they are counted as they are first seen."""
+        return self.asks.setdefault(record, len(self.asks) + 1)
+
     def note(self, word: str, *fields: object) -> None:
-        """A step of the model is done."""
+        """A step of the model is done, by the name that it has there, or something else happens, whose word begins with a small letter."""
         self.counts[word] += 1
         if self.words is not None:
             self.words.append(",".join([f"{self.clock.now:.4f}", word, *map(str, fields)]))
@@ -127,7 +132,7 @@ class World:
             case b"ok":
                 number = int(fields[3].split(b".")[1])
                 name, text = (site, number), rest[5:-1] if rest.endswith(b"\n") else rest[5:]
-                self.note("ask", site, keeper.folder.inode, number)
+                self.note("Accepts", keeper.folder.number, self.ask(record), site, number)
                 self.accepted.setdefault(record, set()).add(name)
                 if len(self.accepted[record]) > 1:
                     raise Violation(f"one ask was accepted twice: {record!r} as {sorted(self.accepted[record])}")
@@ -140,17 +145,17 @@ class World:
             case b"passed":
                 text = rest[5:].rstrip(b"\n")
                 turn, to = (int(field) for field in text.split(b",")[2:4])
-                self.note("pass", site, keeper.folder.inode, turn, to)
+                self.note("Passes", keeper.folder.number, to, turn)
                 if turn > self.turn[0]:
                     self.turn = turn, site, to
                 self.passes[turn] = text
             case b"holding":
-                self.note("take", site, keeper.folder.inode, int(record.split(b",")[2]))
+                self.note("Reads", keeper.folder.number, "pass", int(record.split(b",")[2]))
             case b"released" | b"held":
                 packet = record.split(b",")
-                self.note("take-in", site, keeper.folder.inode, int(packet[2]), int(packet[3]))
+                self.note("Reads", keeper.folder.number, int(packet[2]), int(packet[3]))
             case b"refused":
-                self.note("refuse", site, keeper.folder.inode, fields[4].decode())
+                self.note("Refuses", keeper.folder.number, self.ask(record), fields[4].decode())
 
 
 class SimulatedSite(Site):
@@ -180,7 +185,7 @@ class SimulatedSite(Site):
 
     def fence(self, text: str, outlasts: bool = False) -> None:
         if not self.fenced_by:
-            self.shop.world.note("fence", self.number, self.folder.inode)
+            self.shop.world.note("fenced", self.folder.number)
             self.shop.fenced.append((self.number, text))
         super().fence(text, outlasts)
 
@@ -206,6 +211,8 @@ class SimulatedSite(Site):
 
     def _live(self) -> Steps[int]:
         keeper = self.keeper = Keeper(self.folder, self.number, self.output.tell)
+        if self.starts > 1:
+            self.shop.world.note("KeeperStarts", self.folder.number)
         if self.shop.stopping.is_set:
             self.stop()
         try:
@@ -295,6 +302,13 @@ class Process:
     def named_of(self, site: int) -> str:
         return f"{self.machine.boot} {' '.join(self.identity(site))}"
 
+    def kept_here(self, keeper: int, origin: int, after: int) -> tuple[list[bytes], list[bytes]] | None:
+        """What stands in the file `kept` of a site here."""
+        folder = self.machine.folders[keeper]
+        if not folder.is_there or "kept" not in folder.files:
+            return None
+        return [text for _, text in packets_of(folder.lines("kept"), origin, after)], tokens_of(folder.lines("kept"))
+
     def reaches(self) -> bool:
         return self.world.server.is_up and not self.machine.is_cut_off
 
@@ -358,10 +372,11 @@ class Process:
     def _note(self, step: tuple[Any, ...], said: Any) -> None:
         match step:
             case Append(site, _, packets) if said:
-                word = "append" if site in self.machine.folders else "recover"
-                self.world.note(word, site, self.machine.name, *("%d-%d" % place for place, _ in packets))
+                folder = self.machine.folders.get(site) or next(iter(self.machine.folders.values()))
+                for place, _ in packets:
+                    self.world.note("Appends", folder.number, site, "%d-%d" % place)
             case Rewrite(site, packets):
-                self.world.note("rewrite", site, self.machine.name, *("%d-%d" % place for place, _ in packets))
+                self.world.note("WritesAnew", self.machine.folders[site].number, *("%d-%d" % place for place, _ in packets))
 
     def call(self, request: Request, site: int, seconds: float) -> Steps[list[dict[str, Any]] | None]:
         """What the supervisor of a site elsewhere answers; None if it gives no answer in time."""
@@ -474,7 +489,7 @@ class Supervisor(Process, Shop):
             folder.is_there, folder.files, folder.lives, folder.sums = True, {}, [], []
         folder.lives.append(f"{self.world.new_number():016x}")
         site.lives = list(folder.lives)
-        self.world.note("start", site.number, folder.inode)
+        self.world.note("Starts", folder.number, site.number)
         has_all = answered is not None and "kept" in folder.files and len(folder.files["kept"].data) >= answered
         if folder.fenced:
             site.fence(folder.fenced)
@@ -482,7 +497,6 @@ class Supervisor(Process, Shop):
 
     def _opened(self, site: Site, answered: int) -> None:
         super()._opened(site, answered)
-        self.world.note("open", site.number, self.machine.folders[site.number].inode)
         self.look_at_open(site)
 
     def look_at_open(self, site: Site) -> None:
@@ -490,6 +504,7 @@ class Supervisor(Process, Shop):
         if site.number in self.looked_at or self.world.excused or site.fenced_by or not (site.up.is_set and site.opened.is_set):
             return
         self.looked_at.add(site.number)
+        self.world.note("Opens", self.machine.folders[site.number].number)
         keeper = self.sites[site.number].keeper
         assert keeper
         messages = keeper.site.release.counts[site.number]
@@ -530,6 +545,8 @@ class Supervisor(Process, Shop):
                 return task.answer()
             case KeptOf(keeper, origin, after):
                 return task.answer(list(packets_of(self.machine.folders[keeper].lines("kept"), origin, after)))
+            case KeptHere(keeper, origin, after):
+                return task.answer(self.kept_here(keeper, origin, after))
             case SeenHere(site):
                 return task.answer(self.machine.seen.get(site))
             case SeeHere(site, life):
@@ -585,9 +602,8 @@ class Supervisor(Process, Shop):
             answers += found[:-1]
             return dict(found[-1])
         if request["op"] == "have":
-            kept = site.folder.lines("kept")
-            return {"messages": [text_of(text) for _, text in packets_of(kept, request["origin"], request["after"])],
-                    "tokens": [text_of(text) for text in tokens_of(kept)]}
+            messages, tokens = self.kept_here(site.number, request["origin"], request["after"]) or ([], [])
+            return {"messages": [text_of(text) for text in messages], "tokens": [text_of(text) for text in tokens]}
         asked = asks_of(request)
         if self.is_leaving:
             raise Fault(Status.AWAY, "the shop is being stopped; nothing was asked")
@@ -613,7 +629,7 @@ class Supervisor(Process, Shop):
         if not self.is_leaving and self.is_alive:
             self.takers = self._takers()
             self.is_leaving, self.stopped_at = True, self.clock.now
-            self.world.note("stop", self.machine.name)
+            self.world.note("stopped", self.machine.name)
             self.spawn(self._leave())
 
     def _takers(self) -> set[tuple[int, int]]:
@@ -674,6 +690,7 @@ class Supervisor(Process, Shop):
     def end(self) -> None:
         if self.is_alive:
             for site in self.sites.values():
+                self.world.note("IsKilled", site.folder.number)
                 if site.keeper:
                     site.keeper.leave()
             super().end()
@@ -695,10 +712,7 @@ class Command(Process):
             case SentHere(site):
                 return task.answer(sends_of(folders[site].lines("out")))
             case KeptHere(keeper, origin, after):
-                if not folders[keeper].is_there or "kept" not in folders[keeper].files:
-                    return task.answer(None)
-                lines = folders[keeper].lines("kept")
-                return task.answer(([text for _, text in packets_of(lines, origin, after)], tokens_of(lines)))
+                return task.answer(self.kept_here(keeper, origin, after))
             case SeenHere(site):
                 return task.answer(self.machine.seen.get(site))
             case Replay(site, records):
@@ -711,7 +725,7 @@ class Command(Process):
                 assert self.made
                 self.made.lives = placed([], max(starts, len(folders[site].lives)), f"{self.world.new_number():x}")
                 folders[site] = self.made
-                self.world.note("rebuild", site, self.made.inode)
+                self.world.note("Rebuilds", self.made.number, site)
                 return task.answer()
         if isinstance(step, CallAll):
             return self.call_all(task, step)

@@ -9,7 +9,7 @@ from .ledger import Prefix
 from .opening import may_open_unseen, why_behind, why_passed_on
 from .records import Message, Purpose, Token, packet_of, why_not_one_record
 from .site import Pending, Site, State
-from .steps import CallAll, Flag, IsRunning, KeptOf, SayLeave, SayWant, Signal, Steps, UpElsewhere, Wait
+from .steps import CallAll, Flag, IsRunning, KeptHere, SayLeave, SayWant, Signal, Steps, UpElsewhere, Wait
 from .turns import SAY_AGAIN, Wants, taker
 
 HAND_OVER_SECONDS = 2.0     # how long a stop waits until a site elsewhere has taken the token
@@ -139,7 +139,8 @@ class Shop(abc.ABC):
                 return origin != site.number and number > site.ledger.have[origin].upto
             case Token(turn=turn, to=to):
                 self.wants.passed(turn, to)
-                return to == site.number and turn > site.ledger.turn
+                # Where a later turn is known it was here already, though this folder may have lost that.
+                return to == site.number and turn > site.ledger.turn and turn >= self.wants.turn
         return False
 
     def why_behind(self, site: Site, has: dict[int, int], turns: dict[int, int]) -> Steps[str | None]:
@@ -150,9 +151,11 @@ class Shop(abc.ABC):
                 yield Wait(other.tried)
                 if other.known.is_set:
                     has[other.number], turns[other.number] = other.ledger.have[site.number].greatest, other.ledger.turn
-                else:       # it can't be started
-                    messages = yield KeptOf(other.number, site.number, 0)
-                    has[other.number] = max((number for number, _ in messages), default=0)
+                elif kept := (yield KeptHere(other.number, site.number, 0)):        # it can't be started
+                    packets = [packet_of(text) for texts in kept for text in texts]
+                    has[other.number] = max((packet.number for packet in packets if isinstance(packet, Message)), default=0)
+                    turns[other.number] = max((packet.turn for packet in packets if isinstance(packet, Token)), default=0)
+        self.wants.known(max(turns.values(), default=0))
         held = site.ledger.turn if site.ledger.holds_token else None
         return why_behind(site.number, site.ledger.sends.messages, has) or why_passed_on(site.number, held, turns)
 
