@@ -131,7 +131,7 @@ class Run:
     def _is_due(self, site: SimulatedSite, why: str) -> None:
         """A site whose files nobody touched isn't stopped."""
         ran_copies = any(site.number in copy.sites for copy in self.copies)
-        if site.folder.inode not in self.tainted and not self.changed and not ran_copies:
+        if site.folder.inode not in self.tainted and not self.changed and not ran_copies and not self._is_excused():
             raise Violation(f"site {site.number} is stopped, and nothing happened to its folder: {why}")
 
     def _mend(self, machine: Machine, number: int, why: str) -> None:
