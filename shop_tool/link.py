@@ -8,11 +8,11 @@ from typing import TYPE_CHECKING, Any
 from .carrier.ledger import packets_of, tokens_of
 from .carrier.over_files import FileLink
 from .carrier.shop import Link
-from .carrier.steps import CallAll, IsRunning, KeptHere, KeptOf, SayLeave, SayWant, SeeHere, SeenHere, UpElsewhere
+from .carrier.steps import CallAll, IsRunning, Kept, KeptOf, SayLeave, SayWant, SeeHere, SeenHere, UpElsewhere
 from .lives import Seen
 from .requests import Request
 from .signals import done
-from .site import KeptSite, lines_of
+from .site import lines_of
 
 if TYPE_CHECKING:
     from .supervisor import Supervisor
@@ -48,15 +48,12 @@ class Carrying(Link):
         return None
 
 
-async def kept_of(sites: dict[int, KeptSite], step: KeptOf | KeptHere) -> Any:
-    """What stands in the file `kept` of a site."""
-    path = f"{sites[step.keeper].folder}/kept"
+async def kept_of(folder: str, step: KeptOf) -> Kept | None:
+    """What stands in the file `kept` of a site in this folder."""
+    path = f"{folder}/{step.keeper}/kept"
 
-    def read() -> Any:
-        messages = list(packets_of(lines_of(path), step.origin, step.after))
-        if isinstance(step, KeptOf):
-            return messages
-        return ([text for _, text in messages], tokens_of(lines_of(path))) if os.path.exists(path) else None
+    def read() -> Kept | None:
+        return (list(packets_of(lines_of(path), step.origin, step.after)), tokens_of(lines_of(path))) if os.path.exists(path) else None
     return await asyncio.to_thread(read)
 
 
@@ -72,8 +69,8 @@ class LinkOverFiles(FileLink, Carrying):
         await asyncio.gather(*(done(steps, self.do) for site in sites for steps in (self.compare(site), self.read(site))))
 
     async def do(self, step: tuple[Any, ...]) -> Any:
-        if isinstance(step, (KeptOf, KeptHere)):
-            return await kept_of(self.shop.sites, step)
+        if isinstance(step, KeptOf):
+            return await kept_of(self.shop.folder, step)
         match step:
             case SayWant(site, known):
                 self.shop.hear_want(site, known)

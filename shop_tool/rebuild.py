@@ -14,11 +14,12 @@ from typing import Any
 
 from . import program, settings
 from .carrier.answers import AnswerReader
-from .carrier.ledger import packets_of, sends_of, tokens_of
+from .carrier.ledger import sends_of
 from .carrier.rebuilding import UNCHANGED, Given, Rebuild, adopted
-from .carrier.steps import CallAll, KeptHere, Replay, Result, SeenHere, SentHere, Steps, Swap, TakePlace
+from .carrier.steps import CallAll, KeptOf, Replay, Result, SeenHere, SentHere, Steps, Swap, TakePlace
 from .ends import Fault, Status
 from .folders import synced
+from .link import kept_of
 from .lives import Seen, lives_of, take_place
 from .signals import done
 from .site import FENCED, keep_command, lines_of
@@ -66,14 +67,11 @@ class Stopped:
             raise Fault(Status.AWAY, f"{self.now.shown_over}: {reason_of(fault)}; {UNCHANGED}") from fault
 
     async def do(self, step: tuple[Any, ...]) -> Any:
+        if isinstance(step, KeptOf):
+            return await kept_of(self.folder, step)
         match step:
             case SentHere(site):
                 return sends_of(lines_of(f"{self.folder}/{site}/out"))
-            case KeptHere(keeper, origin, after):
-                kept = f"{self.folder}/{keeper}/kept"
-                if not os.path.exists(kept):
-                    return None
-                return [text for _, text in packets_of(lines_of(kept), origin, after)], tokens_of(lines_of(kept))
             case SeenHere(site):
                 return Seen(self.folder)[site]
             case CallAll(request, sites, seconds):

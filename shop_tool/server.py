@@ -11,7 +11,7 @@ from .carrier.answers import Answer
 from .carrier.asking import Ask
 from .carrier.records import Purpose, text_of
 from .carrier.site import Pending
-from .carrier.steps import KeptHere
+from .carrier.steps import KeptOf
 from .carrier.steps import Say as SayAnswer
 from .carrier.told import unanswered
 from .ends import Fault, Status
@@ -210,8 +210,8 @@ class Server:
 
     async def _have(self, site: KeptSite, origin: int, after: int) -> dict[str, Any]:
         """What a site has of another one beyond a number, and all tokens that came to it: for a rebuild of the other."""
-        messages, tokens = await kept_of(self.shop.sites, KeptHere(site.number, origin, after)) or ([], [])
-        return {"messages": [text_of(text) for text in messages], "tokens": [text_of(text) for text in tokens]}
+        messages, tokens = await kept_of(self.shop.folder, KeptOf(site.number, origin, after)) or ([], [])
+        return {"messages": [text_of(text) for _, text in messages], "tokens": [text_of(text) for text in tokens]}
 
     async def _logs(self, request: Request, say: Say) -> dict[str, Any]:
         until = time.monotonic() + seconds_of(request)

@@ -10,7 +10,7 @@ from .carrier.lives import life_text
 from .carrier.over_files import UP
 from .carrier.over_server import ServerLink
 from .carrier.site import Site
-from .carrier.steps import Broken, CallAll, Connect, IsRunning, KeptHere, KeptOf, SayLeave, SayWant, Tell, UpElsewhere
+from .carrier.steps import Broken, CallAll, Connect, IsRunning, KeptOf, SayLeave, SayWant, Tell, UpElsewhere
 from .link import Carrying, kept_of
 from .requests import Request, request_of
 from .signals import done
@@ -128,8 +128,8 @@ class Connection:
         self.server: Streams | None = None
 
     async def do(self, step: tuple[Any, ...]) -> Any:
-        if isinstance(step, (KeptOf, KeptHere)):
-            return await kept_of(self.link.shop.sites, step)
+        if isinstance(step, KeptOf):
+            return await kept_of(self.link.shop.folder, step)
         try:
             if isinstance(step, Connect):
                 await self.close()

@@ -16,7 +16,7 @@ from shop_tool.carrier.rebuilding import UNCHANGED
 from shop_tool.carrier.records import text_of
 from shop_tool.carrier.shop import HAND_OVER_SECONDS, Shop
 from shop_tool.carrier.site import FIRST_WAIT, LAST_WAIT, Disagreement, Site, State
-from shop_tool.carrier.steps import (Append, Broken, CallAll, Connect, Flag, Hear, IsRunning, KeptHere, KeptOf, Read, Replay, Rewrite, Say,
+from shop_tool.carrier.steps import (Append, Broken, CallAll, Connect, Flag, Hear, IsRunning, Kept, KeptOf, Read, Replay, Rewrite, Say,
                                      SayLeave, SayWant, SeeHere, SeenHere, SentHere, Signal, Statuses, Steps, Swap, UpElsewhere, Wait)
 from shop_tool.carrier.told import unanswered
 from shop_tool.ends import Fault, Status
@@ -302,12 +302,12 @@ class Process:
     def named_of(self, site: int) -> str:
         return f"{self.machine.boot} {' '.join(self.identity(site))}"
 
-    def kept_here(self, keeper: int, origin: int, after: int) -> tuple[list[bytes], list[bytes]] | None:
+    def kept_of(self, keeper: int, origin: int, after: int) -> Kept | None:
         """What stands in the file `kept` of a site here."""
         folder = self.machine.folders[keeper]
         if not folder.is_there or "kept" not in folder.files:
             return None
-        return [text for _, text in packets_of(folder.lines("kept"), origin, after)], tokens_of(folder.lines("kept"))
+        return list(packets_of(folder.lines("kept"), origin, after)), tokens_of(folder.lines("kept"))
 
     def reaches(self) -> bool:
         return self.world.server.is_up and not self.machine.is_cut_off
@@ -544,9 +544,7 @@ class Supervisor(Process, Shop):
                     task.hear(record, answer)
                 return task.answer()
             case KeptOf(keeper, origin, after):
-                return task.answer(list(packets_of(self.machine.folders[keeper].lines("kept"), origin, after)))
-            case KeptHere(keeper, origin, after):
-                return task.answer(self.kept_here(keeper, origin, after))
+                return task.answer(self.kept_of(keeper, origin, after))
             case SeenHere(site):
                 return task.answer(self.machine.seen.get(site))
             case SeeHere(site, life):
@@ -602,8 +600,8 @@ class Supervisor(Process, Shop):
             answers += found[:-1]
             return dict(found[-1])
         if request["op"] == "have":
-            messages, tokens = self.kept_here(site.number, request["origin"], request["after"]) or ([], [])
-            return {"messages": [text_of(text) for text in messages], "tokens": [text_of(text) for text in tokens]}
+            messages, tokens = self.kept_of(site.number, request["origin"], request["after"]) or ([], [])
+            return {"messages": [text_of(text) for _, text in messages], "tokens": [text_of(text) for text in tokens]}
         asked = asks_of(request)
         if self.is_leaving:
             raise Fault(Status.AWAY, "the shop is being stopped; nothing was asked")
@@ -642,6 +640,7 @@ class Supervisor(Process, Shop):
         return {(site.number, site.starts) for other in self.world.supervisors() if other.machine.name != self.machine.name
                 for site in other.sites.values()
                 if other.reaches() and isinstance(other.link, SimulatedServerLink) and not other.link.down and not other.is_leaving
+                and other.paused_until + 3 < self.clock.now
                 and site.up.is_set and site.compared.is_set and not site.fenced_by}
 
     def _leave(self) -> Steps[None]:
@@ -711,8 +710,8 @@ class Command(Process):
         match step:
             case SentHere(site):
                 return task.answer(sends_of(folders[site].lines("out")))
-            case KeptHere(keeper, origin, after):
-                return task.answer(self.kept_here(keeper, origin, after))
+            case KeptOf(keeper, origin, after):
+                return task.answer(self.kept_of(keeper, origin, after))
             case SeenHere(site):
                 return task.answer(self.machine.seen.get(site))
             case Replay(site, records):

@@ -6,7 +6,7 @@ from .lives import Standing, life_text, standing, why_other
 from .opening import must_compare_all, strange_packet
 from .shop import Link, Shop
 from .site import Site
-from .steps import KeptOf, SeeHere, SeenHere, Steps, Wait
+from .steps import Kept, KeptOf, SeeHere, SeenHere, Steps, Wait
 
 BATCH = 256         # packets that are carried at once
 FULL_WAIT = 5.0     # seconds until a site that refused a message as Full is given it again
@@ -52,8 +52,8 @@ class FileLink(Link):
 
     @staticmethod
     def _strange(site: Site, other: Site) -> Steps[Place | None]:
-        messages = yield KeptOf(other.number, site.number, 0)
-        return strange_packet((((number, 0), text) for number, text in messages), site.ledger.sends.at)
+        kept: Kept | None = yield KeptOf(other.number, site.number, 0)
+        return strange_packet((((number, 0), text) for number, text in kept[0]), site.ledger.sends.at) if kept else None
 
     def read(self, site: Site) -> Steps[None]:
         """Gives a site what the others send. What it has is its position."""

@@ -118,7 +118,7 @@ class ServerLink(Link):
         if state.last != state.greatest:
             return                  # entries were deleted by hand; only the site itself can mend that
         packets: list[tuple[Place, bytes]] = []
-        for number, text in (yield KeptOf(site.number, origin, state.last[0])):
+        for number, text in ((yield KeptOf(site.number, origin, state.last[0])) or ([], []))[0]:
             if number == state.last[0] + len(packets) + 1 and len(packets) < BATCH:
                 packets.append(((number, 0), text))
         if packets and (yield Append(origin, state.last, packets)):

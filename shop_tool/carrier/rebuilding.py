@@ -13,7 +13,7 @@ from ..ends import Fault, Status
 from .ledger import NOWHERE
 from .lives import count_of
 from .records import Message, Token, ask_of, bytes_of, packet_of
-from .steps import (Adopt, CallAll, Entries, Kept, KeptHere, Packets, Replay, Rewrite, SeenHere, SentHere, State, Statuses, Steps, StreamState,
+from .steps import (Adopt, CallAll, Entries, Kept, KeptOf, Packets, Replay, Rewrite, SeenHere, SentHere, State, Statuses, Steps, StreamState,
                     Swap, TakePlace, Wait)
 
 STATUS_SECONDS = 3.5    # a status that isn't written again for so long expires
@@ -82,9 +82,9 @@ class Rebuild:
 
     def _add_kept(self, past: "Past", other: int) -> Steps[bool]:
         """Adds what another site of this machine has; False if it has no folder."""
-        kept: Kept | None = yield KeptHere(other, self.site, past.last)
+        kept: Kept | None = yield KeptOf(other, self.site, past.last)
         if kept:
-            past.add(*kept)
+            past.add([text for _, text in kept[0]], kept[1])
         return kept is not None
 
     def _ask_other(self, past: "Past", other: int) -> Steps[bool]:

@@ -9,7 +9,7 @@ from .ledger import Prefix
 from .opening import may_open_unseen, why_behind, why_passed_on
 from .records import Message, Purpose, Token, packet_of, why_not_one_record
 from .site import Pending, Site, State
-from .steps import CallAll, Flag, IsRunning, KeptHere, SayLeave, SayWant, Signal, Steps, UpElsewhere, Wait
+from .steps import CallAll, Flag, IsRunning, KeptOf, SayLeave, SayWant, Signal, Steps, UpElsewhere, Wait
 from .turns import SAY_AGAIN, Wants, taker
 
 HAND_OVER_SECONDS = 2.0     # how long a stop waits until a site elsewhere has taken the token
@@ -151,10 +151,9 @@ class Shop(abc.ABC):
                 yield Wait(other.tried)
                 if other.known.is_set:
                     has[other.number], turns[other.number] = other.ledger.have[site.number].greatest, other.ledger.turn
-                elif kept := (yield KeptHere(other.number, site.number, 0)):        # it can't be started
-                    packets = [packet_of(text) for texts in kept for text in texts]
-                    has[other.number] = max((packet.number for packet in packets if isinstance(packet, Message)), default=0)
-                    turns[other.number] = max((packet.turn for packet in packets if isinstance(packet, Token)), default=0)
+                elif kept := (yield KeptOf(other.number, site.number, 0)):      # it can't be started
+                    has[other.number] = max((number for number, _ in kept[0]), default=0)
+                    turns[other.number] = max((token.turn for text in kept[1] if isinstance(token := packet_of(text), Token)), default=0)
         self.wants.known(max(turns.values(), default=0))
         held = site.ledger.turn if site.ledger.holds_token else None
         return why_behind(site.number, site.ledger.sends.messages, has) or why_passed_on(site.number, held, turns)

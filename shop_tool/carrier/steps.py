@@ -76,156 +76,75 @@ class Wait(NamedTuple):
     seconds: float | None = None
 
 
-class Say(NamedTuple):
-    """An asker is told the answer to a record."""
+# An asker is told the answer to a record.
+Say = NamedTuple("Say", [("record", bytes), ("answer", Any)])
 
-    record: bytes
-    answer: Any
+# A turn of the token is asked for: all supervisors hear it.
+SayWant = NamedTuple("SayWant", [("site", int), ("known", int)])
 
+# All supervisors hear that no site here wants the token any more.
+SayLeave = NamedTuple("SayLeave", [])
 
-class SayWant(NamedTuple):
-    """A turn of the token is asked for: all supervisors hear it."""
+# What the supervisors of some sites elsewhere answer to a request, of those that answer in time.
+CallAll = NamedTuple("CallAll", [("request", dict[str, Any]), ("sites", Sequence[int]), ("seconds", float)])
 
-    site: int
-    known: int
+# Whether a site is up, on whichever machine; None if that isn't known in time.
+IsRunning = NamedTuple("IsRunning", [("site", int), ("seconds", float)])
 
+# The sites that other supervisors say are up.
+UpElsewhere = NamedTuple("UpElsewhere", [])
 
-class SayLeave(NamedTuple):
-    """All supervisors hear that no site here wants the token any more."""
+# The messages of a site above a number that stand in the file `kept` of another one here, each with its number, and all tokens that stand
+# there: a Kept; None if there is no such file.
+KeptOf = NamedTuple("KeptOf", [("keeper", int), ("origin", int), ("after", int)])
 
+Kept = tuple[list[tuple[int, bytes]], list[bytes]]
 
-class CallAll(NamedTuple):
-    """What the supervisors of some sites elsewhere answer to a request, of those that answer in time."""
+# All that stands in the file `out` of a site here, with its places.
+SentHere = NamedTuple("SentHere", [("site", int)])
 
-    request: dict[str, Any]
-    sites: Sequence[int]
-    seconds: float
+# A fresh site beside a folder here is given records, and sends the same packets again.
+Replay = NamedTuple("Replay", [("site", int), ("records", list[Any])])
 
+# Puts that site's folder in the place of the one here, which is kept if it has records, and of every one that was started so many
+# times, or fewer.
+Swap = NamedTuple("Swap", [("site", int), ("starts", int)])
 
-class IsRunning(NamedTuple):
-    """Whether a site is up, on whichever machine; None if that isn't known in time."""
+# Has a site's folder here take the place of every one that was started so many times, or fewer; what it was stopped for is over.
+TakePlace = NamedTuple("TakePlace", [("site", int), ("starts", int)])
 
-    site: int
-    seconds: float
+# Over files: the life of a site that the others saw last.
+SeenHere = NamedTuple("SeenHere", [("site", int)])
 
+# Over files: writes down the life of a site.
+SeeHere = NamedTuple("SeeHere", [("site", int), ("life", str)])
 
-class UpElsewhere(NamedTuple):
-    """The sites that other supervisors say are up."""
+# Makes the connection to the server, anew if there was one.
+Connect = NamedTuple("Connect", [])
 
+# How the stream of a site is: a StreamState.
+State = NamedTuple("State", [("site", int)])
 
-class KeptOf(NamedTuple):
-    """The messages of a site above a number that stand in the file `kept` of another one here, each with its number."""
+# Takes a site for its folder here if nobody has it; who has it else.
+Owner = NamedTuple("Owner", [("site", int)])
 
-    keeper: int
-    origin: int
-    after: int
+# Gives a site to its folder here.
+Adopt = NamedTuple("Adopt", [("site", int)])
 
+# The statuses of all sites that run.
+Statuses = NamedTuple("Statuses", [])
 
-Kept = tuple[list[bytes], list[bytes]]
+# Writes statuses of sites; how many messages each stream has, and its mark.
+Tell = NamedTuple("Tell", [("statuses", dict[int, dict[str, Any]])])
 
+# Writes down the life of a site's folder; False if another one was since `before` was.
+SeeLife = NamedTuple("SeeLife", [("site", int), ("before", str), ("life", str)])
 
-class KeptHere(NamedTuple):
-    """The same messages, and all tokens that stand there; None if there is no such file."""
+# Appends packets behind the entry `last`; False if that isn't the last one.
+Append = NamedTuple("Append", [("site", int), ("last", Place), ("packets", Packets)])
 
-    keeper: int
-    origin: int
-    after: int
-
-
-class SentHere(NamedTuple):
-    """All that stands in the file `out` of a site here, with its places."""
-
-    site: int
-
-
-class Replay(NamedTuple):
-    """A fresh site beside a folder here is given records, and sends the same packets again."""
-
-    site: int
-    records: list[Any]
-
-
-class Swap(NamedTuple):
-    """Puts that site's folder in the place of the one here, which is kept if it has records, and of every one that was started so many
-    times, or fewer."""
-
-    site: int
-    starts: int
-
-
-class TakePlace(NamedTuple):
-    """Has a site's folder here take the place of every one that was started so many times, or fewer; what it was stopped for is over."""
-
-    site: int
-    starts: int
-
-
-class SeenHere(NamedTuple):
-    """Over files: the life of a site that the others saw last."""
-
-    site: int
-
-
-class SeeHere(NamedTuple):
-    """Over files: writes down the life of a site."""
-
-    site: int
-    life: str
-
-
-class Connect(NamedTuple):
-    """Makes the connection to the server, anew if there was one."""
-
-
-class State(NamedTuple):
-    """How the stream of a site is: a StreamState."""
-
-    site: int
-
-
-class Owner(NamedTuple):
-    """Takes a site for its folder here if nobody has it; who has it else."""
-
-    site: int
-
-
-class Adopt(NamedTuple):
-    """Gives a site to its folder here."""
-
-    site: int
-
-
-class Statuses(NamedTuple):
-    """The statuses of all sites that run."""
-
-
-class Tell(NamedTuple):
-    """Writes statuses of sites; how many messages each stream has, and its mark."""
-
-    statuses: dict[int, dict[str, Any]]
-
-
-class SeeLife(NamedTuple):
-    """Writes down the life of a site's folder; False if another one was since `before` was."""
-
-    site: int
-    before: str
-    life: str
-
-
-class Append(NamedTuple):
-    """Appends packets behind the entry `last`; False if that isn't the last one."""
-
-    site: int
-    last: Place
-    packets: Packets
-
-
-class Rewrite(NamedTuple):
-    """Puts a stream with these packets in place of the site's stream, at once."""
-
-    site: int
-    packets: Packets
+# Puts a stream with these packets in place of the site's stream, at once.
+Rewrite = NamedTuple("Rewrite", [("site", int), ("packets", Packets)])
 
 
 class PageOf(NamedTuple):
@@ -244,22 +163,13 @@ class Entries(NamedTuple):
     upto: Place | None = None
 
 
-class Marks(NamedTuple):
-    """The mark of each stream: while it is the same, entries came in at the end only."""
+# The mark of each stream: while it is the same, entries came in at the end only.
+Marks = NamedTuple("Marks", [])
 
+# What sites sent after these places; waits some time if there is nothing.
+Read = NamedTuple("Read", [("after", dict[int, Place]), ("most", int), ("seconds", float)])
 
-class Read(NamedTuple):
-    """What sites sent after these places; waits some time if there is nothing."""
-
-    after: dict[int, Place]
-    most: int
-    seconds: float
-
-
-class Hear(NamedTuple):
-    """What supervisors said after a place in the stream of wants; waits some time if there is nothing."""
-
-    after: bytes
-
+# What supervisors said after a place in the stream of wants; waits some time if there is nothing.
+Hear = NamedTuple("Hear", [("after", bytes)])
 
 Mark = bytes | None
