@@ -6,7 +6,7 @@ import io
 import sys
 from collections.abc import Sequence
 
-from shop_tool.records import line_of
+from shop_tool.carrier.records import line_of
 
 Fields = list[str]
 

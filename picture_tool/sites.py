@@ -6,8 +6,8 @@ import os
 from collections.abc import Iterable
 
 from shop_tool.grid import GridRow, waits_of
-from shop_tool.records import line_of
-from shop_tool.release import Release
+from shop_tool.carrier.records import line_of
+from shop_tool.carrier.release import Release
 from shop_tool.times import changed
 
 from .messages import Fault, Fields, Message, Messages, number_at, records_of

@@ -5,7 +5,7 @@ import os
 import shutil
 import subprocess
 
-from shop_tool.records import line_of
+from shop_tool.carrier.records import line_of
 
 from .logs import listed_logs, logs_of, run_of_logs
 from .messages import Fault, Fields, fields_of, number_at, records_of

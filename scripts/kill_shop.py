@@ -37,7 +37,7 @@ sys.path.insert(0, str(TOP))
 
 from shop_tool import client                                        # noqa: E402
 from shop_tool.ends import Fault                                    # noqa: E402
-from shop_tool.records import Message, ask_of, packet_of            # noqa: E402
+from shop_tool.carrier.records import Message, ask_of, packet_of            # noqa: E402
 
 PORT = 17300 + os.getpid() % 900
 # How often each kind of ask is made.

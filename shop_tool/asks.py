@@ -9,7 +9,7 @@ from typing import Any
 
 from . import client
 from .ends import Fault, Status
-from .records import BYTES_OF_A_RECORD, COLUMNS, REFUSALS, row_of, text_of, why_not_one_record
+from .carrier.records import BYTES_OF_A_RECORD, COLUMNS, REFUSALS, row_of, text_of, why_not_one_record
 from .render import shown
 
 PIECE = 1000        # how many records of standard input are asked by one request

@@ -9,7 +9,7 @@ from . import client, settings
 from .ends import Fault, Status
 from .folders import put
 from .reading import audited, listing
-from .records import Row, line_of
+from .carrier.records import Row, line_of
 
 PIECE = 1000
 SECONDS = 600.0

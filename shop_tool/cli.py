@@ -7,7 +7,7 @@ from collections.abc import Callable
 from typing import NoReturn
 
 from .ends import Fault, Status
-from .records import COLUMNS, LISTINGS
+from .carrier.records import COLUMNS, LISTINGS
 from .render import shown
 
 ABOUT = "Runs the sites of a rubis shop, carries their packets, and is how one asks and watches them."

@@ -9,7 +9,7 @@ from typing import Any
 
 from .ends import Fault, Status
 from .lock import holder_of
-from .told import unanswered
+from .carrier.told import unanswered
 
 CONNECT_SECONDS = 5.0
 MARGIN = 2.0        # seconds beyond its time-out that a request has, since the supervisor knows more of it when that is over

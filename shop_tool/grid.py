@@ -4,7 +4,7 @@ import dataclasses
 from collections.abc import Sequence
 from typing import Any
 
-from .release import Release, Stamped
+from .carrier.release import Release, Stamped
 
 SHOWN = 3       # how many waiting messages a row of the text shows
 

@@ -9,7 +9,7 @@ from typing import IO
 
 from . import client, program
 from .ends import Fault, Status
-from .records import COLUMNS, LISTINGS, NUMBERS, REFUSALS, Purpose, Row, bytes_of, fields_of, row_of, why_not_one_record
+from .carrier.records import COLUMNS, LISTINGS, NUMBERS, REFUSALS, Purpose, Row, bytes_of, fields_of, row_of, why_not_one_record
 from .render import print_fields, print_rows
 
 NULLS = ("best", "winner")      # columns in which `none` says that there is nothing

@@ -3,7 +3,7 @@
 import os
 import sys
 
-from .records import COLUMNS, Row
+from .carrier.records import COLUMNS, Row
 
 GREEN, YELLOW, RED = "32", "33", "31"
 

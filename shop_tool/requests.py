@@ -5,7 +5,7 @@ import re
 from typing import Any, NamedTuple, TypeVar
 
 from .ends import Fault, Status
-from .records import Purpose, bytes_of, text_of, why_not_one_record
+from .carrier.records import Purpose, bytes_of, text_of, why_not_one_record
 
 REQUEST_BYTES = 16 << 20
 RECORDS_OF_A_REQUEST = 10_000

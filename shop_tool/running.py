@@ -12,10 +12,10 @@ from collections.abc import Iterable
 from typing import Any
 
 from . import client, lock, program, settings
-from .answers import AnswerReader, KeptReader
+from .carrier.answers import AnswerReader, KeptReader
 from .ends import Fault, Status
 from .grid import grid_of_status, grid_text
-from .records import text_of
+from .carrier.records import text_of
 from .render import GREEN, RED, YELLOW, coloured, print_columns, shown
 
 STARTED_BY_OPTIONS = ("sites", "here", "over", "sync", "keep", "batch", "shards", "workers")
@@ -205,7 +205,7 @@ def _last_answers(args: argparse.Namespace, stood: int) -> "collections.deque[st
     reader = AnswerReader()
     try:
         with open(f"{folder}/kept", "rb") as kept, open(f"{folder}/out", "rb") as out:
-            records = KeptReader(kept)
+            records = KeptReader(kept.readline)
             while data := out.read(min(1 << 20, stood)):
                 stood -= len(data)
                 for answer in reader.feed(data):

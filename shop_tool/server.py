@@ -7,15 +7,19 @@ import time
 from collections.abc import Awaitable, Callable
 from typing import Any
 
-from .answers import Answer
-from .asking import Ask
+from .carrier.answers import Answer
+from .carrier.asking import Ask
+from .carrier.records import Purpose, text_of
+from .carrier.site import Pending
+from .carrier.steps import KeptOf
+from .carrier.steps import Say as SayAnswer
+from .carrier.told import unanswered
 from .ends import Fault, Status
-from .ledger import packets_of, tokens_of
-from .records import Purpose, text_of
+from .link import kept_of
 from .requests import REQUEST_BYTES, Request, asks_of, field, listing_of, message_of, no_request, request_of, seconds_of, site_of
-from .site import Pending, Site
+from .signals import done, waited
+from .site import KeptSite
 from .supervisor import Supervisor
-from .told import unanswered
 
 CONNECTIONS = 500
 READER_SECONDS = 60.0       # a client that takes in nothing for so long is cut off
@@ -99,7 +103,7 @@ class Server:
             return await say(end_of(fault))
         await self.serve(request, say)
 
-    async def serve(self, request: Request, say: Say, called: Site | None = None) -> None:
+    async def serve(self, request: Request, say: Say, called: KeptSite | None = None) -> None:
         """Answers one request, of a client, or of another supervisor that calls a site here; the last answer has `end`."""
         try:
             if called and request.get("op") != "status":
@@ -124,7 +128,7 @@ class Server:
                 return {"well": well, "shop": shop}
             case "stop":
                 self.shop.stop("asked to stop")
-                await self.shop.stopping.wait()
+                await waited(self.shop.stopping)
                 if self.shop.stays:
                     await say({"said": self.shop.stays})
                 await asyncio.Event().wait()        # the connection ends with the supervisor
@@ -139,7 +143,7 @@ class Server:
             return await self._elsewhere(request, number, say)
         return await self._answer_of(self.shop.sites[number], request, say)
 
-    async def _answer_of(self, site: Site, request: Request, say: Say) -> dict[str, Any] | None:
+    async def _answer_of(self, site: KeptSite, request: Request, say: Say) -> dict[str, Any] | None:
         """The answer of a site here."""
         seconds = seconds_of(request)
         match request.get("op"):
@@ -170,53 +174,44 @@ class Server:
             await say(answer)
         return answers[-1]
 
-    async def _ask(self, site: Site, request: Request, seconds: float, say: Say) -> None:
+    async def _ask(self, site: KeptSite, request: Request, seconds: float, say: Say) -> None:
         asked = asks_of(request)
         if self.shop.is_leaving:
             raise Fault(Status.AWAY, "the shop is being stopped; nothing was asked")
 
-        async def say_answer(record: bytes, answer: Answer) -> None:
-            await say({"record": text_of(record), "lines": [text_of(line) for line in answer.lines]})
+        async def do(step: tuple[Any, ...]) -> Any:
+            if not isinstance(step, SayAnswer):
+                return await self.shop.link.do(step)
+            return await say({"record": text_of(step.record), "lines": [text_of(line) for line in step.answer.lines]})
 
-        ask = Ask(site, seconds, asked.fetches_token, say_answer)
-        await ask.run(asked.records)
+        ask = Ask(site, seconds, asked.fetches_token)
+        await done(ask.run(asked.records), do)
         if asked.published:
-            await self._published(site, seconds, ask.until)
+            await done(ask.published(), do)
 
-    async def _published(self, site: Site, seconds: float, until: float) -> None:
-        """Returns once all that the site has sent is where the others find it, so that the loss of this disk doesn't take it back."""
-        count = len(site.ledger.sends)
-        while self.shop.link.published(site) < count:
-            try:
-                await self.shop.progress.wait(max(until - time.monotonic(), 0.001))
-            except TimeoutError:
-                raise Fault(Status.AWAY, f"site {site.number}: accepted here, and not published within {seconds:g} s") from None
-
-    async def _listings(self, site: Site, records: list[bytes], seconds: float) -> list[Answer]:
+    async def _listings(self, site: KeptSite, records: list[bytes], seconds: float) -> list[Answer]:
         """The answers to listings that are taken at one moment."""
         pending: list[Pending] = []
         try:
             async with asyncio.timeout(seconds), self.listings:
                 pending = site.give(records, Purpose.LISTING)
-                await asyncio.wait([pending[-1].done])
-                return [each.done.result() for each in pending]
+                await waited(pending[-1].done)
+                return [each.result() for each in pending]
         except TimeoutError:
             raise Fault(Status.AWAY, f"site {site.number} is {site.state}, and gave no answer within {round(seconds, 2):g} s") from None
         finally:
             site.leave(pending)
 
-    async def _log(self, site: Site, seconds: float) -> str:
+    async def _log(self, site: KeptSite, seconds: float) -> str:
         """A site's log and tables of one moment, as records for an audit."""
         log, tables = await self._listings(site, AUDITED, seconds)
         lines = [b"site,%d" % site.number, *(line.split(b",", 3)[3] for line in log.lines[1:]), *tables.lines[1:]]
         return text_of(b"\n".join(lines) + b"\n")
 
-    async def _have(self, site: Site, origin: int, after: int) -> dict[str, Any]:
+    async def _have(self, site: KeptSite, origin: int, after: int) -> dict[str, Any]:
         """What a site has of another one beyond a number, and all tokens that came to it: for a rebuild of the other."""
-        kept = f"{site.folder}/kept"
-        messages = await asyncio.to_thread(lambda: [text for _, text in packets_of(kept, origin, after)])
-        tokens = await asyncio.to_thread(tokens_of, kept)
-        return {"messages": [text_of(text) for text in messages], "tokens": [text_of(text) for text in tokens]}
+        messages, tokens = await kept_of(self.shop.folder, KeptOf(site.number, origin, after)) or ([], [])
+        return {"messages": [text_of(text) for _, text in messages], "tokens": [text_of(text) for text in tokens]}
 
     async def _logs(self, request: Request, say: Say) -> dict[str, Any]:
         until = time.monotonic() + seconds_of(request)
@@ -237,22 +232,20 @@ class Server:
         text = await self.shop.link.message(*name) if name else None
         return {"message": text_of(text) if text else None}
 
-    async def _wait(self, site: Site, seconds: float) -> None:
+    async def _wait(self, site: KeptSite, seconds: float) -> None:
         """Returns once the site is up and has all that the others sent."""
         until = time.monotonic() + seconds
         try:
-            await asyncio.wait_for(self.shop.link.look(), seconds)
+            await asyncio.wait_for(self.shop.link.refresh(), seconds)
         except TimeoutError:
             pass        # the server hangs, and the state of the link says so
-        while not site.up.is_set() or self.shop.link.state != "up" or any(self.shop.behind(site).values()):
+        while not site.up.is_set or self.shop.link.state != "up" or any(self.shop.behind(site).values()):
             if site.fenced_by:
                 raise site.gone()
-            try:
-                await self.shop.progress.wait(max(until - time.monotonic(), 0.001))
-            except TimeoutError:
+            if not await waited(self.shop.progress, max(until - time.monotonic(), 0.001)):
                 lacks = ", ".join(f"{count} of site {origin}" for origin, count in self.shop.behind(site).items() if count)
                 lacks = f", and lacks messages: {lacks}" if lacks else ""
-                raise Fault(Status.AWAY, f"site {site.number} is {site.state}{lacks}") from None
+                raise Fault(Status.AWAY, f"site {site.number} is {site.state}{lacks}")
 
     async def _follow(self, request: Request, say: Say) -> dict[str, Any]:
         """Says how many bytes of the file of events, or of a site's answers, stand there, and then each line that comes behind them."""
@@ -271,12 +264,12 @@ class Server:
             self.shop.unfollow(site, follower)
         raise Fault(Status.AWAY, "the reader was too slow")
 
-    async def _until_known(self, site: Site) -> None:
+    async def _until_known(self, site: KeptSite) -> None:
         """Returns once it has been read what the site kept before."""
-        while not site.known.is_set():
-            if site.fenced_by or self.shop.stopping.is_set():
+        while not site.known.is_set:
+            if site.fenced_by or self.shop.stopping.is_set:
                 raise Fault(Status.AWAY, f"site {site.number}: {site.fenced_by or 'the shop is being stopped'}")
-            await self.shop.changes.wait()
+            await waited(self.shop.changes)
 
 
 def end_of(fault: Fault | None) -> dict[str, Any]:

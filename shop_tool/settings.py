@@ -8,7 +8,7 @@ from typing import Any
 
 from .ends import Fault, Status
 from .program import refuses as program_refuses
-from .records import MESSAGES_OF_A_SITE, SITES_OF_A_SHOP
+from .carrier.records import MESSAGES_OF_A_SITE, SITES_OF_A_SHOP
 
 FILES = "files"
 

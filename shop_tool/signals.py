@@ -1,34 +1,53 @@
-"""Waiting for what happens next, without polling, and no longer than is said."""
+"""Does the steps of the carrier's machines, and waits for what happens next, without polling and no longer than is said."""
 
 import asyncio
-from collections.abc import Coroutine
+import contextlib
+from collections.abc import Awaitable, Callable, Coroutine
 from typing import Any
 
+from .carrier.steps import Result, Signal, Steps, Wait
 
-class Signal:
-    """Wakes all who wait for it, each time it is told."""
+Do = Callable[[tuple[Any, ...]], Awaitable[Any]]
 
-    def __init__(self) -> None:
-        self._waiters: set[asyncio.Future[None]] = set()
 
-    @property
-    def is_awaited(self) -> bool:
-        return bool(self._waiters)
+async def done(steps: Steps[Result], do: Do) -> Result:
+    """Has these steps done one behind the other; what they come to. One that fails is told so."""
+    said: Any = None
+    fault: Exception | None = None
+    with contextlib.closing(steps):
+        while True:
+            try:
+                step = steps.throw(fault) if fault else steps.send(said)
+            except StopIteration as end:
+                result: Result = end.value
+                return result
+            said = fault = None
+            try:
+                said = await (waited(*step) if isinstance(step, Wait) else do(step))
+            except Exception as raised:
+                fault = raised
 
-    def tell(self) -> None:
-        waiters, self._waiters = self._waiters, set()
-        for waiter in waiters:
-            if not waiter.done():
-                waiter.set_result(None)
 
-    async def wait(self, seconds: float | None = None) -> None:
-        """Returns the next time it is told; TimeoutError if that takes longer."""
-        waiter = asyncio.get_running_loop().create_future()
-        self._waiters.add(waiter)
-        try:
-            await asyncio.wait_for(waiter, seconds)
-        finally:
-            self._waiters.discard(waiter)
+async def waited(signal: Signal | None, seconds: float | None = None) -> bool:
+    """Returns the next time that the signal is told; False if that takes longer."""
+    if signal and signal.is_set:
+        return True
+    loop = asyncio.get_running_loop()
+    waiter: asyncio.Future[bool] = loop.create_future()
+
+    def end(is_told: bool = True) -> None:
+        if not waiter.done():
+            waiter.set_result(is_told)
+    if signal:
+        signal.add(end)
+    timer = None if seconds is None else loop.call_later(seconds, end, False)
+    try:
+        return await waiter
+    finally:
+        if signal:
+            signal.discard(end)
+        if timer:
+            timer.cancel()
 
 
 async def is_over_within(seconds: float, work: Coroutine[Any, Any, None]) -> bool:

@@ -12,7 +12,6 @@
 """
 
 import asyncio
-import hashlib
 import json
 import os
 import socket
@@ -20,15 +19,17 @@ import ssl
 import time
 import zlib
 from collections.abc import Iterable
-from typing import Any, NamedTuple
+from typing import Any
 
+from .carrier.ledger import NOWHERE, Place
+from .carrier.over_server import WANTS
+from .carrier.rebuilding import STATUS_SECONDS
+from .carrier.steps import (Adopt, Append, Entries, Hear, Mark, Marks, Owner, Packets, Page, PageOf, Read, Rewrite, SeeLife, State, Statuses,
+                            StreamState, Tell)
 from .folders import boot, identity
-from .ledger import NOWHERE, Place
 from .settings import Settings
 
-STATUS_SECONDS = 3.5        # a status that isn't written again for so long expires
 ANSWER_SECONDS = 60
-WANTS = 1000                # how many entries the stream of wants keeps, about
 PAGE = 5000
 
 # Appends packets, if the last entry is the one that the caller knows; else returns the last id. A stream that it begins gets a mark.
@@ -69,25 +70,6 @@ return 1
 """
 
 
-class StreamState(NamedTuple):
-    """A stream that was only appended to has as many entries as were sent up to its last one, which is its greatest."""
-
-    entries: int
-    last: Place
-    packet: bytes
-    greatest: Place
-    life: str
-
-
-class Page(NamedTuple):
-    """Some entries of a stream, one behind the other."""
-
-    entries: int
-    last: Place
-    hash: bytes
-    tokens: list[bytes]
-
-
 def id_of(place: Place) -> bytes:
     return b"%d-%d" % place
 
@@ -120,10 +102,10 @@ def tls_options(url: str) -> dict[str, Any]:
 class Streams:
     """One connection to the server of a shop."""
 
-    def __init__(self, settings: Settings) -> None:
+    def __init__(self, settings: Settings, folder: str) -> None:
         import redis.asyncio        # type: ignore[import]
         url, self.name = settings.server
-        self.sites = settings.sites
+        self.sites, self.folder = settings.sites, folder
         self.redis: Any = redis.asyncio.Redis.from_url(
             url, socket_timeout=10, socket_connect_timeout=3, socket_keepalive=True, **tls_options(url))
         self._mark_keys = [self.key(f"mark:{site}") for site in range(self.sites)]
@@ -136,8 +118,15 @@ class Streams:
         return self
 
     async def __aexit__(self, *_: object) -> None:
+        await self.close()
+
+    async def close(self) -> None:
         await self.redis.close()
         await self.redis.connection_pool.disconnect()
+
+    async def do(self, step: tuple[Any, ...]) -> Any:
+        """Does a step of a machine."""
+        return await getattr(self, STEPS[type(step)])(*step)
 
     def key(self, what: object) -> str:
         return f"{self.name}:{what}"
@@ -149,16 +138,13 @@ class Streams:
         return StreamState(entries, place_of(last), packet, place_of(greatest), life.decode("utf-8", "replace"))
 
     async def see_life(self, site: int, before: str, life: str) -> bool:
-        """Writes down the life of a site's folder; False if another one was since `before` was."""
         return bool(await self._change(keys=[self.key(f"life:{site}")], args=[before, life]))
 
-    async def append(self, site: int, last: Place, packets: list[tuple[Place, bytes]]) -> bool:
-        """Appends packets behind the entry `last`; False if that isn't the last one."""
+    async def append(self, site: int, last: Place, packets: Packets) -> bool:
         words = [id_of(last), new_mark()] + [word for place, text in packets for word in (id_of(place), text)]
         return bool(await self._append(keys=[self.key(site), self.key(f"mark:{site}")], args=words) == b"ok")
 
-    async def rewrite(self, site: int, packets: Iterable[tuple[Place, bytes]]) -> None:
-        """Puts a stream with these packets in place of the site's stream, at once."""
+    async def rewrite(self, site: int, packets: Packets) -> None:
         new = self.key(f"{site}:new")
         await self.redis.delete(new)
         pipe, count = self.redis.pipeline(transaction=False), 0
@@ -174,42 +160,30 @@ class Streams:
             step.set(self.key(f"mark:{site}"), new_mark())
             await step.execute()
 
-    async def marks(self) -> list[bytes | None]:
-        """The mark of each stream: while it is the same, entries came in at the end only."""
-        found: list[bytes | None] = await self.redis.mget(self._mark_keys)
+    async def marks(self) -> list[Mark]:
+        found: list[Mark] = await self.redis.mget(self._mark_keys)
         return found
 
     async def page(self, site: int, after: Place, upto: Place | None = None) -> Page:
-        """The next entries after a place, up to another one or the end."""
         last = id_of(upto) if upto else b"+"
         entries, name, digest, tokens = await self._page(keys=[self.key(site)], args=[b"(" + id_of(after), last, PAGE])
         return Page(entries, place_of(name), digest, tokens)
 
-    async def tokens(self, site: int, upto: Place) -> list[bytes]:
-        """The tokens that stand in a stream up to a place."""
-        tokens: list[bytes] = []
-        after = NOWHERE
-        while after < upto and (page := await self.page(site, after, upto)).entries:
-            tokens += page.tokens
-            after = page.last
-        return tokens
-
-    async def read(self, after: dict[int, Place], count: int, block: int) -> dict[int, list[tuple[Place, bytes]]]:
-        """What sites sent after these places; waits up to that many milliseconds if there is nothing."""
-        found = await self.redis.xread({self.key(site): id_of(place) for site, place in after.items()}, count=count, block=block)
+    async def read(self, after: dict[int, Place], count: int, seconds: float) -> dict[int, Packets]:
+        places = {self.key(site): id_of(place) for site, place in after.items()}
+        found = await self.redis.xread(places, count=count, block=int(1000 * seconds))
         made = {}
         for key, entries in found:
             made[int(key.rsplit(b":", 1)[1])] = [(place_of(name), fields.get(b"p", b"")) for name, fields in entries]
         return made
 
-    async def read_all(self, site: int) -> list[tuple[Place, bytes]]:
-        packets: list[tuple[Place, bytes]] = []
+    async def read_all(self, site: int) -> Packets:
+        packets: Packets = []
         while page := await self.entries(site, packets[-1][0] if packets else NOWHERE):
             packets += page
         return packets
 
-    async def entries(self, site: int, after: Place, upto: Place | None = None) -> list[tuple[Place, bytes]]:
-        """The next entries after a place, up to another one or the end, as many as a page has."""
+    async def entries(self, site: int, after: Place, upto: Place | None = None) -> Packets:
         found = await self.redis.xrange(self.key(site), b"(" + id_of(after), id_of(upto) if upto else b"+", count=PAGE)
         return [(place_of(name), fields.get(b"p", b"")) for name, fields in found]
 
@@ -220,24 +194,26 @@ class Streams:
 
     # Owners and statuses.
 
-    async def owner(self, site: int, folder: str) -> str | None:
-        """Takes a site for this folder if nobody has it; who has it else."""
-        if await self.redis.set(self.key(f"owner:{site}"), owner_text(folder), nx=True):
+    async def owner(self, site: int) -> str | None:
+        if await self.redis.set(self.key(f"owner:{site}"), owner_text(self._folder(site)), nx=True):
             return None
         owner = (await self.redis.get(self.key(f"owner:{site}")) or b"").decode("utf-8", "replace")
-        return None if owner.split(" ", 1)[0] == identity(folder) else owner.split(" ", 1)[-1]
+        return None if owner.split(" ", 1)[0] == identity(self._folder(site)) else owner.split(" ", 1)[-1]
 
-    async def adopt(self, site: int, folder: str) -> None:
-        await self.redis.set(self.key(f"owner:{site}"), owner_text(folder))
+    async def adopt(self, site: int) -> None:
+        await self.redis.set(self.key(f"owner:{site}"), owner_text(self._folder(site)))
 
-    async def tell(self, statuses: dict[int, dict[str, Any]]) -> tuple[list[int], list[bytes | None]]:
-        """Writes statuses of sites; how many messages each stream has, and its mark."""
+    def _folder(self, site: int) -> str:
+        return f"{self.folder}/{site}"
+
+    async def tell(self, statuses: dict[int, dict[str, Any]]) -> tuple[list[int], list[Mark]]:
         pipe = self.redis.pipeline(transaction=False)
         for site in range(self.sites):
             pipe.xrevrange(self.key(site), count=1)
         pipe.mget(self._mark_keys)
         for site, status in statuses.items():
-            pipe.set(self.key(f"status:{site}"), json.dumps(status), px=int(1000 * STATUS_SECONDS))
+            said = status | {"told": time.time_ns(), "by": run_by(self._folder(site))}
+            pipe.set(self.key(f"status:{site}"), json.dumps(said), px=int(1000 * STATUS_SECONDS))
         found = await pipe.execute()
         return [place_of(last[0][0])[0] if last else 0 for last in found[:self.sites]], found[self.sites]
 
@@ -247,7 +223,6 @@ class Streams:
             await self.redis.delete(self.key(f"status:{site}"))
 
     async def statuses(self) -> dict[int, dict[str, Any]]:
-        """The statuses of all sites that run."""
         found = await self.redis.mget([self.key(f"status:{site}") for site in range(self.sites)])
         return {site: json.loads(text) for site, text in enumerate(found) if text}
 
@@ -284,9 +259,8 @@ class Streams:
         await pipe.execute()
 
 
-def hash_of(packets: list[tuple[Place, bytes]]) -> bytes:
-    """The hash of a page that has these entries."""
-    return hashlib.sha1(b"".join(b"%b %b\n" % (id_of(place), text) for place, text in packets)).hexdigest().encode()
+STEPS = {State: "state", Owner: "owner", Adopt: "adopt", Statuses: "statuses", Tell: "tell", SeeLife: "see_life", Append: "append",
+         Rewrite: "rewrite", PageOf: "page", Entries: "entries", Marks: "marks", Read: "read", Hear: "hear"}
 
 
 def new_mark() -> bytes:

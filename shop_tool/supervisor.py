@@ -5,27 +5,26 @@ import os
 import signal
 import socket
 import time
-from collections.abc import Coroutine
+from collections.abc import Callable, Coroutine
 from typing import TYPE_CHECKING, Any
 
+from .carrier.records import RECORDS_OF_A_RUN, text_of
+from .carrier.shop import HAND_OVER_SECONDS, Shop
+from .carrier.site import Site, State
+from .carrier.steps import Steps
 from .ends import Fault, Status
 from .grid import waits_of
-from .ledger import Prefix
 from .lives import begin_life, lives_of
 from .lock import take_lock
-from .opening import may_open_at_once
-from .passing import HAND_OVER_SECONDS, Passing
-from .records import RECORDS_OF_A_RUN, Message, Purpose, Token, packet_of, text_of, why_not_one_record
 from .render import shown
 from .settings import FILES, Settings, write
-from .signals import Signal, is_over_within
-from .site import Site, State
+from .signals import done, is_over_within, waited
+from .site import FENCED, KeptSite, lines_of
 from .times import changed, stamp
-from .turns import Wants
 from .witness import Witness, has_all, witnessed
 
 if TYPE_CHECKING:
-    from .link import Link
+    from .link import Carrying
 
 EVENTS_BYTES = 16 << 20     # a start puts the events aside when there are more
 FOLLOWED_LINES = 10_000     # how many lines a follower may be behind before it is cut off
@@ -50,29 +49,40 @@ class Follower:
             self.is_cut = True
 
 
-class Supervisor(Passing):
+class Supervisor(Shop):
+    sites: dict[int, KeptSite]
+    link: "Carrying"
+
     def __init__(self, folder: str, settings: Settings, program: str, is_alone: bool) -> None:
-        self.folder, self.settings, self.program, self.is_alone = os.path.realpath(folder), settings, program, is_alone
+        super().__init__(settings.sites, is_alone)
+        self.folder, self.settings, self.program = os.path.realpath(folder), settings, program
         self.since = stamp()
-        self.stopping = asyncio.Event()
-        self.news = Signal()                        # a site has sent something, or came up
-        self.progress = Signal()                    # that, or a site took something in, or something was published
-        self.changes = Signal()                     # a site has another state
-        self.wants = Wants()
         self.tasks: set[asyncio.Task[None]] = set()
         self.followers: dict[int | None, set[Follower]] = {}
         self.events = self._open_events()
-        self.sites = {number: Site(self, number) for number in settings.here}
+        self.sites = {number: KeptSite(self, number) for number in settings.here}
         self.link = self._new_link()
         from .server import Server
         self.server = Server(self)
 
-    def _new_link(self) -> "Link":
-        from .link import FileLink
+    def _new_link(self) -> "Carrying":
         if self.settings.over == FILES:
-            return FileLink(self)
+            from .link import LinkOverFiles
+            return LinkOverFiles(self)
         from .stream_link import StreamLink
         return StreamLink(self)
+
+    now = staticmethod(time.monotonic)
+    stamp = staticmethod(stamp)
+
+    def later(self, seconds: float, call: Callable[[], None]) -> None:
+        asyncio.get_running_loop().call_later(seconds, call)
+
+    def begin(self, steps: Steps[None]) -> None:
+        self.task(done(steps, self.link.do), is_needed=False)
+
+    def witness_of(self, site: Site, answered: int) -> Callable[[int], None]:
+        return Witness(self.sites[site.number].folder, site.lives, answered).tell
 
     # Events, and who follows them.
 
@@ -91,7 +101,7 @@ class Supervisor(Passing):
         for follower in self.followers.get(None, ()):
             follower.tell(line)
 
-    def follow(self, site: Site | None) -> tuple[Follower, int]:
+    def follow(self, site: KeptSite | None) -> tuple[Follower, int]:
         """Somebody who is told each event, or each record and answer of a site, from now on; and how many bytes of the file `events`, or
         of the site's file `out`, have those of before. What the site was given and hasn't answered comes first."""
         follower = Follower()
@@ -102,7 +112,7 @@ class Supervisor(Passing):
             follower.tell(f"{stamp()} < {text_of(record)}")
         return follower, site.ledger.out_bytes
 
-    def unfollow(self, site: Site | None, follower: Follower) -> None:
+    def unfollow(self, site: KeptSite | None, follower: Follower) -> None:
         number = site.number if site else None
         self.followers[number].discard(follower)
         if not self.followers[number]:
@@ -116,77 +126,17 @@ class Supervisor(Passing):
             for line in lines:
                 follower.tell(f"{stamp()} {text_of(line)}")
 
-    # Packets.
-
-    def _begin(self, site: Site) -> None:
-        """Begins the next life of a site's folder, before its keeper is started."""
-        before, kept = lives_of(site.folder), f"{site.folder}/kept"
-        answered = witnessed(before)
-        try:
-            site.lives = begin_life(site.folder)
-        except OSError as fault:
-            return site.fence(f"{site.folder}/life: {fault.strerror}")
-        if may_open_at_once(self.is_alone, has_all(kept, answered)):
-            site.witness = Witness(site.folder, site.lives, answered or 0)
-            site.opened.set()
-
-    def open(self, site: Site) -> None:
-        """The site has been compared with what the others have of it: it takes asks and packets."""
-        if not site.opened.is_set():
-            site.witness = Witness(site.folder, site.lives, site.ledger.kept_bytes)
-            site.opened.set()
-        if not site.compared.is_set():
-            site.compared.set()
-            self.changes.tell()
-            self.news.tell()
-        self.progress.tell()
-        self.pass_on(site)
-
-    async def feed(self, site: Site, packets: list[bytes]) -> bool:
-        """Gives a site packets of others, but for those that it has; returns once they are answered, False if it is full."""
-        new = [packet for packet in packets if self._is_new(site, packet)]
-        is_full = False
-        for pending in site.give(new, Purpose.PACKET) if new else []:
-            refusal = (await pending.done).refusal
-            if refusal:
-                is_full = is_full or refusal == "Full"
-                site.note_fault(f"{pending.record[:80].decode('utf-8', 'replace')}: {refusal}")
-        self.pass_on(site)
-        return not is_full
-
-    def _is_new(self, site: Site, text: bytes) -> bool:
-        if why := why_not_one_record(text, Purpose.PACKET):
-            site.note_fault(f"{text[:80]!r} isn't given to it: {why}")
-            return False
-        match packet_of(text):
-            case Message(origin=origin, number=number):
-                return origin != site.number and number > site.ledger.have[origin].upto
-            case Token(turn=turn, to=to):
-                self.wants.passed(turn, to)
-                return to == site.number and turn > site.ledger.turn
-        return False
-
     # How it is.
 
-    def behind(self, site: Site) -> dict[int, int]:
-        """How many messages of each other site it hasn't, of those that were sent."""
-        def lack(origin: int, have: Prefix) -> int:
-            return max(0, self.link.sent(origin) - have.upto)
-        return {origin: lack(origin, have) for origin, have in enumerate(site.ledger.have) if origin != site.number}
-
     def status_of(self, site: Site) -> dict[str, Any]:
-        ledger = site.ledger
-        return {
-            "site": site.number, "state": site.state, "since": site.since, "records": ledger.records,
-            "records_left": RECORDS_OF_A_RUN - ledger.records, "messages": ledger.messages, "own": ledger.sends.messages,
-            "has": {str(origin): have.upto for origin, have in enumerate(ledger.have) if origin != site.number},
+        ledger, kept = site.ledger, self.sites[site.number]
+        return super().status_of(site) | {
+            "since": kept.since, "records": ledger.records, "records_left": RECORDS_OF_A_RUN - ledger.records, "messages": ledger.messages,
             "behind": {str(origin): count for origin, count in self.behind(site).items()},
             "released": list(ledger.release.counts), "held": len(ledger.release.waiting),
-            "waits": [waits.record for waits in waits_of(ledger.release, SHOWN_WAITS)], "answered": changed(f"{site.folder}/out"),
-            "sent": len(ledger.sends), "published": self.link.published(site), "holds_token": ledger.holds_token and site.known.is_set(),
-            "turn": ledger.turn,
-            "waiting": len(site.line) + site.token_askers, "starts": site.starts,
-            "pid": site.process.pid if site.process and site.process.returncode is None else None,
+            "waits": [waits.record for waits in waits_of(ledger.release, SHOWN_WAITS)], "answered": changed(f"{kept.folder}/out"),
+            "sent": len(ledger.sends), "published": self.link.published(site), "waiting": len(site.line) + site.token_askers,
+            "starts": site.starts, "pid": kept.process.pid if kept.process and kept.process.returncode is None else None,
             "fault": " ".join(site.fault) if site.fault else None,
         }
 
@@ -209,13 +159,6 @@ class Supervisor(Passing):
 
     # Its life.
 
-    async def pause(self, seconds: float) -> None:
-        """Waits, but not beyond a stop."""
-        try:
-            await asyncio.wait_for(self.stopping.wait(), seconds)
-        except TimeoutError:
-            pass
-
     def stop(self, why: str) -> None:
         if not self.is_leaving:
             self.event(f"supervisor: {why}")
@@ -226,7 +169,7 @@ class Supervisor(Passing):
         """Hands the token over, if there is somebody elsewhere, and stops the sites once what they were given is answered."""
         try:
             if len(self.sites) < self.settings.sites:
-                await is_over_within(HAND_OVER_SECONDS, self.hand_over())
+                await is_over_within(HAND_OVER_SECONDS, done(self.hand_over(), self.link.do))
         except Fault:
             pass        # the site has ended, or had its last turn
         finally:
@@ -235,6 +178,18 @@ class Supervisor(Passing):
             self.stopping.set()
             for site in self.sites.values():
                 site.stop()
+
+    def _begin(self, site: KeptSite) -> None:
+        """Begins the next life of a site's folder, before its keeper is started."""
+        before, kept = lives_of(site.folder), f"{site.folder}/kept"
+        answered = witnessed(site.folder, before)
+        try:
+            site.lives = begin_life(site.folder)
+        except OSError as fault:
+            return site.fence(f"{site.folder}/life: {fault.strerror}")
+        if why := next(lines_of(f"{site.folder}/{FENCED}"), b""):
+            site.fence(text_of(why.rstrip()))
+        self.begin_site(site, answered if has_all(kept, answered) else None)
 
     def _signalled(self, name: str) -> None:
         """A signal stops the shop; a further one ends this process at once, whatever it waits for."""
@@ -256,7 +211,7 @@ class Supervisor(Passing):
         await self.server.listen()
         sites = [self.task(site.run()) for site in self.sites.values()]
         others = [self.task(work) for work in (self.link.run(), self._look_after_folder(), self._get_ready())]
-        await self.stopping.wait()
+        await waited(self.stopping)
         await asyncio.wait(sites, timeout=STOP_SECONDS)
         for site in self.sites.values():
             site.kill()         # what it was given and hasn't answered is answered after the next start
@@ -269,19 +224,16 @@ class Supervisor(Passing):
         self.event("supervisor: ended")
 
     async def _get_ready(self) -> None:
-        await asyncio.gather(*(site.tried.wait() for site in self.sites.values()))
+        for site in self.sites.values():
+            await waited(site.tried)
         await self._compared()
         self._say_ready()
 
     async def _compared(self) -> None:
         """Waits until it is known whether the sites that are up are fenced, for some time, or until the link fails."""
         until = time.monotonic() + COMPARE_SECONDS
-        while any(site.up.is_set() and not site.compared.is_set() for site in self.sites.values()):
-            if self.link.state.startswith("down"):
-                break
-            try:
-                await self.progress.wait(max(until - time.monotonic(), 0.001))
-            except TimeoutError:
+        while any(site.up.is_set and not site.compared.is_set for site in self.sites.values()) and not self.link.state.startswith("down"):
+            if not await waited(self.progress, max(until - time.monotonic(), 0.001)):
                 break
 
     def task(self, work: Coroutine[Any, Any, None], is_needed: bool = True) -> "asyncio.Task[None]":
@@ -297,10 +249,10 @@ class Supervisor(Passing):
 
     def _say_ready(self) -> None:
         """Tells `shop start`, or systemd, that the sites are up, or why they aren't."""
-        not_up = [site for site in self.sites.values() if site.fenced_by or not site.up.is_set()]
+        not_up = [site for site in self.sites.values() if site.fenced_by or not site.up.is_set]
         down = [f"site {site.number}: {site.fault[1] if site.fault else site.state}" for site in not_up]
         down += [f"site {site.number}: takes no asks until it is known what the others have of it (or --alone)"
-                 for site in self.sites.values() if site.up.is_set() and not site.opened.is_set()]
+                 for site in self.sites.values() if site.up.is_set and not site.opened.is_set]
         down += [f"link: {self.link.state}"] if self.link.state.startswith("down") else []
         if (ready := os.environ.pop("SHOP_READY", None)) is not None:
             try:

@@ -8,7 +8,7 @@ from collections.abc import Sequence
 
 MEMORY = "/dev/shm"
 LIFE_BYTES, SIZE_BYTES = 16, 8
-BYTES = LIFE_BYTES + SIZE_BYTES     # then comes the folder of the site
+BYTES = LIFE_BYTES + SIZE_BYTES     # then comes which folder of the site it is, and where
 
 
 def folder() -> str | None:
@@ -22,16 +22,21 @@ def folder() -> str | None:
     return path if found.st_uid == os.getuid() and found.st_mode & 0o170077 == 0o040000 else None
 
 
-def witnessed(lives: Sequence[str]) -> int | None:
-    """How many bytes of `kept` were answered in the last of these lives, if that ran since the machine was started."""
+def name_of(of: str) -> bytes:
+    """Names a folder of a site: a copy of it is another one."""
+    return b"%d %b" % (os.stat(of).st_ino, os.fsencode(of))
+
+
+def witnessed(of: str, lives: Sequence[str]) -> int | None:
+    """How many bytes of `kept` were answered in the last of these lives, if it was this folder's, and ran since the machine was started."""
     if not lives or not (path := folder()):
         return None
     try:
         with open(f"{path}/{lives[0]}", "rb") as file:
             said = file.read()
+        if said[BYTES:] != name_of(of) or said[:LIFE_BYTES] != lives[-1].encode():
+            return None
     except OSError:
-        return None
-    if len(said) < BYTES or said[:LIFE_BYTES] != lives[-1].encode():
         return None
     return int.from_bytes(said[LIFE_BYTES:BYTES], "little")
 
@@ -43,7 +48,7 @@ def sweep(path: str) -> None:
             continue    # it is being written
         try:
             with open(f"{path}/{name}", "rb") as file:
-                of = file.read()[BYTES:]
+                of = file.read()[BYTES:].partition(b" ")[2]
             if not os.path.exists(of):
                 os.unlink(f"{path}/{name}")
         except OSError:
@@ -65,7 +70,7 @@ class Witness:
             try:
                 sweep(path)
                 with open(f"{path}/{lives[0]}.new", "w+b") as file:
-                    file.write(lives[-1].encode() + answered.to_bytes(SIZE_BYTES, "little") + os.fsencode(of))
+                    file.write(lives[-1].encode() + answered.to_bytes(SIZE_BYTES, "little") + name_of(of))
                     file.flush()
                     self._bytes = mmap.mmap(file.fileno(), BYTES)
                 os.rename(f"{path}/{lives[0]}.new", f"{path}/{lives[0]}")

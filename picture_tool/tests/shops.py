@@ -8,7 +8,7 @@ import os
 import random
 
 from picture_tool.messages import Message, Messages, fields_of
-from shop_tool.release import Release
+from shop_tool.carrier.release import Release
 
 USERS, ITEMS = 6, 4
 

@@ -3,7 +3,7 @@
 import io
 import unittest
 
-from shop_tool.answers import AnswerReader, KeptReader
+from shop_tool.carrier.answers import AnswerReader, KeptReader
 
 TEXT = (b"reply,1,ok,0.1\nsend,msg,1,0,1,1,0:0,user,ann\nreply,2,rows,2\nrow,user,0.1,ann,0,0,0,0\nrow,user,0.2,bob,0,0,0,0\n"
         b"reply,3,rows,0\nreply,4,refused,5,NickTaken\nreply,5,passed\nsend,token,1,1,1,1\nreply,6,holding\n")
@@ -36,15 +36,15 @@ class Kept(unittest.TestCase):
     RECORDS = [b"user,ann", b"user,bob", b"stop", b"go", b'item,0.1,"a\rb ""c""",7', b'a"b', b'""', b"list,users"]
 
     def test_records(self) -> None:
-        reader = KeptReader(io.BytesIO(self.KEPT))
+        reader = KeptReader(io.BytesIO(self.KEPT).readline)
         found = [reader.next() for _ in self.RECORDS]
         self.assertEqual([record for record, _ in found], self.RECORDS)
         self.assertEqual(sum(size for _, size in found) + reader.next()[1], len(self.KEPT))
         self.assertEqual(reader.next(), (b"", 0))
 
     def test_from_behind_any_record(self) -> None:
-        reader, place = KeptReader(io.BytesIO(self.KEPT)), 0
+        reader, place = KeptReader(io.BytesIO(self.KEPT).readline), 0
         for count in range(len(self.RECORDS)):
-            rest = KeptReader(io.BytesIO(self.KEPT[place:]))
+            rest = KeptReader(io.BytesIO(self.KEPT[place:]).readline)
             self.assertEqual([rest.next()[0] for _ in self.RECORDS[count:]], self.RECORDS[count:])
             place += reader.next()[1]

@@ -3,7 +3,7 @@
 import unittest
 
 from shop_tool.carry import plan_of
-from shop_tool.records import row_of
+from shop_tool.carrier.records import row_of
 
 ROWS = [row_of(line) for line in (
     "row,user,0.1,ann,3,0,4,1", "row,user,1.1,bob,0,0,0,0", 'row,item,0.3,0.1,"vase, blue",7,1,2,50,80,2,1.4,70,open,none',

@@ -4,7 +4,8 @@ import os
 import tempfile
 import unittest
 
-from shop_tool.files import File, file_at, is_there, why_lost
+from shop_tool.carrier.files import File, is_there, why_lost
+from shop_tool.site import file_at
 
 
 class Files(unittest.TestCase):

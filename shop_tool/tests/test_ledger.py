@@ -1,10 +1,9 @@
 """What a site has follows from its records and answers."""
 
-import tempfile
 import unittest
 
-from shop_tool.answers import AnswerReader
-from shop_tool.ledger import Ledger, Prefix, packets_of
+from shop_tool.carrier.answers import AnswerReader
+from shop_tool.carrier.ledger import Ledger, Prefix, packets_of
 
 KEPT = [b"user,ann", b"pass,1", b"user,bob", b"comment,0.1,0.1,1.1,1,x", b"msg,1,1,2,3,1:1,user,cat", b"msg,1,1,1,2,1:0,user,dan",
         b"token,1,2,0,3", b"bid,0.3,0.1,5", b"pass,1"]
@@ -26,11 +25,7 @@ class Prefixes(unittest.TestCase):
 
 class Notes(unittest.TestCase):
     def setUp(self) -> None:
-        self.file = tempfile.NamedTemporaryFile()
-        self.addCleanup(self.file.close)
-        self.file.write(OUT)
-        self.file.flush()
-        self.ledger = Ledger(0, 2, self.file.name)
+        self.ledger = Ledger(0, 2, lambda pieces: [OUT[start:start + size] for start, size in pieces])
         self.states = []
         for record, answer in zip(KEPT, AnswerReader().feed(OUT), strict=True):
             self.ledger.note(record, answer)
@@ -57,7 +52,4 @@ class Notes(unittest.TestCase):
         self.assertEqual(sends.last, (3, 1))
 
     def test_packets_of_another_site(self) -> None:
-        with tempfile.NamedTemporaryFile() as kept:
-            kept.write(b"".join(record + b"\n" for record in KEPT))
-            kept.flush()
-            self.assertEqual(list(packets_of(kept.name, 1, 1)), [(2, KEPT[4])])
+        self.assertEqual(list(packets_of([record + b"\n" for record in KEPT], 1, 1)), [(2, KEPT[4])])

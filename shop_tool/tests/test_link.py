@@ -6,42 +6,43 @@ import unittest
 from typing import Any
 from unittest import mock
 
-from shop_tool import lock, stream_link
+from shop_tool import lock
+from shop_tool.carrier.over_server import ServerLink
+from shop_tool.carrier.steps import Broken, Connect, Hear, Steps
 from shop_tool.ends import Fault
-from shop_tool.signals import is_over_within
+from shop_tool.signals import done, is_over_within
 
 
-class Connection:
-    """A client of the server that is away, and that swallows a cancel as redis-py 4.3.4 does."""
-
-    def __init__(self, _: object) -> None:
-        pass
-
-    async def __aenter__(self) -> "Connection":
-        return self
-
-    async def __aexit__(self, *_: object) -> None:
-        raise ConnectionError("closing timed out")
+def hearing() -> Steps[None]:
+    yield Hear(b"$")
 
 
-async def never(_: Any) -> None:
-    await asyncio.sleep(3600)
+async def swallowing(step: tuple[Any, ...]) -> None:
+    """A client of the server that swallows a cancel as redis-py 4.3.4 does."""
+    if isinstance(step, Connect):
+        return
+    try:
+        await asyncio.sleep(3600)
+    except asyncio.CancelledError:
+        raise Broken("closing timed out") from None
 
 
 class Over(unittest.IsolatedAsyncioTestCase):
     async def test_a_work_whose_cancel_is_swallowed_ends_when_the_link_is_over(self) -> None:
-        with mock.patch.object(stream_link, "Streams", Connection), mock.patch.object(stream_link, "faults", lambda: (OSError,)):
-            link = stream_link.StreamLink(mock.MagicMock())
-            work = asyncio.create_task(link._forever("hear", never))
-            await asyncio.sleep(0.01)
-            work.cancel()
-            await asyncio.wait({work}, timeout=0.2)
-            self.assertFalse(work.done())       # as it was: it goes on for ever
-            link.is_over = True
-            await asyncio.sleep(0.2)
-            work.cancel()
-            await asyncio.wait({work}, timeout=5)
-            self.assertTrue(work.done())
+        shop = mock.MagicMock(count=1)
+        shop.now.return_value = 0.0
+        with mock.patch.multiple(ServerLink, __abstractmethods__=set()):
+            link = ServerLink(shop, "the server")       # type: ignore[abstract]
+        work = asyncio.create_task(done(link.forever("hear", hearing), swallowing))
+        await asyncio.sleep(0.01)
+        work.cancel()
+        await asyncio.wait({work}, timeout=0.2)
+        self.assertFalse(work.done())       # as it was: it goes on for ever
+        link.is_over = True
+        await asyncio.sleep(0.2)
+        work.cancel()
+        await asyncio.wait({work}, timeout=5)
+        self.assertTrue(work.done())
 
     async def test_work_that_is_cut_off_is_not_waited_for(self) -> None:
         async def stubborn() -> None:

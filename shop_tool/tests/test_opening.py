@@ -6,9 +6,10 @@ import unittest
 from unittest import mock
 
 from shop_tool import lives, witness
-from shop_tool.ledger import Place
-from shop_tool.lives import Standing, begin_life, life_text, lives_of, standing, take_place, takes_place, why_other
-from shop_tool.opening import may_open_at_once, must_compare_all, runs_elsewhere, strange_packet, why_behind
+from shop_tool.carrier.ledger import Place
+from shop_tool.carrier.lives import Standing, life_text, standing, takes_place, why_other
+from shop_tool.carrier.opening import may_open_unseen, must_compare_all, runs_elsewhere, strange_packet, why_behind, why_passed_on
+from shop_tool.lives import begin_life, lives_of, take_place
 
 
 class Lives(unittest.TestCase):
@@ -62,10 +63,10 @@ class Lives(unittest.TestCase):
 
 
 class Opening(unittest.TestCase):
-    def test_who_opens_at_once(self) -> None:
-        self.assertTrue(may_open_at_once(True, False))
-        self.assertTrue(may_open_at_once(False, True))
-        self.assertFalse(may_open_at_once(False, False))
+    def test_who_opens_unseen(self) -> None:
+        self.assertTrue(may_open_unseen(True, False))
+        self.assertTrue(may_open_unseen(False, True))
+        self.assertFalse(may_open_unseen(False, False))
 
     def test_when_all_is_compared(self) -> None:
         self.assertFalse(must_compare_all(Standing.NEXT, False))
@@ -76,6 +77,14 @@ class Opening(unittest.TestCase):
         self.assertIsNone(why_behind(0, 3, {}))
         self.assertIsNone(why_behind(0, 3, {1: 3, 2: 0}))
         self.assertEqual(why_behind(0, 3, {1: 4, 2: 5}), "site 2 has 5 messages of it, and its folder has 3 (shop rebuild 0)")
+
+    def test_another_site_has_had_the_token_since(self) -> None:
+        """A folder that lost nothing but a pass has as many messages as before, and would hold the token a second time."""
+        self.assertIsNone(why_passed_on(0, None, {1: 9}))
+        self.assertIsNone(why_passed_on(0, 4, {}))
+        self.assertIsNone(why_passed_on(0, 4, {1: 3, 2: 0}))
+        self.assertEqual(why_passed_on(0, 4, {1: 5, 2: 6}),
+                         "site 2 has had the token of turn 6, and its folder holds that of turn 4 (shop rebuild 0)")
 
     def test_a_packet_that_it_did_not_send(self) -> None:
         sent: dict[Place, bytes] = {(1, 0): b"a", (1, 1): b"token", (2, 0): b"b"}
@@ -102,16 +111,31 @@ class Memory(unittest.TestCase):
         told = witness.Witness(self.folder, ["a" * 16, "b" * 16], 0)
         told.tell(120)
         told.tell(90)       # a start that reads on takes nothing back
-        self.assertEqual(witness.witnessed(["a" * 16, "b" * 16]), 120)
-        self.assertIsNone(witness.witnessed(["a" * 16]))
-        self.assertIsNone(witness.witnessed(["a" * 16, "b" * 16, "c" * 16]))
-        self.assertIsNone(witness.witnessed([]))
+        self.assertEqual(witness.witnessed(self.folder, ["a" * 16, "b" * 16]), 120)
+        self.assertIsNone(witness.witnessed(self.folder, ["a" * 16]))
+        self.assertIsNone(witness.witnessed(self.folder, ["a" * 16, "b" * 16, "c" * 16]))
+        self.assertIsNone(witness.witnessed(self.folder, []))
+
+    def test_a_copy_of_the_folder_has_none(self) -> None:
+        """Also one that is made in the same start of the machine, and one that is put in the place of the original."""
+        original, copy = f"{self.folder}/original", f"{self.folder}/copy"
+        os.mkdir(original)
+        os.mkdir(copy)
+        witness.Witness(original, ["a" * 16], 5)
+        self.assertIsNone(witness.witnessed(copy, ["a" * 16]))
+        os.rename(original, f"{self.folder}/aside")
+        os.rename(copy, original)
+        self.assertIsNone(witness.witnessed(original, ["a" * 16]))
 
     def test_a_folder_that_is_gone_is_forgotten(self) -> None:
-        witness.Witness(f"{self.folder}/gone", ["a" * 16], 5)
+        gone = f"{self.folder}/gone"
+        os.mkdir(gone)
+        witness.Witness(gone, ["a" * 16], 5)
+        os.rmdir(gone)
         witness.Witness(self.folder, ["b" * 16], 5)
-        self.assertIsNone(witness.witnessed(["a" * 16]))
-        self.assertEqual(witness.witnessed(["b" * 16]), 5)
+        os.mkdir(gone)
+        self.assertIsNone(witness.witnessed(gone, ["a" * 16]))
+        self.assertEqual(witness.witnessed(self.folder, ["b" * 16]), 5)
 
     def test_a_file_that_has_all(self) -> None:
         self.assertFalse(witness.has_all(self.kept, 0))

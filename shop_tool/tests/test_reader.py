@@ -2,7 +2,7 @@
 
 import unittest
 
-from shop_tool.reader import passes_to, to_search
+from shop_tool.carrier.reader import passes_to, to_search
 
 TURNS = [b"token,1,3,2,9", b"token,1,1,2,4", b"token,1,4,1,12", b"msg,1,0,1,0,0:0:0,item,0.1,lamp,7,1,1,0", b"token,1,7,2,20"]
 

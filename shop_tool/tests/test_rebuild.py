@@ -3,8 +3,8 @@
 import unittest
 
 from shop_tool.ends import Fault
-from shop_tool.ledger import Place
-from shop_tool.rebuild import Past
+from shop_tool.carrier.ledger import Place
+from shop_tool.carrier.rebuilding import Past
 
 ANN, ITEM = b"msg,1,0,1,1,0:0,user,ann", b"msg,1,0,2,0,1:0,item,0.1,lamp,7,1,1,0"
 BID, CLOSE = b"msg,1,1,1,2,2:0,bid,0.2,1.9,5", b"msg,1,0,3,3,2:1,close,0.2,7,1.1"
@@ -43,3 +43,17 @@ class Steps(unittest.TestCase):
     def test_streams_that_lack_what_it_counted(self) -> None:
         self.assertRaises(Fault, records, Past(0, [ZERO, []]))
         self.assertRaises(Fault, records, Past(1, [ZERO[2:], ONE]))
+
+    def test_a_token_that_came_and_nobody_has_is_known_by_the_next_one(self) -> None:
+        """Site 1 passed the token of turn 2, so that of turn 1 came to it before, for which nothing else is left."""
+        past = Past(1, [ZERO[:1] + ZERO[2:4], ONE])
+        past.add_passed()
+        self.assertEqual(records(past), [ANN, ITEM, FIRST, b"bid,0.2,1.9,5", b"pass,0"])
+
+    def test_a_pass_that_nobody_has_is_made_again_so_that_it_changes_nothing(self) -> None:
+        """Site 0 passed the token, or others wouldn't have had later ones. It goes to one that has had a later one, and takes no earlier."""
+        past = Past(0, [ZERO[:1], [], []])
+        past.add([], [b"token,1,7,2,5"])
+        past.add_passed()
+        self.assertEqual(records(past), [b"user,ann", b"pass,2"])
+        self.assertEqual(past.packets(), [*ZERO[:1], ((1, 1), b"token,1,1,2,1")])

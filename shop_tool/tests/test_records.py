@@ -2,7 +2,7 @@
 
 import unittest
 
-from shop_tool.records import (
+from shop_tool.carrier.records import (
     BYTES_OF_A_RECORD, Message, Purpose, Token, ask_of, fields_of, line_of, packet_of, row_of, why_not_one_record)
 
 

@@ -4,8 +4,8 @@ import random
 import unittest
 
 from shop_tool.grid import Grid, GridRow, Waits, grid_of_status, grid_text, waiting_text, waits_of
-from shop_tool.records import Message
-from shop_tool.release import Release
+from shop_tool.carrier.records import Message
+from shop_tool.carrier.release import Release
 
 
 def message(origin: int, number: int, red: int, *deps: int) -> Message:

@@ -2,7 +2,7 @@
 
 import unittest
 
-from shop_tool.records import text_of
+from shop_tool.carrier.records import text_of
 from shop_tool.render import shown
 
 

@@ -2,7 +2,7 @@
 
 import unittest
 
-from shop_tool.told import Once, is_called, not_given, not_known, unanswered
+from shop_tool.carrier.told import Once, is_called, not_given, not_known, unanswered
 
 
 class Told(unittest.TestCase):

@@ -2,7 +2,7 @@
 
 import unittest
 
-from shop_tool.turns import FORGET, PATIENCE, SLICE, Hold, Wants, taker
+from shop_tool.carrier.turns import FORGET, PATIENCE, SLICE, Hold, Wants, taker
 
 
 class Queue(unittest.TestCase):
@@ -27,6 +27,14 @@ class Queue(unittest.TestCase):
         wants.hear(1, 2, 0.0)
         self.assertEqual(wants.waiting(), [])
         wants.hear(1, 4, 0.0)
+        self.assertEqual(wants.waiting(), [1])
+
+    def test_a_site_that_lost_that_it_passed_the_token_on_is_heard(self) -> None:
+        """The token that went to it last was there: others have had later ones."""
+        wants = Wants()
+        wants.passed(4, 1)
+        wants.known(6)
+        wants.hear(1, 2, 0.0)
         self.assertEqual(wants.waiting(), [1])
 
     def test_the_holder_is_that_of_the_last_turn(self) -> None:

@@ -1,6 +1,6 @@
 """Whether the files of a running site are those that its keeper writes still."""
 
-import os
+from collections.abc import Callable
 from typing import NamedTuple
 
 
@@ -12,12 +12,8 @@ class File(NamedTuple):
     size: int
 
 
-def file_at(path: str) -> File | None:
-    try:
-        found = os.stat(path)
-    except OSError:
-        return None
-    return File(found.st_dev, found.st_ino, found.st_size)
+# Looks at a site's folder, by the name "", or at a file in it.
+Look = Callable[[str], File | None]
 
 
 def is_there(was: File | None, now: File | None) -> bool:
@@ -38,15 +34,15 @@ def why_lost(site: int, has_folder: bool, has_kept: bool, has_out: bool) -> str 
 class Files:
     """The files `kept` and `out` of a site, as its supervisor read them last. Those of a new site aren't known yet."""
 
-    def __init__(self, site: int, folder: str) -> None:
-        self.site, self.folder = site, folder
-        self.kept = file_at(f"{folder}/kept")
+    def __init__(self, site: int, look: Look) -> None:
+        self.site, self._look = site, look
+        self.kept = look("kept")
         self.out: File | None = None
         self._beyond = 0, 0         # how many bytes they had beyond those that the ledger counts
 
     def read(self, kept_bytes: int, out_bytes: int) -> None:
         """They have been read to their ends, which are so many bytes by the ledger."""
-        kept, out = file_at(f"{self.folder}/kept"), file_at(f"{self.folder}/out")
+        kept, out = self._look("kept"), self._look("out")
         if kept and out and is_there(self.kept and self.kept._replace(size=0), kept):
             self.kept, self.out = kept, out
             self._beyond = kept.size - kept_bytes, out.size - out_bytes
@@ -55,6 +51,6 @@ class Files:
         """Why the site can't go on whose ledger counts so many bytes. A keeper that isn't up yet may cut off a torn end."""
         sizes = [count + beyond if is_up else 0 for count, beyond in zip((kept_bytes, out_bytes), self._beyond)]
         has_kept, has_out = (
-            is_there(was and was._replace(size=size), file_at(f"{self.folder}/{name}"))
+            is_there(was and was._replace(size=size), self._look(name))
             for was, size, name in ((self.kept, sizes[0], "kept"), (self.out, sizes[1], "out")))
-        return why_lost(self.site, has_kept or os.path.isdir(self.folder), has_kept, has_out)
+        return why_lost(self.site, has_kept or self._look("") is not None, has_kept, has_out)

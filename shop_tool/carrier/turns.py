@@ -20,7 +20,7 @@ class Wants:
 
     def hear(self, site: int, known: int, now: float) -> None:
         """A site wants the token; it knows that it had it last at turn `known`."""
-        if self.last_turns.get(site, 0) > known:
+        if self.last_turns.get(site, 0) > known and self.last_turns[site] >= self.turn:
             return                                  # the token is on its way there
         heard = self._heard.get(site)
         if heard and now - heard[0] > FORGET:
@@ -34,6 +34,10 @@ class Wants:
             self.turn, self.holder = turn, to
         if to in self._heard and self._heard[to][1] < turn:
             del self._heard[to]
+
+    def known(self, turn: int) -> None:
+        """Some site has had the token at this turn, or passed it."""
+        self.turn = max(self.turn, turn)
 
     def next(self, holder: int, now: float) -> int | None:
         """The first other site that wants it."""

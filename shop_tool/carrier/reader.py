@@ -1,24 +1,20 @@
-"""Gives one site what the streams of the others have."""
+"""Gives one site what the streams of the others have. No position is stored: what a site has kept is where it reads on."""
 
-import asyncio
 from collections.abc import Iterable, Sequence
 from typing import TYPE_CHECKING
 
-from .ends import Fault
-from .ledger import Place
-from .link import BATCH, FULL_WAIT
+from ..ends import Fault
+from .ledger import NOWHERE, Place
+from .over_files import BATCH, FULL_WAIT
 from .records import Token, packet_of
 from .site import Site
-from .streams import Streams, id_of
+from .steps import Mark, Marks, Packets, PageOf, Read, Steps, Wait
 
 if TYPE_CHECKING:
-    from .stream_link import StreamLink
+    from .over_server import ServerLink
 
-BLOCK = 2000                # milliseconds that one read waits
+BLOCK_SECONDS = 2.0         # how long one read waits
 HOLE_SECONDS = 1.0          # how long a reader waits for entries that are missing, before it reads them again
-
-
-Mark = bytes | None
 
 
 def to_search(seen: Sequence[Mark] | None, now: Sequence[Mark]) -> list[int]:
@@ -34,55 +30,61 @@ def passes_to(site: int, turn: int, texts: Iterable[bytes]) -> list[bytes]:
 
 
 class Reader:
-    """Gives one site what the streams of the others have."""
-
-    def __init__(self, link: "StreamLink", site: Site) -> None:
+    def __init__(self, link: "ServerLink", site: Site) -> None:
         self.link, self.site = link, site
         self.name = f"read {site.number}"
         self.holes: set[Place] = set()
         self.marks: Sequence[Mark] | None = None    # of the streams, as they were when tokens were last looked for in them
 
     def start(self) -> dict[int, Place]:
+        """Where it reads on in the stream of each other site: behind the messages that its site has without a gap."""
         return {origin: (have.upto, 0) for origin, have in enumerate(self.site.ledger.have) if origin != self.site.number}
 
-    async def run(self, server: Streams) -> None:
+    def run(self) -> Steps[None]:
         site = self.site
-        await site.opened.wait()
-        await site.up.wait()
+        yield Wait(site.opened)
+        yield Wait(site.up)
         at, self.marks = self.start(), None
         while at and not site.fenced_by and not self.link.is_over:
-            await site.up.wait()
+            yield Wait(site.up)
             try:
                 if self.marks != self.link.marks:
-                    await self._look_behind(server, at)
-            except Fault:
-                return      # the site has ended
-            found = await server.read(at, BATCH, BLOCK)
-            self.link.works(self.name)
-            packets, has_hole = [], False
-            for origin, entries in found.items():
-                has_hole = self._has_hole(origin, at[origin], [place for place, _ in entries]) or has_hole
-                packets += [text for _, text in entries]
-                at[origin] = entries[-1][0]
-                self.link.tops[origin] = max(self.link.tops[origin], entries[-1][0][0])
-            try:
-                if not await site.shop.feed(site, packets):
-                    await asyncio.sleep(FULL_WAIT)
+                    yield from self._look_behind(at)
+                found: dict[int, Packets] = yield Read(at, BATCH, BLOCK_SECONDS)
+                self.link.works(self.name)
+                packets, has_hole = [], False
+                for origin, entries in found.items():
+                    has_hole = self._has_hole(origin, at[origin], [place for place, _ in entries]) or has_hole
+                    packets += [text for _, text in entries]
+                    at[origin] = entries[-1][0]
+                    self.link.tops[origin] = max(self.link.tops[origin], entries[-1][0][0])
+                if not (yield from site.shop.feed(site, packets)):
+                    yield Wait(None, FULL_WAIT)
                     at = self.start()
             except Fault:
                 return      # the site has ended
             if has_hole:
                 # Its origin publishes it all again, once it runs.
-                await asyncio.sleep(HOLE_SECONDS)
+                yield Wait(None, HOLE_SECONDS)
                 at = self.start()
 
-    async def _look_behind(self, server: Streams, at: dict[int, Place]) -> None:
+    def _look_behind(self, at: dict[int, Place]) -> Steps[None]:
         """Gives the site the tokens that stand where it doesn't read any more."""
-        site, marks = self.site, await server.marks()
+        site, marks = self.site, (yield Marks())
         for origin in to_search(self.marks, marks):
-            if origin in at and (tokens := passes_to(site.number, site.ledger.turn, await server.tokens(origin, at[origin]))):
-                await site.shop.feed(site, tokens)
+            if origin in at and (tokens := passes_to(site.number, site.ledger.turn, (yield from self._tokens(origin, at[origin])))):
+                yield from site.shop.feed(site, tokens)
         self.marks = marks
+
+    @staticmethod
+    def _tokens(origin: int, upto: Place) -> Steps[list[bytes]]:
+        """The tokens that stand in a stream up to a place."""
+        tokens: list[bytes] = []
+        after = NOWHERE
+        while after < upto and (page := (yield PageOf(origin, after, upto))).entries:
+            tokens += page.tokens
+            after = page.last
+        return tokens
 
     def _has_hole(self, origin: int, before: Place, places: list[Place]) -> bool:
         """Whether a message is missing between these, which happens only where entries were deleted."""
@@ -90,8 +92,7 @@ class Reader:
             if place[0] > before[0] + 1:
                 if (origin, place[0]) not in self.holes:
                     self.holes.add((origin, place[0]))
-                    between = f"{id_of(before).decode()} and {id_of(place).decode()}"
-                    self.site.shop.event(f"link: the stream of site {origin} has nothing between {between}")
+                    self.site.shop.event("link: the stream of site %d has nothing between %d-%d and %d-%d" % (origin, *before, *place))
                 return True
             before = place
         return False

@@ -1,7 +1,7 @@
 """Answers of a site, and the records that they are to: cuts what it writes and keeps into those of one record each."""
 
 import re
-from typing import BinaryIO
+from collections.abc import Callable
 
 
 class Answer:
@@ -85,10 +85,10 @@ def records_in(line: bytes) -> list[tuple[bytes, int]]:
 
 
 class KeptReader:
-    """Reads the records of a file `kept` from where it stands."""
+    """Reads the records of a file `kept`, whose next line a call gives; at the end that is empty."""
 
-    def __init__(self, file: BinaryIO) -> None:
-        self._file = file
+    def __init__(self, next_line: Callable[[], bytes]) -> None:
+        self._next_line = next_line
         self._records: list[tuple[bytes, int]] = []
         self._size = 0          # of the line that they are of
         self._at = 0            # up to which byte of it records are read
@@ -98,7 +98,7 @@ class KeptReader:
         skipped = 0
         while not self._records:
             skipped += self._size - self._at
-            line = self._file.readline()
+            line = self._next_line()
             self._records, self._size, self._at = records_in(line.rstrip(b"\n")), len(line), 0
             if not line:
                 return b"", skipped

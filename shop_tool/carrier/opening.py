@@ -7,9 +7,9 @@ from .ledger import Place
 from .lives import Standing
 
 
-def may_open_at_once(is_alone: bool, has_all: bool) -> bool:
-    """Whether a site takes asks before it is compared with what the others have of it: it is known that its folder has all that it
-    answered, or its operator takes the risk."""
+def may_open_unseen(is_alone: bool, has_all: bool) -> bool:
+    """Whether a site takes asks before it is compared with what the others have of it, where that can't be seen: it is known that its
+    folder has all that it answered, or its operator takes the risk."""
     return is_alone or has_all
 
 
@@ -25,6 +25,15 @@ def why_behind(site: int, own: int, has: Mapping[int, int]) -> str | None:
         return None
     other = max(has, key=lambda number: has[number])
     return f"site {other} has {has[other]} messages of it, and its folder has {own} (shop rebuild {site})" if has[other] > own else None
+
+
+def why_passed_on(site: int, held: int | None, turns: Mapping[int, int]) -> str | None:
+    """Why a site can't go on whose folder says that it holds the token, since that turn: another site has had a later one."""
+    if held is None or not turns:
+        return None
+    other = max(turns, key=lambda number: turns[number])
+    return (f"site {other} has had the token of turn {turns[other]}, and its folder holds that of turn {held} (shop rebuild {site})"
+            if turns[other] > held else None)
 
 
 def strange_packet(entries: Iterable[tuple[Place, bytes]], sent: Callable[[Place], bytes | None]) -> Place | None:

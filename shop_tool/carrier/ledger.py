@@ -1,10 +1,8 @@
 """What a site has sent, taken in and holds, as it follows from the records that it kept and their answers."""
 
 import bisect
-import errno
-import os
 from array import array
-from collections.abc import Iterator
+from collections.abc import Callable, Iterable, Iterator, Sequence
 
 from .answers import Answer
 from .records import Message, Token, packet_of
@@ -14,6 +12,9 @@ from .release import Release
 # the packet's entry in the site's stream, n-t.
 Place = tuple[int, int]
 NOWHERE: Place = (0, 0)
+
+# Reads pieces of a site's file `out`, each by where it begins and its size; an OSError if it isn't all there.
+ReadOut = Callable[[Sequence[tuple[int, int]]], list[bytes]]
 
 
 class Prefix:
@@ -44,8 +45,8 @@ class Prefix:
 class Sends:
     """The packets of one site in the order in which it sent them, each with its place and where it stands in the file `out`."""
 
-    def __init__(self, out: str) -> None:
-        self._out = out
+    def __init__(self, read_out: ReadOut) -> None:
+        self._read_out = read_out
         self._numbers = array("I")
         self._tokens = array("I")
         self._starts = array("Q")
@@ -82,16 +83,8 @@ class Sends:
 
     def read(self, begin: int, end: int) -> list[tuple[Place, bytes]]:
         """The packets from one index to another, read from `out`."""
-        if begin >= end:
-            return []
-        out = os.open(self._out, os.O_RDONLY)
-        try:
-            packets = [(self.place(at), os.pread(out, self._sizes[at], self._starts[at])) for at in range(begin, end)]
-            if len(packets[-1][1]) < self._sizes[end - 1]:
-                raise OSError(errno.EIO, "it has lost its end", self._out)
-            return packets
-        finally:
-            os.close(out)
+        texts = self._read_out([(self._starts[at], self._sizes[at]) for at in range(begin, end)]) if begin < end else []
+        return [(self.place(at), text) for at, text in zip(range(begin, end), texts)]
 
     def at(self, place: Place) -> bytes | None:
         """The packet at this place, if one was sent there."""
@@ -109,12 +102,12 @@ class Sends:
 class Ledger:
     """The state of one site that its supervisor needs. `note` takes each kept record with its answer, in their order."""
 
-    def __init__(self, site: int, sites: int, out: str) -> None:
+    def __init__(self, site: int, sites: int, read_out: ReadOut) -> None:
         self.site = site
         self.records = 0            # kept and answered
         self.kept_bytes = 0         # of the file `kept`, up to the record that was answered last
         self.out_bytes = 0          # of the file `out`, up to its answer
-        self.sends = Sends(out)
+        self.sends = Sends(read_out)
         self.have = [Prefix() for _ in range(sites)]    # messages of each other site, released or held
         self.red = Prefix()         # red numbers of all messages that are here
         self.release: Release[Message] = Release(sites)
@@ -168,34 +161,25 @@ class Ledger:
             self.holds_token, self.turn, self.issued = True, packet.turn, packet.issued
 
 
-def packets_of(kept: str, origin: int, after: int) -> Iterator[tuple[int, bytes]]:
-    """Messages of a site with a number above `after` that stand in a file `kept`, each with its number."""
-    try:
-        file = open(kept, "rb")
-    except FileNotFoundError:
-        return
-    with file:
-        for line in file:
-            packet = packet_of(line.rstrip(b"\n")) if line.startswith(b"msg,") else None
-            if isinstance(packet, Message) and packet.origin == origin and packet.number > after:
-                yield packet.number, line.rstrip(b"\n")
+def packets_of(kept: Iterable[bytes], origin: int, after: int) -> Iterator[tuple[int, bytes]]:
+    """Messages of a site with a number above `after` among the lines of a file `kept`, each with its number."""
+    for line in kept:
+        packet = packet_of(line.rstrip(b"\n")) if line.startswith(b"msg,") else None
+        if isinstance(packet, Message) and packet.origin == origin and packet.number > after:
+            yield packet.number, line.rstrip(b"\n")
 
 
-def sends_of(out: str) -> list[tuple[Place, bytes]]:
-    """The packets that stand in a file `out`, with their places; a torn last line is none."""
-    if not os.path.exists(out):
-        return []
+def sends_of(out: Iterable[bytes]) -> list[tuple[Place, bytes]]:
+    """The packets among the lines of a file `out`, with their places; a torn last line is none."""
     sends: list[tuple[Place, bytes]] = []
     number = token = 0
-    with open(out, "rb") as file:
-        for line in file:
-            if line.startswith(b"send,") and line.endswith(b"\n"):
-                number, token = (number + 1, 0) if line.startswith(b"send,msg,") else (number, token + 1)
-                sends.append(((number, token), line[5:-1]))
+    for line in out:
+        if line.startswith(b"send,") and line.endswith(b"\n"):
+            number, token = (number + 1, 0) if line.startswith(b"send,msg,") else (number, token + 1)
+            sends.append(((number, token), line[5:-1]))
     return sends
 
 
-def tokens_of(kept: str) -> list[bytes]:
-    """The tokens that stand in a file `kept`."""
-    with open(kept, "rb") as file:
-        return [line.rstrip(b"\n") for line in file if line.startswith(b"token,")]
+def tokens_of(kept: Iterable[bytes]) -> list[bytes]:
+    """The tokens among the lines of a file `kept`."""
+    return [line.rstrip(b"\n") for line in kept if line.startswith(b"token,")]

@@ -1,0 +1,195 @@
+#!/usr/bin/env python3
+"""Simulates whole shops: scripts/simulate_shop.py SEED [COUNT] [--seconds S] [--processes N] [--without RULE] [--steps FOLDER]
+[--program PROGRAM] [--skip N,..]
+
+Each run is a shop of 2 to 5 sites, over files or a server, in one process and on a clock of its own: what is decided is decided by the
+carrier of `shop`, and its sites, folders, server and askers are simulated. Things go wrong for half a minute; then nothing goes wrong any
+more, and it is looked whether ids were given once, nothing that was accepted is lost, what askers were told is true, and all goes on.
+
+Run number N of a seed is SEED.N, and is the same each time. One that breaks a promise is printed, and made smaller: `SEED.N 1 --skip ..`
+plays it again without some of its events. With --without one rule of the carrier is taken out, to see that this is found. With --program
+the simulated sites' answers are compared with the program's first. With --steps each run is written to a file as a list of the model's
+steps. The status is 1 if a promise was broken."""
+
+import argparse
+import collections
+import multiprocessing
+import os
+import pathlib
+import random
+import subprocess
+import sys
+import time
+import traceback
+from collections.abc import Iterator
+from typing import NamedTuple
+
+TOP = pathlib.Path(__file__).resolve().parent.parent
+sys.path[:0] = [str(TOP), str(TOP / "scripts")]
+
+from simulation.askers import asked                     # noqa: E402
+from simulation.run import Run                          # noqa: E402
+from simulation.stand_in import StandIn, records_of     # noqa: E402
+from simulation.without import RULES, rules_without, taken_out      # noqa: E402
+from simulation.world import Violation                  # noqa: E402
+
+AT_ONCE = 20            # how many runs a process makes before it says how they were
+RECORDS = 6000          # how many records are compared with the program's answers
+LEAST = {"events": 300, "faults": 10, "asks": 50, "turns": 3}
+
+
+class Played(NamedTuple):
+    """How a run was."""
+
+    seed: str
+    broken: str | None
+    excused: str | None
+    counts: dict[str, int]
+    least: dict[str, int]
+
+
+def play(seed: str, without: str | None, skip: frozenset[int] = frozenset(), steps: str | None = None) -> Played:
+    words: list[str] | None = [] if steps else None
+    broken = None
+    with taken_out(without):
+        run = Run(seed, rules_without(without), skip, words)
+        try:
+            run.play()
+        except Violation as violation:
+            broken = str(violation)
+        except Exception:
+            broken = "a fault of its own: " + traceback.format_exc()
+    if steps and words is not None:
+        pathlib.Path(steps, f"{seed}.steps").write_text("".join(f"{word}\n" for word in words))
+    counts = dict(run.world.counts)
+    least = {"events": sum(counts.values()), "faults": run.fault_count, "asks": len(run.askers), "turns": counts.get("Passes", 0)}
+    return Played(seed, broken, run.why_excused(), counts, least)
+
+
+def smaller(seed: str, without: str | None, events: int) -> frozenset[int]:
+    """Events of a broken run that it doesn't need: more and more of them are left out, as long as a promise is broken."""
+    skip: frozenset[int] = frozenset()
+    size = events // 2
+    while size:
+        for begin in range(0, events, size):
+            more = skip | frozenset(range(begin, min(begin + size, events)))
+            if more != skip and play(seed, without, more).broken:
+                skip = more
+        size //= 2
+    return skip
+
+
+def many(job: tuple[list[str], str | None, str | None]) -> list[Played]:
+    seeds, without, steps = job
+    return [play(seed, without, steps=steps) for seed in seeds]
+
+
+def jobs_of(args: argparse.Namespace) -> Iterator[tuple[list[str], str | None, str | None]]:
+    until = time.monotonic() + args.seconds if args.seconds else None
+    for first in range(args.first, args.first + args.count, AT_ONCE):
+        if until and time.monotonic() > until:
+            return
+        numbers = range(first, min(first + AT_ONCE, args.first + args.count))
+        yield [f"{args.seed}.{number}" for number in numbers], args.without, args.steps
+
+
+def compared(program: str, seed: str) -> None:
+    """That the simulated sites answer as the program does, on records as askers and other sites give them."""
+    dice = random.Random(seed)
+    sites = dice.randint(2, 5)
+    stand_ins = [StandIn(site, sites) for site in range(sites)]
+    given: list[list[bytes]] = [[] for _ in range(sites)]
+    said: list[bytes] = [b""] * sites
+    packets: list[bytes] = []
+    for number in range(RECORDS):
+        site = dice.randrange(sites)
+        records = [dice.choice(packets)] if packets and dice.random() < 0.5 else asked(dice, number, sites)
+        records += [b"pass,%d" % dice.randrange(sites + 1)] if dice.random() < 0.1 else []
+        for line in (line for record in records for line in record.split(b"\n")):
+            for record in records_of(line.rstrip(b"\r")):
+                answer = stand_ins[site].answer(record)
+                packets += [text[5:] for text in answer.split(b"\n") if text.startswith(b"send,")]
+                given[site].append(record)
+                said[site] += answer
+    for site in range(sites):
+        done = subprocess.run([program, "site", "--site", str(site), "--sites", str(sites)], input=b"".join(record + b"\n" for record in given[site]),
+                              capture_output=True, check=True)
+        if done.stdout != said[site]:
+            at = next(at for at, (one, other) in enumerate(zip(done.stdout.split(b"\n"), said[site].split(b"\n"))) if one != other)
+            raise SystemExit(f"site {site} answers {done.stdout.splitlines()[at]!r}, and the simulated one {said[site].splitlines()[at]!r}")
+    print(f"{sum(map(len, given))} records: the simulated sites answer as {program} does", flush=True)
+
+
+def main() -> int:
+    words = argparse.ArgumentParser(description=__doc__, formatter_class=argparse.RawDescriptionHelpFormatter)
+    words.add_argument("seed")
+    words.add_argument("count", type=int, nargs="?", default=10 ** 9)
+    words.add_argument("--first", type=int, default=0, help="the number of the first run")
+    words.add_argument("--seconds", type=float, help="begin no run after these")
+    words.add_argument("--processes", type=int, default=os.cpu_count() or 1)
+    words.add_argument("--without", choices=RULES)
+    words.add_argument("--steps", metavar="FOLDER")
+    words.add_argument("--program")
+    words.add_argument("--skip", metavar="N,..", help="play the run SEED without these events")
+    args = words.parse_args()
+    if args.program:
+        compared(args.program, args.seed)
+    if args.skip is not None:
+        return told_of(play(args.seed, args.without, frozenset(int(part) for part in args.skip.split(",") if part), args.steps))
+    began, plays = time.monotonic(), Counts()
+    with multiprocessing.Pool(args.processes) as pool:
+        for done in pool.imap_unordered(many, jobs_of(args)):
+            for played in done:
+                plays.add(played)
+            if plays.broken:
+                pool.terminate()
+                break
+    plays.tell(time.monotonic() - began, args)
+    if not plays.broken:
+        return 0
+    told_of(plays.broken)
+    if plays.broken.broken and "\n" not in plays.broken.broken:
+        skip = smaller(plays.broken.seed, args.without, plays.broken.least["asks"] + plays.broken.least["faults"])
+        without = f" --without {args.without}" if args.without else ""
+        print(f"smaller: scripts/simulate_shop.py {plays.broken.seed} 1{without} --skip {','.join(map(str, sorted(skip)))}")
+        told_of(play(plays.broken.seed, args.without, skip))
+    return 1
+
+
+def told_of(played: Played) -> int:
+    print(f"{played.seed}: {played.broken or 'no promise is broken'}", flush=True)
+    return 1 if played.broken else 0
+
+
+class Counts:
+    """How many runs there were, and what was in them."""
+
+    def __init__(self) -> None:
+        self.runs = 0
+        self.broken: Played | None = None
+        self.kinds: collections.Counter[str] = collections.Counter()
+        self.events: collections.Counter[str] = collections.Counter()
+        self.excused: collections.Counter[str] = collections.Counter()
+        self.least = dict.fromkeys(LEAST, 10 ** 9)
+
+    def add(self, played: Played) -> None:
+        self.runs += 1
+        self.kinds.update(played.counts.keys())
+        self.events.update(played.counts)
+        if played.excused:
+            self.excused[played.excused] += 1
+        for name, count in played.least.items():
+            self.least[name] = min(self.least[name], count)
+        if played.broken and not self.broken:
+            self.broken = played
+
+    def tell(self, seconds: float, args: argparse.Namespace) -> None:
+        print(f"{self.runs} runs of seed {args.seed} in {seconds:.0f} s, {self.runs / max(seconds, 0.001):.1f} a second by {args.processes} processes; "
+              + ", ".join(f"at least {count} {name}" for name, count in self.least.items()) + " in each")
+        print("runs that have each: " + ", ".join(f"{kind} {100 * count / self.runs:.1f} %" for kind, count in sorted(self.kinds.items())))
+        print("runs in which so much was lost that not all is looked at: "
+              + (", ".join(f"{why}: {count}" for why, count in self.excused.most_common()) or "none"))
+
+
+if __name__ == "__main__":
+    sys.exit(main())

@@ -1,0 +1,125 @@
+"""Askers: what they ask, of whom, and what they were told."""
+
+import functools
+import random
+from typing import TYPE_CHECKING, Any
+
+from shop_tool.carrier.records import bytes_of, text_of
+
+from .world import Supervisor, Violation, heard
+
+if TYPE_CHECKING:
+    from .clock import Task
+    from .world import World
+
+MARGIN = 2.0            # as the client's: seconds beyond its time-out that a request has
+NOTHING = ("nothing was given to it", "nothing more was given to it", "nothing was asked")
+UNKNOWN = ("may still be accepted", "isn't known")
+
+
+class Told:
+    """What an asker was told of one record: an answer, that it isn't accepted, or that this isn't known."""
+
+    def __init__(self, site: int, record: bytes, what: str, id: tuple[int, int] | None = None) -> None:
+        self.site, self.record, self.what, self.id = site, record, what, id
+
+
+class Asker:
+    """One request of a client, and what came of it."""
+
+    def __init__(self, world: "World", supervisor: Supervisor | None, site: int, records: list[bytes], seconds: float, published: bool) -> None:
+        self.world, self.supervisor, self.site, self.records, self.seconds = world, supervisor, site, records, seconds
+        self.answers: list[dict[str, Any]] = []
+        self.told: list[Told] = []
+        self.is_over = False
+        self.task: "Task | None" = None
+        for record in records:
+            world.note("IsAsked", site, world.ask(record), len(record.split(b"\n")))
+        if not supervisor or not supervisor.is_alive:
+            self._end([{"end": True, "fault": "not running; nothing was asked"}])
+            return
+        self.request = {"op": "ask", "site": site, "records": [text_of(record) for record in records], "timeout": seconds, "fetch": True,
+                        "published": published}
+        self.task = supervisor.spawn(supervisor.serve(self.request, self.answers), self._ended, functools.partial(heard, self.answers))
+        world.clock.after(seconds + MARGIN, self._late)
+
+    def look(self) -> None:
+        """Sees whether the supervisor has gone."""
+        if not self.is_over and self.supervisor and not self.supervisor.is_alive:
+            self._unknown()
+
+    def leave(self) -> None:
+        """The client goes away; what it isn't told it doesn't know."""
+        if not self.is_over and self.task:
+            self.task.cancel()
+            self._unknown()
+
+    def _ended(self, said: Any, fault: Exception | None) -> None:
+        if fault:
+            raise fault
+        if not self.is_over:
+            self._end(self.answers)
+
+    def _late(self) -> None:
+        if not self.is_over:
+            self._unknown()
+
+    def _unknown(self) -> None:
+        self._end([*self.answers, {"end": True, "fault": "whether it was accepted isn't known"}])
+
+    def _end(self, answers: list[dict[str, Any]]) -> None:
+        self.is_over = True
+        records = iter(self.records)
+        last = ""
+        for answer in answers:
+            if "record" in answer:
+                record = next(records, None)
+                if record != bytes_of(answer["record"]):
+                    raise Violation(f"the answer to {answer['record']!r} came where {record!r} was asked")
+                self._told(record, answer["lines"][0].split(","))
+            else:
+                last = answer.get("fault", "")
+        for at, record in enumerate(records):
+            self.told.append(Told(self.site, record, self._what(last, at)))
+        for told in self.told:
+            word = {"ok": "TellsOk", "unknown": "TellsUnknown", "not-given": "TellsNothing", "not-accepted": "TellsNothing"}.get(told.what, "TellsNo")
+            self.world.note(word, told.site, self.world.ask(told.record), *(told.id or ())[1:])
+
+    def _told(self, record: bytes, head: list[str]) -> None:
+        """An answer. One that a request ends with, since the token didn't come, is no acceptance either."""
+        if head[2] == "ok":
+            site, number = map(int, head[3].split("."))
+            self.told.append(Told(self.site, record, "ok", (site, number)))
+        else:
+            self.told.append(Told(self.site, record, "refused" if head[2] == "refused" else head[2]))
+
+    @staticmethod
+    def _what(fault: str, at: int) -> str:
+        """What a fault says of the records behind those that were answered, the first of them is at 0."""
+        if any(words in fault for words in UNKNOWN):
+            return "unknown"
+        if any(words in fault for words in NOTHING):
+            return "not-given"
+        if "not accepted" in fault:
+            return "not-accepted"
+        if not fault:
+            raise Violation("a request ended without an answer to each record, and without a fault")
+        if "published" in fault or "accepted here" in fault:
+            return "unknown"
+        raise Violation(f"an asker isn't told what came of a record: {fault}")
+
+
+def asked(dice: random.Random, number: int, sites: int) -> list[bytes]:
+    """What an asker asks: records that nobody else asks, and some that no site may be given."""
+    users = [f"{dice.randrange(sites)}.{dice.randint(1, 6)}" for _ in range(3)]
+    made = []
+    for at in range(dice.choice([1, 1, 1, 1, 2, 3])):
+        unique = f"{number * 10 + at}"
+        made.append(dice.choices([
+            f"user,u{unique}", f"item,{users[0]},n{unique},{dice.randrange(9)},1,{dice.randint(1, 5)},0",
+            f"bid,{users[1]},{users[2]},{number * 10 + at + 1}", f"user,U{unique}", f"item,0.1,n{unique}"], [10, 10, 3, 1, 1])[0].encode())
+    if dice.random() < 0.06:
+        made[dice.randrange(len(made))] = dice.choice([
+            b"", b"user,a%d\nuser,b%d" % (number, number), b"user,q%d\r" % number, b"\xefuser,e%d" % number, b'user,"q%d' % number,
+            b"msg,1,0,1,1,%b,user,m%d" % (b":".join([b"0"] * sites), number), b"token,1,9,%d,9" % dice.randrange(sites)])
+    return made

@@ -1,0 +1,267 @@
+"""Machines with folders, whose files have what is on the disk and what isn't yet, and keepers that write them."""
+
+import copy
+import errno
+import functools
+import random
+import zlib
+from collections.abc import Callable, Sequence
+from typing import TYPE_CHECKING
+
+from shop_tool.carrier.files import File as Seen
+
+from .clock import Clock
+from .stand_in import StandIn, records_of
+
+if TYPE_CHECKING:
+    from .world import World
+
+
+def text_lines(lines: list[bytes]) -> list[bytes]:
+    """The lines that a keeper keeps of those that it is given."""
+    return [next(records_of(line), line) for line in lines]
+
+
+def sum_of(line: bytes) -> int:
+    return zlib.crc32(line)
+
+
+class File:
+    """A file: its bytes, and how many of them are on the disk."""
+
+    def __init__(self, inode: int, data: bytes = b"") -> None:
+        self.inode, self.data, self.synced = inode, bytearray(data), len(data)
+
+    def lose_end(self, dice: random.Random) -> bool:
+        """What the power leaves of it: what is on the disk, and some of what comes behind; whether that isn't all."""
+        size = len(self.data)
+        if self.synced < size:
+            del self.data[dice.randint(max(self.synced, size - 400), size):]
+        return len(self.data) < size
+
+
+class Folder:
+    """The folder of a site: `kept`, `out`, the sums of `kept`, and its lives."""
+
+    def __init__(self, world: "World", machine: "Machine") -> None:
+        self.world, self.machine = world, machine
+        self.inode = self.number = world.new_number()       # a clone has the same inode, and another number
+        self.files: dict[str, File] = {}
+        self.lives: list[str] = []
+        self.sums: list[int] = []           # of the lines of `kept`; they may lag behind it
+        self.fenced: str | None = None      # why it is never started again
+        self.noted = 0                      # how many of its records the run has taken down
+        self.keeper: "Keeper | None" = None  # who holds its lock
+        self.is_there = True
+        self.is_whole = True                # nothing was taken from it
+        self.has_lost = False               # the power took something of `kept`
+
+    def copied(self, machine: "Machine") -> "Folder":
+        """A copy of it, with other files of the same bytes."""
+        made = Folder(self.world, machine)
+        made.files = {name: File(self.world.new_number(), bytes(file.data)) for name, file in self.files.items()}
+        made.lives, made.sums, made.noted, made.fenced = list(self.lives), list(self.sums), self.noted, self.fenced
+        return made
+
+    def put_back(self, older: "Folder") -> None:
+        """Has what an older copy has, in the same folder."""
+        again = older.copied(self.machine)
+        self.files, self.lives, self.sums, self.noted, self.fenced = again.files, again.lives, again.sums, again.noted, again.fenced
+
+    def file(self, name: str) -> File:
+        if name not in self.files:
+            self.files[name] = File(self.world.new_number())
+        return self.files[name]
+
+    def look(self, name: str) -> Seen | None:
+        if not self.is_there:
+            return None
+        if not name:
+            return Seen(1, self.inode, 0)
+        found = self.files.get(name)
+        return Seen(1, found.inode, len(found.data)) if found else None
+
+    def read_out(self, pieces: Sequence[tuple[int, int]]) -> list[bytes]:
+        if not self.is_there or "out" not in self.files:
+            raise FileNotFoundError(errno.ENOENT, "No such file or directory", "out")
+        data = self.files["out"].data
+        found = [bytes(data[start:start + size]) for start, size in pieces]
+        if len(found[-1]) < pieces[-1][1]:
+            raise OSError(errno.EIO, "it has lost its end", "out")
+        return found
+
+    def lines(self, name: str) -> list[bytes]:
+        return bytes(self.files[name].data).splitlines(keepends=True) if self.is_there and name in self.files else []
+
+    def sent(self) -> list[bytes]:
+        """The packets in its file `out`."""
+        return [line[5:-1] for line in self.lines("out") if line.startswith(b"send,") and line.endswith(b"\n")]
+
+
+class Machine:
+    """A machine: the folders of one shop, what is in memory, and which start of it this is."""
+
+    def __init__(self, world: "World", name: str, here: Sequence[int], identity: str | None = None) -> None:
+        self.world, self.name, self.here = world, name, list(here)
+        self.identity = identity or name    # a clone of a disk has that of the original
+        self.folders = {site: Folder(world, self) for site in here}
+        self.seen: dict[int, str] = {}      # over files: the life of each site that the others saw
+        self.memory: dict[str, tuple[str, int, int]] = {}
+        self.boot = world.new_number()
+        self.is_cut_off = False             # from the server
+
+    def lose_power(self, dice: random.Random) -> list[Folder]:
+        """The power goes, and files lose what isn't on the disk; the folders of which that takes something that was kept."""
+        self.memory, self.boot = {}, self.world.new_number()
+        for folder in self.folders.values():
+            folder.has_lost = [folder.file(name).lose_end(dice) for name in ("kept", "out")][0]
+        return [folder for folder in self.folders.values() if folder.has_lost]
+
+    def copied(self, name: str, is_clone: bool) -> "Machine":
+        """Another machine with a copy of all folders; a clone of the disk can't be told from it."""
+        made = Machine(self.world, name, self.here, self.identity if is_clone else None)
+        for site, folder in self.folders.items():
+            made.folders[site] = folder.copied(made)
+            if is_clone:
+                made.folders[site].inode = folder.inode
+        made.seen = copy.copy(self.seen)
+        return made
+
+
+class Keeper:
+    """The process `rubis keep` of a site: each record is kept, then answered in `out`, then told."""
+
+    def __init__(self, folder: Folder, number: int, told: Callable[[], None]) -> None:
+        self.folder, self.number, self._told = folder, number, told
+        self.world, self.clock, self.dice = folder.world, folder.world.clock, folder.world.dice
+        self.site = StandIn(number, self.world.sites)
+        self.input: list[bytes] = []
+        self.is_closed = False          # its input has ended
+        self.is_heard = True            # somebody reads its output
+        self.status: int | None = None  # once it has ended
+        self.fault: str | None = None
+        self.head: bytes | None = None
+        self.output: list[bytes] = []
+        self.is_working = False
+        self.clock.after(0.01 + self.dice.random() * 0.02, self._start)
+
+    @property
+    def is_alive(self) -> bool:
+        return self.status is None
+
+    def write(self, data: bytes) -> None:
+        if self.is_alive:
+            self.input.append(data)
+            self._wake()
+
+    def close(self) -> None:
+        """Its input ends: it answers what it was given, and ends."""
+        self.is_closed = True
+        self._wake()
+
+    def kill(self) -> None:
+        """It is ended where it is; of what it was about to write, some bytes may be written."""
+        if self.is_alive:
+            self._end(-9)
+
+    def leave(self) -> None:
+        """The supervisor has gone: what stands in the pipe is still read."""
+        self.is_heard = False
+        self.close()
+
+    def _wake(self) -> None:
+        if self.head is not None and not self.is_working and self.is_alive:
+            self.is_working = True
+            self.clock.soon(self._keep)
+
+    def _end(self, status: int, fault: str | None = None) -> None:
+        self.status, self.fault = status, fault
+        if self.folder.keeper is self:
+            self.folder.keeper = None
+        if self.is_heard:
+            self.clock.soon(self._told)
+
+    def _start(self) -> None:
+        if not self.is_alive:
+            return
+        if self.folder.keeper:
+            return self.clock.after(0.02, self._start)     # it waits for the lock
+        if not self.folder.is_there:
+            self.folder.is_there = True                    # it makes its folder
+            self.folder.files = {}
+        self.folder.keeper = self
+        kept, out = self.kept, self.out = self.folder.file("kept"), self.folder.file("out")
+        del kept.data[kept.data.rfind(b"\n") + 1:]
+        kept.synced = min(kept.synced, len(kept.data))
+        lines = bytes(kept.data).split(b"\n")[:-1]
+        if why := self.world.rules.why_changed(self.folder.sums, lines):
+            return self._end(1, why)
+        records = [record for line in lines for record in records_of(line)]
+        said = [self.site.answer(record) for record in records]
+        for record, its in list(zip(records, said))[self.folder.noted:]:
+            self.world.answered(self, record, its)
+        self.folder.noted = len(records)
+        answers = b"".join(said)
+        if not answers.startswith(bytes(out.data)):
+            return self._end(1, "out differs")
+        out.data[:] = answers
+        self.folder.sums = [sum_of(line) for line in lines]
+        self.head = b"kept,%d" % self.site.records
+        if self.is_heard:
+            self.clock.soon(self._told)
+        self.is_working = True
+        self.clock.soon(self._keep)
+
+    def _keep(self) -> None:
+        """Keeps what one read of its input gives."""
+        if not self.is_alive:
+            return
+        data = b"".join(self.input)
+        self.input.clear()
+        if not data:
+            self.is_working = False
+            if self.is_closed:
+                self._end(0)
+            return
+        lines = data.split(b"\n")[:-1]
+        records = [record for line in lines for record in records_of(line)]
+        text = b"".join(line + b"\n" for line in text_lines(lines))
+        if self.dice.random() < 0.3:
+            # A kill may come in the middle of this write.
+            cut = self.dice.randrange(len(text))
+            self.kept.data += text[:cut]
+            return self.clock.soon(functools.partial(self._keep_rest, text[cut:], lines, records))
+        self._keep_rest(text, lines, records)
+
+    def _keep_rest(self, text: bytes, lines: list[bytes], records: list[bytes]) -> None:
+        if not self.is_alive:
+            return
+        self.kept.data += text
+        if self.world.is_synced:
+            self.kept.synced = len(self.kept.data)
+        if self.folder.files.get("kept") is self.kept:
+            self.folder.sums += [sum_of(line) for line in text_lines(lines)]
+        self.clock.soon(functools.partial(self._answer, records))
+
+    def _answer(self, records: list[bytes]) -> None:
+        """Answers what was kept, in `out` and then to the supervisor."""
+        if not self.is_alive:
+            return
+        answers = b""
+        for record in records:
+            said = self.site.answer(record)
+            answers += said
+            self.folder.noted += 1
+            self.world.answered(self, record, said)
+        self.out.data += answers
+        if not self.is_heard:
+            return self._end(1, "write")
+        self.clock.soon(functools.partial(self._tell, answers))
+
+    def _tell(self, answers: bytes) -> None:
+        if not self.is_alive:
+            return
+        self.output.append(answers)
+        if self.is_heard:
+            self._told()
+        self.clock.soon(self._keep)

@@ -1,0 +1,222 @@
+"""What goes wrong in a run: each fault is one event of the model, at a moment of its own."""
+
+import random
+from collections.abc import Callable
+from typing import TYPE_CHECKING
+
+from .disk import Folder, Machine
+from .server import lost_seconds
+from .world import Supervisor
+
+if TYPE_CHECKING:
+    from .run import Run
+
+
+def killed_keeper(run: "Run", dice: random.Random) -> None:
+    if site := run.some_site(dice):
+        run.world.note("keeper-killed", site.folder.number)
+        site.kill()
+
+
+def killed_supervisor(run: "Run", dice: random.Random) -> None:
+    if supervisor := run.some_supervisor(dice):
+        run.world.note("supervisor-killed", supervisor.machine.name)
+        supervisor.end()
+
+
+def stopped(run: "Run", dice: random.Random) -> None:
+    if supervisor := run.some_supervisor(dice):
+        supervisor.stop()
+        run.rest(supervisor.machine, dice.choice([0.0, 2.0, 8.0]))
+
+
+def lost_ends(run: "Run", machine: Machine, dice: random.Random) -> None:
+    """The power of a machine goes: its memory is gone, and the ends of files that aren't on the disk."""
+    for folder in machine.folders.values():
+        run.world.note("MachineStarts", folder.number)
+    run.taint(machine.lose_power(dice), "LosesEnd", is_whole=True)
+
+
+def lost_power(run: "Run", dice: random.Random) -> None:
+    machine = dice.choice(run.world.machines)
+    run.switch_off(machine)
+    lost_ends(run, machine, dice)
+    run.rest(machine, dice.choice([0.5, 3.0]))
+
+
+def lost_all_power(run: "Run", dice: random.Random) -> None:
+    """All machines at once, and the server."""
+    for machine in run.world.machines:
+        run.switch_off(machine)
+        lost_ends(run, machine, dice)
+        run.rest(machine, dice.random() * 3)
+    server_loses_end(run, dice)
+
+
+def lost_end(run: "Run", dice: random.Random) -> None:
+    """A file of a stopped site loses some of its end."""
+    machine, folder = run.some_folder(dice)
+    run.switch_off(machine)
+    for name in dice.choice([["kept"], ["out"], ["kept", "out"], ["kept", "out"]]):
+        if name in folder.files:
+            data = folder.files[name].data
+            del data[max(0, len(data) - dice.randint(1, 400)):]
+            folder.files[name].synced = min(folder.files[name].synced, len(data))
+    run.taint([folder], "LosesEnd", is_whole=True)      # what is left of it is whole
+
+
+def copied(run: "Run", dice: random.Random) -> None:
+    machine, folder = run.some_folder(dice)
+    copy = folder.copied(machine)
+    run.world.note("IsCopied", folder.number, copy.number)
+    run.backups.append((machine, run.number_of(machine, folder), copy))
+
+
+def put_back(run: "Run", dice: random.Random) -> None:
+    """A folder is put back to a copy of before, while its site runs or not, over what is there or as another folder."""
+    backups = [backup for backup in run.backups if backup[0] in run.world.machines]
+    if not backups:
+        return copied(run, dice)
+    machine, number, older = dice.choice(backups)
+    if dice.random() < 0.6:
+        run.switch_off(machine)
+    folder = machine.folders[number]
+    if dice.random() < 0.5:
+        folder.put_back(older)
+    else:
+        folder.is_there = False
+        machine.folders[number] = older.copied(machine)
+    run.taint([machine.folders[number]], "IsPutBack")
+
+
+def lost(run: "Run", dice: random.Random) -> None:
+    machine, folder = run.some_folder(dice)
+    if dice.random() < 0.5:
+        run.switch_off(machine)
+    number = run.number_of(machine, folder)
+    folder.is_there, folder.keeper = False, None
+    folder.files = {}
+    machine.folders[number] = made = Folder(run.world, machine)
+    made.is_there = False
+    run.taint([made], "IsLost")
+
+
+def lost_file(run: "Run", dice: random.Random) -> None:
+    """`out` or `kept` is removed while the site runs."""
+    machine, folder = run.some_folder(dice)
+    if folder.files.pop(dice.choice(["out", "out", "kept"]), None):
+        run.taint([folder], "file-removed")
+
+
+def changed_word(run: "Run", dice: random.Random) -> None:
+    """A byte of `kept` changes while its site is stopped."""
+    machine, folder = run.some_folder(dice)
+    run.switch_off(machine)
+    kept = folder.files.get("kept")
+    places = [at for at, byte in enumerate(kept.data) if byte in b"abcdefgu123"] if kept else []
+    if kept and places:
+        at = dice.choice(places)
+        kept.data[at] += 1
+        run.taint([folder], "IsChanged")
+        run.changed.append((folder, folder.lines("kept")))
+
+
+def ran_copy(run: "Run", dice: random.Random) -> None:
+    """Another machine, or another folder of this one, runs a copy of all that stands here."""
+    machine = dice.choice(run.world.machines)
+    if not run.world.is_over_server or len(run.copies) > 1:
+        return copied(run, dice)
+    is_here = dice.random() < 0.5
+    copy = machine.copied(machine.name if is_here else f"{machine.name}'", not is_here and dice.random() < 0.5)
+    if is_here:
+        copy.memory, copy.boot = machine.memory, machine.boot       # it is one machine, and one start of it
+    for number, folder in machine.folders.items():
+        run.world.note("IsCopied", folder.number, copy.folders[number].number)
+    run.taint([*machine.folders.values(), *copy.folders.values()], "copy-runs", is_whole=True)
+    if dice.random() < 0.4:
+        run.switch_off(machine)
+    run.copies.append(Supervisor(run.world, copy))
+
+
+def paused(run: "Run", dice: random.Random) -> None:
+    """A supervisor stands still, as a laptop's that sleeps; or its clock jumps."""
+    if supervisor := run.some_supervisor(dice):
+        run.world.note("paused", supervisor.machine.name)
+        run.disturb()
+        supervisor.paused_until = run.world.clock.now + dice.choice([0.3, 4.0, 8.0])
+
+
+def jumped(run: "Run", dice: random.Random) -> None:
+    if supervisor := run.some_supervisor(dice):
+        run.world.note("clock-jumps", supervisor.machine.name)
+        supervisor.skew += dice.choice([1.0, 10.0, 3600.0])
+
+
+def cut_off(run: "Run", dice: random.Random) -> None:
+    if not run.world.is_over_server:
+        return killed_keeper(run, dice)
+    machine = dice.choice(run.world.machines + [copy.machine for copy in run.copies])
+    run.world.note("cut-off", machine.name)
+    run.disturb()
+    machine.is_cut_off = True
+
+    def again() -> None:
+        machine.is_cut_off = False
+        run.disturb()
+    run.world.clock.after(dice.choice([0.2, 2.0, 6.0]), again)
+
+
+def server_goes(run: "Run", dice: random.Random, forget: Callable[[], None] | None = None) -> None:
+    """The server goes away for some time; when it comes back it may have lost something."""
+    server = run.world.server
+    if not run.world.is_over_server or not server.is_up:
+        return killed_supervisor(run, dice)
+    run.world.note("server-goes")
+    run.disturb()
+    server.go()
+    if forget:
+        forget()
+        run.note_losses()
+
+    def come() -> None:
+        server.come()
+        run.disturb()
+    run.world.clock.after(dice.choice([0.05, 0.5, 5.0]), come)
+
+
+def server_loses_end(run: "Run", dice: random.Random) -> None:
+    def forget() -> None:
+        server = run.world.server
+        server.lose_end(lost_seconds(server, dice))
+        for site, stream in enumerate(server.streams):
+            run.world.note("StreamLosesEnd", site, len(stream.entries))
+    server_goes(run, dice, forget)
+
+
+def server_loses_all(run: "Run", dice: random.Random) -> None:
+    def forget() -> None:
+        run.world.note("ServerLosesAll")
+        run.world.server.lose_all()
+    server_goes(run, dice, forget)
+
+
+def server_comes_from_backup(run: "Run", dice: random.Random) -> None:
+    def forget() -> None:
+        run.world.server.lose_end(dice.uniform(1, 30))
+        for site, stream in enumerate(run.world.server.streams):
+            run.world.note("StreamLosesEnd", site, len(stream.entries))
+    server_goes(run, dice, forget)
+
+
+def passed_by_hand(run: "Run", dice: random.Random) -> None:
+    """An operator passes the token by hand."""
+    if site := run.some_site(dice):
+        if site.shop.may_give(site):
+            site.give([b"pass,%d" % dice.randrange(run.world.sites)])
+
+
+FAULTS: dict[Callable[["Run", random.Random], None], float] = {
+    killed_keeper: 6, killed_supervisor: 5, stopped: 4, lost_power: 0.7, lost_all_power: 0.15, lost_end: 0.2, copied: 2.5, put_back: 0.6,
+    lost: 0.25, lost_file: 0.25, changed_word: 0.2, ran_copy: 0.6, paused: 2, jumped: 1.5, cut_off: 3, server_goes: 2, server_loses_end: 1.5,
+    server_loses_all: 0.5, server_comes_from_backup: 0.2, passed_by_hand: 1.5,
+}

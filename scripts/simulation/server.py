@@ -1,0 +1,168 @@
+"""The server of a run: streams, and what supervisors say to each other. It can lose the end of what it was told, or everything."""
+
+import functools
+import random
+from collections.abc import Callable
+from typing import TYPE_CHECKING, Any
+
+from shop_tool.carrier.ledger import NOWHERE, Place
+from shop_tool.carrier.over_server import WANTS
+from shop_tool.carrier.publisher import hash_of
+from shop_tool.carrier.rebuilding import STATUS_SECONDS
+from shop_tool.carrier.steps import (Adopt, Append, Entries, Hear, Marks, Owner, Packets, Page, PageOf, Read, Rewrite, SeeLife, Signal, State,
+                                     Statuses, StreamState, Tell)
+
+if TYPE_CHECKING:
+    from .clock import Clock
+    from .world import Process
+
+PAGE = 50
+WRITES = (Append, Rewrite, SeeLife, Adopt)
+
+
+class Stream:
+    def __init__(self) -> None:
+        self.entries: Packets = []
+        self.greatest = NOWHERE
+
+    @property
+    def last(self) -> Place:
+        return self.entries[-1][0] if self.entries else NOWHERE
+
+
+class Server:
+    def __init__(self, clock: "Clock", sites: int, is_always: bool) -> None:
+        self.clock, self.sites, self.is_always = clock, sites, is_always
+        self.is_up = True
+        self.times = 0                      # how often it was started: a connection is of one of them
+        self.news = Signal()                # an entry came, or it went away
+        self.log: list[tuple[float, Callable[[], None]]] = []
+        self._empty()
+
+    def _empty(self) -> None:
+        self.streams = [Stream() for _ in range(self.sites)]
+        self.marks: list[bytes | None] = [None] * self.sites
+        self.lives = [""] * self.sites
+        self.owners: list[tuple[str, str] | None] = [None] * self.sites
+        self.said: dict[int, tuple[float, dict[str, Any]]] = {}
+        self.wants: list[tuple[int, dict[bytes, bytes]]] = []
+        self.answers: dict[bytes, list[dict[str, Any]]] = {}
+
+    # What it is told, so that a beginning of it can be told again.
+
+    def _write(self, change: Callable[[], None]) -> None:
+        self.log.append((self.clock.now, change))
+        change()
+        self.news.tell()
+
+    def lose_end(self, seconds: float) -> None:
+        """It comes back as it was so many seconds ago."""
+        log = [entry for entry in self.log if entry[0] <= self.clock.now - seconds]
+        self._empty()
+        for _, change in log:
+            change()
+        self.log = log
+
+    def lose_all(self) -> None:
+        self.log = []
+        self._empty()
+
+    def go(self) -> None:
+        """It goes away, and all connections break."""
+        self.is_up = False
+        self.times += 1
+        self.news.tell()
+
+    def come(self) -> None:
+        self.is_up = True
+
+    # Steps.
+
+    def do(self, by: "Process", step: tuple[Any, ...]) -> Any:
+        match step:
+            case State(site):
+                stream = self.streams[site]
+                packet = stream.entries[-1][1] if stream.entries else b""
+                return StreamState(len(stream.entries), stream.last, packet, stream.greatest, self.lives[site])
+            case Owner(site):
+                return self._owner(by, site)
+            case Adopt(site):
+                self._write(functools.partial(self._own, site, by.identity(site)))
+            case Statuses():
+                return {site: dict(said) for site, (until, said) in self.said.items() if until > self.clock.now}
+            case Tell(statuses):
+                for site, status in statuses.items():
+                    said = status | {"told": by.clock.now, "by": by.named_of(site)}
+                    self.said[site] = self.clock.now + STATUS_SECONDS, said
+                return [stream.last[0] for stream in self.streams], list(self.marks)
+            case SeeLife(site, before, life):
+                if self.lives[site] != before:
+                    return False
+                self._write(functools.partial(self._see, site, life))
+                return True
+            case Append(site, last, packets):
+                if self.streams[site].last != last or packets[0][0] <= self.streams[site].greatest:
+                    return False
+                self._write(functools.partial(self._append, site, packets, by.world.new_mark()))
+                return True
+            case Rewrite(site, packets):
+                if packets:
+                    self._write(functools.partial(self._rewrite, site, list(packets), by.world.new_mark()))
+            case PageOf(site, after, upto):
+                page = self._entries(site, after, upto)
+                tokens = [text for _, text in page if text.startswith(b"token,")]
+                return Page(len(page), page[-1][0] if page else NOWHERE, hash_of(page), tokens)
+            case Entries(site, after, upto):
+                return self._entries(site, after, upto)
+            case Marks():
+                return list(self.marks)
+            case Read(after, most, _):
+                found = {site: [entry for entry in self.streams[site].entries if entry[0] > place][:most] for site, place in after.items()}
+                return {site: entries for site, entries in found.items() if entries}
+            case Hear(after):
+                return [(b"%d" % number, fields) for number, fields in self.wants if number > int(after)]
+            case _:
+                raise NotImplementedError(step)
+
+    def say(self, number: int, fields: dict[str, Any]) -> None:
+        """A want, or a request to another supervisor."""
+        self.wants.append((number, {name.encode(): value if isinstance(value, bytes) else str(value).encode() for name, value in fields.items()}))
+        del self.wants[:-WANTS]
+        self.news.tell()
+
+    def forget(self, sites: list[int]) -> None:
+        for site in sites:
+            self.said.pop(site, None)
+
+    def _entries(self, site: int, after: Place, upto: Place | None) -> Packets:
+        return [entry for entry in self.streams[site].entries if entry[0] > after and (upto is None or entry[0] <= upto)][:PAGE]
+
+    def _owner(self, by: "Process", site: int) -> str | None:
+        owner = self.owners[site]
+        if owner is None:
+            self._write(functools.partial(self._own, site, by.identity(site)))
+            return None
+        return None if owner[0] == by.identity(site)[0] else owner[1]
+
+    def _own(self, site: int, owner: tuple[str, str]) -> None:
+        self.owners[site] = owner
+
+    def _see(self, site: int, life: str) -> None:
+        self.lives[site] = life
+
+    def _append(self, site: int, packets: Packets, mark: bytes) -> None:
+        stream = self.streams[site]
+        if not stream.entries:
+            self.marks[site] = mark
+        stream.entries += packets
+        stream.greatest = packets[-1][0]
+
+    def _rewrite(self, site: int, packets: Packets, mark: bytes) -> None:
+        self.streams[site] = Stream()
+        self._append(site, packets, mark)
+        self.marks[site] = mark
+
+
+def lost_seconds(server: Server, dice: random.Random) -> float:
+    """How much of its end a server may lose."""
+    return 0.0 if server.is_always else dice.choice([0.05, 0.3, 1.0, 2.0])

@@ -1,0 +1,70 @@
+"""Puts faults back, one at a time, so that it is known that they are found: each takes one rule out."""
+
+from contextlib import ExitStack
+from typing import Any
+from unittest import mock
+
+from shop_tool.carrier.lives import Standing
+from shop_tool.carrier.over_server import ServerLink
+from shop_tool.carrier.records import Purpose, why_not_one_record
+from shop_tool.carrier.shop import Shop
+from shop_tool.carrier.site import Site
+
+from .world import Rules
+
+# Where records are looked at before a site is given them.
+LOOKS = ("shop_tool.carrier.site", "shop_tool.carrier.shop", "shop_tool.requests")
+
+
+def opens_at_once(shop: Shop, site: Site, answered: int | None) -> None:
+    shop._opened(site, answered or 0)
+
+
+def sent_unguarded(site: Site, begin: int, end: int) -> list[bytes]:
+    return [text for _, text in site.ledger.sends.read(begin, end)]
+
+
+def mark_passes(record: bytes, purpose: Purpose = Purpose.ASK) -> str | None:
+    return None if record.startswith(b"\xef") else why_not_one_record(record, purpose)
+
+
+def patches_of(rule: str) -> list[Any]:
+    """What is replaced of the carrier where a rule is taken out."""
+    def instead(name: str, what: Any) -> Any:
+        return mock.patch(name, what)
+    changes: dict[str, list[Any]] = {
+        "1": [instead("shop_tool.carrier.over_server.is_called", lambda *_: True)],
+        "2": [mock.patch.object(ServerLink, "goes_on", lambda _: True)],
+        "3": [instead("shop_tool.carrier.reader.to_search", lambda *_: [])],
+        "4": [mock.patch.object(Shop, "begin_site", opens_at_once)],
+        "5": [instead(f"{name}.why_not_one_record", lambda *_: None) for name in LOOKS],
+        "6": [instead(f"{name}.why_not_one_record", mark_passes) for name in LOOKS],
+        "7": [mock.patch.object(Site, "sent", sent_unguarded)],
+        "9": [],
+        "9-lives": [instead(f"shop_tool.carrier.{name}.standing", lambda *_: Standing.NEXT) for name in ("publisher", "over_files")],
+        "11": [],
+        "turns": [instead("shop_tool.carrier.shop.why_passed_on", lambda *_: None)],
+    }
+    return changes[rule]
+
+
+RULES = ("1", "2", "3", "4", "5", "6", "7", "9", "9-lives", "11", "turns")
+
+
+def rules_without(rule: str | None) -> Rules:
+    """What the harness does where a rule is taken out."""
+    rules = Rules()
+    if rule == "2":
+        rules.swallowed_cancel_ends = False
+    if rule == "11":
+        rules.hands_over = False
+    rules.has_sums = rule != "9"
+    return rules
+
+
+def taken_out(rule: str | None) -> ExitStack:
+    """While this is open the rule is out."""
+    stack = ExitStack()
+    for patch in patches_of(rule) if rule else []:
+        stack.enter_context(patch)
+    return stack

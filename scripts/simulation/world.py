@@ -1,0 +1,750 @@
+"""A run: machines and their supervisors, the server, and what is known of all of them that no part of the shop knows."""
+
+import collections
+import functools
+import json
+import random
+from collections.abc import Callable
+from typing import Any
+
+from shop_tool.carrier.asking import Ask
+from shop_tool.carrier.ledger import packets_of, sends_of, tokens_of
+from shop_tool.carrier.lives import placed
+from shop_tool.carrier.over_files import FileLink
+from shop_tool.carrier.over_server import ServerLink
+from shop_tool.carrier.rebuilding import UNCHANGED
+from shop_tool.carrier.records import text_of
+from shop_tool.carrier.shop import HAND_OVER_SECONDS, Shop
+from shop_tool.carrier.site import FIRST_WAIT, LAST_WAIT, Disagreement, Site, State
+from shop_tool.carrier.steps import (Append, Broken, CallAll, Connect, Flag, Hear, IsRunning, Kept, KeptOf, Read, Replay, Rewrite, Say,
+                                     SayLeave, SayWant, SeeHere, SeenHere, SentHere, Signal, Statuses, Steps, Swap, UpElsewhere, Wait)
+from shop_tool.carrier.told import unanswered
+from shop_tool.ends import Fault, Status
+from shop_tool.requests import Request, asks_of
+
+from .clock import Clock, Task
+from .disk import Folder, Keeper, Machine, sum_of
+from .server import WRITES, Server
+from .stand_in import StandIn
+
+STOP_SECONDS, END_SECONDS, LAST_SECONDS, LOOK_SECONDS = 30.0, 3.0, 2.0, 1.0
+
+
+class Violation(Exception):
+    """A promise that is broken."""
+
+
+class Rules:
+    """What the parts of the harness itself do as the shop does; a fault that is put back replaces one of these."""
+
+    swallowed_cancel_ends = True    # a supervisor that is stopped ends, whatever a connection swallows
+    hands_over = True               # a stop passes the token on first
+    has_sums = True                 # a keeper compares the lines of `kept` with their sums when it starts
+
+    def why_changed(self, sums: list[int], lines: list[bytes]) -> str | None:
+        """Why a keeper doesn't start on these lines of `kept`, whose sums were written down before."""
+        wrong = next((at for at, (sum, line) in enumerate(zip(sums, lines), 1) if self.has_sums and sum != sum_of(line)), None)
+        return f"kept was changed: line {wrong}" if wrong else None
+
+
+class World:
+    def __init__(self, seed: str, rules: Rules, words: list[str] | None) -> None:
+        self.dice = random.Random(seed)
+        self.clock = Clock(self.dice)
+        self.rules = rules
+        self.words = words                  # the run as a list of the model's steps
+        self.counts: collections.Counter[str] = collections.Counter()
+        self.numbers = 0
+        self.asks: dict[bytes, int] = {}
+        self.sites = self.dice.choice([2, 2, 3, 3, 4, 5])
+        self.is_over_server = self.dice.random() < 0.65
+        self.is_synced = self.dice.random() < 0.4
+        self.server = Server(self.clock, self.sites, self.dice.random() < 0.4)
+        self.machines = self._machines()
+        self.is_calm = False                # no fault comes any more
+        self.disturbed_at = -10.0           # when a connection was last cut off, or a process stood still
+        self.running: list[Supervisor] = []
+        # What no part of the shop knows.
+        self.accepted: dict[bytes, set[tuple[int, int]]] = {}       # asks, each with the ids under which a site accepted it
+        self.made: dict[tuple[int, int], bytes] = {}                # the message that had each id last
+        self.text_of: dict[bytes, bytes] = {}                       # the message that each ask became
+        self.lost: set[bytes] = set()                               # messages of which nothing whole was left
+        self.excused: set[tuple[int, int]] = set()                  # ids that were given twice as they may be
+        self.is_unreached = False           # a site was opened of which a folder has more that couldn't be reached
+        self.turn = (0, 0, 0)                                       # of the last token, from and to which site
+        self.passes: dict[int, bytes] = {}                          # the last token of each turn
+
+    def _machines(self) -> list[Machine]:
+        if not self.is_over_server or self.dice.random() < 0.15:
+            return [Machine(self, "m0", range(self.sites))]
+        sites, machines = list(range(self.sites)), list[Machine]()
+        while sites:
+            count = self.dice.randint(1, len(sites)) if len(machines) else self.dice.randint(1, max(1, len(sites) - 1))
+            machines.append(Machine(self, f"m{len(machines)}", sites[:count]))
+            sites = sites[count:]
+        return machines
+
+    def supervisors(self) -> list["Supervisor"]:
+        self.running = [supervisor for supervisor in self.running if supervisor.is_alive]
+        return self.running
+
+    def new_number(self) -> int:
+        self.numbers += 1
+        return self.numbers
+
+    def new_mark(self) -> bytes:
+        return b"%d" % self.new_number()
+
+    def ask(self, record: bytes) -> int:
+        """The number of an ask: they are counted as they are first seen."""
+        return self.asks.setdefault(record, len(self.asks) + 1)
+
+    def note(self, word: str, *fields: object) -> None:
+        """A step of the model is done, by the name that it has there, or something else happens, whose word begins with a small letter."""
+        self.counts[word] += 1
+        if self.words is not None:
+            self.words.append(",".join([f"{self.clock.now:.4f}", word, *map(str, fields)]))
+
+    def _is_anywhere(self, text: bytes) -> bool:
+        """Whether a folder or a stream has a message."""
+        return any(text in (line.rstrip(b"\n") for line in folder.lines("kept")) or text in folder.sent()
+                   for machine in self.machines for folder in machine.folders.values()) or \
+            any(text == its for stream in self.server.streams for _, its in stream.entries)
+
+    def note_unreached(self, number: int, opened: Folder, own: int) -> None:
+        """A site is opened with so many messages: notes whether a folder has more of it that can't be reached."""
+        for machine in self.machines:
+            for site, folder in machine.folders.items():
+                if folder is not opened and not self.is_unreached:
+                    if site == number:
+                        more = sum(text.startswith(b"msg,") for text in folder.sent())
+                    else:
+                        more = max((int(line.split(b",", 4)[3]) for line in folder.lines("kept") if line.startswith(b"msg,1,%d," % number)),
+                                   default=0)
+                    self.is_unreached = more > own
+
+    def answered(self, keeper: Keeper, record: bytes, said: bytes) -> None:
+        """A site has answered a record."""
+        head, _, rest = said.partition(b"\n")
+        fields = head.split(b",")
+        site = keeper.number
+        match fields[2]:
+            case b"ok":
+                number = int(fields[3].split(b".")[1])
+                name, text = (site, number), rest[5:-1] if rest.endswith(b"\n") else rest[5:]
+                self.note("Accepts", keeper.folder.number, self.ask(record), site, number)
+                self.accepted.setdefault(record, set()).add(name)
+                if len(self.accepted[record]) > 1:
+                    raise Violation(f"one ask was accepted twice: {record!r} as {sorted(self.accepted[record])}")
+                if (before := self.made.get(name, text)) != text:
+                    if self._is_anywhere(before):
+                        self.excused.add(name)      # what knew of the first couldn't be asked when the site was opened
+                    self.lost.add(before)
+                self.made[name] = text
+                self.text_of[record] = text
+            case b"passed":
+                text = rest[5:].rstrip(b"\n")
+                turn, to = (int(field) for field in text.split(b",")[2:4])
+                self.note("Passes", keeper.folder.number, to, turn)
+                if turn > self.turn[0]:
+                    self.turn = turn, site, to
+                self.passes[turn] = text
+            case b"holding":
+                self.note("Reads", keeper.folder.number, "pass", int(record.split(b",")[2]))
+            case b"released" | b"held":
+                packet = record.split(b",")
+                self.note("Reads", keeper.folder.number, int(packet[2]), int(packet[3]))
+            case b"refused":
+                self.note("Refuses", keeper.folder.number, self.ask(record), fields[4].decode())
+
+
+class SimulatedSite(Site):
+    shop: "Supervisor"
+
+    def __init__(self, shop: "Supervisor", number: int) -> None:
+        self.machine = shop.machine
+        super().__init__(shop, number, lambda pieces: self.folder.read_out(pieces), lambda name: self.folder.look(name))
+        self.keeper: Keeper | None = None
+        self.output = Signal()
+
+    @property
+    def folder(self) -> Folder:
+        return self.machine.folders[self.number]
+
+    def write(self, data: bytes) -> None:
+        if self.keeper:
+            self.keeper.write(data)
+
+    def kill(self) -> None:
+        if self.keeper:
+            self.keeper.kill()
+
+    def stop(self) -> None:
+        if self.keeper:
+            self.keeper.close()
+
+    def fence(self, text: str, outlasts: bool = False) -> None:
+        if not self.fenced_by:
+            self.shop.world.note("fenced", self.folder.number)
+            self.shop.fenced.append((self.number, text))
+        super().fence(text, outlasts)
+
+    def write_fence(self, text: str) -> None:
+        self.folder.fenced = text
+
+    def run(self) -> Steps[None]:
+        """As the shell's: starts the keeper, and again whenever it ends, until the shop is stopped or the site is fenced."""
+        wait = FIRST_WAIT
+        while not self.shop.stopping.is_set and not self.has_lost_files():
+            began, self.starts, faults = self.shop.now(), self.starts + 1, self.fault
+            self.become(State.STARTING)
+            status = yield from self._live()
+            self.up.clear()
+            if self.shop.stopping.is_set or self.fenced_by:
+                break
+            wait = self.next_wait(wait, self.shop.now() - began, status)
+            if self.fault == faults:
+                self.fault = "", f"ended with status {status}"
+            yield Wait(self.shop.stopping, wait)
+            wait = min(2 * wait, LAST_WAIT)
+        self.end()
+
+    def _live(self) -> Steps[int]:
+        keeper = self.keeper = Keeper(self.folder, self.number, self.output.tell)
+        if self.starts > 1:
+            self.shop.world.note("KeeperStarts", self.folder.number)
+        if self.shop.stopping.is_set:
+            self.stop()
+        try:
+            yield from self._read_answers(keeper)
+        except (Disagreement, ValueError, OSError) as fault:
+            self.note_fault(str(fault))
+            if isinstance(fault, Disagreement):
+                self.shop.fenced.append((self.number, str(fault)))
+                self.fenced_by = self.fenced_by or str(fault)
+        finally:
+            self.up.clear()
+        if not self.shop.stopping.is_set and keeper.is_alive:
+            keeper.kill()
+        while keeper.is_alive:
+            yield Wait(self.output, 0.1)
+        if keeper.fault:
+            self.note_fault(keeper.fault)
+        assert keeper.status is not None
+        return keeper.status
+
+    def _read_answers(self, keeper: Keeper) -> Steps[None]:
+        while keeper.head is None:
+            if not keeper.is_alive:
+                return
+            yield Wait(self.output, 0.5)
+        if self.has_lost_files():
+            return
+        kept, out = bytes(self.folder.file("kept").data), bytes(self.folder.file("out").data)
+        lines = iter(kept[self.ledger.kept_bytes:].splitlines(keepends=True))
+        pieces = iter([out[self.ledger.out_bytes:]])
+        yield from self.catch_up(int(keeper.head.split(b",")[1]), lambda: next(lines, b""), lambda: next(pieces, b""))
+        self.come_up()
+        self.shop.look_at_open(self)
+        while True:
+            while keeper.output:
+                if not self.take(keeper.output.pop(0)):
+                    return
+            if not keeper.is_alive:
+                return
+            yield Wait(self.output, 0.5)
+
+
+class Process:
+    """A process of a machine, and what it does over the server."""
+
+    def __init__(self, world: World, machine: Machine) -> None:
+        self.world, self.machine, self.clock = world, machine, world.clock
+        self.is_alive = True
+        self.paused_until = 0.0
+        self.tasks: dict[Task, None] = {}       # in their order, so that a run is the same each time
+
+    def resumes_in(self, call: Callable[[], None]) -> float | None:
+        if not self.is_alive:
+            return 0.0
+        if (left := self.paused_until - self.clock.now) > 0:
+            self.clock.after(left, call)
+            return left
+        return None
+
+    def spawn(self, steps: Steps[Any], on_end: Callable[[Any, Exception | None], None] | None = None,
+              hear: Callable[[bytes, Any], None] | None = None) -> Task:
+        def ended(said: Any, fault: Exception | None) -> None:
+            self.tasks.pop(task, None)
+            if on_end:
+                on_end(said, fault)
+            elif fault:
+                self.failed(fault)
+        task = Task(self, steps, ended)
+        task.hear = hear
+        self.tasks[task] = None
+        return task
+
+    def failed(self, fault: Exception) -> None:
+        raise fault
+
+    def end(self) -> None:
+        """It ends at once."""
+        self.is_alive = False
+        for task in list(self.tasks):
+            task.cancel()
+        self.tasks.clear()
+
+    def identity(self, site: int) -> tuple[str, str]:
+        """Names the folder of a site here, and how people read that."""
+        return f"{self.machine.identity}:{self.machine.folders[site].inode}", f"{self.machine.name}:{site}"
+
+    def named_of(self, site: int) -> str:
+        return f"{self.machine.boot} {' '.join(self.identity(site))}"
+
+    def kept_of(self, keeper: int, origin: int, after: int) -> Kept | None:
+        """What stands in the file `kept` of a site here."""
+        folder = self.machine.folders[keeper]
+        if not folder.is_there or "kept" not in folder.files:
+            return None
+        return list(packets_of(folder.lines("kept"), origin, after)), tokens_of(folder.lines("kept"))
+
+    def reaches(self) -> bool:
+        return self.world.server.is_up and not self.machine.is_cut_off
+
+    def do(self, task: Task, step: tuple[Any, ...]) -> None:
+        raise NotImplementedError
+
+    def over(self, task: Task, step: tuple[Any, ...]) -> None:
+        """Does a step of a task over its connection to the server: before the connection breaks, after that, much later, or never."""
+        dice, server = self.world.dice, self.world.server
+        if isinstance(step, Connect):
+            task.connection = server.times if self.reaches() else None
+            return task.answer()
+        if isinstance(step, WRITES) and not self.world.is_calm and dice.random() < 0.004:
+            self.world.note("late")
+            self.clock.after(dice.choice([1.0, 10.0, 3600.0]) * dice.random(), lambda: self._arrives_late(step))
+            return task.answer(fault=Broken("timed out"), seconds=10 * dice.random())
+
+        turn = task.turn
+
+        def arrives() -> None:
+            if task.turn != turn and dice.random() < 0.5:
+                return
+            if task.turn != turn:       # nobody waits for it any more, and it arrives all the same
+                return self._arrives_late(step) if isinstance(step, WRITES) else None
+            if not self.reaches() or task.connection != server.times:
+                return task.answer(fault=Broken("away"), seconds=dice.choice([0.01, 0.01, 3.0]))
+            if isinstance(step, (Read, Hear)):
+                return self._read(task, Hear(self._heard_upto()) if step == Hear(b"$") else step)
+            said = server.do(self, step)
+            self._note(step, said)
+            if not self.world.is_calm and dice.random() < 0.004:
+                return task.answer(fault=Broken("broke"))   # it was done, and that isn't known
+            task.answer(said)
+        self.clock.soon(arrives)
+
+    def _arrives_late(self, step: tuple[Any, ...]) -> None:
+        if self.world.server.is_up and not self.world.is_calm:
+            self._note(step, self.world.server.do(self, step))
+
+    def _heard_upto(self) -> bytes:
+        wants = self.world.server.wants
+        return b"%d" % (wants[-1][0] if wants else 0)
+
+    def _read(self, task: Task, step: Read | Hear) -> None:
+        """Answers once there is something to read, or its time is over."""
+        server, turn = self.world.server, task.turn
+        until = self.clock.now + (step.seconds if isinstance(step, Read) else 2.0)
+        connection = task.connection
+
+        def look() -> None:
+            if task.is_over or task.turn != turn:
+                return
+            if not self.reaches() or server.times != connection:
+                return task.answer(fault=Broken("away"))
+            if (found := server.do(self, step)) or self.clock.now >= until:
+                return task.answer(found)
+            server.news.add(look)
+        self.clock.after(until - self.clock.now, look)
+        look()
+
+    def _note(self, step: tuple[Any, ...], said: Any) -> None:
+        match step:
+            case Append(site, _, packets) if said:
+                folder = self.machine.folders.get(site) or next(iter(self.machine.folders.values()))
+                for place, _ in packets:
+                    self.world.note("Appends", folder.number, site, "%d-%d" % place)
+            case Rewrite(site, packets):
+                self.world.note("WritesAnew", self.machine.folders[site].number, *("%d-%d" % place for place, _ in packets))
+
+    def call(self, request: Request, site: int, seconds: float) -> Steps[list[dict[str, Any]] | None]:
+        """What the supervisor of a site elsewhere answers; None if it gives no answer in time."""
+        server, until = self.world.server, self.clock.now + seconds
+        name = b"%d" % self.world.new_number()
+        while not self.reaches() or not server.lives[site]:
+            if self.clock.now > until:
+                return None
+            yield Wait(None, 0.1)
+        life = server.lives[site].encode()
+        yield Wait(None, 0)
+        server.say(self.world.new_number(), {"call": name, "site": site, "life": life, "request": json.dumps(request)})
+        while self.clock.now < until:
+            yield Wait(None, 0.02)
+            if self.reaches() and name in server.answers:
+                return server.answers.pop(name)
+        return None
+
+    def call_all(self, task: Task, step: CallAll) -> None:
+        answers: dict[int, list[dict[str, Any]]] = {}
+        turn, left = task.turn, set(step.sites)
+
+        def ended(site: int, said: Any, fault: Exception | None) -> None:
+            left.discard(site)
+            if said:
+                answers[site] = said
+            if not left:
+                task.resume(turn, answers)
+        for site in step.sites:
+            self.spawn(self.call(step.request, site, step.seconds), functools.partial(ended, site))
+        self.clock.after(step.seconds if step.sites else 0.0, functools.partial(task.resume, turn, answers))
+
+
+class SimulatedServerLink(ServerLink):
+    shop: "Supervisor"
+
+    def named(self, site: Site) -> str:
+        return self.shop.named_of(site.number)
+
+    def called(self, site: Site, fields: dict[bytes, bytes]) -> Callable[[], None]:
+        request = json.loads(fields[b"request"])
+        return lambda: self.shop.serve_call(fields[b"call"], self.shop.sites[site.number], request)
+
+
+class Supervisor(Process, Shop):
+    sites: dict[int, SimulatedSite]
+
+    def __init__(self, world: World, machine: Machine, is_alone: bool = False) -> None:
+        Process.__init__(self, world, machine)
+        Shop.__init__(self, world.sites, is_alone)
+        self.skew = 0.0
+        self.fenced: list[tuple[int, str]] = []
+        self.looked_at: set[int] = set()
+        self.events: list[str] = []
+        self.began = self.clock.now
+        self.stopped_at: float | None = None
+        self.is_gone = Flag()
+        self.takers: set[tuple[int, int]] = set()
+        self.sites = {number: SimulatedSite(self, number) for number in machine.here}
+        self.link: FileLink | SimulatedServerLink
+        self.link = SimulatedServerLink(self, "the server") if world.is_over_server else FileLink(self)
+        for site in self.sites.values():
+            self._begin(site)
+            self.spawn(site.run())
+        if isinstance(self.link, SimulatedServerLink):
+            for name, work in self.link.works_of().items():
+                self.spawn(self.link.forever(name, work))
+        else:
+            for site in self.sites.values():
+                self.spawn(self.link.compare(site))
+                self.spawn(self.link.read(site))
+        self.spawn(self._look_after())
+        world.running.append(self)
+
+    def now(self) -> float:
+        return self.clock.now + self.skew
+
+    def stamp(self) -> str:
+        return f"{self.clock.now:.3f}"
+
+    def event(self, text: str) -> None:
+        self.events.append(f"{self.clock.now:.3f} {self.machine.name} {text}")
+
+    def later(self, seconds: float, call: Callable[[], None]) -> None:
+        def guarded() -> None:
+            if self.is_alive:
+                call()
+        self.clock.after(seconds, guarded)
+
+    def begin(self, steps: Steps[None]) -> None:
+        self.spawn(steps)
+
+    def witness_of(self, site: Site, answered: int) -> Callable[[int], None]:
+        memory, first = self.machine.memory, site.lives[0]
+        memory[first] = site.lives[-1], answered, self.sites[site.number].folder.inode
+
+        def tell(upto: int) -> None:
+            life, was, of = memory[first]
+            if upto > was:
+                memory[first] = life, upto, of
+        return tell
+
+    def _begin(self, site: SimulatedSite) -> None:
+        """As the shell's: begins the next life of a site's folder."""
+        folder, before = site.folder, list(site.folder.lives)
+        answered = None
+        if before and (found := self.machine.memory.get(before[0])) and (found[0], found[2]) == (before[-1], folder.inode):
+            answered = found[1]
+        if not folder.is_there:
+            folder.is_there, folder.files, folder.lives, folder.sums = True, {}, [], []
+        folder.lives.append(f"{self.world.new_number():016x}")
+        site.lives = list(folder.lives)
+        self.world.note("Starts", folder.number, site.number)
+        has_all = answered is not None and "kept" in folder.files and len(folder.files["kept"].data) >= answered
+        if folder.fenced:
+            site.fence(folder.fenced)
+        self.begin_site(site, answered if has_all else None)
+
+    def _opened(self, site: Site, answered: int) -> None:
+        super()._opened(site, answered)
+        self.look_at_open(site)
+
+    def look_at_open(self, site: Site) -> None:
+        """A site is up and open for the first time only if nothing that it reaches has more of it, or another past."""
+        if site.number in self.looked_at or self.world.excused or site.fenced_by or not (site.up.is_set and site.opened.is_set):
+            return
+        self.looked_at.add(site.number)
+        self.world.note("Opens", self.machine.folders[site.number].number)
+        keeper = self.sites[site.number].keeper
+        assert keeper
+        messages = keeper.site.release.counts[site.number]
+        self.world.note_unreached(site.number, keeper.folder, messages)
+        own = dict(sends_of(keeper.folder.lines("out")))
+        for other in self.sites.values():
+            if other is not site and other.known.is_set and other.ledger.have[site.number].greatest > messages:
+                raise Violation(f"site {site.number} is opened with {messages} messages, and site {other.number} has "
+                                f"{other.ledger.have[site.number].greatest}")
+        if not isinstance(self.link, SimulatedServerLink) or not self.reaches() or self.link.down:
+            return
+        for place, text in self.world.server.streams[site.number].entries:
+            if place[0] > messages or place in own and own[place] != text:
+                raise Violation(f"site {site.number} is opened with {messages} messages, and its stream has {text!r} at {place}")
+        for number, (until, said) in self.world.server.said.items():
+            if number not in self.sites and until > self.clock.now and said["has"][str(site.number)] > messages:
+                raise Violation(f"site {site.number} is opened with {messages} messages, and site {number} says that it has {said['has']}")
+
+    def failed(self, fault: Exception) -> None:
+        if isinstance(fault, Violation):
+            raise fault
+        raise Violation(f"the supervisor of {self.machine.name} ended by a fault of its own: {fault!r}") from fault
+
+    def _look_after(self) -> Steps[None]:
+        while True:
+            yield Wait(None, LOOK_SECONDS)
+            for site in self.sites.values():
+                site.has_lost_files()
+
+    # Steps.
+
+    def do(self, task: Task, step: tuple[Any, ...]) -> None:
+        server, is_over_server = self.world.server, self.world.is_over_server
+        match step:
+            case Say(record, answer):
+                if task.hear:
+                    task.hear(record, answer)
+                return task.answer()
+            case KeptOf(keeper, origin, after):
+                return task.answer(self.kept_of(keeper, origin, after))
+            case SeenHere(site):
+                return task.answer(self.machine.seen.get(site))
+            case SeeHere(site, life):
+                self.machine.seen[site] = life
+                return task.answer()
+            case SayWant(site, known):
+                self.world.note("want", site)
+                if not is_over_server:
+                    self.hear_want(site, known)
+                elif self.reaches():
+                    server.say(self.world.new_number(), {"want": site, "known": known})
+                return task.answer()
+            case SayLeave():
+                if self.reaches() and is_over_server:
+                    server.say(self.world.new_number(), {"leave": ",".join(map(str, self.sites))})
+                return task.answer()
+            case IsRunning(site, seconds):
+                return task.answer(self._is_running(site), seconds=self.world.dice.random() * 2 * seconds)
+            case UpElsewhere():
+                statuses = server.do(self, Statuses()) if self.reaches() and is_over_server else {}
+                return task.answer({site for site, said in statuses.items() if site not in self.sites and said["state"] == "up"})
+        if isinstance(step, CallAll):
+            return self.call_all(task, step)
+        self.over(task, step)
+
+    def _is_running(self, site: int) -> bool | None:
+        if not self.world.is_over_server:
+            return self.sites[site].up.is_set
+        if not self.reaches():
+            return None
+        until, said = self.world.server.said.get(site, (0.0, {}))
+        return until > self.clock.now and said["state"] == "up"
+
+    # Requests.
+
+    def serve(self, request: Request, answers: list[dict[str, Any]], called: SimulatedSite | None = None) -> Steps[None]:
+        """As the shell's: answers a request of a client, or of another supervisor; the last answer has `end`."""
+        last: dict[str, Any] = {"end": True}
+        try:
+            last |= (yield from self._answer(request, answers, called)) or {}
+        except Fault as fault:
+            last |= {"status": fault.status, "fault": fault.text}
+        answers.append(last)
+
+    def _answer(self, request: Request, answers: list[dict[str, Any]], called: SimulatedSite | None) -> Steps[dict[str, Any] | None]:
+        if request["op"] == "status":
+            return {"shop": {"stopping": self.is_leaving, "site": [self.status_of(site) for site in self.sites.values()]}}
+        site = called or self.sites.get(request["site"])
+        if site is None:
+            found = (yield CallAll(request, [request["site"]], request["timeout"])).get(request["site"])
+            if not found:
+                raise Fault(Status.AWAY, f"site {request['site']} runs on another machine, and gives no answer{unanswered(request)}")
+            answers += found[:-1]
+            return dict(found[-1])
+        if request["op"] == "have":
+            messages, tokens = self.kept_of(site.number, request["origin"], request["after"]) or ([], [])
+            return {"messages": [text_of(text) for _, text in messages], "tokens": [text_of(text) for text in tokens]}
+        asked = asks_of(request)
+        if self.is_leaving:
+            raise Fault(Status.AWAY, "the shop is being stopped; nothing was asked")
+        ask = Ask(site, request["timeout"], asked.fetches_token)
+        yield from ask.run(asked.records)
+        if asked.published:
+            yield from ask.published()
+        return None
+
+    def serve_call(self, name: bytes, site: SimulatedSite, request: Request) -> None:
+        answers: list[dict[str, Any]] = []
+
+        def replied(said: Any, fault: Exception | None) -> None:
+            if fault:
+                return self.failed(fault)
+            if self.reaches():
+                self.world.server.answers[name] = answers
+        self.spawn(self.serve(request, answers, site), replied, functools.partial(heard, answers))
+
+    # Its end.
+
+    def stop(self) -> None:
+        if not self.is_leaving and self.is_alive:
+            self.takers = self._takers()
+            self.is_leaving, self.stopped_at = True, self.clock.now
+            self.world.note("stopped", self.machine.name)
+            self.spawn(self._leave())
+
+    def _takers(self) -> set[tuple[int, int]]:
+        """The sites elsewhere that could take the token now, each with how often it was started; none where one here couldn't pass it, or
+        a connection failed."""
+        holder = next((site for site in self.sites.values() if site.ledger.holds_token), None)
+        if not isinstance(self.link, SimulatedServerLink) or not self.reaches() or self.link.down or not holder or not self.may_give(holder) \
+                or holder.is_passing or self.world.disturbed_at > self.clock.now - 3:
+            return set()
+        return {(site.number, site.starts) for other in self.world.supervisors() if other.machine.name != self.machine.name
+                for site in other.sites.values()
+                if other.reaches() and isinstance(other.link, SimulatedServerLink) and not other.link.down and not other.is_leaving
+                and other.paused_until + 3 < self.clock.now
+                and site.up.is_set and site.compared.is_set and not site.fenced_by}
+
+    def _leave(self) -> Steps[None]:
+        if len(self.sites) < self.count and self.world.rules.hands_over:
+            over = Flag()
+            handing = self.spawn(self.hand_over(), lambda said, fault: over.set())
+            yield Wait(over, HAND_OVER_SECONDS)
+            handing.cancel()
+        holder = next((site for site in self.sites.values() if site.ledger.holds_token and self.may_give(site)), None)
+        if holder and self.takers and self.takers == self._takers():
+            raise Violation(f"the shop of {self.machine.name} is stopped, and takes the token along with site {holder.number}, though there "
+                            f"were sites elsewhere to take it: {sorted(self.takers)}")
+        self.stopping.set()
+        for site in self.sites.values():
+            site.stop()
+        until = self.clock.now + STOP_SECONDS
+        while any(site.keeper and site.keeper.is_alive for site in self.sites.values()):
+            if self.clock.now > until:
+                for site in self.sites.values():
+                    site.kill()
+            yield Wait(None, 0.05)
+        if isinstance(self.link, SimulatedServerLink):
+            until = self.clock.now + LAST_SECONDS
+            while self.link.state == "up" and self.clock.now < until and not self.link.is_published():
+                yield Wait(None, 0.02)
+            self.link.is_over = True
+            if self.reaches():
+                self.world.server.forget([site.number for site in self.link.own_sites()])
+        yield from self._cancel_tasks()
+        self.clock.soon(self.end)
+
+    def _cancel_tasks(self) -> Steps[None]:
+        """Cancels what runs still. A connection may swallow that, as one of redis-py 4.3.4 does, and then its task goes on."""
+        others = [task for task in self.tasks if task.connection is not None]
+        for task in others:
+            if not isinstance(task.step, Wait) and self.world.dice.random() < 0.5:
+                task.resume(task.turn, None, Broken("closing timed out"))
+            else:
+                task.cancel()
+        until = self.clock.now + END_SECONDS
+        while any(not task.is_over for task in others):
+            if self.clock.now > until and self.world.rules.swallowed_cancel_ends:
+                break
+            yield Wait(None, 0.1)
+
+    def end(self) -> None:
+        if self.is_alive:
+            for site in self.sites.values():
+                self.world.note("IsKilled", site.folder.number)
+                if site.keeper:
+                    site.keeper.leave()
+            super().end()
+            self.is_gone.set()
+
+
+def heard(answers: list[dict[str, Any]], record: bytes, answer: Any) -> None:
+    answers.append({"record": text_of(record), "lines": [text_of(line) for line in answer.lines]})
+
+
+class Command(Process):
+    """A command that changes the folder of a site while the shop is stopped."""
+
+    made: Folder | None = None      # what takes the place of a folder
+
+    def do(self, task: Task, step: tuple[Any, ...]) -> None:
+        folders = self.machine.folders
+        match step:
+            case SentHere(site):
+                return task.answer(sends_of(folders[site].lines("out")))
+            case KeptOf(keeper, origin, after):
+                return task.answer(self.kept_of(keeper, origin, after))
+            case SeenHere(site):
+                return task.answer(self.machine.seen.get(site))
+            case Replay(site, records):
+                try:
+                    self._replay(site, records)
+                    return task.answer()
+                except Fault as fault:
+                    return task.answer(fault=fault)
+            case Swap(site, starts):
+                assert self.made
+                self.made.lives = placed([], max(starts, len(folders[site].lives)), f"{self.world.new_number():x}")
+                folders[site] = self.made
+                self.world.note("Rebuilds", self.made.number, site)
+                return task.answer()
+        if isinstance(step, CallAll):
+            return self.call_all(task, step)
+        task.connection = self.world.server.times
+        self.over(task, step)
+
+    def _replay(self, number: int, records: list[Any]) -> None:
+        made = Folder(self.world, self.machine)
+        site = StandIn(number, self.world.sites)
+        kept, out = made.file("kept"), made.file("out")
+        for given in records:
+            said = site.answer(given.record)
+            lines = said.split(b"\n")[:-1]
+            fields = lines[0].split(b",")
+            packet = lines[1][5:] if fields[2] in (b"ok", b"passed") else None
+            if packet != given.packet or fields[2] == b"refused":
+                raise Fault(Status.REFUSED, f"{given.record!r} sends {given.packet!r} no more, but {lines}: {UNCHANGED}")
+            kept.data += given.record + b"\n"
+            made.noted += 1
+            out.data += said
+            made.sums.append(sum_of(given.record))
+        kept.synced, out.synced = len(kept.data), len(out.data)
+        self.made = made
